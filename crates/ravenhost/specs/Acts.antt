@@ -1,0 +1,76 @@
+-- What the text of a script asks, one after another, up to its first fault (own). Names are those of the text: whether they
+-- are loaded is told by the history, not here.
+use Rattle.std.specs.Prelude.{ℕ, ◌+◌, Bool, true, false, if◌then◌else◌, List, [], ◌∷◌, ◌++◌, Option, Some, None, Result, Ok, Err}
+use Rattle.std.specs.Str.Lines.{lines}
+use Rattle.rv_text.specs.Words.{words, is_some_word}
+use Rattle.rv_text.specs.Sections.{SectionText, front_of, sections_of}
+use Rattle.rv_access.specs.Words.{Words}
+use Rattle.rv_access.specs.Reading.{list_of}
+use Rattle.rv_access.specs.declared.fault.ListFault.{ListFault}
+use Rattle.rv_event.specs.Shape.{Shape}
+use Rattle.rv_event.specs.ShapeText.{shape_of}
+use Rattle.rv_event.specs.declared.fault.ShapeFault.TheVariants.{BadText}
+use Rattle.ravenhost.specs.declared.fault.What.{What}
+use Rattle.ravenhost.specs.declared.fault.What.TheVariants as Whats
+use Rattle.ravenhost.specs.declared.script.Opening.{Opening}
+use Rattle.ravenhost.specs.declared.script.Opening.TheVariants as Openings
+use Rattle.ravenhost.specs.Cutting.{opening_of, first_meant}
+use Rattle.ravenhost.specs.StepText.{StepWords, step_of}
+
+-- one act of a script, with the line that a fault of it is told at
+pub data Act : Type 0 where
+  Loads : ℕ → Shape → Act
+  Sets : ℕ → List Words → Act
+  Steps : ℕ → StepWords → Act
+  Stops : ℕ → What → Act
+
+-- a line that is no step stops the script
+abbrev pub step_act : ℕ → Option StepWords → Act
+step_act line None = Stops line Whats.BadStep
+step_act line (Some step) = Steps line step
+
+-- the steps of lines, the first of which has this number; blank lines are none
+abbrev pub step_acts : ℕ → List (List ℕ) → List Act
+step_acts number [] = []
+step_acts number (line ∷ others) =
+    if is_some_word (words line) then step_act number (step_of (words line)) ∷ step_acts (number + 1) others
+    else step_acts (number + 1) others
+
+-- a text that is no shape stops the script
+abbrev pub load_act : ℕ → Option Shape → Act
+load_act line None = Stops line (Whats.Shape BadText)
+load_act line (Some shape) = Loads line shape
+
+-- a text that is no list stops the script
+abbrev pub set_act : ℕ → Result (List Words) ListFault → Act
+set_act line (Ok list) = Sets line list
+set_act line (Err fault) = Stops line (Whats.List fault)
+
+-- a section; a list stands once, before the steps, so `listless` tells that neither came
+abbrev pub section_acts : Bool → SectionText → Option Opening → List Act
+section_acts listless section None = Stops section.line Whats.BadSection ∷ []
+section_acts listless section (Some Openings.Shape) = load_act section.line (shape_of section.text) ∷ []
+section_acts true section (Some Openings.AccessList) = set_act section.line (list_of section.text) ∷ []
+section_acts false section (Some Openings.AccessList) = Stops section.line Whats.BadSection ∷ []
+section_acts listless section (Some Openings.Steps) = step_acts (section.line + 1) (lines section.text)
+
+-- whether neither a list nor steps came up to a section's end
+abbrev pub stays_open : Bool → Option Opening → Bool
+stays_open listless (Some Openings.Shape) = listless
+stays_open listless opening = false
+
+-- the acts of sections, one after another
+abbrev pub acts_from : Bool → List SectionText → List Act
+acts_from listless [] = []
+acts_from listless (section ∷ sections) =
+    let opening = opening_of section.opening in
+    section_acts listless section opening ++ acts_from (stays_open listless opening) sections
+
+-- text before the first section stops the script
+abbrev pub behind_front : Option ℕ → List Act → List Act
+behind_front None acts = acts
+behind_front (Some line) acts = Stops line Whats.BadSection ∷ acts
+
+-- the acts of a script; what follows the first Stops is never asked
+abbrev pub acts_of : List ℕ → List Act
+acts_of script = behind_front (first_meant 1 (lines (front_of script))) (acts_from true (sections_of script))

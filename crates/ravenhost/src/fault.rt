@@ -1,0 +1,40 @@
+//! What can be wrong with a script.
+
+use rv_access::ListFault;
+use rv_event::fault::ShapeFault;
+use thiserror::Error;
+
+/// What is wrong with a script.
+#[derive(Clone, Copy, Debug, Drop, PartialEq, Eq, Error)]
+pub enum What {
+    /// The script is longer than 16,777,216 bytes.
+    #[error("TooLong")]
+    TooLong,
+    /// The script isn't UTF-8.
+    #[error("NotText")]
+    NotText,
+    /// A line that opens no section known here, or text before the first section.
+    #[error("BadSection")]
+    BadSection,
+    /// A line that is no step.
+    #[error("BadStep")]
+    BadStep,
+    /// A step that names what isn't loaded.
+    #[error("UnknownName")]
+    UnknownName,
+    /// A section whose text is no shape, or one that doesn't fit.
+    #[error("shape {0}")]
+    Shape(ShapeFault),
+    /// A section whose text is no list.
+    #[error("list {0}")]
+    List(ListFault),
+}
+
+/// What is wrong with a script, and at which of its lines: that of the step, or the opening of the
+/// section.
+#[derive(Clone, Copy, Debug, Drop, PartialEq, Eq, Error)]
+#[error("script line {line}: {what}")]
+pub struct ScriptFault {
+    pub line: usize,
+    pub what: What,
+}

@@ -1,0 +1,6 @@
+pub mod Words
+pub mod Lines
+pub mod Changes
+pub mod Reading
+pub mod Listed
+pub mod Text

@@ -1,0 +1,69 @@
+-- What the text of a list gives, line by line, and its first fault (own).
+use Rattle.std.specs.Prelude.{◌≡◌, ℕ, ◌+◌, Bool, true, false, not, ◌==◌, ◌&&◌, ◌||◌, nat_le, if◌then◌else◌, List, [], ◌∷◌, ◌++◌, length, codes, is_some, Result, Ok, Err}
+use Rattle.std.specs.Str.{bytes_eq}
+use Rattle.std.specs.Str.Lines.{lines}
+use Rattle.rv_text.specs.Words.{words, is_some_word}
+use Rattle.rv_text.specs.Names.{is_identifier, dotted_parts}
+use Rattle.rv_access.specs.Words.{Words}
+use Rattle.rv_access.specs.declared.fault.ListFault.{ListFault}
+use Rattle.rv_access.specs.declared.fault.ListFault.TheVariants.{BadWord, BadName, TooMany, NoMemory}
+
+infixl 10 ◌>>=◌
+abbrev pub ◌>>=◌ : {A B : Type 0} → Result A ListFault → (A → Result B ListFault) → Result B ListFault
+(Ok x) >>= f = f x
+(Err fault) >>= f = Err fault
+
+-- a call tells what reading gives, unless memory ran out
+abbrev pub Fails : {Y : Type 0} → ListFault → Result Y ListFault → Type 0
+Fails NoMemory read = Unit {0}
+Fails fault read = read ≡ Err fault
+
+abbrev pub Gives : {Y : Type 0} → Result Y ListFault → Result Y ListFault → Type 0
+Gives (Ok x) read = read ≡ Ok x
+Gives (Err fault) read = Fails fault read
+
+-- `*`, or a word of the form
+abbrev pub is_star_or : (List ℕ → Bool) → List ℕ → Bool
+is_star_or form word = bytes_eq word (codes "*") || form word
+
+-- two identifiers with a dot between them
+abbrev pub is_dotted : List ℕ → Bool
+is_dotted word = is_some (dotted_parts word)
+
+abbrev pub named : ℕ → Bool → List ℕ → List ℕ → List ℕ → Result Words ListFault
+named number allow unit object operation =
+    if is_star_or is_identifier unit && is_star_or is_dotted object && is_star_or is_identifier operation
+    then Ok (record { allow = allow; unit = unit; object = object; operation = operation })
+    else Err (BadName number)
+
+-- the line that the words of this line of a text are
+abbrev pub line_of : ℕ → List (List ℕ) → Result Words ListFault
+line_of number (verb ∷ unit ∷ object ∷ operation ∷ []) =
+    if bytes_eq verb (codes "allow") then named number true unit object operation
+    else if bytes_eq verb (codes "deny") then named number false unit object operation
+    else Err (BadWord number)
+line_of number words = Err (BadWord number)
+
+-- a comment begins with `#`
+abbrev pub is_comment : List ℕ → Bool
+is_comment [] = false
+is_comment (byte ∷ bytes) = byte == 35
+
+-- neither a comment nor blank
+abbrev pub is_meant : List ℕ → Bool
+is_meant line = not (is_comment line) && is_some_word (words line)
+
+-- the list after one more line of the text
+abbrev pub step : ℕ → List Words → List ℕ → Result (List Words) ListFault
+step number list line =
+    if is_meant line
+    then (if nat_le 512 (length list) then Err (TooMany number) else line_of number (words line) >>= λ more. Ok (list ++ more ∷ []))
+    else Ok list
+
+abbrev pub steps : ℕ → List Words → List (List ℕ) → Result (List Words) ListFault
+steps number list [] = Ok list
+steps number list (line ∷ others) = step number list line >>= λ more. steps (number + 1) more others
+
+-- what the text holds, or its first fault
+abbrev pub list_of : List ℕ → Result (List Words) ListFault
+list_of text = steps 1 [] (lines text)

@@ -1,0 +1,97 @@
+//! One line of an access list.
+
+ghost use Rattle.std.specs.Prelude.{◌≡◌, IfOk, Some, string_bytes};
+ghost use Rattle.rv_access.specs.Lines.{fits, matches};
+ghost use Rattle.rv_access.specs.Text.{verb_of, line_text};
+
+use std::alloc::{AllocError, Global};
+use std::fmt;
+use std::marker::Model;
+
+/// One line of a list: `allow` or `deny`, a unit, a `Unit.Object` and an operation, each a name as
+/// written or `*`.
+#[derive(Clone, Drop)]
+pub struct Line {
+    allow: bool,
+    unit: String,
+    object: String,
+    operation: String,
+}
+
+impl Model for Line {
+    ghost use Rattle.rv_access.specs.Words.{Words};
+    ghost use Rattle.std.specs.Prelude.{string_bytes};
+
+    ghost Value = { Words };
+
+    ghost view = { λ l. record { allow = l.allow; unit = string_bytes l.unit; object = string_bytes l.object; operation = string_bytes l.operation } };
+}
+
+impl Line {
+    /// A line of these words.
+    pub fn new(
+        alloc: Global,
+        allow: bool,
+        unit: &str,
+        object: &str,
+        operation: &str,
+    ) -> Result<Line, AllocError>
+        ensures { IfOk result (λ l. l ≡ record { allow = allow; unit = unit.now; object = object.now; operation = operation.now }) }
+    {
+        let unit = String::from_str(alloc, unit)?;
+        let object = String::from_str(alloc, object)?;
+        let operation = String::from_str(alloc, operation)?;
+        Ok(Line {
+            allow,
+            unit,
+            object,
+            operation,
+        })
+    }
+
+    /// A copy.
+    pub fn copy(&self) -> Result<Line, AllocError>
+        ensures { IfOk result (λ copy. copy ≡ self.now) }
+    {
+        self.clone()
+    }
+
+    /// Whether it allows what it matches; otherwise it denies it.
+    pub fn allows(&self) -> bool
+        ensures { result ≡ self.now.allow }
+    {
+        self.allow
+    }
+
+    /// The unit that calls, or `*`.
+    pub fn unit(&self) -> &str
+        ensures { result.now ≡ self.now.unit }
+    {
+        self.unit.as_str()
+    }
+
+    /// The `Unit.Object` that is called, or `*`.
+    pub fn object(&self) -> &str
+        ensures { result.now ≡ self.now.object }
+    {
+        self.object.as_str()
+    }
+
+    /// The operation that is called, or `*`.
+    pub fn operation(&self) -> &str
+        ensures { result.now ≡ self.now.operation }
+    {
+        self.operation.as_str()
+    }
+
+    /// Its words with one space between, as the journal has them.
+    pub fn text(&self, alloc: Global) -> Result<String, AllocError>
+        ensures { IfOk result (λ text. string_bytes text ≡ line_text self.now) }
+    {
+        let verb = if self.allow { "allow" } else { "deny" };
+        let unit = self.unit();
+        let object = self.object();
+        let operation = self.operation();
+        format!(in alloc; "{verb} {unit} {object} {operation}")
+    }
+}

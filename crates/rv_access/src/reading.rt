@@ -1,0 +1,129 @@
+//! Reading a list from its text.
+
+ghost use Rattle.std.specs.Prelude.{◌≡◌, List, Ok, IfOk, MatchResult};
+ghost use Rattle.rv_text.specs.Words.{words};
+ghost use Rattle.rv_access.specs.Words.{Words};
+ghost use Rattle.rv_access.specs.Listed.{IsListOf};
+ghost use Rattle.rv_access.specs.Reading.{Gives, Fails, is_star_or, is_dotted, named, line_of, step, list_of, is_meant};
+
+use crate::fault::ListFault;
+use crate::line::Line;
+use crate::list::AccessList;
+use rv_text::{dotted_parts, has_words, is_identifier, next_line, next_word};
+use std::alloc::Global;
+
+/// The greatest number of lines that a list has.
+pub const MOST_LINES: usize = 512;
+
+// A line of these words, if each is `*` or a name of its form.
+fn named(
+    alloc: Global,
+    number: usize,
+    allow: bool,
+    unit: &str,
+    object: &str,
+    operation: &str,
+) -> Result<Line, ListFault>
+    ensures { Gives result (named number allow unit.now object.now operation.now) }
+{
+    if (unit == "*" || is_identifier(unit))
+        && (object == "*" || dotted_parts(object).is_some())
+        && (operation == "*" || is_identifier(operation))
+    {
+        return Ok(Line::new(alloc, allow, unit, object, operation)?);
+    }
+    Err(ListFault::BadName(number))
+}
+
+// The line of a list that stands on the line of this number.
+fn line_of(alloc: Global, number: usize, text: &str) -> Result<Line, ListFault>
+    ensures { Gives result (line_of number (words text.now)) }
+{
+    let Some((verb, rest)) = next_word(text) else {
+        return Err(ListFault::BadWord(number));
+    };
+    let Some((unit, rest)) = next_word(rest) else {
+        return Err(ListFault::BadWord(number));
+    };
+    let Some((object, rest)) = next_word(rest) else {
+        return Err(ListFault::BadWord(number));
+    };
+    let Some((operation, rest)) = next_word(rest) else {
+        return Err(ListFault::BadWord(number));
+    };
+    if let Some(_) = next_word(rest) {
+        return Err(ListFault::BadWord(number));
+    }
+    if verb == "allow" {
+        return named(alloc, number, true, unit, object, operation);
+    }
+    if verb == "deny" {
+        return named(alloc, number, false, unit, object, operation);
+    }
+    Err(ListFault::BadWord(number))
+}
+
+// Whether a line is neither a comment nor blank.
+fn is_meant(line: &str) -> bool
+    ensures { result ≡ is_meant line.now }
+{
+    match line.as_bytes() {
+        [b'#', ..] => false,
+        _ => has_words(line),
+    }
+}
+
+// Reads one more line.
+fn add_line(
+    alloc: Global,
+    list: &mut AccessList,
+    number: usize,
+    line: &str,
+) -> Result<(), ListFault>
+    ensures { MatchResult result (λ _. step number list.old line.now ≡ Ok list.new) (λ e. Fails e (step number list.old line.now)) }
+{
+    if !is_meant(line) {
+        return Ok(());
+    }
+    if list.len() >= MOST_LINES {
+        return Err(ListFault::TooMany(number));
+    }
+    let more = line_of(alloc, number, line)?;
+    list.push(more)?;
+    Ok(())
+}
+
+// The list that a text holds, or its first fault.
+fn list_of(alloc: Global, text: &str) -> Result<AccessList, ListFault>
+    ensures { Gives result (list_of text.now) }
+{
+    let mut list = AccessList::new(alloc);
+    let mut rest = text;
+    let mut number = 1;
+    while let Some((line, after)) = next_line(rest) {
+        add_line(alloc, &mut list, number, line)?;
+        number += 1;
+        rest = after;
+    }
+    Ok(list)
+}
+
+/// The list that a text holds: each of its lines but blank ones and comments is a line of the
+/// list, `allow` or `deny` and three words, and there are at most 512. The first bad line is named.
+pub fn read_list(alloc: Global, text: &str) -> Result<AccessList, ListFault>
+    // What is read stands there.
+    ensures found { IfOk result (λ list. IsListOf text.now list) }
+    // What stands there is read, unless memory runs out.
+    ensures only { (list : List Words) → IsListOf text.now list → Gives result (Ok list) }
+    // Which fault it is.
+    ensures fault { Gives result (list_of text.now) }
+{
+    list_of(alloc, text)
+}
+
+/// The one line that a text of four words is, as an operator gives it. Its faults are at line 1.
+pub fn read_line(alloc: Global, text: &str) -> Result<Line, ListFault>
+    ensures { Gives result (line_of 1 (words text.now)) }
+{
+    line_of(alloc, 1, text)
+}

@@ -1,0 +1,164 @@
+-- The answer that is due to a request.
+use Rattle.std.specs.Prelude.{ℕ, ◌-◌, Bool, true, false, ◌&&◌, not, if◌then◌else◌, List, [], ◌∷◌, Some, None, Option, ℤ, pos, int_le}
+use Rattle.rv_event.specs.Recorded.{recorded}
+use Rattle.rv_event.specs.Catalogue.{OperationNumber, Target, Nowhere, OnProtected, OnSuspension, target, place, handler, is_function}
+use Rattle.rv_event.specs.Past.{innermost, queue, scalars, state, clock, halted, stance, until_then, released}
+use Rattle.rv_event.specs.declared.entry.Stance.{Stance}
+use Rattle.rv_event.specs.declared.entry.Stance.TheVariants.{Free, InQueue, HandedOver, DroppedBy, WaitsOn, WaitsUntil, Gone}
+use Rattle.rv_event.specs.declared.entry.Body.{Body}
+use Rattle.rv_event.specs.declared.entry.SuspensionOperation.{SuspensionOperation}
+use Rattle.rv_event.specs.declared.entry.SuspensionOperation.TheVariants.{SetTrue, SetFalse, CurrentState, SuspendUntilTrue}
+use Rattle.rv_event.specs.declared.entry.Entry.TheVariants.{Asked}
+use Rattle.rv_event.specs.declared.entry.Request.{Request}
+use Rattle.rv_event.specs.declared.entry.Request.TheVariants.{Call, Complete, Resume, DelayUntil, Clock, Fire, Quit, Tick, Halt}
+use Rattle.rv_event.specs.declared.entry.Rule.TheVariants as Rules
+use Rattle.rv_event.specs.declared.entry.Next.{Next}
+use Rattle.rv_event.specs.declared.entry.Next.TheVariants.{Nothing, HandedTo, Dropped}
+use Rattle.rv_event.specs.declared.entry.Recorded.{Recorded}
+use Rattle.rv_event.specs.declared.entry.Answer.{Answer}
+use Rattle.rv_event.specs.declared.entry.Answer.TheVariants.{Started, Queued, Refused, Done, Suspended, Delayed, Woken, Accepted, Misuse, Halted, Full, Busy, Waiting, Unattached}
+use Rattle.rv_host.specs.History.{History, version, changes}
+use Rattle.rv_host.specs.Subject.{subject}
+use Rattle.rv_host.specs.Exclusion.{excluded, barrier_at, opens_on, closed, full_queue}
+use Rattle.rv_host.specs.Rules.{decided, granted, holds_any, breaks}
+use Rattle.rv_host.specs.Owed.{has_room}
+use Rattle.rv_host.specs.Fitting.{Service, fits}
+
+-- the answer to a call of a protected operation, or to a fired line, from what is asked of it, in this order; a start
+-- carries the object's scalars
+abbrev pub judged : ℕ → ℕ → List ℤ → Bool → Bool → Bool → Bool → Bool → Bool → Bool → Answer
+judged version line values denied blocking reentry above busy closed full =
+    if denied then Refused Rules.Grant line version
+    else (if blocking then Refused Rules.Blocking 0 version
+    else (if reentry then Refused Rules.Reentry 0 version
+    else (if above then Refused Rules.Ceiling 0 version
+    else (if busy then Busy
+    else (if closed then (if full then Refused Rules.Queue 0 version else Queued)
+    else Started values)))))
+
+abbrev pub nothing_more : Answer
+nothing_more = Accepted (pos 0)
+
+abbrev pub one_or_none : Bool → ℤ
+one_or_none true = pos 1
+one_or_none false = pos 0
+
+-- the same for an operation of a suspension object
+abbrev pub suspended : ℕ → Bool → Bool → Bool → Answer
+suspended version blocking waited state =
+    if blocking then Refused Rules.Blocking 0 version
+    else (if waited then Refused Rules.Waiter 0 version
+    else (if state then nothing_more else Suspended))
+
+abbrev pub performed : ℕ → Bool → Bool → Bool → SuspensionOperation → Answer
+performed version blocking waited state SetTrue = nothing_more
+performed version blocking waited state SetFalse = nothing_more
+performed version blocking waited state CurrentState = Accepted (one_or_none state)
+performed version blocking waited state SuspendUntilTrue = suspended version blocking waited state
+
+abbrev pub due_call : History → ℕ → Request → ℕ → Target → Answer
+due_call h actor request object Nowhere = Misuse
+due_call h actor request object (OnProtected site) =
+    judged (version h) (decided h (subject h actor) (OnProtected site)) (scalars h.shapes object h.past)
+    (breaks h Rules.Grant actor request object (OnProtected site)) (breaks h Rules.Blocking actor request object (OnProtected site))
+    (breaks h Rules.Reentry actor request object (OnProtected site)) (breaks h Rules.Ceiling actor request object (OnProtected site))
+    (excluded h object (is_function site.operation.kind)) (closed h object site.operation.kind) (full_queue h object)
+due_call h actor request object (OnSuspension unit name wanted) =
+    if breaks h Rules.Grant actor request object (OnSuspension unit name wanted) then
+    Refused Rules.Grant (decided h (subject h actor) (OnSuspension unit name wanted)) (version h)
+    else performed (version h) (breaks h Rules.Blocking actor request object (OnSuspension unit name wanted))
+    (breaks h Rules.Waiter actor request object (OnSuspension unit name wanted)) (state object h.past) wanted
+
+-- a fired line calls its handler
+abbrev pub due_fire : History → ℕ → Option OperationNumber → Answer
+due_fire h actor None = Unattached
+due_fire h actor (Some number) = due_call h actor Fire number.object (target h.shapes number.object number.operation)
+
+-- the head of a queue: handed over where the list in force grants its call, else dropped
+abbrev pub judged_head : Bool → ℕ → ℕ → Next
+judged_head granted line actor = if granted then HandedTo actor else Dropped actor line
+
+abbrev pub served : History → List Body → Next
+served h [] = Nothing
+served h (call ∷ calls) =
+    judged_head (granted h (subject h call.actor) (target h.shapes call.object call.operation))
+    (decided h (subject h call.actor) (target h.shapes call.object call.operation)) call.actor
+
+-- what becomes of the queue at the end of an exclusive body that leaves these scalars
+abbrev pub after_end : History → ℕ → List ℤ → Next
+after_end h object values =
+    if halted h.past then Nothing
+    else (if opens_on (barrier_at (place h.shapes object)) values then served h (queue object h.past) else Nothing)
+
+abbrev pub end_of : History → List ℤ → ℕ → Target → Answer
+end_of h values object Nowhere = Misuse
+end_of h values object (OnProtected site) =
+    Done (if is_function site.operation.kind then Nothing else after_end h object values)
+end_of h values object (OnSuspension unit name wanted) = Misuse
+
+abbrev pub due_end : History → List ℤ → Option Body → Answer
+due_end h values None = Misuse
+due_end h values (Some b) = end_of h values b.object (target h.shapes b.object b.operation)
+
+-- an actor that waits: woken where it is ready, with no scalars
+abbrev pub or_waiting : History → Bool → Answer
+or_waiting h ready = if ready then Woken None else (if halted h.past then Halted else Waiting)
+
+-- the scalars of the object that was handed over, which the actor holds
+abbrev pub scalars_held : History → Option Body → List ℤ
+scalars_held h None = []
+scalars_held h (Some body) = scalars h.shapes body.object h.past
+
+abbrev pub due_resume : History → ℕ → Stance → Answer
+due_resume h actor Free = Misuse
+due_resume h actor InQueue = or_waiting h false
+due_resume h actor HandedOver = Woken (Some (scalars_held h (innermost h.shapes actor h.past)))
+due_resume h actor (DroppedBy line) = Refused Rules.Grant line (changes (until_then actor h.past))
+due_resume h actor (WaitsOn object) = or_waiting h (released actor object h.past)
+due_resume h actor (WaitsUntil time) = or_waiting h (int_le time (pos (clock h.past)))
+due_resume h actor Gone = Misuse
+
+abbrev pub due_delay : History → Bool → Bool → Answer
+due_delay h blocking over =
+    if blocking then Refused Rules.Blocking 0 (version h) else (if over then nothing_more else Delayed)
+
+-- the third column of the table of requests
+abbrev pub table : History → ℕ → Request → Answer
+table h actor (Call object operation values) = due_call h actor (Call object operation values) object (target h.shapes object operation)
+table h actor (Complete values exit) = due_end h values (innermost h.shapes actor h.past)
+table h actor Resume = due_resume h actor (stance actor h.past)
+table h actor (DelayUntil time) = due_delay h (holds_any h actor) (int_le time (pos (clock h.past)))
+table h actor Clock = Accepted (pos (clock h.past))
+table h actor Fire = due_fire h actor (handler h.shapes (actor - 1))
+table h actor Quit = nothing_more
+table h actor (Tick n) = nothing_more
+table h actor Halt = nothing_more
+
+-- answered on a halted host too
+abbrev pub goes_on : Request → Bool
+goes_on (Complete values exit) = true
+goes_on Resume = true
+goes_on Quit = true
+goes_on request = false
+
+abbrev pub gate : Bool → Bool → Answer → Answer
+gate fits shut answer = if not fits then Misuse else (if shut then Halted else answer)
+
+-- what is due, before the room is asked
+abbrev pub due : Service → History → ℕ → Request → Answer
+due serves h actor request = gate (fits serves h actor request) (halted h.past && not (goes_on request)) (table h actor request)
+
+-- the room is enough for an answer: for one that isn't recorded it is
+abbrev pub enough : History → ℕ → Request → Option Recorded → Bool
+enough h actor request None = true
+enough h actor request (Some word) = has_room h.capacity h.shapes (Asked actor request word ∷ h.past)
+
+-- Full in place of a recorded answer that costs more than the room
+abbrev pub within : Bool → Answer → Answer
+within enough answer = if enough then answer else Full
+
+-- the due answer
+abbrev pub out : Service → History → ℕ → Request → Answer
+out serves h actor request =
+    let answer = due serves h actor request in
+    within (enough h actor request (recorded answer)) answer

@@ -1,0 +1,21 @@
+-- What the changes of the access list make of it (own). Its lines are numbered from 1.
+use Rattle.std.specs.Prelude.{ℕ, ◌-◌, nat_lt, if◌then◌else◌, List, [], ◌∷◌, ◌++◌, take, drop, length, Some, None, Option}
+use Rattle.rv_access.specs.Words.{Words}
+
+-- a change of the list
+pub data Change : Type 0 where
+  Whole : List Words → Change
+  Append : Words → Change
+  Remove : ℕ → Change
+  Replace : ℕ → Words → Change
+
+-- where there is a line of this number
+abbrev pub at_line : ℕ → List Words → List Words → Option (List Words)
+at_line number lines changed = if nat_lt 0 number then (if nat_lt (length lines) number then None else Some changed) else None
+
+-- the whole list after a change, if the line is one of it
+abbrev pub changed : List Words → Change → Option (List Words)
+changed lines (Whole list) = Some list
+changed lines (Append line) = Some (lines ++ line ∷ [])
+changed lines (Remove number) = at_line number lines (take (number - 1) lines ++ drop number lines)
+changed lines (Replace number line) = at_line number lines (take (number - 1) lines ++ line ∷ drop number lines)

@@ -1,0 +1,15 @@
+-- A history as a scan has seen it.
+use Rattle.std.specs.Prelude.{◌≡◌, ℕ, reverse}
+use Rattle.rv_host.specs.declared.seen.Seen.{Seen}
+use Rattle.rv_host.specs.History.{History}
+use Rattle.rv_host.specs.Found.{IsFound}
+use Rattle.rv_host.specs.Orderly.{Orderly}
+
+abbrev pub history_of : Seen → History
+history_of seen =
+    record { capacity = seen.capacity; past = reverse seen.entries.now; shapes = seen.catalogue.now; lists = seen.lists.now }
+
+-- the scan is of that history, which is orderly
+pub record IsSeen (seen : Seen) : Type 0 where
+  pub found : IsFound seen.catalogue.now seen.object (reverse seen.entries.now) seen.scan.now
+  pub orderly : Orderly seen.catalogue.now (reverse seen.entries.now)

@@ -1,0 +1,34 @@
+-- What the host serves (own).
+use Rattle.std.specs.Prelude.{ℕ, Bool, true, false}
+use Rattle.rv_event.specs.Catalogue.{Target, Nowhere, OnProtected, OnSuspension, target}
+use Rattle.rv_event.specs.Past.{stance}
+use Rattle.rv_event.specs.declared.entry.Stance.{Stance}
+use Rattle.rv_event.specs.declared.entry.Stance.TheVariants.{Free, InQueue, HandedOver, DroppedBy, WaitsOn, WaitsUntil, Gone}
+use Rattle.rv_event.specs.declared.entry.Request.{Request}
+use Rattle.rv_event.specs.declared.entry.Request.TheVariants.{Call, Complete, Resume}
+use Rattle.rv_host.specs.History.{History}
+
+abbrev pub everything : History → ℕ → Request → Bool
+everything h actor request = true
+
+abbrev pub is_protected : Target → Bool
+is_protected Nowhere = false
+is_protected (OnProtected site) = true
+is_protected (OnSuspension unit name wanted) = false
+
+abbrev pub is_settled : Stance → Bool
+is_settled Free = false
+is_settled InQueue = false
+is_settled HandedOver = true
+is_settled (DroppedBy line) = true
+is_settled (WaitsOn object) = false
+is_settled (WaitsUntil time) = false
+is_settled Gone = false
+
+-- so far: calls of protected operations, ends of bodies, and the resumes of those that were handed an object or
+-- dropped; and, by their own calls, loads and list changes
+abbrev pub served : History → ℕ → Request → Bool
+served h actor (Call object operation values) = is_protected (target h.shapes object operation)
+served h actor (Complete values exit) = true
+served h actor Resume = is_settled (stance actor h.past)
+served h actor request = false

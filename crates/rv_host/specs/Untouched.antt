@@ -1,0 +1,12 @@
+-- What a refused call leaves as it was.
+use Rattle.std.specs.Prelude.{◌≡◌, ℕ}
+use Rattle.rv_event.specs.Past.{scalars, queue, held}
+use Rattle.rv_host.specs.History.{History}
+use Rattle.rv_host.specs.Exclusion.{is_open}
+
+-- no scalars, no queue, no barrier and nothing that is held is another after than before
+pub record Untouched (before after : History) : Type 0 where
+  pub scalars_stay : (object : ℕ) → scalars after.shapes object after.past ≡ scalars before.shapes object before.past
+  pub queues_stay : (object : ℕ) → queue object after.past ≡ queue object before.past
+  pub barriers_stay : (object : ℕ) → is_open after object ≡ is_open before object
+  pub held_stays : (actor : ℕ) → held after.shapes actor after.past ≡ held before.shapes actor before.past

@@ -1,0 +1,20 @@
+//! The host over lists of commands: each answer is a function of the journal.
+#![tactic(auto)]
+
+mod answering;
+mod asking;
+mod backward;
+pub mod command;
+mod entries;
+mod finding;
+mod fitting;
+pub mod host;
+mod judging;
+pub mod laws;
+mod looking;
+mod owing;
+mod replay;
+mod scan;
+mod seen;
+mod standing;
+mod values;

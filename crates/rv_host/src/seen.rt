@@ -1,0 +1,17 @@
+//! A history as a scan has seen it, of which the questions are asked.
+
+use crate::finding::Scan;
+use rv_access::AccessList;
+use rv_event::catalogue::Catalogue;
+use rv_event::entry::Entry;
+
+/// A history, and what a scan found in it for an object.
+#[derive(Clone, Copy)]
+pub struct Seen<'a> {
+    pub capacity: usize,
+    pub catalogue: &'a Catalogue,
+    pub entries: &'a [Entry],
+    pub lists: &'a [AccessList],
+    pub scan: &'a Scan,
+    pub object: usize,
+}

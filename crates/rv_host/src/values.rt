@@ -1,0 +1,123 @@
+//! Whether values fit the parameters, the result or the components that they are for.
+
+ghost use Rattle.std.specs.Prelude.{◌≡◌, ◌&&◌, [], ◌∷◌, map, if◌then◌else◌, int_le};
+ghost use Rattle.rv_event.specs.Catalogue as catalogues;
+ghost use Rattle.rv_host.specs.Fitting as fitting;
+
+use rv_event::entry::Exit;
+use rv_event::kind::{Component, Kind, Parameter, ParameterMode, Range};
+
+// Whether a value is in a range.
+fn is_within(value: i64, range: &Range) -> bool
+    ensures { result ≡ (int_le range.now.low value && int_le value range.now.high) }
+{
+    range.low <= value && value <= range.high
+}
+
+// Whether a parameter of this mode takes a value in.
+fn goes_in(mode: ParameterMode) -> bool
+    ensures { result ≡ catalogues.goes_in mode }
+{
+    match mode {
+        ParameterMode::In => true,
+        ParameterMode::Out => false,
+        ParameterMode::InOut => true,
+    }
+}
+
+// Whether a parameter of this mode gives a value back.
+fn goes_out(mode: ParameterMode) -> bool
+    ensures { result ≡ catalogues.goes_out mode }
+{
+    match mode {
+        ParameterMode::In => false,
+        ParameterMode::Out => true,
+        ParameterMode::InOut => true,
+    }
+}
+
+/// Whether there is one value in range for each parameter that takes one in.
+pub fn fit_parameters(parameters: &[Parameter], values: &[i64]) -> bool
+    ensures { result ≡ fitting.all_fit (fitting.ranges_in parameters.now) values.now }
+{
+    let [parameter, others @ ..] = parameters else {
+        return values.len() == 0;
+    };
+    if !goes_in(parameter.mode) {
+        return fit_parameters(others, values);
+    }
+    let [value, rest @ ..] = values else {
+        return false;
+    };
+    is_within(*value, &parameter.range) && fit_parameters(others, rest)
+}
+
+// Whether there is one value in range for each parameter that gives one back.
+fn fit_outward(parameters: &[Parameter], values: &[i64]) -> bool
+    ensures { result ≡ fitting.all_fit (fitting.ranges_out parameters.now) values.now }
+{
+    let [parameter, others @ ..] = parameters else {
+        return values.len() == 0;
+    };
+    if !goes_out(parameter.mode) {
+        return fit_outward(others, values);
+    }
+    let [value, rest @ ..] = values else {
+        return false;
+    };
+    is_within(*value, &parameter.range) && fit_outward(others, rest)
+}
+
+// Whether there is one value in range for each component.
+fn fit_components(components: &[Component], values: &[i64]) -> bool
+    ensures { result ≡ fitting.all_fit (map (λ c. c.range) components.now) values.now }
+{
+    let [component, others @ ..] = components else {
+        return values.len() == 0;
+    };
+    let [value, rest @ ..] = values else {
+        return false;
+    };
+    is_within(*value, &component.range) && fit_components(others, rest)
+}
+
+// Whether there is one value, the function's result.
+fn fit_result(range: &Range, values: &[i64]) -> bool
+    ensures { result ≡ fitting.all_fit (range.now ∷ []) values.now }
+{
+    let [value, rest @ ..] = values else {
+        return false;
+    };
+    is_within(*value, range) && rest.len() == 0
+}
+
+// Whether the values are those of a return.
+fn fit_results(kind: Kind, parameters: &[Parameter], values: &[i64]) -> bool
+    ensures { result ≡ fitting.all_fit (fitting.results kind parameters.now) values.now }
+{
+    match kind {
+        Kind::Function(range) => fit_result(&range, values),
+        Kind::Procedure | Kind::Entry(_) | Kind::Handler(_) => fit_outward(parameters, values),
+    }
+}
+
+/// Whether an exit's values, where it returns, are those of the operation.
+pub fn fit_exit(kind: Kind, parameters: &[Parameter], exit: &Exit) -> bool
+    ensures { result ≡ fitting.exit_fits (fitting.results kind parameters.now) exit.now }
+{
+    match exit {
+        Exit::Return(values) => fit_results(kind, parameters, values.as_slice()),
+        _ => true,
+    }
+}
+
+/// Whether the scalars of an end are those that the operation leaves: none for a function, else
+/// one in range for each component.
+pub fn fit_scalars(kind: Kind, components: &[Component], values: &[i64]) -> bool
+    ensures { result ≡ fitting.all_fit (if catalogues.is_function kind then [] else map (λ c. c.range) components.now) values.now }
+{
+    match kind {
+        Kind::Function(_) => values.len() == 0,
+        Kind::Procedure | Kind::Entry(_) | Kind::Handler(_) => fit_components(components, values),
+    }
+}

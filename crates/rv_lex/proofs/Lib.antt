@@ -1,0 +1,11 @@
+pub mod Lookup
+pub mod Parts
+pub mod WordBytes
+pub mod Leads
+pub mod Lexing
+pub mod Spellings
+pub mod Spaced
+pub mod Whole
+pub mod Longest
+pub mod Standing
+pub mod Written

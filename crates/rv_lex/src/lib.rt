@@ -1,0 +1,11 @@
+//! Cuts a unit text into its words: identifiers, reserved words, literals and delimiters.
+#![tactic(auto)]
+
+pub mod fault;
+mod front;
+pub mod kind;
+pub mod lexer;
+mod literal;
+#[cfg(test)]
+mod tests;
+pub mod token;

@@ -1,0 +1,116 @@
+//! A protected object that starts and finishes protected actions.
+
+ghost use Rattle.std.specs.Prelude.{◌≡◌, ◌<◌, [], ◌∷◌, false, length, not, replicate, true};
+ghost use Rattle.rv_object.specs.Actions.{IsOrderly, excludes, is_under_way, scalars_after, state_of};
+
+use crate::action::{Action, State};
+use rv_value::Scalars;
+use std::marker::Model;
+
+/// A protected object: who is in a protected action on it, and the values of its components.
+///
+/// Contracts see the list of the actions under way, the newest first, beside the values. A start then puts its
+/// action in front, and a host that replays a history into a fresh object finds in the list, action by action, the
+/// bodies that are under way after that history. The conditions of a replay can be read off a legal history: a start
+/// isn't excluded, and what finishes is under way. That all actions under way are alike needn't be known
+/// beforehand: `finish` says so.
+#[derive(Drop, Debug)]
+pub struct Object {
+    state: State,
+    scalars: Scalars,
+}
+
+impl Model for Object {
+    ghost use Rattle.rv_object.specs.Actions.{ObjectView, IsCounted, actions_of};
+
+    ghost Value = { ObjectView };
+
+    ghost view = { λ o. record { actions = actions_of o.state; scalars = o.scalars } };
+
+    ghost invariant = { λ o. IsCounted o.state };
+}
+
+impl Object {
+    /// A free object whose components have these values.
+    pub fn new(scalars: Scalars) -> Object
+        ensures { result ≡ record { actions = []; scalars = scalars } }
+    {
+        Object {
+            state: State::Free,
+            scalars,
+        }
+    }
+
+    /// Who is in a protected action on the object.
+    pub fn state(&self) -> State
+        ensures value { result ≡ state_of self.now.actions }
+        ensures orderly { IsOrderly self.now.actions }
+    {
+        self.state
+    }
+
+    /// The values of the components.
+    pub fn scalars(&self) -> Scalars
+        ensures { result ≡ self.now.scalars }
+    {
+        self.scalars
+    }
+
+    /// Whether a protected action may start: none is under way, or it and those under way are all of functions
+    /// (ISO/IEC 8652:2012, 9.5.1).
+    pub fn may_start(&self, action: Action) -> bool
+        ensures { result ≡ not (excludes self.now.actions action) }
+    {
+        self.state.admits(action)
+    }
+
+    /// Starts a protected action that may start.
+    pub fn start(&mut self, action: Action)
+        requires free { excludes self.old.actions action ≡ false }
+        requires countable { length self.old.actions < usize.MAX }
+        ensures actions { self.new.actions ≡ action ∷ self.old.actions }
+        ensures scalars { self.new.scalars ≡ self.old.scalars }
+    {
+        self.state = self.state.started(action);
+    }
+
+    /// Finishes a protected action that is under way. An exclusive one leaves the given values in the components, a
+    /// shared one leaves them as they were.
+    pub fn finish(&mut self, action: Action, scalars: Scalars)
+        requires { is_under_way action self.old.actions ≡ true }
+        ensures actions { self.old.actions ≡ action ∷ self.new.actions }
+        ensures alike { self.old.actions ≡ replicate (length self.old.actions) action }
+        ensures scalars { self.new.scalars ≡ scalars_after action self.old.scalars scalars }
+    {
+        self.state = self.state.finished();
+        if let Action::Exclusive(_) = action {
+            self.scalars = scalars;
+        }
+    }
+}
+
+#[cfg(test)]
+mod tests {
+    use super::*;
+
+    #[test]
+    fn functions_share_and_a_procedure_is_alone(rt: HostRuntime) {
+        let writer = Action::Exclusive(11);
+        let mut object = Object::new(Scalars::from_slice(&[1, 2]));
+        assert!(rt; object.may_start(Action::Shared) && object.may_start(writer));
+        object.start(Action::Shared);
+        object.start(Action::Shared);
+        assert_eq!(rt; object.state(), State::Readers(2));
+        assert!(rt; object.may_start(Action::Shared) && !object.may_start(writer));
+        object.finish(Action::Shared, Scalars::new());
+        object.finish(Action::Shared, Scalars::new());
+        assert_eq!(rt; object.state(), State::Free);
+        assert_eq!(rt; object.scalars(), Scalars::from_slice(&[1, 2]));
+        object.start(writer);
+        assert_eq!(rt; object.state(), State::Writer(11));
+        assert!(rt; !object.may_start(Action::Shared) && !object.may_start(Action::Exclusive(12)));
+        object.finish(writer, Scalars::from_slice(&[3, 4]));
+        assert_eq!(rt; object.state(), State::Free);
+        assert_eq!(rt; object.scalars(), Scalars::from_slice(&[3, 4]));
+    }
+}

@@ -1,0 +1,17 @@
+pub mod Lists
+pub mod Turns
+pub mod Views
+pub mod Depths
+pub mod Steps
+pub mod Operators
+pub mod ExpressionSound
+pub mod DeclarationSound
+pub mod StatementSound
+pub mod UnitSound
+pub mod Forward
+pub mod ExpressionComplete
+pub mod DeclarationComplete
+pub mod StatementComplete
+pub mod NestedComplete
+pub mod UnitComplete
+pub mod Whole

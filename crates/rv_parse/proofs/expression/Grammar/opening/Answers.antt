@@ -1,0 +1,11 @@
+use Rattle.std.proofs.Common.{◌≡◌, ap, arith, rules, zero}
+use Rattle.std.proofs.lemmas.Grind.{common_steps}
+use Rattle.rv_parse.specs.ExpressionRules.{opening}
+use Rattle.rv_parse.proofs.Depths.{opening_is}
+use Rattle.rv_parse.proofs.expression.Grammar.opening.Goals as goal
+
+pub returns-clause-reads : goal.returns-clause-reads
+returns-clause-reads g c = rw (opening_is c.args.self.now.depth c.args.tokens.now (omega arith)) (first_of (search rules, grind (arith, common_steps)))
+
+pub returns-clause-some : goal.returns-clause-some
+returns-clause-some g c = λ h. omega arith

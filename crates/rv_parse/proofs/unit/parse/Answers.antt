@@ -1,0 +1,17 @@
+use Rattle.std.proofs.Common.{◌≡◌, ◌∙◌, sym, ap, subst, List, [], Ok}
+use Rattle.rv_lex.specs.Lexes.{Lexeme, lexemes}
+use Rattle.rv_tree.specs.UnitGrammar.{IsUnit}
+use Rattle.rv_tree.specs.UnitView.{unit_view}
+use Rattle.rv_parse.specs.Texts.{ReadsTree}
+use Rattle.rv_parse.proofs.Whole.{sound_text, same_unit, no_words}
+use Rattle.rv_parse.proofs.unit.parse.Goals as goal
+
+pub returns-in-Ok-clause-sound : goal.returns-in-Ok-clause-sound
+returns-in-Ok-clause-sound c = sound_text c.args.text.now _ _ c.read_words.result c.as_slice.ensures c.in-Ok.ensures.words c.read_words.ensures.sound
+
+pub returns-in-Ok-clause-complete : goal.returns-in-Ok-clause-complete
+returns-in-Ok-clause-complete c = λ tree d.
+    c.read_words.ensures.complete tree (subst (λ ts. IsUnit tree ts []) (sym c.as_slice.ensures) (same_unit c.args.text.now _ tree c.in-Ok.ensures.only d))
+
+pub returns-in-Err-clause-complete : goal.returns-in-Err-clause-complete
+returns-in-Err-clause-complete c = λ tree d. rw c.words_fault.ensures (no_words c.args.text.now c.in-Err.fault tree c.in-Err.ensures.none d)

@@ -1,0 +1,42 @@
+-- What reading a whole text gives.
+use Rattle.std.specs.Prelude.{◌≡◌, Result, Ok, Err}
+use Rattle.rv_tree.specs.Units as t
+use Rattle.rv_tree.specs.UnitView.{unit_view}
+use Rattle.rv_lex.specs.declared.fault.LexFault.{LexFault}
+use Rattle.rv_lex.specs.declared.fault.LexFault.TheVariants as lex
+use Rattle.rv_lex.specs.Kinds.{Text}
+use Rattle.rv_lex.specs.Lexes.{Refuses}
+use Rattle.rv_tree.specs.declared.unit.UnitTree.{UnitTree}
+use Rattle.rv_parse.specs.declared.fault.ParseFault.{ParseFault}
+use Rattle.rv_parse.specs.declared.fault.ParseFault.TheVariants as parse
+
+abbrev pub words_fault : LexFault → ParseFault
+words_fault lex.NoMemory = parse.NoMemory
+words_fault (lex.BadCharacter place) = parse.Lex (lex.BadCharacter place)
+words_fault (lex.BadLiteral place) = parse.Lex (lex.BadLiteral place)
+words_fault (lex.BadIdentifier place) = parse.Lex (lex.BadIdentifier place)
+words_fault (lex.NotAscii place) = parse.Lex (lex.NotAscii place)
+
+-- that tree, unless memory or depth runs out
+abbrev pub ReadsTree : t.UnitTree → Result UnitTree ParseFault → Type 0
+ReadsTree tree (Ok found) = unit_view found ≡ tree
+ReadsTree tree (Err parse.NoMemory) = Unit {0}
+ReadsTree tree (Err (parse.TooDeep at)) = Unit {0}
+ReadsTree tree (Err (parse.Unexpected at)) = ⊥
+ReadsTree tree (Err (parse.Lex fault)) = ⊥
+
+-- no fault of words
+abbrev pub HasWords : Result UnitTree ParseFault → Type 0
+HasWords (Ok tree) = Unit {0}
+HasWords (Err parse.NoMemory) = Unit {0}
+HasWords (Err (parse.TooDeep at)) = Unit {0}
+HasWords (Err (parse.Unexpected at)) = Unit {0}
+HasWords (Err (parse.Lex fault)) = ⊥
+
+-- a fault of the words is the first of the text's words
+abbrev pub OfWords : Text → Result UnitTree ParseFault → Type 0
+OfWords text (Ok tree) = Unit {0}
+OfWords text (Err (parse.Lex fault)) = Refuses text fault
+OfWords text (Err parse.NoMemory) = Unit {0}
+OfWords text (Err (parse.Unexpected at)) = Unit {0}
+OfWords text (Err (parse.TooDeep at)) = Unit {0}

@@ -1,0 +1,160 @@
+//! The objects that an actor holds, one within the other.
+
+ghost use Rattle.std.specs.Prelude.{◌≡◌, ◌==◌, ◌<◌, ◌≤◌, [], ◌∷◌, drop, length, slice_get, IsTrue, ◌↔◌};
+ghost use Rattle.std.specs.List.{list_any};
+ghost use Rattle.rv_prio.specs.Priority.{active_priority};
+
+use crate::held::Held;
+use arrayvec::ArrayVec;
+use std::marker::Model;
+
+/// The most objects that an actor holds at once.
+pub const MOST_HELD: usize = 16;
+
+/// The objects that an actor holds, at most 16.
+///
+/// Contracts see the list of what is held, the innermost first, as the calls of a history are found when one looks
+/// back from its end.
+#[derive(Drop, Debug)]
+pub struct Stack {
+    held: ArrayVec<Held, MOST_HELD>,
+}
+
+impl Model for Stack {
+    ghost use Rattle.std.specs.Prelude.{List, reverse};
+    ghost use Rattle.rv_prio.specs.declared.held.Held.{Held};
+
+    ghost Value = { List Held };
+
+    ghost view = { λ s. reverse s.held.items };
+}
+
+impl Stack {
+    /// Nothing held.
+    pub fn new() -> Stack
+        ensures { result ≡ [] }
+    {
+        Stack {
+            held: ArrayVec::new(),
+        }
+    }
+
+    /// How many objects are held.
+    pub fn len(&self) -> usize
+        ensures value { result ≡ length self.now }
+        ensures within { length self.now ≤ MOST_HELD }
+    {
+        self.held.len()
+    }
+
+    /// Whether nothing is held.
+    pub fn is_empty(&self) -> bool
+        ensures { IsTrue result ↔ (self.now ≡ []) }
+    {
+        self.held.is_empty()
+    }
+
+    /// Whether one more object would be too many.
+    pub fn is_full(&self) -> bool
+        ensures full { IsTrue result ↔ (length self.now ≡ MOST_HELD) }
+        ensures within { length self.now ≤ MOST_HELD }
+    {
+        self.held.is_full()
+    }
+
+    /// Adds an object as the innermost.
+    pub fn push(&mut self, held: Held)
+        requires { length self.old < MOST_HELD }
+        ensures { self.new ≡ held ∷ self.old }
+    {
+        self.held.push(held);
+    }
+
+    /// Takes the innermost object.
+    pub fn pop(&mut self) -> Option<Held>
+        ensures innermost { result ≡ slice_get self.old 0 }
+        ensures rest { self.new ≡ drop 1 self.old }
+    {
+        self.held.pop()
+    }
+
+    /// The innermost object.
+    pub fn innermost(&self) -> Option<Held>
+        ensures { result ≡ slice_get self.now 0 }
+    {
+        self.held.last().copied()
+    }
+
+    /// Whether an object is held.
+    pub fn holds(&self, object: usize) -> bool
+        ensures { result ≡ list_any (λ held. held.object == object) self.now }
+    {
+        is_among(self.held.as_slice(), object)
+    }
+
+    /// The active priority of an actor with this base priority: the greatest of it and the ceilings of what is held
+    /// (ISO/IEC 8652:2012, D.3).
+    pub fn active(&self, base: usize) -> usize
+        ensures { result ≡ active_priority base self.now }
+    {
+        let mut priority = base;
+        for held in self.held.iter() {
+            priority = priority.max(held.ceiling);
+        }
+        priority
+    }
+
+    /// Whether the active priority of an actor with this base priority is above a ceiling. A call on an object with
+    /// that ceiling is then an error (ISO/IEC 8652:2012, D.3).
+    pub fn above_ceiling(&self, base: usize, ceiling: usize) -> bool
+        ensures { IsTrue result ↔ (ceiling < active_priority base self.now) }
+    {
+        ceiling < self.active(base)
+    }
+}
+
+/// Whether one of these is of the object.
+fn is_among(all: &[Held], object: usize) -> bool
+    ensures { result ≡ list_any (λ held. held.object == object) all.now }
+{
+    all.iter().any(|held| held.object == object)
+}
+
+#[cfg(test)]
+mod tests {
+    use super::*;
+
+    #[test]
+    fn ceilings_are_inherited(rt: HostRuntime) {
+        let mut stack = Stack::new();
+        assert!(rt; stack.is_empty() && !stack.above_ceiling(15, 15));
+        assert_eq!(rt;
+            (stack.innermost(), stack.pop(), stack.active(15)),
+            (None, None, 15)
+        );
+        let valve = Held {
+            object: 1,
+            operation: 2,
+            ceiling: 20,
+        };
+        let gauge = Held {
+            object: 2,
+            operation: 1,
+            ceiling: 25,
+        };
+        stack.push(gauge);
+        stack.push(valve);
+        assert_eq!(rt;
+            (stack.len(), stack.innermost(), stack.active(15)),
+            (2, Some(valve), 25)
+        );
+        assert!(rt;
+            stack.above_ceiling(15, 24) && !stack.above_ceiling(15, 25) && stack.active(30) == 30
+        );
+        assert!(rt; stack.holds(1) && stack.holds(2) && !stack.holds(3) && !stack.is_full());
+        assert_eq!(rt;
+            (stack.pop(), stack.innermost()),
+            (Some(valve), Some(gauge))
+        );
+    }
+}

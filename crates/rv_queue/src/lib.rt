@@ -1,0 +1,115 @@
+//! The entry queue of a protected object (ISO/IEC 8652:2012, 9.5.3).
+#![tactic(auto)]
+
+ghost use Rattle.std.specs.Prelude.{◌≡◌, ◌<◌, ◌≤◌, [], ◌∷◌, ◌++◌, drop, length, slice_get, IsTrue, ◌↔◌};
+
+use arrayvec::ArrayVec;
+use std::marker::Model;
+
+/// How many callers may wait in an entry queue: Max_Entry_Queue_Length of the Ravenscar profile
+/// (ISO/IEC 8652:2012, D.7 and D.13).
+pub const MAX_ENTRY_QUEUE_LENGTH: usize = 1;
+
+/// The queue of a protected object's entry under the Ravenscar profile.
+pub type EntryQueue = Queue<MAX_ENTRY_QUEUE_LENGTH>;
+
+/// At most `LIMIT` callers that wait on an entry, by their actors' numbers, first in, first out.
+///
+/// Contracts see the list of the callers, the one that waits longest first, and hold at each limit.
+#[derive(Drop, Debug)]
+pub struct Queue<const LIMIT: usize> {
+    callers: ArrayVec<usize, LIMIT>,
+}
+
+impl<const LIMIT: usize> Model for Queue<LIMIT> {
+    ghost use Rattle.std.specs.Prelude.{List, ℕ};
+
+    ghost Value = { List ℕ };
+
+    ghost view = { λ q. q.callers.items };
+}
+
+impl<const LIMIT: usize> Queue<LIMIT> {
+    /// An empty queue.
+    pub fn new() -> Queue<LIMIT>
+        ensures { result ≡ [] }
+    {
+        Queue {
+            callers: ArrayVec::new(),
+        }
+    }
+
+    /// How many callers wait.
+    pub fn len(&self) -> usize
+        ensures value { result ≡ length self.now }
+        ensures within { length self.now ≤ LIMIT }
+    {
+        self.callers.len()
+    }
+
+    /// Whether nobody waits.
+    pub fn is_empty(&self) -> bool
+        ensures { IsTrue result ↔ (self.now ≡ []) }
+    {
+        self.callers.is_empty()
+    }
+
+    /// Whether one more caller would make the queue longer than its limit.
+    pub fn is_full(&self) -> bool
+        ensures full { IsTrue result ↔ (length self.now ≡ LIMIT) }
+        ensures within { length self.now ≤ LIMIT }
+    {
+        self.callers.is_full()
+    }
+
+    /// Puts a caller at the back.
+    pub fn join(&mut self, actor: usize)
+        requires { length self.old < LIMIT }
+        ensures { self.new ≡ self.old ++ actor ∷ [] }
+    {
+        self.callers.push(actor);
+    }
+
+    /// The caller at the front.
+    pub fn head(&self) -> Option<usize>
+        ensures { result ≡ slice_get self.now 0 }
+    {
+        self.callers.first().copied()
+    }
+
+    /// Takes the caller at the front.
+    pub fn leave(&mut self) -> Option<usize>
+        ensures caller { result ≡ slice_get self.old 0 }
+        ensures rest { self.new ≡ drop 1 self.old }
+    {
+        self.callers.pop_at(0)
+    }
+
+    /// Whether a caller is due to be served: the barrier is open and somebody waits (9.5.3).
+    pub fn due(&self, barrier_open: bool) -> bool
+        ensures { IsTrue result ↔ (IsTrue barrier_open × (0 < length self.now)) }
+    {
+        barrier_open && !self.is_empty()
+    }
+}
+
+#[cfg(test)]
+mod tests {
+    use super::*;
+
+    #[test]
+    fn callers_leave_in_the_order_in_which_they_joined(rt: HostRuntime) {
+        let mut entry_queue = EntryQueue::new();
+        assert!(rt; entry_queue.is_empty() && !entry_queue.is_full() && !entry_queue.due(true));
+        assert_eq!(rt; (entry_queue.head(), entry_queue.leave()), (None, None));
+        entry_queue.join(11);
+        assert!(rt; entry_queue.is_full() && entry_queue.due(true) && !entry_queue.due(false));
+        assert_eq!(rt; (entry_queue.len(), entry_queue.head()), (1, Some(11)));
+
+        let mut longer: Queue<3> = Queue::new();
+        longer.join(12);
+        longer.join(11);
+        assert!(rt; !longer.is_full());
+        assert_eq!(rt; (longer.leave(), longer.head()), (Some(12), Some(11)));
+    }
+}

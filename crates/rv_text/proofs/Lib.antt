@@ -1,0 +1,5 @@
+pub mod FirstParts
+pub mod Digits
+pub mod NextAt
+pub mod NextSection
+pub mod DottedName

@@ -1,0 +1,47 @@
+-- What stands of the passes that came back.
+use Rattle.std.proofs.Common.{◌≡◌, ℕ, true, List, [], ◌∷◌, ◌++◌, map, Option, None, subst, refl, sym, ap, ◌∙◌}
+use Rattle.atomic_table.specs.Table.{Me}
+use Rattle.atomic_table.specs.Seated.{TableId}
+use Rattle.rv_turn.specs.declared.view.View.{View}
+use Rattle.rv_turn.specs.declared.view.Joined.{Joined}
+use Rattle.rv_turn.specs.Histories.{Each}
+use Rattle.rv_turn.specs.Views.{turned, queued}
+use Rattle.rv_turn.specs.Acts.{Holds}
+use Rattle.rv_turn.specs.Rules.{Stands, Met}
+use Rattle.rv_turn.specs.Passes.{Known, known_of, kept_of, StandsIn}
+
+each_front : {A B : Type 0} (f : A → B) (Q : B → Type 0) (xs : List A) (ys : List B) → Each Q (map f xs ++ ys) → Each (λ x. Q (f x)) xs
+each_front f Q [] ys e = tt
+each_front f Q (x ∷ xs) ys e = (e.0, each_front f Q xs ys e.1)
+
+-- what holds of all that is kept holds of those that were taken in
+pub each_given : {A B : Type 0} (f : A → B) (Q : B → Type 0) (xs : List A) (ys zs : List B) → zs ≡ map f xs ++ ys → Each Q zs → Each (λ x. Q (f x)) xs
+each_given f Q xs ys zs is e = each_front f Q xs ys (subst (λ l. Each Q l) is e)
+
+-- one more is taken in, from the back
+pub took_more : {A B : Type 0} (f : A → B) (xs old : List A) (x : A) (kept : List B) → old ≡ xs ++ x ∷ [] → map f xs ++ (f x ∷ kept) ≡ map f old ++ kept
+took_more f xs old x kept is = at xs ∙ ap (λ l. map f l ++ kept) (sym is) where
+  at : (xs : List _) → map f xs ++ (f x ∷ kept) ≡ map f (xs ++ x ∷ []) ++ kept
+  at [] = refl
+  at (y ∷ ys) = ap (λ l. f y ∷ l) (at ys)
+
+-- a fact of each holds of the last, and of those before it
+pub each_last : {A : Type 0} (P : A → Type 0) (xs old : List A) (x : A) → old ≡ xs ++ x ∷ [] → Each P old → Each P xs × P x
+each_last P xs old x is e = at xs (subst (Each P) is e) where
+  at : (xs : List _) → Each P (xs ++ x ∷ []) → Each P xs × P x
+  at [] e = (tt, e.0)
+  at (y ∷ ys) e = let t = at ys e.1 in ((e.0, t.0), t.1)
+
+module _ {C E A : Type 0} (history : C → List E) (about : C → A) (by : E → ℕ) where
+  -- the first pass in the value that it took out, after it took others in
+  pub closed_first : (turn : TableId) (v w : View E A) (n : ℕ) (p : Known E A) (kept : List (Joined E)) (x : C) (m : Me (Option C) (View E A)) → known_of turn v n ≡ p → w ≡ record v { kept = kept } → Holds history about by w x m → StandsIn by (history x) p
+  closed_first turn v w n p kept x m is took h =
+      subst (StandsIn by (history x)) is (subst (λ (z : View E A). StandsIn by (history x) (known_of turn z n)) took (h.2, h.4))
+
+  -- the passes that it took in
+  pub closed_others : (turn : TableId) (v w : View E A) (n : ℕ) (p : Known E A) (others : List (Known E A)) (x : C) (m m' : Me (Option C) (View E A)) → known_of turn v n ≡ p → p.first ≡ true
+      → w ≡ record v { kept = map kept_of others ++ v.kept } → Holds history about by w x m → Met history about by m m' → Each (StandsIn by (history x)) others
+  closed_others turn v w n p others x m m' is first took h looked =
+      let met : Met history about by (turned (queued w h.0) (history x), (0, None) ∷ []) m' = subst (λ (z : Me (Option C) (View E A)). Met history about by z m') h.1 looked in
+      let was_first : w.first ≡ true = ap (λ (z : View E A). z.first) took ∙ (ap (λ (q : Known E A). q.first) is ∙ first) in
+      each_given kept_of (Stands by (history x)) others v.kept w.kept (ap (λ (z : View E A). z.kept) took) (subst (λ (l : List E). Each (Stands by l) w.kept) (met.5 refl) (met.6 was_first))

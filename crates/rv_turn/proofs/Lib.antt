@@ -1,0 +1,5 @@
+mod KeptBySteps
+mod KeptByCuts
+mod Acts
+mod Closing
+mod Passes

@@ -1,0 +1,10 @@
+use Rattle.rv_turn.proofs.Closing.{closed_first, closed_others}
+use Rattle.rv_turn.proofs.turn.Turn.close.Goals as goal
+
+pub returns-clause-first : goal.returns-clause-first
+returns-clause-first g c =
+    closed_first g.C.Counted.history g.C.Counted.about g.C.Counted.actor_of _ c.first.inside.place.me.0 c.take_all.new.place.me.0 _ c.args.first _ c.hold-value.result.0 _ c.first.view_is c.take_all.ensures.kept c.hold-value.ensures.holds
+
+pub returns-clause-others : goal.returns-clause-others
+returns-clause-others g c =
+    closed_others g.C.Counted.history g.C.Counted.about g.C.Counted.actor_of _ c.first.inside.place.me.0 c.take_all.new.place.me.0 _ c.args.first c.args.others.items c.hold-value.result.0 _ _ c.first.view_is c.requires.first.0 c.take_all.ensures.kept c.hold-value.ensures.holds c.look.ensures.looked

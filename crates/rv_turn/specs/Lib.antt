@@ -1,0 +1,6 @@
+pub mod Histories
+pub mod Views
+pub mod Rules
+pub mod Acts
+pub mod Passes
+pub mod Faults
