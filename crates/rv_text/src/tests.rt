@@ -1,8 +1,8 @@
 //! What the definitions mean, on small texts.
 
 use crate::{
-    dotted_parts, has_words, integer_of, is_identifier, is_same_name, natural_of, next_line,
-    next_word, open_script,
+    dotted_parts, has_words, integer_of, is_dotted_name, is_identifier, is_same_name, natural_of,
+    next_line, next_word, open_script,
 };
 
 #[test]
