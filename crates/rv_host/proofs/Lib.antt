@@ -33,3 +33,4 @@ pub mod Solvent
 pub mod Loading
 pub mod NeverFull
 pub mod During
+pub mod Changing
