@@ -8,7 +8,7 @@ use crate::counted::Counted;
 use crate::hall::Hall;
 use crate::rule::Place;
 use crate::steps::{add_entry, draw, entries, pass_on, put_in, take_out};
-use crate::waiting::{wait_turn, wake};
+use crate::waiting::{stand_back, wait_turn, wake};
 use std::alloc::Global;
 use std::marker::Model;
 use std::sync::{Arc, Wait};
@@ -59,6 +59,7 @@ pub(crate) fn hold<C: Counted, R: Wait>(
     ensures holds { Holds C.history C.about C.actor_of place.old.me.0 result.0 place.new.me }
     ensures count { result.1 ≡ length (C.history result.0) }
 {
+    stand_back::<C>(hall);
     let ticket = draw::<C>(&hall.board, place);
     wait_turn::<C, R>(rt, hall, place, ticket);
     let count = entries::<C>(&hall.board, place);

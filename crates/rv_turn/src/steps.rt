@@ -10,6 +10,14 @@ use crate::rule::{
     Adds, Board, Called, Counts, Draws, Gives, Grant, Learns, Notes, PassesOn, Place, TakesIn,
 };
 
+/// Looks at words 1 and 2 without a seat, which tells nothing and changes no view: whether every
+/// ticket that was drawn has been served. Event: none.
+pub(crate) fn nobody_waits<C: Counted>(board: &Board<C, C::Entry, C::About>) -> bool
+    requires { board.now.shared.table_id.words ≡ 3 }
+{
+    board.shared.peek(1) == board.shared.peek(2)
+}
+
 /// `fetch_add` of word 1: draws the next ticket. Event: none.
 pub(crate) fn draw<C: Counted>(
     board: &Board<C, C::Entry, C::About>,

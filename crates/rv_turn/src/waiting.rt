@@ -6,16 +6,46 @@ ghost use Rattle.rv_turn.specs.Rules.{TookTurn};
 use crate::counted::Counted;
 use crate::hall::Hall;
 use crate::rule::Place;
-use crate::steps::now_served;
+use crate::steps::{nobody_waits, now_served};
 use std::sync::Wait;
 use std::sync::atomic::Ordering;
 use std::{hint, thread};
+
+// How many looks a pass without a ticket takes before it draws one all the same.
+const LOOKS_BEFORE: u32 = 400;
+
+// How many of them come after a short spin, each twice as long as the one before.
+const SPINS_BEFORE: u32 = 7;
 
 // How many looks come one right after another.
 const SPINS: u32 = 100;
 
 // After how many looks a pass sleeps.
 const LOOKS: u32 = 1000;
+
+/// Lets those who have tickets get on for a short while, before a ticket is drawn.
+pub(crate) fn stand_back<C: Counted>(hall: &Hall<C>)
+    requires { hall.now.board.shared.table_id.words ≡ 3 }
+{
+    let mut pauses = 1u32;
+    for look in 0..LOOKS_BEFORE {
+        if nobody_waits::<C>(&hall.board) {
+            return;
+        }
+        if look < SPINS_BEFORE {
+            spin(pauses);
+            pauses = pauses.saturating_mul(2);
+        } else {
+            thread::yield_now();
+        }
+    }
+}
+
+fn spin(pauses: u32) {
+    for _ in 0..pauses {
+        hint::spin_loop();
+    }
+}
 
 /// Waits until the ticket is served. The value is then the seat's.
 pub(crate) fn wait_turn<C: Counted, R: Wait>(
