@@ -10,9 +10,9 @@ use crate::rule::{
     Adds, Board, Called, Counts, Draws, Gives, Grant, Learns, Notes, PassesOn, Place, TakesIn,
 };
 
-/// Looks at words 1 and 2 without a seat, which tells nothing and changes no view: whether every
-/// ticket that was drawn has been served. Event: none.
-pub(crate) fn nobody_waits<C: Counted>(board: &Board<C, C::Entry, C::About>) -> bool
+/// Loads of words 1 and 2 by no seat, which change no view and tell nothing: whether each ticket
+/// that was drawn is served. Event: none.
+pub(crate) fn all_served<C: Counted>(board: &Board<C, C::Entry, C::About>) -> bool
     requires { board.now.shared.table_id.words ≡ 3 }
 {
     board.shared.peek(1) == board.shared.peek(2)

@@ -72,8 +72,8 @@ impl<C: Counted> Turn<C> {
         }
     }
 
-    /// The value, once the passes that came back are taken in. It waits for the turn, and keeps it:
-    /// no pass that is still out acts any more. The passes are of this turn.
+    /// The value. It waits for the turn and keeps it, so no pass that is still out acts any more,
+    /// and takes in the passes that came back. The passes are of this turn.
     pub fn close<R: Wait>(self, rt: &R, first: Pass<C>, others: Vec<Pass<C>>) -> C
         requires first { (first.first ≡ true) × (first.turn ≡ self) }
         requires others { Each (λ p. (p.first ≡ false) × (p.turn ≡ self)) others.items }
@@ -87,8 +87,8 @@ impl<C: Counted> Turn<C> {
             mut place,
             ..
         } = first;
-        take_all::<C>(&hall, &mut place, others);
         let (value, _count) = hold::<C, R>(rt, &hall, &mut place);
+        take_all::<C>(&hall, &mut place, others);
         look::<C>(&hall.board, &mut place);
         value
     }
