@@ -6,3 +6,7 @@ pub mod StepWords
 pub mod StepText
 pub mod Status
 pub mod Acts
+pub mod Deeds
+pub mod Journal
+pub mod Scripted
+pub mod Outcome
