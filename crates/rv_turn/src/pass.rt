@@ -1,5 +1,6 @@
 //! Passes: the right to act on the value of a turn as one actor, and one act.
-ghost use Rattle.std.specs.Prelude.{◌≡◌, ℕ, ◌+◌, ◌<◌, ◌^◌, [], ◌∷◌, true, Some, None, MatchResult, length};
+ghost use Rattle.std.specs.Prelude.{◌≡◌, ℕ, ◌+◌, ◌<◌, ◌^◌, [], ◌∷◌, length};
+ghost use Rattle.std.specs.Prelude.{true, Some, None, MatchResult};
 ghost use Rattle.rv_turn.specs.Acts.{Holds, Changes, Releases, ActedAt};
 ghost use Rattle.rv_turn.specs.Views.{is_idle};
 ghost use Rattle.rv_turn.specs.Passes.{Acted, IsWorn};

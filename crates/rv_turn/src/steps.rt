@@ -1,8 +1,10 @@
 //! The kinds of step that a pass makes on the words and the slot, each a function of its own. Its
 //! comment names the event of the control host that it is: the recorded entry, or none.
-ghost use Rattle.std.specs.Prelude.{◌≡◌, ℕ, ◌+◌, ◌^◌, ◌<◌, ◌≤◌, ◌≢◌, [], ◌∷◌, ◌++◌, true, false, length, Some, None};
+ghost use Rattle.std.specs.Prelude.{◌≡◌, ℕ, ◌+◌, ◌^◌, ◌<◌, ◌≤◌, ◌≢◌, [], ◌∷◌, ◌++◌};
+ghost use Rattle.std.specs.Prelude.{true, false, length, Some, None};
 ghost use Rattle.rv_turn.specs.Histories.{Has};
-ghost use Rattle.rv_turn.specs.Views.{queued, grown, served, note_of, informed, gave, pass_of, took_in};
+ghost use Rattle.rv_turn.specs.Views.{queued, grown, served, note_of};
+ghost use Rattle.rv_turn.specs.Views.{informed, gave, pass_of, took_in};
 ghost use Rattle.rv_turn.specs.Rules.{TookTurn, Met};
 
 use crate::counted::Counted;

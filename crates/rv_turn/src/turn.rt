@@ -1,5 +1,6 @@
 //! A turn: made over a value, and closed for the value.
-ghost use Rattle.std.specs.Prelude.{◌≡◌, ℕ, ◌<◌, ◌++◌, true, false, [], ◌∷◌, Some, None, IfOk, IfErr, map};
+ghost use Rattle.std.specs.Prelude.{◌≡◌, ℕ, ◌<◌, ◌++◌, true, false, [], ◌∷◌};
+ghost use Rattle.std.specs.Prelude.{Some, None, IfOk, IfErr, map};
 ghost use Rattle.rv_turn.specs.Histories.{mine, Each, NoStrangers};
 ghost use Rattle.rv_turn.specs.Views.{opening_view, keeping};
 ghost use Rattle.rv_turn.specs.Passes.{opening_of, kept_of, StandsIn};
