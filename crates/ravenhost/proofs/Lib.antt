@@ -5,3 +5,6 @@ pub mod Following
 pub mod Carrying
 pub mod Telling
 pub mod Meeting
+pub mod Numbered
+pub mod Growing
+pub mod Scripts
