@@ -34,3 +34,6 @@ pub mod Loading
 pub mod NeverFull
 pub mod During
 pub mod Changing
+pub mod Running
+pub mod Marking
+pub mod Paging
