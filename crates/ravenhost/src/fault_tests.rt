@@ -10,6 +10,7 @@ use std::test::Fail;
 /// A unit with an object, and one with a task: nine lines, and their journal.
 const UNITS: &str =
     "@shape\nunit Plant\nprotected Valve 20\nscalar 0 1 0\nfunction Get 0 1\nprocedure Set in 0 1\n@shape\nunit Nav\ntask Pilot 15\n";
+
 const LOADS: &str = "1 operator load Plant -> accepted 0\n2 operator load Nav -> accepted 0\n";
 
 /// What follows the units, the journal behind the loads, and the fault; none: the script is played
@@ -26,44 +27,132 @@ const FAULTS: [(&str, &str, &str); 44] = [
     // Shapes.
     ("@shape\n", "", "script line 10: shape BadText"),
     ("@shape\nunit\n", "", "script line 10: shape BadText"),
-    ("@shape\ntask Pilot 15\n", "", "script line 10: shape BadText"),
-    ("@shape\nunit Big\ntask T 1\nunit Big\n", "", "script line 10: shape BadText"),
+    (
+        "@shape\ntask Pilot 15\n",
+        "",
+        "script line 10: shape BadText",
+    ),
+    (
+        "@shape\nunit Big\ntask T 1\nunit Big\n",
+        "",
+        "script line 10: shape BadText",
+    ),
     ("@shape\nunit nav\n", "", "script line 10: shape NameTaken"),
     ("@shape\nunit Host\n", "", "script line 10: shape NameTaken"),
-    ("@shape\nunit A\ntask T 1\nsuspension t\n", "", "script line 10: shape NameTaken"),
-    ("@shape\nunit A\nprotected O 40\nhandler P 3\nhandler Q 3\n", "", "script line 10: shape LineTaken"),
-    ("@shape\nunit A\nprotected O 30\nhandler P 3\n", "", "script line 10: shape CeilingTooLow"),
-    ("@shape\nunit A\ntask T 41\n", "", "script line 10: shape BadRange"),
-    ("@shape\nunit A\nprotected O 5\nscalar 1 0 0\n", "", "script line 10: shape BadRange"),
-    ("@shape\nunit A\nprotected O 5\nentry E open\nentry F open\n", "", "script line 10: shape TooMany"),
+    (
+        "@shape\nunit A\ntask T 1\nsuspension t\n",
+        "",
+        "script line 10: shape NameTaken",
+    ),
+    (
+        "@shape\nunit A\nprotected O 40\nhandler P 3\nhandler Q 3\n",
+        "",
+        "script line 10: shape LineTaken",
+    ),
+    (
+        "@shape\nunit A\nprotected O 30\nhandler P 3\n",
+        "",
+        "script line 10: shape CeilingTooLow",
+    ),
+    (
+        "@shape\nunit A\ntask T 41\n",
+        "",
+        "script line 10: shape BadRange",
+    ),
+    (
+        "@shape\nunit A\nprotected O 5\nscalar 1 0 0\n",
+        "",
+        "script line 10: shape BadRange",
+    ),
+    (
+        "@shape\nunit A\nprotected O 5\nentry E open\nentry F open\n",
+        "",
+        "script line 10: shape TooMany",
+    ),
     // Lists.
-    ("@list\nallow * *\n", "", "script line 10: list BadWord at line 1"),
-    ("@list\n\n# x\nALLOW * * *\n", "", "script line 10: list BadWord at line 3"),
-    ("@list\nallow * * *\ndeny a b c\n", "", "script line 10: list BadName at line 2"),
-    ("@steps\noperator append permit * * *\n", "", "script line 11: list BadWord at line 1"),
-    ("@steps\noperator replace 1 allow a b c\n", "", "script line 11: list BadName at line 1"),
+    (
+        "@list\nallow * *\n",
+        "",
+        "script line 10: list BadWord at line 1",
+    ),
+    (
+        "@list\n\n# x\nALLOW * * *\n",
+        "",
+        "script line 10: list BadWord at line 3",
+    ),
+    (
+        "@list\nallow * * *\ndeny a b c\n",
+        "",
+        "script line 10: list BadName at line 2",
+    ),
+    (
+        "@steps\noperator append permit * * *\n",
+        "",
+        "script line 11: list BadWord at line 1",
+    ),
+    (
+        "@steps\noperator replace 1 allow a b c\n",
+        "",
+        "script line 11: list BadName at line 1",
+    ),
     // Steps.
     ("@steps\nNav.Pilot\n", "", "script line 11: BadStep"),
-    ("@steps\n\n \t\nNav.Pilot jump\n", "", "script line 13: BadStep"),
-    ("@steps\noperator load Plant\n", "", "script line 11: BadStep"),
+    (
+        "@steps\n\n \t\nNav.Pilot jump\n",
+        "",
+        "script line 13: BadStep",
+    ),
+    (
+        "@steps\noperator load Plant\n",
+        "",
+        "script line 11: BadStep",
+    ),
     ("@steps\noperator list []\n", "", "script line 11: BadStep"),
-    ("@steps\noperator append # deny * * *\n", "", "script line 11: BadStep"),
+    (
+        "@steps\noperator append # deny * * *\n",
+        "",
+        "script line 11: BadStep",
+    ),
     ("@steps\noperator append\n", "", "script line 11: BadStep"),
-    ("@steps\nNav.Pilot append deny * * *\n", "", "script line 11: BadStep"),
+    (
+        "@steps\nNav.Pilot append deny * * *\n",
+        "",
+        "script line 11: BadStep",
+    ),
     ("@steps\nNav.Pilot go\n", "", "script line 11: BadStep"),
     ("@steps\noperator tick 1\n", "", "script line 11: BadStep"),
     // Names.
-    ("@steps\nNav.Nobody resume\n", "", "script line 11: UnknownName"),
-    ("@steps\nPlant.Pilot resume\n", "", "script line 11: UnknownName"),
-    ("@steps\nNav.Pilot call Plant.Gauge Get\n", "", "script line 11: UnknownName"),
-    ("@steps\nNav.Pilot call Plant.Valve Wait\n", "", "script line 11: UnknownName"),
+    (
+        "@steps\nNav.Nobody resume\n",
+        "",
+        "script line 11: UnknownName",
+    ),
+    (
+        "@steps\nPlant.Pilot resume\n",
+        "",
+        "script line 11: UnknownName",
+    ),
+    (
+        "@steps\nNav.Pilot call Plant.Gauge Get\n",
+        "",
+        "script line 11: UnknownName",
+    ),
+    (
+        "@steps\nNav.Pilot call Plant.Valve Wait\n",
+        "",
+        "script line 11: UnknownName",
+    ),
     // What came before a fault stays written.
     (
         "@list\nallow * * *\n@steps\nNav.Pilot call Plant.Valve Get\nNav.Pilot jump\nNav.Pilot resume\n",
         "3 operator list [allow * * *] -> accepted 0\n4 Nav.Pilot call Plant.Valve Get -> started\n",
         "script line 14: BadStep",
     ),
-    ("@steps\nNav.Pilot resume\n@stop\n", "- Nav.Pilot resume -> misuse\n", "script line 12: BadSection"),
+    (
+        "@steps\nNav.Pilot resume\n@stop\n",
+        "- Nav.Pilot resume -> misuse\n",
+        "script line 12: BadSection",
+    ),
     // Scripts without a fault.
     ("", "", ""),
     ("@steps", "", ""),
