@@ -8,3 +8,4 @@ pub mod Meeting
 pub mod Numbered
 pub mod Growing
 pub mod Scripts
+pub mod Scripting
