@@ -5,3 +5,7 @@ pub mod Following
 pub mod Carrying
 pub mod Telling
 pub mod Meeting
+pub mod Numbered
+pub mod Growing
+pub mod Scripts
+pub mod Scripting

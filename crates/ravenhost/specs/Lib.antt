@@ -10,3 +10,4 @@ pub mod Deeds
 pub mod Journal
 pub mod Scripted
 pub mod Outcome
+pub mod Asking
