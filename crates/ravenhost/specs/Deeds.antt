@@ -1,5 +1,6 @@
 -- What the acts of a script ask of the host, with names looked up among the units that are loaded (own).
-use Rattle.std.specs.Prelude.{ℕ, ℤ, pos, negsuc, ◌+◌, Bool, true, false, if◌then◌else◌, List, [], ◌∷◌, ◌++◌, codes, Option, Some, None, Result, Ok, Err}
+use Rattle.std.specs.Prelude.{ℕ, ℤ, pos, negsuc, ◌+◌, Bool, true, false, if◌then◌else◌, List, ◌∷◌, ◌++◌, codes}
+use Rattle.std.specs.Prelude.{Option, Some, None, Result, Ok, Err}
 use Rattle.std.specs.Fmt.{signed_decimal}
 use Rattle.rv_text.specs.Names.{dotted}
 use Rattle.rv_access.specs.Words.{Words}
@@ -19,7 +20,8 @@ use Rattle.ravenhost.specs.declared.fault.What.TheVariants as Whats
 use Rattle.ravenhost.specs.declared.step.Asker.{Asker}
 use Rattle.ravenhost.specs.declared.step.Asker.TheVariants.{Operator, Line, Task}
 use Rattle.ravenhost.specs.declared.step.Asked.{Asked}
-use Rattle.ravenhost.specs.declared.step.Asked.TheVariants.{Call, Complete, Resume, DelayUntil, Clock, Fire, Quit, Tick, Halt, Append, Remove, Replace}
+use Rattle.ravenhost.specs.declared.step.Asked.TheVariants.{Call, Complete, Resume, DelayUntil, Clock, Fire, Quit, Tick}
+use Rattle.ravenhost.specs.declared.step.Asked.TheVariants.{Halt, Append, Remove, Replace}
 use Rattle.ravenhost.specs.Names.{DottedWord}
 use Rattle.ravenhost.specs.StepWords.{◌>>=◌}
 use Rattle.ravenhost.specs.StepText.{StepWords}
@@ -88,7 +90,8 @@ abbrev pub append : ℕ → Words → Deed
 append actor line = record { actor = actor; command = AppendLine line; words = append_words line }
 
 abbrev pub remove : ℕ → ℤ → Deed
-remove actor number = record { actor = actor; command = RemoveLine (line_number number); words = codes "remove " ++ signed_decimal number }
+remove actor number =
+    record { actor = actor; command = RemoveLine (line_number number); words = codes "remove " ++ signed_decimal number }
 
 abbrev pub replace_words : ℤ → Words → List ℕ
 replace_words number line = codes "replace " ++ (signed_decimal number ++ 32 ∷ line_text line)

@@ -5,7 +5,8 @@ ghost use Rattle.rv_event.specs.declared.entry.Answer.{Answer};
 ghost use Rattle.rv_host.specs.Steps.{MayLackMemory};
 ghost use Rattle.rv_access.specs.Text.{list_text};
 ghost use Rattle.rv_host.specs.History.{force};
-ghost use Rattle.ravenhost.specs.Deeds.{line_number, load, set, ask, append, append_words, remove, replace, replace_words};
+ghost use Rattle.ravenhost.specs.Deeds.{line_number, load, set, ask, append, remove, replace};
+ghost use Rattle.ravenhost.specs.Deeds.{append_words, replace_words};
 ghost use Rattle.ravenhost.specs.Outcome.{Puts, Does};
 ghost use Rattle.ravenhost.specs.Scripted.{changed_line};
 
@@ -42,7 +43,8 @@ pub fn load<W: Write>(
     all: bool,
     shape: &UnitShape,
 ) -> Result<(), Failure>
-    ensures { Does all (W.contents writer.old) (W.contents writer.new) host.old host.new (load shape.now) result }
+    ensures { Does all (W.contents writer.old) (W.contents writer.new) host.old host.new
+        (load shape.now) result }
 {
     let answer = match answered(host.load(shape)) {
         Ok(answer) => answer,
@@ -81,7 +83,8 @@ fn tell_change<W: Write>(
     words: &str,
     answer: &Answer,
 ) -> Result<(), Failure>
-    ensures { Puts (W.contents writer.old) (W.contents writer.new) (changed_line all host.now actor words.now answer.now) result }
+    ensures { Puts (W.contents writer.old) (W.contents writer.new)
+        (changed_line all host.now actor words.now answer.now) result }
 {
     if answer.recorded().is_some() {
         return match force_text(alloc, host) {
@@ -113,7 +116,8 @@ pub fn set<W: Write>(
     all: bool,
     list: &AccessList,
 ) -> Result<(), Failure>
-    ensures { Does all (W.contents writer.old) (W.contents writer.new) host.old host.new (set list.now) result }
+    ensures { Does all (W.contents writer.old) (W.contents writer.new) host.old host.new
+        (set list.now) result }
 {
     let answer = match answered(host.set_list(list)) {
         Ok(answer) => answer,
@@ -146,7 +150,8 @@ pub fn append<W: Write>(
     actor: usize,
     line: &Line,
 ) -> Result<(), Failure>
-    ensures { Does all (W.contents writer.old) (W.contents writer.new) host.old host.new (append actor line.now) result }
+    ensures { Does all (W.contents writer.old) (W.contents writer.new) host.old host.new
+        (append actor line.now) result }
 {
     let answer = match answered(host.append_line(line)) {
         Ok(answer) => answer,
@@ -174,7 +179,8 @@ pub fn remove<W: Write>(
     actor: usize,
     number: i64,
 ) -> Result<(), Failure>
-    ensures { Does all (W.contents writer.old) (W.contents writer.new) host.old host.new (remove actor number) result }
+    ensures { Does all (W.contents writer.old) (W.contents writer.new) host.old host.new
+        (remove actor number) result }
 {
     let answer = match answered(host.remove_line(line_number(number))) {
         Ok(answer) => answer,
@@ -205,7 +211,8 @@ pub fn replace<W: Write>(
     number: i64,
     line: &Line,
 ) -> Result<(), Failure>
-    ensures { Does all (W.contents writer.old) (W.contents writer.new) host.old host.new (replace actor number line.now) result }
+    ensures { Does all (W.contents writer.old) (W.contents writer.new) host.old host.new
+        (replace actor number line.now) result }
 {
     let answer = match answered(host.replace_line(line_number(number), line)) {
         Ok(answer) => answer,
@@ -226,7 +233,8 @@ pub fn ask<W: Write>(
     actor: usize,
     request: &Request,
 ) -> Result<(), Failure>
-    ensures { Does all (W.contents writer.old) (W.contents writer.new) host.old host.new (ask host.old.shapes actor request.now) result }
+    ensures { Does all (W.contents writer.old) (W.contents writer.new) host.old host.new
+        (ask host.old.shapes actor request.now) result }
 {
     let answer = host.step(actor, *request);
     if let Some(word) = answer.recorded() {
