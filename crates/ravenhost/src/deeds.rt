@@ -12,6 +12,7 @@ ghost use Rattle.ravenhost.specs.Scripted.{changed_line};
 
 use crate::failure::Failure;
 use crate::journal::{tell_entry, tell_unrecorded};
+use crate::lookup::OPERATOR;
 use rv_access::{AccessList, Line};
 use rv_event::entry::{Answer, Entry, Request};
 use rv_event::shape::UnitShape;
@@ -19,9 +20,6 @@ use rv_event::text::text_of_request;
 use rv_host::host::Host;
 use std::alloc::{AllocError, Global};
 use std::io::Write;
-
-/// The number of the operator, who loads units and changes the list.
-pub const OPERATOR: usize = 0;
 
 // The answer, where memory wasn't refused: it is the due one then.
 fn answered(answer: Answer) -> Result<Answer, Failure>
@@ -88,7 +86,10 @@ fn tell_change<W: Write>(
 {
     if answer.recorded().is_some() {
         return match force_text(alloc, host) {
-            Ok(text) => { tell_entry(alloc, host, writer, &Entry::ListChange, "", text.as_str()) }
+            Ok(text) => {
+                let text = text.as_str();
+                tell_entry(alloc, host, writer, &Entry::ListChange, "", text)
+            }
             Err(_) => Err(Failure::Memory),
         };
     }
