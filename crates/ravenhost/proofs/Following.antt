@@ -1,5 +1,5 @@
 -- What some acts and then others lead to.
-use Rattle.std.proofs.Common.{◌≡◌, ℕ, List, [], ◌∷◌, ◌++◌, Some, None, Option, Ok, Err, Result, refl, sym, ap, ◌∙◌, subst, append-nil}
+use Rattle.std.proofs.Common.{◌≡◌, ℕ, List, [], ◌∷◌, ◌++◌, Some, None, Option, Ok, Err, Result, refl, sym, ap, ◌∙◌, append-nil}
 use Rattle.std.specs.Prelude.{Bool}
 use Rattle.std.proofs.lemmas.Grind.{flat_map-append}
 use Rattle.rv_host.specs.History.{History}

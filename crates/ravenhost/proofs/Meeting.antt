@@ -1,17 +1,16 @@
 -- What is asked, and what stands against it.
-use Rattle.std.proofs.Common.{◌≡◌, ℕ, List, [], ◌∷◌, ◌++◌, Some, None, Option, Ok, Err, Result, refl, sym, ap, ◌∙◌, subst, append-nil}
+use Rattle.std.proofs.Common.{◌≡◌, ℕ, List, [], ◌∷◌, Some, None, Option, Ok, Err, Result, sym, ap, subst, append-nil}
 use Rattle.std.specs.Prelude.{Bool, OnOk}
 use Rattle.rv_host.specs.History.{History}
 use Rattle.ravenhost.specs.declared.failure.Failure.{Failure}
-use Rattle.ravenhost.specs.declared.failure.Failure.TheVariants.{Refused, Usage, Memory, Io}
+use Rattle.ravenhost.specs.declared.failure.Failure.TheVariants.{Memory}
 use Rattle.ravenhost.specs.declared.fault.What.{What}
-use Rattle.ravenhost.specs.declared.fault.ScriptFault.{ScriptFault}
 use Rattle.ravenhost.specs.StepText.{StepWords, step_of}
 use Rattle.ravenhost.specs.Acts.{Act, Steps, step_act, line_acts}
 use Rattle.ravenhost.specs.Deeds.{Deed, deed_of, line_of}
 use Rattle.ravenhost.specs.Scripted.{Played, tell, told_line, going, plays, told_text}
-use Rattle.ravenhost.specs.Outcome.{Writes, Does, Meets, Carries}
-use Rattle.ravenhost.proofs.Carrying.{keeps_nothing, nothing_yet}
+use Rattle.ravenhost.specs.Outcome.{Writes, Meets, Carries}
+use Rattle.ravenhost.proofs.Carrying.{nothing_yet}
 use Rattle.ravenhost.proofs.Telling.{does_nothing}
 
 -- where memory was refused nothing is written

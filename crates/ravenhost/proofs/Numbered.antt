@@ -1,8 +1,8 @@
 -- The numbers of a script's lines.
-use Rattle.std.proofs.Common.{◌≡◌, ℕ, ◌+◌, ◌≤◌, ◌<◌, ◌^◌, Bool, true, false, List, [], ◌∷◌, ◌++◌, length, refl, sym, ap, ◌∙◌, arith, length-drop}
+use Rattle.std.proofs.Common.{◌≡◌, ℕ, ◌+◌, ◌≤◌, ◌<◌, ◌^◌, Bool, true, false, List, [], ◌∷◌, length, refl, arith, length-drop}
 use Rattle.std.specs.Prelude.{◌==◌, ◌&&◌, if◌then◌else◌}
 use Rattle.std.specs.List.{filter, after_first}
-use Rattle.rv_text.specs.Sections.{SectionText, Cut, onto, cut, is_line_feed, lines_ended, front_of, section_of, sections_from, sections_of}
+use Rattle.rv_text.specs.Sections.{SectionText, Cut, onto, cut, is_line_feed, lines_ended, front_of, sections_from, sections_of}
 
 -- the lines of each section have numbers below 2 ^ 63
 abbrev pub AreNumbered : List SectionText → Type 0

@@ -1,14 +1,13 @@
 -- Bytes that are a script, and bytes that are none.
-use Rattle.std.proofs.Common.{◌≡◌, ℕ, ◌<◌, ◌≤◌, List, [], Some, None, Option, Ok, Err, Result, length, take, refl, sym, ap, ◌∙◌, subst, arith, min, length-take, inl, inr}
+use Rattle.std.proofs.Common.{◌≡◌, ℕ, ◌<◌, ◌≤◌, List, Some, None, Option, Err, Result, length, take, refl, sym, ap, ◌∙◌, subst, arith, min, length-take, inl, inr}
 use Rattle.std.specs.Prelude.{Bool, IfSome, ◌⊎◌}
-use Rattle.std.specs.Str.{IsUtf8}
 use Rattle.std.proofs.lemmas.List.{take_all}
 use Rattle.ravenhost.specs.declared.failure.Failure.{Failure}
-use Rattle.ravenhost.specs.declared.failure.Failure.TheVariants.{Refused, Memory, Io}
+use Rattle.ravenhost.specs.declared.failure.Failure.TheVariants.{Refused}
 use Rattle.ravenhost.specs.declared.fault.What.{What}
 use Rattle.ravenhost.specs.declared.fault.What.TheVariants as Whats
 use Rattle.ravenhost.specs.declared.fault.ScriptFault.{ScriptFault}
-use Rattle.ravenhost.specs.Scripted.{Played, played, text_of}
+use Rattle.ravenhost.specs.Scripted.{played, text_of}
 use Rattle.ravenhost.specs.Outcome.{Writes, WritesScript}
 use Rattle.ravenhost.specs.Whole.{IsScript, IsRefused}
 use Rattle.ravenhost.proofs.Carrying.{keeps_nothing}

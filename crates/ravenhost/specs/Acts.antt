@@ -56,6 +56,7 @@ acts_in section (Some Openings.Shape) = load_act section.line (shape_of section.
 acts_in section (Some Openings.AccessList) = set_act section.line (list_of section.text) ∷ []
 acts_in section (Some Openings.Steps) = step_acts (section.line + 1) (lines section.text)
 
+-- what a section asks
 abbrev pub section_acts : SectionText → List Act
 section_acts section = acts_in section (opening_of section.opening)
 

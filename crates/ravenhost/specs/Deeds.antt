@@ -1,5 +1,6 @@
 -- What the acts of a script ask of the host, with names looked up among the units that are loaded (own).
-use Rattle.std.specs.Prelude.{ℕ, ℤ, pos, negsuc, ◌+◌, Bool, true, false, if◌then◌else◌, List, [], ◌∷◌, ◌++◌, codes, Option, Some, None, Result, Ok, Err}
+use Rattle.std.specs.Prelude.{ℕ, ℤ, pos, negsuc, ◌+◌, Bool, true, false, if◌then◌else◌, List, ◌∷◌, ◌++◌, codes}
+use Rattle.std.specs.Prelude.{Option, Some, None, Result, Ok, Err}
 use Rattle.std.specs.Fmt.{signed_decimal}
 use Rattle.rv_text.specs.Names.{dotted}
 use Rattle.rv_access.specs.Words.{Words}
@@ -19,7 +20,8 @@ use Rattle.ravenhost.specs.declared.fault.What.TheVariants as Whats
 use Rattle.ravenhost.specs.declared.step.Asker.{Asker}
 use Rattle.ravenhost.specs.declared.step.Asker.TheVariants.{Operator, Line, Task}
 use Rattle.ravenhost.specs.declared.step.Asked.{Asked}
-use Rattle.ravenhost.specs.declared.step.Asked.TheVariants.{Call, Complete, Resume, DelayUntil, Clock, Fire, Quit, Tick, Halt, Append, Remove, Replace}
+use Rattle.ravenhost.specs.declared.step.Asked.TheVariants.{Call, Complete, Resume, DelayUntil, Clock, Fire, Quit, Tick}
+use Rattle.ravenhost.specs.declared.step.Asked.TheVariants.{Halt, Append, Remove, Replace}
 use Rattle.ravenhost.specs.Names.{DottedWord}
 use Rattle.ravenhost.specs.StepWords.{◌>>=◌}
 use Rattle.ravenhost.specs.StepText.{StepWords}
@@ -35,6 +37,7 @@ pub record Deed : Type 0 where
 abbrev pub operator : ℕ
 operator = 0
 
+-- `Unit.Name` of a name
 abbrev pub full_name : DottedWord → List ℕ
 full_name name = dotted name.unit name.name
 
@@ -78,32 +81,41 @@ abbrev pub line_number : ℤ → ℕ
 line_number (pos number) = number
 line_number (negsuc number) = 0
 
+-- a request
 abbrev pub ask : List Shape → ℕ → Request → Deed
 ask shapes actor request = record { actor = actor; command = Ask actor request; words = request_text shapes request }
 
+-- the words of a step that adds a line
 abbrev pub append_words : Words → List ℕ
 append_words line = codes "append " ++ line_text line
 
+-- one more line at the end of the list
 abbrev pub append : ℕ → Words → Deed
 append actor line = record { actor = actor; command = AppendLine line; words = append_words line }
 
+-- the list without the line of a number
 abbrev pub remove : ℕ → ℤ → Deed
-remove actor number = record { actor = actor; command = RemoveLine (line_number number); words = codes "remove " ++ signed_decimal number }
+remove actor number =
+    record { actor = actor; command = RemoveLine (line_number number); words = codes "remove " ++ signed_decimal number }
 
+-- the words of a step that puts a line in place of another
 abbrev pub replace_words : ℤ → Words → List ℕ
 replace_words number line = codes "replace " ++ (signed_decimal number ++ 32 ∷ line_text line)
 
+-- another line in place of that of a number
 abbrev pub replace : ℕ → ℤ → Words → Deed
 replace actor number line =
     record { actor = actor; command = ReplaceLine (line_number number) line; words = replace_words number line }
 
+-- a unit, loaded by the operator
 abbrev pub load : Shape → Deed
 load shape = record { actor = operator; command = Load shape; words = codes "load " ++ shape.name }
 
+-- the list, set whole by the operator
 abbrev pub set : List Words → Deed
 set list = record { actor = operator; command = SetList list; words = codes "list [" ++ (list_text list ++ codes "]") }
 
--- a name that isn't loaded
+-- what a name stands for, if it is loaded
 abbrev pub if_known : {X : Type 0} → Option X → Result X What
 if_known None = Err Whats.UnknownName
 if_known (Some x) = Ok x

@@ -1,5 +1,6 @@
 -- What a script leads to: its commands, each answered as the host answers them, its history, and its text (own).
-use Rattle.std.specs.Prelude.{ℕ, Bool, true, false, if◌then◌else◌, List, [], ◌∷◌, map, length, is_some, Option, Some, None, Result, Ok, Err}
+use Rattle.std.specs.Prelude.{ℕ, Bool, true, false, if◌then◌else◌, List, [], ◌∷◌, map, length, is_some}
+use Rattle.std.specs.Prelude.{Option, Some, None, Result, Ok, Err}
 use Rattle.std.specs.List.{flat_map}
 use Rattle.rv_event.specs.Recorded.{recorded}
 use Rattle.rv_access.specs.Text.{list_text}
@@ -29,16 +30,17 @@ pub record Played : Type 0 where
   pub history : History
   pub fault : Option ScriptFault
 
--- the due answer
+-- what is told of what is asked at a history: its due answer, and where that leads
 abbrev pub tell : History → Deed → Told
 tell h deed =
     let answer = due_command served h deed.command in
     record { deed = deed; answer = answer; after = after_command h deed.command answer }
 
+-- with one more answer before
 abbrev pub onto : Told → Played → Played
 onto first p = record p { told = first ∷ p.told }
 
--- an act that a fault stands against stops the script
+-- what is asked is told, and the script goes on; what a fault stands against stops it
 abbrev pub going : History → ℕ → Result Deed What → (History → Played) → Played
 going h line (Err what) rest = record { told = []; history = h; fault = Some (record { line = line; what = what }) }
 going h line (Ok deed) rest = onto (tell h deed) (rest (tell h deed).after)
@@ -56,6 +58,7 @@ default_capacity = 4096
 abbrev pub played : List ℕ → Played
 played script = plays (empty default_capacity) (acts_of script)
 
+-- the commands of a script, and their answers
 abbrev pub commands : Played → List Command
 commands p = map (λ t. t.deed.command) p.told
 
@@ -76,6 +79,7 @@ changed_line all h actor words answer =
     else if all then unrecorded_line h.shapes actor words answer
     else []
 
+-- the lines of all that was answered
 abbrev pub told_text : Bool → Played → List ℕ
 told_text all p = flat_map (told_line all) p.told
 

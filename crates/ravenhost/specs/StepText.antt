@@ -1,7 +1,8 @@
 -- The steps of a script, one a line: who asks, and what (own). Keywords heed case.
 use Rattle.ravenhost.specs.declared.step_text.StepError.{StepError}
 use Rattle.ravenhost.specs.declared.step_text.StepError.TheVariants.{BadStep, NoMemory}
-use Rattle.std.specs.Prelude.{◌≡◌, ℕ, ℤ, Bool, true, false, not, ◌&&◌, if◌then◌else◌, List, [], ◌∷◌, codes, Option, Some, None, Result, Ok, Err}
+use Rattle.std.specs.Prelude.{◌≡◌, ℕ, ℤ, Bool, true, false, not, ◌&&◌, if◌then◌else◌, List, [], ◌∷◌, codes}
+use Rattle.std.specs.Prelude.{Option, Some, None, Result, Ok, Err}
 use Rattle.std.specs.Str.{bytes_eq}
 use Rattle.rv_text.specs.Names.{is_same_name}
 use Rattle.rv_text.specs.Numbers.{integer_of}
@@ -109,7 +110,8 @@ is_operator (Task name) = false
 
 -- a step, unless it changes the list for another than the operator
 abbrev pub if_allowed : Asker → Asked → Option StepWords
-if_allowed asker asked = if is_change asked && not (is_operator asker) then None else Some (record { asker = asker; asked = asked })
+if_allowed asker asked =
+    if is_change asked && not (is_operator asker) then None else Some (record { asker = asker; asked = asked })
 
 -- the step that the words of a line are
 abbrev pub step_of : List (List ℕ) → Option StepWords

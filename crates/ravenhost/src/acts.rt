@@ -31,7 +31,8 @@ pub fn load_unit<W: Write>(
     line: usize,
     shape: &UnitShape,
 ) -> Result<(), Failure>
-    ensures { Meets all (W.contents writer.old) (W.contents writer.new) host.old host.new line (deed_of host.old.shapes (Loads line shape.now)) result }
+    ensures { Meets all (W.contents writer.old) (W.contents writer.new) host.old host.new
+        line (deed_of host.old.shapes (Loads line shape.now)) result }
 {
     match host.catalogue().shape_fits(shape) {
         Some(fault) => Err(refused(line, What::Shape(fault))),
@@ -61,7 +62,8 @@ fn request<W: Write>(
     actor: usize,
     asked: &Asked,
 ) -> Result<(), Failure>
-    ensures { Meets all (W.contents writer.old) (W.contents writer.new) host.old host.new line (requests host.old.shapes asked.now actor) result }
+    ensures { Meets all (W.contents writer.old) (W.contents writer.new) host.old host.new
+        line (requests host.old.shapes asked.now actor) result }
 {
     match request_of(alloc, host.catalogue(), asked) {
         Ok(Some(request)) => ask(alloc, host, writer, all, actor, &request),
@@ -80,7 +82,8 @@ fn perform_by<W: Write>(
     actor: usize,
     asked: &Asked,
 ) -> Result<(), Failure>
-    ensures { Meets all (W.contents writer.old) (W.contents writer.new) host.old host.new line (asks host.old.shapes asked.now actor) result }
+    ensures { Meets all (W.contents writer.old) (W.contents writer.new) host.old host.new
+        line (asks host.old.shapes asked.now actor) result }
 {
     match asked {
         Asked::Append(Ok(given)) => append(alloc, host, writer, all, actor, given),
@@ -103,7 +106,9 @@ pub fn perform<W: Write>(
     line: usize,
     step: &Step,
 ) -> Result<(), Failure>
-    ensures { Meets all (W.contents writer.old) (W.contents writer.new) host.old host.new line (deed_of host.old.shapes (Steps line (record { asker = step.now.asker; asked = step.now.asked }))) result }
+    ensures { Meets all (W.contents writer.old) (W.contents writer.new) host.old host.new
+        line (deed_of host.old.shapes
+        (Steps line (record { asker = step.now.asker; asked = step.now.asked }))) result }
 {
     if !is_served(&step.asked) {
         return Err(refused(line, What::BadStep));

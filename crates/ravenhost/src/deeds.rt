@@ -5,12 +5,14 @@ ghost use Rattle.rv_event.specs.declared.entry.Answer.{Answer};
 ghost use Rattle.rv_host.specs.Steps.{MayLackMemory};
 ghost use Rattle.rv_access.specs.Text.{list_text};
 ghost use Rattle.rv_host.specs.History.{force};
-ghost use Rattle.ravenhost.specs.Deeds.{line_number, load, set, ask, append, append_words, remove, replace, replace_words};
+ghost use Rattle.ravenhost.specs.Deeds.{line_number, load, set, ask, append, remove, replace};
+ghost use Rattle.ravenhost.specs.Deeds.{append_words, replace_words};
 ghost use Rattle.ravenhost.specs.Outcome.{Puts, Does};
 ghost use Rattle.ravenhost.specs.Scripted.{changed_line};
 
 use crate::failure::Failure;
 use crate::journal::{tell_entry, tell_unrecorded};
+use crate::lookup::OPERATOR;
 use rv_access::{AccessList, Line};
 use rv_event::entry::{Answer, Entry, Request};
 use rv_event::shape::UnitShape;
@@ -18,9 +20,6 @@ use rv_event::text::text_of_request;
 use rv_host::host::Host;
 use std::alloc::{AllocError, Global};
 use std::io::Write;
-
-/// The number of the operator, who loads units and changes the list.
-pub const OPERATOR: usize = 0;
 
 // The answer, where memory wasn't refused: it is the due one then.
 fn answered(answer: Answer) -> Result<Answer, Failure>
@@ -42,7 +41,8 @@ pub fn load<W: Write>(
     all: bool,
     shape: &UnitShape,
 ) -> Result<(), Failure>
-    ensures { Does all (W.contents writer.old) (W.contents writer.new) host.old host.new (load shape.now) result }
+    ensures { Does all (W.contents writer.old) (W.contents writer.new) host.old host.new
+        (load shape.now) result }
 {
     let answer = match answered(host.load(shape)) {
         Ok(answer) => answer,
@@ -81,11 +81,15 @@ fn tell_change<W: Write>(
     words: &str,
     answer: &Answer,
 ) -> Result<(), Failure>
-    ensures { Puts (W.contents writer.old) (W.contents writer.new) (changed_line all host.now actor words.now answer.now) result }
+    ensures { Puts (W.contents writer.old) (W.contents writer.new)
+        (changed_line all host.now actor words.now answer.now) result }
 {
     if answer.recorded().is_some() {
         return match force_text(alloc, host) {
-            Ok(text) => { tell_entry(alloc, host, writer, &Entry::ListChange, "", text.as_str()) }
+            Ok(text) => {
+                let text = text.as_str();
+                tell_entry(alloc, host, writer, &Entry::ListChange, "", text)
+            }
             Err(_) => Err(Failure::Memory),
         };
     }
@@ -113,7 +117,8 @@ pub fn set<W: Write>(
     all: bool,
     list: &AccessList,
 ) -> Result<(), Failure>
-    ensures { Does all (W.contents writer.old) (W.contents writer.new) host.old host.new (set list.now) result }
+    ensures { Does all (W.contents writer.old) (W.contents writer.new) host.old host.new
+        (set list.now) result }
 {
     let answer = match answered(host.set_list(list)) {
         Ok(answer) => answer,
@@ -146,7 +151,8 @@ pub fn append<W: Write>(
     actor: usize,
     line: &Line,
 ) -> Result<(), Failure>
-    ensures { Does all (W.contents writer.old) (W.contents writer.new) host.old host.new (append actor line.now) result }
+    ensures { Does all (W.contents writer.old) (W.contents writer.new) host.old host.new
+        (append actor line.now) result }
 {
     let answer = match answered(host.append_line(line)) {
         Ok(answer) => answer,
@@ -174,7 +180,8 @@ pub fn remove<W: Write>(
     actor: usize,
     number: i64,
 ) -> Result<(), Failure>
-    ensures { Does all (W.contents writer.old) (W.contents writer.new) host.old host.new (remove actor number) result }
+    ensures { Does all (W.contents writer.old) (W.contents writer.new) host.old host.new
+        (remove actor number) result }
 {
     let answer = match answered(host.remove_line(line_number(number))) {
         Ok(answer) => answer,
@@ -205,7 +212,8 @@ pub fn replace<W: Write>(
     number: i64,
     line: &Line,
 ) -> Result<(), Failure>
-    ensures { Does all (W.contents writer.old) (W.contents writer.new) host.old host.new (replace actor number line.now) result }
+    ensures { Does all (W.contents writer.old) (W.contents writer.new) host.old host.new
+        (replace actor number line.now) result }
 {
     let answer = match answered(host.replace_line(line_number(number), line)) {
         Ok(answer) => answer,
@@ -226,7 +234,8 @@ pub fn ask<W: Write>(
     actor: usize,
     request: &Request,
 ) -> Result<(), Failure>
-    ensures { Does all (W.contents writer.old) (W.contents writer.new) host.old host.new (ask host.old.shapes actor request.now) result }
+    ensures { Does all (W.contents writer.old) (W.contents writer.new) host.old host.new
+        (ask host.old.shapes actor request.now) result }
 {
     let answer = host.step(actor, *request);
     if let Some(word) = answer.recorded() {

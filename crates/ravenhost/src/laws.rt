@@ -29,5 +29,6 @@ pub fn scripts_are_steps()
 /// Of the lines that a script tells, those of recorded answers are its journal.
 #[tactic(auto, using(crate::proofs::Scripting::recorded_lines))]
 pub fn recorded_lines_are_the_journal()
-    ensures { (script : List ℕ) → let p = played script in told_text false p ≡ journal_text p.history }
+    ensures { (script : List ℕ) → let p = played script in
+        told_text false p ≡ journal_text p.history }
 {}

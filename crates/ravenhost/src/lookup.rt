@@ -8,6 +8,9 @@ use rv_event::catalogue::Catalogue;
 use rv_event::entry::Request;
 use std::alloc::{AllocError, Global};
 
+/// The number of the operator, who loads units and changes the list.
+pub const OPERATOR: usize = 0;
+
 // `Unit.Name` of a name.
 fn full_name(alloc: Global, name: &DottedName) -> Result<String, AllocError>
     ensures { IfOk result (λ text. string_bytes text ≡ full_name name.now) }
@@ -26,7 +29,7 @@ pub fn actor_of(
     ensures { IfOk result (λ found. found ≡ actor_of catalogue.now asker.now) }
 {
     match asker {
-        Asker::Operator => Ok(Some(0)),
+        Asker::Operator => Ok(Some(OPERATOR)),
         Asker::Line(line) => Ok(Some(usize::from(*line) + 1)),
         Asker::Task(name) => {
             let text = full_name(alloc, name)?;

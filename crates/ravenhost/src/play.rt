@@ -5,7 +5,8 @@ ghost use Rattle.std.specs.Str.Lines.{lines};
 ghost use Rattle.rv_text.specs.Words.{words};
 ghost use Rattle.rv_access.specs.Reading.{list_of};
 ghost use Rattle.rv_event.specs.ShapeText.{shape_of};
-ghost use Rattle.ravenhost.specs.Acts.{line_acts, step_acts, load_act, set_act, section_acts, acts_of};
+ghost use Rattle.ravenhost.specs.Acts.{line_acts, step_acts, load_act, set_act};
+ghost use Rattle.ravenhost.specs.Acts.{section_acts, acts_of};
 ghost use Rattle.ravenhost.specs.Outcome.{Writes, Carries, WritesScript};
 ghost use Rattle.ravenhost.specs.Scripted.{played, text_of};
 
@@ -35,7 +36,8 @@ fn load_section<W: Write>(
     all: bool,
     section: &Section,
 ) -> Result<(), Failure>
-    ensures { Carries all (W.contents writer.old) (W.contents writer.new) host.old host.new (load_act section.now.line (shape_of section.now.text.now) ∷ []) result }
+    ensures { Carries all (W.contents writer.old) (W.contents writer.new) host.old host.new
+        (load_act section.now.line (shape_of section.now.text.now) ∷ []) result }
 {
     match read_shape(alloc, section.text) {
         Ok(shape) => load_unit(alloc, host, writer, all, section.line, &shape),
@@ -52,7 +54,8 @@ fn set_section<W: Write>(
     all: bool,
     section: &Section,
 ) -> Result<(), Failure>
-    ensures { Carries all (W.contents writer.old) (W.contents writer.new) host.old host.new (set_act section.now.line (list_of section.now.text.now) ∷ []) result }
+    ensures { Carries all (W.contents writer.old) (W.contents writer.new) host.old host.new
+        (set_act section.now.line (list_of section.now.text.now) ∷ []) result }
 {
     match read_list(alloc, section.text) {
         Ok(list) => set(alloc, host, writer, all, &list),
@@ -70,7 +73,8 @@ fn perform_line<W: Write>(
     line: usize,
     text: &str,
 ) -> Result<(), Failure>
-    ensures { Carries all (W.contents writer.old) (W.contents writer.new) host.old host.new (line_acts line (words text.now)) result }
+    ensures { Carries all (W.contents writer.old) (W.contents writer.new) host.old host.new
+        (line_acts line (words text.now)) result }
 {
     if !has_words(text) {
         return Ok(());
@@ -91,7 +95,8 @@ fn perform_all<W: Write>(
     section: &Section,
 ) -> Result<(), Failure>
     requires { section.now.line + length section.now.text.now ≤ 2 ^ 63 }
-    ensures { Carries all (W.contents writer.old) (W.contents writer.new) host.old host.new (step_acts (section.now.line + 1) (lines section.now.text.now)) result }
+    ensures { Carries all (W.contents writer.old) (W.contents writer.new) host.old host.new
+        (step_acts (section.now.line + 1) (lines section.now.text.now)) result }
 {
     let mut rest = section.text;
     let mut line = section.line;
@@ -115,7 +120,12 @@ fn carry_out<W: Write>(
     section: &Section,
 ) -> Result<(), Failure>
     requires { section.now.line + length section.now.text.now ≤ 2 ^ 63 }
-    ensures { Carries all (W.contents writer.old) (W.contents writer.new) host.old host.new (section_acts (record { line = section.now.line; opening = section.now.opening.now; text = section.now.text.now })) result }
+    ensures { Carries all (W.contents writer.old) (W.contents writer.new) host.old host.new
+        (section_acts (record {
+          line = section.now.line;
+          opening = section.now.opening.now;
+          text = section.now.text.now;
+        })) result }
 {
     match opening_of(section.opening) {
         Some(Opening::Shape) => load_section(alloc, host, writer, all, section),
@@ -133,7 +143,8 @@ fn carry_out_all<W: Write>(
     all: bool,
     text: &str,
 ) -> Result<(), Failure>
-    ensures { Carries all (W.contents writer.old) (W.contents writer.new) host.old host.new (acts_of text.now) result }
+    ensures { Carries all (W.contents writer.old) (W.contents writer.new) host.old host.new
+        (acts_of text.now) result }
 {
     let (front, mut sections) = open_script(text);
     if let Some(line) = first_meant(front) {
@@ -150,7 +161,8 @@ fn carry_out_all<W: Write>(
 
 // Carries out a text from the beginning.
 fn play_text<W: Write>(alloc: Global, writer: &mut W, all: bool, text: &str) -> Result<(), Failure>
-    ensures { Writes (W.contents writer.old) (W.contents writer.new) (text_of all (played text.now)) (played text.now).fault result }
+    ensures { Writes (W.contents writer.old) (W.contents writer.new)
+        (text_of all (played text.now)) (played text.now).fault result }
 {
     match Host::new(alloc, DEFAULT_CAPACITY) {
         Ok(mut host) => carry_out_all(alloc, &mut host, writer, all, text),
@@ -181,7 +193,8 @@ pub fn play<R: Read, W: Write>(
     writer: &mut W,
     all: bool,
 ) -> Result<(), Failure>
-    ensures { IfSome (R.remaining reader.old) (λ script. WritesScript all (W.contents writer.old) (W.contents writer.new) script result) }
+    ensures { IfSome (R.remaining reader.old) (λ script.
+        WritesScript all (W.contents writer.old) (W.contents writer.new) script result) }
 {
     match read_script(alloc, reader) {
         Ok(bytes) => play_bytes(alloc, writer, all, bytes.as_slice()),

@@ -23,7 +23,8 @@ pub enum ReadError {
 
 /// What a reader gives, up to one byte past the greatest length.
 pub fn read_script<R: Read>(alloc: Global, reader: &mut R) -> Result<Vec<u8>, ReadError>
-    ensures bytes { IfOk result (λ all. IfSome (R.remaining reader.old) (λ input. all.items ≡ take ASKED input)) }
+    ensures bytes { IfOk result (λ all.
+        IfSome (R.remaining reader.old) (λ input. all.items ≡ take ASKED input)) }
     ensures within { IfOk result (λ all. length all.items ≤ ASKED) }
 {
     let mut all = Vec::new(alloc);

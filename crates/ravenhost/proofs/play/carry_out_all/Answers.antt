@@ -1,4 +1,4 @@
-use Rattle.std.proofs.Common.{◌≡◌, ℕ, ◌<◌, ◌^◌, List, [], ◌∷◌, ◌++◌, Some, None, Option, length, ap, sym, ◌∙◌, subst, arith, rules, append_assoc}
+use Rattle.std.proofs.Common.{◌≡◌, ℕ, ◌<◌, ◌^◌, List, [], ◌∷◌, ◌++◌, None, Option, length, ap, sym, ◌∙◌, subst, rules, append_assoc}
 use Rattle.std.specs.Str.Lines.{lines}
 use Rattle.rv_text.specs.Sections.{SectionText, front_of, sections_of}
 use Rattle.ravenhost.specs.Cutting.{first_meant}
