@@ -1,5 +1,5 @@
 #!/usr/bin/env bash
-# Measures how long the built program plays a script of 4,000 steps at the default capacity. It is no test.
+# Measures how long the built program plays a script of 4,000 steps at the default capacity, and in how much memory. It is no test.
 set -eu
 cd "$(dirname "$0")/.."
 script=$(mktemp)
@@ -12,4 +12,12 @@ trap 'rm -f "$script"' EXIT
     done
 } >"$script"
 ./ravenhost play <examples/denied_call.raven >/dev/null
-time ./ravenhost play <"$script" | tail -n 1
+python3 - "$script" <<'EOF'
+import resource, subprocess, sys, time
+with open(sys.argv[1]) as script:
+    start = time.monotonic()
+    journal = subprocess.run(["crates/ravenhost/out/ravenhost", "play"], stdin=script, stdout=subprocess.PIPE, check=True).stdout
+    seconds = time.monotonic() - start
+peak = resource.getrusage(resource.RUSAGE_CHILDREN).ru_maxrss / 1024
+print(f"{journal.count(b'->')} entries in {seconds:.2f} s and {peak:.0f} MiB (aims: 5 s, 256 MiB)")
+EOF
