@@ -6,3 +6,5 @@ pub mod StepWords
 pub mod StepText
 pub mod Status
 pub mod Acts
+pub mod Choices
+pub mod Checks

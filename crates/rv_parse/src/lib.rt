@@ -1,25 +1,25 @@
-// Unit texts are read into their trees, by recursive descent.
+//! Unit texts are read into their trees, by recursive descent.
 #![tactic(auto)]
 
-pub mod body;
-pub mod cursor;
+mod body;
+mod cursor;
 #[cfg(test)]
 mod damaged_texts;
-pub mod declaration;
+mod declaration;
 #[cfg(test)]
 mod example_texts;
-pub mod expression;
-pub mod fault;
-pub mod name;
+mod expression;
+mod fault;
+mod name;
 #[cfg(test)]
 mod nested_texts;
-pub mod operator;
-pub mod phrase;
-pub mod simple;
-pub mod statement;
+mod operator;
+mod phrase;
+mod simple;
+mod statement;
 #[cfg(test)]
 mod tests;
-pub mod unit;
+mod unit;
 
 pub use fault::ParseFault;
 pub use unit::parse;

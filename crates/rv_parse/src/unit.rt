@@ -1,4 +1,4 @@
-// Whole unit texts.
+//! Whole unit texts.
 
 ghost use Rattle.std.specs.Prelude.{◌≡◌, [], map, IfOk};
 ghost use Rattle.rv_tree.specs.Units as t;

@@ -1,0 +1,171 @@
+//! Looks at the sections of a script, one by one, and says of each that it is well formed.
+
+ghost use Rattle.std.specs.Prelude.{◌≡◌};
+ghost use Rattle.ravenhost.specs.Checks.{checked_as};
+
+use crate::failure::Failure;
+use crate::fault::{ScriptFault, What};
+use crate::read::{ReadError, read_script, text_of};
+use crate::script::first_meant;
+use crate::write::write_whole;
+use rv_access::{ListFault, read_list};
+use rv_event::catalogue::Catalogue;
+use rv_event::fault::ShapeFault;
+use rv_event::reading::read_shape;
+use rv_parse::{ParseFault, parse};
+use rv_text::{Section, open_script};
+use std::alloc::{AllocError, Global};
+use std::io::{Read, Write};
+
+/// The greatest length of a unit text, in bytes.
+pub const MOST_UNIT_BYTES: usize = 262_144;
+
+/// What a section holds that is looked at.
+#[derive(Clone, Copy, Debug, Drop, PartialEq, Eq)]
+pub enum Checked {
+    /// Settings, which may come first. Nothing is said of them.
+    Settings,
+    /// A unit text: a library unit, a package and its body.
+    UnitText,
+    /// The shape of a unit.
+    Shape,
+    /// An access list.
+    AccessList,
+}
+
+/// What a line opens. Nothing may stand behind the word, not even a blank.
+pub fn checked_as(line: &str) -> Option<Checked>
+    ensures { result ≡ checked_as line.now }
+{
+    if line == "@host.toml" {
+        return Some(Checked::Settings);
+    }
+    if line == "@unit" {
+        return Some(Checked::UnitText);
+    }
+    if line == "@shape" {
+        return Some(Checked::Shape);
+    }
+    if line == "@list" {
+        return Some(Checked::AccessList);
+    }
+    None
+}
+
+// A fault of the script at a line.
+fn refused(line: usize, what: What) -> Failure {
+    Failure::Refused(ScriptFault { line, what })
+}
+
+// Says that a section is well formed.
+fn say<W: Write>(writer: &mut W, line: Result<String, AllocError>) -> Result<(), Failure> {
+    let Ok(line) = line else {
+        return Err(Failure::Memory);
+    };
+    match write_whole(writer, line.as_bytes()) {
+        Ok(()) => Ok(()),
+        Err(e) => Err(Failure::Io(e)),
+    }
+}
+
+// Looks at a unit text. So far it is well formed where it derives a tree.
+fn check_unit<W: Write>(
+    alloc: Global,
+    writer: &mut W,
+    section: &Section<'_>,
+) -> Result<(), Failure> {
+    if section.text.len() > MOST_UNIT_BYTES {
+        return Err(refused(section.line, What::TooLong));
+    }
+    match parse(alloc, section.text) {
+        Ok(unit) => {
+            let name = unit.specification.name.text.as_str();
+            say(writer, format!(in alloc; "unit {name}: ok\n"))
+        }
+        Err(ParseFault::NoMemory) => Err(Failure::Memory),
+        Err(ParseFault::Lex(fault)) => Err(refused(section.line, What::Lex(fault))),
+        Err(fault) => Err(refused(section.line, What::Parse(fault))),
+    }
+}
+
+// Looks at a shape, and adds it to those of the sections before.
+fn check_shape<W: Write>(
+    alloc: Global,
+    writer: &mut W,
+    catalogue: &mut Catalogue,
+    section: &Section<'_>,
+) -> Result<(), Failure> {
+    let shape = match read_shape(alloc, section.text) {
+        Ok(shape) => shape,
+        Err(ShapeFault::NoMemory) => return Err(Failure::Memory),
+        Err(fault) => return Err(refused(section.line, What::Shape(fault))),
+    };
+    match catalogue.add(&shape) {
+        Ok(()) => {
+            let name = shape.name();
+            say(writer, format!(in alloc; "shape {name}: ok\n"))
+        }
+        Err(ShapeFault::NoMemory) => Err(Failure::Memory),
+        Err(fault) => Err(refused(section.line, What::Shape(fault))),
+    }
+}
+
+// Looks at a list.
+fn check_list<W: Write>(
+    alloc: Global,
+    writer: &mut W,
+    section: &Section<'_>,
+) -> Result<(), Failure> {
+    match read_list(alloc, section.text) {
+        Ok(list) => {
+            let count = list.len();
+            say(writer, format!(in alloc; "list: ok {count} lines\n"))
+        }
+        Err(ListFault::NoMemory) => Err(Failure::Memory),
+        Err(fault) => Err(refused(section.line, What::List(fault))),
+    }
+}
+
+// Looks at the sections of a text, in order, up to the first fault.
+fn check_text<W: Write>(alloc: Global, writer: &mut W, text: &str) -> Result<(), Failure> {
+    let (front, mut sections) = open_script(text);
+    if let Some(line) = first_meant(front) {
+        return Err(refused(line, What::BadSection));
+    }
+    let mut catalogue = Catalogue::new(alloc);
+    let mut is_first = true;
+    let mut listless = true;
+    while let Some(section) = sections.next_section() {
+        match checked_as(section.opening) {
+            Some(Checked::Settings) if is_first => {}
+            Some(Checked::UnitText) => check_unit(alloc, writer, &section)?,
+            Some(Checked::Shape) => check_shape(alloc, writer, &mut catalogue, &section)?,
+            Some(Checked::AccessList) if listless => {
+                check_list(alloc, writer, &section)?;
+                listless = false;
+            }
+            _ => return Err(refused(section.line, What::BadSection)),
+        }
+        is_first = false;
+    }
+    Ok(())
+}
+
+/// Looks at the sections of the script that a reader gives, in order, and writes a line for each
+/// that is well formed, but none for settings. It stops at the first fault. A unit text is well
+/// formed so far where it derives a tree; the shapes must fit one another.
+pub fn check<R: Read, W: Write>(
+    alloc: Global,
+    reader: &mut R,
+    writer: &mut W,
+) -> Result<(), Failure> {
+    let bytes = match read_script(alloc, reader) {
+        Ok(bytes) => bytes,
+        Err(ReadError::Memory) => return Err(Failure::Memory),
+        Err(ReadError::Io(e)) => return Err(Failure::Io(e)),
+    };
+    match text_of(bytes.as_slice()) {
+        Ok(text) => check_text(alloc, writer, text),
+        Err(what) => Err(refused(1, what)),
+    }
+}
