@@ -1,6 +1,6 @@
 -- What the text of a script asks, one after another, up to its first fault (own). Names are those of the text: whether they
 -- are loaded is told by the history, not here.
-use Rattle.std.specs.Prelude.{ℕ, ◌+◌, Bool, true, false, if◌then◌else◌, List, [], ◌∷◌, ◌++◌, Option, Some, None, Result, Ok, Err}
+use Rattle.std.specs.Prelude.{ℕ, ◌+◌, if◌then◌else◌, List, [], ◌∷◌, ◌++◌, Option, Some, None, Result, Ok, Err}
 use Rattle.std.specs.Str.Lines.{lines}
 use Rattle.rv_text.specs.Words.{words, is_some_word}
 use Rattle.rv_text.specs.Sections.{SectionText, front_of, sections_of}
@@ -46,25 +46,17 @@ abbrev pub set_act : ℕ → Result (List Words) ListFault → Act
 set_act line (Ok list) = Sets line list
 set_act line (Err fault) = Stops line (Whats.List fault)
 
--- a section; a list stands once, before the steps, so `listless` tells that neither came
-abbrev pub section_acts : Bool → SectionText → Option Opening → List Act
-section_acts listless section None = Stops section.line Whats.BadSection ∷ []
-section_acts listless section (Some Openings.Shape) = load_act section.line (shape_of section.text) ∷ []
-section_acts true section (Some Openings.AccessList) = set_act section.line (list_of section.text) ∷ []
-section_acts false section (Some Openings.AccessList) = Stops section.line Whats.BadSection ∷ []
-section_acts listless section (Some Openings.Steps) = step_acts (section.line + 1) (lines section.text)
-
--- whether neither a list nor steps came up to a section's end
-abbrev pub stays_open : Bool → Option Opening → Bool
-stays_open listless (Some Openings.Shape) = listless
-stays_open listless opening = false
+-- what a section asks
+abbrev pub section_acts : SectionText → Option Opening → List Act
+section_acts section None = Stops section.line Whats.BadSection ∷ []
+section_acts section (Some Openings.Shape) = load_act section.line (shape_of section.text) ∷ []
+section_acts section (Some Openings.AccessList) = set_act section.line (list_of section.text) ∷ []
+section_acts section (Some Openings.Steps) = step_acts (section.line + 1) (lines section.text)
 
 -- the acts of sections, one after another
-abbrev pub acts_from : Bool → List SectionText → List Act
-acts_from listless [] = []
-acts_from listless (section ∷ sections) =
-    let opening = opening_of section.opening in
-    section_acts listless section opening ++ acts_from (stays_open listless opening) sections
+abbrev pub acts_from : List SectionText → List Act
+acts_from [] = []
+acts_from (section ∷ sections) = section_acts section (opening_of section.opening) ++ acts_from sections
 
 -- text before the first section stops the script
 abbrev pub behind_front : Option ℕ → List Act → List Act
@@ -73,4 +65,4 @@ behind_front (Some line) acts = Stops line Whats.BadSection ∷ acts
 
 -- the acts of a script; what follows the first Stops is never asked
 abbrev pub acts_of : List ℕ → List Act
-acts_of script = behind_front (first_meant 1 (lines (front_of script))) (acts_from true (sections_of script))
+acts_of script = behind_front (first_meant 1 (lines (front_of script))) (acts_from (sections_of script))

@@ -8,3 +8,7 @@ pub mod Status
 pub mod Acts
 pub mod Choices
 pub mod Checks
+pub mod Deeds
+pub mod Journal
+pub mod Scripted
+pub mod Outcome

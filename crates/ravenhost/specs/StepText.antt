@@ -6,7 +6,7 @@ use Rattle.std.specs.Str.{bytes_eq}
 use Rattle.rv_text.specs.Names.{is_same_name}
 use Rattle.rv_text.specs.Numbers.{integer_of}
 use Rattle.rv_access.specs.Words.{Words}
-use Rattle.rv_access.specs.Reading.{line_of}
+use Rattle.rv_access.specs.Reading.{is_comment, line_of}
 use Rattle.rv_access.specs.declared.fault.ListFault.{ListFault}
 use Rattle.ravenhost.specs.declared.step.Asker.{Asker}
 use Rattle.ravenhost.specs.declared.step.Asker.TheVariants.{Operator, Line, Task}
@@ -47,14 +47,10 @@ abbrev pub one_number : List (List ℕ) → Option ℤ
 one_number (word ∷ []) = integer_of word
 one_number words = None
 
--- what was read, if it was
-abbrev pub if_read : Result Words ListFault → Option Words
-if_read (Ok line) = Some line
-if_read (Err fault) = None
-
--- a line of a list
-abbrev pub list_line : List (List ℕ) → Option Words
-list_line words = if_read (line_of 1 words)
+-- a line of a list, or what is wrong with it; blank words and a comment are none
+abbrev pub list_line : List (List ℕ) → Option (Result Words ListFault)
+list_line [] = None
+list_line (word ∷ words) = if is_comment word then None else Some (line_of 1 (word ∷ words))
 
 -- `replace N LINE`, behind the `replace`
 abbrev pub replace_of : List (List ℕ) → Option Asked

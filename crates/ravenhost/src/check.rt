@@ -3,8 +3,9 @@
 ghost use Rattle.std.specs.Prelude.{◌≡◌};
 ghost use Rattle.ravenhost.specs.Checks.{checked_as};
 
+use crate::acts::refused;
 use crate::failure::Failure;
-use crate::fault::{ScriptFault, What};
+use crate::fault::What;
 use crate::read::{ReadError, read_script, text_of};
 use crate::script::first_meant;
 use crate::write::write_whole;
@@ -50,11 +51,6 @@ pub fn checked_as(line: &str) -> Option<Checked>
         return Some(Checked::AccessList);
     }
     None
-}
-
-// A fault of the script at a line.
-fn refused(line: usize, what: What) -> Failure {
-    Failure::Refused(ScriptFault { line, what })
 }
 
 // Says that a section is well formed.
@@ -134,16 +130,12 @@ fn check_text<W: Write>(alloc: Global, writer: &mut W, text: &str) -> Result<(),
     }
     let mut catalogue = Catalogue::new(alloc);
     let mut is_first = true;
-    let mut listless = true;
     while let Some(section) = sections.next_section() {
         match checked_as(section.opening) {
             Some(Checked::Settings) if is_first => {}
             Some(Checked::UnitText) => check_unit(alloc, writer, &section)?,
             Some(Checked::Shape) => check_shape(alloc, writer, &mut catalogue, &section)?,
-            Some(Checked::AccessList) if listless => {
-                check_list(alloc, writer, &section)?;
-                listless = false;
-            }
+            Some(Checked::AccessList) => check_list(alloc, writer, &section)?,
             _ => return Err(refused(section.line, What::BadSection)),
         }
         is_first = false;

@@ -34,7 +34,11 @@ const ACCEPTED: [Row; 8] = [
         "shape PLANT: ok\nlist: ok 1 lines\nshape Nav: ok\n",
         "",
     ),
-    ("@list\n\n# none\n", "list: ok 0 lines\n", ""),
+    (
+        "@list\n\n# none\n@list\ndeny * * *\nallow * * *\n",
+        "list: ok 0 lines\nlist: ok 2 lines\n",
+        "",
+    ),
     (
         "@unit\npackage A is end; package body A is end;\n@shape\nunit A\n",
         "unit A: ok\nshape A: ok\n",
@@ -43,7 +47,7 @@ const ACCEPTED: [Row; 8] = [
 ];
 
 /// Scripts with a fault.
-const REFUSED: [Row; 20] = [
+const REFUSED: [Row; 19] = [
     ("@unit\n", "", "script line 1: parse Unexpected at 0"),
     (
         "\n@unit\npackage P is end; package body P is end;\n@unit\na & b",
@@ -88,11 +92,6 @@ const REFUSED: [Row; 20] = [
         "@list\nallow a b c\n",
         "",
         "script line 1: list BadName at line 1",
-    ),
-    (
-        "@list\n@list\n",
-        "list: ok 0 lines\n",
-        "script line 2: BadSection",
     ),
     (
         "@shape\nunit A\n@host.toml\n",

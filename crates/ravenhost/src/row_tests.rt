@@ -12,7 +12,7 @@ const UNITS: &str =
 const LOADS: &str = "1 operator load Plant -> accepted 0\n2 operator load Nav -> accepted 0\n";
 
 /// What follows the units in a script, the journal behind the loads, and the status.
-const ROWS: [(&str, &str, u8); 14] = [
+const ROWS: [(&str, &str, u8); 20] = [
     (
         "@steps\nNav.Pilot call Plant.Valve Get\n",
         "3 Nav.Pilot call Plant.Valve Get -> refused 1 line 0 version 0\n",
@@ -67,6 +67,28 @@ const ROWS: [(&str, &str, u8); 14] = [
         0,
     ),
     ("@run\n", "", 1),
+    (
+        "@list\nallow * * *\n@steps\nNav.Pilot call Plant.Valve Wait\nNav.Aux call Plant.Valve Set 1\nNav.Low call Plant.Valve Wait\noperator append deny Nav Plant.Valve Wait\nNav.Aux end 1 1 : return\nNav.Low call Plant.Valve Get\nNav.Pilot resume\n",
+        "3 operator list [allow * * *] -> accepted 0\n4 Nav.Pilot call Plant.Valve Wait -> queued\n5 Nav.Aux call Plant.Valve Set 1 -> started\n- Nav.Low call Plant.Valve Wait -> busy\n6 operator list [allow * * *; deny Nav Plant.Valve Wait] -> accepted 0\n7 Nav.Aux end 1 1 : return -> done dropped Nav.Pilot line 2\n8 Nav.Low call Plant.Valve Get -> started\n9 Nav.Pilot resume -> refused 1 line 2 version 2\n",
+        0,
+    ),
+    (
+        "@list\nallow * * *\n@steps\nNav.Pilot call Plant.Valve Wait\nNav.Aux call Plant.Valve Set 1\nNav.Low call Plant.Valve Wait\nNav.Aux end 1 1 : return\nOPERATOR append  deny\tNav Plant.Valve Wait\nNav.Pilot resume\nNav.Pilot end 0 1 : return\n",
+        "3 operator list [allow * * *] -> accepted 0\n4 Nav.Pilot call Plant.Valve Wait -> queued\n5 Nav.Aux call Plant.Valve Set 1 -> started\n- Nav.Low call Plant.Valve Wait -> busy\n6 Nav.Aux end 1 1 : return -> done handed Nav.Pilot\n7 operator list [allow * * *; deny Nav Plant.Valve Wait] -> accepted 0\n8 Nav.Pilot resume -> woken\n9 Nav.Pilot end 0 1 : return -> done\n",
+        0,
+    ),
+    (
+        "@list\nallow * * *\ndeny Nav * *\n@steps\noperator remove 3\noperator remove 2\noperator replace 1 deny * * *\nNav.Pilot call Plant.Valve Get\n",
+        "3 operator list [allow * * *; deny Nav * *] -> accepted 0\n- operator remove 3 -> badline\n4 operator list [allow * * *] -> accepted 0\n5 operator list [deny * * *] -> accepted 0\n6 Nav.Pilot call Plant.Valve Get -> refused 1 line 1 version 3\n",
+        0,
+    ),
+    (
+        "@steps\noperator remove -1\noperator replace 01 allow * *  *\noperator append allow * * *\n@list\n@shape\nunit Other\n@steps\nNav.Low call Plant.Valve Get\n@list\ndeny * * *\n",
+        "- operator remove -1 -> badline\n- operator replace 1 allow * * * -> badline\n3 operator list [allow * * *] -> accepted 0\n4 operator list [] -> accepted 0\n5 operator load Other -> accepted 0\n6 Nav.Low call Plant.Valve Get -> refused 1 line 0 version 2\n7 operator list [deny * * *] -> accepted 0\n",
+        0,
+    ),
+    ("@steps\noperator append allow a b c\n", "", 1),
+    ("@steps\nNav.Pilot append allow\n", "", 1),
 ];
 
 #[test]

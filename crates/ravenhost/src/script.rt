@@ -2,7 +2,6 @@
 
 ghost use Rattle.std.specs.Prelude.{◌≡◌, ◌<◌, ◌^◌, length};
 ghost use Rattle.std.specs.Str.Lines.{lines};
-ghost use Rattle.ravenhost.specs.Acts.{stays_open};
 ghost use Rattle.ravenhost.specs.Cutting.{opening_of, first_meant};
 
 use rv_text::{has_words, next_line};
@@ -32,17 +31,6 @@ pub fn opening_of(line: &str) -> Option<Opening>
         return Some(Opening::Steps);
     }
     None
-}
-
-/// Whether neither a list nor steps came up to the end of a section of this opening: a list stands
-/// once, before the steps.
-pub fn stays_open(listless: bool, opening: Option<Opening>) -> bool
-    ensures { result ≡ stays_open listless opening }
-{
-    match opening {
-        Some(Opening::Shape) => listless,
-        Some(Opening::AccessList) | Some(Opening::Steps) | None => false,
-    }
 }
 
 /// The number of the first line that isn't blank, of what stands before the first section.

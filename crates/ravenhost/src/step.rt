@@ -2,7 +2,7 @@
 
 ghost use Rattle.std.specs.Prelude.{◌≡◌, IfOk, string_bytes};
 
-use rv_access::Line;
+use rv_access::{Line, ListFault};
 use rv_event::entry::Exit;
 use rv_value::{Args, Scalars};
 use std::alloc::{AllocError, Global};
@@ -85,7 +85,7 @@ impl Name {
 pub enum Asker {
     Operator,
     /// The line 0 .. 9 of `Int_0` .. `Int_9`.
-    Line(usize),
+    Line(u8),
     Task(DottedName),
 }
 
@@ -103,12 +103,12 @@ pub enum Asked {
     Quit,
     Tick(i64),
     Halt,
-    /// One more line at the end of the list.
-    Append(Line),
+    /// One more line at the end of the list; what is no line comes with its fault.
+    Append(Result<Line, ListFault>),
     /// The list without the line of this number.
     Remove(i64),
     /// The list with another line in place of that of this number.
-    Replace(i64, Line),
+    Replace(i64, Result<Line, ListFault>),
 }
 
 /// One step: who asks, and what.

@@ -34,7 +34,7 @@ fn steps_are_read(rt: HostRuntime) -> Result<(), Fail> {
     }
     let replace = step_of(alloc, "Operator replace 1 deny  * * *").or(Err("replace"))?;
     match (replace.asker, replace.asked) {
-        (Asker::Operator, Asked::Replace(number, line)) => {
+        (Asker::Operator, Asked::Replace(number, Ok(line))) => {
             let text = line.text(alloc)?;
             assert!(rt; number == 1 && text.as_str() == "deny * * *");
         }
@@ -61,7 +61,7 @@ fn other_lines_are_no_steps(rt: HostRuntime) {
         "Nav.Pilot end : raise Storage_Error",
         "Nav.Pilot end : overrun 1",
         "Nav.Pilot append deny * * *",
-        "operator append deny * *",
+        "operator append # deny * * *",
         "operator append",
         "operator replace deny * * *",
         "operator remove",

@@ -19,7 +19,7 @@ use Rattle.rv_host.specs.Subject.{subject}
 use Rattle.rv_host.specs.Exclusion.{barrier_at, opens_on}
 use Rattle.rv_host.specs.Rules.{granted, decided}
 use Rattle.rv_host.specs.Fitting.{Service}
-use Rattle.rv_host.specs.Due.{out, due_end, end_of, after_end, served, judged_head}
+use Rattle.rv_host.specs.Due.{out, due_end, end_of, after_end, next_of_queue, judged_head}
 use Rattle.rv_host.proofs.Answered.{answered, word_is}
 use Rattle.rv_host.proofs.Bodies.{filter_first}
 use Rattle.rv_host.proofs.Waits.{Waits, AllWait}
@@ -75,7 +75,7 @@ none_named next n e f =
 pub serves_named : (h : History) (o : ℕ) (vs : List ℤ) (next : Next) (n : ℕ) → after_end h o vs ≡ next → named_in next ≡ Some n → Serves h o vs next n
 serves_named h o vs next n e f = by_tests (halted h.past) (opens_on (barrier_at (place h.shapes o)) vs) refl refl e
   where
-    by_queue : (q : List Body) → halted h.past ≡ false → opens_on (barrier_at (place h.shapes o)) vs ≡ true → queue o h.past ≡ q → served h q ≡ next → Serves h o vs next n
+    by_queue : (q : List Body) → halted h.past ≡ false → opens_on (barrier_at (place h.shapes o)) vs ≡ true → queue o h.past ≡ q → next_of_queue h q ≡ next → Serves h o vs next n
     by_queue [] going opened is g = absurd (none_named next n g f)
     by_queue (c ∷ cs) going opened is g = record {
       going = going;
@@ -87,7 +87,7 @@ serves_named h o vs next n e f = by_tests (halted h.past) (opens_on (barrier_at 
       head = sym g;
     }
 
-    by_tests : (b c : Bool) → halted h.past ≡ b → opens_on (barrier_at (place h.shapes o)) vs ≡ c → (if b then Nothing else (if c then served h (queue o h.past) else Nothing)) ≡ next → Serves h o vs next n
+    by_tests : (b c : Bool) → halted h.past ≡ b → opens_on (barrier_at (place h.shapes o)) vs ≡ c → (if b then Nothing else (if c then next_of_queue h (queue o h.past) else Nothing)) ≡ next → Serves h o vs next n
     by_tests true c going opened g = absurd (none_named next n g f)
     by_tests false false going opened g = absurd (none_named next n g f)
     by_tests false true going opened g = by_queue (queue o h.past) going opened refl g

@@ -18,7 +18,7 @@ use Rattle.rv_event.specs.declared.entry.Recorded.TheVariants.{Started}
 use Rattle.rv_event.specs.declared.entry.Answer.{Answer}
 use Rattle.rv_event.specs.declared.entry.Answer.TheVariants as Answers
 use Rattle.rv_host.specs.History.{History, version}
-use Rattle.rv_host.specs.Exclusion.{excluded, closed, full_queue}
+use Rattle.rv_host.specs.Exclusion.{excluded, is_barred, full_queue}
 use Rattle.rv_host.specs.Owed.{has_room}
 use Rattle.rv_host.specs.Rules.{Aim, aim, aim_at, is_protected, breaks, is_call, is_held}
 use Rattle.rv_host.specs.Fitting.{Service, fits}
@@ -64,7 +64,7 @@ denied_or false line v x h e = h e
 
 -- a protected call that starts breaks no rule
 no_rule : (h : History) (a : ℕ) (r : Request) (o : ℕ) (s : Site) →
-    Tests (breaks h Grant a r o (OnProtected s)) (breaks h Blocking a r o (OnProtected s)) (breaks h Reentry a r o (OnProtected s)) (breaks h Ceiling a r o (OnProtected s)) (excluded h o (is_function s.operation.kind)) (closed h o s.operation.kind) →
+    Tests (breaks h Grant a r o (OnProtected s)) (breaks h Blocking a r o (OnProtected s)) (breaks h Reentry a r o (OnProtected s)) (breaks h Ceiling a r o (OnProtected s)) (excluded h o (is_function s.operation.kind)) (is_barred h o s.operation.kind) →
     (rule : Rule) → breaks h rule a r o (OnProtected s) ≡ false
 no_rule h a r o s t Grant = t.grant
 no_rule h a r o s t Blocking = t.calm

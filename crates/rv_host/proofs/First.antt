@@ -19,7 +19,7 @@ use Rattle.rv_event.specs.declared.entry.Recorded.TheVariants.{Refused}
 use Rattle.rv_event.specs.declared.entry.Answer.TheVariants as Answers
 use Rattle.rv_host.specs.History.{History, version}
 use Rattle.rv_host.specs.Subject.{subject}
-use Rattle.rv_host.specs.Exclusion.{excluded, closed, full_queue, conflicts, is_open}
+use Rattle.rv_host.specs.Exclusion.{excluded, is_barred, full_queue, conflicts, is_open}
 use Rattle.rv_host.specs.Rules.{Aim, aim, aim_at, breaks, decided, first, is_held, holds_any}
 use Rattle.rv_host.specs.Fitting.{Service}
 use Rattle.rv_host.specs.Due.{judged, suspended, performed, out, table, due_call, due_fire, due_delay, goes_on}
@@ -88,10 +88,10 @@ queue_test h o shut full e =
     by_test false = refl
 
 queue_rule : (h : History) (o : ℕ) (kind : Kind) → excluded h o (is_function kind) ≡ false →
-    ((closed h o kind && not (is_held h o)) && full_queue h o) ≡ (closed h o kind && full_queue h o)
+    ((is_barred h o kind && not (is_held h o)) && full_queue h o) ≡ (is_barred h o kind && full_queue h o)
 queue_rule h o (Function range) free = refl
 queue_rule h o Procedure free = refl
-queue_rule h o (EntryKind barrier) free = queue_test h o (closed h o (EntryKind barrier)) (full_queue h o) free
+queue_rule h o (EntryKind barrier) free = queue_test h o (is_barred h o (EntryKind barrier)) (full_queue h o) free
 queue_rule h o (Handler line) free = refl
 
 handler_enters : (line : ℕ) (kind : Kind) → handles line kind ≡ true → is_entry kind ≡ false
@@ -118,7 +118,7 @@ refusal h a r o t rule line number at k = record {
 
 -- a call of a protected operation, or a fired line
 protected_first : (h : History) (a : ℕ) (r : Request) (o : ℕ) (s : Site) (rule : Rule) (line number : ℕ) →
-    (excluded h o (is_function s.operation.kind) ≡ false → breaks h Queue a r o (OnProtected s) ≡ (closed h o s.operation.kind && full_queue h o)) →
+    (excluded h o (is_function s.operation.kind) ≡ false → breaks h Queue a r o (OnProtected s) ≡ (is_barred h o s.operation.kind && full_queue h o)) →
     recorded (due_call h a r o (OnProtected s)) ≡ Some (Refused rule line number) → Named (decided h (subject h a) (OnProtected s)) (version h) (first_at h a r o (OnProtected s)) rule line number
 unfolding first_at
 protected_first h a r o s rule line number queue e =
@@ -165,8 +165,8 @@ fire_first : (h : History) (a : ℕ) (rule : Rule) (line number : ℕ) (n : Opti
 fire_first h a rule line number None is e = absurd (cc)
 fire_first h a rule line number (Some n) is e =
     let k = handler_is h.shapes (a - 1) n is in
-    let calm : closed h n.object k.site.operation.kind ≡ false = and_none _ (not (is_open h n.object)) (handler_enters (a - 1) k.site.operation.kind k.kind) in
-    let queue : breaks h Queue a Fire n.object (OnProtected k.site) ≡ (closed h n.object k.site.operation.kind && full_queue h n.object) = ap (λ b. b && full_queue h n.object) (sym calm) in
+    let calm : is_barred h n.object k.site.operation.kind ≡ false = and_none _ (not (is_open h n.object)) (handler_enters (a - 1) k.site.operation.kind k.kind) in
+    let queue : breaks h Queue a Fire n.object (OnProtected k.site) ≡ (is_barred h n.object k.site.operation.kind && full_queue h n.object) = ap (λ b. b && full_queue h n.object) (sym calm) in
     refusal h a Fire n.object (OnProtected k.site) rule line number (ap (aim_at h.shapes) is ∙ ap (λ t. (n.object, t)) k.at)
     (protected_first h a Fire n.object k.site rule line number (λ _. queue) (sym (ap (λ t. recorded (due_call h a Fire n.object t)) k.at) ∙ e))
 

@@ -6,7 +6,8 @@ use Rattle.rv_event.specs.Past.{stance}
 use Rattle.rv_event.specs.declared.entry.Request.TheVariants.{Call, Resume}
 use Rattle.rv_host.specs.History.{History}
 use Rattle.rv_host.specs.Owed.{actors}
-use Rattle.rv_host.specs.Served.{served, is_protected, is_settled}
+use Rattle.rv_host.specs.Rules.{is_protected}
+use Rattle.rv_host.specs.Served.{served, is_settled}
 use Rattle.rv_host.specs.Fitting.{fits, fits_actor}
 
 both : (a b : Bool) → (a && b) ≡ true → (a ≡ true) × (b ≡ true)

@@ -24,11 +24,11 @@ use Rattle.rv_event.specs.declared.entry.Answer.{Answer}
 use Rattle.rv_event.specs.declared.entry.Answer.TheVariants as Answers
 use Rattle.rv_host.specs.History.{History, version}
 use Rattle.rv_host.specs.Subject.{subject}
-use Rattle.rv_host.specs.Exclusion.{excluded, closed, full_queue}
+use Rattle.rv_host.specs.Exclusion.{excluded, is_barred, full_queue}
 use Rattle.rv_host.specs.Owed.{IsSolvent}
 use Rattle.rv_host.specs.Rules.{granted, decided, breaks, holds_any}
 use Rattle.rv_host.specs.Fitting.{Service, fits}
-use Rattle.rv_host.specs.Due.{out, due_call, due_fire, due_end, due_resume, due_delay, end_of, after_end, served, judged, judged_head, performed, or_waiting, gate, table}
+use Rattle.rv_host.specs.Due.{out, due_call, due_fire, due_end, due_resume, due_delay, end_of, after_end, next_of_queue, judged, judged_head, performed, or_waiting, gate, table}
 use Rattle.rv_host.specs.Legal.{Legal, after}
 use Rattle.rv_host.specs.Orderly.{is_on}
 use Rattle.rv_host.specs.HandOver.{Reaches, IsHandedOver, IsDropped, IsOnlyDropped, is_complete}
@@ -48,7 +48,7 @@ reached_answer serves h a vs x c l solvent r =
     ∙ (λ i. gate (r.fitting i) (and_false (halted h.past) i) (due_end h vs (r.ending i)))
     ∙ ap (end_of h vs r.body.object) r.of
     ∙ ap (λ f. Answers.Done (if f then Nothing else after_end h r.body.object vs)) r.exclusive
-    ∙ (λ i. Answers.Done (if r.going i then Nothing else (if r.open_to i then served h (r.first i) else Nothing)))
+    ∙ (λ i. Answers.Done (if r.going i then Nothing else (if r.open_to i then next_of_queue h (r.first i) else Nothing)))
 
 -- and only there is one named
 reaches : (serves : Service) (h : History) (a : ℕ) (vs : List ℤ) (x : Exit) (next : Next) (n : ℕ) → fits serves h a (Complete vs x) ≡ true → (m : Names h a vs next n) → Reaches serves h a vs x m.served_by.call
@@ -147,7 +147,7 @@ call_not : (h : History) (a : ℕ) (r : Request) (o : ℕ) (t : Target) (next : 
 call_not h a r o Nowhere next e = cc
 call_not h a r o (OnProtected s) next e =
     judged_not (version h) (decided h (subject h a) (OnProtected s)) (scalars h.shapes o h.past) (breaks h Rules.Grant a r o (OnProtected s)) (breaks h Rules.Blocking a r o (OnProtected s)) (breaks h Rules.Reentry a r o (OnProtected s))
-    (breaks h Rules.Ceiling a r o (OnProtected s)) (excluded h o (is_function s.operation.kind)) (closed h o s.operation.kind) (full_queue h o) next e
+    (breaks h Rules.Ceiling a r o (OnProtected s)) (excluded h o (is_function s.operation.kind)) (is_barred h o s.operation.kind) (full_queue h o) next e
 call_not h a r o (OnSuspension unit name wanted) next e = denied_or _ _ (version h) _ next (performed_not (version h) _ _ _ wanted next) e
 
 fire_not : (h : History) (a : ℕ) (n : Option OperationNumber) (next : Next) → recorded (due_fire h a n) ≡ Some (Words.Done next) → ⊥

@@ -33,3 +33,7 @@ pub mod Solvent
 pub mod Loading
 pub mod NeverFull
 pub mod During
+pub mod Changing
+pub mod Running
+pub mod Marking
+pub mod Paging

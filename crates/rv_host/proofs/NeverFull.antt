@@ -15,7 +15,7 @@ use Rattle.rv_event.specs.declared.entry.Answer.{Answer}
 use Rattle.rv_event.specs.declared.entry.Answer.TheVariants.{Refused, Halted, Full, Waiting}
 use Rattle.rv_host.specs.History.{History, version}
 use Rattle.rv_host.specs.Subject.{subject}
-use Rattle.rv_host.specs.Exclusion.{excluded, closed, full_queue}
+use Rattle.rv_host.specs.Exclusion.{excluded, is_barred, full_queue}
 use Rattle.rv_host.specs.Rules.{decided, breaks, holds_any}
 use Rattle.rv_host.specs.Fitting.{Service, fits}
 use Rattle.rv_host.specs.Due.{due, due_call, due_fire, due_end, due_resume, due_delay, end_of, judged, performed, or_waiting, gate, table, goes_on}
@@ -57,7 +57,7 @@ unfolding is_full
 call_room h a r o Nowhere = refl
 call_room h a r o (OnProtected s) =
     judged_room (version h) (decided h (subject h a) (OnProtected s)) (scalars h.shapes o h.past) (breaks h Rules.Grant a r o (OnProtected s)) (breaks h Rules.Blocking a r o (OnProtected s)) (breaks h Rules.Reentry a r o (OnProtected s))
-    (breaks h Rules.Ceiling a r o (OnProtected s)) (excluded h o (is_function s.operation.kind)) (closed h o s.operation.kind) (full_queue h o)
+    (breaks h Rules.Ceiling a r o (OnProtected s)) (excluded h o (is_function s.operation.kind)) (is_barred h o s.operation.kind) (full_queue h o)
 call_room h a r o (OnSuspension unit name wanted) =
     denied_or (breaks h Rules.Grant a r o (OnSuspension unit name wanted)) (decided h (subject h a) (OnSuspension unit name wanted)) (version h) _
     (performed_room (version h) (breaks h Rules.Blocking a r o (OnSuspension unit name wanted)) (breaks h Rules.Waiter a r o (OnSuspension unit name wanted)) (state o h.past) wanted)

@@ -25,7 +25,7 @@ use Rattle.rv_host.specs.Subject.{subject}
 use Rattle.rv_host.specs.Exclusion.{barrier_at, opens_on, is_open}
 use Rattle.rv_host.specs.Rules.{granted, decided}
 use Rattle.rv_host.specs.Fitting.{Service}
-use Rattle.rv_host.specs.Due.{out, after_end, served, judged_head}
+use Rattle.rv_host.specs.Due.{out, after_end, next_of_queue, judged_head}
 use Rattle.rv_host.specs.Legal.{IsLegal, Legal}
 use Rattle.rv_host.specs.Orderly.{is_on, is_exclusive_on, IsOfEntry, Each, Orderly}
 use Rattle.rv_host.proofs.Answered.{off, and_false}
@@ -138,11 +138,11 @@ end_here h a vs x b o k all is wrote = by_tests (halted h.past) (opens_on (barri
         let one : filter (is_on o) (waiting h.past) ≡ c ∷ [] = ap (λ n. filter (is_on n) (waiting h.past)) (sym is) ∙ q ∙ ap (λ ds. c ∷ ds) none in
         inr (inr (inr (filter_gone (is_on o) c (waiting h.past) one)))
 
-    by_queue : (q : List Body) → queue b.object h.past ≡ q → Settled h.shapes (Asked a (Complete vs x) (Done (served h q)) ∷ h.past) o
+    by_queue : (q : List Body) → queue b.object h.past ≡ q → Settled h.shapes (Asked a (Complete vs x) (Done (next_of_queue h q)) ∷ h.past) o
     by_queue [] e = inr (inr (inr (ap (λ n. filter (is_on n) (waiting h.past)) (sym is) ∙ e)))
     by_queue (c ∷ cs) e = by_grant c cs (granted h (subject h c.actor) (target h.shapes c.object c.operation)) (decided h (subject h c.actor) (target h.shapes c.object c.operation)) e
 
-    by_tests : (t u : Bool) → halted h.past ≡ t → opens_on (barrier_at (place h.shapes b.object)) vs ≡ u → Settled h.shapes (Asked a (Complete vs x) (Done (if t then Nothing else (if u then served h (queue b.object h.past) else Nothing))) ∷ h.past) o
+    by_tests : (t u : Bool) → halted h.past ≡ t → opens_on (barrier_at (place h.shapes b.object)) vs ≡ u → Settled h.shapes (Asked a (Complete vs x) (Done (if t then Nothing else (if u then next_of_queue h (queue b.object h.past) else Nothing))) ∷ h.past) o
     by_tests true u halt opened = inl halt
     by_tests false false halt opened =
         inr (inr (inl (ap (λ t. opens_on (barrier_at (place h.shapes o)) (if t then vs else scalars h.shapes o h.past)) wrote ∙ ap (λ n. opens_on (barrier_at (place h.shapes n)) vs) (sym is) ∙ opened)))

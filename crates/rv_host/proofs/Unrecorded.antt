@@ -8,7 +8,7 @@ use Rattle.rv_event.specs.declared.entry.Entry.TheVariants.{Load}
 use Rattle.rv_event.specs.declared.entry.Request.{Request}
 use Rattle.rv_event.specs.declared.entry.Answer.{Answer}
 use Rattle.rv_host.specs.History.{History}
-use Rattle.rv_host.specs.Legal.{after, entered, after_load, after_list, put}
+use Rattle.rv_host.specs.Legal.{after, entered, after_load, after_list, listed}
 
 pub request_unrecorded : (h : History) (a : ℕ) (r : Request) (x : Answer) → recorded x ≡ None → after h a r x ≡ h
 request_unrecorded h a r x e = ap (entered h a r) e
@@ -17,4 +17,4 @@ pub load_unrecorded : (h : History) (s : Shape) (x : Answer) → recorded x ≡ 
 load_unrecorded h s x e = ap (λ o. if is_some o then record h { past = Load ∷ h.past; shapes = h.shapes ++ s ∷ [] } else h) e
 
 pub list_unrecorded : (h : History) (list : Option (List Words)) (x : Answer) → recorded x ≡ None → after_list h list x ≡ h
-list_unrecorded h list x e = ap (λ o. if is_some o then put h list else h) e
+list_unrecorded h list x e = ap (λ o. if is_some o then listed h list else h) e

@@ -24,7 +24,7 @@ use Rattle.rv_event.specs.declared.entry.Recorded.TheVariants.{Queued}
 use Rattle.rv_event.specs.declared.entry.Answer.{Answer}
 use Rattle.rv_event.specs.declared.entry.Answer.TheVariants as Answers
 use Rattle.rv_host.specs.History.{History, version}
-use Rattle.rv_host.specs.Exclusion.{excluded, closed, full_queue, is_open}
+use Rattle.rv_host.specs.Exclusion.{excluded, is_barred, full_queue, is_open}
 use Rattle.rv_host.specs.Owed.{actors}
 use Rattle.rv_host.specs.Rules.{holds_any, breaks}
 use Rattle.rv_host.specs.Fitting.{Service, may_call, in_body, idle_line, idle_task, is_operator, is_time, is_tick, call_fits}
@@ -176,7 +176,7 @@ joins_at : (serves : Service) (h : History) (a o p : ℕ) (vs : List ℤ) (t : T
 joins_at serves h a o p vs Nowhere is g e = absurd (cc)
 joins_at serves h a o p vs (OnSuspension unit name wanted) is g e = absurd (denied_or _ _ (version h) _ (never_performed (version h) _ _ _ wanted) e)
 joins_at serves h a o p vs (OnProtected s) is g e =
-    let t : Tests (breaks h Rules.Blocking a (Call o p vs) o (OnProtected s)) (excluded h o (is_function s.operation.kind)) (closed h o s.operation.kind) (full_queue h o) = judged_queues _ _ _ _ _ _ _ _ _ _ e in
+    let t : Tests (breaks h Rules.Blocking a (Call o p vs) o (OnProtected s)) (excluded h o (is_function s.operation.kind)) (is_barred h o s.operation.kind) (full_queue h o) = judged_queues _ _ _ _ _ _ _ _ _ _ e in
     let kind = both (is_entry s.operation.kind) (not (is_open h o)) t.shut in
     let calm : holds_any h a ≡ false = sym (and_true (holds_any h a)) ∙ ap (λ b. holds_any h a && b) (sym kind.0) ∙ t.calm in
     let none : held h.shapes a h.past ≡ [] = nothing_held (held h.shapes a h.past) calm in

@@ -1,5 +1,6 @@
 -- Who keeps whom out of an object (9.5.1), its barrier (9.5.2, 9.5.3) and its queue (D.7).
-use Rattle.std.specs.Prelude.{ℕ, Bool, true, false, ◌==◌, nat_lt, ◌&&◌, not, List, length, Some, None, Option, ℤ, pos, int_le}
+use Rattle.std.specs.Prelude.{ℕ, Bool, true, false, ◌==◌, nat_lt, ◌&&◌, not, List, length, Some, None, Option, ℤ, pos}
+use Rattle.std.specs.Prelude.{int_le}
 use Rattle.std.specs.List.{list_any}
 use Rattle.rv_event.specs.Shape.{Shape}
 use Rattle.rv_event.specs.Catalogue.{UnitObject, place, target, shares, is_entry, numbered, barrier, operations_of}
@@ -19,7 +20,7 @@ conflicts shapes object function body =
 abbrev pub excluded : History → ℕ → Bool → Bool
 excluded h object function = list_any (conflicts h.shapes object function) (under_way h.shapes h.past)
 
--- a component is True at 1
+-- a component is True: its value is 1
 abbrev pub is_one : Option ℤ → Bool
 is_one None = false
 is_one (Some value) = int_le (pos 1) value && int_le value (pos 1)
@@ -35,6 +36,7 @@ abbrev pub barrier_at : Option UnitObject → Option Barrier
 barrier_at None = None
 barrier_at (Some place) = barrier (operations_of place.object)
 
+-- the same for an object that may have no entry: nothing opens then
 abbrev pub opens_on : Option Barrier → List ℤ → Bool
 opens_on None values = false
 opens_on (Some barrier) values = opens barrier values
@@ -43,13 +45,14 @@ opens_on (Some barrier) values = opens barrier values
 abbrev pub is_open : History → ℕ → Bool
 is_open h object = opens_on (barrier_at (place h.shapes object)) (scalars h.shapes object h.past)
 
--- the operation is an entry, and the barrier is closed
-abbrev pub closed : History → ℕ → Kind → Bool
-closed h object kind = is_entry kind && not (is_open h object)
+-- the barrier keeps a call of the operation waiting: it is an entry, and its barrier is closed (9.5.3)
+abbrev pub is_barred : History → ℕ → Kind → Bool
+is_barred h object kind = is_entry kind && not (is_open h object)
 
 -- how many may wait in a queue (Max_Entry_Queue_Length)
 abbrev pub queue_limit : ℕ
 queue_limit = 1
 
+-- the queue has its limit of callers (D.7)
 abbrev pub full_queue : History → ℕ → Bool
 full_queue h object = not (nat_lt (length (queue object h.past)) queue_limit)

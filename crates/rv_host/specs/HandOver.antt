@@ -18,7 +18,8 @@ is_complete request = false
 
 -- An end that leaves these values comes to a queued call: it fits and ends a body that isn't a function's, the host isn't
 -- halted, the barrier is open on the values, and the call is the first in the queue of the body's object.
-pub record Reaches (serves : Service) (h : History) (actor : ℕ) (values : List ℤ) (exit : Exit) (call : Body) : Type 0 where
+pub record Reaches (serves : Service) (h : History) (actor : ℕ) (values : List ℤ) (exit : Exit)
+    (call : Body) : Type 0 where
   pub fitting : fits serves h actor (Complete values exit) ≡ true
   pub body : Body
   pub site : Site
@@ -31,14 +32,16 @@ pub record Reaches (serves : Service) (h : History) (actor : ℕ) (values : List
   pub first : queue body.object h.past ≡ call ∷ behind
 
 -- the list in force grants the call to its caller
-pub record IsHandedOver (serves : Service) (h : History) (actor : ℕ) (values : List ℤ) (exit : Exit) (caller : ℕ) : Type 0 where
+pub record IsHandedOver (serves : Service) (h : History) (actor : ℕ) (values : List ℤ) (exit : Exit)
+    (caller : ℕ) : Type 0 where
   pub call : Body
   pub reached : Reaches serves h actor values exit call
   pub its : call.actor ≡ caller
   pub grant : granted h (subject h call.actor) (target h.shapes call.object call.operation) ≡ true
 
 -- it doesn't, and this line decides
-pub record IsDropped (serves : Service) (h : History) (actor : ℕ) (values : List ℤ) (exit : Exit) (caller line : ℕ) : Type 0 where
+pub record IsDropped (serves : Service) (h : History) (actor : ℕ) (values : List ℤ) (exit : Exit)
+    (caller line : ℕ) : Type 0 where
   pub call : Body
   pub reached : Reaches serves h actor values exit call
   pub its : call.actor ≡ caller
@@ -55,4 +58,5 @@ pub record IsOnlyDropped (h dropped ended : History) (caller : ℕ) : Type 0 whe
   pub scalars_stay : (object : ℕ) → scalars dropped.shapes object dropped.past ≡ scalars ended.shapes object ended.past
   pub barriers_stay : (object : ℕ) → is_open dropped object ≡ is_open ended object
   pub held_stays : (other : ℕ) → held dropped.shapes other dropped.past ≡ held ended.shapes other ended.past
-  pub modes_stay : (other : ℕ) → other ≢ caller → mode dropped.shapes other dropped.past ≡ mode ended.shapes other ended.past
+  pub modes_stay : (other : ℕ) → other ≢ caller →
+      mode dropped.shapes other dropped.past ≡ mode ended.shapes other ended.past

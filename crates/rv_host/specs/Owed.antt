@@ -4,7 +4,8 @@ use Rattle.rv_event.specs.Shape.{Shape}
 use Rattle.rv_event.specs.Catalogue.{all_tasks}
 use Rattle.rv_event.specs.Past.{stance, under_way, halted}
 use Rattle.rv_event.specs.declared.entry.Stance.{Stance}
-use Rattle.rv_event.specs.declared.entry.Stance.TheVariants.{Free, InQueue, HandedOver, DroppedBy, WaitsOn, WaitsUntil, Gone}
+use Rattle.rv_event.specs.declared.entry.Stance.TheVariants.{Free, InQueue, HandedOver, DroppedBy, WaitsOn}
+use Rattle.rv_event.specs.declared.entry.Stance.TheVariants.{WaitsUntil, Gone}
 use Rattle.rv_event.specs.declared.entry.Entry.{Entry}
 use Rattle.rv_host.specs.History.{History}
 
@@ -33,6 +34,7 @@ abbrev pub each : ℕ → (ℕ → ℕ) → ℕ
 each zero f = 0
 each (suc n) f = f n + each n f
 
+-- one more than the greatest number of an actor: the operator, ten lines, the tasks
 abbrev pub actors : List Shape → ℕ
 actors shapes = 11 + length (all_tasks shapes)
 
@@ -41,6 +43,7 @@ abbrev pub halt_due : Bool → ℕ
 halt_due true = 0
 halt_due false = 1
 
+-- all that is owed: open starts, what actors owe beside them, and the halt
 abbrev pub owed : List Shape → List Entry → ℕ
 owed shapes past =
     length (under_way shapes past) + each (actors shapes) (dues past) + halt_due (halted past)
@@ -49,8 +52,10 @@ owed shapes past =
 abbrev pub has_room : ℕ → List Shape → List Entry → Bool
 has_room capacity shapes past = nat_le (length past + owed shapes past) capacity
 
+-- what is left beside the entries and what is owed
 abbrev pub room : History → ℕ
 room h = h.capacity - (length h.past + owed h.shapes h.past)
 
+-- the entries and what is owed are within the capacity
 abbrev pub IsSolvent : History → Type 0
 IsSolvent h = length h.past + owed h.shapes h.past ≤ h.capacity

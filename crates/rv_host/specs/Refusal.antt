@@ -13,7 +13,7 @@ is_grant rule = false
 
 -- the first rule that the request violates, the line that decides its call, or 0 for another rule than the grant, and
 -- the version of the list
-pub record IsRefusal (h : History) (actor : ℕ) (request : Request) (rule : Rule) (line number : ℕ) : Type 0 where
+pub record IsRefusal (h : History) (actor : ℕ) (request : Request) (rule : Rule) (line list_version : ℕ) : Type 0 where
   pub named : first h actor request ≡ Some rule
   pub line_is : line ≡ (if is_grant rule then decided h (subject h actor) (aim h.shapes actor request).1 else 0)
-  pub version_is : number ≡ version h
+  pub version_is : list_version ≡ version h

@@ -1,13 +1,20 @@
--- A history as a scan has seen it.
+-- A history as a scan has seen it (own).
 use Rattle.std.specs.Prelude.{◌≡◌, ℕ, reverse}
 use Rattle.rv_host.specs.declared.seen.Seen.{Seen}
 use Rattle.rv_host.specs.History.{History}
 use Rattle.rv_host.specs.Found.{IsFound}
 use Rattle.rv_host.specs.Orderly.{Orderly}
 
+-- the history that was scanned
 abbrev pub history_of : Seen → History
 history_of seen =
-    record { capacity = seen.capacity; past = reverse seen.entries.now; shapes = seen.catalogue.now; lists = seen.lists.now }
+    record {
+      capacity = seen.capacity;
+      past = reverse seen.entries.now;
+      shapes = seen.catalogue.now;
+      lists =
+          seen.lists.now;
+    }
 
 -- the scan is of that history, which is orderly
 pub record IsSeen (seen : Seen) : Type 0 where

@@ -1,21 +1,20 @@
 -- What the host serves (own).
 use Rattle.std.specs.Prelude.{ℕ, Bool, true, false}
-use Rattle.rv_event.specs.Catalogue.{Target, Nowhere, OnProtected, OnSuspension, target}
+use Rattle.rv_event.specs.Catalogue.{target}
 use Rattle.rv_event.specs.Past.{stance}
 use Rattle.rv_event.specs.declared.entry.Stance.{Stance}
-use Rattle.rv_event.specs.declared.entry.Stance.TheVariants.{Free, InQueue, HandedOver, DroppedBy, WaitsOn, WaitsUntil, Gone}
+use Rattle.rv_event.specs.declared.entry.Stance.TheVariants.{Free, InQueue, HandedOver, DroppedBy, WaitsOn}
+use Rattle.rv_event.specs.declared.entry.Stance.TheVariants.{WaitsUntil, Gone}
 use Rattle.rv_event.specs.declared.entry.Request.{Request}
 use Rattle.rv_event.specs.declared.entry.Request.TheVariants.{Call, Complete, Resume}
 use Rattle.rv_host.specs.History.{History}
+use Rattle.rv_host.specs.Rules.{is_protected}
 
+-- all requests are served
 abbrev pub everything : History → ℕ → Request → Bool
 everything h actor request = true
 
-abbrev pub is_protected : Target → Bool
-is_protected Nowhere = false
-is_protected (OnProtected site) = true
-is_protected (OnSuspension unit name wanted) = false
-
+-- the wait is over: a hand-over or a drop
 abbrev pub is_settled : Stance → Bool
 is_settled Free = false
 is_settled InQueue = false

@@ -10,9 +10,11 @@ use Rattle.rv_host.specs.Fitting.{Service}
 use Rattle.rv_host.specs.Due.{out, nothing_more}
 use Rattle.rv_host.specs.Legal.{after, out_load, after_load, out_list, after_list}
 
+-- the answer that is due to a change of the list
 abbrev pub due_change : History → Change → Answer
 due_change h change = out_list h (changed (force h) change)
 
+-- the history after an answer to it
 abbrev pub after_change : History → Change → Answer → History
 after_change h change answer = after_list h (changed (force h) change) answer
 
@@ -62,6 +64,7 @@ answers_to serves h (command ∷ commands) =
     let answer = due_command serves h command in
     answer ∷ answers_to serves (after_command h command answer) commands
 
+-- the history that they lead to
 abbrev pub history_after : Service → History → List Command → History
 history_after serves h [] = h
 history_after serves h (command ∷ commands) =

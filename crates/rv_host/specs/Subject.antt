@@ -13,15 +13,18 @@ home (Line line) = codes "Interrupts"
 home (Task task) = task.unit
 home Nobody = []
 
+-- the unit of an object
 abbrev pub unit_at : Option UnitObject → List ℕ
 unit_at None = []
 unit_at (Some place) = place.unit
 
+-- by the innermost body, if there is one
 abbrev pub subject_of : History → ℕ → Option Body → List ℕ
 subject_of h actor None = home (who h.shapes actor)
 subject_of h actor (Some body) = unit_at (place h.shapes body.object)
 
--- the subject of a call: the unit of the innermost object that the actor holds, else its home
+-- the subject of a call: the unit of the innermost object that the actor holds, else its home; a line
+-- that fires holds nothing, so its subject is its home
 abbrev pub subject : History → ℕ → List ℕ
 subject h actor = subject_of h actor (innermost h.shapes actor h.past)
 

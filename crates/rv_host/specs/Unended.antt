@@ -9,4 +9,5 @@ use Rattle.rv_event.specs.declared.entry.Entry.{Entry}
 abbrev pub IsUnended : List Shape → Body → List Entry → List Entry → Type 0
 IsUnended shapes body [] past = Unit {0}
 IsUnended shapes body (e ∷ later) past =
-    IsUnended shapes body later past × (ended e ≡ Some body.actor → innermost shapes body.actor (later ++ past) ≢ Some body)
+    IsUnended shapes body later past × (ended e ≡ Some body.actor →
+    innermost shapes body.actor (later ++ past) ≢ Some body)

@@ -1,4 +1,4 @@
--- What a refused call leaves as it was.
+-- What a refused call leaves as it was (own).
 use Rattle.std.specs.Prelude.{◌≡◌, ℕ}
 use Rattle.rv_event.specs.Past.{scalars, queue, held}
 use Rattle.rv_host.specs.History.{History}

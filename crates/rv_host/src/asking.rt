@@ -93,7 +93,7 @@ pub fn opens_at(catalogue: &Catalogue, object: usize, scalars: &Scalars) -> bool
 // Whether the operation is an entry with a closed barrier.
 fn is_closed(seen: &Seen, kind: Kind) -> bool
     requires { IsSeen seen.now }
-    ensures { result ≡ exclusion.closed (history_of seen.now) seen.now.object kind }
+    ensures { result ≡ exclusion.is_barred (history_of seen.now) seen.now.object kind }
 {
     is_entry(kind) && !opens_at(seen.catalogue, seen.object, &seen.scan.scalars())
 }
@@ -163,7 +163,7 @@ pub fn tests_of(seen: &Seen, actor: usize, kind: Kind, ceiling: usize, denied: b
     ensures reentry { result.reentry ≡ rules.holds (history_of seen.now) actor seen.now.object }
     ensures above { result.above ≡ nat_lt ceiling (subjects.active (history_of seen.now) actor) }
     ensures busy { result.busy ≡ exclusion.excluded (history_of seen.now) seen.now.object (catalogues.is_function kind) }
-    ensures closed { result.closed ≡ exclusion.closed (history_of seen.now) seen.now.object kind }
+    ensures closed { result.closed ≡ exclusion.is_barred (history_of seen.now) seen.now.object kind }
     ensures full { result.full ≡ exclusion.full_queue (history_of seen.now) seen.now.object }
 {
     Tests {

@@ -6,7 +6,8 @@ ghost use Rattle.rv_event.specs.Past as past;
 ghost use Rattle.rv_host.specs.Fitting as fitting;
 ghost use Rattle.rv_event.specs.Readers.{target_of};
 ghost use Rattle.rv_host.specs.Owed.{actors};
-ghost use Rattle.rv_host.specs.Served.{is_protected, is_settled, served};
+ghost use Rattle.rv_host.specs.Rules.{is_protected};
+ghost use Rattle.rv_host.specs.Served.{is_settled, served};
 ghost use Rattle.rv_host.specs.Seen.{IsSeen, history_of};
 
 use crate::asking::count_held;

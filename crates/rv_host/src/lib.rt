@@ -2,6 +2,7 @@
 #![tactic(auto)]
 
 mod answering;
+pub mod answers;
 mod asking;
 mod backward;
 pub mod command;
@@ -13,6 +14,7 @@ mod judging;
 pub mod laws;
 mod looking;
 mod owing;
+pub mod page;
 mod replay;
 mod scan;
 mod seen;

@@ -1,9 +1,8 @@
 -- What stands of the passes that came back.
-use Rattle.std.proofs.Common.{◌≡◌, ℕ, true, List, [], ◌∷◌, ◌++◌, map, Option, None, subst, refl, sym, ap, ◌∙◌}
+use Rattle.std.proofs.Common.{◌≡◌, ℕ, true, List, [], ◌∷◌, ◌++◌, map, Option, subst, refl, sym, ap, ◌∙◌}
 use Rattle.atomic_table.specs.Table.{Me}
 use Rattle.atomic_table.specs.Seated.{TableId}
 use Rattle.rv_turn.specs.declared.view.View.{View}
-use Rattle.rv_turn.specs.declared.view.Joined.{Joined}
 use Rattle.rv_turn.specs.Histories.{Each}
 use Rattle.rv_turn.specs.Views.{turned, queued}
 use Rattle.rv_turn.specs.Acts.{Holds}
@@ -33,15 +32,15 @@ each_last P xs old x is e = at xs (subst (Each P) is e) where
   at (y ∷ ys) e = let t = at ys e.1 in ((e.0, t.0), t.1)
 
 module _ {C E A : Type 0} (history : C → List E) (about : C → A) (by : E → ℕ) where
-  -- the first pass in the value that it took out, after it took others in
-  pub closed_first : (turn : TableId) (v w : View E A) (n : ℕ) (p : Known E A) (kept : List (Joined E)) (x : C) (m : Me (Option C) (View E A)) → known_of turn v n ≡ p → w ≡ record v { kept = kept } → Holds history about by w x m → StandsIn by (history x) p
-  closed_first turn v w n p kept x m is took h =
-      subst (StandsIn by (history x)) is (subst (λ (z : View E A). StandsIn by (history x) (known_of turn z n)) took (h.2, h.4))
+  -- the first pass in the value that it took out
+  pub closed_first : (turn : TableId) (v : View E A) (n : ℕ) (p : Known E A) (x : C) (m : Me (Option C) (View E A)) → known_of turn v n ≡ p → Holds history about by v x m → StandsIn by (history x) p
+  closed_first turn v n p x m is h = subst (StandsIn by (history x)) is (h.2, h.4)
 
-  -- the passes that it took in
-  pub closed_others : (turn : TableId) (v w : View E A) (n : ℕ) (p : Known E A) (others : List (Known E A)) (x : C) (m m' : Me (Option C) (View E A)) → known_of turn v n ≡ p → p.first ≡ true
-      → w ≡ record v { kept = map kept_of others ++ v.kept } → Holds history about by w x m → Met history about by m m' → Each (StandsIn by (history x)) others
-  closed_others turn v w n p others x m m' is first took h looked =
-      let met : Met history about by (turned (queued w h.0) (history x), (0, None) ∷ []) m' = subst (λ (z : Me (Option C) (View E A)). Met history about by z m') h.1 looked in
-      let was_first : w.first ≡ true = ap (λ (z : View E A). z.first) took ∙ (ap (λ (q : Known E A). q.first) is ∙ first) in
-      each_given kept_of (Stands by (history x)) others v.kept w.kept (ap (λ (z : View E A). z.kept) took) (subst (λ (l : List E). Each (Stands by l) w.kept) (met.5 refl) (met.6 was_first))
+  -- the passes that it took in then
+  pub closed_others : (turn : TableId) (v : View E A) (n : ℕ) (p : Known E A) (others : List (Known E A)) (x : C) (m k w : Me (Option C) (View E A)) → known_of turn v n ≡ p → p.first ≡ true
+      → Holds history about by v x m → k.0 ≡ record m.0 { kept = map kept_of others ++ m.0.kept } → Met history about by k w → Each (StandsIn by (history x)) others
+  closed_others turn v n p others x m k w is first h took looked =
+      let held : k.0 ≡ record (turned (queued v h.0) (history x)) { kept = map kept_of others ++ v.kept } = took ∙ ap (λ (z : Me (Option C) (View E A)). record z.0 { kept = map kept_of others ++ z.0.kept }) h.1 in
+      let met : Met history about by (record (turned (queued v h.0) (history x)) { kept = map kept_of others ++ v.kept }, k.1) w = subst (λ (z : View E A). Met history about by (z, k.1) w) held looked in
+      let was_first : v.first ≡ true = ap (λ (q : Known E A). q.first) is ∙ first in
+      each_given kept_of (Stands by (history x)) others v.kept (map kept_of others ++ v.kept) refl (subst (λ (l : List E). Each (Stands by l) (map kept_of others ++ v.kept)) (met.5 refl) (met.6 was_first))

@@ -8,7 +8,9 @@ use Rattle.rv_turn.specs.declared.view.View.{View}
 module _ {C E A : Type 0} (history : C → List E) (about : C → A) (by : E → ℕ) where
   -- the seat has drawn a ticket and got the turn, and the value is out (own)
   abbrev pub Holds : View E A → C → Me (Option C) (View E A) → Type 0
-  Holds v x w = (t : ℕ) × (w ≡ (turned (queued v t) (history x), (0, None) ∷ [])) × StartsWith (history x) v.seen × StartsWith (history x) v.told × (mine by v.actor (history x) ≡ v.base ++ v.own) × (v.about ≡ Some (about x))
+  Holds v x w = (t : ℕ) × (w ≡ (turned (queued v t) (history x), (0, None) ∷ []))
+      × StartsWith (history x) v.seen × StartsWith (history x) v.told
+      × (mine by v.actor (history x) ≡ v.base ++ v.own) × (v.about ≡ Some (about x))
 
 module _ {E A : Type 0} (by : E → ℕ) where
   -- the history is as the holder saw it, or has one entry of the holder more (own)
@@ -31,7 +33,8 @@ module _ {E A Q R : Type 0} (by : E → ℕ) (answers : A → List E → ℕ →
     pub about : A
     pub about_is : v.about ≡ Some about
     pub answer : answers about at v.actor q r w.seen
-    pub entry : ((w.seen ≡ at) × (w.own ≡ v.own)) ⊎ ((e : E) × (by e ≡ v.actor) × (w.seen ≡ at ++ e ∷ []) × (w.own ≡ v.own ++ e ∷ []))
+    pub entry : ((w.seen ≡ at) × (w.own ≡ v.own))
+        ⊎ ((e : E) × (by e ≡ v.actor) × (w.seen ≡ at ++ e ∷ []) × (w.own ≡ v.own ++ e ∷ []))
     pub owns : mine by w.actor w.seen ≡ w.base ++ w.own
     pub acts : w.acts + 1 ≡ v.acts
     pub same : (w.actor ≡ v.actor) × (w.first ≡ v.first) × (w.base ≡ v.base) × (w.given ≡ v.given) × (w.about ≡ v.about)

@@ -36,22 +36,53 @@ pub record Noted (E : Type 0) : Type 0 where
 module _ {E A : Type 0} where
   -- the first pass of a turn over a value with this history (own)
   abbrev pub opening_of : TableId → A → (E → ℕ) → List E → Known E A
-  opening_of turn about by before = record { turn = turn; actor = 0; left = 4611686018427387904; first = true; seen = before; own = []; base = mine by 0 before; given = []; about = Some about }
+  opening_of turn about by before = record {
+    turn = turn;
+    actor = 0;
+    left = 4611686018427387904;
+    first = true;
+    seen = before;
+    own = [];
+    base = mine by 0 before;
+    given = [];
+    about = Some about;
+  }
 
   -- what a pass shows of its seat's view (own)
   abbrev pub known_of : TableId → View E A → ℕ → Known E A
-  known_of turn v left = record { turn = turn; actor = v.actor; left = left; first = v.first; seen = v.seen; own = v.own; base = v.base; given = v.given; about = v.about }
+  known_of turn v left = record {
+    turn = turn;
+    actor = v.actor;
+    left = left;
+    first = v.first;
+    seen = v.seen;
+    own = v.own;
+    base = v.base;
+    given = v.given;
+    about = v.about;
+  }
 
   -- the pass of another actor that is cut off a pass, with so many acts (own)
   abbrev pub cut_off : Known E A → List E → ℕ → ℕ → Known E A
-  cut_off p log actor acts = record { turn = p.turn; actor = actor; left = acts; first = false; seen = log; own = []; base = []; given = []; about = p.about }
+  cut_off p log actor acts = record {
+    turn = p.turn;
+    actor = actor;
+    left = acts;
+    first = false;
+    seen = log;
+    own = [];
+    base = [];
+    given = [];
+    about = p.about;
+  }
 
   -- what is left of the pass that it was cut off (own)
   abbrev pub rest_of : Known E A → List E → ℕ → ℕ → Known E A
   rest_of p log actor acts = record p { seen = log; left = p.left - acts; given = actor ∷ p.given }
 
   module _ (by : E → ℕ) where
-    -- A pass between two acts: it has no ticket and no turn, and its actor's entries in its Seen are its Own, behind those that were there before. (own)
+    -- A pass between two acts: it has no ticket and no turn, and its actor's entries in its Seen are its Own, behind those
+    -- that were there before. (own)
     pub record IsPass {C : Type 0} (board place : TableId) (me : Me (Option C) (View E A)) (actor acts : ℕ) : Type 0 where
       pub words : board.words ≡ 3
       pub seated : place ≡ board
@@ -61,7 +92,8 @@ module _ {E A : Type 0} where
       pub acts_is : me.0.acts ≡ acts + spare me.0.first
       pub owns : mine by me.0.actor me.0.seen ≡ me.0.base ++ me.0.own
 
-    -- After a note was met: Seen begins with the pass's earlier Seen and with that of the note, and nothing else is changed. (own)
+    -- After a note was met: Seen begins with the pass's earlier Seen and with that of the note, and nothing else is
+    -- changed. (own)
     pub record Meets (p : Known E A) (note : List E) (after : Known E A) : Type 0 where
       pub earlier : StartsWith after.seen p.seen
       pub told : StartsWith after.seen note
@@ -77,12 +109,14 @@ module _ {E A : Type 0} where
       pub none : mine by actor after.seen ≡ []
       pub owns : mine by p.actor after.seen ≡ p.base ++ p.own
 
-    -- a pass in the history at the close: its Seen is a prefix, and its actor's entries are its Own, behind those that were there before (own)
+    -- a pass in the history at the close: its Seen is a prefix, and its actor's entries are its Own, behind those that were
+    -- there before (own)
     abbrev pub StandsIn : List E → Known E A → Type 0
     StandsIn log p = StartsWith log p.seen × (mine by p.actor log ≡ p.base ++ p.own)
 
   module _ {Q R : Type 0} (by : E → ℕ) (answers : A → List E → ℕ → Q → R → List E → Type 0) where
-    -- One act: it is answered as it is due on one history that begins with all that the pass had seen. Then Seen is that history and Own is as before, or both have the act's entry more. (own)
+    -- One act: it is answered as it is due on one history that begins with all that the pass had seen. Then Seen is that
+    -- history and Own is as before, or both have the act's entry more. (own)
     pub record Acted (p : Known E A) (ask : Q) (reply : R) (after : Known E A) : Type 0 where
       -- the history that it was answered on
       pub at : List E
@@ -92,7 +126,8 @@ module _ {E A : Type 0} where
       pub about : A
       pub about_is : p.about ≡ Some about
       pub answer : answers about at p.actor ask reply after.seen
-      pub entry : ((after.seen ≡ at) × (after.own ≡ p.own)) ⊎ ((e : E) × (by e ≡ p.actor) × (after.seen ≡ at ++ e ∷ []) × (after.own ≡ p.own ++ e ∷ []))
+      pub entry : ((after.seen ≡ at) × (after.own ≡ p.own))
+          ⊎ ((e : E) × (by e ≡ p.actor) × (after.seen ≡ at ++ e ∷ []) × (after.own ≡ p.own ++ e ∷ []))
       pub owns : mine by after.actor after.seen ≡ after.base ++ after.own
       pub some_left : 0 < p.left
       pub same : after ≡ record p { seen = after.seen; own = after.own; left = p.left - 1 }

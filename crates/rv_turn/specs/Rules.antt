@@ -40,7 +40,8 @@ module _ {E A : Type 0} where
   NoneHas views = (j : ℕ) (v : View E A) → get_elem? views j ≡ some v → v.turn ≡ false
 
   -- What the rule asks of one view, where the history is log, and next, now, given and kept are as in the rule. (own)
-  pub record Fits (by : E → ℕ) (limit : A) (log : List E) (next now : ℕ) (given : List ℕ) (kept : List (Joined E)) (v : View E A) : Type 0 where
+  pub record Fits (by : E → ℕ) (limit : A) (log : List E) (next now : ℕ) (given : List ℕ) (kept : List (Joined E))
+      (v : View E A) : Type 0 where
     -- Seen is a prefix of the history
     pub seen : StartsWith log v.seen
     -- and so is the Seen of the note that was told
@@ -60,7 +61,8 @@ module _ {E A : Type 0} where
 
   -- the actor was given a pass, and no seat passes for it any more (own)
   abbrev pub Gone : List (View E A) → List ℕ → ℕ → Type 0
-  Gone views given a = (0 < a) × Has a given × ((j : ℕ) (v : View E A) → get_elem? views j ≡ some v → v.passes ≡ true → v.actor ≢ a)
+  Gone views given a = (0 < a) × Has a given
+      × ((j : ℕ) (v : View E A) → get_elem? views j ≡ some v → v.passes ≡ true → v.actor ≢ a)
 
 module _ {C E A : Type 0} (history : C → List E) (about : C → A) (by : E → ℕ) (made : C) where
   -- The rule: what is true of the words, the slot and all views between any two steps. (own)
@@ -82,9 +84,11 @@ module _ {C E A : Type 0} (history : C → List E) (about : C → A) (by : E →
     -- as long as no ticket was drawn, the slot has the very value that was made
     pub fresh : next ≡ 0 → get_elem? s.homes 0 ≡ some (some (Some made))
     -- slot 0 is empty only while a view has the turn, and the value at home has the history as its own
-    pub home : NoneHas s.views → (x : C) × (get_elem? s.homes 0 ≡ some (some (Some x))) × (history x ≡ log) × (about x ≡ about made)
+    pub home : NoneHas s.views
+        → (x : C) × (get_elem? s.homes 0 ≡ some (some (Some x))) × (history x ≡ log) × (about x ≡ about made)
     -- one view alone has the turn
-    pub alone : (i j : ℕ) (v w : View E A) → get_elem? s.views i ≡ some v → get_elem? s.views j ≡ some w → v.turn ≡ true → w.turn ≡ true → i ≡ j
+    pub alone : (i j : ℕ) (v w : View E A)
+        → get_elem? s.views i ≡ some v → get_elem? s.views j ≡ some w → v.turn ≡ true → w.turn ≡ true → i ≡ j
     -- every view's Seen is a prefix of the history, and what else one view is asked
     pub each : (j : ℕ) (v : View E A) → get_elem? s.views j ≡ some v → Fits by (about made) log next now given kept v
     -- no ticket and no actor is given twice
@@ -103,16 +107,20 @@ module _ {C E A : Type 0} (history : C → List E) (about : C → A) (by : E →
   abbrev Sat : Type 0
   Sat = Me (Option C) (View E A)
 
-  -- a look at the history: it begins with all that was seen and told, the seat's own entries are its actor's, and to the first pass: the joined passes stand, and strangers have no entry (own)
+  -- a look at the history: it begins with all that was seen and told, the seat's own entries are its actor's, and to the
+  -- first pass: the joined passes stand, and strangers have no entry (own)
   abbrev pub Met : Sat → Sat → Type 0
-  Met m w = (log : List E) × (w ≡ (looking m.0 log, m.1)) × StartsWith log m.0.seen × StartsWith log m.0.told × (m.0.passes ≡ true → mine by m.0.actor log ≡ m.0.base ++ m.0.own)
+  Met m w = (log : List E) × (w ≡ (looking m.0 log, m.1)) × StartsWith log m.0.seen × StartsWith log m.0.told
+      × (m.0.passes ≡ true → mine by m.0.actor log ≡ m.0.base ++ m.0.own)
       × (m.0.turn ≡ true → log ≡ m.0.seen) × (m.0.first ≡ true → Each (Stands by log) m.0.kept)
       × (m.0.first ≡ true → NoStrangers by log m.0.given)
 
   -- the seat has the turn and the value, with the whole history (own)
   abbrev pub TookTurn : Sat → Sat → Type 0
-  TookTurn m w = (x : C) × (w ≡ (turned m.0 (history x), (0, Some x) ∷ m.1)) × StartsWith (history x) m.0.seen × StartsWith (history x) m.0.told
-      × (m.0.passes ≡ true → mine by m.0.actor (history x) ≡ m.0.base ++ m.0.own) × (m.0.passes ≡ true → m.0.about ≡ Some (about x))
+  TookTurn m w = (x : C) × (w ≡ (turned m.0 (history x), (0, Some x) ∷ m.1))
+      × StartsWith (history x) m.0.seen × StartsWith (history x) m.0.told
+      × (m.0.passes ≡ true → mine by m.0.actor (history x) ≡ m.0.base ++ m.0.own)
+      × (m.0.passes ≡ true → m.0.about ≡ Some (about x))
 
   -- fetch_add of word 1: a ticket is drawn (own)
   abbrev pub drew : Step (Option C) → Sat → ℕ → Sat → Type 0
@@ -128,7 +136,8 @@ module _ {C E A : Type 0} (history : C → List E) (about : C → A) (by : E →
 
   -- fetch_add of word 0: the entry that the value in the slot has more (own)
   abbrev pub added : Step (Option C) → Sat → ℕ → Sat → Type 0
-  added st m r w = (r ≡ length m.0.seen) × ((e : E) × (x : C) × (m.1 ≡ (0, Some x) ∷ []) × (history x ≡ m.0.seen ++ e ∷ []) × (by e ≡ m.0.actor) × (w ≡ (grown m.0 (history x) e, m.1)))
+  added st m r w = (r ≡ length m.0.seen)
+      × ((e : E) × (x : C) × (m.1 ≡ (0, Some x) ∷ []) × (history x ≡ m.0.seen ++ e ∷ []) × (by e ≡ m.0.actor) × (w ≡ (grown m.0 (history x) e, m.1)))
 
   -- fetch_add of word 2: the value is home, and the next ticket is served (own)
   abbrev pub passed : Step (Option C) → Sat → ℕ → Sat → Type 0

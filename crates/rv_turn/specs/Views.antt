@@ -12,7 +12,21 @@ spare false = 0
 module _ {E A : Type 0} where
   -- the view of the first pass: it has seen the opening history, and has a ticket for the close beside its 2^62 acts (own)
   abbrev pub opening_view : (E → ℕ) → A → List E → View E A
-  opening_view by about before = record { about = Some about; seen = before; own = []; told = []; passes = true; actor = 0; acts = 4611686018427387905; ticket = 0; turn = false; first = true; base = mine by 0 before; given = []; kept = [] }
+  opening_view by about before = record {
+    about = Some about;
+    seen = before;
+    own = [];
+    told = [];
+    passes = true;
+    actor = 0;
+    acts = 4611686018427387905;
+    ticket = 0;
+    turn = false;
+    first = true;
+    base = mine by 0 before;
+    given = [];
+    kept = [];
+  }
 
   -- the view with a new ticket, which takes one of its acts (own)
   abbrev pub queued : View E A → ℕ → View E A
@@ -36,7 +50,21 @@ module _ {E A : Type 0} where
 
   -- a note of what was seen (own)
   abbrev pub note_of : List E → View E A
-  note_of seen = record { about = None; seen = seen; own = []; told = []; passes = false; actor = 0; acts = 0; ticket = 0; turn = false; first = false; base = []; given = []; kept = [] }
+  note_of seen = record {
+    about = None;
+    seen = seen;
+    own = [];
+    told = [];
+    passes = false;
+    actor = 0;
+    acts = 0;
+    ticket = 0;
+    turn = false;
+    first = false;
+    base = [];
+    given = [];
+    kept = [];
+  }
 
   -- the view after it was told of a note (own)
   abbrev pub informed : View E A → View E A → View E A
@@ -44,7 +72,21 @@ module _ {E A : Type 0} where
 
   -- a new pass of an actor, with so many acts (own)
   abbrev pub pass_of : View E A → ℕ → ℕ → View E A
-  pass_of v a n = record { about = v.about; seen = v.seen; own = []; told = []; passes = true; actor = a; acts = n; ticket = 0; turn = false; first = false; base = []; given = []; kept = [] }
+  pass_of v a n = record {
+    about = v.about;
+    seen = v.seen;
+    own = [];
+    told = [];
+    passes = true;
+    actor = a;
+    acts = n;
+    ticket = 0;
+    turn = false;
+    first = false;
+    base = [];
+    given = [];
+    kept = [];
+  }
 
   -- the first pass after it gave acts to an actor (own)
   abbrev pub gave : View E A → ℕ → ℕ → View E A

@@ -28,7 +28,8 @@ pub trait Counted: Drop {
 
     /// The due answer: of what no act changes, the history before, the actor, the ask, the reply
     /// and the history after.
-    ghost answers: { Self.About → List Self.Entry → ℕ → Self.Ask → Self.Reply → List Self.Entry → Type 0 };
+    ghost answers: { Self.About → List Self.Entry → ℕ → Self.Ask → Self.Reply → List Self.Entry
+        → Type 0 };
 
     /// The law: an act adds no entry, or one of its actor.
     ghost adds: { (about : Self.About) (before : List Self.Entry) (actor : ℕ)

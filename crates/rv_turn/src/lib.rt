@@ -6,8 +6,8 @@
 //! served, acts on the value, and lets the next ticket be served. What the caller does between two
 //! acts runs outside the turn. The first pass is of actor 0. It alone cuts passes off for other
 //! actors (`split`), each at most once. A `Note` tells one pass what another has seen (`note`,
-//! `meet`). `Turn::close` takes in the passes that came back, waits for the turn once more, and
-//! keeps it: it gives the value.
+//! `meet`). `Turn::close` waits for the turn once more, keeps it, takes in the passes that came
+//! back, and gives the value.
 //!
 //! # What a contract sees
 //!
@@ -49,8 +49,9 @@
 //!
 //! That a ticket is ever served, or a call returns: waiting, wake-ups, fairness, deadlock and time.
 //! Tickets are served in the order in which they were drawn, but no clause says so. `close` waits
-//! for ever where a pass was lost while it had a ticket that comes before. A pass waits by a short
-//! spin, then by letting other threads run, and then asleep.
+//! for ever where a pass was lost while it had a ticket that comes before. A pass first stands back
+//! from drawing a ticket while others have one, for a short while; then it waits by a short spin,
+//! by letting other threads run, and then asleep.
 #![tactic(auto)]
 
 mod counted;

@@ -1,5 +1,6 @@
 //! Passes: the right to act on the value of a turn as one actor, and one act.
-ghost use Rattle.std.specs.Prelude.{◌≡◌, ℕ, ◌+◌, ◌<◌, ◌^◌, [], ◌∷◌, true, Some, None, MatchResult, length};
+ghost use Rattle.std.specs.Prelude.{◌≡◌, ℕ, ◌+◌, ◌<◌, ◌^◌, [], ◌∷◌, length};
+ghost use Rattle.std.specs.Prelude.{true, Some, None, MatchResult};
 ghost use Rattle.rv_turn.specs.Acts.{Holds, Changes, Releases, ActedAt};
 ghost use Rattle.rv_turn.specs.Views.{is_idle};
 ghost use Rattle.rv_turn.specs.Passes.{Acted, IsWorn};
@@ -8,7 +9,7 @@ use crate::counted::Counted;
 use crate::hall::Hall;
 use crate::rule::Place;
 use crate::steps::{add_entry, draw, entries, pass_on, put_in, take_out};
-use crate::waiting::{wait_turn, wake};
+use crate::waiting::{stand_back, wait_turn, wake};
 use std::alloc::Global;
 use std::marker::Model;
 use std::sync::{Arc, Wait};
@@ -59,6 +60,7 @@ pub(crate) fn hold<C: Counted, R: Wait>(
     ensures holds { Holds C.history C.about C.actor_of place.old.me.0 result.0 place.new.me }
     ensures count { result.1 ≡ length (C.history result.0) }
 {
+    stand_back::<C>(hall);
     let ticket = draw::<C>(&hall.board, place);
     wait_turn::<C, R>(rt, hall, place, ticket);
     let count = entries::<C>(&hall.board, place);

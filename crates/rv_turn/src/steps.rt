@@ -1,14 +1,24 @@
 //! The kinds of step that a pass makes on the words and the slot, each a function of its own. Its
 //! comment names the event of the control host that it is: the recorded entry, or none.
-ghost use Rattle.std.specs.Prelude.{◌≡◌, ℕ, ◌+◌, ◌^◌, ◌<◌, ◌≤◌, ◌≢◌, [], ◌∷◌, ◌++◌, true, false, length, Some, None};
+ghost use Rattle.std.specs.Prelude.{◌≡◌, ℕ, ◌+◌, ◌^◌, ◌<◌, ◌≤◌, ◌≢◌, [], ◌∷◌, ◌++◌};
+ghost use Rattle.std.specs.Prelude.{true, false, length, Some, None};
 ghost use Rattle.rv_turn.specs.Histories.{Has};
-ghost use Rattle.rv_turn.specs.Views.{queued, grown, served, note_of, informed, gave, pass_of, took_in};
+ghost use Rattle.rv_turn.specs.Views.{queued, grown, served, note_of};
+ghost use Rattle.rv_turn.specs.Views.{informed, gave, pass_of, took_in};
 ghost use Rattle.rv_turn.specs.Rules.{TookTurn, Met};
 
 use crate::counted::Counted;
 use crate::rule::{
     Adds, Board, Called, Counts, Draws, Gives, Grant, Learns, Notes, PassesOn, Place, TakesIn,
 };
+
+/// Loads of words 1 and 2 by no seat, which change no view and tell nothing: whether each ticket
+/// that was drawn is served. Event: none.
+pub(crate) fn all_served<C: Counted>(board: &Board<C, C::Entry, C::About>) -> bool
+    requires { board.now.shared.table_id.words ≡ 3 }
+{
+    board.shared.peek(1) == board.shared.peek(2)
+}
 
 /// `fetch_add` of word 1: draws the next ticket. Event: none.
 pub(crate) fn draw<C: Counted>(

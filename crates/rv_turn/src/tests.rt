@@ -34,7 +34,15 @@ trait Room {
 }
 
 impl Room for Brand {
-    ghost turn = { record { words = 0; slots = 0; views_name = 0; atom = 0; block = 0; offset = 0; slot_names = [] } };
+    ghost turn = { record {
+      words = 0;
+      slots = 0;
+      views_name = 0;
+      atom = 0;
+      block = 0;
+      offset = 0;
+      slot_names = [];
+    } };
 }
 
 /// A note on its way, with the mark of the journal that its sender had seen.

@@ -1,5 +1,6 @@
 //! A turn: made over a value, and closed for the value.
-ghost use Rattle.std.specs.Prelude.{◌≡◌, ℕ, ◌<◌, ◌++◌, true, false, [], ◌∷◌, Some, None, IfOk, IfErr, map};
+ghost use Rattle.std.specs.Prelude.{◌≡◌, ℕ, ◌<◌, ◌++◌, true, false, [], ◌∷◌};
+ghost use Rattle.std.specs.Prelude.{Some, None, IfOk, IfErr, map};
 ghost use Rattle.rv_turn.specs.Histories.{mine, Each, NoStrangers};
 ghost use Rattle.rv_turn.specs.Views.{opening_view, keeping};
 ghost use Rattle.rv_turn.specs.Passes.{opening_of, kept_of, StandsIn};
@@ -72,8 +73,8 @@ impl<C: Counted> Turn<C> {
         }
     }
 
-    /// The value, once the passes that came back are taken in. It waits for the turn, and keeps it:
-    /// no pass that is still out acts any more. The passes are of this turn.
+    /// The value. It waits for the turn and keeps it, so no pass that is still out acts any more,
+    /// and takes in the passes that came back. The passes are of this turn.
     pub fn close<R: Wait>(self, rt: &R, first: Pass<C>, others: Vec<Pass<C>>) -> C
         requires first { (first.first ≡ true) × (first.turn ≡ self) }
         requires others { Each (λ p. (p.first ≡ false) × (p.turn ≡ self)) others.items }
@@ -87,8 +88,8 @@ impl<C: Counted> Turn<C> {
             mut place,
             ..
         } = first;
-        take_all::<C>(&hall, &mut place, others);
         let (value, _count) = hold::<C, R>(rt, &hall, &mut place);
+        take_all::<C>(&hall, &mut place, others);
         look::<C>(&hall.board, &mut place);
         value
     }

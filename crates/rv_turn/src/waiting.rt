@@ -1,21 +1,54 @@
-//! How a pass waits for its turn: it looks a few times, then lets other threads run first, at last
-//! it sleeps.
+//! How a pass waits for its turn. Before it draws a ticket it stands back for a short while, so
+//! that few tickets are out at a time: a thread with the next ticket that isn't running holds up
+//! all others. With a ticket it looks a few times, then lets other threads run first, at last it
+//! sleeps.
 ghost use Rattle.std.specs.Prelude.{◌≡◌, ◌+◌, ◌%◌, ◌^◌, false};
 ghost use Rattle.rv_turn.specs.Rules.{TookTurn};
 
 use crate::counted::Counted;
 use crate::hall::Hall;
 use crate::rule::Place;
-use crate::steps::now_served;
+use crate::steps::{all_served, now_served};
 use std::sync::Wait;
 use std::sync::atomic::Ordering;
 use std::{hint, thread};
 
-// How many looks come one right after another.
+// How many looks a pass takes before it draws a ticket although others have some.
+const LOOKS_BEFORE: u32 = 400;
+
+// After how many of them it lets other threads run, where it only spun till then.
+const SPINS_BEFORE: u32 = 7;
+
+// How many looks with a ticket come one right after another.
 const SPINS: u32 = 100;
 
-// After how many looks a pass sleeps.
+// After how many looks with a ticket a pass sleeps.
 const LOOKS: u32 = 1000;
+
+/// Lets those who have tickets go first for a short while. The spins between the looks grow, so
+/// that the words stay with the thread that works on them.
+pub(crate) fn stand_back<C: Counted>(hall: &Hall<C>)
+    requires { hall.now.board.shared.table_id.words ≡ 3 }
+{
+    let mut spins = 1u32;
+    for look in 0..LOOKS_BEFORE {
+        if all_served::<C>(&hall.board) {
+            return;
+        }
+        if look < SPINS_BEFORE {
+            spin(spins);
+            spins = spins.saturating_mul(2);
+        } else {
+            thread::yield_now();
+        }
+    }
+}
+
+fn spin(times: u32) {
+    for _ in 0..times {
+        hint::spin_loop();
+    }
+}
 
 /// Waits until the ticket is served. The value is then the seat's.
 pub(crate) fn wait_turn<C: Counted, R: Wait>(

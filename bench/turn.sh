@@ -1,0 +1,13 @@
+#!/usr/bin/env bash
+# Measures an act behind the turn beside the same act under a Mutex, and under a Mutex with a Condvar. It is no test.
+# A number of acts a thread may be given; the first time it takes some minutes to prove and build.
+set -eu
+cd "$(dirname "$0")/../crates/turn_bench"
+log=$(mktemp)
+trap 'rm -f "$log"' EXIT
+if ! rt run >"$log" 2>&1 </dev/null; then
+    cat "$log" >&2
+    exit 1
+fi
+echo "$(nproc) cores, load $(cut -d ' ' -f 1 /proc/loadavg) before the first run"
+out/turn_bench "${1:-1000000}"
