@@ -5,3 +5,4 @@ pub mod Following
 pub mod Carrying
 pub mod Telling
 pub mod Meeting
+pub mod Checking

@@ -1,14 +1,78 @@
--- The sections of a script that is checked (own).
-use Rattle.std.specs.Prelude.{ℕ, if◌then◌else◌, List, codes, Option, Some, None}
+-- The sections of a script that is checked: what is said of each, or what stands against it (own).
+use Rattle.std.specs.Prelude.{◌≡◌, ◌<◌, ◌≤◌, ℕ, Bool, true, false, if◌then◌else◌, List, [], ◌∷◌, ◌++◌, length, codes, Option, Some, None, Result, Ok, Err}
 use Rattle.std.specs.Str.{bytes_eq}
+use Rattle.std.specs.Fmt.{decimal}
+use Rattle.std.specs.Io.KnownBytes.{Appends}
+use Rattle.rv_access.specs.Reading.{list_of}
+use Rattle.rv_event.specs.Shape.{Shape}
+use Rattle.rv_event.specs.ShapeText.{shape_of}
+use Rattle.rv_event.specs.Fits.{fault}
+use Rattle.rv_event.specs.declared.fault.ShapeFault.{ShapeFault}
+use Rattle.rv_event.specs.declared.fault.ShapeFault.TheVariants.{BadText}
+use Rattle.rv_lex.specs.Lexes.{Refuses}
+use Rattle.rv_tree.specs.Units.{UnitTree}
+use Rattle.rv_tree.specs.Derives.{Derives}
+use Rattle.rv_parse.specs.Texts.{ReadsTree, OfDepth}
+use Rattle.rv_parse.specs.declared.fault.ParseFault.{ParseFault}
+use Rattle.rv_parse.specs.declared.fault.ParseFault.TheVariants as Parses
 use Rattle.ravenhost.specs.declared.check.Checked.{Checked}
-use Rattle.ravenhost.specs.declared.check.Checked.TheVariants.{Settings, UnitText, Shape, AccessList}
+use Rattle.ravenhost.specs.declared.check.Checked.TheVariants.{Settings, UnitText, Shape as ShapeText, AccessList}
+use Rattle.ravenhost.specs.declared.failure.Failure.{Failure}
+use Rattle.ravenhost.specs.declared.failure.Failure.TheVariants.{Refused, Usage, Memory, Io}
+use Rattle.ravenhost.specs.declared.fault.What.{What}
+use Rattle.ravenhost.specs.declared.fault.What.TheVariants as Whats
+use Rattle.ravenhost.specs.Fronts.{WritesFront}
 
 -- what a line opens, byte for byte
 abbrev pub checked_as : List ℕ → Option Checked
 checked_as line =
     if bytes_eq line (codes "@host.toml") then Some Settings
     else if bytes_eq line (codes "@unit") then Some UnitText
-    else if bytes_eq line (codes "@shape") then Some Shape
+    else if bytes_eq line (codes "@shape") then Some ShapeText
     else if bytes_eq line (codes "@list") then Some AccessList
     else None
+
+-- the lines that are said of sections that are well formed
+abbrev pub unit_line : List ℕ → List ℕ
+unit_line name = codes "unit " ++ (name ++ (codes ": ok" ++ 10 ∷ []))
+
+abbrev pub shape_line : List ℕ → List ℕ
+shape_line name = codes "shape " ++ (name ++ (codes ": ok" ++ 10 ∷ []))
+
+abbrev pub list_line : ℕ → List ℕ
+list_line count = codes "list: ok " ++ (decimal count ++ (codes " lines" ++ 10 ∷ []))
+
+-- a line is written, unless memory or a write failed
+abbrev pub Said : {X : Type 0} → Option (List ℕ) → Option (List ℕ) → List ℕ → Result X Failure → Type 0
+Said old new line (Ok x) = Appends old new line
+Said old new line (Err (Refused told)) = ⊥
+Said old new line (Err Usage) = ⊥
+Said old new line (Err Memory) = Unit {0}
+Said old new line (Err (Io error)) = WritesFront old new line
+
+-- why a unit text is refused whose section opens at a line
+abbrev pub unit_failure : ℕ → ParseFault → Failure
+unit_failure line Parses.NoMemory = Memory
+unit_failure line (Parses.Lex told) = Refused (record { line = line; what = Whats.Lex told })
+unit_failure line (Parses.Unexpected at) = Refused (record { line = line; what = Whats.Parse (Parses.Unexpected at) })
+unit_failure line (Parses.TooDeep at) = Refused (record { line = line; what = Whats.Parse (Parses.TooDeep at) })
+
+-- what is said of a section, and what stands against it
+abbrev pub Finding : Type 1
+Finding = List ℕ → Option What → Type 0
+
+-- a unit text is well formed so far where it derives a tree
+abbrev pub OfUnit : List ℕ → Finding
+OfUnit text said None = (tree : UnitTree) × (length text ≤ 262144) × Derives text tree × (said ≡ unit_line tree.specification.name.text)
+OfUnit text said (Some Whats.TooLong) = (262144 < length text) × (said ≡ [])
+OfUnit text said (Some (Whats.Lex told)) = Refuses text told × (said ≡ [])
+OfUnit text said (Some (Whats.Parse told)) = ((tree : UnitTree) → Derives text tree → ReadsTree tree (Err told)) × OfDepth text (Err told) × (said ≡ [])
+OfUnit text said (Some what) = ⊥
+
+-- what was looked at is told: the line, or what stands against it, with the line of the section's opening
+abbrev pub Tells : {X : Type 0} → Option (List ℕ) → Option (List ℕ) → ℕ → Finding → Result X Failure → Type 0
+Tells old new line finds (Ok x) = (said : List ℕ) × finds said None × Appends old new said
+Tells old new line finds (Err (Refused told)) = finds [] (Some told.what) × (told.line ≡ line) × (new ≡ old)
+Tells old new line finds (Err Usage) = ⊥
+Tells old new line finds (Err Memory) = Unit {0}
+Tells old new line finds (Err (Io error)) = (said : List ℕ) × finds said None × WritesFront old new said

@@ -1,7 +1,7 @@
 //! Looks at the sections of a script, one by one, and says of each that it is well formed.
 
-ghost use Rattle.std.specs.Prelude.{◌≡◌};
-ghost use Rattle.ravenhost.specs.Checks.{checked_as};
+ghost use Rattle.std.specs.Prelude.{◌≡◌, ℕ, List, IfOk, string_bytes};
+ghost use Rattle.ravenhost.specs.Checks.{checked_as, unit_line, shape_line, list_line, Said, unit_failure, OfUnit, Tells};
 
 use crate::acts::refused;
 use crate::failure::Failure;
@@ -53,8 +53,31 @@ pub fn checked_as(line: &str) -> Option<Checked>
     None
 }
 
+// The line that is said of a unit text.
+fn unit_line(alloc: Global, name: &str) -> Result<String, AllocError>
+    ensures { IfOk result (λ line. string_bytes line ≡ unit_line name.now) }
+{
+    format!(in alloc; "unit {name}: ok\n")
+}
+
+// The line that is said of a shape.
+fn shape_line(alloc: Global, name: &str) -> Result<String, AllocError>
+    ensures { IfOk result (λ line. string_bytes line ≡ shape_line name.now) }
+{
+    format!(in alloc; "shape {name}: ok\n")
+}
+
+// The line that is said of a list.
+fn list_line(alloc: Global, count: usize) -> Result<String, AllocError>
+    ensures { IfOk result (λ line. string_bytes line ≡ list_line count) }
+{
+    format!(in alloc; "list: ok {count} lines\n")
+}
+
 // Says that a section is well formed.
-fn say<W: Write>(writer: &mut W, line: Result<String, AllocError>) -> Result<(), Failure> {
+fn say<W: Write>(writer: &mut W, line: Result<String, AllocError>) -> Result<(), Failure>
+    ensures { (text : List ℕ) → IfOk line (λ l. string_bytes l ≡ text) → Said (W.contents writer.old) (W.contents writer.new) text result }
+{
     let Ok(line) = line else {
         return Err(Failure::Memory);
     };
@@ -64,23 +87,30 @@ fn say<W: Write>(writer: &mut W, line: Result<String, AllocError>) -> Result<(),
     }
 }
 
+// Why a unit text is refused whose section opens at a line.
+fn unit_failure(line: usize, fault: ParseFault) -> Failure
+    ensures { result ≡ unit_failure line fault }
+{
+    match fault {
+        ParseFault::NoMemory => Failure::Memory,
+        ParseFault::Lex(fault) => refused(line, What::Lex(fault)),
+        ParseFault::Unexpected(_) | ParseFault::TooDeep(_) => refused(line, What::Parse(fault)),
+    }
+}
+
 // Looks at a unit text. So far it is well formed where it derives a tree.
-fn check_unit<W: Write>(
-    alloc: Global,
-    writer: &mut W,
-    section: &Section<'_>,
-) -> Result<(), Failure> {
+fn check_unit<W: Write>(alloc: Global, writer: &mut W, section: &Section<'_>) -> Result<(), Failure>
+    ensures { Tells (W.contents writer.old) (W.contents writer.new) section.now.line (OfUnit section.now.text.now) result }
+{
     if section.text.len() > MOST_UNIT_BYTES {
         return Err(refused(section.line, What::TooLong));
     }
     match parse(alloc, section.text) {
         Ok(unit) => {
             let name = unit.specification.name.text.as_str();
-            say(writer, format!(in alloc; "unit {name}: ok\n"))
+            say(writer, unit_line(alloc, name))
         }
-        Err(ParseFault::NoMemory) => Err(Failure::Memory),
-        Err(ParseFault::Lex(fault)) => Err(refused(section.line, What::Lex(fault))),
-        Err(fault) => Err(refused(section.line, What::Parse(fault))),
+        Err(fault) => Err(unit_failure(section.line, fault)),
     }
 }
 
@@ -97,10 +127,7 @@ fn check_shape<W: Write>(
         Err(fault) => return Err(refused(section.line, What::Shape(fault))),
     };
     match catalogue.add(&shape) {
-        Ok(()) => {
-            let name = shape.name();
-            say(writer, format!(in alloc; "shape {name}: ok\n"))
-        }
+        Ok(()) => { say(writer, shape_line(alloc, shape.name())) }
         Err(ShapeFault::NoMemory) => Err(Failure::Memory),
         Err(fault) => Err(refused(section.line, What::Shape(fault))),
     }
@@ -113,10 +140,7 @@ fn check_list<W: Write>(
     section: &Section<'_>,
 ) -> Result<(), Failure> {
     match read_list(alloc, section.text) {
-        Ok(list) => {
-            let count = list.len();
-            say(writer, format!(in alloc; "list: ok {count} lines\n"))
-        }
+        Ok(list) => { say(writer, list_line(alloc, list.len())) }
         Err(ListFault::NoMemory) => Err(Failure::Memory),
         Err(fault) => Err(refused(section.line, What::List(fault))),
     }
