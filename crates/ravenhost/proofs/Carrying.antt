@@ -90,3 +90,9 @@ carries_nothing all a h = record { text = (refl, keeps_nothing a); history = ref
 -- nothing is a front of any text
 pub nothing_yet : (a : Option (List ℕ)) (xs : List ℕ) → WritesFront a a xs
 nothing_yet a xs = record { front = []; rest = xs; whole = refl; written = keeps_nothing a }
+
+-- the acts that follow those so far stop them all
+pub carries_fails : (all : Bool) (a b c : Option (List ℕ)) (h k l : History) (done now others whole : List Act) (e : Failure) → Carries all a b h k done (Ok tt) → Carries all b c k l now (Err e) → done ++ (now ++ others) ≡ whole → Carries all a c h l whole (Err e)
+carries_fails all a b c h k l done now others whole e first more same =
+    subst (λ (acts : List Act). Carries all a c h l acts (Err e)) (append_assoc done now others ∙ same)
+    (carries_stop all a c h l l (done ++ now) others e (carries_then all a b c h k l done now (Err e) first more))

@@ -6,3 +6,7 @@ pub mod Carrying
 pub mod Telling
 pub mod Meeting
 pub mod Checking
+pub mod Numbered
+pub mod Growing
+pub mod Scripts
+pub mod Scripting

@@ -6,7 +6,8 @@ use Rattle.ravenhost.specs.declared.failure.Failure.{Failure}
 use Rattle.ravenhost.specs.declared.failure.Failure.TheVariants.{Refused, Usage, Memory, Io}
 use Rattle.ravenhost.specs.declared.fault.What.{What}
 use Rattle.ravenhost.specs.declared.fault.ScriptFault.{ScriptFault}
-use Rattle.ravenhost.specs.Acts.{Act}
+use Rattle.ravenhost.specs.StepText.{StepWords, step_of}
+use Rattle.ravenhost.specs.Acts.{Act, Steps, step_act, line_acts}
 use Rattle.ravenhost.specs.Deeds.{Deed, deed_of, line_of}
 use Rattle.ravenhost.specs.Scripted.{Played, tell, told_line, going, plays, told_text}
 use Rattle.ravenhost.specs.Outcome.{Writes, Does, Meets, Carries}
@@ -33,3 +34,12 @@ pub carries_act : (all : Bool) (old new : Option (List ℕ)) (h k : History) (ac
 carries_act all old new h k act result meets =
     let both = carried_on all old new h k (line_of act) (deed_of h.shapes act) result meets in
     record { text = both.0; history = both.1 }
+
+-- a line that is a step
+step_at : (line : ℕ) (ws : List (List ℕ)) (step : StepWords) → step_of ws ≡ Some step → line_acts line ws ≡ Steps line step ∷ []
+step_at line [] step e = cc
+step_at line (word ∷ ws) step e = ap (λ (o : Option StepWords). step_act line o ∷ []) e
+
+pub carries_line : (all : Bool) (old new : Option (List ℕ)) (h k : History) (line : ℕ) (ws : List (List ℕ)) (step : StepWords) (result : Result (Unit {0}) Failure) → step_of ws ≡ Some step → Meets all old new h k line (deed_of h.shapes (Steps line step)) result → Carries all old new h k (line_acts line ws) result
+carries_line all old new h k line ws step result e meets =
+    subst (λ (acts : List Act). Carries all old new h k acts result) (sym (step_at line ws step e)) (carries_act all old new h k (Steps line step) result meets)

@@ -1,8 +1,8 @@
 -- What the text of a script asks, one after another, up to its first fault (own). Names are those of the text: whether they
 -- are loaded is told by the history, not here.
-use Rattle.std.specs.Prelude.{ℕ, ◌+◌, if◌then◌else◌, List, [], ◌∷◌, ◌++◌, Option, Some, None, Result, Ok, Err}
+use Rattle.std.specs.Prelude.{ℕ, ◌+◌, List, [], ◌∷◌, ◌++◌, Option, Some, None, Result, Ok, Err}
 use Rattle.std.specs.Str.Lines.{lines}
-use Rattle.rv_text.specs.Words.{words, is_some_word}
+use Rattle.rv_text.specs.Words.{words}
 use Rattle.rv_text.specs.Sections.{SectionText, front_of, sections_of}
 use Rattle.rv_access.specs.Words.{Words}
 use Rattle.rv_access.specs.Reading.{list_of}
@@ -29,12 +29,15 @@ abbrev pub step_act : ℕ → Option StepWords → Act
 step_act line None = Stops line Whats.BadStep
 step_act line (Some step) = Steps line step
 
--- the steps of lines, the first of which has this number; blank lines are none
+-- the step of a line of this number; a blank one is none
+abbrev pub line_acts : ℕ → List (List ℕ) → List Act
+line_acts number [] = []
+line_acts number (word ∷ others) = step_act number (step_of (word ∷ others)) ∷ []
+
+-- the steps of lines, the first of which has this number
 abbrev pub step_acts : ℕ → List (List ℕ) → List Act
 step_acts number [] = []
-step_acts number (line ∷ others) =
-    if is_some_word (words line) then step_act number (step_of (words line)) ∷ step_acts (number + 1) others
-    else step_acts (number + 1) others
+step_acts number (line ∷ others) = line_acts number (words line) ++ step_acts (number + 1) others
 
 -- a text that is no shape stops the script
 abbrev pub load_act : ℕ → Option Shape → Act
@@ -46,17 +49,20 @@ abbrev pub set_act : ℕ → Result (List Words) ListFault → Act
 set_act line (Ok list) = Sets line list
 set_act line (Err fault) = Stops line (Whats.List fault)
 
--- what a section asks
-abbrev pub section_acts : SectionText → Option Opening → List Act
-section_acts section None = Stops section.line Whats.BadSection ∷ []
-section_acts section (Some Openings.Shape) = load_act section.line (shape_of section.text) ∷ []
-section_acts section (Some Openings.AccessList) = set_act section.line (list_of section.text) ∷ []
-section_acts section (Some Openings.Steps) = step_acts (section.line + 1) (lines section.text)
+-- what a section of an opening asks
+abbrev pub acts_in : SectionText → Option Opening → List Act
+acts_in section None = Stops section.line Whats.BadSection ∷ []
+acts_in section (Some Openings.Shape) = load_act section.line (shape_of section.text) ∷ []
+acts_in section (Some Openings.AccessList) = set_act section.line (list_of section.text) ∷ []
+acts_in section (Some Openings.Steps) = step_acts (section.line + 1) (lines section.text)
+
+abbrev pub section_acts : SectionText → List Act
+section_acts section = acts_in section (opening_of section.opening)
 
 -- the acts of sections, one after another
 abbrev pub acts_from : List SectionText → List Act
 acts_from [] = []
-acts_from (section ∷ sections) = section_acts section (opening_of section.opening) ++ acts_from sections
+acts_from (section ∷ sections) = section_acts section ++ acts_from sections
 
 -- text before the first section stops the script
 abbrev pub behind_front : Option ℕ → List Act → List Act

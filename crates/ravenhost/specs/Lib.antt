@@ -12,3 +12,4 @@ pub mod Deeds
 pub mod Journal
 pub mod Scripted
 pub mod Outcome
+pub mod Asking

@@ -34,13 +34,13 @@ use Rattle.rv_host.specs.Fitting.{Service, fits}
 -- the answer to a call of a protected operation, or to a fired line, from what is asked of it, in this order; a start
 -- carries the object's scalars
 abbrev pub judged : ℕ → ℕ → List ℤ → Bool → Bool → Bool → Bool → Bool → Bool → Bool → Answer
-judged version line values denied blocking reentry above busy closed full =
-    if denied then Refused Rules.Grant line version
-    else (if blocking then Refused Rules.Blocking 0 version
-    else (if reentry then Refused Rules.Reentry 0 version
-    else (if above then Refused Rules.Ceiling 0 version
+judged number line values denied blocking reentry above busy barred full =
+    if denied then Refused Rules.Grant line number
+    else (if blocking then Refused Rules.Blocking 0 number
+    else (if reentry then Refused Rules.Reentry 0 number
+    else (if above then Refused Rules.Ceiling 0 number
     else (if busy then Busy
-    else (if closed then (if full then Refused Rules.Queue 0 version else Queued)
+    else (if barred then (if full then Refused Rules.Queue 0 number else Queued)
     else Started values)))))
 
 -- accepted, with no value to tell
@@ -54,17 +54,17 @@ one_or_none false = pos 0
 
 -- the answer to Suspend_Until_True: it waits where the state is False (D.10)
 abbrev pub suspended : ℕ → Bool → Bool → Bool → Answer
-suspended version blocking waited state =
-    if blocking then Refused Rules.Blocking 0 version
-    else (if waited then Refused Rules.Waiter 0 version
-    else (if state then nothing_more else Suspended))
+suspended number blocking waited is_true =
+    if blocking then Refused Rules.Blocking 0 number
+    else (if waited then Refused Rules.Waiter 0 number
+    else (if is_true then nothing_more else Suspended))
 
 -- the answer to a call of an operation of a suspension object that the list grants (D.10)
 abbrev pub performed : ℕ → Bool → Bool → Bool → SuspensionOperation → Answer
-performed version blocking waited state SetTrue = nothing_more
-performed version blocking waited state SetFalse = nothing_more
-performed version blocking waited state CurrentState = Accepted (one_or_none state)
-performed version blocking waited state SuspendUntilTrue = suspended version blocking waited state
+performed number blocking waited is_true SetTrue = nothing_more
+performed number blocking waited is_true SetFalse = nothing_more
+performed number blocking waited is_true CurrentState = Accepted (one_or_none is_true)
+performed number blocking waited is_true SuspendUntilTrue = suspended number blocking waited is_true
 
 -- the answer to a call, or to a fired line, of this target
 abbrev pub due_call : History → ℕ → Request → ℕ → Target → Answer
@@ -89,7 +89,7 @@ due_fire h actor (Some number) = due_call h actor Fire number.object (target h.s
 
 -- the head of a queue: handed over where the list in force grants its call, else dropped
 abbrev pub judged_head : Bool → ℕ → ℕ → Next
-judged_head granted line actor = if granted then HandedTo actor else Dropped actor line
+judged_head grants line actor = if grants then HandedTo actor else Dropped actor line
 
 -- what becomes of a queue: its head is handed the object where the list in force grants its call, else dropped
 -- (9.5.3, own)
@@ -163,7 +163,7 @@ goes_on request = false
 
 -- Misuse where it does not fit, Halted where the host is shut for it
 abbrev pub gate : Bool → Bool → Answer → Answer
-gate fits shut answer = if not fits then Misuse else (if shut then Halted else answer)
+gate fitting shut answer = if not fitting then Misuse else (if shut then Halted else answer)
 
 -- what is due, before the room is asked
 abbrev pub due : Service → History → ℕ → Request → Answer
@@ -177,7 +177,7 @@ enough h actor request (Some word) = has_room h.capacity h.shapes (Asked actor r
 
 -- Full in place of a recorded answer that costs more than the room
 abbrev pub within : Bool → Answer → Answer
-within enough answer = if enough then answer else Full
+within has_enough answer = if has_enough then answer else Full
 
 -- the due answer
 abbrev pub out : Service → History → ℕ → Request → Answer

@@ -34,12 +34,12 @@ opens (Component number) values = is_one (numbered values number)
 -- the barrier of the object's entry, of which there is at most one
 abbrev pub barrier_at : Option UnitObject → Option Barrier
 barrier_at None = None
-barrier_at (Some place) = barrier (operations_of place.object)
+barrier_at (Some found) = barrier (operations_of found.object)
 
 -- the same for an object that may have no entry: nothing opens then
 abbrev pub opens_on : Option Barrier → List ℤ → Bool
 opens_on None values = false
-opens_on (Some barrier) values = opens barrier values
+opens_on (Some guard) values = opens guard values
 
 -- the object's barrier is open on its scalars
 abbrev pub is_open : History → ℕ → Bool

@@ -11,8 +11,8 @@ pub data Change : Type 0 where
 
 -- where there is a line of this number
 abbrev pub at_line : ℕ → List Words → List Words → Option (List Words)
-at_line number lines changed =
-    if nat_lt 0 number then (if nat_lt (length lines) number then None else Some changed) else None
+at_line number lines after =
+    if nat_lt 0 number then (if nat_lt (length lines) number then None else Some after) else None
 
 -- the whole list after a change, if the line is one of it
 abbrev pub changed : List Words → Change → Option (List Words)

@@ -16,7 +16,7 @@ home Nobody = []
 -- the unit of an object
 abbrev pub unit_at : Option UnitObject → List ℕ
 unit_at None = []
-unit_at (Some place) = place.unit
+unit_at (Some found) = found.unit
 
 -- by the innermost body, if there is one
 abbrev pub subject_of : History → ℕ → Option Body → List ℕ

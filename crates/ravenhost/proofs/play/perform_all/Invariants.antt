@@ -1,11 +1,21 @@
-use Rattle.std.proofs.Common.{length}
+use Rattle.std.proofs.Common.{◌≡◌, ◌+◌, ◌≤◌, ◌^◌, List, ◌++◌, Ok, length}
 use denote.Text.{Utf8}
 use denote.Shadow.{shadow}
+use Rattle.std.specs.Str.Lines.{lines}
+use Rattle.ravenhost.specs.Acts.{Act, step_acts}
+use Rattle.ravenhost.specs.Outcome.{Carries}
 use Rattle.ravenhost.proofs.play.perform_all.Given as goal
 
--- what is left is text
+-- the steps so far were carried out, and the others are those of the lines that are left
 abbrev pub invariant-loop-text : goal.invariant-loop-text
-invariant-loop-text g l = shadow (Utf8 l.rest)
+invariant-loop-text g l =
+    record {
+      text : shadow (Utf8 l.rest);
+      few : l.line + length l.rest ≤ l.fn.section.line + length l.fn.section.text.now;
+      done : List Act;
+      all_acts : done ++ step_acts (l.line + 1) (lines l.rest) ≡ step_acts (l.fn.section.line + 1) (lines l.fn.section.text.now);
+      carried : Carries l.all (g.W.Write.contents l.fn.writer) (g.W.Write.contents l.writer) l.fn.host l.host done (Ok tt);
+    }
 
 abbrev pub decreases-loop-text : goal.decreases-loop-text
 decreases-loop-text g l = length l.rest
