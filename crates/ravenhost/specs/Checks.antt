@@ -3,12 +3,17 @@ use Rattle.std.specs.Prelude.{◌≡◌, ◌<◌, ◌≤◌, ℕ, Bool, true, fa
 use Rattle.std.specs.Str.{bytes_eq}
 use Rattle.std.specs.Fmt.{decimal}
 use Rattle.std.specs.Io.KnownBytes.{Appends}
+use Rattle.rv_text.specs.Sections.{SectionText}
 use Rattle.rv_access.specs.Reading.{list_of}
+use Rattle.rv_access.specs.Words.{Words}
+use Rattle.rv_access.specs.declared.fault.ListFault.{ListFault}
+use Rattle.rv_access.specs.declared.fault.ListFault.TheVariants as Lists
 use Rattle.rv_event.specs.Shape.{Shape}
 use Rattle.rv_event.specs.ShapeText.{shape_of}
 use Rattle.rv_event.specs.Fits.{fault}
 use Rattle.rv_event.specs.declared.fault.ShapeFault.{ShapeFault}
 use Rattle.rv_event.specs.declared.fault.ShapeFault.TheVariants.{BadText}
+use Rattle.rv_event.specs.declared.fault.ShapeFault.TheVariants as Shapes
 use Rattle.rv_lex.specs.Lexes.{Refuses}
 use Rattle.rv_tree.specs.Units.{UnitTree}
 use Rattle.rv_tree.specs.Derives.{Derives}
@@ -68,6 +73,51 @@ OfUnit text said (Some Whats.TooLong) = (262144 < length text) × (said ≡ [])
 OfUnit text said (Some (Whats.Lex told)) = Refuses text told × (said ≡ [])
 OfUnit text said (Some (Whats.Parse told)) = ((tree : UnitTree) → Derives text tree → ReadsTree tree (Err told)) × OfDepth text (Err told) × (said ≡ [])
 OfUnit text said (Some what) = ⊥
+
+-- a shape fits those of the sections before, and stands behind them from then on
+abbrev pub fitting : List Shape → List Shape → Shape → Option ShapeFault → Finding
+fitting shapes after shape None said what = (what ≡ None) × (said ≡ shape_line shape.name) × (after ≡ shapes ++ shape ∷ [])
+fitting shapes after shape (Some told) said what = (what ≡ Some (Whats.Shape told)) × (said ≡ [])
+
+abbrev pub as_shape : List Shape → List Shape → Option Shape → Finding
+as_shape shapes after None said what = (what ≡ Some (Whats.Shape BadText)) × (said ≡ [])
+as_shape shapes after (Some shape) said what = fitting shapes after shape (fault shapes shape) said what
+
+abbrev pub OfShape : List Shape → List Shape → List ℕ → Finding
+OfShape shapes after text = as_shape shapes after (shape_of text)
+
+-- a list has its lines
+abbrev pub as_list : Result (List Words) ListFault → Finding
+as_list (Ok list) said what = (what ≡ None) × (said ≡ list_line (length list))
+as_list (Err told) said what = (what ≡ Some (Whats.List told)) × (said ≡ [])
+
+abbrev pub OfList : List ℕ → Finding
+OfList text = as_list (list_of text)
+
+-- settings may come first; nothing is said of them
+abbrev pub OfSettings : Bool → Finding
+OfSettings true said what = (what ≡ None) × (said ≡ [])
+OfSettings false said what = (what ≡ Some Whats.BadSection) × (said ≡ [])
+
+-- a section, on the shapes of those before, and the shapes that there are then
+abbrev pub as_section : Bool → List Shape → List Shape → List ℕ → Option Checked → Finding
+as_section first shapes after text None said what = (what ≡ Some Whats.BadSection) × (said ≡ [])
+as_section first shapes after text (Some Settings) said what = OfSettings first said what × (after ≡ shapes)
+as_section first shapes after text (Some UnitText) said what = OfUnit text said what × (after ≡ shapes)
+as_section first shapes after text (Some ShapeText) said what = OfShape shapes after text said what
+as_section first shapes after text (Some AccessList) said what = OfList text said what × (after ≡ shapes)
+
+abbrev pub OfSection : Bool → List Shape → List Shape → SectionText → Finding
+OfSection first shapes after section = as_section first shapes after section.text (checked_as section.opening)
+
+-- why a shape or a list is refused whose section opens at a line
+abbrev pub shape_failure : ℕ → ShapeFault → Failure
+shape_failure line Shapes.NoMemory = Memory
+shape_failure line told = Refused (record { line = line; what = Whats.Shape told })
+
+abbrev pub list_failure : ℕ → ListFault → Failure
+list_failure line Lists.NoMemory = Memory
+list_failure line told = Refused (record { line = line; what = Whats.List told })
 
 -- what was looked at is told: the line, or what stands against it, with the line of the section's opening
 abbrev pub Tells : {X : Type 0} → Option (List ℕ) → Option (List ℕ) → ℕ → Finding → Result X Failure → Type 0

@@ -1,7 +1,7 @@
 //! Looks at the sections of a script, one by one, and says of each that it is well formed.
 
 ghost use Rattle.std.specs.Prelude.{◌≡◌, ℕ, List, IfOk, string_bytes};
-ghost use Rattle.ravenhost.specs.Checks.{checked_as, unit_line, shape_line, list_line, Said, unit_failure, OfUnit, Tells};
+ghost use Rattle.ravenhost.specs.Checks.{checked_as, unit_line, shape_line, list_line, Said, unit_failure, shape_failure, list_failure, OfUnit, OfShape, OfList, as_section, Tells};
 
 use crate::acts::refused;
 use crate::failure::Failure;
@@ -114,35 +114,77 @@ fn check_unit<W: Write>(alloc: Global, writer: &mut W, section: &Section<'_>) ->
     }
 }
 
+// Why a shape is refused whose section opens at a line.
+fn shape_failure(line: usize, fault: ShapeFault) -> Failure
+    ensures { result ≡ shape_failure line fault }
+{
+    match fault {
+        ShapeFault::NoMemory => Failure::Memory,
+        _ => refused(line, What::Shape(fault)),
+    }
+}
+
 // Looks at a shape, and adds it to those of the sections before.
 fn check_shape<W: Write>(
     alloc: Global,
     writer: &mut W,
     catalogue: &mut Catalogue,
     section: &Section<'_>,
-) -> Result<(), Failure> {
+) -> Result<(), Failure>
+    ensures { Tells (W.contents writer.old) (W.contents writer.new) section.now.line (OfShape catalogue.old catalogue.new section.now.text.now) result }
+{
     let shape = match read_shape(alloc, section.text) {
         Ok(shape) => shape,
-        Err(ShapeFault::NoMemory) => return Err(Failure::Memory),
-        Err(fault) => return Err(refused(section.line, What::Shape(fault))),
+        Err(fault) => return Err(shape_failure(section.line, fault)),
     };
     match catalogue.add(&shape) {
-        Ok(()) => { say(writer, shape_line(alloc, shape.name())) }
-        Err(ShapeFault::NoMemory) => Err(Failure::Memory),
-        Err(fault) => Err(refused(section.line, What::Shape(fault))),
+        Ok(()) => say(writer, shape_line(alloc, shape.name())),
+        Err(fault) => Err(shape_failure(section.line, fault)),
+    }
+}
+
+// Why a list is refused whose section opens at a line.
+fn list_failure(line: usize, fault: ListFault) -> Failure
+    ensures { result ≡ list_failure line fault }
+{
+    match fault {
+        ListFault::NoMemory => Failure::Memory,
+        _ => refused(line, What::List(fault)),
     }
 }
 
 // Looks at a list.
-fn check_list<W: Write>(
+fn check_list<W: Write>(alloc: Global, writer: &mut W, section: &Section<'_>) -> Result<(), Failure>
+    ensures { Tells (W.contents writer.old) (W.contents writer.new) section.now.line (OfList section.now.text.now) result }
+{
+    match read_list(alloc, section.text) {
+        Ok(list) => say(writer, list_line(alloc, list.len())),
+        Err(fault) => Err(list_failure(section.line, fault)),
+    }
+}
+
+// Looks at a section.
+fn check_section<W: Write>(
     alloc: Global,
     writer: &mut W,
+    catalogue: &mut Catalogue,
+    is_first: bool,
     section: &Section<'_>,
-) -> Result<(), Failure> {
-    match read_list(alloc, section.text) {
-        Ok(list) => { say(writer, list_line(alloc, list.len())) }
-        Err(ListFault::NoMemory) => Err(Failure::Memory),
-        Err(fault) => Err(refused(section.line, What::List(fault))),
+) -> Result<(), Failure>
+    ensures { Tells (W.contents writer.old) (W.contents writer.new) section.now.line (as_section is_first catalogue.old catalogue.new section.now.text.now (checked_as section.now.opening.now)) result }
+{
+    match checked_as(section.opening) {
+        Some(Checked::Settings) => {
+            if is_first {
+                Ok(())
+            } else {
+                Err(refused(section.line, What::BadSection))
+            }
+        }
+        Some(Checked::UnitText) => check_unit(alloc, writer, section),
+        Some(Checked::Shape) => check_shape(alloc, writer, catalogue, section),
+        Some(Checked::AccessList) => check_list(alloc, writer, section),
+        None => Err(refused(section.line, What::BadSection)),
     }
 }
 
@@ -155,13 +197,7 @@ fn check_text<W: Write>(alloc: Global, writer: &mut W, text: &str) -> Result<(),
     let mut catalogue = Catalogue::new(alloc);
     let mut is_first = true;
     while let Some(section) = sections.next_section() {
-        match checked_as(section.opening) {
-            Some(Checked::Settings) if is_first => {}
-            Some(Checked::UnitText) => check_unit(alloc, writer, &section)?,
-            Some(Checked::Shape) => check_shape(alloc, writer, &mut catalogue, &section)?,
-            Some(Checked::AccessList) => check_list(alloc, writer, &section)?,
-            _ => return Err(refused(section.line, What::BadSection)),
-        }
+        check_section(alloc, writer, &mut catalogue, is_first, &section)?;
         is_first = false;
     }
     Ok(())
