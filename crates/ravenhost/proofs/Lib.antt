@@ -10,3 +10,4 @@ pub mod Numbered
 pub mod Growing
 pub mod Scripts
 pub mod Scripting
+pub mod Checked

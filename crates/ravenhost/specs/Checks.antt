@@ -1,9 +1,10 @@
 -- The sections of a script that is checked: what is said of each, or what stands against it (own).
-use Rattle.std.specs.Prelude.{◌≡◌, ◌<◌, ◌≤◌, ℕ, Bool, true, false, if◌then◌else◌, List, [], ◌∷◌, ◌++◌, length, codes, Option, Some, None, Result, Ok, Err}
+use Rattle.std.specs.Prelude.{◌≡◌, ◌⊎◌, ◌<◌, ◌≤◌, ℕ, Bool, true, false, if◌then◌else◌, List, [], ◌∷◌, ◌++◌, length, codes, Option, Some, None, Result, Ok, Err}
 use Rattle.std.specs.Str.{bytes_eq}
+use Rattle.std.specs.Str.Lines.{lines}
 use Rattle.std.specs.Fmt.{decimal}
 use Rattle.std.specs.Io.KnownBytes.{Appends}
-use Rattle.rv_text.specs.Sections.{SectionText}
+use Rattle.rv_text.specs.Sections.{SectionText, front_of, sections_of}
 use Rattle.rv_access.specs.Reading.{list_of}
 use Rattle.rv_access.specs.Words.{Words}
 use Rattle.rv_access.specs.declared.fault.ListFault.{ListFault}
@@ -26,6 +27,8 @@ use Rattle.ravenhost.specs.declared.failure.Failure.{Failure}
 use Rattle.ravenhost.specs.declared.failure.Failure.TheVariants.{Refused, Usage, Memory, Io}
 use Rattle.ravenhost.specs.declared.fault.What.{What}
 use Rattle.ravenhost.specs.declared.fault.What.TheVariants as Whats
+use Rattle.ravenhost.specs.declared.fault.ScriptFault.{ScriptFault}
+use Rattle.ravenhost.specs.Cutting.{first_meant}
 use Rattle.ravenhost.specs.Fronts.{WritesFront}
 
 -- what a line opens, byte for byte
@@ -126,3 +129,27 @@ Tells old new line finds (Err (Refused told)) = finds [] (Some told.what) × (to
 Tells old new line finds (Err Usage) = ⊥
 Tells old new line finds (Err Memory) = Unit {0}
 Tells old new line finds (Err (Io error)) = (said : List ℕ) × finds said None × WritesFront old new said
+
+-- sections in turn: what is said of them, up to the first that something stands against, which is told with its line
+abbrev pub Checks : Bool → List Shape → List SectionText → List ℕ → Option ScriptFault → Type 0
+Checks first shapes [] said told = (said ≡ []) × (told ≡ None)
+Checks first shapes (section ∷ others) said told =
+    ((what : What) × (after : List Shape) × OfSection first shapes after section [] (Some what) × (said ≡ []) × (told ≡ Some (record { line = section.line; what = what })))
+    ⊎ ((line more : List ℕ) × (after : List Shape) × OfSection first shapes after section line None × Checks false after others more told × (said ≡ line ++ more))
+
+-- text before the first section stands against the script
+abbrev pub behind_front : Option ℕ → List SectionText → List ℕ → Option ScriptFault → Type 0
+behind_front None sections said told = Checks true [] sections said told
+behind_front (Some line) sections said told = (said ≡ []) × (told ≡ Some (record { line = line; what = Whats.BadSection }))
+
+-- what is said of a script, and what is told
+abbrev pub ChecksScript : List ℕ → List ℕ → Option ScriptFault → Type 0
+ChecksScript script said told = behind_front (first_meant 1 (lines (front_of script))) (sections_of script) said told
+
+-- all that is to be said is written, and a refusal is what is to be told; of other failures nothing is said here
+abbrev pub TellsAll : {X : Type 0} → Option (List ℕ) → Option (List ℕ) → (List ℕ → Option ScriptFault → Type 0) → Result X Failure → Type 0
+TellsAll old new is (Ok x) = (said : List ℕ) × is said None × Appends old new said
+TellsAll old new is (Err (Refused told)) = (said : List ℕ) × is said (Some told) × Appends old new said
+TellsAll old new is (Err Usage) = ⊥
+TellsAll old new is (Err Memory) = Unit {0}
+TellsAll old new is (Err (Io error)) = Unit {0}

@@ -1,7 +1,7 @@
 //! Looks at the sections of a script, one by one, and says of each that it is well formed.
 
-ghost use Rattle.std.specs.Prelude.{◌≡◌, ℕ, List, IfOk, string_bytes};
-ghost use Rattle.ravenhost.specs.Checks.{checked_as, unit_line, shape_line, list_line, Said, unit_failure, shape_failure, list_failure, OfUnit, OfShape, OfList, as_section, Tells};
+ghost use Rattle.std.specs.Prelude.{◌≡◌, ◌<◌, ◌^◌, ℕ, true, List, [], length, IfOk, string_bytes};
+ghost use Rattle.ravenhost.specs.Checks.{checked_as, unit_line, shape_line, list_line, Said, unit_failure, shape_failure, list_failure, OfUnit, OfShape, OfList, as_section, Tells, Checks, ChecksScript, TellsAll};
 
 use crate::acts::refused;
 use crate::failure::Failure;
@@ -14,7 +14,7 @@ use rv_event::catalogue::Catalogue;
 use rv_event::fault::ShapeFault;
 use rv_event::reading::read_shape;
 use rv_parse::{ParseFault, parse};
-use rv_text::{Section, open_script};
+use rv_text::{Section, Sections, open_script};
 use std::alloc::{AllocError, Global};
 use std::io::{Read, Write};
 
@@ -188,19 +188,35 @@ fn check_section<W: Write>(
     }
 }
 
-// Looks at the sections of a text, in order, up to the first fault.
-fn check_text<W: Write>(alloc: Global, writer: &mut W, text: &str) -> Result<(), Failure> {
-    let (front, mut sections) = open_script(text);
-    if let Some(line) = first_meant(front) {
-        return Err(refused(line, What::BadSection));
-    }
+// Looks at sections, in order, up to the first that something stands against.
+fn check_sections<W: Write>(
+    alloc: Global,
+    writer: &mut W,
+    mut sections: Sections<'_>,
+) -> Result<(), Failure>
+    ensures { TellsAll (W.contents writer.old) (W.contents writer.new) (Checks true [] sections.entry) result }
+{
     let mut catalogue = Catalogue::new(alloc);
     let mut is_first = true;
-    while let Some(section) = sections.next_section() {
-        check_section(alloc, writer, &mut catalogue, is_first, &section)?;
-        is_first = false;
+    'each: while let Some(section) = sections.next_section() {
+        match check_section(alloc, writer, &mut catalogue, is_first, &section) {
+            Ok(()) => is_first = false,
+            Err(failure) => return Err(failure),
+        }
     }
     Ok(())
+}
+
+// Looks at the text of a script.
+fn check_text<W: Write>(alloc: Global, writer: &mut W, text: &str) -> Result<(), Failure>
+    requires { length text.now < 2 ^ 63 }
+    ensures { TellsAll (W.contents writer.old) (W.contents writer.new) (ChecksScript text.now) result }
+{
+    let (front, sections) = open_script(text);
+    match first_meant(front) {
+        Some(line) => Err(refused(line, What::BadSection)),
+        None => check_sections(alloc, writer, sections),
+    }
 }
 
 /// Looks at the sections of the script that a reader gives, in order, and writes a line for each
