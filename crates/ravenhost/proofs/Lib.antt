@@ -5,7 +5,9 @@ pub mod Following
 pub mod Carrying
 pub mod Telling
 pub mod Meeting
+pub mod Checking
 pub mod Numbered
 pub mod Growing
 pub mod Scripts
 pub mod Scripting
+pub mod Checked

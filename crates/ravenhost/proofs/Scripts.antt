@@ -23,6 +23,8 @@ not_both bytes Whats.BadStep script refused = absurd refused
 not_both bytes Whats.UnknownName script refused = absurd refused
 not_both bytes (Whats.Shape fault) script refused = absurd refused
 not_both bytes (Whats.List fault) script refused = absurd refused
+not_both bytes (Whats.Lex fault) script refused = absurd refused
+not_both bytes (Whats.Parse fault) script refused = absurd refused
 
 -- it is too long where more was asked for than a script may have
 still_long : (bytes script : List ℕ) → bytes ≡ take 16777217 script → 16777216 < length script → 16777216 < length bytes
@@ -39,6 +41,8 @@ refused_read bytes script Whats.BadStep e refused = absurd refused
 refused_read bytes script Whats.UnknownName e refused = absurd refused
 refused_read bytes script (Whats.Shape fault) e refused = absurd refused
 refused_read bytes script (Whats.List fault) e refused = absurd refused
+refused_read bytes script (Whats.Lex fault) e refused = absurd refused
+refused_read bytes script (Whats.Parse fault) e refused = absurd refused
 
 written_read : (all : Bool) (old new : Option (List ℕ)) (bytes script : List ℕ) (r : Result (Unit {0}) Failure) → bytes ≡ take 16777217 script → WritesScript all old new bytes r → WritesScript all old new script r
 written_read all old new bytes script r e written =
@@ -67,6 +71,8 @@ reason bytes Whats.BadStep refused = absurd refused
 reason bytes Whats.UnknownName refused = absurd refused
 reason bytes (Whats.Shape fault) refused = absurd refused
 reason bytes (Whats.List fault) refused = absurd refused
+reason bytes (Whats.Lex fault) refused = absurd refused
+reason bytes (Whats.Parse fault) refused = absurd refused
 
 same_reason : (bytes : List ℕ) (what told : What) → Reason bytes told → Reason bytes what → what ≡ told
 same_reason bytes what told (inl x) (inl y) = y.0 ∙ sym x.0

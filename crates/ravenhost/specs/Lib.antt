@@ -6,6 +6,8 @@ pub mod StepWords
 pub mod StepText
 pub mod Status
 pub mod Acts
+pub mod Choices
+pub mod Checks
 pub mod Deeds
 pub mod Journal
 pub mod Scripted

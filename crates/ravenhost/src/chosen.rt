@@ -1,7 +1,8 @@
 //! The command line: what the program is to do.
 
-ghost use Rattle.std.specs.Prelude.{◌≡◌, Some, IfSome, codes};
+ghost use Rattle.std.specs.Prelude.{◌≡◌, Some, IfSome};
 ghost use Rattle.clap.specs.Words.{subcommand_name_of};
+ghost use Rattle.ravenhost.specs.Choices.{word_of};
 
 use clap::error::ErrorKind;
 use clap::{Arg, ArgAction, ArgMatches, Command, Error};
@@ -12,6 +13,8 @@ use std::alloc::{AllocError, Global};
 pub enum Choice {
     /// Carry out a script; where the flag is set, unrecorded answers are printed too.
     Play(bool),
+    /// Look at the sections of a script.
+    Check,
 }
 
 /// Why the words of a command line choose nothing.
@@ -31,18 +34,23 @@ fn command<'a>(alloc: Global) -> Result<Command<'a>, AllocError> {
         .long("all")
         .action(ArgAction::SetTrue);
     let play = Command::new(alloc, "play").arg(all)?;
+    let check = Command::new(alloc, "check");
     Command::new(alloc, "ravenhost")
         .subcommand_required(true)
-        .subcommand(play)
+        .subcommand(play)?
+        .subcommand(check)
 }
 
 // What a command line that was read chooses.
 fn choice_of(matches: &ArgMatches<'_>) -> Option<Choice>
-    ensures { IfSome result (λ choice. subcommand_name_of matches.now ≡ Some (codes "play")) }
+    ensures { IfSome result (λ choice. subcommand_name_of matches.now ≡ Some (word_of choice)) }
 {
     let (name, words) = matches.subcommand()?;
     if name == "play" {
         return Some(Choice::Play(words.get_flag("all")));
+    }
+    if name == "check" {
+        return Some(Choice::Check);
     }
     None
 }

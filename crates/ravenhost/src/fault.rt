@@ -2,12 +2,14 @@
 
 use rv_access::ListFault;
 use rv_event::fault::ShapeFault;
+use rv_lex::fault::LexFault;
+use rv_parse::ParseFault;
 use thiserror::Error;
 
 /// What is wrong with a script.
 #[derive(Clone, Copy, Debug, Drop, PartialEq, Eq, Error)]
 pub enum What {
-    /// The script is longer than 16,777,216 bytes.
+    /// The script is longer than 16,777,216 bytes, or a unit text longer than 262,144.
     #[error("TooLong")]
     TooLong,
     /// The script isn't UTF-8.
@@ -28,6 +30,12 @@ pub enum What {
     /// A section whose text is no list.
     #[error("list {0}")]
     List(ListFault),
+    /// A unit text whose words have a fault.
+    #[error("lex {0}")]
+    Lex(LexFault),
+    /// A unit text that derives no tree, or nests too deep.
+    #[error("parse {0}")]
+    Parse(ParseFault),
 }
 
 /// What is wrong with a script, and at which of its lines: that of the step, or the opening of the

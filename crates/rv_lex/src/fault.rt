@@ -22,14 +22,19 @@ pub enum WordFault {
 /// Why a text has no list of words: its first fault, at a byte offset counted from 0, or no memory.
 #[derive(Clone, Copy, Debug, PartialEq, Eq, Error)]
 pub enum LexFault {
+    /// An ASCII character that begins no word.
     #[error("BadCharacter at {0}")]
     BadCharacter(usize),
+    /// A digit that begins no literal (2.4).
     #[error("BadLiteral at {0}")]
     BadLiteral(usize),
+    /// A letter that begins no identifier (2.3).
     #[error("BadIdentifier at {0}")]
     BadIdentifier(usize),
+    /// A character past ASCII outside of comments.
     #[error("NotAscii at {0}")]
     NotAscii(usize),
+    /// Memory was refused.
     #[error("NoMemory")]
     NoMemory,
 }

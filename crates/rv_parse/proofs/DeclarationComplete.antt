@@ -1,5 +1,5 @@
 -- A declaration of the grammar is read, unless its parentheses nest too deep.
-use Rattle.std.proofs.Common.{◌≡◌, ◌≤◌, ◌<◌, ℕ, Bool, true, false, cond, ◌&&◌, List, [], ◌∷◌, ◌++◌, length, Option, Some, None, Ok, Err, refl, sym, ap, ◌∙◌, subst, arith}
+use Rattle.std.proofs.Common.{◌≡◌, ◌<◌, Bool, true, false, ◌&&◌, List, [], ◌∷◌, Option, Some, None, refl, sym, ap, ◌∙◌, subst, arith}
 use Rattle.rv_lex.specs.declared.kind.Kind.{Kind}
 use Rattle.rv_lex.specs.declared.kind.Kind.TheVariants as k
 use Rattle.rv_lex.specs.Lexes.{Lexeme}
@@ -15,19 +15,19 @@ use Rattle.rv_tree.specs.declared.expression.MultiplyingOperator.{MultiplyingOpe
 use Rattle.rv_tree.specs.declared.expression.MultiplyingOperator.TheVariants as multiplies
 use Rattle.rv_tree.specs.declared.expression.HighestOperator.{HighestOperator}
 use Rattle.rv_tree.specs.declared.expression.HighestOperator.TheVariants as before
-use Rattle.rv_tree.specs.Phrases.{Phrase, ◌⨾◌, Is, IsAt, Nothing, Flag, Maybe, Each, After, EachAfter, Listed, Enclosed}
+use Rattle.rv_tree.specs.Phrases.{Is, Maybe, After, EachAfter}
 use Rattle.rv_tree.specs.Names.{Identifier, Name}
 use Rattle.rv_tree.specs.NameGrammar.{IsIdentifier, IsName, AreIdentifiers, IsEnd}
 use Rattle.rv_tree.specs.Expressions as e
 use Rattle.rv_tree.specs.ExpressionGrammar.{IsExpression, IsRange, AreArguments, highest_word, adding, multiplying, relational, IsLogical}
 use Rattle.rv_tree.specs.Declarations as t
-use Rattle.rv_tree.specs.DeclarationGrammar.{IsNamed, IsPragmaArgument, IsPragma, IsGiven, IsInitial, IsAspect, AreAspects, IsMode, IsParameter, AreParameters, IsEntry, IsOperation, IsElement, IsPrivatePart, IsProtectedUnit, IsTaskItem, IsTaskDefinition, IsTask, IsDeclaration}
-use Rattle.rv_parse.specs.Reading.{Fault, unexpected, Outcome, Parser, and_then, pure, same_kind, sees, next, after, eat, by_kind, starts_by, expect, many, listed, enclosed, optional, optional_after}
+use Rattle.rv_tree.specs.DeclarationGrammar.{IsNamed, IsPragmaArgument, IsPragma, IsInitial, IsAspect, AreAspects, IsMode, IsParameter, AreParameters, IsEntry, IsOperation, IsElement, IsPrivatePart, IsProtectedUnit, IsTaskItem, IsTaskDefinition, IsTask, IsDeclaration}
+use Rattle.rv_parse.specs.Reading.{Outcome, Parser, and_then, pure, same_kind, sees, next, by_kind, starts_by, many, listed, enclosed, optional, optional_after}
 use Rattle.rv_parse.specs.NameRules.{identifier, name, end_name}
-use Rattle.rv_parse.specs.ExpressionRules.{begins_expression, expression}
-use Rattle.rv_parse.specs.DeclarationRules.{any_expression, range, argument_name, pragma_argument, a_pragma, aspect, aspects, mode_of, mode, parameter, parameters, entry, function, procedure, begins_operation, operation_by, operation, component, begins_element, element, private_part, protected_unit, begins_task_item, task_item, task_definition, task, a_subtype, constant, variable, object, begins_declaration, declaration_by, declaration}
-use Rattle.rv_parse.proofs.Forward.{Answers, answers_then, at_true, at_false, if_true, if_false, sees_it, next_it, after_it, not_after, is_of, not_both, at_then, word_then, eaten_then, uneaten_then, flag_seen, flag_after, identifier_it, Shorter, NotLonger, is_shorter, at_shorter, identifier_shorter, nothing_shorter, flag_shorter, maybe_shorter, each_shorter, after_shorter, listed_shorter, enclosed_shorter, Complete, many_it, optional_it, optional_after_it, listed_it, enclosed_it}
-use Rattle.rv_parse.proofs.ExpressionComplete.{goes_on, name_shorter, name_it, Ends, ends_at, begins_not, expression_starts, rule_top, expression_shorter, expression_it}
+use Rattle.rv_parse.specs.ExpressionRules.{expression}
+use Rattle.rv_parse.specs.DeclarationRules.{any_expression, range, argument_name, pragma_argument, a_pragma, aspect, aspects, mode, parameter, parameters, entry, function, procedure, begins_operation, operation_by, operation, component, begins_element, element, private_part, protected_unit, begins_task_item, task_item, task_definition, task, a_subtype, constant, variable, object, begins_declaration, declaration_by, declaration}
+use Rattle.rv_parse.proofs.Forward.{Answers, answers_then, if_true, if_false, sees_it, next_it, after_it, not_after, is_of, not_both, at_then, word_then, eaten_then, uneaten_then, flag_seen, flag_after, identifier_it, Shorter, NotLonger, is_shorter, at_shorter, identifier_shorter, nothing_shorter, flag_shorter, maybe_shorter, each_shorter, after_shorter, listed_shorter, enclosed_shorter, Complete, many_it, optional_it, optional_after_it, listed_it, enclosed_it}
+use Rattle.rv_parse.proofs.ExpressionComplete.{goes_on, name_shorter, name_it, Ends, ends_at, rule_top, expression_shorter, expression_it}
 
 abbrev pub Unseen : Kind → List Lexeme → Type 0
 Unseen what ts = sees what ts ≡ false

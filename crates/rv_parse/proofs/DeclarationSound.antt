@@ -1,21 +1,18 @@
 -- What is read as a declaration is one of the grammar.
-use Rattle.std.proofs.Common.{◌≡◌, ◌⊎◌, inl, inr, ℕ, Bool, true, false, cond, ◌&&◌, List, [], ◌∷◌, ◌++◌, Option, Some, None, Ok, Err, refl, sym, ap, ◌∙◌, subst}
+use Rattle.std.proofs.Common.{◌≡◌, inl, inr, Bool, true, false, ◌&&◌, List, [], ◌∷◌, Some, None, Ok, refl, sym, ◌∙◌, subst}
 use Rattle.rv_lex.specs.declared.kind.Kind.{Kind}
 use Rattle.rv_lex.specs.declared.kind.Kind.TheVariants as k
 use Rattle.rv_lex.specs.Lexes.{Lexeme}
-use Rattle.rv_tree.specs.declared.declaration.Mode.{Mode}
-use Rattle.rv_tree.specs.Phrases.{Phrase, ◌⨾◌, Is, IsAt, Nothing, Flag, Maybe, Each, After, Listed, Enclosed}
-use Rattle.rv_tree.specs.Names.{Identifier, Name}
+use Rattle.rv_tree.specs.Phrases.{Phrase, Is, Maybe, Listed}
 use Rattle.rv_tree.specs.NameGrammar.{IsIdentifier, IsName, AreIdentifiers, IsEnd}
-use Rattle.rv_tree.specs.Expressions.{Expression, RangeConstraint}
 use Rattle.rv_tree.specs.ExpressionGrammar.{IsExpression, IsRange}
 use Rattle.rv_tree.specs.Declarations as t
-use Rattle.rv_tree.specs.DeclarationGrammar.{IsNamed, IsPragmaArgument, IsPragma, IsGiven, IsInitial, IsAspect, AreAspects, IsMode, IsParameter, AreParameters, IsEntry, IsOperation, IsElement, IsPrivatePart, IsProtectedUnit, IsTaskItem, IsTaskDefinition, IsTask, IsDeclaration}
-use Rattle.rv_parse.specs.Reading.{Fault, unexpected, Outcome, Parser, and_then, pure, sees, next, after, by_kind, starts_by, expect, many, listed, enclosed, optional, optional_after}
+use Rattle.rv_tree.specs.DeclarationGrammar.{IsNamed, IsPragmaArgument, IsPragma, IsAspect, AreAspects, IsMode, IsParameter, AreParameters, IsEntry, IsOperation, IsElement, IsPrivatePart, IsProtectedUnit, IsTaskItem, IsTaskDefinition, IsTask, IsDeclaration}
+use Rattle.rv_parse.specs.Reading.{Parser, and_then, pure, sees, next, after, by_kind, starts_by, expect, many, listed, enclosed, optional, optional_after}
 use Rattle.rv_parse.specs.NameRules.{identifier, name, end_name}
 use Rattle.rv_parse.specs.ExpressionRules.{expression}
 use Rattle.rv_parse.specs.DeclarationRules.{any_expression, range, argument_name, pragma_argument, a_pragma, aspect, aspects, mode_of, mode, parameter, parameters, entry, function, procedure, begins_operation, operation_by, operation, component, begins_element, element, private_part, protected_unit, begins_task_item, task_item, task_definition, task, a_subtype, constant, variable, object, declaration_by, declaration}
-use Rattle.rv_parse.proofs.Steps.{Sound, bind_ok, ok_is, given, branch_ok, chosen, sees_means, eaten, not_eaten, expected, expected_at, flag_sound, identifier_sound, many_sound, listed_sound, enclosed_sound, optional_sound, optional_after_sound}
+use Rattle.rv_parse.proofs.Steps.{Sound, bind_ok, given, branch_ok, chosen, eaten, not_eaten, expected, expected_at, flag_sound, identifier_sound, many_sound, listed_sound, enclosed_sound, optional_sound, optional_after_sound}
 use Rattle.rv_parse.proofs.ExpressionSound.{name_sound, expression_sound}
 
 pub any_expression_sound : Sound IsExpression any_expression

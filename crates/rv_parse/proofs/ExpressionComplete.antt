@@ -1,9 +1,8 @@
 -- An expression of the grammar is read, unless its parentheses nest too deep.
-use Rattle.std.proofs.Common.{◌≡◌, ◌≤◌, ◌<◌, ◌⊎◌, inl, inr, ℕ, zero, suc, ◌+◌, Bool, true, false, cond, List, [], ◌∷◌, ◌++◌, length, Option, Some, None, Ok, Err, refl, sym, ap, ◌∙◌, subst, arith, append_assoc, append-nil}
+use Rattle.std.proofs.Common.{◌≡◌, ◌≤◌, ◌<◌, ◌⊎◌, inl, inr, ℕ, zero, suc, Bool, true, false, List, [], ◌∷◌, ◌++◌, length, Option, Some, None, Ok, Err, refl, sym, ap, ◌∙◌, subst, arith, append_assoc, append-nil}
 use Rattle.rv_lex.specs.declared.kind.Kind.{Kind}
 use Rattle.rv_lex.specs.declared.kind.Kind.TheVariants as k
 use Rattle.rv_lex.specs.Lexes.{Lexeme}
-use Rattle.rv_lex.specs.Literals.{value_of}
 use Rattle.rv_tree.specs.declared.expression.LogicalOperator.{LogicalOperator}
 use Rattle.rv_tree.specs.declared.expression.LogicalOperator.TheVariants as logic
 use Rattle.rv_tree.specs.declared.expression.RelationalOperator.{RelationalOperator}
@@ -14,16 +13,16 @@ use Rattle.rv_tree.specs.declared.expression.MultiplyingOperator.{MultiplyingOpe
 use Rattle.rv_tree.specs.declared.expression.MultiplyingOperator.TheVariants as multiplies
 use Rattle.rv_tree.specs.declared.expression.HighestOperator.{HighestOperator}
 use Rattle.rv_tree.specs.declared.expression.HighestOperator.TheVariants as before
-use Rattle.rv_tree.specs.Phrases.{Phrase, ◌⨾◌, Is, IsAt, Nothing, When, EachAfter}
+use Rattle.rv_tree.specs.Phrases.{◌⨾◌, Is, IsAt, When}
 use Rattle.rv_tree.specs.Names.{Identifier, Name}
 use Rattle.rv_tree.specs.NameGrammar.{IsIdentifier, IsName}
 use Rattle.rv_tree.specs.Expressions as t
-use Rattle.rv_tree.specs.ExpressionGrammar.{IsLogical, relational, adding, multiplying, highest_word, IsLiteral, a_primary, a_factor, a_term, a_signed_term, a_simple_expression, a_relation, an_expression, rule_of, IsExpression, AreArguments, MoreArguments, MoreFactors, MoreTerms, MoreRelations}
-use Rattle.rv_parse.specs.Reading.{Fault, unexpected, too_deep, Outcome, Parser, and_then, pure, same_kind, sees, next, after, eat, place, value, expect, kind, of_kind, starts_by, more_after}
+use Rattle.rv_tree.specs.ExpressionGrammar.{IsLogical, relational, adding, multiplying, highest_word, IsLiteral, rule_of, IsExpression, AreArguments, MoreArguments, MoreFactors, MoreTerms, MoreRelations}
+use Rattle.rv_parse.specs.Reading.{too_deep, Parser, and_then, pure, same_kind, sees, next, eat, place, value, expect, kind, starts_by, more_after}
 use Rattle.rv_parse.specs.NameRules.{identifier, name}
-use Rattle.rv_parse.specs.ExpressionRules.{begins_expression, operator, relational_of, adding_of, multiplying_of, highest_of, joining, both_words, joined, literal, opening, inside, arguments_from, arguments, parenthesized, named, primary, factor_by, factor, factors_by, factors_from, factors, product_of, term, signed_term_by, signed_term, terms_by, terms_from, terms, sum_of, simple, relation_by, relation, relations_from, relations, whole_by, whole, expression}
+use Rattle.rv_parse.specs.ExpressionRules.{begins_expression, operator, relational_of, adding_of, multiplying_of, highest_of, joining, both_words, joined, literal, opening, inside, arguments_from, arguments, parenthesized, named, primary, factor, factors_from, factors, term, signed_term, terms_from, terms, simple, relation, relations_from, relations, whole, expression}
 use Rattle.rv_parse.proofs.Steps.{same_means}
-use Rattle.rv_parse.proofs.Forward.{Answers, answers_then, at_true, at_false, if_true, if_false, same_self, sees_it, next_it, place_it, after_it, not_after, is_of, not_both, at_it, at_then, word_then, eaten_then, uneaten_then, identifier_it, Shorter, NotLonger, is_shorter, at_shorter, identifier_shorter, nothing_shorter, each_after_shorter, more_after_it}
+use Rattle.rv_parse.proofs.Forward.{Answers, answers_then, if_true, if_false, sees_it, next_it, place_it, after_it, not_after, is_of, not_both, word_then, eaten_then, uneaten_then, identifier_it, Shorter, NotLonger, is_shorter, at_shorter, identifier_shorter, nothing_shorter, each_after_shorter, more_after_it}
 
 -- NAMES
 

@@ -1,6 +1,5 @@
 -- What is read as an expression is one of the grammar.
-use Rattle.std.proofs.Common.{◌≡◌, ◌≤◌, ◌⊎◌, inl, inr, ℕ, zero, suc, Bool, true, false, cond, List, [], ◌∷◌, ◌++◌, length, Option, Some, None, Ok, Err, refl, sym, ap, ◌∙◌, subst, arith, append_assoc, append-nil}
-use Rattle.rv_lex.specs.declared.kind.Kind.{Kind}
+use Rattle.std.proofs.Common.{◌≡◌, ◌≤◌, inl, inr, ℕ, zero, suc, Bool, true, false, cond, List, [], ◌∷◌, ◌++◌, length, Option, Some, None, Ok, refl, sym, ap, ◌∙◌, subst, arith, append_assoc, append-nil}
 use Rattle.rv_lex.specs.declared.kind.Kind.TheVariants as k
 use Rattle.rv_lex.specs.Lexes.{Lexeme}
 use Rattle.rv_lex.specs.Literals.{value_of}
@@ -9,12 +8,11 @@ use Rattle.rv_tree.specs.declared.expression.RelationalOperator.{RelationalOpera
 use Rattle.rv_tree.specs.declared.expression.AddingOperator.{AddingOperator}
 use Rattle.rv_tree.specs.declared.expression.MultiplyingOperator.{MultiplyingOperator}
 use Rattle.rv_tree.specs.declared.expression.HighestOperator.{HighestOperator}
-use Rattle.rv_tree.specs.Phrases.{Phrase, ◌⨾◌, Is, IsAt, Nothing, When, EachAfter}
-use Rattle.rv_tree.specs.Names.{Identifier, Name}
+use Rattle.rv_tree.specs.Phrases.{Phrase, ◌⨾◌, Is, IsAt, When}
 use Rattle.rv_tree.specs.NameGrammar.{IsIdentifier, IsName}
 use Rattle.rv_tree.specs.Expressions as t
-use Rattle.rv_tree.specs.ExpressionGrammar.{IsLogical, relational, adding, multiplying, highest_word, IsLiteral, a_primary, a_factor, a_term, a_signed_term, a_simple_expression, a_relation, an_expression, rule_of, IsExpression, AreArguments, MoreArguments, MoreFactors, MoreTerms, MoreRelations}
-use Rattle.rv_parse.specs.Reading.{Fault, unexpected, Outcome, Parser, and_then, pure, sees, next, after, place, value, expect, more_after}
+use Rattle.rv_tree.specs.ExpressionGrammar.{a_primary, a_factor, a_term, a_signed_term, a_simple_expression, a_relation, rule_of, IsExpression, AreArguments, MoreArguments, MoreFactors, MoreTerms, MoreRelations}
+use Rattle.rv_parse.specs.Reading.{Parser, and_then, pure, sees, next, after, place, value, expect, more_after}
 use Rattle.rv_parse.specs.NameRules.{identifier, name}
 use Rattle.rv_parse.specs.ExpressionRules.{operator, relational_of, adding_of, multiplying_of, highest_of, joining, joined, literal, opening, inside, arguments_from, arguments, parenthesized, named, primary, factor_by, factor, factors_by, factors_from, factors, product_of, term, signed_term_by, signed_term, terms_by, terms_from, terms, sum_of, simple, relation_by, relation, relations_from, relations, whole_by, whole, expression}
 use Rattle.rv_parse.proofs.Steps.{Sound, bind_ok, ok_is, given, branch_ok, chosen, sees_means, eaten, not_eaten, expected, expected_at, identifier_sound, more_after_sound}

@@ -1,16 +1,15 @@
 -- The steps that every rule is made of, read forwards: what a rule answers where the grammar says what is there.
-use Rattle.std.proofs.Common.{◌≡◌, ◌<◌, ◌≤◌, ◌⊎◌, inl, inr, ℕ, zero, suc, ◌+◌, Bool, true, false, cond, List, [], ◌∷◌, ◌++◌, length, Option, Some, None, Result, Ok, Err, refl, sym, ap, ◌∙◌, subst, arith, rules, append_assoc, append-nil}
-use denote.Enum.Bare.{same_true, true_same}
+use Rattle.std.proofs.Common.{◌≡◌, ◌<◌, ◌≤◌, ℕ, zero, suc, Bool, true, false, cond, List, [], ◌∷◌, ◌++◌, length, Option, Some, None, Ok, Err, refl, sym, ap, ◌∙◌, subst, arith, append_assoc, append-nil}
+use denote.Enum.Bare.{true_same}
 use Rattle.rv_lex.specs.declared.kind.Kind.{Kind}
 use Rattle.rv_lex.specs.declared.kind.Kind.TheVariants as k
 use Rattle.rv_lex.specs.contracts.kind.Kind.{the_type}
 use Rattle.rv_lex.specs.Lexes.{Lexeme}
 use Rattle.rv_tree.specs.Names.{Identifier}
-use Rattle.rv_tree.specs.Phrases.{Phrase, ◌⨾◌, Is, IsAt, Nothing, Never, Flag, Maybe, Each, AtLeastOne, After, EachAfter, Listed, Enclosed}
+use Rattle.rv_tree.specs.Phrases.{Phrase, Is, IsAt, Nothing, Flag, Maybe, Each, AtLeastOne, After, EachAfter, Listed, Enclosed}
 use Rattle.rv_tree.specs.NameGrammar.{IsIdentifier}
-use Rattle.rv_parse.specs.Reading.{Fault, unexpected, too_deep, Outcome, Parser, and_then, pure, same_kind, sees, next, after, eat, place, text, expect, starts_by, many_from, more_of, many, at_least_one, behind, more_after, listed, enclosed, optional, optional_after}
+use Rattle.rv_parse.specs.Reading.{unexpected, too_deep, Outcome, Parser, and_then, same_kind, sees, next, after, eat, place, text, expect, many_from, more_of, many, at_least_one, behind, more_after, listed, enclosed, optional, optional_after}
 use Rattle.rv_parse.specs.NameRules.{identifier}
-use Rattle.rv_parse.proofs.Steps.{same_means}
 
 -- what a rule answers where this is what it is to read
 abbrev pub Answers : {A : Type 0} → Outcome A → A → List Lexeme → Type 0

@@ -15,3 +15,9 @@ pub mod StatementComplete
 pub mod NestedComplete
 pub mod UnitComplete
 pub mod Whole
+pub mod Tame
+pub mod TameExpression
+pub mod TameRules
+pub mod TameStatements
+pub mod DeepStatements
+pub mod DeepTexts

@@ -1,10 +1,10 @@
 -- The list of tokens that a cursor shows.
-use Rattle.std.proofs.Common.{◌≡◌, ℕ, zero, suc, Bool, true, false, List, [], ◌∷◌, length, drop, refl, sym, ap, arith, Option, Some, None, ◌-◌, take, ◌<◌, ◌≤◌, get_or}
+use Rattle.std.proofs.Common.{◌≡◌, ℕ, true, false, List, [], ◌∷◌, length, drop, refl, sym, ap, arith, Option, Some, None, ◌-◌, take, ◌<◌, ◌≤◌, get_or}
 use Rattle.std.specs.Prelude.{slice_get}
 use Rattle.std.proofs.lemmas.List.{take_all}
 use Rattle.rv_lex.specs.declared.kind.Kind.{Kind}
 use Rattle.rv_lex.specs.declared.token.Token.{Token}
-use Rattle.rv_lex.specs.Lexes.{Lexeme, lexeme, lexemes}
+use Rattle.rv_lex.specs.Lexes.{Lexeme, lexemes}
 use Rattle.rv_lex.specs.Literals.{value_of}
 use Rattle.rv_parse.specs.Reading.{IsPlace, next, place, text, value, sees, same_kind, kind}
 

@@ -1,24 +1,23 @@
 -- A statement that holds others is read, unless it nests too deep.
-use Rattle.std.proofs.Common.{◌≡◌, ◌≤◌, ◌<◌, ℕ, zero, suc, Bool, true, false, cond, List, [], ◌∷◌, ◌++◌, length, Option, Some, None, Ok, Err, refl, sym, ap, ◌∙◌, subst, arith, append_assoc, append-nil}
+use Rattle.std.proofs.Common.{◌≡◌, ◌≤◌, ℕ, zero, suc, false, List, [], ◌∷◌, ◌++◌, length, Option, Some, None, refl, ap, ◌∙◌, subst, arith, append_assoc, append-nil}
 use Rattle.rv_lex.specs.declared.kind.Kind.{Kind}
 use Rattle.rv_lex.specs.declared.kind.Kind.TheVariants as k
 use Rattle.rv_lex.specs.Lexes.{Lexeme}
-use Rattle.rv_tree.specs.Phrases.{Phrase, ◌⨾◌, Is, IsAt, Nothing, Flag, Maybe, Each, After, Listed}
-use Rattle.rv_tree.specs.Names.{Identifier, Name}
-use Rattle.rv_tree.specs.NameGrammar.{IsIdentifier}
+use Rattle.rv_tree.specs.Phrases.{◌⨾◌, Is, IsAt, Maybe, Listed}
+use Rattle.rv_tree.specs.Names.{Identifier}
 use Rattle.rv_tree.specs.Expressions as e
 use Rattle.rv_tree.specs.ExpressionGrammar.{IsExpression}
 use Rattle.rv_tree.specs.Declarations.{Parameter}
 use Rattle.rv_tree.specs.Statements as t
-use Rattle.rv_tree.specs.StatementGrammar.{IsChoice, IsIteration, IsGuard, IsStatement, AreStatements, MoreStatements, AreElsifParts, IsElse, AreAlternatives, IsAcceptBody, IsSelective, AreSelectives, MoreSelectives, IsThenAbort}
-use Rattle.rv_parse.specs.Reading.{Fault, unexpected, too_deep, Outcome, Parser, and_then, pure, same_kind, sees, next, after, eat, place, by_kind, starts_by, expect, listed, optional}
+use Rattle.rv_tree.specs.StatementGrammar.{IsChoice, IsGuard, IsStatement, AreStatements, MoreStatements, AreElsifParts, IsElse, AreAlternatives, IsAcceptBody, IsSelective, AreSelectives, MoreSelectives, IsThenAbort}
+use Rattle.rv_parse.specs.Reading.{Parser, and_then, pure, same_kind, sees, expect, listed, optional}
 use Rattle.rv_parse.specs.NameRules.{identifier}
 use Rattle.rv_parse.specs.DeclarationRules.{any_expression, parameters}
-use Rattle.rv_parse.specs.StatementRules.{choice, iteration, null_statement, named_statement, exit_statement, return_statement, raise_statement, delay_statement, abort_statement, requeue_statement, guard, simple_by, simple_statement, begins_statement, sees_statement, statements_from, statements, statements_after, elsif_part, elsif_parts_from, elsif_parts, if_statement, alternative, alternatives_from, alternatives, case_statement, loop_statement, accept_body, accept_statement, selective, selectives_from, selectives, then_abort, select_statement, statement_by, any_statement, statement}
-use Rattle.rv_parse.proofs.Forward.{Answers, answers_then, if_true, if_false, sees_it, next_it, place_it, is_of, not_both, at_it, at_then, word_then, eaten_then, uneaten_then, identifier_it, Shorter, NotLonger, is_shorter, at_shorter, Complete, optional_it, listed_it, listed_shorter}
-use Rattle.rv_parse.proofs.ExpressionComplete.{Ends, ends_at, expression_shorter}
+use Rattle.rv_parse.specs.StatementRules.{choice, iteration, guard, begins_statement, sees_statement, statements_from, statements, statements_after, elsif_part, elsif_parts_from, elsif_parts, if_statement, alternative, alternatives_from, alternatives, case_statement, loop_statement, accept_body, accept_statement, selective, selectives_from, selectives, then_abort, select_statement, statement_by, any_statement, statement}
+use Rattle.rv_parse.proofs.Forward.{Answers, answers_then, if_true, if_false, sees_it, is_of, not_both, at_then, word_then, eaten_then, uneaten_then, identifier_it, Shorter, is_shorter, at_shorter, Complete, optional_it, listed_it, listed_shorter}
+use Rattle.rv_parse.proofs.ExpressionComplete.{ends_at, expression_shorter}
 use Rattle.rv_parse.proofs.DeclarationComplete.{Unseen, Anything, starts_is, by_kind_it, any_it, maybe_identifier_it, parameters_it}
-use Rattle.rv_parse.proofs.StatementComplete.{AfterBounds, choice_it, choice_shorter, iteration_it, loop_place, guard_it, guard_shorter, simple_it, null_it, assignment_it, call_it, exit_it, return_it, raise_it, delay_it, abort_it, requeue_it, Begun, loop_word, loop_begun, begun, first_word, statement_starts, statement_not, statement_shorter, sequence_shorter, selective_shorter}
+use Rattle.rv_parse.proofs.StatementComplete.{AfterBounds, choice_it, choice_shorter, iteration_it, loop_place, guard_it, guard_shorter, simple_it, null_it, assignment_it, call_it, exit_it, return_it, raise_it, delay_it, abort_it, requeue_it, loop_word, begun, first_word, statement_starts, statement_not, statement_shorter, sequence_shorter, selective_shorter}
 
 -- LISTS OF PARTS
 

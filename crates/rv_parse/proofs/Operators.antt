@@ -1,5 +1,5 @@
 -- What the kinds of operators stand for.
-use Rattle.std.proofs.Common.{◌≡◌, ◌⊎◌, inl, inr, ℕ, Bool, true, false, cond, List, [], ◌∷◌, Option, Some, None, Ok, Err, refl, sym, ap, ◌∙◌, subst}
+use Rattle.std.proofs.Common.{◌≡◌, inl, inr, Bool, true, false, cond, List, [], ◌∷◌, Option, Some, None, Ok, refl, sym, ap, ◌∙◌, subst}
 use Rattle.rv_lex.specs.declared.kind.Kind.{Kind}
 use Rattle.rv_lex.specs.declared.kind.Kind.TheVariants as k
 use Rattle.rv_lex.specs.Lexes.{Lexeme}
@@ -15,7 +15,7 @@ use Rattle.rv_tree.specs.declared.expression.HighestOperator.{HighestOperator}
 use Rattle.rv_tree.specs.declared.expression.HighestOperator.TheVariants as before
 use Rattle.rv_tree.specs.Phrases.{Phrase, ◌⨾◌, Is, IsAt, Nothing}
 use Rattle.rv_tree.specs.ExpressionGrammar.{IsLogical, relational, adding, multiplying, highest_word}
-use Rattle.rv_parse.specs.Reading.{Fault, unexpected, too_deep, Outcome, Parser, and_then, pure, sees, next, after, place, eat, expect, kind, of_kind}
+use Rattle.rv_parse.specs.Reading.{sees, next, after, place, eat, expect, kind}
 use Rattle.rv_parse.specs.ExpressionRules.{operator, relational_of, adding_of, multiplying_of, highest_of, joining, both_words, joined}
 use Rattle.rv_parse.proofs.Steps.{bind_ok, ok_is, branch_ok, eaten, not_eaten, expected}
 

@@ -1,26 +1,24 @@
 -- A statement of the grammar is read, unless statements or parentheses nest too deep.
-use Rattle.std.proofs.Common.{◌≡◌, ◌≤◌, ◌<◌, ◌⊎◌, inl, inr, ℕ, zero, suc, Bool, true, false, cond, List, [], ◌∷◌, ◌++◌, length, Option, Some, None, Ok, Err, refl, sym, ap, ◌∙◌, subst, arith, append_assoc, append-nil}
+use Rattle.std.proofs.Common.{◌≡◌, ◌<◌, ℕ, Bool, true, false, List, [], Option, Some, None, refl, sym, ap, ◌∙◌, subst, arith}
 use Rattle.rv_lex.specs.declared.kind.Kind.{Kind}
 use Rattle.rv_lex.specs.declared.kind.Kind.TheVariants as k
 use Rattle.rv_lex.specs.Lexes.{Lexeme}
-use Rattle.rv_tree.specs.Phrases.{Phrase, ◌⨾◌, Is, IsAt, Nothing, Flag, Maybe, Each, After, Listed}
+use Rattle.rv_tree.specs.Phrases.{◌⨾◌, Is, Maybe, After}
 use Rattle.rv_tree.specs.Names.{Identifier, Name}
 use Rattle.rv_tree.specs.NameGrammar.{IsIdentifier, IsName, AreNames}
 use Rattle.rv_tree.specs.Expressions as e
-use Rattle.rv_tree.specs.ExpressionGrammar.{IsExpression, IsRange, AreArguments}
-use Rattle.rv_tree.specs.Declarations.{Parameter}
-use Rattle.rv_tree.specs.DeclarationGrammar.{AreParameters, IsInitial}
+use Rattle.rv_tree.specs.ExpressionGrammar.{IsExpression}
 use Rattle.rv_tree.specs.Statements as t
 use Rattle.rv_tree.specs.StatementGrammar.{IsChoice, AreBounds, IsIteration, IsCondition, IsGuard, MaybeArguments, IsWithAbort, IsStatement, AreStatements, MoreStatements, AreElsifParts, IsElse, AreAlternatives, IsAcceptBody, IsSelective, AreSelectives, MoreSelectives, IsThenAbort}
-use Rattle.rv_parse.specs.Reading.{Fault, unexpected, too_deep, Outcome, Parser, and_then, pure, same_kind, sees, next, after, eat, place, by_kind, starts_by, expect, listed, optional, optional_after}
+use Rattle.rv_parse.specs.Reading.{Outcome, same_kind, sees, place, starts_by, listed, optional, optional_after}
 use Rattle.rv_parse.specs.NameRules.{identifier, name}
-use Rattle.rv_parse.specs.ExpressionRules.{begins_expression, arguments, opening, inside}
-use Rattle.rv_parse.specs.DeclarationRules.{any_expression, range, parameters}
-use Rattle.rv_parse.specs.StatementRules.{choice, two_from, bounds_from, bounds, for_loop, while_loop, iteration, null_statement, call_arguments, named_statement, exit_statement, return_statement, raise_statement, delay_statement, abort_statement, with_abort, requeue_statement, guard, simple_by, simple_statement, begins_statement, sees_statement, statements_from, statements, statements_after, elsif_part, elsif_parts_from, elsif_parts, if_statement, alternative, alternatives_from, alternatives, case_statement, loop_statement, accept_body, accept_statement, selective, selectives_from, selectives, then_abort, select_statement, statement_by, any_statement, statement}
+use Rattle.rv_parse.specs.ExpressionRules.{begins_expression, opening, inside}
+use Rattle.rv_parse.specs.DeclarationRules.{any_expression, range}
+use Rattle.rv_parse.specs.StatementRules.{choice, two_from, bounds_from, bounds, for_loop, while_loop, iteration, null_statement, call_arguments, named_statement, exit_statement, return_statement, raise_statement, delay_statement, abort_statement, with_abort, requeue_statement, guard, simple_by, simple_statement, begins_statement, sees_statement}
 use Rattle.rv_parse.proofs.Steps.{same_means}
-use Rattle.rv_parse.proofs.Forward.{Answers, answers_then, at_true, at_false, if_true, if_false, sees_it, next_it, place_it, after_it, not_after, is_of, not_both, at_it, at_then, word_then, eaten_then, uneaten_then, flag_seen, flag_after, identifier_it, Shorter, NotLonger, is_shorter, at_shorter, identifier_shorter, nothing_shorter, flag_shorter, maybe_shorter, each_shorter, after_shorter, listed_shorter, Complete, optional_it, optional_after_it, listed_it}
-use Rattle.rv_parse.proofs.ExpressionComplete.{goes_on, name_shorter, name_it, Ends, ends_at, begins_at, begins_not, expression_starts, expression_shorter, arguments_shorter, expressions_list, expressions_of_list, arguments_it, opens_at}
-use Rattle.rv_parse.proofs.DeclarationComplete.{Unseen, Anything, starts_is, by_kind_it, any_it, maybe_identifier_it, maybe_name_it, range_it, range_shorter, parameters_it, parameters_shorter, initial_shorter, maybe_name_shorter}
+use Rattle.rv_parse.proofs.Forward.{Answers, answers_then, if_true, if_false, sees_it, place_it, is_of, not_both, at_then, word_then, eaten_then, uneaten_then, flag_seen, flag_after, identifier_it, Shorter, NotLonger, is_shorter, at_shorter, identifier_shorter, nothing_shorter, flag_shorter, maybe_shorter, after_shorter, listed_shorter, Complete, optional_after_it, listed_it}
+use Rattle.rv_parse.proofs.ExpressionComplete.{name_shorter, name_it, Ends, ends_at, begins_at, begins_not, expression_starts, expression_shorter, arguments_shorter, expressions_list, expressions_of_list, arguments_it, opens_at}
+use Rattle.rv_parse.proofs.DeclarationComplete.{Unseen, Anything, starts_is, by_kind_it, any_it, maybe_name_it, range_it, range_shorter, parameters_shorter, maybe_name_shorter}
 
 -- CHOICES AND BOUNDS
 

@@ -1,21 +1,21 @@
 -- What is read as a statement is one of the grammar.
-use Rattle.std.proofs.Common.{◌≡◌, ◌⊎◌, inl, inr, ℕ, zero, suc, Bool, true, false, cond, List, [], ◌∷◌, ◌++◌, length, Option, Some, None, Ok, Err, refl, sym, ap, ◌∙◌, subst, append_assoc, append-nil}
+use Rattle.std.proofs.Common.{◌≡◌, inl, inr, ℕ, zero, suc, true, List, [], ◌∷◌, ◌++◌, length, Option, Ok, refl, sym, ap, ◌∙◌, subst, append_assoc, append-nil}
 use Rattle.rv_lex.specs.declared.kind.Kind.{Kind}
 use Rattle.rv_lex.specs.declared.kind.Kind.TheVariants as k
 use Rattle.rv_lex.specs.Lexes.{Lexeme}
-use Rattle.rv_tree.specs.Phrases.{Phrase, ◌⨾◌, Is, IsAt, Nothing, Flag, Maybe, Each, After, Listed}
-use Rattle.rv_tree.specs.Names.{Identifier, Name}
-use Rattle.rv_tree.specs.NameGrammar.{IsIdentifier, IsName, AreNames}
+use Rattle.rv_tree.specs.Phrases.{Phrase, ◌⨾◌, Is, IsAt, Maybe, Listed}
+use Rattle.rv_tree.specs.Names.{Identifier}
+use Rattle.rv_tree.specs.NameGrammar.{IsIdentifier, IsName}
 use Rattle.rv_tree.specs.Expressions as e
-use Rattle.rv_tree.specs.ExpressionGrammar.{IsExpression, IsRange, AreArguments}
+use Rattle.rv_tree.specs.ExpressionGrammar.{IsExpression, AreArguments}
 use Rattle.rv_tree.specs.Statements as t
-use Rattle.rv_tree.specs.StatementGrammar.{IsChoice, AreBounds, IsIteration, IsCondition, IsGuard, MaybeArguments, IsWithAbort, IsStatement, AreStatements, MoreStatements, AreElsifParts, IsElse, AreAlternatives, IsAcceptBody, IsSelective, AreSelectives, MoreSelectives, IsThenAbort}
-use Rattle.rv_parse.specs.Reading.{Fault, unexpected, Outcome, Parser, and_then, pure, sees, next, after, place, by_kind, starts_by, expect, many, listed, optional, optional_after}
+use Rattle.rv_tree.specs.StatementGrammar.{IsChoice, AreBounds, IsIteration, IsGuard, MaybeArguments, IsWithAbort, IsStatement, AreStatements, MoreStatements, AreElsifParts, IsElse, AreAlternatives, IsAcceptBody, IsSelective, AreSelectives, MoreSelectives, IsThenAbort}
+use Rattle.rv_parse.specs.Reading.{Parser, sees, after, place, starts_by, expect, listed, optional, optional_after}
 use Rattle.rv_parse.specs.NameRules.{identifier, name}
-use Rattle.rv_parse.specs.ExpressionRules.{begins_expression, arguments, opening, inside}
+use Rattle.rv_parse.specs.ExpressionRules.{begins_expression, opening, inside}
 use Rattle.rv_parse.specs.DeclarationRules.{any_expression, range, parameters}
 use Rattle.rv_parse.specs.StatementRules.{choice, two_from, bounds_from, bounds, for_loop, while_loop, iteration, null_statement, call_arguments, named_statement, exit_statement, return_statement, raise_statement, delay_statement, abort_statement, with_abort, requeue_statement, guard, simple_by, simple_statement, sees_statement, statements_from, statements, statements_after, elsif_part, elsif_parts_from, elsif_parts, if_statement, alternative, alternatives_from, alternatives, case_statement, loop_statement, accept_body, accept_statement, selective, selectives_from, selectives, then_abort, select_statement, statement_by, any_statement, statement}
-use Rattle.rv_parse.proofs.Steps.{Sound, bind_ok, ok_is, given, branch_ok, chosen, sees_means, eaten, not_eaten, expected, expected_at, flag_sound, identifier_sound, many_sound, listed_sound, optional_sound, optional_after_sound}
+use Rattle.rv_parse.proofs.Steps.{Sound, bind_ok, ok_is, given, branch_ok, chosen, sees_means, eaten, not_eaten, expected, expected_at, flag_sound, identifier_sound, listed_sound, optional_sound, optional_after_sound}
 use Rattle.rv_parse.proofs.ExpressionSound.{name_sound, arguments_sound, opening_sound, inside_sound}
 use Rattle.rv_parse.proofs.DeclarationSound.{any_expression_sound, range_sound, parameters_sound, kind_sound}
 
@@ -77,7 +77,7 @@ loop_at us p g = elim (chosen (sees k.Loop us) _ _ _ g) [
   | inr m ↦ absurd cc
 ]
 
-iteration_sound : (ts : List Lexeme) (r : t.Iteration × List Lexeme) → iteration ts ≡ Ok r → IsIteration (place ts) r.0 ts r.1
+pub iteration_sound : (ts : List Lexeme) (r : t.Iteration × List Lexeme) → iteration ts ≡ Ok r → IsIteration (place ts) r.0 ts r.1
 unfolding iteration while_loop for_loop
 iteration_sound ts r h = elim (branch_ok (sees k.While ts) _ _ _ r h) [
   | inl g ↦
@@ -196,7 +196,7 @@ requeue_sound ts r h =
     let d = bind_ok (expect k.Semicolon c.0.1) _ r c.2 in
     given IsStatement ts _ r d.2 (a.0.1, expected_at k.Requeue ts a.0 a.1, (b.0.1, name_sound _ b.0 b.1, (c.0.1, with_abort_sound _ c.0 c.1, expected k.Semicolon _ d.0 d.1)))
 
-guard_sound : Sound IsGuard guard
+pub guard_sound : Sound IsGuard guard
 unfolding guard
 guard_sound ts r h =
     let a = bind_ok (expect k.When ts) _ r h in
@@ -236,7 +236,7 @@ module _ (inner : Parser t.Statement) (inner_sound : Sound IsStatement inner) wh
   ]
 
   -- the first of them, and the others
-  abbrev Sequence : List t.Statement → Phrase
+  abbrev pub Sequence : List t.Statement → Phrase
   Sequence ss = AreStatements (t.statements_of ss)
 
   pub statements_sound : Sound Sequence (statements inner)
@@ -250,14 +250,14 @@ module _ (inner : Parser t.Statement) (inner_sound : Sound IsStatement inner) wh
   else_list [] a b c w h = absurd h
   else_list (s ∷ ss) a b c w h = (b, w, h)
 
-  else_sound : Sound (λ ss. IsElse (t.statements_of ss)) (statements_after inner k.Else)
+  pub else_sound : Sound (λ ss. IsElse (t.statements_of ss)) (statements_after inner k.Else)
   unfolding statements_after
   else_sound ts r h = elim (branch_ok (sees k.Else ts) _ _ _ r h) [
     | inl g ↦ else_list r.0 ts (after k.Else ts) r.1 (eaten k.Else ts g.0) (statements_sound _ r g.1)
     | inr g ↦ given (λ ss. IsElse (t.statements_of ss)) ts _ r g.1 (sym (not_eaten k.Else ts g.0))
   ]
 
-  elsif_part_sound : (ts : List Lexeme) (r : t.ElsifPart × List Lexeme) → elsif_part inner ts ≡ Ok r → (IsAt k.Elsif r.0.at ⨾ IsExpression r.0.condition ⨾ Is k.Then ⨾ AreStatements r.0.statements) ts r.1
+  pub elsif_part_sound : (ts : List Lexeme) (r : t.ElsifPart × List Lexeme) → elsif_part inner ts ≡ Ok r → (IsAt k.Elsif r.0.at ⨾ IsExpression r.0.condition ⨾ Is k.Then ⨾ AreStatements r.0.statements) ts r.1
   unfolding elsif_part
   elsif_part_sound ts r h =
       let a = bind_ok (expect k.Elsif ts) _ r h in
@@ -283,7 +283,7 @@ module _ (inner : Parser t.Statement) (inner_sound : Sound IsStatement inner) wh
         ([], sym (append-nil found ∙ ap (λ (q : List t.ElsifPart × List Lexeme). q.0) e), ap (λ (q : List t.ElsifPart × List Lexeme). q.1) e)
   ]
 
-  elsif_parts_sound : Sound (λ ps. AreElsifParts (t.elsif_parts_of ps)) (elsif_parts inner)
+  pub elsif_parts_sound : Sound (λ ps. AreElsifParts (t.elsif_parts_of ps)) (elsif_parts inner)
   unfolding elsif_parts
   elsif_parts_sound ts r h =
       let d = elsif_parts_from_sound (length ts) [] ts r h in
@@ -303,7 +303,7 @@ module _ (inner : Parser t.Statement) (inner_sound : Sound IsStatement inner) wh
       let z = bind_ok (expect k.Semicolon y.0.1) _ r y.2 in
       given IsStatement ts _ r z.2 (a.0.1, expected_at k.If ts a.0 a.1, (b.0.1, any_expression_sound _ b.0 b.1, (c.0.1, expected k.Then _ c.0 c.1, (d.0.1, statements_sound _ d.0 d.1, (e.0.1, elsif_parts_sound _ e.0 e.1, (f.0.1, else_sound _ f.0 f.1, (x.0.1, expected k.End _ x.0 x.1, (y.0.1, expected k.If _ y.0 y.1, expected k.Semicolon _ z.0 z.1))))))))
 
-  alternative_sound : (ts : List Lexeme) (r : t.CaseAlternative × List Lexeme) → alternative inner ts ≡ Ok r → (IsAt k.When r.0.at ⨾ Listed k.Bar IsChoice r.0.choices ⨾ Is k.Arrow ⨾ AreStatements r.0.statements) ts r.1
+  pub alternative_sound : (ts : List Lexeme) (r : t.CaseAlternative × List Lexeme) → alternative inner ts ≡ Ok r → (IsAt k.When r.0.at ⨾ Listed k.Bar IsChoice r.0.choices ⨾ Is k.Arrow ⨾ AreStatements r.0.statements) ts r.1
   unfolding alternative
   alternative_sound ts r h =
       let a = bind_ok (expect k.When ts) _ r h in
@@ -329,7 +329,7 @@ module _ (inner : Parser t.Statement) (inner_sound : Sound IsStatement inner) wh
         ([], sym (append-nil found ∙ ap (λ (q : List t.CaseAlternative × List Lexeme). q.0) e), ap (λ (q : List t.CaseAlternative × List Lexeme). q.1) e)
   ]
 
-  alternatives_sound : Sound (λ ps. AreAlternatives (t.alternatives_of ps)) (alternatives inner)
+  pub alternatives_sound : Sound (λ ps. AreAlternatives (t.alternatives_of ps)) (alternatives inner)
   unfolding alternatives
   alternatives_sound ts r h =
       let d = alternatives_from_sound (length ts) [] ts r h in
@@ -384,7 +384,7 @@ module _ (inner : Parser t.Statement) (inner_sound : Sound IsStatement inner) wh
       let z = bind_ok (expect k.Semicolon d.0.1) _ r d.2 in
       given IsStatement ts _ r z.2 (a.0.1, expected_at k.Accept ts a.0 a.1, (b.0.1, identifier_sound _ b.0 b.1, (c.0.1, parameters_sound _ c.0 c.1, (d.0.1, accept_body_sound _ d.0 d.1, expected k.Semicolon _ z.0 z.1))))
 
-  selective_sound : Sound IsSelective (selective inner)
+  pub selective_sound : Sound IsSelective (selective inner)
   unfolding selective
   selective_sound ts r h =
       let a = bind_ok (optional (sees k.When) guard ts) _ r h in
@@ -420,7 +420,7 @@ module _ (inner : Parser t.Statement) (inner_sound : Sound IsStatement inner) wh
       more_list [] a b c w h = absurd h
       more_list (x ∷ xs) a b c w h = (b, w, h)
 
-  selectives_sound : Sound (λ xs. AreSelectives (t.selectives_of xs)) (selectives inner)
+  pub selectives_sound : Sound (λ xs. AreSelectives (t.selectives_of xs)) (selectives inner)
   unfolding selectives
   selectives_sound ts r h =
       let d = selectives_from_sound (length ts) [] ts r h in

@@ -1,15 +1,13 @@
 -- The steps that every rule is made of, read backwards: what follows from an outcome.
-use Rattle.std.proofs.Common.{◌≡◌, ◌⊎◌, inl, inr, ℕ, zero, suc, Bool, true, false, cond, List, [], ◌∷◌, ◌++◌, length, Option, Some, None, Result, Ok, Err, refl, sym, ap, ◌∙◌, subst, arith, rules, append_assoc, append-nil}
-use denote.Enum.Bare.{same_true, true_same}
+use Rattle.std.proofs.Common.{◌≡◌, ◌⊎◌, inl, inr, ℕ, zero, suc, Bool, true, false, cond, List, [], ◌∷◌, ◌++◌, length, Ok, Err, refl, sym, ap, ◌∙◌, subst, rules, append_assoc, append-nil}
+use denote.Enum.Bare.{same_true}
 use Rattle.rv_lex.specs.declared.kind.Kind.{Kind}
 use Rattle.rv_lex.specs.declared.kind.Kind.TheVariants as k
 use Rattle.rv_lex.specs.contracts.kind.Kind.{the_type}
 use Rattle.rv_lex.specs.Lexes.{Lexeme}
-use Rattle.rv_lex.specs.Literals.{value_of}
-use Rattle.rv_tree.specs.Names.{Identifier}
-use Rattle.rv_tree.specs.Phrases.{Phrase, ◌⨾◌, Is, IsAt, Nothing, Never, Flag, Maybe, Each, AtLeastOne, After, EachAfter, Listed, Enclosed}
+use Rattle.rv_tree.specs.Phrases.{Phrase, Is, IsAt, Flag, Maybe, Each, AtLeastOne, After, EachAfter, Listed, Enclosed}
 use Rattle.rv_tree.specs.NameGrammar.{IsIdentifier}
-use Rattle.rv_parse.specs.Reading.{Fault, unexpected, too_deep, Outcome, Parser, and_then, pure, same_kind, sees, next, after, place, text, expect, many_from, more_of, many, at_least_one, behind, more_after, listed, enclosed, optional, optional_after}
+use Rattle.rv_parse.specs.Reading.{Outcome, Parser, and_then, same_kind, sees, next, after, place, text, expect, many_from, more_of, many, at_least_one, behind, more_after, listed, enclosed, optional, optional_after}
 use Rattle.rv_parse.specs.NameRules.{identifier}
 
 -- what is read is what the grammar says

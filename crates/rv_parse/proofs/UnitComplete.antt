@@ -1,14 +1,13 @@
 -- Bodies and unit texts of the grammar are read, unless they nest too deep.
-use Rattle.std.proofs.Common.{◌≡◌, ◌≤◌, ◌<◌, ℕ, Bool, true, false, cond, List, [], ◌∷◌, ◌++◌, length, Option, Some, None, Ok, Err, refl, sym, ap, ◌∙◌, subst, arith}
+use Rattle.std.proofs.Common.{◌≡◌, Bool, true, false, List, [], ◌∷◌, Option, refl, ap, ◌∙◌, arith}
 use Rattle.rv_lex.specs.declared.kind.Kind.{Kind}
 use Rattle.rv_lex.specs.declared.kind.Kind.TheVariants as k
 use Rattle.rv_lex.specs.Lexes.{Lexeme}
-use Rattle.rv_tree.specs.Phrases.{Phrase, ◌⨾◌, Is, IsAt, Nothing, Flag, Maybe, Each, AtLeastOne, After, Listed}
+use Rattle.rv_tree.specs.Phrases.{Is, Flag}
 use Rattle.rv_tree.specs.Names.{Identifier, Name}
-use Rattle.rv_tree.specs.NameGrammar.{IsIdentifier, IsName, AreIdentifiers, AreNames, IsEnd}
+use Rattle.rv_tree.specs.NameGrammar.{IsName, AreNames}
 use Rattle.rv_tree.specs.Expressions as e
-use Rattle.rv_tree.specs.ExpressionGrammar.{IsExpression, IsRange}
-use Rattle.rv_tree.specs.DeclarationGrammar.{IsPragma, AreParameters, IsInitial, IsProtectedUnit, IsTask, IsDeclaration}
+use Rattle.rv_tree.specs.DeclarationGrammar.{IsProtectedUnit, IsDeclaration}
 use Rattle.rv_tree.specs.Declarations as d
 use Rattle.rv_tree.specs.Statements as s
 use Rattle.rv_tree.specs.StatementGrammar.{AreStatements}
@@ -16,14 +15,14 @@ use Rattle.rv_tree.specs.Bodies as t
 use Rattle.rv_tree.specs.BodyGrammar.{IsLocal, IsExceptionChoice, IsHandler, AreHandlers, IsBlock, IsOperationBody, IsProtectedBody, IsTaskBody}
 use Rattle.rv_tree.specs.Units as u
 use Rattle.rv_tree.specs.UnitGrammar.{IsContextItem, IsSpecification, IsBodyItem, IsBody, IsUnit}
-use Rattle.rv_parse.specs.Reading.{Fault, unexpected, Outcome, Parser, and_then, pure, same_kind, sees, next, after, by_kind, starts_by, expect, many, at_least_one, listed, optional, optional_after}
+use Rattle.rv_parse.specs.Reading.{and_then, pure, same_kind, sees, next, starts_by, many, listed, optional, optional_after}
 use Rattle.rv_parse.specs.NameRules.{identifier, name, end_name}
 use Rattle.rv_parse.specs.DeclarationRules.{any_expression, range, a_pragma, parameters, protected_unit, task, begins_declaration, declaration}
-use Rattle.rv_parse.specs.StatementRules.{sees_statement, begins_statement, statement, statements}
+use Rattle.rv_parse.specs.StatementRules.{sees_statement, statement}
 use Rattle.rv_parse.specs.BodyRules.{any_statements, local_object, begins_local, local_by, a_local, exception_choice, handler, handlers, block, function_body, procedure_body, entry_body, begins_operation_body, operation_body_by, operation_body, protected_body, task_body}
 use Rattle.rv_parse.specs.UnitRules.{with_clause, use_clause, begins_context_item, context_item_by, context_item, specification, body_item, body, unit}
 use Rattle.rv_parse.proofs.Forward.{Answers, answers_then, if_true, if_false, sees_it, next_it, is_of, not_both, at_then, word_then, eaten_then, uneaten_then, flag_seen, flag_after, identifier_it, Shorter, NotLonger, is_shorter, at_shorter, identifier_shorter, nothing_shorter, flag_shorter, each_shorter, listed_shorter, Complete, many_it, at_least_one_it, listed_it}
-use Rattle.rv_parse.proofs.ExpressionComplete.{name_shorter, name_it, Ends, ends_at, expression_shorter}
+use Rattle.rv_parse.proofs.ExpressionComplete.{name_shorter, name_it, ends_at, expression_shorter}
 use Rattle.rv_parse.proofs.DeclarationComplete.{Unseen, Anything, starts_is, by_kind_it, any_it, identifiers_it, identifiers_shorter, first_identifier, end_it, end_shorter, maybe_range_it, maybe_range_shorter, initial_it, initial_shorter, after_mark, after_range, pragma_it, pragma_shorter, parameters_it, parameters_shorter, protected_it, protected_shorter, task_it, task_shorter, declaration_it, declaration_starts, declaration_shorter}
 use Rattle.rv_parse.proofs.StatementComplete.{sequence_shorter, names_it}
 use Rattle.rv_parse.proofs.NestedComplete.{statements_list, statements_of_list, NoStatement, no_statement, sequence_it, statement_it}

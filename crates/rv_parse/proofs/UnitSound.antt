@@ -1,26 +1,25 @@
 -- What is read as a body or a unit text is one of the grammar.
-use Rattle.std.proofs.Common.{◌≡◌, ◌⊎◌, inl, inr, ℕ, Bool, true, false, cond, List, [], ◌∷◌, ◌++◌, Option, Some, None, Ok, Err, refl, sym, ap, ◌∙◌, subst}
+use Rattle.std.proofs.Common.{◌≡◌, inl, inr, List, [], ◌∷◌, Ok, sym}
 use Rattle.rv_lex.specs.declared.kind.Kind.{Kind}
 use Rattle.rv_lex.specs.declared.kind.Kind.TheVariants as k
 use Rattle.rv_lex.specs.Lexes.{Lexeme}
-use Rattle.rv_tree.specs.Phrases.{Phrase, ◌⨾◌, Is, IsAt, Nothing, Flag, Maybe, Each, AtLeastOne, After, Listed}
-use Rattle.rv_tree.specs.Names.{Identifier, Name}
-use Rattle.rv_tree.specs.NameGrammar.{IsIdentifier, IsName, AreIdentifiers, AreNames, IsEnd}
+use Rattle.rv_tree.specs.Phrases.{Is, AtLeastOne}
+use Rattle.rv_tree.specs.NameGrammar.{IsName}
 use Rattle.rv_tree.specs.ExpressionGrammar.{IsExpression, IsRange}
-use Rattle.rv_tree.specs.DeclarationGrammar.{IsPragma, AreParameters, IsInitial, IsProtectedUnit, IsTask, IsDeclaration}
+use Rattle.rv_tree.specs.DeclarationGrammar.{IsDeclaration}
 use Rattle.rv_tree.specs.Statements as s
 use Rattle.rv_tree.specs.StatementGrammar.{AreStatements}
 use Rattle.rv_tree.specs.Bodies as t
 use Rattle.rv_tree.specs.BodyGrammar.{IsLocal, IsExceptionChoice, IsHandler, AreHandlers, IsBlock, IsOperationBody, IsProtectedBody, IsTaskBody}
 use Rattle.rv_tree.specs.Units as u
 use Rattle.rv_tree.specs.UnitGrammar.{IsContextItem, IsSpecification, IsBodyItem, IsBody, IsUnit}
-use Rattle.rv_parse.specs.Reading.{Fault, unexpected, Outcome, Parser, and_then, pure, sees, next, after, by_kind, starts_by, expect, many, at_least_one, listed, optional, optional_after}
+use Rattle.rv_parse.specs.Reading.{and_then, pure, sees, next, after, starts_by, expect, many, listed, optional, optional_after}
 use Rattle.rv_parse.specs.NameRules.{identifier, name, end_name}
 use Rattle.rv_parse.specs.DeclarationRules.{any_expression, range, a_pragma, parameters, protected_unit, task, begins_declaration, declaration}
-use Rattle.rv_parse.specs.StatementRules.{statement, statements}
+use Rattle.rv_parse.specs.StatementRules.{statement}
 use Rattle.rv_parse.specs.BodyRules.{any_statements, local_object, begins_local, local_by, a_local, exception_choice, handler, handlers, block, function_body, procedure_body, entry_body, begins_operation_body, operation_body_by, operation_body, protected_body, task_body}
 use Rattle.rv_parse.specs.UnitRules.{with_clause, use_clause, begins_context_item, context_item_by, context_item, specification, body_item, body, unit}
-use Rattle.rv_parse.proofs.Steps.{Sound, bind_ok, ok_is, given, branch_ok, chosen, eaten, not_eaten, expected, expected_at, flag_sound, identifier_sound, many_sound, at_least_one_sound, listed_sound, optional_sound, optional_after_sound}
+use Rattle.rv_parse.proofs.Steps.{Sound, bind_ok, given, branch_ok, chosen, eaten, not_eaten, expected, expected_at, flag_sound, identifier_sound, many_sound, at_least_one_sound, listed_sound, optional_sound, optional_after_sound}
 use Rattle.rv_parse.proofs.ExpressionSound.{name_sound}
 use Rattle.rv_parse.proofs.DeclarationSound.{any_expression_sound, identifiers_sound, end_name_sound, range_sound, pragma_sound, parameters_sound, kind_sound, protected_unit_sound, task_sound, declaration_sound}
 use Rattle.rv_parse.proofs.StatementSound.{statements_sound, statement_sound}

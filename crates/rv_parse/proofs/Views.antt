@@ -8,8 +8,8 @@ use Rattle.rv_tree.specs.declared.expression.Factor.{Factor, roll-Factor, fold-r
 use Rattle.rv_tree.specs.declared.expression.Term.{Term, roll-Term, fold-roll-Term}
 use Rattle.rv_tree.specs.Expressions as t
 use Rattle.rv_tree.specs.Statements as s
-use Rattle.rv_tree.specs.declared.statement.ElsifPart.{ElsifPart, roll-ElsifPart, fold-roll-ElsifPart}
-use Rattle.rv_tree.specs.declared.statement.CaseAlternative.{CaseAlternative, roll-CaseAlternative, fold-roll-CaseAlternative}
+use Rattle.rv_tree.specs.declared.statement.ElsifPart.{roll-ElsifPart, fold-roll-ElsifPart}
+use Rattle.rv_tree.specs.declared.statement.CaseAlternative.{roll-CaseAlternative, fold-roll-CaseAlternative}
 use Rattle.rv_tree.specs.declared.statement.Statement.{Statement}
 use Rattle.rv_tree.specs.declared.statement.Choice.{Choice}
 use Rattle.rv_tree.specs.StatementView.{choice_view, elsif_part_view, alternative_view, statements_view, select_step, statement_step, case_step, elsif_step}

@@ -1,5 +1,5 @@
 -- Reading whole texts.
-use Rattle.std.proofs.Common.{◌≡◌, ◌⊎◌, inl, inr, ℕ, zero, suc, List, [], ◌∷◌, length, Result, Ok, Err, IfOk, refl, sym, ap, ◌∙◌, subst, arith}
+use Rattle.std.proofs.Common.{◌≡◌, ◌⊎◌, inl, inr, List, [], ◌∷◌, length, Result, Ok, Err, IfOk, refl, ap, subst, arith}
 use Rattle.rv_lex.specs.Kinds.{Text}
 use Rattle.rv_lex.specs.Lexes.{Lexeme, Lexes, HasNoWords, IsNoMemory}
 use Rattle.rv_lex.specs.declared.fault.LexFault.{LexFault}
@@ -11,9 +11,10 @@ use Rattle.rv_tree.specs.UnitGrammar.{IsUnit}
 use Rattle.rv_tree.specs.Derives.{Derives}
 use Rattle.rv_parse.specs.declared.fault.ParseFault.{ParseFault}
 use Rattle.rv_parse.specs.declared.fault.ParseFault.TheVariants as parse
-use Rattle.rv_parse.specs.Reading.{Outcome, unexpected, too_deep}
+use Rattle.rv_parse.specs.Reading.{Outcome}
 use Rattle.rv_parse.specs.Contract.{Refuses}
-use Rattle.rv_parse.specs.Texts.{ReadsTree, HasWords, words_fault}
+use Rattle.rv_parse.specs.Texts.{ReadsTree, HasWords, DeepWords, OfDepth, words_fault}
+use Rattle.rv_parse.specs.Nesting.{NestsTooDeep}
 use Rattle.rv_parse.specs.UnitRules.{unit}
 use Rattle.rv_parse.proofs.UnitSound.{unit_sound}
 use Rattle.rv_parse.proofs.Forward.{Answers}
@@ -67,3 +68,19 @@ no_words text (lex.NotAscii at) tree (inr h) d = h d.words d.lexes
 pub sound_text : (text : Text) (cut words : List Lexeme) (result : Result rust.UnitTree ParseFault) → cut ≡ words → Lexes text words → IfOk result (λ tree. IsUnit (unit_view tree) cut []) → IfOk result (λ tree. Derives text (unit_view tree))
 sound_text text cut words (Ok tree) same lexes h = record { words = words; lexes = lexes; whole = subst (λ ts. IsUnit (unit_view tree) ts []) same h }
 sound_text text cut words (Err fault) same lexes h = tt
+
+-- words that nest too deep are those of the text
+pub deep_text : (text : Text) (cut words : List Lexeme) (result : Result rust.UnitTree ParseFault) → cut ≡ words → Lexes text words → DeepWords cut result → OfDepth text result
+deep_text text cut words (Ok tree) same lexes h = tt
+deep_text text cut words (Err parse.NoMemory) same lexes h = tt
+deep_text text cut words (Err (parse.TooDeep at)) same lexes h = (words, lexes, subst (λ ts. NestsTooDeep ts) same h)
+deep_text text cut words (Err (parse.Unexpected at)) same lexes h = tt
+deep_text text cut words (Err (parse.Lex fault)) same lexes h = tt
+
+-- a fault of the words is no depth
+pub words_not_deep : (text : Text) (fault : LexFault) → OfDepth text (Err (words_fault fault))
+words_not_deep text lex.NoMemory = tt
+words_not_deep text (lex.BadCharacter at) = tt
+words_not_deep text (lex.BadLiteral at) = tt
+words_not_deep text (lex.BadIdentifier at) = tt
+words_not_deep text (lex.NotAscii at) = tt

@@ -1,11 +1,10 @@
 -- How blocks and bodies are read.
-use Rattle.std.specs.Prelude.{◌≡◌, ℕ, Bool, true, false, if◌then◌else◌, List, [], ◌∷◌, Option, Some, None, Ok, Err}
+use Rattle.std.specs.Prelude.{Bool, true, false, if◌then◌else◌, List, []}
 use Rattle.rv_lex.specs.declared.kind.Kind.{Kind}
 use Rattle.rv_lex.specs.declared.kind.Kind.TheVariants as k
-use Rattle.rv_lex.specs.Lexes.{Lexeme}
 use Rattle.rv_tree.specs.Statements as s
 use Rattle.rv_tree.specs.Bodies as t
-use Rattle.rv_parse.specs.Reading.{Parser, Outcome, unexpected, ◌>>=◌, ◌>>◌, pure, refuse, sees, next, by_kind, starts_by, eat, expect, many, at_least_one, listed, optional, optional_after}
+use Rattle.rv_parse.specs.Reading.{Parser, ◌>>=◌, ◌>>◌, pure, refuse, sees, by_kind, starts_by, eat, expect, many, at_least_one, listed, optional, optional_after}
 use Rattle.rv_parse.specs.NameRules.{identifier, name, end_name}
 use Rattle.rv_parse.specs.DeclarationRules.{any_expression, range, a_pragma, parameters, protected_unit, task}
 use Rattle.rv_parse.specs.StatementRules.{statement, statements}

@@ -1,14 +1,13 @@
 -- How declarations are read.
-use Rattle.std.specs.Prelude.{◌≡◌, ℕ, zero, suc, Bool, true, false, if◌then◌else◌, ◌&&◌, List, [], ◌∷◌, Option, Some, None, Ok, Err}
+use Rattle.std.specs.Prelude.{Bool, true, false, if◌then◌else◌, ◌&&◌, List, [], Option, Some, None, Ok}
 use Rattle.rv_lex.specs.declared.kind.Kind.{Kind}
 use Rattle.rv_lex.specs.declared.kind.Kind.TheVariants as k
-use Rattle.rv_lex.specs.Lexes.{Lexeme}
 use Rattle.rv_tree.specs.declared.declaration.Mode.{Mode}
 use Rattle.rv_tree.specs.declared.declaration.Mode.TheVariants.{NotWritten, In, Out, InOut}
 use Rattle.rv_tree.specs.Names.{Identifier}
 use Rattle.rv_tree.specs.Expressions.{Expression, RangeConstraint}
 use Rattle.rv_tree.specs.Declarations as t
-use Rattle.rv_parse.specs.Reading.{Parser, Outcome, unexpected, ◌>>=◌, ◌>>◌, pure, refuse, sees, next, by_kind, starts_by, eat, expect, many, listed, enclosed, optional, optional_after}
+use Rattle.rv_parse.specs.Reading.{Parser, ◌>>=◌, ◌>>◌, pure, refuse, sees, next, by_kind, starts_by, eat, expect, many, listed, enclosed, optional, optional_after}
 use Rattle.rv_parse.specs.NameRules.{identifier, name, end_name}
 use Rattle.rv_parse.specs.ExpressionRules.{expression}
 

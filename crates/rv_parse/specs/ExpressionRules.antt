@@ -1,5 +1,5 @@
 -- How expressions are read, by recursive descent.
-use Rattle.std.specs.Prelude.{◌≡◌, ℕ, zero, suc, Bool, true, false, if◌then◌else◌, List, [], ◌∷◌, ◌++◌, length, Option, Some, None, Ok, Err}
+use Rattle.std.specs.Prelude.{ℕ, zero, suc, Bool, true, false, if◌then◌else◌, List, [], ◌∷◌, ◌++◌, length, Option, Some, None, Ok, Err}
 use Rattle.rv_lex.specs.declared.kind.Kind.{Kind}
 use Rattle.rv_lex.specs.declared.kind.Kind.TheVariants as k
 use Rattle.rv_lex.specs.Lexes.{Lexeme}
@@ -13,9 +13,8 @@ use Rattle.rv_tree.specs.declared.expression.MultiplyingOperator.{MultiplyingOpe
 use Rattle.rv_tree.specs.declared.expression.MultiplyingOperator.TheVariants as multiplies
 use Rattle.rv_tree.specs.declared.expression.HighestOperator.{HighestOperator}
 use Rattle.rv_tree.specs.declared.expression.HighestOperator.TheVariants as before
-use Rattle.rv_tree.specs.Names.{Name}
 use Rattle.rv_tree.specs.Expressions as t
-use Rattle.rv_parse.specs.Reading.{Parser, Outcome, unexpected, too_deep, ◌>>=◌, ◌>>◌, pure, refuse, sees, next, place, value, kind, of_kind, starts_by, eat, expect}
+use Rattle.rv_parse.specs.Reading.{Parser, unexpected, too_deep, ◌>>=◌, ◌>>◌, pure, refuse, sees, next, place, value, kind, of_kind, eat, expect}
 use Rattle.rv_parse.specs.NameRules.{identifier, name}
 
 abbrev pub relational_of : Kind → Option RelationalOperator

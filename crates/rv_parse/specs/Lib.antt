@@ -9,3 +9,4 @@ pub mod NestsStatements
 pub mod BodyRules
 pub mod UnitRules
 pub mod Texts
+pub mod Nesting

@@ -1,9 +1,8 @@
 -- How identifiers and names are read.
-use Rattle.std.specs.Prelude.{ℕ, Bool, if◌then◌else◌, List, [], ◌∷◌, Option, Ok, Err}
+use Rattle.std.specs.Prelude.{if◌then◌else◌, [], Option, Ok, Err}
 use Rattle.rv_lex.specs.declared.kind.Kind.TheVariants as k
-use Rattle.rv_lex.specs.Lexes.{Lexeme}
 use Rattle.rv_tree.specs.Names.{Identifier, Name}
-use Rattle.rv_parse.specs.Reading.{Parser, Outcome, unexpected, ◌>>=◌, ◌>>◌, pure, sees, next, place, text, expect, more_after, optional}
+use Rattle.rv_parse.specs.Reading.{Parser, unexpected, ◌>>=◌, ◌>>◌, pure, sees, next, place, text, expect, more_after, optional}
 
 unfoldable pub identifier : Parser Identifier
 identifier = λ i. if sees k.Identifier i then Ok (record { at = place i; text = text i }, next i) else Err unexpected

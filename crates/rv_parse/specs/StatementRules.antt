@@ -1,12 +1,12 @@
 -- How statements are read, by recursive descent.
-use Rattle.std.specs.Prelude.{◌≡◌, ℕ, zero, suc, Bool, true, false, if◌then◌else◌, ◌||◌, List, [], ◌∷◌, ◌++◌, length, Option, Some, None, Ok, Err}
+use Rattle.std.specs.Prelude.{ℕ, zero, suc, Bool, true, false, if◌then◌else◌, ◌||◌, List, [], ◌∷◌, ◌++◌, length, Option, None, Ok, Err}
 use Rattle.rv_lex.specs.declared.kind.Kind.{Kind}
 use Rattle.rv_lex.specs.declared.kind.Kind.TheVariants as k
 use Rattle.rv_lex.specs.Lexes.{Lexeme}
-use Rattle.rv_tree.specs.Names.{Identifier, Name}
+use Rattle.rv_tree.specs.Names.{Identifier}
 use Rattle.rv_tree.specs.Expressions as e
 use Rattle.rv_tree.specs.Statements as t
-use Rattle.rv_parse.specs.Reading.{Parser, Outcome, unexpected, too_deep, ◌>>=◌, ◌>>◌, pure, refuse, sees, next, place, by_kind, starts_by, eat, expect, listed, optional, optional_after}
+use Rattle.rv_parse.specs.Reading.{Parser, unexpected, too_deep, ◌>>=◌, ◌>>◌, pure, refuse, sees, place, by_kind, starts_by, eat, expect, listed, optional, optional_after}
 use Rattle.rv_parse.specs.NameRules.{identifier, name}
 use Rattle.rv_parse.specs.ExpressionRules.{begins_expression, arguments, opening, inside}
 use Rattle.rv_parse.specs.DeclarationRules.{any_expression, range, parameters}

@@ -1,12 +1,13 @@
 -- What reading a whole text gives.
-use Rattle.std.specs.Prelude.{◌≡◌, Result, Ok, Err}
+use Rattle.std.specs.Prelude.{◌≡◌, Result, Ok, Err, List}
 use Rattle.rv_tree.specs.Units as t
 use Rattle.rv_tree.specs.UnitView.{unit_view}
 use Rattle.rv_lex.specs.declared.fault.LexFault.{LexFault}
 use Rattle.rv_lex.specs.declared.fault.LexFault.TheVariants as lex
 use Rattle.rv_lex.specs.Kinds.{Text}
-use Rattle.rv_lex.specs.Lexes.{Refuses}
+use Rattle.rv_lex.specs.Lexes.{Lexeme, Lexes, Refuses}
 use Rattle.rv_tree.specs.declared.unit.UnitTree.{UnitTree}
+use Rattle.rv_parse.specs.Nesting.{NestsTooDeep}
 use Rattle.rv_parse.specs.declared.fault.ParseFault.{ParseFault}
 use Rattle.rv_parse.specs.declared.fault.ParseFault.TheVariants as parse
 
@@ -40,3 +41,19 @@ OfWords text (Err (parse.Lex fault)) = Refuses text fault
 OfWords text (Err parse.NoMemory) = Unit {0}
 OfWords text (Err (parse.Unexpected at)) = Unit {0}
 OfWords text (Err (parse.TooDeep at)) = Unit {0}
+
+-- words are refused as too deep only where they nest too deep
+abbrev pub DeepWords : List Lexeme → Result UnitTree ParseFault → Type 0
+DeepWords words (Ok tree) = Unit {0}
+DeepWords words (Err (parse.TooDeep at)) = NestsTooDeep words
+DeepWords words (Err (parse.Lex fault)) = Unit {0}
+DeepWords words (Err parse.NoMemory) = Unit {0}
+DeepWords words (Err (parse.Unexpected at)) = Unit {0}
+
+-- a text is refused as too deep only where it has words that nest too deep
+abbrev pub OfDepth : Text → Result UnitTree ParseFault → Type 0
+OfDepth text (Ok tree) = Unit {0}
+OfDepth text (Err (parse.TooDeep at)) = (words : List Lexeme) × Lexes text words × NestsTooDeep words
+OfDepth text (Err (parse.Lex fault)) = Unit {0}
+OfDepth text (Err parse.NoMemory) = Unit {0}
+OfDepth text (Err (parse.Unexpected at)) = Unit {0}

@@ -1,10 +1,9 @@
 -- How whole unit texts are read.
-use Rattle.std.specs.Prelude.{◌≡◌, ℕ, Bool, true, false, if◌then◌else◌, List, [], ◌∷◌, Option, Some, None, Ok, Err}
+use Rattle.std.specs.Prelude.{Bool, true, false, if◌then◌else◌}
 use Rattle.rv_lex.specs.declared.kind.Kind.{Kind}
 use Rattle.rv_lex.specs.declared.kind.Kind.TheVariants as k
-use Rattle.rv_lex.specs.Lexes.{Lexeme}
 use Rattle.rv_tree.specs.Units as t
-use Rattle.rv_parse.specs.Reading.{Parser, Outcome, unexpected, ◌>>=◌, ◌>>◌, pure, refuse, sees, next, by_kind, starts_by, eat, expect, many, listed}
+use Rattle.rv_parse.specs.Reading.{Parser, ◌>>=◌, ◌>>◌, pure, refuse, sees, next, by_kind, starts_by, eat, expect, many, listed}
 use Rattle.rv_parse.specs.NameRules.{identifier, name, end_name}
 use Rattle.rv_parse.specs.DeclarationRules.{a_pragma, begins_declaration, declaration}
 use Rattle.rv_parse.specs.BodyRules.{protected_body, task_body}

@@ -1,4 +1,4 @@
-// Blocks, and the bodies of operations, protected units and tasks.
+//! Blocks, and the bodies of operations, protected units and tasks.
 
 ghost use Rattle.std.specs.Prelude.{◌≡◌, map};
 ghost use Rattle.rv_lex.specs.declared.kind.Kind.TheVariants as k;

@@ -1,4 +1,4 @@
-// The tokens that are left of a text.
+//! The tokens that are left of a text.
 
 ghost use Rattle.std.specs.Prelude.{◌≡◌, ℕ, length, Option, Some, None};
 ghost use Rattle.rv_lex.specs.Lexes.{lexemes};

@@ -1,4 +1,4 @@
-// Declarations of packages, protected units and tasks.
+//! Declarations of packages, protected units and tasks.
 
 ghost use Rattle.std.specs.Prelude.{◌≡◌, map};
 ghost use Rattle.rv_lex.specs.declared.kind.Kind.TheVariants as k;

@@ -1,4 +1,4 @@
-// Expressions. The rules that hold parentheses take the function that reads what stands inside as a field.
+//! Expressions. The rules that hold parentheses take the function that reads what stands inside as a field.
 
 ghost use Rattle.std.specs.Prelude.{◌≡◌, ◌<◌, ℕ, List, [], ◌∷◌, ◌++◌, map, IsOk, OnOk};
 ghost use Rattle.rv_tree.specs.Expressions as t;

@@ -1,4 +1,4 @@
-// Why a text is not read.
+//! Why a text is not read.
 
 ghost use Rattle.std.specs.Prelude.{◌≡◌};
 ghost use Rattle.rv_parse.specs.declared.fault.ParseFault.TheVariants.{NoMemory};
@@ -19,6 +19,7 @@ pub enum ParseFault {
     /// The 65th statement or parenthesis that is open.
     #[error("TooDeep at {0}")]
     TooDeep(usize),
+    /// Memory was refused.
     #[error("NoMemory")]
     NoMemory,
 }

@@ -1,4 +1,4 @@
-// Identifiers and names.
+//! Identifiers and names.
 
 ghost use Rattle.std.specs.Prelude.{◌≡◌, map};
 ghost use Rattle.rv_lex.specs.Lexes.{Lexeme};

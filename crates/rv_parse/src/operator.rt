@@ -1,4 +1,4 @@
-// The operators of expressions.
+//! The operators of expressions.
 
 ghost use Rattle.std.specs.Prelude.{◌≡◌, Ok, Option};
 ghost use Rattle.rv_tree.specs.declared.expression.LogicalOperator.{LogicalOperator};

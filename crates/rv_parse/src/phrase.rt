@@ -1,4 +1,4 @@
-// What the rules of the grammar have in common: phrases, and lists of them.
+//! What the rules of the grammar have in common: phrases, and lists of them.
 
 ghost use Rattle.std.specs.Prelude.{◌≡◌, ℕ, List, Bool, Option, [], ◌∷◌, ◌++◌, map, Ok};
 ghost use Rattle.rv_lex.specs.Lexes.{Lexeme};

@@ -1,4 +1,4 @@
-// Statements that hold no others, and the parts of the others that do not.
+//! Statements that hold no others, and the parts of the others that do not.
 
 ghost use Rattle.std.specs.Prelude.{◌≡◌, ℕ, List, [], ◌∷◌, map, Ok};
 ghost use Rattle.rv_lex.specs.declared.kind.Kind.TheVariants as k;

@@ -1,4 +1,4 @@
-// Statements. Those that hold others take the function that reads these as a field.
+//! Statements. Those that hold others take the function that reads these as a field.
 
 ghost use Rattle.std.specs.Prelude.{◌≡◌, ℕ, List, [], ◌∷◌, ◌++◌, map, Ok};
 ghost use Rattle.rv_lex.specs.declared.kind.Kind.TheVariants as k;

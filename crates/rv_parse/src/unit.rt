@@ -1,4 +1,4 @@
-// Whole unit texts.
+//! Whole unit texts.
 
 ghost use Rattle.std.specs.Prelude.{◌≡◌, [], map, IfOk};
 ghost use Rattle.rv_tree.specs.Units as t;
@@ -6,7 +6,7 @@ ghost use Rattle.rv_tree.specs.UnitView as view;
 ghost use Rattle.rv_tree.specs.Derives.{Derives};
 ghost use Rattle.rv_tree.specs.UnitGrammar.{IsUnit};
 ghost use Rattle.rv_lex.specs.Lexes.{lexemes};
-ghost use Rattle.rv_parse.specs.Texts.{ReadsTree, HasWords, OfWords, words_fault as spec_fault};
+ghost use Rattle.rv_parse.specs.Texts.{ReadsTree, HasWords, OfWords, DeepWords, OfDepth, words_fault as spec_fault};
 ghost use Rattle.rv_parse.specs.Reading as spec;
 ghost use Rattle.rv_parse.specs.DeclarationRules.{begins_declaration};
 ghost use Rattle.rv_parse.specs.UnitRules as rules;
@@ -173,6 +173,7 @@ fn read_words(alloc: Global, words: &[Token<'_>], end: usize) -> Result<UnitTree
     ensures sound { IfOk result (λ tree. IsUnit (view.unit_view tree) (lexemes words.now) []) }
     ensures complete { (tree : t.UnitTree) → IsUnit tree (lexemes words.now) [] → ReadsTree tree result }
     ensures words { HasWords result }
+    ensures deep { DeepWords (lexemes words.now) result }
 {
     let mut cursor = Cursor::new(words, end);
     let tree = unit(alloc, &mut cursor)?;
@@ -194,6 +195,8 @@ pub fn parse(alloc: Global, text: &str) -> Result<UnitTree, ParseFault>
     ensures complete { (tree : t.UnitTree) → Derives text.now tree → ReadsTree tree result }
     // A fault of words is the first of the text's words.
     ensures words { OfWords text.now result }
+    // Depth is refused only where too many statements or parentheses are open one inside another.
+    ensures deep { OfDepth text.now result }
 {
     match tokens(alloc, text) {
         Ok(words) => read_words(alloc, words.as_slice(), text.len()),

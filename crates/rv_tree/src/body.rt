@@ -1,4 +1,4 @@
-// Blocks, and the bodies of operations, protected units and tasks.
+//! Blocks, and the bodies of operations, protected units and tasks.
 
 use crate::declaration::{Parameter, Pragma, ProtectedUnit, TaskUnit};
 use crate::expression::{Expression, RangeConstraint};

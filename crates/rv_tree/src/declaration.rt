@@ -1,4 +1,4 @@
-// Declarations of packages, protected units and tasks.
+//! Declarations of packages, protected units and tasks.
 
 use crate::expression::{Expression, RangeConstraint};
 use crate::name::{Identifier, Name};

@@ -1,5 +1,5 @@
-// Expressions (ISO/IEC 8652:2012, 4.4). One that begins with a token of its own has that token's place, and the
-// place of each other one is that of its first part.
+//! Expressions (ISO/IEC 8652:2012, 4.4). One that begins with a token of its own has that token's place, and the
+//! place of each other one is that of its first part.
 
 use crate::name::{Identifier, Name};
 

@@ -1,4 +1,4 @@
-// The tree of a unit text: what the text says, in the terms of ISO/IEC 8652:2012, each node with its place.
+//! The tree of a unit text: what the text says, in the terms of ISO/IEC 8652:2012, each node with its place.
 #![tactic(auto)]
 
 pub mod body;

@@ -1,4 +1,4 @@
-// Identifiers and names.
+//! Identifiers and names.
 
 /// An identifier as it was written; its case says nothing (ISO/IEC 8652:2012, 2.3).
 #[derive(Drop)]

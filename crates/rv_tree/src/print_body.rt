@@ -1,4 +1,4 @@
-// Prints blocks and bodies.
+//! Prints blocks and bodies.
 
 ghost use Rattle.std.specs.Prelude.{◌≡◌, map, OnOk};
 ghost use Rattle.rv_tree.specs.BodyView.{handler_view};

@@ -1,4 +1,4 @@
-// Prints declarations.
+//! Prints declarations.
 
 ghost use Rattle.std.specs.Prelude.{◌≡◌, map, OnOk};
 ghost use Rattle.rv_tree.specs.NameView.{identifier_view, identifiers_view};

@@ -1,4 +1,4 @@
-// Prints expressions.
+//! Prints expressions.
 
 ghost use Rattle.std.specs.Prelude.{◌≡◌, OnOk};
 ghost use Rattle.rv_tree.specs.Expressions.{expressions_of, factors_of, terms_of};

@@ -1,4 +1,4 @@
-// Prints identifiers and names.
+//! Prints identifiers and names.
 
 use crate::name::{Identifier, Name};
 use crate::printer::{Printed, Printer};

@@ -1,4 +1,4 @@
-// Prints statements.
+//! Prints statements.
 
 ghost use Rattle.std.specs.Prelude.{◌≡◌, map, OnOk};
 ghost use Rattle.rv_tree.specs.Onto.{maybe_onto};

@@ -1,4 +1,4 @@
-// Prints whole unit texts.
+//! Prints whole unit texts.
 
 ghost use Rattle.std.specs.Prelude.{◌≡◌, [], ◌∷◌, ◌++◌, IfOk, string_bytes};
 ghost use Rattle.rv_tree.specs.UnitView.{unit_view};

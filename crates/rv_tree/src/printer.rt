@@ -1,4 +1,4 @@
-// Puts words behind a text, a space before each.
+//! Puts words behind a text, a space before each.
 
 ghost use Rattle.std.specs.Prelude.{◌≡◌, [], ◌∷◌, ◌++◌, OnOk, IfOk, map, string_bytes};
 ghost use Rattle.rv_tree.specs.DeclarationView.{maybe};

@@ -1,4 +1,4 @@
-// Statements (ISO/IEC 8652:2012, 5.1).
+//! Statements (ISO/IEC 8652:2012, 5.1).
 
 use crate::declaration::Parameter;
 use crate::expression::{Expression, RangeConstraint};

@@ -1,4 +1,4 @@
-// The printed words of a small tree.
+//! The printed words of a small tree.
 
 use crate::{Identifier, PackageBody, PackageSpecification, UnitTree, print};
 use std::alloc::{AllocError, Global};

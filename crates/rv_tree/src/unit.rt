@@ -1,4 +1,4 @@
-// Whole unit texts (ISO/IEC 8652:2012, 7.1, 7.2, 10.1).
+//! Whole unit texts (ISO/IEC 8652:2012, 7.1, 7.2, 10.1).
 
 use crate::body::{ProtectedBody, TaskBody};
 use crate::declaration::{Declaration, Pragma};

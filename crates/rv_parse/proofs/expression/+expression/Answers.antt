@@ -1,4 +1,3 @@
-use Rattle.std.proofs.Common.{◌≡◌}
 use Rattle.rv_parse.proofs.Depths.{expression_is}
 use Rattle.rv_parse.proofs.expression.+expression.Goals as goal
 

@@ -1,5 +1,4 @@
-use Rattle.std.proofs.Common.{◌≡◌, ◌-◌, ap, arith}
-use Rattle.rv_parse.specs.StatementRules.{statement}
+use Rattle.std.proofs.Common.{◌≡◌, arith}
 use Rattle.rv_parse.proofs.Depths.{statement_is}
 use Rattle.rv_parse.proofs.statement.+statement.Goals as goal
 

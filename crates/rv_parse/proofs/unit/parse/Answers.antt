@@ -1,9 +1,6 @@
-use Rattle.std.proofs.Common.{◌≡◌, ◌∙◌, sym, ap, subst, List, [], Ok}
-use Rattle.rv_lex.specs.Lexes.{Lexeme, lexemes}
+use Rattle.std.proofs.Common.{sym, subst, []}
 use Rattle.rv_tree.specs.UnitGrammar.{IsUnit}
-use Rattle.rv_tree.specs.UnitView.{unit_view}
-use Rattle.rv_parse.specs.Texts.{ReadsTree}
-use Rattle.rv_parse.proofs.Whole.{sound_text, same_unit, no_words}
+use Rattle.rv_parse.proofs.Whole.{sound_text, same_unit, no_words, deep_text, words_not_deep}
 use Rattle.rv_parse.proofs.unit.parse.Goals as goal
 
 pub returns-in-Ok-clause-sound : goal.returns-in-Ok-clause-sound
@@ -15,3 +12,9 @@ returns-in-Ok-clause-complete c = λ tree d.
 
 pub returns-in-Err-clause-complete : goal.returns-in-Err-clause-complete
 returns-in-Err-clause-complete c = λ tree d. rw c.words_fault.ensures (no_words c.args.text.now c.in-Err.fault tree c.in-Err.ensures.none d)
+
+pub returns-in-Ok-clause-deep : goal.returns-in-Ok-clause-deep
+returns-in-Ok-clause-deep c = deep_text c.args.text.now _ _ c.read_words.result c.as_slice.ensures c.in-Ok.ensures.words c.read_words.ensures.deep
+
+pub returns-in-Err-clause-deep : goal.returns-in-Err-clause-deep
+returns-in-Err-clause-deep c = rw c.words_fault.ensures (words_not_deep c.args.text.now c.in-Err.fault)

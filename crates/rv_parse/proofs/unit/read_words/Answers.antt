@@ -1,9 +1,10 @@
-use Rattle.std.proofs.Common.{◌≡◌, ◌∙◌, sym, ap, subst, Ok, length, arith}
+use Rattle.std.proofs.Common.{◌∙◌, sym, ap, subst, length, arith}
 use Rattle.std.proofs.lemmas.Result.{err_from_is_err_and}
 use Rattle.rv_parse.specs.Contract.{Refuses}
 use Rattle.rv_lex.specs.Lexes.{lexemes}
 use Rattle.rv_tree.specs.UnitView.{unit_view}
 use Rattle.rv_parse.specs.UnitRules.{unit}
+use Rattle.rv_parse.proofs.DeepTexts.{refused_deep}
 use Rattle.rv_parse.proofs.Whole.{found_is_unit, found_is, refused}
 use Rattle.rv_parse.proofs.unit.read_words.Goals as goal
 
@@ -28,3 +29,9 @@ pub returns-clause-complete : goal.returns-clause-complete
 returns-clause-complete c = λ tree d.
     let read = ap unit (sym c.new-cursor.ensures) ∙ c.in_ok-tree.ensures in
     (found_is (lexemes c.args.words.now) c.unit.new.tokens (unit_view c.in_ok-tree.tree) tree read d).0
+
+pub returns-in_err-tree-clause-deep : goal.returns-in_err-tree-clause-deep
+returns-in_err-tree-clause-deep c =
+    let p = err_from_is_err_and c.from_residual.result c.from_residual.ensures.1 in
+    let refuses = subst (λ ts. Refuses c.in_err-tree.field-0.0 (unit ts)) c.new-cursor.ensures c.in_err-tree.ensures in
+    rw (p.1, p.2) (refused_deep (lexemes c.args.words.now) c.in_err-tree.field-0.0 refuses)

@@ -1,4 +1,4 @@
-use Rattle.std.proofs.Common.{◌≡◌, sym, ◌∙◌, true, false, refl}
+use Rattle.std.proofs.Common.{◌≡◌, sym, ◌∙◌, true, refl}
 use Rattle.rv_parse.specs.Reading.{expect, after, sees}
 use Rattle.rv_parse.proofs.Lists.{place_is}
 use Rattle.rv_parse.proofs.cursor.Cursor.expect.Goals as goal

@@ -1,4 +1,4 @@
-use Rattle.std.proofs.Common.{◌∙◌, sym, ap, List}
+use Rattle.std.proofs.Common.{◌∙◌, ap, List}
 use Rattle.rv_lex.specs.Lexes.{Lexeme}
 use Rattle.rv_parse.specs.Reading.{sees, next, same_kind}
 use Rattle.rv_parse.proofs.Lists.{sees_second_at, sees_second_none}

@@ -1,4 +1,4 @@
-use Rattle.std.proofs.Common.{◌∙◌, sym, ap, ◌≡◌, length, drop, take, arith, rules}
+use Rattle.std.proofs.Common.{◌∙◌, sym, ap, rules}
 use Rattle.rv_parse.specs.Reading.{next}
 use Rattle.rv_parse.proofs.Lists.{rest_is, next_none}
 use Rattle.rv_parse.proofs.cursor.Cursor.skip.Goals as goal

@@ -1,5 +1,5 @@
 use Rattle.std.proofs.Common.{◌≡◌, ◌-◌}
-use Rattle.rv_tree.specs.ExpressionView.{expressions_view, factors_view, terms_view}
+use Rattle.rv_tree.specs.ExpressionView.{expressions_view}
 use Rattle.rv_parse.specs.ExpressionRules.{opening, inside, arguments, arguments_from}
 use Rattle.rv_parse.proofs.expression.Grammar.arguments.Given as goal
 

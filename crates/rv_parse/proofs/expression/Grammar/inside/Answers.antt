@@ -1,4 +1,4 @@
-use Rattle.std.proofs.Common.{◌≡◌, ◌-◌, arith}
+use Rattle.std.proofs.Common.{◌-◌, arith}
 use Rattle.rv_parse.proofs.Depths.{inside_is}
 use Rattle.rv_parse.proofs.expression.Grammar.inside.Goals as goal
 

@@ -1,6 +1,5 @@
-use Rattle.std.proofs.Common.{◌≡◌, ap, arith, rules, zero}
+use Rattle.std.proofs.Common.{arith, rules}
 use Rattle.std.proofs.lemmas.Grind.{common_steps}
-use Rattle.rv_parse.specs.ExpressionRules.{opening}
 use Rattle.rv_parse.proofs.Depths.{opening_is}
 use Rattle.rv_parse.proofs.expression.Grammar.opening.Goals as goal
 

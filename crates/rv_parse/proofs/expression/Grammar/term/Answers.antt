@@ -1,10 +1,9 @@
-use Rattle.std.proofs.Common.{rules, arith, ◌≡◌, length, map}
+use Rattle.std.proofs.Common.{rules, arith}
 use Rattle.std.proofs.lemmas.List.{length-map}
 use Rattle.std.proofs.lemmas.Bool.Decides.{nat_tests}
-use Rattle.std.proofs.lemmas.Grind.{common_steps}
 use Rattle.rv_tree.specs.declared.expression.Expression.{the_lemmas}
-use Rattle.rv_tree.specs.ExpressionView.{expression_view, factors_view, factor_view, terms_view, term_view}
-use Rattle.rv_parse.specs.ExpressionRules.{opening, inside, term, product_of}
+use Rattle.rv_tree.specs.ExpressionView.{expression_view, factors_view}
+use Rattle.rv_parse.specs.ExpressionRules.{opening, inside, term}
 use Rattle.rv_parse.proofs.Depths.{product_is}
 use Rattle.rv_parse.proofs.expression.Grammar.term.Goals as goal
 

@@ -1,6 +1,6 @@
 use Rattle.std.proofs.Common.{rules, arith}
 use Rattle.std.proofs.lemmas.Grind.{common_steps}
-use Rattle.rv_tree.specs.ExpressionView.{expressions_view, factors_view, terms_view}
+use Rattle.rv_tree.specs.ExpressionView.{terms_view}
 use Rattle.rv_parse.specs.ExpressionRules.{opening, inside, terms, terms_from}
 use Rattle.rv_parse.proofs.Turns.{one_more, no_more}
 use Rattle.rv_parse.proofs.expression.Grammar.terms.Goals as goal

@@ -1,6 +1,6 @@
 use Rattle.std.proofs.Common.{rules, arith}
 use Rattle.std.proofs.lemmas.Grind.{common_steps}
-use Rattle.rv_tree.specs.StatementView.{statements_view, elsif_parts_view, alternatives_view, selectives_view}
+use Rattle.rv_tree.specs.StatementView.{alternatives_view}
 use Rattle.rv_parse.specs.StatementRules.{statement, alternatives, alternatives_from}
 use Rattle.rv_parse.proofs.Turns.{one_more, no_more}
 use Rattle.rv_parse.proofs.statement.Nested.alternatives.Goals as goal

@@ -1,6 +1,6 @@
 use Rattle.std.proofs.Common.{rules, arith}
 use Rattle.std.proofs.lemmas.Grind.{common_steps}
-use Rattle.rv_tree.specs.StatementView.{statements_view, elsif_parts_view, alternatives_view, selectives_view}
+use Rattle.rv_tree.specs.StatementView.{selectives_view}
 use Rattle.rv_parse.specs.StatementRules.{statement, selectives, selectives_from}
 use Rattle.rv_parse.proofs.Turns.{one_more, no_more}
 use Rattle.rv_parse.proofs.statement.Nested.selectives.Goals as goal

@@ -1,5 +1,5 @@
 use Rattle.std.proofs.Common.{◌≡◌, ◌-◌}
-use Rattle.rv_tree.specs.StatementView.{statements_view, elsif_parts_view, alternatives_view, selectives_view}
+use Rattle.rv_tree.specs.StatementView.{selectives_view}
 use Rattle.rv_parse.specs.StatementRules.{statement, selectives, selectives_from}
 use Rattle.rv_parse.proofs.statement.Nested.selectives.Given as goal
 

@@ -1,5 +1,5 @@
 use Rattle.std.proofs.Common.{◌≡◌, ◌-◌}
-use Rattle.rv_tree.specs.StatementView.{statements_view, elsif_parts_view, alternatives_view, selectives_view}
+use Rattle.rv_tree.specs.StatementView.{statements_view}
 use Rattle.rv_parse.specs.StatementRules.{statement, statements, statements_from}
 use Rattle.rv_parse.proofs.statement.Nested.statements.Given as goal
 

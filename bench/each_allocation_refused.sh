@@ -1,0 +1,76 @@
+#!/usr/bin/env bash
+# Refuses each allocation of `ravenhost check` in turn, on a script with two unit texts, a shape and a list. Each run must
+# end with status 3, want of memory, and must have written a front of the whole output. It needs a C compiler, for a
+# library of a few lines that stands before malloc.
+set -eu
+cd "$(dirname "$0")/.."
+folder=$(mktemp -d)
+trap 'rm -rf "$folder"' EXIT
+
+cat >"$folder/refuse.c" <<'C'
+#define _GNU_SOURCE
+#include <dlfcn.h>
+#include <errno.h>
+#include <stdlib.h>
+#include <unistd.h>
+
+/* Refuses the call of that number; at the end of a run that didn't come to it, writes `none` to descriptor 9. */
+static long refused = -1, calls;
+static int is_refused(void) {
+    if (refused < 0) {
+        char *number = getenv("REFUSED");
+        refused = number ? atol(number) : 0;
+    }
+    return ++calls == refused;
+}
+static void *next(const char *name) { return dlsym(RTLD_NEXT, name); }
+void *malloc(size_t size) {
+    static void *(*real)(size_t);
+    if (!real) real = next("malloc");
+    if (is_refused()) { errno = ENOMEM; return NULL; }
+    return real(size);
+}
+void *realloc(void *old, size_t size) {
+    static void *(*real)(void *, size_t);
+    if (!real) real = next("realloc");
+    if (is_refused()) { errno = ENOMEM; return NULL; }
+    return real(old, size);
+}
+void *aligned_alloc(size_t alignment, size_t size) {
+    static void *(*real)(size_t, size_t);
+    if (!real) real = next("aligned_alloc");
+    if (is_refused()) { errno = ENOMEM; return NULL; }
+    return real(alignment, size);
+}
+int posix_memalign(void **found, size_t alignment, size_t size) {
+    static int (*real)(void **, size_t, size_t);
+    if (!real) real = next("posix_memalign");
+    if (is_refused()) return ENOMEM;
+    return real(found, alignment, size);
+}
+__attribute__((destructor)) static void end(void) {
+    if (calls < refused && write(9, "none\n", 5) < 0) _exit(9);
+}
+C
+cc -O1 -shared -fPIC -o "$folder/refuse.so" "$folder/refuse.c" -ldl
+
+./ravenhost check <examples/checked.raven >"$folder/whole"
+program=$PWD/crates/ravenhost/out/ravenhost
+number=0
+while true; do
+    number=$((number + 1))
+    status=0
+    REFUSED=$number LD_PRELOAD=$folder/refuse.so "$program" check <examples/checked.raven \
+        >"$folder/written" 2>"$folder/error" 9>"$folder/none" || status=$?
+    if [ -s "$folder/none" ]; then break; fi
+    if [ "$status" -ne 3 ]; then
+        echo "allocation $number refused: status $status"
+        exit 1
+    fi
+    if ! cmp -s -n "$(stat -c %s "$folder/written")" "$folder/written" "$folder/whole"; then
+        echo "allocation $number refused: other output"
+        exit 1
+    fi
+done
+cmp "$folder/written" "$folder/whole"
+echo "each of $((number - 1)) allocations refused: status 3 and a front of the output"

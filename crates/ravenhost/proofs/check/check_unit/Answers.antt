@@ -1,0 +1,10 @@
+use Rattle.std.proofs.Common.{sym, ap, refl, arith}
+use Rattle.rv_tree.specs.UnitView.{unit_view}
+use Rattle.ravenhost.specs.Checks.{OfUnit, unit_line}
+use Rattle.ravenhost.proofs.Checking.{said_tells}
+use Rattle.ravenhost.proofs.check.check_unit.Goals as goal
+
+pub returns-in-Ok : goal.returns-in-Ok
+returns-in-Ok g c =
+    said_tells _ _ c.args.section.now.line (OfUnit c.args.section.now.text.now) (unit_line c.as_str-name.result.now) c.say.result
+    (unit_view c.in-Ok.unit, omega (arith, c.if-section-gt-MOST_UNIT_BYTES.false), c.in-Ok.ensures.sound, ap unit_line c.as_str-name.ensures.value) (c.say.ensures _ c.unit_line.ensures)
