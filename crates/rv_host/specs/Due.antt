@@ -54,17 +54,17 @@ one_or_none false = pos 0
 
 -- the answer to Suspend_Until_True: it waits where the state is False (D.10)
 abbrev pub suspended : ℕ → Bool → Bool → Bool → Answer
-suspended number blocking waited is_true =
+suspended number blocking waited now_true =
     if blocking then Refused Rules.Blocking 0 number
     else (if waited then Refused Rules.Waiter 0 number
-    else (if is_true then nothing_more else Suspended))
+    else (if now_true then nothing_more else Suspended))
 
 -- the answer to a call of an operation of a suspension object that the list grants (D.10)
 abbrev pub performed : ℕ → Bool → Bool → Bool → SuspensionOperation → Answer
-performed number blocking waited is_true SetTrue = nothing_more
-performed number blocking waited is_true SetFalse = nothing_more
-performed number blocking waited is_true CurrentState = Accepted (one_or_none is_true)
-performed number blocking waited is_true SuspendUntilTrue = suspended number blocking waited is_true
+performed number blocking waited now_true SetTrue = nothing_more
+performed number blocking waited now_true SetFalse = nothing_more
+performed number blocking waited now_true CurrentState = Accepted (one_or_none now_true)
+performed number blocking waited now_true SuspendUntilTrue = suspended number blocking waited now_true
 
 -- the answer to a call, or to a fired line, of this target
 abbrev pub due_call : History → ℕ → Request → ℕ → Target → Answer
