@@ -11,3 +11,4 @@ pub mod Growing
 pub mod Scripts
 pub mod Scripting
 pub mod Checked
+pub mod Inputs

@@ -32,7 +32,7 @@ still_long bytes script e long =
     let same : length bytes ≡ min 16777217 (length script) = ap length e ∙ length-take 16777217 script in
     omega arith
 
-refused_read : (bytes script : List ℕ) (what : What) → bytes ≡ take 16777217 script → IsRefused script what → IsRefused bytes what
+pub refused_read : (bytes script : List ℕ) (what : What) → bytes ≡ take 16777217 script → IsRefused script what → IsRefused bytes what
 refused_read bytes script Whats.TooLong e refused = still_long bytes script e refused
 refused_read bytes script Whats.NotText e refused =
     subst (λ (l : List ℕ). IsRefused l Whats.NotText) (sym (e ∙ take_all 16777217 script (omega (arith, refused.0)))) refused

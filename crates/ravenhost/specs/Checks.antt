@@ -21,6 +21,7 @@ use Rattle.rv_tree.specs.Derives.{Derives}
 use Rattle.rv_parse.specs.Texts.{ReadsTree, OfDepth}
 use Rattle.rv_parse.specs.declared.fault.ParseFault.{ParseFault}
 use Rattle.rv_parse.specs.declared.fault.ParseFault.TheVariants as Parses
+use Rattle.ravenhost.specs.Whole.{IsScript, IsRefused}
 use Rattle.ravenhost.specs.declared.check.Checked.{Checked}
 use Rattle.ravenhost.specs.declared.check.Checked.TheVariants.{Settings, UnitText, Shape as ShapeText, AccessList}
 use Rattle.ravenhost.specs.declared.failure.Failure.{Failure}
@@ -153,3 +154,12 @@ TellsAll old new is (Err (Refused told)) = (said : List ℕ) × is said (Some to
 TellsAll old new is (Err Usage) = ⊥
 TellsAll old new is (Err Memory) = Unit {0}
 TellsAll old new is (Err (Io error)) = Unit {0}
+
+-- nothing is said of bytes that are no script, and this is told at line 1
+abbrev pub RefusesBytes : What → List ℕ → Option ScriptFault → Type 0
+RefusesBytes what said told = (said ≡ []) × (told ≡ Some (record { line = 1; what = what }))
+
+-- the text of a script is looked at, and bytes that are none are refused
+pub record ChecksBytes (old new : Option (List ℕ)) (bytes : List ℕ) (result : Result (Unit {0}) Failure) : Type 0 where
+  pub text : IsScript bytes → TellsAll old new (ChecksScript bytes) result
+  pub refused : (what : What) → IsRefused bytes what → TellsAll old new (RefusesBytes what) result

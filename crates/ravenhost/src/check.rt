@@ -1,7 +1,7 @@
 //! Looks at the sections of a script, one by one, and says of each that it is well formed.
 
-ghost use Rattle.std.specs.Prelude.{◌≡◌, ◌<◌, ◌^◌, ℕ, true, List, [], length, IfOk, string_bytes};
-ghost use Rattle.ravenhost.specs.Checks.{checked_as, unit_line, shape_line, list_line, Said, unit_failure, shape_failure, list_failure, OfUnit, OfShape, OfList, as_section, Tells, Checks, ChecksScript, TellsAll};
+ghost use Rattle.std.specs.Prelude.{◌≡◌, ◌<◌, ◌^◌, ℕ, true, List, [], length, IfOk, IfSome, string_bytes};
+ghost use Rattle.ravenhost.specs.Checks.{checked_as, unit_line, shape_line, list_line, Said, unit_failure, shape_failure, list_failure, OfUnit, OfShape, OfList, as_section, Tells, Checks, ChecksBytes, ChecksScript, TellsAll};
 
 use crate::acts::refused;
 use crate::failure::Failure;
@@ -219,6 +219,16 @@ fn check_text<W: Write>(alloc: Global, writer: &mut W, text: &str) -> Result<(),
     }
 }
 
+// Looks at the script that bytes are, if they are text.
+fn check_bytes<W: Write>(alloc: Global, writer: &mut W, bytes: &[u8]) -> Result<(), Failure>
+    ensures { ChecksBytes (W.contents writer.old) (W.contents writer.new) bytes.now result }
+{
+    match text_of(bytes) {
+        Ok(text) => check_text(alloc, writer, text),
+        Err(what) => Err(refused(1, what)),
+    }
+}
+
 /// Looks at the sections of the script that a reader gives, in order, and writes a line for each
 /// that is well formed, but none for settings. It stops at the first fault. A unit text is well
 /// formed so far where it derives a tree; the shapes must fit one another.
@@ -226,14 +236,12 @@ pub fn check<R: Read, W: Write>(
     alloc: Global,
     reader: &mut R,
     writer: &mut W,
-) -> Result<(), Failure> {
-    let bytes = match read_script(alloc, reader) {
-        Ok(bytes) => bytes,
-        Err(ReadError::Memory) => return Err(Failure::Memory),
-        Err(ReadError::Io(e)) => return Err(Failure::Io(e)),
-    };
-    match text_of(bytes.as_slice()) {
-        Ok(text) => check_text(alloc, writer, text),
-        Err(what) => Err(refused(1, what)),
+) -> Result<(), Failure>
+    ensures { IfSome (R.remaining reader.old) (λ script. ChecksBytes (W.contents writer.old) (W.contents writer.new) script result) }
+{
+    match read_script(alloc, reader) {
+        Ok(bytes) => check_bytes(alloc, writer, bytes.as_slice()),
+        Err(ReadError::Memory) => Err(Failure::Memory),
+        Err(ReadError::Io(e)) => Err(Failure::Io(e)),
     }
 }
