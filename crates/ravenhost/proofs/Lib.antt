@@ -12,3 +12,4 @@ pub mod Scripts
 pub mod Scripting
 pub mod Checked
 pub mod Inputs
+pub mod Named

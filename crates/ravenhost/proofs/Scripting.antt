@@ -26,7 +26,6 @@ use Rattle.ravenhost.specs.Asking.{AskUntil}
 use Rattle.ravenhost.specs.Deeds.{Deed, deed_of, line_of}
 use Rattle.ravenhost.specs.Journal.{journal_text}
 use Rattle.ravenhost.specs.Scripted.{Played, tell, going, plays, default_capacity, played, commands, answers, told_text}
-use Rattle.ravenhost.proofs.Growing.{text_is}
 use Rattle.ravenhost.proofs.Telling.{never}
 
 -- Acts
@@ -106,14 +105,9 @@ legal_on : (r : Result Deed What) (h : History) (line : ℕ) (rest : History →
 legal_on (Err what) h line rest legal more = legal
 legal_on (Ok deed) h line rest legal more = more (tell h deed).after (legal_after deed.command h legal)
 
-legal_from : (h : History) (acts : List Act) → Legal served h → Legal served (plays h acts).history
+pub legal_from : (h : History) (acts : List Act) → Legal served h → Legal served (plays h acts).history
 legal_from h [] legal = legal
 legal_from h (act ∷ acts) legal = legal_on (deed_of h.shapes act) h (line_of act) (λ k. plays k acts) legal (λ k. legal_from k acts)
 
 pub script_legal : (script : List ℕ) → Legal served (played script).history
 script_legal script = legal_from (empty default_capacity) (acts_of script) (refl, refl)
-
--- The journal
-
-pub recorded_lines : (script : List ℕ) → told_text false (played script) ≡ journal_text (played script).history
-recorded_lines script = sym (text_is false (empty default_capacity) (acts_of script) refl)

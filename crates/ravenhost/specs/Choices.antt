@@ -1,9 +1,42 @@
--- The words of the command line that choose (own).
-use Rattle.std.specs.Prelude.{ℕ, Bool, List, codes}
+-- The command line (own): `play`, which may be given `--all`, and `check`. What words come to is
+-- what `clap` says of this command.
+use Rattle.std.specs.Prelude.{◌≡◌, Bool, true, false, List, [], ◌∷◌, Option, Some, codes}
+use Rattle.clap.specs.Words.{App, Row, Rule, new_app, new_rule, subcommand_of, with_rule, with_subcommand}
+use Rattle.clap.specs.Simple.{new_shape, on_top}
+use Rattle.clap.specs.Walk.{Text, one_of}
+use Rattle.clap.specs.declared.builder.action.ArgAction.TheVariants.{SetTrue}
 use Rattle.ravenhost.specs.declared.chosen.Choice.{Choice}
 use Rattle.ravenhost.specs.declared.chosen.Choice.TheVariants.{Play, Check}
 
--- the subcommand
-abbrev pub word_of : Choice → List ℕ
-word_of (Play all) = codes "play"
-word_of Check = codes "check"
+-- the flag `--all`
+abbrev pub all_flag : Rule
+all_flag = record (new_rule (codes "all")) { long = Some (codes "all"); action = Some SetTrue }
+
+-- the program, of which one subcommand must be named
+abbrev pub alone : App
+alone = on_top (λ s. record s { subcommand_required = true }) (new_app (codes "ravenhost"))
+
+abbrev pub program : App
+program = with_subcommand (with_subcommand alone (with_rule (new_app (codes "play")) all_flag).top)
+    (new_shape (codes "check"))
+
+-- the text of a flag, as a flag
+abbrev pub IsFlag : Option Text → Bool → Type 0
+IsFlag text flag = (text ≡ Some (codes "true") → flag ≡ true)
+    × (text ≡ Some (codes "false") → flag ≡ false)
+
+-- a subcommand with what it was given is a choice
+abbrev pub Names : Text × List Row → Choice → Type 0
+Names found (Play all) = (found.0 ≡ codes "play") × IsFlag (one_of (codes "all") found.1) all
+Names found Check = found.0 ≡ codes "check"
+
+-- the words name a choice
+abbrev pub Chooses : List Text → Choice → Type 0
+Chooses words choice = (found : Text × List Row) × (subcommand_of program words ≡ Some found)
+    × Names found choice
+
+-- the plain line of each choice, behind the program's name
+abbrev pub line_of : Choice → List Text
+line_of (Play false) = codes "play" ∷ []
+line_of (Play true) = codes "play" ∷ codes "--all" ∷ []
+line_of Check = codes "check" ∷ []

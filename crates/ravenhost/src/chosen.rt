@@ -1,8 +1,9 @@
 //! The command line: what the program is to do.
 
-ghost use Rattle.std.specs.Prelude.{◌≡◌, Some, IfSome};
-ghost use Rattle.clap.specs.Words.{subcommand_name_of};
-ghost use Rattle.ravenhost.specs.Choices.{word_of};
+ghost use Rattle.std.specs.Prelude.{◌≡◌, ◌∷◌, List, Some, IfSome, IfNone, IfOk, IfErr, codes, map};
+ghost use Rattle.clap.specs.Words.{app_of, subcommand_rows_of};
+ghost use Rattle.clap.specs.Walk.{Row, Text};
+ghost use Rattle.ravenhost.specs.Choices.{Chooses, Names, line_of, program};
 
 use clap::error::ErrorKind;
 use clap::{Arg, ArgAction, ArgMatches, Command, Error};
@@ -29,7 +30,9 @@ pub enum Unchosen {
 }
 
 // The command line that the program takes.
-fn command<'a>(alloc: Global) -> Result<Command<'a>, AllocError> {
+fn command<'a>(alloc: Global) -> Result<Command<'a>, AllocError>
+    ensures { IfOk result (λ c. app_of c ≡ program) }
+{
     let all = Arg::new(alloc, "all")
         .long("all")
         .action(ArgAction::SetTrue);
@@ -43,7 +46,10 @@ fn command<'a>(alloc: Global) -> Result<Command<'a>, AllocError> {
 
 // What a command line that was read chooses.
 fn choice_of(matches: &ArgMatches<'_>) -> Option<Choice>
-    ensures { IfSome result (λ choice. subcommand_name_of matches.now ≡ Some (word_of choice)) }
+    ensures found { IfSome result (λ choice. (found : Text × List Row)
+        × (subcommand_rows_of matches.now ≡ Some found) × Names found choice) }
+    ensures none { IfNone result ((found : Text × List Row) → subcommand_rows_of matches.now ≡ Some found
+        → (found.0 ≡ codes "play" → ⊥) × (found.0 ≡ codes "check" → ⊥)) }
 {
     let (name, words) = matches.subcommand()?;
     if name == "play" {
@@ -56,7 +62,11 @@ fn choice_of(matches: &ArgMatches<'_>) -> Option<Choice>
 }
 
 /// What the words of a command line choose, the first of which is the program's name.
-pub fn chosen<'a>(alloc: Global, words: &'a [&'a str]) -> Result<Choice, Unchosen> {
+pub fn chosen<'a>(alloc: Global, words: &'a [&'a str]) -> Result<Choice, Unchosen>
+    ensures ok { IfOk result (λ choice. Chooses (map (λ w. w.now) words.now) choice) }
+    ensures line { (name : Text) → (choice : Choice) → map (λ w. w.now) words.now ≡ name ∷ line_of choice
+        → IfOk result (λ c. c ≡ choice) × IfErr result (λ why. why ≡ NoMemory) }
+{
     let Ok(command) = command(alloc) else {
         return Err(Unchosen::NoMemory);
     };

@@ -26,8 +26,8 @@ pub fn scripts_are_steps()
     ensures legal { (script : List ℕ) → Legal served (played script).history }
 {}
 
-/// Of the lines that a script tells, those of recorded answers are its journal.
-#[tactic(auto, using(crate::proofs::Scripting::recorded_lines))]
+/// Of the lines that a script tells, those of recorded answers are its journal, with the names of all its units.
+#[tactic(auto, using(crate::proofs::Named::recorded_lines))]
 pub fn recorded_lines_are_the_journal()
     ensures { (script : List ℕ) → let p = played script in
         told_text false p ≡ journal_text p.history }

@@ -176,8 +176,8 @@ delay_not h true c next e = cc
 delay_not h false true next e = cc
 delay_not h false false next e = cc
 
-pub only_ends : (serves : Service) (h : History) (a : ℕ) (r : Request) (next : Next) → out serves h a r ≡ Answers.Done next → is_complete r ≡ true
-only_ends serves h a r next e = by_request r (answered serves h a r (Words.Done next) (ap recorded e)).said
+pub done_at_ends : (serves : Service) (h : History) (a : ℕ) (r : Request) (next : Next) → recorded (out serves h a r) ≡ Some (Words.Done next) → is_complete r ≡ true
+done_at_ends serves h a r next e = by_request r (answered serves h a r (Words.Done next) e).said
   where
     by_request : (r : Request) → recorded (table h a r) ≡ Some (Words.Done next) → is_complete r ≡ true
     by_request (Call o p vs) f = absurd (call_not h a (Call o p vs) o (target h.shapes o p) next f)
@@ -189,6 +189,9 @@ only_ends serves h a r next e = by_request r (answered serves h a r (Words.Done 
     by_request Quit f = absurd (cc)
     by_request (Tick n) f = absurd (cc)
     by_request Halt f = absurd (cc)
+
+pub only_ends : (serves : Service) (h : History) (a : ℕ) (r : Request) (next : Next) → out serves h a r ≡ Answers.Done next → is_complete r ≡ true
+only_ends serves h a r next e = done_at_ends serves h a r next (ap recorded e)
 
 -- What a denial changes.
 

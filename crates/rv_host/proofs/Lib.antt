@@ -37,3 +37,4 @@ pub mod Changing
 pub mod Running
 pub mod Marking
 pub mod Paging
+pub mod Naming

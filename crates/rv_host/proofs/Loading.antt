@@ -1,6 +1,6 @@
 -- What a load costs, and how many tasks it may bring.
-use Rattle.std.proofs.Common.{◌≡◌, ℕ, suc, ◌+◌, ◌≤◌, List, [], ◌∷◌, ◌++◌, length, Option, Some, None, Bool, true, false, arith, ap, sym, ◌∙◌, refl, length-append}
-use Rattle.std.specs.Prelude.{nat_le, nat_lt, ◌||◌, if◌then◌else◌, is_some}
+use Rattle.std.proofs.Common.{◌≡◌, ℕ, ◌+◌, ◌≤◌, List, [], ◌∷◌, ◌++◌, length, Option, Some, None, Bool, true, false, arith, refl, length-append}
+use Rattle.std.specs.Prelude.{nat_le, nat_lt, ◌||◌, if◌then◌else◌}
 use Rattle.std.specs.List.{list_any}
 use Rattle.std.proofs.lemmas.Bool.Decides.{nat_tests}
 use Rattle.std.proofs.lemmas.List.{length-map}
@@ -11,7 +11,6 @@ use Rattle.rv_event.specs.Fits.{fault, name_taken, too_many, crowded}
 use Rattle.rv_event.specs.declared.fault.ShapeFault.{ShapeFault}
 use Rattle.rv_event.specs.declared.fault.ShapeFault.TheVariants.{NameTaken, TooMany}
 use Rattle.rv_event.specs.Past.{under_way, halted}
-use Rattle.rv_event.specs.declared.entry.Entry.{Entry}
 use Rattle.rv_event.specs.declared.entry.Entry.TheVariants.{Load}
 use Rattle.rv_host.specs.History.{History}
 use Rattle.rv_host.specs.Owed.{has_room, each, dues, halt_due, actors}

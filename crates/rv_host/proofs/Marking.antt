@@ -1,5 +1,5 @@
 -- The mark of a list change owes nothing.
-use Rattle.std.proofs.Common.{◌≡◌, ℕ, zero, suc, ◌+◌, ◌∷◌, ◌∙◌, List, ap, refl, length}
+use Rattle.std.proofs.Common.{◌≡◌, ℕ, zero, suc, ◌+◌, ◌∷◌, List, ap, refl, length}
 use Rattle.rv_event.specs.Shape.{Shape}
 use Rattle.rv_event.specs.Past.{halted, under_way}
 use Rattle.rv_event.specs.declared.entry.Entry.{Entry}

@@ -1,5 +1,5 @@
 -- A history as a scan has seen it (own).
-use Rattle.std.specs.Prelude.{◌≡◌, ℕ, reverse}
+use Rattle.std.specs.Prelude.{reverse}
 use Rattle.rv_host.specs.declared.seen.Seen.{Seen}
 use Rattle.rv_host.specs.History.{History}
 use Rattle.rv_host.specs.Found.{IsFound}
