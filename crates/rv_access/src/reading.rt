@@ -108,9 +108,9 @@ fn list_of(alloc: Global, text: &str) -> Result<AccessList, ListFault>
     Ok(list)
 }
 
-/// The list that a text holds: each of its lines but blank ones and comments is a line of the
-/// list, `allow` or `deny` and three words, and there are at most 512. Err names the first bad line,
-/// or is NoMemory where memory was refused.
+/// The list that a text holds: each of its lines but blank ones and comments is a line of the list,
+/// `allow` or `deny` and three words, and there are at most 512. Err names the first bad line, or
+/// is NoMemory where memory was refused.
 pub fn read_list(alloc: Global, text: &str) -> Result<AccessList, ListFault>
     // What is read stands there.
     ensures found { IfOk result (λ list. IsListOf text.now list) }
