@@ -13,9 +13,11 @@ const UNITS: &str =
 
 const LOADS: &str = "1 operator load Plant -> accepted 0\n2 operator load Nav -> accepted 0\n";
 
-/// What follows the units, the journal behind the loads, and the fault; none: the script is played
-/// whole. The first line behind the units is line 10.
-const FAULTS: [(&str, &str, &str); 45] = [
+// Tables of what follows the units, the journal behind the loads, and the fault; none: the script is
+// played whole. The first line behind the units is line 10.
+
+/// Sections and shapes.
+const SECTION_FAULTS: [(&str, &str, &str); 19] = [
     // Sections.
     ("@unit\n", "", "script line 10: BadSection"),
     ("@journal\n", "", "script line 10: BadSection"),
@@ -69,7 +71,10 @@ const FAULTS: [(&str, &str, &str); 45] = [
         "",
         "script line 10: shape TooMany",
     ),
-    // Lists.
+];
+
+/// Lists.
+const LIST_FAULTS: [(&str, &str, &str); 6] = [
     (
         "@list\nallow * *\n",
         "",
@@ -100,6 +105,10 @@ const FAULTS: [(&str, &str, &str); 45] = [
         "",
         "script line 11: list BadName at line 1",
     ),
+];
+
+/// Steps and names.
+const STEP_FAULTS: [(&str, &str, &str); 13] = [
     // Steps.
     ("@steps\nNav.Pilot\n", "", "script line 11: BadStep"),
     (
@@ -147,7 +156,10 @@ const FAULTS: [(&str, &str, &str); 45] = [
         "",
         "script line 11: UnknownName",
     ),
-    // What came before a fault stays written.
+];
+
+/// What came before a fault stays written; and scripts without a fault.
+const WHOLE: [(&str, &str, &str); 7] = [
     (
         "@list\nallow * * *\n@steps\nNav.Pilot call Plant.Valve Get\nNav.Pilot jump\nNav.Pilot resume\n",
         "3 operator list [allow * * *] -> accepted 0\n4 Nav.Pilot call Plant.Valve Get -> started\n",
@@ -196,14 +208,41 @@ fn gives(alloc: Global, script: &[u8], journal: &str, fault: &str) -> Result<boo
     Ok(same && status_of(&outcome) == status)
 }
 
+// Whether the units with this behind them give this journal behind the loads, and this fault.
+fn tells(alloc: Global, rest: &str, journal: &str, fault: &str) -> Result<bool, Fail> {
+    let script = format!(in alloc; "{UNITS}{rest}")?;
+    let wanted = format!(in alloc; "{LOADS}{journal}")?;
+    gives(alloc, script.as_bytes(), wanted.as_str(), fault)
+}
+
 #[test]
-fn faults_are_told_at_their_lines(rt: HostRuntime) -> Result<(), Fail> {
-    let alloc = rt.alloc();
-    for (rest, journal, fault) in FAULTS {
-        let script = format!(in alloc; "{UNITS}{rest}")?;
-        let wanted = format!(in alloc; "{LOADS}{journal}")?;
-        let same = gives(alloc, script.as_bytes(), wanted.as_str(), fault)?;
-        assert!(rt; same, "at {rest:?}");
+fn faults_of_sections_and_shapes_are_told(rt: HostRuntime) -> Result<(), Fail> {
+    for (rest, journal, fault) in SECTION_FAULTS {
+        assert!(rt; tells(rt.alloc(), rest, journal, fault)?, "at {rest:?}");
+    }
+    Ok(())
+}
+
+#[test]
+fn faults_of_lists_are_told(rt: HostRuntime) -> Result<(), Fail> {
+    for (rest, journal, fault) in LIST_FAULTS {
+        assert!(rt; tells(rt.alloc(), rest, journal, fault)?, "at {rest:?}");
+    }
+    Ok(())
+}
+
+#[test]
+fn faults_of_steps_are_told(rt: HostRuntime) -> Result<(), Fail> {
+    for (rest, journal, fault) in STEP_FAULTS {
+        assert!(rt; tells(rt.alloc(), rest, journal, fault)?, "at {rest:?}");
+    }
+    Ok(())
+}
+
+#[test]
+fn what_came_before_stays(rt: HostRuntime) -> Result<(), Fail> {
+    for (rest, journal, fault) in WHOLE {
+        assert!(rt; tells(rt.alloc(), rest, journal, fault)?, "at {rest:?}");
     }
     Ok(())
 }
