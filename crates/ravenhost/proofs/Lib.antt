@@ -13,3 +13,4 @@ pub mod Scripting
 pub mod Checked
 pub mod Inputs
 pub mod Named
+pub mod Choosing

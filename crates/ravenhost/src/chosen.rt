@@ -3,6 +3,7 @@
 ghost use Rattle.std.specs.Prelude.{◌≡◌, ◌∷◌, List, Some, IfSome, IfNone, IfOk, IfErr, codes, map};
 ghost use Rattle.clap.specs.Words.{app_of, subcommand_rows_of};
 ghost use Rattle.clap.specs.Walk.{Row, Text};
+ghost use Rattle.ravenhost.specs.declared.chosen.Unchosen.TheVariants as Unchosen;
 ghost use Rattle.ravenhost.specs.Choices.{Chooses, Names, line_of, program};
 
 use clap::error::ErrorKind;
@@ -35,10 +36,16 @@ fn command<'a>(alloc: Global) -> Result<Command<'a>, AllocError>
 {
     let all = Arg::new(alloc, "all")
         .long("all")
+        .help("Print unrecorded answers too, as lines that begin with -")
         .action(ArgAction::SetTrue);
-    let play = Command::new(alloc, "play").arg(all)?;
-    let check = Command::new(alloc, "check");
+    let play = Command::new(alloc, "play")
+        .about("Carry out a script from standard input, and print its journal")
+        .arg(all)?;
+    let check = Command::new(alloc, "check").about(
+        "Say of each section of a script from standard input whether it is well formed",
+    );
     Command::new(alloc, "ravenhost")
+        .about("Protected objects of several units under an access list, in the profile Ravenscar")
         .subcommand_required(true)
         .subcommand(play)?
         .subcommand(check)
@@ -65,7 +72,7 @@ fn choice_of(matches: &ArgMatches<'_>) -> Option<Choice>
 pub fn chosen<'a>(alloc: Global, words: &'a [&'a str]) -> Result<Choice, Unchosen>
     ensures ok { IfOk result (λ choice. Chooses (map (λ w. w.now) words.now) choice) }
     ensures line { (name : Text) → (choice : Choice) → map (λ w. w.now) words.now ≡ name ∷ line_of choice
-        → IfOk result (λ c. c ≡ choice) × IfErr result (λ why. why ≡ NoMemory) }
+        → IfOk result (λ c. c ≡ choice) × IfErr result (λ why. why ≡ Unchosen.NoMemory) }
 {
     let Ok(command) = command(alloc) else {
         return Err(Unchosen::NoMemory);

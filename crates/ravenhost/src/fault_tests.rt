@@ -15,7 +15,7 @@ const LOADS: &str = "1 operator load Plant -> accepted 0\n2 operator load Nav ->
 
 /// What follows the units, the journal behind the loads, and the fault; none: the script is played
 /// whole. The first line behind the units is line 10.
-const FAULTS: [(&str, &str, &str); 44] = [
+const FAULTS: [(&str, &str, &str); 45] = [
     // Sections.
     ("@unit\n", "", "script line 10: BadSection"),
     ("@journal\n", "", "script line 10: BadSection"),
@@ -79,6 +79,11 @@ const FAULTS: [(&str, &str, &str); 44] = [
         "@list\n\n# x\nALLOW * * *\n",
         "",
         "script line 10: list BadWord at line 3",
+    ),
+    (
+        "@list\nallow a b c\n",
+        "",
+        "script line 10: list BadName at line 1",
     ),
     (
         "@list\nallow * * *\ndeny a b c\n",
@@ -211,6 +216,37 @@ fn scripts_need_no_units(rt: HostRuntime) -> Result<(), Fail> {
     assert!(rt; gives(alloc, b"\n x\n@steps\n", "", "script line 2: BadSection")?);
     assert!(rt; gives(alloc, b"@list\n", "1 operator list [] -> accepted 0\n", "")?);
     assert!(rt; gives(alloc, b"@list\n\xff", "", "script line 1: NotText")?);
+    Ok(())
+}
+
+// The units, and a list of that many lines.
+fn listing(alloc: Global, lines: usize) -> Result<String, Fail> {
+    let mut script = format!(in alloc; "{UNITS}@list\n")?;
+    for _ in 0..lines {
+        script.push_str("allow * * *\n")?;
+    }
+    Ok(script)
+}
+
+#[test]
+fn lists_have_at_most_512_lines(rt: HostRuntime) -> Result<(), Fail> {
+    let alloc = rt.alloc();
+    let most = listing(alloc, 512)?;
+    let mut journal = format!(in alloc; "{LOADS}3 operator list [allow * * *")?;
+    for _ in 1..512 {
+        journal.push_str("; allow * * *")?;
+    }
+    journal.push_str("] -> accepted 0\n")?;
+    assert!(rt; gives(alloc, most.as_bytes(), journal.as_str(), "")?);
+    let more = listing(alloc, 513)?;
+    assert!(rt;
+        gives(
+            alloc,
+            more.as_bytes(),
+            LOADS,
+            "script line 10: list TooMany at line 513"
+        )?
+    );
     Ok(())
 }
 

@@ -11,7 +11,7 @@ ghost use Rattle.rv_host.specs.Rules as rules;
 ghost use Rattle.rv_host.specs.Subject as subjects;
 ghost use Rattle.rv_host.specs.Seen.{IsSeen, history_of};
 
-use crate::judging::{Tests, decide_by, is_entry, is_function, opens_among};
+use crate::judging::{Tests, decide_by, is_function, opens_among};
 use crate::replay::{object_with, queue_of, stack_of};
 use crate::seen::Seen;
 use crate::standing::{base_priority, subject};
@@ -95,7 +95,7 @@ fn is_closed(seen: &Seen, kind: Kind) -> bool
     requires { IsSeen seen.now }
     ensures { result ≡ exclusion.is_barred (history_of seen.now) seen.now.object kind }
 {
-    is_entry(kind) && !opens_at(seen.catalogue, seen.object, &seen.scan.scalars())
+    kind.is_entry() && !opens_at(seen.catalogue, seen.object, &seen.scan.scalars())
 }
 
 // Whether the queue of the object is full.
@@ -168,7 +168,7 @@ pub fn tests_of(seen: &Seen, actor: usize, kind: Kind, ceiling: usize, denied: b
 {
     Tests {
         denied,
-        blocking: 0 < count_held(seen, actor) && is_entry(kind),
+        blocking: 0 < count_held(seen, actor) && kind.is_entry(),
         reentry: is_holding(seen, actor, seen.object),
         above: is_above(seen, actor, ceiling),
         busy: is_busy(seen, is_function(kind)),

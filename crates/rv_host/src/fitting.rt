@@ -18,9 +18,7 @@ use crate::values::{fit_exit, fit_parameters, fit_scalars};
 use rv_event::actor::Callee;
 use rv_event::catalogue::Catalogue;
 use rv_event::entry::{Body, Exit, Mode, Request, Stance};
-
-/// How many objects an actor may hold, one inside another.
-const MOST_HELD: usize = 16;
+use rv_prio::MOST_HELD;
 
 /// The actor's innermost body.
 pub fn innermost(seen: &Seen, actor: usize) -> Option<Body>

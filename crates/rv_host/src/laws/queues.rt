@@ -21,7 +21,7 @@ ghost use Rattle.rv_host.specs.Owed.{IsSolvent};
 /// While the host isn't halted, an object that nobody holds exclusively, so a free one too, has a
 /// closed barrier or an empty queue.
 #[tactic(auto, using(crate::proofs::Settled::free_settled))]
-pub fn free_objects_keep_nobody_waiting()
+pub fn free_objects_are_closed_or_unqueued()
     ensures { (serves : Service) (h : History) (object : ℕ) → Legal serves h → halted h.past ≡ false →
         list_any (is_exclusive_on h.shapes object) (under_way h.shapes h.past) ≡ false →
         (is_open h object ≡ false) ⊎ (queue object h.past ≡ []) }

@@ -19,7 +19,7 @@ pub fn refusals_name_the_first_rule()
         IsRefusal h actor request rule line version }
 {}
 
-/// It changes no scalars, no queue, no barrier and nothing that is held.
+/// It changes no scalars, no queue, no barrier, nothing that is held, and nobody's exclusion.
 #[tactic(auto, using(crate::proofs::Refused::refused_leaves))]
 pub fn refusals_leave_all()
     ensures { (h : History) (actor : ℕ) (request : Request) (rule : Rule) (line version : ℕ) →

@@ -1,0 +1,19 @@
+use Rattle.std.proofs.Common.{rules, ◌≡◌, ◌∷◌, ◌∙◌, List, Some, Option, ap, ap₂, sym, refl, map, true}
+use Rattle.clap.specs.Words.{app_of, is_simple, subcommand_of, subcommand_rows_of, takes}
+use Rattle.clap.specs.Walk.{Text}
+use Rattle.ravenhost.specs.declared.chosen.Choice.{Choice}
+use Rattle.ravenhost.specs.Choices.{line_of, program}
+use Rattle.ravenhost.proofs.Choosing.{simple, taken, line_chosen}
+use Rattle.ravenhost.proofs.chosen.chosen.Goals as goal
+
+pub returns-in-Err-clause-line : goal.returns-in-Err-clause-line
+returns-in-Err-clause-line c name choice is =
+    let taking = ap₂ takes c.in-Ok.ensures is ∙ taken name choice in
+    let kind = c.in-Err.ensures.passes taking in
+    absurd (search rules)
+
+pub returns-clause-line : goal.returns-clause-line
+returns-clause-line c name choice is =
+    let matches = (c.in-Ok-try_get_matches_from.ensures.matches (ap is_simple c.in-Ok.ensures ∙ simple)).1 in
+    let chosen = line_chosen name choice c.choice_of.result (subcommand_rows_of c.in-Ok-try_get_matches_from.matches) (matches ∙ ap₂ subcommand_of c.in-Ok.ensures is) c.choice_of.ensures.found c.choice_of.ensures.none in
+    search rules
