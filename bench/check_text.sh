@@ -1,8 +1,18 @@
 #!/usr/bin/env bash
 # Measures how long the built program checks a unit text of 250,000 bytes and one of 25,000, over its start-up, and in
-# how much memory. Fails where the larger takes 1 second or more, over 15 times the smaller, or 256 MiB or more.
+# how much memory. Fails where the larger takes 1 second or more, over 15 times the smaller, or 256 MiB or more. It needs
+# awk, GNU date (for %N) and GNU time (the program, for %M).
 set -eu
-cd "$(dirname "$0")/.."
+
+missing() {
+    echo "bench/check_text.sh: $1 is missing" >&2
+    exit 127
+}
+command -v awk >/dev/null || missing awk
+case $(date +%N) in '' | *[!0-9]*) missing "GNU date" ;; esac
+command time -f %M true >/dev/null 2>&1 || missing "GNU time (Debian's package time)"
+
+cd "$(dirname "$(readlink -f "$0")")/.."
 folder=$(mktemp -d)
 trap 'rm -rf "$folder"' EXIT
 
@@ -47,7 +57,10 @@ start=$(least "$folder/empty")
 large=$(($(least "$folder/large") - start))
 small=$(($(least "$folder/small") - start))
 if [ "$small" -lt 1 ]; then small=1; fi
-memory=$({ command time -f %M "$program" check <"$folder/large" >/dev/null; } 2>&1)
+memory=$({ command time -f %M "$program" check <"$folder/large" >/dev/null; } 2>&1) || {
+    echo "bench/check_text.sh: $memory" >&2
+    exit 1
+}
 echo "start-up $start us, $(wc -c <"$folder/large") bytes in $large us, $(wc -c <"$folder/small") bytes in $small us"
 echo "ratio $((large * 10 / small)) tenths, memory $memory KiB"
 [ "$large" -lt 1000000 ] && [ "$large" -le $((15 * small)) ] && [ "$memory" -lt 262144 ]

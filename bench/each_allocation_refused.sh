@@ -3,7 +3,11 @@
 # end with status 3, want of memory, and must have written a front of the whole output. It needs a C compiler, for a
 # library of a few lines that stands before malloc.
 set -eu
-cd "$(dirname "$0")/.."
+command -v cc >/dev/null || {
+    echo "bench/each_allocation_refused.sh: cc is missing" >&2
+    exit 127
+}
+cd "$(dirname "$(readlink -f "$0")")/.."
 folder=$(mktemp -d)
 trap 'rm -rf "$folder"' EXIT
 

@@ -1,7 +1,17 @@
 #!/usr/bin/env bash
-# Measures how long the built program plays a script of 4,000 steps at the default capacity, and in how much memory. It is no test.
+# Measures how long the built program plays a script of 4,000 steps at the default capacity, and in how much memory. It is
+# no test. It needs sed, seq and python3.
 set -eu
-cd "$(dirname "$0")/.."
+
+missing() {
+    echo "bench/play_scan.sh: $1 is missing" >&2
+    exit 127
+}
+command -v sed >/dev/null || missing sed
+command -v seq >/dev/null || missing seq
+python3 -c 'import resource, subprocess, time' 2>/dev/null || missing "python3, or its module resource,"
+
+cd "$(dirname "$(readlink -f "$0")")/.."
 script=$(mktemp)
 trap 'rm -f "$script"' EXIT
 {

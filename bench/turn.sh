@@ -1,11 +1,22 @@
 #!/usr/bin/env bash
 # Measures an act behind the turn beside the same act under a Mutex, and under a Mutex with a Condvar. It is no test.
-# A number of acts a thread may be given; the first time it takes some minutes to prove and build.
+# A number of acts a thread may be given; the first time it takes some minutes to prove and build. It needs rt, nproc, cut
+# and /proc.
 set -eu
-cd "$(dirname "$0")/../crates/turn_bench"
+
+missing() {
+    echo "bench/turn.sh: $1 is missing" >&2
+    exit 127
+}
+for tool in rt nproc cut; do
+    command -v "$tool" >/dev/null || missing "$tool"
+done
+[ -r /proc/loadavg ] || missing /proc/loadavg
+
+cd "$(dirname "$(readlink -f "$0")")/../crates/turn_bench"
 log=$(mktemp)
 trap 'rm -f "$log"' EXIT
-if ! rt run >"$log" 2>&1 </dev/null; then
+if ! rt run -- 0 >"$log" 2>&1 </dev/null; then
     cat "$log" >&2
     exit 1
 fi

@@ -1,12 +1,11 @@
 -- Sections that were looked at, and then others.
-use Rattle.std.proofs.Common.{◌≡◌, ◌⊎◌, inl, inr, ℕ, Bool, true, false, List, [], ◌∷◌, ◌++◌, Some, None, Option, Ok, Err, Result, refl, sym, ap, ◌∙◌, subst, append_assoc, append-nil}
+use Rattle.std.proofs.Common.{◌≡◌, inl, inr, ℕ, Bool, true, false, List, [], ◌∷◌, ◌++◌, Some, None, Option, Ok, Err, Result, refl, sym, ap, subst, append_assoc, append-nil}
 use Rattle.std.specs.Io.KnownBytes.{Appends}
 use Rattle.std.specs.Str.Lines.{lines}
 use Rattle.rv_text.specs.Sections.{SectionText, front_of, sections_of}
 use Rattle.rv_event.specs.Shape.{Shape}
 use Rattle.ravenhost.specs.declared.failure.Failure.{Failure}
 use Rattle.ravenhost.specs.declared.failure.Failure.TheVariants.{Refused, Usage, Memory, Io}
-use Rattle.ravenhost.specs.declared.fault.What.{What}
 use Rattle.ravenhost.specs.declared.fault.What.TheVariants as Whats
 use Rattle.ravenhost.specs.Cutting.{first_meant}
 use Rattle.ravenhost.specs.declared.fault.ScriptFault.{ScriptFault}

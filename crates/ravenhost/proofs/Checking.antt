@@ -1,5 +1,5 @@
 -- What is told of a section that was looked at.
-use Rattle.std.proofs.Common.{◌≡◌, ◌≢◌, ◌≤◌, ◌<◌, ℕ, List, [], ◌∷◌, ◌++◌, Some, None, Option, Ok, Err, Result, length, refl, sym, ap, ◌∙◌, subst, arith}
+use Rattle.std.proofs.Common.{◌≡◌, ◌≢◌, ℕ, List, [], ◌∷◌, ◌++◌, Some, None, Option, Ok, Err, Result, length, refl, sym, ◌∙◌, subst}
 use Rattle.rv_tree.specs.Units.{UnitTree}
 use Rattle.rv_tree.specs.Derives.{Derives}
 use Rattle.rv_parse.specs.Texts.{ReadsTree, OfWords, OfDepth}
@@ -7,7 +7,6 @@ use Rattle.rv_parse.specs.declared.fault.ParseFault.{ParseFault}
 use Rattle.rv_parse.specs.declared.fault.ParseFault.TheVariants as Parses
 use Rattle.ravenhost.specs.declared.failure.Failure.{Failure}
 use Rattle.ravenhost.specs.declared.failure.Failure.TheVariants.{Refused, Usage, Memory, Io}
-use Rattle.ravenhost.specs.declared.fault.What.{What}
 use Rattle.ravenhost.specs.declared.fault.What.TheVariants as Whats
 use Rattle.rv_access.specs.Words.{Words}
 use Rattle.rv_access.specs.Reading.{list_of, Fails as ListFails}
@@ -19,7 +18,7 @@ use Rattle.rv_event.specs.Drafts.{Fails as ShapeFails}
 use Rattle.rv_event.specs.Fits.{fault}
 use Rattle.rv_event.specs.declared.fault.ShapeFault.{ShapeFault}
 use Rattle.rv_event.specs.declared.fault.ShapeFault.TheVariants as Shapes
-use Rattle.ravenhost.specs.Checks.{Finding, Said, Tells, OfUnit, OfShape, OfList, as_shape, as_list, fitting, unit_line, list_line, shape_line, unit_failure, shape_failure, list_failure}
+use Rattle.ravenhost.specs.Checks.{Finding, Said, Tells, OfUnit, OfShape, OfList, as_shape, fitting, list_line, shape_line, unit_failure, shape_failure, list_failure}
 
 -- a line that is said tells what was found
 pub said_tells : (old new : Option (List ℕ)) (line : ℕ) (finds : Finding) (said : List ℕ) (r : Result (Unit {0}) Failure) → finds said None → Said old new said r → Tells old new line finds r

@@ -1,5 +1,5 @@
 -- The commands of scripts are steps of the host.
-use Rattle.std.proofs.Common.{◌≡◌, ℕ, List, [], ◌∷◌, ◌++◌, Some, None, Option, Ok, Err, Result, true, false, refl, sym, inl}
+use Rattle.std.proofs.Common.{◌≡◌, ℕ, List, [], ◌∷◌, ◌++◌, Some, None, Option, Ok, Err, Result, true, false, refl, inl}
 use Rattle.std.specs.Prelude.{Bool, is_some, if◌then◌else◌, nat_lt, length}
 use Rattle.std.proofs.lemmas.Bool.{false≢true}
 use Rattle.rv_access.specs.Words.{Words}
@@ -24,8 +24,7 @@ use Rattle.ravenhost.specs.declared.fault.What.{What}
 use Rattle.ravenhost.specs.Acts.{Act, acts_of}
 use Rattle.ravenhost.specs.Asking.{AskUntil}
 use Rattle.ravenhost.specs.Deeds.{Deed, deed_of, line_of}
-use Rattle.ravenhost.specs.Journal.{journal_text}
-use Rattle.ravenhost.specs.Scripted.{Played, tell, going, plays, default_capacity, played, commands, answers, told_text}
+use Rattle.ravenhost.specs.Scripted.{Played, tell, going, plays, default_capacity, played, commands, answers}
 use Rattle.ravenhost.proofs.Telling.{never}
 
 -- Acts

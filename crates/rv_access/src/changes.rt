@@ -8,7 +8,7 @@ use crate::list::AccessList;
 use std::alloc::AllocError;
 
 impl AccessList {
-    /// The list with one more line at its end.
+    /// The list with one more line at its end. Err where memory was refused.
     pub fn appended(&self, line: &Line) -> Result<AccessList, AllocError>
         ensures { IfOk result (λ list. list ≡ appended self.now line.now) }
     {
@@ -17,7 +17,8 @@ impl AccessList {
         Ok(list)
     }
 
-    /// The list without the line of a number.
+    /// The list without the line of a number, which must be one of 1 .. `len`. Err where memory was
+    /// refused.
     pub fn removed(&self, number: usize) -> Result<AccessList, AllocError>
         requires counted { 0 < number }
         requires there { number ≤ length self.now }
@@ -28,7 +29,8 @@ impl AccessList {
         Ok(list)
     }
 
-    /// The list with another line in place of that of a number.
+    /// The list with another line in place of that of a number, which must be one of 1 .. `len`.
+    /// Err where memory was refused.
     pub fn replaced(&self, number: usize, line: &Line) -> Result<AccessList, AllocError>
         requires counted { 0 < number }
         requires there { number ≤ length self.now }

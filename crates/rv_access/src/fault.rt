@@ -6,7 +6,8 @@ ghost use Rattle.rv_access.specs.declared.fault.ListFault.TheVariants.{NoMemory}
 use std::alloc::AllocError;
 use thiserror::Error;
 
-/// What is wrong with the text of a list, and at which of its lines. All lines count, from 1.
+/// What is wrong with the text of a list, and at which of its lines. All lines count, from 1, blank
+/// ones and comments too.
 #[derive(Clone, Copy, Debug, PartialEq, Eq, Error)]
 pub enum ListFault {
     /// There are not four words, or the first is neither `allow` nor `deny`.

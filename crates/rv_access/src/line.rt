@@ -1,20 +1,22 @@
 //! One line of an access list.
 
-ghost use Rattle.std.specs.Prelude.{◌≡◌, IfOk, Some, string_bytes};
-ghost use Rattle.rv_access.specs.Lines.{fits, matches};
-ghost use Rattle.rv_access.specs.Text.{verb_of, line_text};
+ghost use Rattle.std.specs.Prelude.{◌≡◌, IfOk, string_bytes};
+ghost use Rattle.rv_access.specs.Text.{line_text};
 
 use std::alloc::{AllocError, Global};
-use std::fmt;
 use std::marker::Model;
 
 /// One line of a list: `allow` or `deny`, a unit, a `Unit.Object` and an operation, each a name as
 /// written or `*`.
 #[derive(Clone, Drop)]
 pub struct Line {
+    // Whether it allows what it matches.
     allow: bool,
+    // A unit's name, or `*`.
     unit: String,
+    // `Unit.Object`, or `*`.
     object: String,
+    // An operation's name, or `*`.
     operation: String,
 }
 
@@ -28,7 +30,7 @@ impl Model for Line {
 }
 
 impl Line {
-    /// A line of these words.
+    /// A line of these words. Err where memory was refused.
     pub fn new(
         alloc: Global,
         allow: bool,
@@ -49,7 +51,7 @@ impl Line {
         })
     }
 
-    /// A copy.
+    /// A copy. Err where memory was refused.
     pub fn copy(&self) -> Result<Line, AllocError>
         ensures { IfOk result (λ copy. copy ≡ self.now) }
     {
@@ -84,7 +86,7 @@ impl Line {
         self.operation.as_str()
     }
 
-    /// Its words with one space between, as the journal has them.
+    /// Its words with one space between, as the journal has them. Err where memory was refused.
     pub fn text(&self, alloc: Global) -> Result<String, AllocError>
         ensures { IfOk result (λ text. string_bytes text ≡ line_text self.now) }
     {

@@ -34,7 +34,7 @@ impl AccessList {
         }
     }
 
-    /// A copy.
+    /// A copy. Err where memory was refused.
     pub fn copy(&self) -> Result<AccessList, AllocError>
         ensures { IfOk result (λ copy. copy ≡ self.now) }
     {
@@ -55,7 +55,7 @@ impl AccessList {
         self.lines.as_slice()
     }
 
-    /// The line of a number that counts from 1.
+    /// The line of a number that counts from 1, or `None` where there is none.
     pub fn line(&self, number: usize) -> Option<&Line>
         ensures { option_copied result ≡ line_at self.now number }
     {
@@ -65,7 +65,8 @@ impl AccessList {
         self.lines.get(number - 1)
     }
 
-    /// Adds a line at the end.
+    /// Adds a line at the end. Err where memory was refused, and then the list is as before. The
+    /// limit `MOST_LINES` is the caller's to keep.
     pub fn push(&mut self, line: Line) -> Result<(), AllocError>
         ensures ok { OnOk result (self.new ≡ self.old ++ line ∷ []) }
         ensures err { OnErr result (self.new ≡ self.old) }
@@ -74,7 +75,7 @@ impl AccessList {
         Ok(())
     }
 
-    /// Takes out the line of a number.
+    /// Takes out the line of a number, which must be one of 1 .. `len`.
     pub fn take_out(&mut self, number: usize)
         requires counted { 0 < number }
         requires there { number ≤ length self.old }
@@ -83,7 +84,7 @@ impl AccessList {
         self.lines.remove(number - 1);
     }
 
-    /// Puts a line in place of that of a number.
+    /// Puts a line in place of that of a number, which must be one of 1 .. `len`.
     pub fn put(&mut self, number: usize, line: Line)
         requires counted { 0 < number }
         requires there { number ≤ length self.old }
@@ -93,6 +94,7 @@ impl AccessList {
     }
 
     /// Its lines as the journal has them: words with one space between, lines with `; ` between.
+    /// Err where memory was refused.
     pub fn text(&self, alloc: Global) -> Result<String, AllocError>
         ensures { IfOk result (λ text. string_bytes text ≡ list_text self.now) }
     {

@@ -4,7 +4,7 @@ ghost use Rattle.std.specs.Prelude.{◌≡◌, List, Ok, IfOk, MatchResult};
 ghost use Rattle.rv_text.specs.Words.{words};
 ghost use Rattle.rv_access.specs.Words.{Words};
 ghost use Rattle.rv_access.specs.Listed.{IsListOf};
-ghost use Rattle.rv_access.specs.Reading.{Gives, Fails, is_star_or, is_dotted, named, line_of, step, list_of, is_meant};
+ghost use Rattle.rv_access.specs.Reading.{Gives, Fails, named, line_of, step, list_of, is_meant};
 
 use crate::fault::ListFault;
 use crate::line::Line;
@@ -12,7 +12,7 @@ use crate::list::AccessList;
 use rv_text::{dotted_parts, has_words, is_identifier, next_line, next_word};
 use std::alloc::Global;
 
-/// The greatest number of lines that a list has.
+/// The most lines that a list has; the limit is our own.
 pub const MOST_LINES: usize = 512;
 
 // A line of these words, if each is `*` or a name of its form.
@@ -108,8 +108,9 @@ fn list_of(alloc: Global, text: &str) -> Result<AccessList, ListFault>
     Ok(list)
 }
 
-/// The list that a text holds: each of its lines but blank ones and comments is a line of the
-/// list, `allow` or `deny` and three words, and there are at most 512. The first bad line is named.
+/// The list that a text holds: each of its lines but blank ones and comments is a line of the list,
+/// `allow` or `deny` and three words, and there are at most 512. Err names the first bad line, or
+/// is NoMemory where memory was refused.
 pub fn read_list(alloc: Global, text: &str) -> Result<AccessList, ListFault>
     // What is read stands there.
     ensures found { IfOk result (λ list. IsListOf text.now list) }
@@ -121,7 +122,8 @@ pub fn read_list(alloc: Global, text: &str) -> Result<AccessList, ListFault>
     list_of(alloc, text)
 }
 
-/// The one line that a text of four words is, as an operator gives it. Its faults are at line 1.
+/// The one line that a text of four words is, as an operator gives it. Err names what is wrong, at
+/// line 1, or is NoMemory where memory was refused.
 pub fn read_line(alloc: Global, text: &str) -> Result<Line, ListFault>
     ensures { Gives result (line_of 1 (words text.now)) }
 {

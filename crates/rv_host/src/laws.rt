@@ -12,7 +12,7 @@ pub mod starts;
 
 ghost use Rattle.rv_host.specs.Rows as rows;
 
-/// The worked rows follow from the definitions by computation, with every request taken as served.
+/// Worked examples follow from the definitions by computation, with every request taken as served.
 pub fn worked_rows()
     ensures no_list { rows.NoList }
     ensures denied_call_granted_function { rows.DeniedCallGrantedFunction }

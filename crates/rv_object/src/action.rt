@@ -26,7 +26,7 @@ pub enum State {
 }
 
 impl State {
-    /// Whether an action may start.
+    /// Whether an action may start. A state of readers must count at least one.
     pub(crate) fn admits(self, action: Action) -> bool
         requires { IsCounted self }
         ensures { result ≡ not (excludes (actions_of self) action) }
@@ -38,7 +38,8 @@ impl State {
         }
     }
 
-    /// The state once an action that may start has started.
+    /// The state once an action has started, which must be one that may start, with fewer than `usize::MAX` under way.
+    /// A state of readers must count at least one.
     pub(crate) fn started(self, action: Action) -> State
         requires counted { IsCounted self }
         requires free { excludes (actions_of self) action ≡ false }
@@ -53,7 +54,7 @@ impl State {
         }
     }
 
-    /// The state once an action has finished.
+    /// The state once an action has finished; a free one stays free.
     pub(crate) fn finished(self) -> State
         ensures actions { actions_of result ≡ drop 1 (actions_of self) }
         ensures counted { IsCounted result }

@@ -16,7 +16,9 @@ use std::marker::Model;
 /// beforehand: `finish` says so.
 #[derive(Drop, Debug)]
 pub struct Object {
+    // Who is in a protected action.
     state: State,
+    // The values of the components.
     scalars: Scalars,
 }
 
@@ -64,7 +66,7 @@ impl Object {
         self.state.admits(action)
     }
 
-    /// Starts a protected action that may start.
+    /// Starts a protected action, which must be one that may start, with fewer than `usize::MAX` under way.
     pub fn start(&mut self, action: Action)
         requires free { excludes self.old.actions action ≡ false }
         requires countable { length self.old.actions < usize.MAX }
@@ -74,8 +76,8 @@ impl Object {
         self.state = self.state.started(action);
     }
 
-    /// Finishes a protected action that is under way. An exclusive one leaves the given values in the components, a
-    /// shared one leaves them as they were.
+    /// Finishes a protected action, which must be under way. An exclusive one leaves the given values in the
+    /// components, a shared one leaves them as they were.
     pub fn finish(&mut self, action: Action, scalars: Scalars)
         requires { is_under_way action self.old.actions ≡ true }
         ensures actions { self.old.actions ≡ action ∷ self.new.actions }

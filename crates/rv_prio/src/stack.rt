@@ -8,7 +8,7 @@ use crate::held::Held;
 use arrayvec::ArrayVec;
 use std::marker::Model;
 
-/// The most objects that an actor holds at once.
+/// The most objects that an actor holds at once; the limit is our own.
 pub const MOST_HELD: usize = 16;
 
 /// The objects that an actor holds, at most 16.
@@ -17,6 +17,7 @@ pub const MOST_HELD: usize = 16;
 /// back from its end.
 #[derive(Drop, Debug)]
 pub struct Stack {
+    // What is held, the outermost first.
     held: ArrayVec<Held, MOST_HELD>,
 }
 
@@ -62,7 +63,7 @@ impl Stack {
         self.held.is_full()
     }
 
-    /// Adds an object as the innermost.
+    /// Adds an object as the innermost. There must be room.
     pub fn push(&mut self, held: Held)
         requires { length self.old < MOST_HELD }
         ensures { self.new ≡ held ∷ self.old }
@@ -70,7 +71,7 @@ impl Stack {
         self.held.push(held);
     }
 
-    /// Takes the innermost object.
+    /// Takes the innermost object, or gives `None` where nothing is held.
     pub fn pop(&mut self) -> Option<Held>
         ensures innermost { result ≡ slice_get self.old 0 }
         ensures rest { self.new ≡ drop 1 self.old }
@@ -78,14 +79,14 @@ impl Stack {
         self.held.pop()
     }
 
-    /// The innermost object.
+    /// The innermost object, or `None` where nothing is held.
     pub fn innermost(&self) -> Option<Held>
         ensures { result ≡ slice_get self.now 0 }
     {
         self.held.last().copied()
     }
 
-    /// Whether an object is held.
+    /// Whether an object, by its number, is held.
     pub fn holds(&self, object: usize) -> bool
         ensures { result ≡ list_any (λ held. held.object == object) self.now }
     {
@@ -113,7 +114,7 @@ impl Stack {
     }
 }
 
-/// Whether one of these is of the object.
+// Whether one of these is of the object.
 fn is_among(all: &[Held], object: usize) -> bool
     ensures { result ≡ list_any (λ held. held.object == object) all.now }
 {

@@ -18,6 +18,7 @@ pub type EntryQueue = Queue<MAX_ENTRY_QUEUE_LENGTH>;
 /// Contracts see the list of the callers, the one that waits longest first, and hold at each limit.
 #[derive(Drop, Debug)]
 pub struct Queue<const LIMIT: usize> {
+    // The callers, the one that waits longest first.
     callers: ArrayVec<usize, LIMIT>,
 }
 
@@ -62,7 +63,7 @@ impl<const LIMIT: usize> Queue<LIMIT> {
         self.callers.is_full()
     }
 
-    /// Puts a caller at the back.
+    /// Puts a caller, by its actor's number, at the back. There must be room.
     pub fn join(&mut self, actor: usize)
         requires { length self.old < LIMIT }
         ensures { self.new ≡ self.old ++ actor ∷ [] }
@@ -70,14 +71,14 @@ impl<const LIMIT: usize> Queue<LIMIT> {
         self.callers.push(actor);
     }
 
-    /// The caller at the front.
+    /// The caller at the front, or `None` where nobody waits.
     pub fn head(&self) -> Option<usize>
         ensures { result ≡ slice_get self.now 0 }
     {
         self.callers.first().copied()
     }
 
-    /// Takes the caller at the front.
+    /// Takes the caller at the front, or gives `None` where nobody waits.
     pub fn leave(&mut self) -> Option<usize>
         ensures caller { result ≡ slice_get self.old 0 }
         ensures rest { self.new ≡ drop 1 self.old }

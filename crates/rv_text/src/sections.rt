@@ -7,18 +7,23 @@ ghost use Rattle.rv_text.specs.Sections.{front_of, sections_of, lines_ended, fro
 use crate::lines::next_line;
 use std::marker::Model;
 
-/// One section: the number of the script's line that opens it, that line, and the text behind it.
+/// One section of a script.
 #[derive(Clone, Copy)]
 pub struct Section<'a> {
+    /// The number of the script's line that opens it, from 1.
     pub line: usize,
+    /// That line, from its `@` on, without its line feed and a carriage return before that.
     pub opening: &'a str,
+    /// What stands behind that line, up to the next section or the script's end.
     pub text: &'a str,
 }
 
 /// The sections that are left of a script, in order.
 #[derive(Drop)]
 pub struct Sections<'a> {
+    // The number of the script's line that opens the first of them, from 1.
     line: usize,
+    // What is left of the script: empty, or it begins with `@`.
     text: &'a str,
 }
 
@@ -56,7 +61,8 @@ fn lines_ended(text: &[u8]) -> usize
     text.iter().filter(|byte| **byte == b'\n').count()
 }
 
-/// What stands before the first section of a script, and its sections.
+/// What stands before the first section of a script, and its sections. The script must be shorter
+/// than 2^63 bytes.
 pub fn open_script(script: &str) -> (&str, Sections<'_>)
     requires { length script.now < 2 ^ 63 }
     ensures front { result.0.now ≡ front_of script.now }

@@ -11,8 +11,8 @@ fn is_blank(byte: u8) -> bool
     byte == b' ' || byte == b'\t'
 }
 
-#[tactic(auto, using(std::proofs::lemmas::List::Sums::position_or_len_is))]
 // Where the first blank stands, or the length.
+#[tactic(auto, using(std::proofs::lemmas::List::Sums::position_or_len_is))]
 fn blank_at(text: &str) -> usize
     ensures { result ≡ position_or_len is_blank text.now }
 {

@@ -8,7 +8,7 @@ ghost use Rattle.std.specs.Ordering.{int_eq};
 use std::fmt;
 use std::marker::Model;
 
-/// The most parameters that a protected operation has.
+/// The most parameters that a protected operation has; the limit is our own.
 pub const MOST_ARGS: usize = 4;
 
 /// The values of a call's parameters, in the order of their declaration.
@@ -16,7 +16,9 @@ pub const MOST_ARGS: usize = 4;
 /// Contracts see the list of the values.
 #[derive(Clone, Copy)]
 pub struct Args {
+    // The values, and 0 in each cell behind them.
     cells: [i64; MOST_ARGS],
+    // How many values there are.
     len: usize,
 }
 
@@ -47,7 +49,7 @@ impl Args {
         }
     }
 
-    /// The values of a slice.
+    /// The values of a slice, of which there must be at most `MOST_ARGS`.
     pub fn from_slice(values: &[i64]) -> Args
         requires { length values.now ≤ MOST_ARGS }
         ensures { result ≡ values.now }
@@ -82,7 +84,7 @@ impl Args {
         self.len == MOST_ARGS
     }
 
-    /// Adds a value at the end.
+    /// Adds a value at the end. There must be room.
     pub fn push(&mut self, value: i64)
         requires { length self.old < MOST_ARGS }
         ensures { self.new ≡ self.old ++ value ∷ [] }

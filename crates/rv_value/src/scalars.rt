@@ -8,7 +8,7 @@ ghost use Rattle.std.specs.Ordering.{int_eq};
 use std::fmt;
 use std::marker::Model;
 
-/// The most components that a protected object has.
+/// The most components that a protected object has; the limit is our own.
 pub const MOST_SCALARS: usize = 32;
 
 /// The values of a protected object's components, in the order of their declaration.
@@ -16,7 +16,9 @@ pub const MOST_SCALARS: usize = 32;
 /// Contracts see the list of the values.
 #[derive(Clone, Copy)]
 pub struct Scalars {
+    // The values, and 0 in each cell behind them.
     cells: [i64; MOST_SCALARS],
+    // How many values there are.
     len: usize,
 }
 
@@ -47,7 +49,7 @@ impl Scalars {
         }
     }
 
-    /// The values of a slice.
+    /// The values of a slice, of which there must be at most `MOST_SCALARS`.
     pub fn from_slice(values: &[i64]) -> Scalars
         requires { length values.now ≤ MOST_SCALARS }
         ensures { result ≡ values.now }
@@ -82,7 +84,7 @@ impl Scalars {
         self.len == MOST_SCALARS
     }
 
-    /// Adds a value at the end.
+    /// Adds a value at the end. There must be room.
     pub fn push(&mut self, value: i64)
         requires { length self.old < MOST_SCALARS }
         ensures { self.new ≡ self.old ++ value ∷ [] }

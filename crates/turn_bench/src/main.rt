@@ -14,6 +14,7 @@ mod turned;
 use costs::Costs;
 use load::Load;
 use std::alloc::Global;
+use std::process::ExitCode;
 use std::sync::Wait;
 use std::thread::Threads;
 use std::time::Clock;
@@ -63,13 +64,15 @@ fn print_table<R: Threads + Wait + Clock + Print + Sync>(
     Ok(())
 }
 
-fn main(rt: HostRuntime) -> io::Result<()> {
+fn main(rt: HostRuntime) -> io::Result<ExitCode> {
     let acts = match env::args(&rt)?.nth(1) {
         Some(word) => word.as_str().parse::<u64>().ok(),
         None => None,
     };
-    match acts {
-        Some(acts) => print_table(&rt, rt.alloc(), acts),
-        None => println!(rt; "usage: turn_bench ACTS"),
-    }
+    let Some(acts) = acts else {
+        let _ = eprintln!(rt; "usage: turn_bench ACTS");
+        return Ok(ExitCode::from(2));
+    };
+    print_table(&rt, rt.alloc(), acts)?;
+    Ok(ExitCode::SUCCESS)
 }

@@ -1,4 +1,4 @@
-use Rattle.std.proofs.Common.{sym, ap, refl, arith}
+use Rattle.std.proofs.Common.{ap, arith}
 use Rattle.rv_tree.specs.UnitView.{unit_view}
 use Rattle.ravenhost.specs.Checks.{OfUnit, unit_line}
 use Rattle.ravenhost.proofs.Checking.{said_tells}

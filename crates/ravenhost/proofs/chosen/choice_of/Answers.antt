@@ -1,4 +1,4 @@
-use Rattle.std.proofs.Common.{rules, ◌≡◌, ◌∙◌, sym, Some, codes}
+use Rattle.std.proofs.Common.{rules, ◌∙◌, codes}
 use Rattle.clap.specs.Matches.{found_of}
 use Rattle.clap.specs.Walk.{rows_of}
 use Rattle.clap.proofs.WalkLemmas.{one_text-rows}

@@ -1,8 +1,5 @@
-use Rattle.std.proofs.Common.{rules, ◌≡◌, ◌∷◌, ◌∙◌, List, Some, Option, ap, ap₂, sym, refl, map, true}
-use Rattle.clap.specs.Words.{app_of, is_simple, subcommand_of, subcommand_rows_of, takes}
-use Rattle.clap.specs.Walk.{Text}
-use Rattle.ravenhost.specs.declared.chosen.Choice.{Choice}
-use Rattle.ravenhost.specs.Choices.{line_of, program}
+use Rattle.std.proofs.Common.{rules, ◌∙◌, ap, ap₂}
+use Rattle.clap.specs.Words.{is_simple, subcommand_of, subcommand_rows_of, takes}
 use Rattle.ravenhost.proofs.Choosing.{simple, taken, line_chosen}
 use Rattle.ravenhost.proofs.chosen.chosen.Goals as goal
 
