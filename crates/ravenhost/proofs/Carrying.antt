@@ -2,7 +2,7 @@
 use Rattle.std.proofs.Common.{◌≡◌, ℕ, List, [], ◌++◌, Some, None, Option, Ok, Err, Result, refl, sym, ap, ◌∙◌, subst, append_assoc, append-nil}
 use Rattle.std.specs.Prelude.{Bool, OnOk}
 use Rattle.std.specs.Io.KnownBytes.{Appends}
-use Rattle.rv_host.specs.History.{History}
+use Rattle.rv_history.specs.History.{History}
 use Rattle.ravenhost.specs.declared.failure.Failure.{Failure}
 use Rattle.ravenhost.specs.declared.failure.Failure.TheVariants.{Refused, Usage, Memory, Io}
 use Rattle.ravenhost.specs.declared.fault.ScriptFault.{ScriptFault}

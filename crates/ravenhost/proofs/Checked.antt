@@ -3,7 +3,7 @@ use Rattle.std.proofs.Common.{◌≡◌, inl, inr, ℕ, Bool, true, false, List,
 use Rattle.std.specs.Io.KnownBytes.{Appends}
 use Rattle.std.specs.Str.Lines.{lines}
 use Rattle.rv_text.specs.Sections.{SectionText, front_of, sections_of}
-use Rattle.rv_event.specs.Shape.{Shape}
+use Rattle.rv_shape.specs.Shape.{Shape}
 use Rattle.ravenhost.specs.declared.failure.Failure.{Failure}
 use Rattle.ravenhost.specs.declared.failure.Failure.TheVariants.{Refused, Usage, Memory, Io}
 use Rattle.ravenhost.specs.declared.fault.What.TheVariants as Whats

@@ -12,12 +12,12 @@ use Rattle.rv_access.specs.Words.{Words}
 use Rattle.rv_access.specs.Reading.{list_of, Fails as ListFails}
 use Rattle.rv_access.specs.declared.fault.ListFault.{ListFault}
 use Rattle.rv_access.specs.declared.fault.ListFault.TheVariants as Lists
-use Rattle.rv_event.specs.Shape.{Shape}
-use Rattle.rv_event.specs.ShapeText.{shape_of}
-use Rattle.rv_event.specs.Drafts.{Fails as ShapeFails}
-use Rattle.rv_event.specs.Fits.{fault}
-use Rattle.rv_event.specs.declared.fault.ShapeFault.{ShapeFault}
-use Rattle.rv_event.specs.declared.fault.ShapeFault.TheVariants as Shapes
+use Rattle.rv_shape.specs.Shape.{Shape}
+use Rattle.rv_shape.specs.ShapeText.{shape_of}
+use Rattle.rv_shape.specs.Drafts.{Fails as ShapeFails}
+use Rattle.rv_shape.specs.Fits.{fault}
+use Rattle.rv_shape.specs.declared.fault.ShapeFault.{ShapeFault}
+use Rattle.rv_shape.specs.declared.fault.ShapeFault.TheVariants as Shapes
 use Rattle.ravenhost.specs.Checks.{Finding, Said, Tells, OfUnit, OfShape, OfList, as_shape, fitting, list_line, shape_line, unit_failure, shape_failure, list_failure}
 
 -- a line that is said tells what was found

@@ -2,7 +2,7 @@
 use Rattle.std.proofs.Common.{◌≡◌, ℕ, List, [], ◌∷◌, ◌++◌, Some, None, Option, Ok, Err, Result, refl, sym, ap, ◌∙◌, append-nil}
 use Rattle.std.specs.Prelude.{Bool}
 use Rattle.std.proofs.lemmas.Grind.{flat_map-append}
-use Rattle.rv_host.specs.History.{History}
+use Rattle.rv_history.specs.History.{History}
 use Rattle.ravenhost.specs.declared.fault.What.{What}
 use Rattle.ravenhost.specs.declared.fault.ScriptFault.{ScriptFault}
 use Rattle.ravenhost.specs.Acts.{Act}

@@ -1,7 +1,7 @@
 -- What is asked, and what stands against it.
 use Rattle.std.proofs.Common.{◌≡◌, ℕ, List, [], ◌∷◌, Some, None, Option, Ok, Err, Result, sym, ap, subst, append-nil}
 use Rattle.std.specs.Prelude.{Bool, OnOk}
-use Rattle.rv_host.specs.History.{History}
+use Rattle.rv_history.specs.History.{History}
 use Rattle.ravenhost.specs.declared.failure.Failure.{Failure}
 use Rattle.ravenhost.specs.declared.failure.Failure.TheVariants.{Memory}
 use Rattle.ravenhost.specs.declared.fault.What.{What}

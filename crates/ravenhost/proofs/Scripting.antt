@@ -3,23 +3,23 @@ use Rattle.std.proofs.Common.{◌≡◌, ℕ, List, [], ◌∷◌, ◌++◌, Som
 use Rattle.std.specs.Prelude.{Bool, is_some, if◌then◌else◌, nat_lt, length}
 use Rattle.std.proofs.lemmas.Bool.{false≢true}
 use Rattle.rv_access.specs.Words.{Words}
-use Rattle.rv_event.specs.Shape.{Shape}
-use Rattle.rv_event.specs.Fits.{shape_fits}
+use Rattle.rv_shape.specs.Shape.{Shape}
+use Rattle.rv_shape.specs.Fits.{shape_fits}
 use Rattle.rv_event.specs.Past.{halted}
 use Rattle.rv_event.specs.Recorded.{recorded}
 use Rattle.rv_event.specs.declared.entry.Answer.TheVariants.{BadLine}
 use Rattle.rv_event.specs.declared.entry.Recorded.{Recorded}
 use Rattle.rv_event.specs.declared.entry.Request.{Request}
 use Rattle.rv_event.specs.declared.entry.Entry.TheVariants.{Load, ListChange}
-use Rattle.rv_host.specs.declared.command.Command.{Command}
-use Rattle.rv_host.specs.declared.command.Command.TheVariants as Commands
-use Rattle.rv_host.specs.History.{History, force}
-use Rattle.rv_host.specs.Lists.{Whole, Append, Remove, Replace, changed}
-use Rattle.rv_host.specs.Due.{out, gate, within, nothing_more}
-use Rattle.rv_host.specs.Legal.{Legal, empty, entered, out_load, out_list, listed, line_limit}
-use Rattle.rv_host.specs.Owed.{has_room}
-use Rattle.rv_host.specs.Served.{served}
-use Rattle.rv_host.specs.Steps.{Steps, IsAnswer, due_command, after_command}
+use Rattle.rv_history.specs.declared.command.Command.{Command}
+use Rattle.rv_history.specs.declared.command.Command.TheVariants as Commands
+use Rattle.rv_history.specs.History.{History, force}
+use Rattle.rv_history.specs.Lists.{Whole, Append, Remove, Replace, changed}
+use Rattle.rv_history.specs.Due.{out, gate, within, nothing_more}
+use Rattle.rv_history.specs.Legal.{Legal, empty, entered, out_load, out_list, listed, line_limit}
+use Rattle.rv_history.specs.Owed.{has_room}
+use Rattle.rv_history.specs.Served.{served}
+use Rattle.rv_history.specs.Steps.{Steps, IsAnswer, due_command, after_command}
 use Rattle.ravenhost.specs.declared.fault.What.{What}
 use Rattle.ravenhost.specs.Acts.{Act, acts_of}
 use Rattle.ravenhost.specs.Asking.{AskUntil}

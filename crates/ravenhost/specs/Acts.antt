@@ -7,9 +7,9 @@ use Rattle.rv_text.specs.Sections.{SectionText, front_of, sections_of}
 use Rattle.rv_access.specs.Words.{Words}
 use Rattle.rv_access.specs.Reading.{list_of}
 use Rattle.rv_access.specs.declared.fault.ListFault.{ListFault}
-use Rattle.rv_event.specs.Shape.{Shape}
-use Rattle.rv_event.specs.ShapeText.{shape_of}
-use Rattle.rv_event.specs.declared.fault.ShapeFault.TheVariants.{BadText}
+use Rattle.rv_shape.specs.Shape.{Shape}
+use Rattle.rv_shape.specs.ShapeText.{shape_of}
+use Rattle.rv_shape.specs.declared.fault.ShapeFault.TheVariants.{BadText}
 use Rattle.ravenhost.specs.declared.fault.What.{What}
 use Rattle.ravenhost.specs.declared.fault.What.TheVariants as Whats
 use Rattle.ravenhost.specs.declared.script.Opening.{Opening}

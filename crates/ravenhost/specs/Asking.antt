@@ -1,8 +1,8 @@
 -- That acts ask commands, apart from the way that they are carried out (own).
 use Rattle.std.specs.Prelude.{◌≡◌, List, [], ◌∷◌, Option, Some, None, Ok, Err}
-use Rattle.rv_host.specs.History.{History}
-use Rattle.rv_host.specs.Served.{served}
-use Rattle.rv_host.specs.Steps.{due_command, after_command}
+use Rattle.rv_history.specs.History.{History}
+use Rattle.rv_history.specs.Served.{served}
+use Rattle.rv_history.specs.Steps.{due_command, after_command}
 use Rattle.ravenhost.specs.declared.fault.What.{What}
 use Rattle.ravenhost.specs.declared.fault.ScriptFault.{ScriptFault}
 use Rattle.ravenhost.specs.Acts.{Act}

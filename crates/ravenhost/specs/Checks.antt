@@ -9,12 +9,12 @@ use Rattle.rv_access.specs.Reading.{list_of}
 use Rattle.rv_access.specs.Words.{Words}
 use Rattle.rv_access.specs.declared.fault.ListFault.{ListFault}
 use Rattle.rv_access.specs.declared.fault.ListFault.TheVariants as Lists
-use Rattle.rv_event.specs.Shape.{Shape}
-use Rattle.rv_event.specs.ShapeText.{shape_of}
-use Rattle.rv_event.specs.Fits.{fault}
-use Rattle.rv_event.specs.declared.fault.ShapeFault.{ShapeFault}
-use Rattle.rv_event.specs.declared.fault.ShapeFault.TheVariants.{BadText}
-use Rattle.rv_event.specs.declared.fault.ShapeFault.TheVariants as Shapes
+use Rattle.rv_shape.specs.Shape.{Shape}
+use Rattle.rv_shape.specs.ShapeText.{shape_of}
+use Rattle.rv_shape.specs.Fits.{fault}
+use Rattle.rv_shape.specs.declared.fault.ShapeFault.{ShapeFault}
+use Rattle.rv_shape.specs.declared.fault.ShapeFault.TheVariants.{BadText}
+use Rattle.rv_shape.specs.declared.fault.ShapeFault.TheVariants as Shapes
 use Rattle.rv_lex.specs.Lexes.{Refuses}
 use Rattle.rv_tree.specs.Units.{UnitTree}
 use Rattle.rv_tree.specs.Derives.{Derives}

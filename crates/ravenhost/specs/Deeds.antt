@@ -6,15 +6,15 @@ use Rattle.rv_text.specs.Names.{dotted}
 use Rattle.rv_access.specs.Words.{Words}
 use Rattle.rv_access.specs.Text.{line_text, list_text}
 use Rattle.rv_access.specs.declared.fault.ListFault.{ListFault}
-use Rattle.rv_event.specs.Shape.{Shape}
-use Rattle.rv_event.specs.Names.{task_number, object_number, operation_number}
+use Rattle.rv_shape.specs.Shape.{Shape}
+use Rattle.rv_shape.specs.Names.{task_number, object_number, operation_number}
 use Rattle.rv_event.specs.Text.{request_text}
-use Rattle.rv_event.specs.Fits as fitting
-use Rattle.rv_event.specs.declared.fault.ShapeFault.{ShapeFault}
+use Rattle.rv_shape.specs.Fits as fitting
+use Rattle.rv_shape.specs.declared.fault.ShapeFault.{ShapeFault}
 use Rattle.rv_event.specs.declared.entry.Request.{Request}
 use Rattle.rv_event.specs.declared.entry.Request.TheVariants as Requests
-use Rattle.rv_host.specs.declared.command.Command.{Command}
-use Rattle.rv_host.specs.declared.command.Command.TheVariants.{Ask, Load, SetList, AppendLine, RemoveLine, ReplaceLine}
+use Rattle.rv_history.specs.declared.command.Command.{Command}
+use Rattle.rv_history.specs.declared.command.Command.TheVariants.{Ask, Load, SetList, AppendLine, RemoveLine, ReplaceLine}
 use Rattle.ravenhost.specs.declared.fault.What.{What}
 use Rattle.ravenhost.specs.declared.fault.What.TheVariants as Whats
 use Rattle.ravenhost.specs.declared.step.Asker.{Asker}

@@ -1,7 +1,7 @@
 -- What `play` has written, by how it ended (own).
 use Rattle.std.specs.Prelude.{◌≡◌, ℕ, Bool, List, [], Option, Some, None, Result, Ok, Err, OnOk}
 use Rattle.std.specs.Io.KnownBytes.{Appends}
-use Rattle.rv_host.specs.History.{History}
+use Rattle.rv_history.specs.History.{History}
 use Rattle.ravenhost.specs.declared.failure.Failure.{Failure}
 use Rattle.ravenhost.specs.declared.failure.Failure.TheVariants.{Refused, Usage, Memory, Io}
 use Rattle.ravenhost.specs.declared.fault.What.{What}

@@ -7,11 +7,11 @@ use Rattle.rv_access.specs.Text.{list_text}
 use Rattle.rv_event.specs.Text.{entry_line, unrecorded_line}
 use Rattle.rv_event.specs.declared.entry.Entry.TheVariants.{ListChange}
 use Rattle.rv_event.specs.declared.entry.Answer.{Answer}
-use Rattle.rv_host.specs.declared.command.Command.{Command}
-use Rattle.rv_host.specs.History.{History, force}
-use Rattle.rv_host.specs.Legal.{empty}
-use Rattle.rv_host.specs.Served.{served}
-use Rattle.rv_host.specs.Steps.{due_command, after_command}
+use Rattle.rv_history.specs.declared.command.Command.{Command}
+use Rattle.rv_history.specs.History.{History, force}
+use Rattle.rv_history.specs.Legal.{empty}
+use Rattle.rv_history.specs.Served.{served}
+use Rattle.rv_history.specs.Steps.{due_command, after_command}
 use Rattle.ravenhost.specs.declared.fault.What.{What}
 use Rattle.ravenhost.specs.declared.fault.ScriptFault.{ScriptFault}
 use Rattle.ravenhost.specs.Acts.{Act, acts_of}

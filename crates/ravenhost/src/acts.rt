@@ -10,8 +10,8 @@ use crate::failure::Failure;
 use crate::fault::{ScriptFault, What};
 use crate::lookup::{actor_of, request_of};
 use crate::step::{Asked, Step};
-use rv_event::shape::UnitShape;
 use rv_host::host::Host;
+use rv_shape::shape::UnitShape;
 use std::alloc::Global;
 use std::io::Write;
 

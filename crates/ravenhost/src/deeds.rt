@@ -2,9 +2,9 @@
 
 ghost use Rattle.std.specs.Prelude.{◌≡◌, IfOk, IfErr, string_bytes};
 ghost use Rattle.rv_event.specs.declared.entry.Answer.{Answer};
-ghost use Rattle.rv_host.specs.Steps.{MayLackMemory};
+ghost use Rattle.rv_history.specs.Steps.{MayLackMemory};
 ghost use Rattle.rv_access.specs.Text.{list_text};
-ghost use Rattle.rv_host.specs.History.{force};
+ghost use Rattle.rv_history.specs.History.{force};
 ghost use Rattle.ravenhost.specs.Deeds.{line_number, load, set, ask, append, remove, replace};
 ghost use Rattle.ravenhost.specs.Deeds.{append_words, replace_words};
 ghost use Rattle.ravenhost.specs.Outcome.{Puts, Does};
@@ -15,9 +15,9 @@ use crate::journal::{tell_entry, tell_unrecorded};
 use crate::lookup::OPERATOR;
 use rv_access::{AccessList, Line};
 use rv_event::entry::{Answer, Entry, Request};
-use rv_event::shape::UnitShape;
 use rv_event::text::text_of_request;
 use rv_host::host::Host;
+use rv_shape::shape::UnitShape;
 use std::alloc::{AllocError, Global};
 use std::io::Write;
 

@@ -1,9 +1,9 @@
 //! What can be wrong with a script.
 
 use rv_access::ListFault;
-use rv_event::fault::ShapeFault;
 use rv_lex::fault::LexFault;
 use rv_parse::ParseFault;
+use rv_shape::fault::ShapeFault;
 use thiserror::Error;
 
 /// What is wrong with a script.

@@ -1,9 +1,9 @@
 //! Laws of scripts, each on a function that does nothing.
 
 ghost use Rattle.std.specs.Prelude.{◌≡◌, ℕ, List, false};
-ghost use Rattle.rv_host.specs.Legal.{Legal, empty};
-ghost use Rattle.rv_host.specs.Served.{served};
-ghost use Rattle.rv_host.specs.Steps.{Steps};
+ghost use Rattle.rv_history.specs.Legal.{Legal, empty};
+ghost use Rattle.rv_history.specs.Served.{served};
+ghost use Rattle.rv_history.specs.Steps.{Steps};
 ghost use Rattle.ravenhost.specs.Acts.{acts_of};
 ghost use Rattle.ravenhost.specs.Journal.{journal_text};
 ghost use Rattle.ravenhost.specs.Scripted.{default_capacity, played, commands, answers, told_text};

@@ -4,8 +4,8 @@ ghost use Rattle.std.specs.Prelude.{◌≡◌, IfOk, string_bytes, option_map};
 ghost use Rattle.ravenhost.specs.Deeds.{full_name, actor_of, callee_of, request_of};
 
 use crate::step::{Asked, Asker, DottedName, Name};
-use rv_event::catalogue::Catalogue;
 use rv_event::entry::Request;
+use rv_shape::catalogue::Catalogue;
 use std::alloc::{AllocError, Global};
 
 /// The number of the operator, who loads units and changes the list.

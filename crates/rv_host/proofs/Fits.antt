@@ -1,14 +1,14 @@
 -- What is known of a request that is served and fits.
 use Rattle.std.proofs.Common.{◌≡◌, ℕ, List, Bool, true, false, refl}
 use Rattle.std.specs.Prelude.{ℤ, ◌&&◌, nat_lt}
-use Rattle.rv_event.specs.Catalogue.{target}
+use Rattle.rv_shape.specs.Catalogue.{target}
 use Rattle.rv_event.specs.Past.{stance}
 use Rattle.rv_event.specs.declared.entry.Request.TheVariants.{Call, Resume}
-use Rattle.rv_host.specs.History.{History}
-use Rattle.rv_host.specs.Owed.{actors}
-use Rattle.rv_host.specs.Rules.{is_protected}
-use Rattle.rv_host.specs.Served.{served, is_settled}
-use Rattle.rv_host.specs.Fitting.{fits, fits_actor}
+use Rattle.rv_history.specs.History.{History}
+use Rattle.rv_history.specs.Owed.{actors}
+use Rattle.rv_history.specs.Rules.{is_protected}
+use Rattle.rv_history.specs.Served.{served, is_settled}
+use Rattle.rv_history.specs.Fitting.{fits, fits_actor}
 
 both : (a b : Bool) → (a && b) ≡ true → (a ≡ true) × (b ≡ true)
 both true b e = (refl, e)

@@ -3,8 +3,8 @@ use Rattle.std.proofs.Common.{◌≡◌, ℕ, List, [], ◌∷◌, map, max, ap,
 use Rattle.std.specs.Prelude.{◌==◌, ◌||◌}
 use Rattle.std.specs.List.{list_any}
 use Rattle.rv_prio.specs.Priority.{greatest, active_priority}
-use Rattle.rv_event.specs.Shape.{Shape}
-use Rattle.rv_event.specs.Catalogue.{ceiling}
+use Rattle.rv_shape.specs.Shape.{Shape}
+use Rattle.rv_shape.specs.Catalogue.{ceiling}
 use Rattle.rv_event.specs.declared.entry.Body.{Body}
 use Rattle.rv_host.specs.Replayed.{held_of}
 

@@ -4,19 +4,19 @@ use Rattle.std.specs.Prelude.{nat_le, nat_lt, ◌||◌, if◌then◌else◌}
 use Rattle.std.specs.List.{list_any}
 use Rattle.std.proofs.lemmas.Bool.Decides.{nat_tests}
 use Rattle.std.proofs.lemmas.List.{length-map}
-use Rattle.rv_event.specs.Objects.{TaskShape}
-use Rattle.rv_event.specs.Shape.{Shape}
-use Rattle.rv_event.specs.Catalogue.{UnitTask, all_tasks, tasks_of, all_objects}
-use Rattle.rv_event.specs.Fits.{fault, name_taken, too_many, crowded}
-use Rattle.rv_event.specs.declared.fault.ShapeFault.{ShapeFault}
-use Rattle.rv_event.specs.declared.fault.ShapeFault.TheVariants.{NameTaken, TooMany}
+use Rattle.rv_shape.specs.Objects.{TaskShape}
+use Rattle.rv_shape.specs.Shape.{Shape}
+use Rattle.rv_shape.specs.Catalogue.{UnitTask, all_tasks, tasks_of, all_objects}
+use Rattle.rv_shape.specs.Fits.{fault, name_taken, too_many, crowded}
+use Rattle.rv_shape.specs.declared.fault.ShapeFault.{ShapeFault}
+use Rattle.rv_shape.specs.declared.fault.ShapeFault.TheVariants.{NameTaken, TooMany}
 use Rattle.rv_event.specs.Past.{under_way, halted}
 use Rattle.rv_event.specs.declared.entry.Entry.TheVariants.{Load}
-use Rattle.rv_host.specs.History.{History}
-use Rattle.rv_host.specs.Owed.{has_room, each, dues, halt_due, actors}
-use Rattle.rv_host.specs.Legal.{Legal}
-use Rattle.rv_host.specs.Served.{served}
-use Rattle.rv_host.proofs.Loaded.{under_way_stays}
+use Rattle.rv_history.specs.History.{History}
+use Rattle.rv_history.specs.Owed.{has_room, each, dues, halt_due, actors}
+use Rattle.rv_history.specs.Legal.{Legal}
+use Rattle.rv_history.specs.Served.{served}
+use Rattle.rv_history.proofs.Loaded.{under_way_stays}
 
 tasks_append : (old more : List Shape) → length (all_tasks (old ++ more)) ≡ length (all_tasks old) + length (all_tasks more)
 tasks_append [] more = omega arith

@@ -1,10 +1,10 @@
 -- The mark of a list change owes nothing.
 use Rattle.std.proofs.Common.{◌≡◌, ℕ, zero, suc, ◌+◌, ◌∷◌, List, ap, refl, length}
-use Rattle.rv_event.specs.Shape.{Shape}
+use Rattle.rv_shape.specs.Shape.{Shape}
 use Rattle.rv_event.specs.Past.{halted, under_way}
 use Rattle.rv_event.specs.declared.entry.Entry.{Entry}
 use Rattle.rv_event.specs.declared.entry.Entry.TheVariants.{ListChange}
-use Rattle.rv_host.specs.Owed.{owed, each, dues, actors, halt_due}
+use Rattle.rv_history.specs.Owed.{owed, each, dues, actors, halt_due}
 
 each_alike : (n : ℕ) (past : List Entry) → each n (dues (ListChange ∷ past)) ≡ each n (dues past)
 each_alike zero past = refl

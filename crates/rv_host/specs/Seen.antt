@@ -1,9 +1,9 @@
 -- A history as a scan has seen it (own).
 use Rattle.std.specs.Prelude.{reverse}
 use Rattle.rv_host.specs.declared.seen.Seen.{Seen}
-use Rattle.rv_host.specs.History.{History}
+use Rattle.rv_history.specs.History.{History}
 use Rattle.rv_host.specs.Found.{IsFound}
-use Rattle.rv_host.specs.Orderly.{Orderly}
+use Rattle.rv_history.specs.Orderly.{Orderly}
 
 -- the history that was scanned
 abbrev pub history_of : Seen → History

@@ -2,27 +2,28 @@
 
 ghost use Rattle.std.specs.Prelude.{◌≡◌, ◌&&◌, ◌==◌, ◌≤◌, nat_lt, length, slice_get};
 ghost use Rattle.std.specs.List.{filter};
-ghost use Rattle.rv_event.specs.Catalogue as catalogues;
+ghost use Rattle.rv_shape.specs.Catalogue as catalogues;
 ghost use Rattle.rv_event.specs.Past as past;
-ghost use Rattle.rv_event.specs.Readers.{target_of};
-ghost use Rattle.rv_host.specs.Exclusion as exclusion;
+ghost use Rattle.rv_shape.specs.Readers.{target_of};
+ghost use Rattle.rv_history.specs.Exclusion as exclusion;
 ghost use Rattle.rv_host.specs.Replayed.{holdings};
-ghost use Rattle.rv_host.specs.Rules as rules;
-ghost use Rattle.rv_host.specs.Subject as subjects;
+ghost use Rattle.rv_history.specs.Rules as rules;
+ghost use Rattle.rv_history.specs.Subject as subjects;
 ghost use Rattle.rv_host.specs.Seen.{IsSeen, history_of};
 
 use crate::judging::{Tests, decide_by, is_function, opens_among};
 use crate::replay::{object_with, queue_of, stack_of};
 use crate::seen::Seen;
 use crate::standing::{base_priority, subject};
-use rv_event::actor::Callee;
-use rv_event::catalogue::Catalogue;
-use rv_event::entry::{Body, SuspensionOperation};
-use rv_event::kind::Kind;
-use rv_event::object::Object as DeclaredObject;
+use rv_event::entry::Body;
 use rv_object::Action;
 use rv_prio::Stack;
 use rv_queue::MAX_ENTRY_QUEUE_LENGTH;
+use rv_shape::actor::Callee;
+use rv_shape::catalogue::Catalogue;
+use rv_shape::kind::Kind;
+use rv_shape::object::Object as DeclaredObject;
+use rv_shape::suspension::SuspensionOperation;
 use rv_value::Scalars;
 
 // What an actor holds, innermost first.

@@ -1,13 +1,13 @@
 //! Whether a request is served and fits its actor.
 
 ghost use Rattle.std.specs.Prelude.{◌≡◌, ◌&&◌, nat_lt, length};
-ghost use Rattle.rv_event.specs.Catalogue as catalogues;
+ghost use Rattle.rv_shape.specs.Catalogue as catalogues;
 ghost use Rattle.rv_event.specs.Past as past;
-ghost use Rattle.rv_host.specs.Fitting as fitting;
-ghost use Rattle.rv_event.specs.Readers.{target_of};
-ghost use Rattle.rv_host.specs.Owed.{actors};
-ghost use Rattle.rv_host.specs.Rules.{is_protected};
-ghost use Rattle.rv_host.specs.Served.{is_settled, served};
+ghost use Rattle.rv_history.specs.Fitting as fitting;
+ghost use Rattle.rv_shape.specs.Readers.{target_of};
+ghost use Rattle.rv_history.specs.Owed.{actors};
+ghost use Rattle.rv_history.specs.Rules.{is_protected};
+ghost use Rattle.rv_history.specs.Served.{is_settled, served};
 ghost use Rattle.rv_host.specs.Seen.{IsSeen, history_of};
 
 use crate::asking::count_held;
@@ -15,10 +15,10 @@ use crate::scan::innermost_of;
 use crate::seen::Seen;
 use crate::standing::{may_call, mode_by};
 use crate::values::{fit_exit, fit_parameters, fit_scalars};
-use rv_event::actor::Callee;
-use rv_event::catalogue::Catalogue;
 use rv_event::entry::{Body, Exit, Mode, Request, Stance};
 use rv_prio::MOST_HELD;
+use rv_shape::actor::Callee;
+use rv_shape::catalogue::Catalogue;
 
 /// The actor's innermost body.
 pub fn innermost(seen: &Seen, actor: usize) -> Option<Body>

@@ -2,7 +2,7 @@
 
 ghost use Rattle.std.specs.Prelude.{◌≡◌, ◌≤◌, ◌+◌, ◌*◌, ◌∷◌, reverse};
 ghost use Rattle.rv_event.specs.Past as past;
-ghost use Rattle.rv_host.specs.Owed as owed;
+ghost use Rattle.rv_history.specs.Owed as owed;
 
 use crate::backward::standing_of;
 use crate::entries::{halts, said};

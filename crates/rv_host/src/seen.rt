@@ -2,8 +2,8 @@
 
 use crate::finding::Scan;
 use rv_access::AccessList;
-use rv_event::catalogue::Catalogue;
 use rv_event::entry::Entry;
+use rv_shape::catalogue::Catalogue;
 
 /// A history, and what a scan found in it for an object.
 #[derive(Clone, Copy)]

@@ -2,17 +2,17 @@
 
 ghost use Rattle.std.specs.Prelude.{◌≡◌, ◌==◌, ◌+◌, slice_get};
 ghost use Rattle.std.specs.List.{filter};
-ghost use Rattle.rv_event.specs.Catalogue as catalogues;
+ghost use Rattle.rv_shape.specs.Catalogue as catalogues;
 ghost use Rattle.rv_event.specs.Past as past;
-ghost use Rattle.rv_host.specs.Fitting as fitting;
-ghost use Rattle.rv_host.specs.Subject as subjects;
+ghost use Rattle.rv_history.specs.Fitting as fitting;
+ghost use Rattle.rv_history.specs.Subject as subjects;
 ghost use Rattle.rv_host.specs.Seen.{IsSeen, history_of};
 
 use crate::scan::innermost_of;
 use crate::seen::Seen;
-use rv_event::actor::Actor;
-use rv_event::catalogue::Catalogue;
 use rv_event::entry::{Body, Mode, Stance};
+use rv_shape::actor::Actor;
+use rv_shape::catalogue::Catalogue;
 
 /// The mode of an actor with these bodies under way.
 pub fn mode_by(bodies: &[Body], actor: usize, stance: Stance) -> Mode

@@ -1,11 +1,11 @@
 //! Whether values fit the parameters, the result or the components that they are for.
 
 ghost use Rattle.std.specs.Prelude.{◌≡◌, ◌&&◌, [], ◌∷◌, map, if◌then◌else◌, int_le};
-ghost use Rattle.rv_event.specs.Catalogue as catalogues;
-ghost use Rattle.rv_host.specs.Fitting as fitting;
+ghost use Rattle.rv_shape.specs.Catalogue as catalogues;
+ghost use Rattle.rv_history.specs.Fitting as fitting;
 
 use rv_event::entry::Exit;
-use rv_event::kind::{Component, Kind, Parameter, ParameterMode, Range};
+use rv_shape::kind::{Component, Kind, Parameter, ParameterMode, Range};
 
 // Whether a value is in a range.
 fn is_within(value: i64, range: &Range) -> bool

@@ -1,5 +1,5 @@
 use Rattle.std.proofs.Common.{refl, ◌∙◌}
-use Rattle.rv_host.specs.Lists.{Append}
+use Rattle.rv_history.specs.Lists.{Append}
 use Rattle.ravenhost.specs.Deeds.{append}
 use Rattle.ravenhost.proofs.Telling.{does_change, does_nothing, does_failed}
 use Rattle.ravenhost.proofs.deeds.append.Goals as goal

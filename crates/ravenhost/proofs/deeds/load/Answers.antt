@@ -2,7 +2,7 @@ use Rattle.std.proofs.Common.{◌≡◌, ℕ, List, ◌++◌, true, false, sym, 
 use Rattle.std.specs.Prelude.{is_some, codes}
 use Rattle.rv_event.specs.Recorded.{recorded}
 use Rattle.rv_event.specs.declared.entry.Answer.{Answer}
-use Rattle.rv_host.specs.Legal.{out_load, after_load}
+use Rattle.rv_history.specs.Legal.{out_load, after_load}
 use Rattle.ravenhost.specs.Deeds.{load}
 use Rattle.ravenhost.proofs.Telling.{load_line, does_entry, does_unrecorded, does_silently, does_nothing, does_failed}
 use Rattle.ravenhost.proofs.deeds.load.Given.{Over}

@@ -4,8 +4,8 @@ use Rattle.std.specs.Fmt.{signed_decimal}
 use Rattle.std.proofs.lemmas.Int.{to_z-of_z}
 use mir.Syntax.{w64}
 use mir.Val.{to_z, of_z}
-use Rattle.rv_host.specs.Lists.{Remove}
-use Rattle.rv_host.specs.Steps.{due_change, after_change}
+use Rattle.rv_history.specs.Lists.{Remove}
+use Rattle.rv_history.specs.Steps.{due_change, after_change}
 use Rattle.ravenhost.specs.Deeds.{remove, line_number}
 use Rattle.ravenhost.proofs.Telling.{does_change, does_nothing, does_failed}
 use Rattle.ravenhost.proofs.deeds.remove.Goals as goal

@@ -2,8 +2,8 @@ use Rattle.std.proofs.Common.{◌≡◌, ℕ, ℤ, ap, ◌∙◌}
 use Rattle.std.proofs.lemmas.Int.{to_z-of_z}
 use mir.Syntax.{w64}
 use mir.Val.{to_z, of_z}
-use Rattle.rv_host.specs.Lists.{Replace}
-use Rattle.rv_host.specs.Steps.{due_change, after_change}
+use Rattle.rv_history.specs.Lists.{Replace}
+use Rattle.rv_history.specs.Steps.{due_change, after_change}
 use Rattle.ravenhost.specs.Deeds.{replace, line_number, replace_words}
 use Rattle.ravenhost.proofs.Telling.{does_change, does_nothing, does_failed}
 use Rattle.ravenhost.proofs.deeds.replace.Goals as goal

@@ -1,5 +1,5 @@
 use Rattle.std.proofs.Common.{refl, ◌∙◌}
-use Rattle.rv_host.specs.Lists.{Whole}
+use Rattle.rv_history.specs.Lists.{Whole}
 use Rattle.ravenhost.specs.Deeds.{set}
 use Rattle.ravenhost.proofs.Telling.{does_change, does_nothing, does_failed}
 use Rattle.ravenhost.proofs.deeds.set.Goals as goal

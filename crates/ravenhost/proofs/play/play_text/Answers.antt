@@ -1,6 +1,6 @@
 use Rattle.std.proofs.Common.{refl, subst}
-use Rattle.rv_host.specs.History.{History}
-use Rattle.rv_host.specs.Legal.{empty}
+use Rattle.rv_history.specs.History.{History}
+use Rattle.rv_history.specs.Legal.{empty}
 use Rattle.ravenhost.specs.Acts.{acts_of}
 use Rattle.ravenhost.specs.Scripted.{default_capacity}
 use Rattle.ravenhost.specs.Outcome.{Carries}

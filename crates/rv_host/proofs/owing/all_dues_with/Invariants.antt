@@ -1,5 +1,5 @@
 use Rattle.std.proofs.Common.{◌≡◌, ◌≤◌, ◌*◌, ◌∷◌, reverse}
-use Rattle.rv_host.specs.Owed.{each, dues}
+use Rattle.rv_history.specs.Owed.{each, dues}
 use Rattle.rv_host.proofs.owing.all_dues_with.Given as goal
 
 abbrev pub invariant-loop-actor : goal.invariant-loop-actor

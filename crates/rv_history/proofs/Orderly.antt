@@ -1,0 +1,258 @@
+-- On a legal history the bodies on an object all share it, or there is one; stacks and queues keep their limits.
+use Rattle.std.proofs.Common.{◌≡◌, inl, ℕ, ◌-◌, ◌<◌, ◌≤◌, List, [], ◌∷◌, ◌++◌, length, Some, None, Option, true, false, arith, ap, subst, sym, ◌∙◌, refl, append_assoc}
+use Rattle.std.specs.Prelude.{ℤ, nat_lt, not, ◌==◌}
+use Rattle.std.specs.List.{filter, list_any}
+use Rattle.std.proofs.lemmas.Bool.Decides.{nat_tests}
+use Rattle.rv_access.specs.Words.{Words}
+use Rattle.rv_shape.specs.Shape.{Shape}
+use Rattle.rv_event.specs.Recorded.{recorded}
+use Rattle.rv_shape.specs.Catalogue.{OperationNumber, Who, Operator, Line, Task, Nobody, who, Site, OnProtected, target, handler, is_function, shares}
+use Rattle.rv_event.specs.Past.{under_way, held, waiting, queue, queued_by, next_of, named_in, joined, left, begun, fired, without, last_queued, stance, mode, mode_by}
+use Rattle.rv_event.specs.declared.entry.Stance.{Stance}
+use Rattle.rv_event.specs.declared.entry.Stance.TheVariants.{Free, InQueue, HandedOver, DroppedBy, WaitsOn, WaitsUntil, Gone}
+use Rattle.rv_event.specs.declared.entry.Body.{Body}
+use Rattle.rv_event.specs.declared.entry.Entry.{Entry}
+use Rattle.rv_event.specs.declared.entry.Entry.TheVariants.{Asked, Load, ListChange}
+use Rattle.rv_event.specs.declared.entry.Exit.{Exit}
+use Rattle.rv_event.specs.declared.entry.Next.TheVariants.{Nothing, HandedTo, Dropped}
+use Rattle.rv_event.specs.declared.entry.Request.{Request}
+use Rattle.rv_event.specs.declared.entry.Request.TheVariants.{Call, Complete, Resume, DelayUntil, Clock, Fire, Quit, Tick, Halt}
+use Rattle.rv_event.specs.declared.entry.Recorded.{Recorded}
+use Rattle.rv_event.specs.declared.entry.Recorded.TheVariants.{Started, Queued, Done}
+use Rattle.rv_event.proofs.Matching.{by}
+use Rattle.rv_history.specs.History.{History}
+use Rattle.rv_history.specs.Exclusion.{conflicts, excluded, queue_limit}
+use Rattle.rv_history.specs.Rules.{Aim, aim_at}
+use Rattle.rv_history.specs.Fitting.{Service, held_limit, may_call, idle_line, call_fits}
+use Rattle.rv_history.specs.Due.{out}
+use Rattle.rv_history.specs.Legal.{IsLegal, Legal}
+use Rattle.rv_history.specs.Orderly.{is_on, IsShared, IsProtected, IsOfEntry, Each, Orderly, IsOrderly}
+use Rattle.rv_history.proofs.Answered.{off, both, answered}
+use Rattle.rv_history.proofs.Exactly.{started_allowed}
+use Rattle.rv_history.proofs.Loaded.{way_stays, protected_stays, append_none}
+use Rattle.rv_history.proofs.Stances.{same_number, below, some_is}
+use Rattle.rv_history.proofs.Waits.{joins, Waits, AllWait, legal_waits}
+use Rattle.rv_history.proofs.Bodies.{count_less, shared_end, shared_start, shared_first, alone_end, stack_start, count_left, queue_join, each_without, each_filter, each_left, each_append, each_map, shared_more}
+use Rattle.rv_history.proofs.Ending.{names_at, head_waits, head_on}
+
+-- Bodies
+
+pub record Bodies (shapes : List Shape) (bodies : List Body) : Type 0 where
+  pub shared : (object : ℕ) → IsShared shapes bodies object
+  pub stacks : (actor : ℕ) → length (filter (by actor) bodies) ≤ held_limit
+  pub known : Each (IsProtected shapes) bodies
+
+bodies_end : (shapes : List Shape) (a : ℕ) (bs : List Body) → Bodies shapes bs → Bodies shapes (without a bs)
+bodies_end shapes a bs k = record {
+  shared = λ o. shared_end shapes a bs o (k.shared o);
+  stacks = λ n. omega (arith, count_less (by n) a bs, k.stacks n);
+  known = each_without (IsProtected shapes) a bs k.known;
+}
+
+bodies_start : (shapes : List Shape) (b : Body) (bs : List Body) (s : Site) → target shapes b.object b.operation ≡ OnProtected s → list_any (conflicts shapes b.object (is_function s.operation.kind)) bs ≡ false →
+    length (filter (by b.actor) bs) < held_limit → Bodies shapes bs → Bodies shapes (b ∷ bs)
+bodies_start shapes b bs s at free few k = record {
+  shared = λ o. shared_start shapes b bs (is_function s.operation.kind) o (ap shares at) free (k.shared o);
+  stacks = λ n. stack_start held_limit b bs n few (k.stacks n);
+  known = ((s, at), k.known);
+}
+
+-- a call that starts
+call_starts : (serves : Service) (h : History) (a o p : ℕ) (vs : List ℤ) → recorded (out serves h a (Call o p vs)) ≡ Some Started → Bodies h.shapes (under_way h.shapes h.past) →
+    Bodies h.shapes (record { actor = a; object = o; operation = p } ∷ under_way h.shapes h.past)
+call_starts serves h a o p vs e k =
+    let w = started_allowed serves h a (Call o p vs) e in
+    let g = answered serves h a (Call o p vs) Started e in
+    let there : o ≡ w.object = ap (λ (m : Aim). m.0) w.wanted in
+    let at : target h.shapes o p ≡ OnProtected w.site = ap (λ (m : Aim). m.1) w.wanted in
+    let free : excluded h o (is_function w.site.operation.kind) ≡ false = ap (λ m. excluded h m (is_function w.site.operation.kind)) there ∙ w.free in
+    let fit = (both (may_call (who h.shapes a) (mode h.shapes a h.past)) (call_fits (length (held h.shapes a h.past)) vs (target h.shapes o p)) g.fits_in).1 in
+    let few = (both _ (nat_lt (length (held h.shapes a h.past)) held_limit) (sym (ap (call_fits (length (held h.shapes a h.past)) vs) at) ∙ fit)).1 in
+    bodies_start h.shapes (record { actor = a; object = o; operation = p }) (under_way h.shapes h.past) w.site at free (below _ held_limit few) k
+
+-- a line that is idle holds nothing
+idle_none : (w : Who) (bs : List Body) (s : Stance) → idle_line w (mode_by bs s) ≡ true → bs ≡ []
+idle_none w [] s e = refl
+idle_none (Line line) (b ∷ bs) Free e = absurd (off e)
+idle_none (Line line) (b ∷ bs) InQueue e = absurd (off e)
+idle_none (Line line) (b ∷ bs) HandedOver e = absurd (off e)
+idle_none (Line line) (b ∷ bs) (DroppedBy n) e = absurd (off e)
+idle_none (Line line) (b ∷ bs) (WaitsOn o) e = absurd (off e)
+idle_none (Line line) (b ∷ bs) (WaitsUntil t) e = absurd (off e)
+idle_none (Line line) (b ∷ bs) Gone e = absurd (off e)
+idle_none Operator (b ∷ bs) s e = absurd (off e)
+idle_none (Task task) (b ∷ bs) s e = absurd (off e)
+idle_none Nobody (b ∷ bs) s e = absurd (off e)
+
+-- a fired line that starts its handler
+fire_starts : (serves : Service) (h : History) (a : ℕ) → recorded (out serves h a Fire) ≡ Some Started → Bodies h.shapes (under_way h.shapes h.past) →
+    Bodies h.shapes (begun (fired a (handler h.shapes (a - 1))) (under_way h.shapes h.past))
+fire_starts serves h a e k = by_handler (handler h.shapes (a - 1)) refl
+  where
+    by_handler : (s : Option OperationNumber) → handler h.shapes (a - 1) ≡ s → Bodies h.shapes (begun (fired a s) (under_way h.shapes h.past))
+    by_handler None is = k
+    by_handler (Some n) is =
+        let w = started_allowed serves h a Fire e in
+        let g = answered serves h a Fire Started e in
+        let aimed : aim_at h.shapes (Some n) ≡ (w.object, OnProtected w.site) = sym (ap (aim_at h.shapes) is) ∙ w.wanted in
+        let there : n.object ≡ w.object = ap (λ (m : Aim). m.0) aimed in
+        let at : target h.shapes n.object n.operation ≡ OnProtected w.site = ap (λ (m : Aim). m.1) aimed in
+        let free : excluded h n.object (is_function w.site.operation.kind) ≡ false = ap (λ m. excluded h m (is_function w.site.operation.kind)) there ∙ w.free in
+        let none : held h.shapes a h.past ≡ [] = idle_none (who h.shapes a) (held h.shapes a h.past) (stance a h.past) g.fits_in in
+        let zero : length (held h.shapes a h.past) ≡ 0 = ap length none in
+        bodies_start h.shapes (record { actor = a; object = n.object; operation = n.operation }) (under_way h.shapes h.past) w.site at free (omega (arith, zero)) k
+
+-- an end that hands over: the body that ends was alone, and the caller holds nothing
+hand_over : (serves : Service) (h : History) (a : ℕ) (vs : List ℤ) (x : Exit) (n : ℕ) → recorded (out serves h a (Complete vs x)) ≡ Some (Done (HandedTo n)) →
+    AllWait h.shapes h.past (waiting h.past) → Each (IsOfEntry h.shapes) (waiting h.past) → Bodies h.shapes (under_way h.shapes h.past) →
+    Bodies h.shapes (begun (last_queued n h.past) (without a (under_way h.shapes h.past)))
+hand_over serves h a vs x n e all calls k =
+    let m = names_at serves h a vs x (HandedTo n) n e refl in
+    let q = m.served_by in
+    let v : Waits h.shapes h.past q.call = head_waits h.shapes h.past m.body.object q.call q.rest all q.queued in
+    let of_entry = (subst (Each (IsOfEntry h.shapes)) q.queued (each_filter (IsOfEntry h.shapes) (λ c. c.object == m.body.object) (waiting h.past) calls)).0 in
+    let bs : List Body = without a (under_way h.shapes h.past) in
+    let last : last_queued n h.past ≡ Some q.call = ap (λ j. last_queued j h.past) (sym q.is_its) ∙ v.last in
+    let there : q.call.object ≡ m.body.object = same_number q.call.object m.body.object (head_on h.past m.body.object q.call q.rest q.queued) in
+    let exclusive : shares (target h.shapes m.body.object m.body.operation) ≡ false = ap shares m.at ∙ m.exclusive in
+    let none : length (filter (is_on m.body.object) bs) ≡ 0 = alone_end h.shapes a m.body (under_way h.shapes h.past) m.inner exclusive (k.shared m.body.object) in
+    let none_here : length (filter (is_on q.call.object) bs) ≡ 0 = ap (λ o. length (filter (is_on o) bs)) there ∙ none in
+    let holds : length (filter (by q.call.actor) (under_way h.shapes h.past)) ≡ 0 = ap length v.none in
+    let rest : Bodies h.shapes bs = bodies_end h.shapes a (under_way h.shapes h.past) k in
+    let few : length (filter (by q.call.actor) bs) < held_limit = omega (arith, holds, count_less (by q.call.actor) a (under_way h.shapes h.past)) in
+    let now : Bodies h.shapes (q.call ∷ bs) = record {
+      shared = λ o. shared_first h.shapes q.call bs o none_here (rest.shared o);
+      stacks = λ j. stack_start held_limit q.call bs j few (rest.stacks j);
+      known = ((of_entry.0, of_entry.1), rest.known);
+    } in
+    subst (λ b. Bodies h.shapes (begun b bs)) (sym last) now
+
+bodies_step : (serves : Service) (h : History) (a : ℕ) (r : Request) (w : Recorded) → recorded (out serves h a r) ≡ Some w →
+    AllWait h.shapes h.past (waiting h.past) → Each (IsOfEntry h.shapes) (waiting h.past) → Bodies h.shapes (under_way h.shapes h.past) → Bodies h.shapes (under_way h.shapes (Asked a r w ∷ h.past))
+bodies_step serves h a (Call o p vs) Started e all calls k = call_starts serves h a o p vs e k
+bodies_step serves h a (Call o p vs) w e all calls k = k
+bodies_step serves h a Fire Started e all calls k = fire_starts serves h a e k
+bodies_step serves h a Fire w e all calls k = k
+bodies_step serves h a (Complete vs x) (Done Nothing) e all calls k = bodies_end h.shapes a (under_way h.shapes h.past) k
+bodies_step serves h a (Complete vs x) (Done (HandedTo n)) e all calls k = hand_over serves h a vs x n e all calls k
+bodies_step serves h a (Complete vs x) (Done (Dropped n line)) e all calls k = bodies_end h.shapes a (under_way h.shapes h.past) k
+bodies_step serves h a (Complete vs x) w e all calls k = bodies_end h.shapes a (under_way h.shapes h.past) k
+bodies_step serves h a Resume w e all calls k = k
+bodies_step serves h a (DelayUntil t) w e all calls k = k
+bodies_step serves h a Clock w e all calls k = k
+bodies_step serves h a Quit w e all calls k = k
+bodies_step serves h a (Tick n) w e all calls k = k
+bodies_step serves h a Halt w e all calls k = k
+
+-- Calls
+
+pub record Calls (shapes : List Shape) (calls : List Body) : Type 0 where
+  pub queues : (object : ℕ) → length (filter (is_on object) calls) ≤ queue_limit
+  pub known : Each (IsOfEntry shapes) calls
+
+calls_left : (shapes : List Shape) (n : Option ℕ) (calls : List Body) → Calls shapes calls → Calls shapes (left n calls)
+calls_left shapes n calls k = record {
+  queues = λ o. omega (arith, count_left (is_on o) n calls, k.queues o);
+  known = each_left (IsOfEntry shapes) n calls k.known;
+}
+
+not_full : (n : ℕ) → not (nat_lt n queue_limit) ≡ false → n < queue_limit
+not_full n e = grind (arith, nat_tests)
+
+calls_join : (serves : Service) (h : History) (a o p : ℕ) (vs : List ℤ) → recorded (out serves h a (Call o p vs)) ≡ Some Queued → Calls h.shapes (waiting h.past) →
+    Calls h.shapes (waiting h.past ++ record { actor = a; object = o; operation = p } ∷ [])
+calls_join serves h a o p vs e k =
+    let j = joins serves h a o p vs e in
+    let self : Body = record { actor = a; object = o; operation = p } in
+    record {
+      queues = λ n. queue_join queue_limit self (waiting h.past) n (not_full (length (queue o h.past)) j.short) (k.queues n);
+      known = each_append (IsOfEntry h.shapes) (waiting h.past) self k.known (j.site, j.at, j.entry);
+    }
+
+calls_step : (serves : Service) (h : History) (a : ℕ) (r : Request) (w : Recorded) (q : Option Body) → queued_by (Asked a r w) ≡ q → recorded (out serves h a r) ≡ Some w → Calls h.shapes (waiting h.past) →
+    Calls h.shapes (joined q (left (named_in (next_of (Asked a r w))) (waiting h.past)))
+calls_step serves h a r w None is e k = calls_left h.shapes (named_in (next_of (Asked a r w))) (waiting h.past) k
+calls_step serves h a (Call o p vs) Queued (Some b) is e k =
+    subst (λ c. Calls h.shapes (waiting h.past ++ c ∷ [])) (some_is (record { actor = a; object = o; operation = p }) b is) (calls_join serves h a o p vs e k)
+calls_step serves h a (Call o p vs) w (Some b) is e k = absurd (cc)
+calls_step serves h a r w (Some b) is e k = absurd (cc)
+
+-- Both, after each entry
+
+pub record Sound (shapes : List Shape) (past : List Entry) : Type 0 where
+  pub bodies : Bodies shapes (under_way shapes past)
+  pub calls : Calls shapes (waiting past)
+
+sound_more : (serves : Service) (c : ℕ) (past : List Entry) (old more : List Shape) (lists : List (List Words)) → IsLegal serves c past old lists → Sound old past → Sound (old ++ more) past
+sound_more serves c past old more lists l k =
+    let ways : under_way (old ++ more) past ≡ under_way old past = way_stays serves c past old more lists l in
+    let bs : List Body = under_way old past in
+    let bodies : Bodies (old ++ more) bs = record {
+      shared = λ o. shared_more old more o bs k.bodies.known (k.bodies.shared o);
+      stacks = k.bodies.stacks;
+      known = each_map (IsProtected old) (IsProtected (old ++ more)) bs (λ b at. (at.0, protected_stays old more b.object b.operation at.0 at.1)) k.bodies.known;
+    } in
+    record {
+      bodies = subst (Bodies (old ++ more)) (sym ways) bodies;
+      calls = record {
+        queues = k.calls.queues;
+        known = each_map (IsOfEntry old) (IsOfEntry (old ++ more)) (waiting past) (λ b at. (at.0, protected_stays old more b.object b.operation at.0 at.1, at.2)) k.calls.known;
+      };
+    }
+
+sound : (serves : Service) (c : ℕ) (past : List Entry) (shapes : List Shape) (lists : List (List Words)) → IsLegal serves c past shapes lists → Sound shapes past
+sound serves c [] shapes lists l = record {
+  bodies = record { shared = λ o. inl refl; stacks = λ n. omega arith; known = tt };
+  calls = record { queues = λ o. omega arith; known = tt };
+}
+sound serves c (Asked a r w ∷ past) shapes lists l =
+    let h : History = record { capacity = c; past = past; shapes = shapes; lists = lists } in
+    let k : Sound shapes past = sound serves c past shapes lists l.0 in
+    record {
+      bodies = bodies_step serves h a r w l.1 (legal_waits serves c past shapes lists l.0) k.calls.known k.bodies;
+      calls = calls_step serves h a r w (queued_by (Asked a r w)) refl l.1 k.calls;
+    }
+sound serves c (Load ∷ past) shapes lists l =
+    let k : Sound (l.0 ++ l.1 ∷ []) past = sound_more serves c past l.0 (l.1 ∷ []) lists l.3 (sound serves c past l.0 lists l.3) in
+    let now : Sound (l.0 ++ l.1 ∷ []) (Load ∷ past) = record { bodies = k.bodies; calls = k.calls } in
+    subst (λ (ss : List Shape). Sound ss (Load ∷ past)) (sym l.2) now
+sound serves c (ListChange ∷ past) shapes lists l =
+    let k : Sound shapes past = sound serves c past shapes l.0 l.3 in
+    record { bodies = k.bodies; calls = k.calls }
+
+orderly_at : (shapes : List Shape) (past : List Entry) → Sound shapes past → Orderly shapes past
+orderly_at shapes past k = record {
+  shared = k.bodies.shared;
+  stacks = k.bodies.stacks;
+  queues = k.calls.queues;
+  bodies = k.bodies.known;
+  calls = k.calls.known;
+}
+
+pub legal_orderly_at : (serves : Service) (h : History) → Legal serves h → Orderly h.shapes h.past
+legal_orderly_at serves h l = orderly_at h.shapes h.past (sound serves h.capacity h.past h.shapes h.lists l)
+
+orderly_all : (serves : Service) (c : ℕ) (past : List Entry) (shapes more : List Shape) (lists : List (List Words)) → IsLegal serves c past shapes lists → IsOrderly (shapes ++ more) past
+orderly_all serves c [] shapes more lists l = tt
+orderly_all serves c (Asked a r w ∷ past) shapes more lists l = (
+  orderly_at (shapes ++ more) (Asked a r w ∷ past) (sound_more serves c (Asked a r w ∷ past) shapes more lists l (sound serves c (Asked a r w ∷ past) shapes lists l)),
+  orderly_all serves c past shapes more lists l.0,
+)
+orderly_all serves c (Load ∷ past) shapes more lists l = (
+  orderly_at (shapes ++ more) (Load ∷ past) (sound_more serves c (Load ∷ past) shapes more lists l (sound serves c (Load ∷ past) shapes lists l)),
+  subst (λ (ss : List Shape). IsOrderly ss past) (sym (append_assoc l.0 (l.1 ∷ []) more) ∙ ap (λ (ss : List Shape). ss ++ more) (sym l.2)) (orderly_all serves c past l.0 (l.1 ∷ more) lists l.3),
+)
+orderly_all serves c (ListChange ∷ past) shapes more lists l = (
+  orderly_at (shapes ++ more) (ListChange ∷ past) (sound_more serves c (ListChange ∷ past) shapes more lists l (sound serves c (ListChange ∷ past) shapes lists l)),
+  orderly_all serves c past shapes more l.0 l.3,
+)
+
+-- after each entry of a legal history
+pub legal_orderly : (serves : Service) (h : History) → Legal serves h → IsOrderly h.shapes h.past
+legal_orderly serves h l =
+    subst (λ (ss : List Shape). IsOrderly ss h.past) (append_none h.shapes) (orderly_all serves h.capacity h.past h.shapes [] h.lists l)
+
+-- so after the first ones
+pub orderly_suffix : (shapes : List Shape) (later past : List Entry) → IsOrderly shapes (later ++ past) → IsOrderly shapes past
+orderly_suffix shapes [] past k = k
+orderly_suffix shapes (e ∷ later) past k = orderly_suffix shapes later past k.1

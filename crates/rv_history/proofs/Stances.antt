@@ -1,0 +1,123 @@
+-- What an entry says of its own actor and of others.
+use Rattle.std.proofs.Common.{◌≡◌, ◌≢◌, ℕ, ◌-◌, ◌<◌, List, [], ◌∷◌, Some, None, Option, Bool, true, false, arith, ap, sym, ◌∙◌, refl}
+use Rattle.std.specs.Prelude.{nat_lt, ◌==◌, not, if◌then◌else◌}
+use Rattle.std.specs.List.{filter}
+use Rattle.std.proofs.lemmas.Bool.Decides.{nat_tests}
+use Rattle.rv_shape.specs.Shape.{Shape}
+use Rattle.rv_shape.specs.Catalogue.{OperationNumber, first_of, handler}
+use Rattle.rv_event.specs.Past.{if_named, next_of, named_in, or_else, stance, stance_of, if_of, queued_by, last_queued, under_way, held, begun, fired, without}
+use Rattle.rv_event.specs.declared.entry.Stance.{Stance}
+use Rattle.rv_event.specs.declared.entry.Stance.TheVariants.{HandedOver, DroppedBy}
+use Rattle.rv_event.proofs.Matching.{by, filter_others}
+use Rattle.rv_event.specs.declared.entry.Body.{Body}
+use Rattle.rv_event.specs.declared.entry.Entry.{Entry}
+use Rattle.rv_event.specs.declared.entry.Entry.TheVariants.{Asked}
+use Rattle.rv_event.specs.declared.entry.Next.{Next}
+use Rattle.rv_event.specs.declared.entry.Next.TheVariants.{Nothing, HandedTo, Dropped}
+use Rattle.rv_event.specs.declared.entry.Request.{Request}
+use Rattle.rv_event.specs.declared.entry.Request.TheVariants.{Call, Complete, Resume, DelayUntil, Clock, Fire, Quit, Tick, Halt}
+use Rattle.rv_event.specs.declared.entry.Recorded.{Recorded}
+use Rattle.rv_event.specs.declared.entry.Recorded.TheVariants.{Started, Queued, Done}
+use Rattle.rv_history.proofs.Answered.{off}
+
+pub itself : (a : ℕ) → (a == a) ≡ true
+itself a = grind (arith, nat_tests)
+
+pub another : (a j : ℕ) → j ≢ a → (a == j) ≡ false
+another a j h = grind (arith, nat_tests)
+
+pub same_number : (m n : ℕ) → (m == n) ≡ true → m ≡ n
+same_number m n e = grind (arith, nat_tests)
+
+pub below : (n m : ℕ) → nat_lt n m ≡ true → n < m
+below n m e = grind (arith, nat_tests)
+
+-- an entry that names nobody speaks of its own actor alone
+pub own_stance : (a : ℕ) (r : Request) (w : Recorded) (past : List Entry) → next_of (Asked a r w) ≡ Nothing → stance a (Asked a r w ∷ past) ≡ stance_of (Asked a r w)
+own_stance a r w past e =
+    λ i. or_else (first_of (if_named a (e i)) (if itself a i then Some (stance_of (Asked a r w)) else None)) (stance a past)
+
+pub other_stance : (a j : ℕ) (r : Request) (w : Recorded) (past : List Entry) → next_of (Asked a r w) ≡ Nothing → j ≢ a → stance j (Asked a r w ∷ past) ≡ stance j past
+other_stance a j r w past e h =
+    λ i. or_else (first_of (if_named j (e i)) (if another a j h i then Some (stance_of (Asked a r w)) else None)) (stance j past)
+
+-- one more entry, of another actor, that doesn't name it
+abbrev pub is_other : Option ℕ → ℕ → Bool
+is_other None a = true
+is_other (Some n) a = not (n == a)
+
+pub unnamed_stance : (next : Next) (j a : ℕ) (s t : Stance) → is_other (named_in next) j ≡ true → j ≢ a → or_else (first_of (if_named j next) (if a == j then Some s else None)) t ≡ t
+unnamed_stance Nothing j a s t e h = λ i. or_else (if another a j h i then Some s else None) t
+unnamed_stance (HandedTo n) j a s t e h = by_test (n == j) e
+  where
+    by_test : (b : Bool) → not b ≡ true → or_else (first_of (if b then Some HandedOver else None) (if a == j then Some s else None)) t ≡ t
+    by_test true f = absurd (off f)
+    by_test false f = λ i. or_else (if another a j h i then Some s else None) t
+unnamed_stance (Dropped n line) j a s t e h = by_test (n == j) e
+  where
+    by_test : (b : Bool) → not b ≡ true → or_else (first_of (if b then Some (DroppedBy line) else None) (if a == j then Some s else None)) t ≡ t
+    by_test true f = absurd (off f)
+    by_test false f = λ i. or_else (if another a j h i then Some s else None) t
+
+pub other_queued : (q : Option Body) (a j : ℕ) (past : List Entry) → ((b : Body) → q ≡ Some b → b.actor ≡ a) → j ≢ a → first_of (if_of j q) (last_queued j past) ≡ last_queued j past
+other_queued None a j past from h = refl
+other_queued (Some b) a j past from h =
+    let apart : (b.actor == j) ≡ false = another b.actor j (λ is. h (is ∙ from b refl)) in
+    λ i. first_of (if apart i then Some b else None) (last_queued j past)
+
+body_in : Body → Option Body → Body
+body_in c None = c
+body_in c (Some b) = b
+
+pub some_is : (c b : Body) → (let q : Option Body = Some c in q ≡ Some b) → c ≡ b
+unfolding body_in
+some_is c b e = ap (body_in c) e
+
+pub queued_actor : (a : ℕ) (r : Request) (w : Recorded) (b : Body) → queued_by (Asked a r w) ≡ Some b → b.actor ≡ a
+queued_actor a (Call o p vs) Queued b e = sym (ap (λ (c : Body). c.actor) (some_is (record { actor = a; object = o; operation = p }) b e))
+queued_actor a (Call o p vs) w b e = absurd (cc)
+queued_actor a r w b e = absurd (cc)
+
+-- the last queued call of an actor is its own
+pub last_actor : (n : ℕ) (past : List Entry) (b : Body) → last_queued n past ≡ Some b → b.actor ≡ n
+last_actor n [] b e = absurd (cc)
+last_actor n (x ∷ past) b e = by_call (queued_by x) (last_actor n past b) e
+  where
+    by_test : (c : Body) (t : Bool) → (last_queued n past ≡ Some b → b.actor ≡ n) → (c.actor == n) ≡ t → first_of (if t then Some c else None) (last_queued n past) ≡ Some b → b.actor ≡ n
+    by_test c true rest is f = sym (ap (λ (d : Body). d.actor) (some_is c b f)) ∙ same_number c.actor n is
+    by_test c false rest is f = rest f
+
+    by_call : (q : Option Body) → (last_queued n past ≡ Some b → b.actor ≡ n) → first_of (if_of n q) (last_queued n past) ≡ Some b → b.actor ≡ n
+    by_call None rest e = rest e
+    by_call (Some c) rest e = by_test c (c.actor == n) rest refl e
+
+-- what another holds
+skip : (j : ℕ) (b : Body) (bs : List Body) → b.actor ≢ j → filter (by j) (b ∷ bs) ≡ filter (by j) bs
+skip j b bs h = grind (arith, nat_tests)
+
+skip_begun : (j : ℕ) (q : Option Body) (bs : List Body) → ((b : Body) → q ≡ Some b → b.actor ≢ j) → filter (by j) (begun q bs) ≡ filter (by j) bs
+skip_begun j None bs h = refl
+skip_begun j (Some b) bs h = skip j b bs (h b refl)
+
+pub held_other : (shapes : List Shape) (past : List Entry) (a : ℕ) (r : Request) (w : Recorded) (j : ℕ) → j ≢ a → is_other (named_in (next_of (Asked a r w))) j ≡ true → held shapes j (Asked a r w ∷ past) ≡ held shapes j past
+held_other shapes past a (Call o p vs) Started j h e = skip j (record { actor = a; object = o; operation = p }) (under_way shapes past) (λ is. h (sym is))
+held_other shapes past a (Call o p vs) w j h e = refl
+held_other shapes past a Fire Started j h e = by_handler (handler shapes (a - 1))
+  where
+    by_handler : (s : Option OperationNumber) → filter (by j) (begun (fired a s) (under_way shapes past)) ≡ held shapes j past
+    by_handler None = refl
+    by_handler (Some s) = skip j (record { actor = a; object = s.object; operation = s.operation }) (under_way shapes past) (λ is. h (sym is))
+held_other shapes past a Fire w j h e = refl
+held_other shapes past a (Complete vs x) (Done Nothing) j h e = filter_others j a (under_way shapes past) (λ is. h (sym is))
+held_other shapes past a (Complete vs x) (Done (HandedTo n)) j h e =
+    skip_begun j (last_queued n past) (without a (under_way shapes past))
+    (λ b is same. off (sym (ap (λ m. not (m == j)) (sym (last_actor n past b is) ∙ same) ∙ ap not (itself j)) ∙ e))
+    ∙ filter_others j a (under_way shapes past) (λ is. h (sym is))
+held_other shapes past a (Complete vs x) (Done (Dropped n line)) j h e = filter_others j a (under_way shapes past) (λ is. h (sym is))
+held_other shapes past a (Complete vs x) w j h e = filter_others j a (under_way shapes past) (λ is. h (sym is))
+held_other shapes past a Resume w j h e = refl
+held_other shapes past a (DelayUntil t) w j h e = refl
+held_other shapes past a Clock w j h e = refl
+held_other shapes past a Quit w j h e = refl
+held_other shapes past a (Tick n) w j h e = refl
+held_other shapes past a Halt w j h e = refl

@@ -1,0 +1,294 @@
+-- On a legal history each queued actor is a task at that call, which holds nothing and asks nothing more.
+use Rattle.std.proofs.Common.{◌≡◌, ◌≢◌, ℕ, suc, ◌-◌, ◌<◌, ◌≤◌, List, [], ◌∷◌, ◌++◌, length, Some, None, Option, Bool, true, false, arith, ap, subst, sym, ◌∙◌, refl, length-append, cond}
+use Rattle.std.specs.Prelude.{ℤ, nat_lt, ◌==◌, ◌&&◌, not, if◌then◌else◌, slice_get}
+use Rattle.std.specs.List.{filter}
+use Rattle.std.proofs.lemmas.Bool.Decides.{nat_tests}
+use Rattle.rv_access.specs.Words.{Words}
+use Rattle.rv_shape.specs.Shape.{Shape}
+use Rattle.rv_event.specs.Recorded.{recorded}
+use Rattle.rv_shape.specs.Catalogue.{UnitTask, Who, Operator, Line, Task, Nobody, Site, who, task_of, all_tasks, tasks_of, first_of, Target, Nowhere, OnProtected, OnSuspension, target, is_entry, is_function}
+use Rattle.rv_event.specs.Past.{held, under_way, next_of, named_in, stance, halted, mode, mode_by, last_queued, waiting, queued_by, joined, left}
+use Rattle.rv_event.specs.declared.entry.Stance.{Stance}
+use Rattle.rv_event.specs.declared.entry.Stance.TheVariants.{Free, InQueue, HandedOver, DroppedBy, WaitsOn, WaitsUntil, Gone}
+use Rattle.rv_event.specs.declared.entry.Body.{Body}
+use Rattle.rv_shape.specs.declared.suspension.SuspensionOperation.{SuspensionOperation}
+use Rattle.rv_shape.specs.declared.suspension.SuspensionOperation.TheVariants.{SetTrue, SetFalse, CurrentState, SuspendUntilTrue}
+use Rattle.rv_event.specs.declared.entry.Mode.TheVariants as Modes
+use Rattle.rv_event.specs.declared.entry.Rule.TheVariants as Rules
+use Rattle.rv_event.specs.declared.entry.Entry.{Entry}
+use Rattle.rv_event.specs.declared.entry.Entry.TheVariants.{Asked, Load, ListChange}
+use Rattle.rv_event.specs.declared.entry.Request.{Request}
+use Rattle.rv_event.specs.declared.entry.Request.TheVariants.{Call, Complete, Resume, DelayUntil, Clock, Fire, Quit, Tick, Halt}
+use Rattle.rv_event.specs.declared.entry.Recorded.{Recorded}
+use Rattle.rv_event.specs.declared.entry.Recorded.TheVariants.{Queued}
+use Rattle.rv_event.specs.declared.entry.Answer.{Answer}
+use Rattle.rv_event.specs.declared.entry.Answer.TheVariants as Answers
+use Rattle.rv_history.specs.History.{History, version}
+use Rattle.rv_history.specs.Exclusion.{excluded, is_barred, full_queue, is_open}
+use Rattle.rv_history.specs.Owed.{actors}
+use Rattle.rv_history.specs.Rules.{holds_any, breaks}
+use Rattle.rv_history.specs.Fitting.{Service, may_call, in_body, idle_line, idle_task, is_operator, is_time, is_tick, call_fits}
+use Rattle.rv_history.specs.Due.{out, due_resume, judged, performed, due_call}
+use Rattle.rv_history.specs.Legal.{IsLegal}
+use Rattle.rv_history.proofs.Answered.{off, both, and_none, and_true, Answered, answered}
+use Rattle.rv_history.proofs.Exactly.{not_halted}
+use Rattle.rv_history.proofs.Loaded.{way_stays}
+use Rattle.rv_history.proofs.Stances.{itself, below, own_stance, is_other, unnamed_stance, other_queued, queued_actor, some_is, held_other}
+
+-- One that is queued gets no recorded answer.
+
+queued_calls_none : (w : Who) → may_call w Modes.Queued ≡ false
+queued_calls_none Operator = refl
+queued_calls_none (Line line) = refl
+queued_calls_none (Task task) = refl
+queued_calls_none Nobody = refl
+
+queued_fires_none : (w : Who) → idle_line w Modes.Queued ≡ false
+queued_fires_none Operator = refl
+queued_fires_none (Line line) = refl
+queued_fires_none (Task task) = refl
+queued_fires_none Nobody = refl
+
+queued_quits_none : (w : Who) → idle_task w Modes.Queued ≡ false
+queued_quits_none Operator = refl
+queued_quits_none (Line line) = refl
+queued_quits_none (Task task) = refl
+queued_quits_none Nobody = refl
+
+no_operator : (shapes : List Shape) (a : ℕ) → nat_lt a 11 ≡ false → is_operator (who shapes a) ≡ false
+no_operator shapes a e =
+    let other : (a == 0) ≡ false = grind (arith, nat_tests) in
+    ap (λ (p : Bool × Bool). is_operator (if p.0 then Operator else (if p.1 then Line (a - 1) else task_of (slice_get (all_tasks shapes) (a - 11))))) (λ i. (other i, e i))
+    ∙ task_is (slice_get (all_tasks shapes) (a - 11))
+  where
+    task_is : (o : Option UnitTask) → is_operator (task_of o) ≡ false
+    task_is None = refl
+    task_is (Some task) = refl
+
+calls_not : (h : History) (a : ℕ) → stance a h.past ≡ InQueue → may_call (who h.shapes a) (mode h.shapes a h.past) ≡ false
+calls_not h a at = ap (λ s. may_call (who h.shapes a) (mode_by (held h.shapes a h.past) s)) at ∙ queued_calls_none (who h.shapes a)
+
+waits_on : (h : History) (b : Bool) (w : Recorded) → recorded (if b then Answers.Halted else Answers.Waiting) ≡ Some w → ⊥
+waits_on h true w e = cc
+waits_on h false w e = cc
+
+-- a request that doesn't fit isn't recorded
+unfit : (b : Bool) → b ≡ false → b ≡ true → ⊥
+unfit b e f = off (sym e ∙ f)
+
+silent_at : (serves : Service) (h : History) (a : ℕ) (r : Request) (w : Recorded) → stance a h.past ≡ InQueue → nat_lt a 11 ≡ false → Answered serves h a r w → ⊥
+silent_at serves h a (Call o p vs) w at task g = unfit _ (and_none _ (call_fits (length (held h.shapes a h.past)) vs (target h.shapes o p)) (calls_not h a at)) g.fits_in
+silent_at serves h a (Complete vs x) w at task g = unfit _ (and_none _ _ (ap (λ s. in_body (mode_by (held h.shapes a h.past) s)) at)) g.fits_in
+silent_at serves h a Resume w at task g = waits_on h (halted h.past) w (sym (ap (λ s. recorded (due_resume h a s)) at) ∙ g.said)
+silent_at serves h a (DelayUntil t) w at task g = unfit _ (and_none _ (is_time t) (calls_not h a at)) g.fits_in
+silent_at serves h a Clock w at task g = unfit _ (calls_not h a at) g.fits_in
+silent_at serves h a Fire w at task g = unfit _ (ap (λ s. idle_line (who h.shapes a) (mode_by (held h.shapes a h.past) s)) at ∙ queued_fires_none (who h.shapes a)) g.fits_in
+silent_at serves h a Quit w at task g = unfit _ (ap (λ s. idle_task (who h.shapes a) (mode_by (held h.shapes a h.past) s)) at ∙ queued_quits_none (who h.shapes a)) g.fits_in
+silent_at serves h a (Tick n) w at task g = unfit _ (and_none _ (is_tick n) (no_operator h.shapes a task)) g.fits_in
+silent_at serves h a Halt w at task g = unfit _ (no_operator h.shapes a task) g.fits_in
+
+pub silent : (serves : Service) (h : History) (a : ℕ) (r : Request) (w : Recorded) → stance a h.past ≡ InQueue → nat_lt a 11 ≡ false → recorded (out serves h a r) ≡ Some w → ⊥
+silent serves h a r w at task e = silent_at serves h a r w at task (answered serves h a r w e)
+
+-- What joined a queue.
+
+pub record Joins (h : History) (a o p : ℕ) : Type 0 where
+  pub site : Site
+  pub at : target h.shapes o p ≡ OnProtected site
+  pub entry : is_entry site.operation.kind ≡ true
+  pub free : excluded h o (is_function site.operation.kind) ≡ false
+  pub shut : is_open h o ≡ false
+  pub short : full_queue h o ≡ false
+  pub going : halted h.past ≡ false
+  pub task : nat_lt a 11 ≡ false
+  pub known : a < actors h.shapes
+  pub none : held h.shapes a h.past ≡ []
+
+record Tests (blocking busy closed full : Bool) : Type 0 where
+  calm : blocking ≡ false
+  free : busy ≡ false
+  shut : closed ≡ true
+  short : full ≡ false
+
+-- the tests where `judged` queues
+judged_queues : (v l : ℕ) (vs : List ℤ) (denied blocking reentry above busy closed full : Bool) → recorded (judged v l vs denied blocking reentry above busy closed full) ≡ Some Queued → Tests blocking busy closed full
+judged_queues v l vs true b r a y c f e = absurd (cc)
+judged_queues v l vs false true r a y c f e = absurd (cc)
+judged_queues v l vs false false true a y c f e = absurd (cc)
+judged_queues v l vs false false false true y c f e = absurd (cc)
+judged_queues v l vs false false false false true c f e = absurd (cc)
+judged_queues v l vs false false false false false true true e = absurd (cc)
+judged_queues v l vs false false false false false true false e = record { calm = refl; free = refl; shut = refl; short = refl }
+judged_queues v l vs false false false false false false f e = absurd (cc)
+
+never_performed : (v : ℕ) (blocking waited state : Bool) (d : SuspensionOperation) → recorded (performed v blocking waited state d) ≡ Some Queued → ⊥
+never_performed v b w s SetTrue e = cc
+never_performed v b w s SetFalse e = cc
+never_performed v b w s CurrentState e = cc
+never_performed v true w s SuspendUntilTrue e = cc
+never_performed v false true s SuspendUntilTrue e = cc
+never_performed v false false true SuspendUntilTrue e = cc
+never_performed v false false false SuspendUntilTrue e = cc
+
+denied_or : (b : Bool) (line v : ℕ) (x : Answer) → (recorded x ≡ Some Queued → ⊥) → recorded (if b then Answers.Refused Rules.Grant line v else x) ≡ Some Queued → ⊥
+denied_or true line v x h e = cc
+denied_or false line v x h e = h e
+
+nothing_held : (bs : List Body) → nat_lt 0 (length bs) ≡ false → bs ≡ []
+nothing_held [] e = refl
+nothing_held (b ∷ bs) e = absurd (off (sym e ∙ some (length bs)))
+  where
+    some : (n : ℕ) → nat_lt 0 (suc n) ≡ true
+    some n = grind (arith, nat_tests)
+
+-- who calls and holds nothing is a task
+abbrev pub is_task : Who → Bool
+is_task Operator = false
+is_task (Line line) = false
+is_task (Task task) = true
+is_task Nobody = false
+
+caller : (w : Who) (s : Stance) → may_call w (mode_by [] s) ≡ true → is_task w ≡ true
+caller (Task task) s e = refl
+caller Operator s e = absurd (off e)
+caller Nobody s e = absurd (off e)
+caller (Line line) Free e = absurd (off e)
+caller (Line line) InQueue e = absurd (off e)
+caller (Line line) HandedOver e = absurd (off e)
+caller (Line line) (DroppedBy n) e = absurd (off e)
+caller (Line line) (WaitsOn o) e = absurd (off e)
+caller (Line line) (WaitsUntil t) e = absurd (off e)
+caller (Line line) Gone e = absurd (off e)
+
+task_high : (shapes : List Shape) (a : ℕ) → is_task (who shapes a) ≡ true → nat_lt a 11 ≡ false
+task_high shapes a e = by_tests (a == 0) (nat_lt a 11) (task_of (slice_get (all_tasks shapes) (a - 11))) e
+  where
+    by_tests : (b c : Bool) (w : Who) → is_task (if b then Operator else (if c then Line (a - 1) else w)) ≡ true → c ≡ false
+    by_tests true c w e = absurd (off e)
+    by_tests false true w e = absurd (off e)
+    by_tests false false w e = refl
+
+not_open : (b : Bool) → not b ≡ true → b ≡ false
+not_open true e = absurd (off e)
+not_open false e = refl
+
+joins_at : (serves : Service) (h : History) (a o p : ℕ) (vs : List ℤ) (t : Target) → target h.shapes o p ≡ t → Answered serves h a (Call o p vs) Queued → recorded (due_call h a (Call o p vs) o t) ≡ Some Queued → Joins h a o p
+joins_at serves h a o p vs Nowhere is g e = absurd (cc)
+joins_at serves h a o p vs (OnSuspension unit name wanted) is g e = absurd (denied_or _ _ (version h) _ (never_performed (version h) _ _ _ wanted) e)
+joins_at serves h a o p vs (OnProtected s) is g e =
+    let t : Tests (breaks h Rules.Blocking a (Call o p vs) o (OnProtected s)) (excluded h o (is_function s.operation.kind)) (is_barred h o s.operation.kind) (full_queue h o) = judged_queues _ _ _ _ _ _ _ _ _ _ e in
+    let kind = both (is_entry s.operation.kind) (not (is_open h o)) t.shut in
+    let calm : holds_any h a ≡ false = sym (and_true (holds_any h a)) ∙ ap (λ b. holds_any h a && b) (sym kind.0) ∙ t.calm in
+    let none : held h.shapes a h.past ≡ [] = nothing_held (held h.shapes a h.past) calm in
+    let calls = (both (may_call (who h.shapes a) (mode h.shapes a h.past)) (call_fits (length (held h.shapes a h.past)) vs (target h.shapes o p)) g.fits_in).0 in
+    record {
+      site = s;
+      at = is;
+      entry = kind.0;
+      free = t.free;
+      shut = not_open (is_open h o) kind.1;
+      short = t.short;
+      going = not_halted (halted h.past) false refl g.unshut;
+      task = task_high h.shapes a (caller (who h.shapes a) (stance a h.past) (ap (λ bs. may_call (who h.shapes a) (mode_by bs (stance a h.past))) (sym none) ∙ calls));
+      known = below a (actors h.shapes) g.known;
+      none = none;
+    }
+
+pub joins : (serves : Service) (h : History) (a o p : ℕ) (vs : List ℤ) → recorded (out serves h a (Call o p vs)) ≡ Some Queued → Joins h a o p
+joins serves h a o p vs e =
+    let g = answered serves h a (Call o p vs) Queued e in
+    joins_at serves h a o p vs (target h.shapes o p) refl g g.said
+
+-- What holds of a call in a queue: its actor is a task at that call, which holds nothing.
+pub record Waits (shapes : List Shape) (past : List Entry) (call : Body) : Type 0 where
+  pub at : stance call.actor past ≡ InQueue
+  pub task : nat_lt call.actor 11 ≡ false
+  pub known : call.actor < actors shapes
+  pub last : last_queued call.actor past ≡ Some call
+  pub none : held shapes call.actor past ≡ []
+
+abbrev pub AllWait : List Shape → List Entry → List Body → Type 0
+AllWait shapes past [] = Unit {0}
+AllWait shapes past (call ∷ calls) = Waits shapes past call × AllWait shapes past calls
+
+append_wait : (shapes : List Shape) (past : List Entry) (calls : List Body) (call : Body) → AllWait shapes past calls → Waits shapes past call → AllWait shapes past (calls ++ call ∷ [])
+append_wait shapes past [] call all one = (one, tt)
+append_wait shapes past (c ∷ calls) call all one = (all.0, append_wait shapes past calls call all.1 one)
+
+one_stays : (shapes : List Shape) (past : List Entry) (a : ℕ) (r : Request) (w : Recorded) (c : Body) → c.actor ≢ a → is_other (named_in (next_of (Asked a r w))) c.actor ≡ true → Waits shapes past c → Waits shapes (Asked a r w ∷ past) c
+one_stays shapes past a r w c h e v = record {
+  at = unnamed_stance (next_of (Asked a r w)) c.actor a _ (stance c.actor past) e h ∙ v.at;
+  task = v.task;
+  known = v.known;
+  last = other_queued (queued_by (Asked a r w)) a c.actor past (queued_actor a r w) h ∙ v.last;
+  none = held_other shapes past a r w c.actor h e ∙ v.none;
+}
+
+none_named : (shapes : List Shape) (past : List Entry) (a : ℕ) (r : Request) (w : Recorded) (calls : List Body) → named_in (next_of (Asked a r w)) ≡ None →
+    ((c : Body) → Waits shapes past c → c.actor ≢ a) → AllWait shapes past calls → AllWait shapes (Asked a r w ∷ past) calls
+none_named shapes past a r w [] is apart all = tt
+none_named shapes past a r w (c ∷ cs) is apart all =
+    (one_stays shapes past a r w c (apart c all.0) (ap (λ n. is_other n c.actor) is) all.0, none_named shapes past a r w cs is apart all.1)
+
+one_named : (shapes : List Shape) (past : List Entry) (a : ℕ) (r : Request) (w : Recorded) (n : ℕ) (calls : List Body) → named_in (next_of (Asked a r w)) ≡ Some n →
+    ((c : Body) → Waits shapes past c → c.actor ≢ a) → AllWait shapes past calls → AllWait shapes (Asked a r w ∷ past) (filter (λ c. not (c.actor == n)) calls)
+one_named shapes past a r w n [] is apart all = tt
+one_named shapes past a r w n (c ∷ cs) is apart all = by_test (c.actor == n) refl (one_named shapes past a r w n cs is apart all.1)
+  where
+    by_test : (b : Bool) → (c.actor == n) ≡ b → AllWait shapes (Asked a r w ∷ past) (filter (λ c. not (c.actor == n)) cs) → AllWait shapes (Asked a r w ∷ past) (cond (not b) (c ∷ filter (λ c. not (c.actor == n)) cs) (filter (λ c. not (c.actor == n)) cs))
+    by_test true e rest = rest
+    by_test false e rest =
+        let turned : (n == c.actor) ≡ false = grind (arith, nat_tests) in
+        (one_stays shapes past a r w c (apart c all.0) (ap (λ m. is_other m c.actor) is ∙ ap not turned) all.0, rest)
+
+others_stay : (shapes : List Shape) (past : List Entry) (a : ℕ) (r : Request) (w : Recorded) (calls : List Body) (n : Option ℕ) → named_in (next_of (Asked a r w)) ≡ n →
+    ((c : Body) → Waits shapes past c → c.actor ≢ a) → AllWait shapes past calls → AllWait shapes (Asked a r w ∷ past) (left n calls)
+others_stay shapes past a r w calls None is apart all = none_named shapes past a r w calls is apart all
+others_stay shapes past a r w calls (Some n) is apart all = one_named shapes past a r w n calls is apart all
+
+-- what joined
+new_wait : (serves : Service) (h : History) (a : ℕ) (r : Request) (w : Recorded) (q : Option Body) → queued_by (Asked a r w) ≡ q → recorded (out serves h a r) ≡ Some w → (calls : List Body) →
+    AllWait h.shapes (Asked a r w ∷ h.past) calls → AllWait h.shapes (Asked a r w ∷ h.past) (joined q calls)
+new_wait serves h a r w None is due calls all = all
+new_wait serves h a (Call o p vs) Queued (Some b) is due calls all =
+    let j = joins serves h a o p vs due in
+    let self : Body = record { actor = a; object = o; operation = p } in
+    let same : self ≡ b = some_is self b is in
+    append_wait h.shapes (Asked a (Call o p vs) Queued ∷ h.past) calls b all (subst (λ c. Waits h.shapes (Asked a (Call o p vs) Queued ∷ h.past) c) same (record {
+      at = own_stance a (Call o p vs) Queued h.past refl;
+      task = j.task;
+      known = j.known;
+      last = λ i. first_of (if itself a i then Some self else None) (last_queued a h.past);
+      none = j.none;
+    }))
+new_wait serves h a (Call o p vs) w (Some b) is due calls all = absurd (cc)
+new_wait serves h a r w (Some b) is due calls all = absurd (cc)
+
+-- a load
+more_wait : (old more : List Shape) (past : List Entry) (e : Entry) (calls : List Body) → ((c : Body) → Waits old past c → Waits more (e ∷ past) c) → AllWait old past calls → AllWait more (e ∷ past) calls
+more_wait old more past e [] stays all = tt
+more_wait old more past e (c ∷ cs) stays all = (stays c all.0, more_wait old more past e cs stays all.1)
+
+more_tasks : (old : List Shape) (s : Shape) → actors old ≤ actors (old ++ s ∷ [])
+more_tasks [] s = omega arith
+more_tasks (x ∷ old) s =
+    omega (arith, more_tasks old s, length-append (tasks_of x) (all_tasks old), length-append (tasks_of x) (all_tasks (old ++ s ∷ [])))
+
+pub legal_waits : (serves : Service) (c : ℕ) (past : List Entry) (shapes : List Shape) (lists : List (List Words)) → IsLegal serves c past shapes lists → AllWait shapes past (waiting past)
+legal_waits serves c [] shapes lists l = tt
+legal_waits serves c (Asked a r w ∷ past) shapes lists l =
+    let h : History = record { capacity = c; past = past; shapes = shapes; lists = lists } in
+    let before = legal_waits serves c past shapes lists l.0 in
+    new_wait serves h a r w (queued_by (Asked a r w)) refl l.1 _
+    (others_stay shapes past a r w (waiting past) (named_in (next_of (Asked a r w))) refl
+    (λ b v is. silent serves h a r w (ap (λ n. stance n past) (sym is) ∙ v.at) (ap (λ n. nat_lt n 11) (sym is) ∙ v.task) l.1)
+    before)
+legal_waits serves c (Load ∷ past) shapes lists l =
+    let before = legal_waits serves c past l.0 lists l.3 in
+    let ways : under_way (l.0 ++ l.1 ∷ []) past ≡ under_way l.0 past = way_stays serves c past l.0 (l.1 ∷ []) lists l.3 in
+    subst (λ (ss : List Shape). AllWait ss (Load ∷ past) (waiting past)) (sym l.2)
+    (more_wait l.0 (l.0 ++ l.1 ∷ []) past Load (waiting past)
+    (λ b v. record { at = v.at; task = v.task; known = omega (arith, v.known, more_tasks l.0 l.1); last = v.last; none = ap (λ bs. filter (λ c. c.actor == b.actor) bs) ways ∙ v.none }) before)
+legal_waits serves c (ListChange ∷ past) shapes lists l =
+    let before = legal_waits serves c past shapes l.0 l.3 in
+    more_wait shapes shapes past ListChange (waiting past) (λ b v. record { at = v.at; task = v.task; known = v.known; last = v.last; none = v.none }) before

@@ -1,0 +1,63 @@
+//! What becomes of queued callers.
+
+ghost use Rattle.std.specs.List.{list_any};
+ghost use Rattle.std.specs.Prelude.{◌≡◌, ◌↔◌, ◌⊎◌, ℕ, ℤ, List, [], false, true};
+ghost use Rattle.rv_event.specs.Past.{halted, queue, under_way};
+ghost use Rattle.rv_event.specs.declared.entry.Answer.TheVariants.{Done};
+ghost use Rattle.rv_event.specs.declared.entry.Exit.{Exit};
+ghost use Rattle.rv_event.specs.declared.entry.Next.TheVariants.{Dropped, HandedTo, Nothing};
+ghost use Rattle.rv_event.specs.declared.entry.Next.{Next};
+ghost use Rattle.rv_event.specs.declared.entry.Request.TheVariants.{Complete};
+ghost use Rattle.rv_event.specs.declared.entry.Request.{Request};
+ghost use Rattle.rv_history.specs.Due.{out};
+ghost use Rattle.rv_history.specs.Exclusion.{is_open};
+ghost use Rattle.rv_history.specs.Fitting.{Service};
+ghost use Rattle.rv_history.specs.HandOver.{IsDropped, IsHandedOver, IsOnlyDropped, is_complete};
+ghost use Rattle.rv_history.specs.History.{History};
+ghost use Rattle.rv_history.specs.Legal.{Legal, after};
+ghost use Rattle.rv_history.specs.Orderly.{is_exclusive_on};
+ghost use Rattle.rv_history.specs.Owed.{IsSolvent};
+
+/// While the host isn't halted, an object that nobody holds exclusively, so a free one too, has a
+/// closed barrier or an empty queue.
+#[tactic(auto, using(crate::proofs::Settled::free_settled))]
+pub fn free_objects_are_closed_or_unqueued()
+    ensures { (serves : Service) (h : History) (object : ℕ) → Legal serves h → halted h.past ≡ false →
+        list_any (is_exclusive_on h.shapes object) (under_way h.shapes h.past) ≡ false →
+        (is_open h object ≡ false) ⊎ (queue object h.past ≡ []) }
+{}
+
+/// At an end, a queued caller is handed the object exactly where the end is an exclusive body's,
+/// the host isn't halted, the barrier is open, the caller is first and the list in force grants its
+/// call.
+pub fn handed_over_exactly_when_granted()
+    ensures { (serves : Service) (h : History) (actor : ℕ) (values : List ℤ) (exit : Exit) (caller : ℕ) →
+        Legal serves h → IsSolvent h →
+        (out serves h actor (Complete values exit) ≡ Done (HandedTo caller))
+        ↔ IsHandedOver serves h actor values exit caller }
+{}
+
+/// It is dropped exactly where the list doesn't.
+pub fn dropped_exactly_when_denied()
+    ensures { (serves : Service) (h : History) (actor : ℕ) (values : List ℤ) (exit : Exit)
+        (caller line : ℕ) →
+        Legal serves h → IsSolvent h →
+        (out serves h actor (Complete values exit) ≡ Done (Dropped caller line))
+        ↔ IsDropped serves h actor values exit caller line }
+{}
+
+/// Nothing but an end is answered Done, so nothing else hands over or drops.
+pub fn only_ends_name_queued_callers()
+    ensures { (serves : Service) (h : History) (actor : ℕ) (request : Request) (next : Next) →
+        out serves h actor request ≡ Done next → is_complete request ≡ true }
+{}
+
+/// A queued call that is found denied leaves its queue, and that is all that the denial changes.
+#[tactic(auto, using(crate::proofs::HandOver::only_dropped))]
+pub fn denials_only_drop()
+    ensures { (serves : Service) (h : History) (actor : ℕ) (values : List ℤ) (exit : Exit)
+        (caller line : ℕ) →
+        Legal serves h → out serves h actor (Complete values exit) ≡ Done (Dropped caller line) →
+        IsOnlyDropped h (after h actor (Complete values exit) (Done (Dropped caller line)))
+        (after h actor (Complete values exit) (Done Nothing)) caller }
+{}

@@ -1,0 +1,10 @@
+pub mod Objects
+pub mod Shape
+pub mod Catalogue
+pub mod Fits
+pub mod Readers
+pub mod Items
+pub mod ShapeText
+pub mod Drafts
+pub mod Names
+pub mod Printed
