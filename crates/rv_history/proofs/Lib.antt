@@ -21,3 +21,8 @@ pub mod HandOver
 pub mod NeverFull
 pub mod During
 pub mod Naming
+pub mod Frame
+pub mod Silent
+pub mod Closing
+pub mod Clocks
+pub mod Released
