@@ -26,3 +26,4 @@ pub mod Silent
 pub mod Closing
 pub mod Clocks
 pub mod Released
+pub mod Handing
