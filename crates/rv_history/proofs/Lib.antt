@@ -27,3 +27,4 @@ pub mod Closing
 pub mod Clocks
 pub mod Released
 pub mod Handing
+pub mod Fires
