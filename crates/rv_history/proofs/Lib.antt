@@ -28,3 +28,4 @@ pub mod Clocks
 pub mod Released
 pub mod Handing
 pub mod Fires
+pub mod Costs
