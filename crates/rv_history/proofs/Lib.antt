@@ -29,3 +29,5 @@ pub mod Released
 pub mod Handing
 pub mod Fires
 pub mod Costs
+pub mod Stepping
+pub mod Growing
