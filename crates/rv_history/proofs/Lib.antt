@@ -31,3 +31,4 @@ pub mod Fires
 pub mod Costs
 pub mod Stepping
 pub mod Growing
+pub mod Resumes
