@@ -1,13 +1,11 @@
 -- Whom an end hands over to holds its call's body, on the object of the end, and is woken with the values of the end;
 -- one that was dropped is told of the drop.
-use Rattle.std.proofs.Common.{◌≡◌, ◌≢◌, ℕ, ◌+◌, ◌<◌, ◌≤◌, List, [], ◌∷◌, ◌++◌, length, Some, None, Option, Bool, true, false, cond, arith, ap, subst, sym, ◌∙◌, refl}
-use Rattle.std.specs.Prelude.{ℤ, nat_lt, ◌==◌, ◌&&◌, ◌||◌, not, is_some, slice_get, if◌then◌else◌}
+use Rattle.std.proofs.Common.{◌≡◌, ℕ, List, [], ◌∷◌, ◌++◌, length, Some, None, true, false, cond, arith, ap, subst, sym, ◌∙◌, refl}
+use Rattle.std.specs.Prelude.{ℤ, ◌==◌, is_some, slice_get, if◌then◌else◌}
 use Rattle.std.specs.List.{filter, list_all, list_any}
-use Rattle.std.proofs.lemmas.Bool.Decides.{nat_tests}
-use Rattle.rv_access.specs.Words.{Words}
 use Rattle.rv_shape.specs.Shape.{Shape}
-use Rattle.rv_shape.specs.Catalogue.{Site, OnProtected, first_of, is_entry, is_function, shares, target}
-use Rattle.rv_event.specs.Past.{begun, ended, halted, held, innermost, is_own, last_queued, mode, mode_by, or_else, queue, said, scalars, stance, under_way, until_then, waiting, without}
+use Rattle.rv_shape.specs.Catalogue.{first_of, shares, target}
+use Rattle.rv_event.specs.Past.{begun, ended, held, innermost, is_own, last_queued, mode_by, or_else, said, scalars, stance, under_way, until_then, waiting, without}
 use Rattle.rv_event.specs.Recorded.{recorded}
 use Rattle.rv_event.specs.declared.entry.Answer.TheVariants as Answers
 use Rattle.rv_event.specs.declared.entry.Body.{Body}
@@ -18,21 +16,19 @@ use Rattle.rv_event.specs.declared.entry.Next.TheVariants.{Dropped, HandedTo}
 use Rattle.rv_event.specs.declared.entry.Recorded.TheVariants.{Done}
 use Rattle.rv_event.specs.declared.entry.Request.TheVariants.{Call, Complete, Resume, DelayUntil, Clock, Fire, Quit, Tick, Halt}
 use Rattle.rv_event.specs.declared.entry.Rule.TheVariants as Rules
-use Rattle.rv_event.specs.declared.entry.Stance.{Stance}
 use Rattle.rv_event.specs.declared.entry.Stance.TheVariants.{DroppedBy, Free, HandedOver}
 use Rattle.rv_event.proofs.Matching.{by}
-use Rattle.rv_history.specs.Due.{due_resume, gate, out, scalars_held}
-use Rattle.rv_history.specs.Fitting.{awaits, fits}
+use Rattle.rv_history.specs.Due.{out, scalars_held}
 use Rattle.rv_history.specs.Frame.{is_apart}
 use Rattle.rv_history.specs.HandOver.{IsHanded}
 use Rattle.rv_history.specs.History.{History, changes}
-use Rattle.rv_history.specs.Legal.{IsLegal, Legal}
+use Rattle.rv_history.specs.Legal.{Legal}
 use Rattle.rv_history.specs.Orderly.{Each, IsOfEntry}
-use Rattle.rv_history.specs.Owed.{IsSolvent, actors}
+use Rattle.rv_history.specs.Owed.{IsSolvent}
 use Rattle.rv_history.specs.Unended.{IsUnended}
-use Rattle.rv_history.proofs.Answered.{off, and_false}
+use Rattle.rv_history.proofs.Answered.{off}
 use Rattle.rv_history.proofs.Bodies.{count_less, each_filter}
-use Rattle.rv_history.proofs.Closing.{Was, legal_before, legal_split}
+use Rattle.rv_history.proofs.Closing.{legal_before, legal_split}
 use Rattle.rv_history.proofs.During.{scalars_during}
 use Rattle.rv_history.proofs.Ending.{head_on, head_waits, names_at}
 use Rattle.rv_history.proofs.Frame.{all_parts, held_stays, stance_stays, unsaid}

@@ -1,8 +1,7 @@
 -- One that waits on a suspension object is that object's waiter until a Set_True there, which releases it.
-use Rattle.std.proofs.Common.{◌≡◌, ◌≢◌, ◌⊎◌, inl, inr, ℕ, ◌-◌, ◌<◌, List, [], ◌∷◌, ◌++◌, Some, None, Option, Bool, true, false, arith, ap, subst, sym, ◌∙◌, refl}
-use Rattle.std.specs.Prelude.{ℤ, nat_lt, ◌==◌, ◌&&◌, ◌||◌, not, ◌↔◌, is_some, pos, if◌then◌else◌}
+use Rattle.std.proofs.Common.{◌≡◌, ◌⊎◌, inl, inr, ℕ, List, [], ◌∷◌, ◌++◌, Some, None, Option, Bool, true, false, ap, sym, ◌∙◌, refl}
+use Rattle.std.specs.Prelude.{ℤ, ◌==◌, ◌||◌, not, ◌↔◌, is_some, pos, if◌then◌else◌}
 use Rattle.std.specs.List.{list_all, list_any}
-use Rattle.std.proofs.lemmas.Bool.Decides.{nat_tests}
 use Rattle.rv_access.specs.Words.{Words}
 use Rattle.rv_shape.specs.Shape.{Shape}
 use Rattle.rv_shape.specs.Objects.{OperationShape, ProtectedShape}
@@ -11,9 +10,8 @@ use Rattle.rv_shape.specs.declared.object.Object.TheVariants.{Protected, Suspens
 use Rattle.rv_shape.specs.Catalogue.{UnitObject, Target, Nowhere, OnProtected, OnSuspension, at_object, at_operation, at_suspension, at_unit_object, first_of, numbered, place, suspension_operations, target, is_function}
 use Rattle.rv_shape.specs.declared.suspension.SuspensionOperation.{SuspensionOperation}
 use Rattle.rv_shape.specs.declared.suspension.SuspensionOperation.TheVariants.{SetTrue, SetFalse, CurrentState, SuspendUntilTrue}
-use Rattle.rv_event.specs.Past.{Touch, Waits, Sets, Clears, Untouched, accepted_touch, halted, held, if_named, if_own, is_call_on, is_named, is_own, is_set, mode_by, named_in, names, next_of, or_else, released, said, scalars, since, stance, stance_of, state, state_after, touch, touch_of, waiter, waiter_after}
+use Rattle.rv_event.specs.Past.{Touch, Waits, Sets, Clears, Untouched, accepted_touch, if_named, if_own, is_named, is_own, is_set, named_in, names, next_of, or_else, released, said, scalars, since, stance, stance_of, state, state_after, touch, touch_of, waiter, waiter_after}
 use Rattle.rv_event.specs.Recorded.{recorded}
-use Rattle.rv_event.specs.declared.entry.Answer.{Answer}
 use Rattle.rv_event.specs.declared.entry.Answer.TheVariants as Answers
 use Rattle.rv_event.specs.declared.entry.Entry.{Entry}
 use Rattle.rv_event.specs.declared.entry.Entry.TheVariants.{Asked, Load, ListChange}
@@ -25,14 +23,13 @@ use Rattle.rv_event.specs.declared.entry.Request.{Request}
 use Rattle.rv_event.specs.declared.entry.Request.TheVariants.{Call, Complete, Resume, DelayUntil, Clock, Fire, Quit, Tick, Halt}
 use Rattle.rv_event.specs.declared.entry.Rule.TheVariants as Rules
 use Rattle.rv_event.specs.declared.entry.Stance.{Stance}
-use Rattle.rv_event.specs.declared.entry.Stance.TheVariants.{Free, InQueue, HandedOver, DroppedBy, WaitsOn, WaitsUntil, Gone}
-use Rattle.rv_history.specs.Due.{due, due_call, due_resume, gate, goes_on, judged, or_waiting, out, performed, suspended}
+use Rattle.rv_event.specs.declared.entry.Stance.TheVariants.{HandedOver, DroppedBy, WaitsOn}
+use Rattle.rv_history.specs.Due.{due_call, judged, or_waiting, out, performed}
 use Rattle.rv_history.specs.Exclusion.{excluded, full_queue, is_barred}
-use Rattle.rv_history.specs.Fitting.{awaits, fits}
 use Rattle.rv_history.specs.Frame.{is_apart}
 use Rattle.rv_history.specs.History.{History, version}
 use Rattle.rv_history.specs.Legal.{IsLegal, Legal, after}
-use Rattle.rv_history.specs.Owed.{IsSolvent, actors}
+use Rattle.rv_history.specs.Owed.{IsSolvent}
 use Rattle.rv_history.specs.Rules.{breaks, decided}
 use Rattle.rv_history.specs.Subject.{subject}
 use Rattle.rv_history.specs.Suspension.{IsReleased}
