@@ -262,7 +262,7 @@ operation_is p (Some at) unit name d e = by_object at.object e
 
     by_object : (ob : Object) → at_object p at.unit ob ≡ OnSuspension unit name d → numbered suspension_operations p ≡ Some d
     by_object (Protected b) f = by_protected b (numbered b.operations p) f
-    by_object (Suspension n) f = by_suspension n (numbered suspension_operations p) refl f
+    by_object (Suspension s) f = by_suspension s.name (numbered suspension_operations p) refl f
 
 sets : (h : History) (a o p : ℕ) (vs : List ℤ) (v : ℤ) (unit name : List ℕ) → target h.shapes o p ≡ OnSuspension unit name SetTrue → touch o (Asked a (Call o p vs) (Accepted v)) ≡ Sets
 sets h a o p vs v unit name at =
