@@ -50,7 +50,7 @@ statement_begins (null_statement at) old new h = word_begins _ at old h.0 h.1
 statement_begins (assignment n e) old new h = name_begins n old h.0 h.1
 statement_begins (call_statement n es) old new h = name_begins n old h.0 h.1
 statement_begins (if_statement at condition ss parts otherwise) old new h = word_begins _ at old h.0 h.1
-statement_begins (case_statement at selector alternatives) old new h = word_begins _ at old h.0 h.1
+statement_begins (case_statement at selector cases) old new h = word_begins _ at old h.0 h.1
 statement_begins (loop_statement at forever ss) old new h = word_begins _ at old h.0 h.1
 statement_begins (loop_statement at (while_true condition) ss) old new h = word_begins _ at old h.1.0 h.1.1
 statement_begins (loop_statement at (for_each i is_reverse bounds) ss) old new h = word_begins _ at old h.1.0 h.1.1
@@ -61,7 +61,7 @@ statement_begins (delay_statement at is_until e) old new h = word_begins _ at ol
 statement_begins (abort_statement at names) old new h = word_begins _ at old h.0 h.1
 statement_begins (requeue_statement at target with_abort) old new h = word_begins _ at old h.0 h.1
 statement_begins (accept_statement at entry parameters ss end_name) old new h = word_begins _ at old h.0 h.1
-statement_begins (select_statement at alternatives otherwise aborted) old new h = word_begins _ at old h.0 h.1
+statement_begins (select_statement at choices otherwise aborted) old new h = word_begins _ at old h.0 h.1
 
 pragma_begins : (p : Pragma) (old new : List Lexeme) → IsPragma p old new → BeginsAt p.at old
 pragma_begins p old new h = word_begins _ p.at old h.0 h.1

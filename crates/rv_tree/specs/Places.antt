@@ -38,7 +38,7 @@ statement_place (null_statement at) = at
 statement_place (assignment n e) = name_place n
 statement_place (call_statement n es) = name_place n
 statement_place (if_statement at condition ss parts otherwise) = at
-statement_place (case_statement at selector alternatives) = at
+statement_place (case_statement at selector cases) = at
 statement_place (loop_statement at iteration ss) = at
 statement_place (exit_statement at condition) = at
 statement_place (return_statement at e) = at
@@ -47,7 +47,7 @@ statement_place (delay_statement at is_until e) = at
 statement_place (abort_statement at names) = at
 statement_place (requeue_statement at target with_abort) = at
 statement_place (accept_statement at entry parameters ss end_name) = at
-statement_place (select_statement at alternatives otherwise aborted) = at
+statement_place (select_statement at choices otherwise aborted) = at
 
 abbrev pub declaration_place : Declaration → ℕ
 declaration_place (package_pragma p) = p.at

@@ -1,6 +1,6 @@
 //! Parentheses and statements that hold one another.
 
-use crate::damaged_texts::BEFORE_STATEMENTS;
+use super::damaged_texts::BEFORE_STATEMENTS;
 use std::alloc::{AllocError, Global};
 
 /// A text with a piece that stands many times, one inside another.

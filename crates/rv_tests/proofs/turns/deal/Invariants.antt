@@ -1,6 +1,6 @@
 use Rattle.std.proofs.Common.{◌≡◌, ◌≤◌, true}
 use Rattle.rv_turn.specs.Histories.{Each}
-use Rattle.rv_turn.proofs.tests.deal.Given as goal
+use Rattle.rv_tests.proofs.turns.deal.Given as goal
 
 abbrev pub invariant-loop-number : goal.invariant-loop-number
 invariant-loop-number g l = record {

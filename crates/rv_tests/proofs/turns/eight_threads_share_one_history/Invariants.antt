@@ -1,4 +1,4 @@
-use Rattle.rv_turn.proofs.tests.eight_threads_share_one_history.Given as goal
+use Rattle.rv_tests.proofs.turns.eight_threads_share_one_history.Given as goal
 
 -- the turn that was just made
 abbrev pub ghosts-play : goal.ghosts-play

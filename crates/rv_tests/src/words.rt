@@ -1,8 +1,8 @@
 //! Words, values and faults by the rules, worked out by hand.
 
-use crate::fault::LexFault;
-use crate::kind::Kind;
-use crate::lexer::tokens;
+use rv_lex::fault::LexFault;
+use rv_lex::kind::Kind;
+use rv_lex::lexer::tokens;
 use std::test::Fail;
 
 #[test]

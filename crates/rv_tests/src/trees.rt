@@ -1,13 +1,17 @@
 //! Verdicts on whole, damaged, nested and broken texts, with the places worked out by hand from the grammar.
 
-use crate::damaged_texts::{
+mod damaged_texts;
+mod example_texts;
+mod nested_texts;
+
+use damaged_texts::{
     BEFORE_BODIES, BEFORE_DECLARATIONS, BEFORE_EXPRESSIONS, BEFORE_STATEMENTS, BODIES,
     DECLARATIONS, Damage, EXPRESSIONS, STATEMENTS, TEXTS,
 };
-use crate::example_texts::{COMPARING_BARRIER, NAV, PLANT, TWO_ENTRIES, WHOLE_GRAMMAR};
-use crate::nested_texts::nests;
-use crate::{ParseFault, parse};
+use example_texts::{COMPARING_BARRIER, NAV, PLANT, TWO_ENTRIES, WHOLE_GRAMMAR};
+use nested_texts::nests;
 use rv_lex::lexer::tokens;
+use rv_parse::{ParseFault, parse};
 use rv_tree::print;
 use std::alloc::Global;
 use std::process::Abort;

@@ -1,7 +1,7 @@
 use Rattle.std.proofs.Common.{◌+◌, ◌≤◌, ap, sym, subst, arith, ◌∙◌}
 use Rattle.rv_turn.specs.Histories.{Each}
 use Rattle.rv_turn.proofs.Passes.{not_among, each_below}
-use Rattle.rv_turn.proofs.tests.deal.Goals as goal
+use Rattle.rv_tests.proofs.turns.deal.Goals as goal
 
 pub split-requires-clause-actor : goal.split-requires-clause-actor
 split-requires-clause-actor g c = (omega arith, not_among _ _ c.loop-number.invariant.below)
