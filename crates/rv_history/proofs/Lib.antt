@@ -28,3 +28,7 @@ pub mod Clocks
 pub mod Released
 pub mod Handing
 pub mod Fires
+pub mod Costs
+pub mod Stepping
+pub mod Growing
+pub mod Resumes

@@ -138,7 +138,7 @@ fewer_dues past j w e = by_test (j == 0) refl
         let same : dues (Asked 0 Halt w ∷ past) j ≡ dues past j = ap (λ s. dues_by s (nat_lt j 11)) (other_stance 0 j Halt w past e other) in
         omega (arith, same)
 
-pays_halt : (h : History) → halted h.past ≡ false → IsSolvent h → Pays h 0 Halt nothing_more
+pub pays_halt : (h : History) → halted h.past ≡ false → IsSolvent h → Pays h 0 Halt nothing_more
 pays_halt h going solvent =
     let owes : halt_due (halted h.past) ≡ 1 = ap halt_due going in
     paid_as h 0 Halt nothing_more (Accepted (pos 0)) refl

@@ -10,6 +10,7 @@ pub mod queues;
 pub mod refusals;
 pub mod room;
 pub mod starts;
+pub mod steps;
 pub mod suspension;
 
 ghost use Rattle.rv_history.specs.Rows as rows;
