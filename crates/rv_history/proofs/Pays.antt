@@ -22,7 +22,7 @@ use Rattle.rv_event.specs.declared.entry.Answer.{Answer}
 use Rattle.rv_event.specs.declared.entry.Answer.TheVariants as Answers
 use Rattle.rv_history.specs.History.{History, changes}
 use Rattle.rv_history.specs.Owed.{surcharge, unfinished, dues, each, actors, halt_due, IsSolvent}
-use Rattle.rv_history.specs.Fitting.{Service, fits, fits_actor, idle_task}
+use Rattle.rv_history.specs.Fitting.{fits, fits_actor, idle_task}
 use Rattle.rv_history.specs.Due.{due, out, gate, within, enough, table, due_resume, or_waiting, scalars_held, nothing_more, goes_on}
 use Rattle.rv_history.proofs.Answered.{off, both, and_true, word_is}
 use Rattle.rv_history.proofs.Stances.{below, own_stance, other_stance}
@@ -95,7 +95,7 @@ pays_resume h a (WaitsUntil time) is some solvent = waits_or_not h a (int_le tim
 pays_resume h a Gone is some solvent = unrecorded h a Resume Answers.Misuse refl
 
 -- a task that quits
-idle_free : (w : Who) (bs : List Body) (s : Stance) → idle_task w (mode_by bs s) ≡ true → s ≡ Free
+pub idle_free : (w : Who) (bs : List Body) (s : Stance) → idle_task w (mode_by bs s) ≡ true → s ≡ Free
 idle_free w bs Free e = refl
 idle_free (Task task) bs InQueue e = absurd (off e)
 idle_free (Task task) bs HandedOver e = absurd (off e)
@@ -107,7 +107,7 @@ idle_free Operator bs s e = absurd (off e)
 idle_free (Line line) bs s e = absurd (off e)
 idle_free Nobody bs s e = absurd (off e)
 
-idle_high : (shapes : List Shape) (a : ℕ) (m : Mode) → idle_task (who shapes a) m ≡ true → nat_lt a 11 ≡ false
+pub idle_high : (shapes : List Shape) (a : ℕ) (m : Mode) → idle_task (who shapes a) m ≡ true → nat_lt a 11 ≡ false
 idle_high shapes a m e = by_tests (a == 0) (nat_lt a 11) (task_of (slice_get (all_tasks shapes) (a - 11))) e
   where
     by_tests : (b c : Bool) (w : Who) → idle_task (if b then Operator else (if c then Line (a - 1) else w)) m ≡ true → c ≡ false
@@ -138,7 +138,7 @@ fewer_dues past j w e = by_test (j == 0) refl
         let same : dues (Asked 0 Halt w ∷ past) j ≡ dues past j = ap (λ s. dues_by s (nat_lt j 11)) (other_stance 0 j Halt w past e other) in
         omega (arith, same)
 
-pays_halt : (h : History) → halted h.past ≡ false → IsSolvent h → Pays h 0 Halt nothing_more
+pub pays_halt : (h : History) → halted h.past ≡ false → IsSolvent h → Pays h 0 Halt nothing_more
 pays_halt h going solvent =
     let owes : halt_due (halted h.past) ≡ 1 = ap halt_due going in
     paid_as h 0 Halt nothing_more (Accepted (pos 0)) refl
@@ -157,20 +157,20 @@ within_paid h a r x p = by_word (recorded x) refl
     by_word None is = refl
     by_word (Some w) is = ap (λ b. within b x) (to_room _ h.capacity (p.pays w is))
 
-pub out_due : (serves : Service) (h : History) (a : ℕ) (r : Request) → (fits serves h a r ≡ true → (halted h.past && not (goes_on r)) ≡ false → Pays h a r (table h a r)) → out serves h a r ≡ due serves h a r
-out_due serves h a r p = within_paid h a r (due serves h a r) (pays_gate h a r (fits serves h a r) (halted h.past && not (goes_on r)) (table h a r) p)
+pub out_due : (h : History) (a : ℕ) (r : Request) → (fits h a r ≡ true → (halted h.past && not (goes_on r)) ≡ false → Pays h a r (table h a r)) → out h a r ≡ due h a r
+out_due h a r p = within_paid h a r (due h a r) (pays_gate h a r (fits h a r) (halted h.past && not (goes_on r)) (table h a r) p)
 
 -- the parts of what fits
-pub fit_parts : (serves : Service) (h : History) (a : ℕ) (r : Request) → fits serves h a r ≡ true → (a < actors h.shapes) × (fits_actor h a r ≡ true)
-fit_parts serves h a r f =
-    let parts = both (nat_lt a (actors h.shapes)) (serves h a r && fits_actor h a r) f in
-    (below a (actors h.shapes) parts.0, (both (serves h a r) (fits_actor h a r) parts.1).1)
+pub fit_parts : (h : History) (a : ℕ) (r : Request) → fits h a r ≡ true → (a < actors h.shapes) × (fits_actor h a r ≡ true)
+fit_parts h a r f =
+    let parts = both (nat_lt a (actors h.shapes)) (fits_actor h a r) f in
+    (below a (actors h.shapes) parts.0, parts.1)
 
-pub resume_never_full : (serves : Service) (h : History) (a : ℕ) → IsSolvent h → out serves h a Resume ≡ due serves h a Resume
-resume_never_full serves h a solvent = out_due serves h a Resume (λ f c. pays_resume h a (stance a h.past) refl (fit_parts serves h a Resume f).0 solvent)
+pub resume_never_full : (h : History) (a : ℕ) → IsSolvent h → out h a Resume ≡ due h a Resume
+resume_never_full h a solvent = out_due h a Resume (λ f c. pays_resume h a (stance a h.past) refl (fit_parts h a Resume f).0 solvent)
 
-pub quit_never_full : (serves : Service) (h : History) (a : ℕ) → IsSolvent h → out serves h a Quit ≡ due serves h a Quit
-quit_never_full serves h a solvent = out_due serves h a Quit (λ f c. let t = fit_parts serves h a Quit f in pays_quit h a t.1 t.0 solvent)
+pub quit_never_full : (h : History) (a : ℕ) → IsSolvent h → out h a Quit ≡ due h a Quit
+quit_never_full h a solvent = out_due h a Quit (λ f c. let t = fit_parts h a Quit f in pays_quit h a t.1 t.0 solvent)
 
-pub halt_never_full : (serves : Service) (h : History) → IsSolvent h → out serves h 0 Halt ≡ due serves h 0 Halt
-halt_never_full serves h solvent = out_due serves h 0 Halt (λ f c. pays_halt h (sym (and_true (halted h.past)) ∙ c) solvent)
+pub halt_never_full : (h : History) → IsSolvent h → out h 0 Halt ≡ due h 0 Halt
+halt_never_full h solvent = out_due h 0 Halt (λ f c. pays_halt h (sym (and_true (halted h.past)) ∙ c) solvent)

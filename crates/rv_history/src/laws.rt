@@ -1,18 +1,21 @@
 //! Laws over histories, each on a function that does nothing.
 
 pub mod bodies;
+pub mod clock;
+pub mod closing;
 pub mod journal;
 pub mod loads;
 pub mod orderly;
 pub mod queues;
 pub mod refusals;
 pub mod room;
-pub mod service;
 pub mod starts;
+pub mod steps;
+pub mod suspension;
 
 ghost use Rattle.rv_history.specs.Rows as rows;
 
-/// Worked examples follow from the definitions by computation, with every request taken as served.
+/// Worked examples follow from the definitions by computation.
 pub fn worked_rows()
     ensures no_list { rows.NoList }
     ensures denied_call_granted_function { rows.DeniedCallGrantedFunction }
