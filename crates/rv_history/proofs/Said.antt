@@ -82,8 +82,10 @@ short_in r v good in_it =
     let parts = both (int_le r.low r.high && int_le (lowest r.of) r.low) (int_le r.high (highest r.of)) (not_false _ good) in
     let low = (both (int_le r.low r.high) (int_le (lowest r.of) r.low) parts.0).1 in
     let at = both (int_le r.low v) (int_le v r.high) in_it in
-    short_between v (le_trans _ r.low v (le_trans _ (lowest r.of) r.low (low_enough r.of) low) at.0)
-    (le_trans v r.high _ at.1 (le_trans r.high (highest r.of) _ parts.1 (high_enough r.of)))
+    let first : ℤ = negsuc 999999999999999 in
+    let last : ℤ = pos 1000000000000000 in
+    short_between v (le_trans first r.low v (le_trans first (lowest r.of) r.low (low_enough r.of) low) at.0)
+    (le_trans v r.high last at.1 (le_trans r.high (highest r.of) last parts.1 (high_enough r.of)))
 
 record Fitted (rs : List Range) (vs : List ℤ) : Type 0 where
   short : AreShort vs

@@ -19,7 +19,6 @@ pub fn names_are_found()
 {}
 
 /// The words of a recorded request are read back as that request.
-#[tactic(auto, using(crate::proofs::Said::read_back))]
 pub fn recorded_requests_read_back()
     ensures { (h : History) (actor : ℕ) (request : Request) (word : Recorded) → Legal h →
         recorded (out h actor request) ≡ Some word →
@@ -27,7 +26,6 @@ pub fn recorded_requests_read_back()
 {}
 
 /// So no two recorded requests have one text.
-#[tactic(auto, using(crate::proofs::Said::texts_differ))]
 pub fn requests_differ_in_their_words()
     ensures { (h : History) (actor other : ℕ) (request another : Request) (word answer : Recorded) →
         Legal h → recorded (out h actor request) ≡ Some word →
