@@ -35,3 +35,4 @@ pub mod Resumes
 pub mod Spelled
 pub mod Found
 pub mod Said
+pub mod Told
