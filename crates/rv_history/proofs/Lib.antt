@@ -36,3 +36,4 @@ pub mod Spelled
 pub mod Found
 pub mod Said
 pub mod Told
+pub mod Lines

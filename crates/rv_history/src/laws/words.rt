@@ -12,6 +12,7 @@ ghost use Rattle.rv_event.specs.declared.entry.Recorded.{Recorded};
 ghost use Rattle.rv_event.specs.declared.entry.Request.{Request};
 ghost use Rattle.rv_history.specs.Due.{out};
 ghost use Rattle.rv_history.specs.History.{History};
+ghost use Rattle.rv_history.specs.Journal.{journal_lines};
 ghost use Rattle.rv_history.specs.Legal.{Legal};
 
 /// Each task, object and operation of a legal history is found by its name.
@@ -51,4 +52,11 @@ pub fn lines_determine_entries()
         entry_line h.shapes number (Asked actor request word) unit list
         ≡ entry_line h.shapes number (Asked other another answer) more_unit more_list →
         Asked actor request word ≡ Asked other another answer }
+{}
+
+/// Two legal histories over the same shapes whose journals have the same lines have the same entries.
+pub fn histories_differ_in_their_lines()
+    ensures { (h k : History) → Legal h → Legal k →
+        length h.past < 10 ^ 12 → length k.past < 10 ^ 12 → h.shapes ≡ k.shapes →
+        journal_lines h ≡ journal_lines k → h.past ≡ k.past }
 {}
