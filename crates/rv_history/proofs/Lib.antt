@@ -4,53 +4,46 @@ pub mod Stances
 pub mod Bodies
 pub mod Handled
 pub mod Sums
-
 -- Starts and refusals
 pub mod Exactly
 pub mod Fires
 pub mod First
 pub mod Refused
-
 -- Loads and counts
 pub mod Loaded
 pub mod Versions
 pub mod Unrecorded
-
 -- Queues, ends and hand-overs
 pub mod Waits
 pub mod Ending
 pub mod HandOver
 pub mod Silent
 pub mod Handing
-
 -- Order, exclusion and scalars
 pub mod Orderly
 pub mod Alone
 pub mod Settled
 pub mod During
 pub mod Frame
-
 -- Room
 pub mod Room
 pub mod Pays
 pub mod Ends
 pub mod NeverFull
 pub mod Costs
-
 -- Resumes, suspension and the clock
 pub mod Resumes
 pub mod Released
 pub mod Clocks
-
 -- Halts, quits and steps
 pub mod Closing
 pub mod Stepping
 pub mod Spelled
-
 -- Words and the journal
 pub mod Naming
 pub mod Growing
 pub mod Found
 pub mod Said
+pub mod Few
 pub mod Told
 pub mod Lines

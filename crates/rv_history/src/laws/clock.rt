@@ -24,7 +24,7 @@ pub fn clock_never_goes_back()
 {}
 
 /// Each entry moves it by at most a million.
-#[tactic(auto, using(crate::proofs::Told::clock_bound))]
+#[tactic(auto, using(crate::proofs::Few::clock_bound))]
 pub fn clock_is_bounded_by_the_entries()
     ensures { (h : History) → Legal h → clock h.past ≤ 1000000 * length h.past }
 {}
