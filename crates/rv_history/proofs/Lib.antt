@@ -32,3 +32,6 @@ pub mod Costs
 pub mod Stepping
 pub mod Growing
 pub mod Resumes
+pub mod Spelled
+pub mod Found
+pub mod Said
