@@ -1,0 +1,6 @@
+pub mod Acts
+pub mod Deeds
+pub mod Journal
+pub mod Scripted
+pub mod Carried
+pub mod Laws
