@@ -25,12 +25,14 @@ one_text p deed = sym (append-nil (told_line p.all (tell p.stage deed)))
 pub does_act : (a b : Option (List ℕ)) (p q : Playing) (act : Act) (deed : DeedText) (result : Result (Unit {0}) Failure) → deed_of p.stage.history.shapes act ≡ Ok deed → Does a b p q deed result → Carries a b p q (act ∷ []) result
 does_act a b p q act deed (Ok x) e does =
     let t = tell p.stage deed in
-    let there : t.after ≡ q.stage = ap (λ (r : Playing). r.stage) (sym does.player) in
-    (record {
-       told = t ∷ [];
-       plays = subst (λ (last : Stage). Plays p.stage (act ∷ []) (t ∷ []) None last) there (one_told p act deed e);
-       written = subst (λ (text : List ℕ). Appends a b text) (one_text p deed) does.text;
-     }, ap (λ (r : Playing). r.all) does.player)
+    let there : t.after ≡ q.stage = ap (λ (r : Playing). r.stage) (sym does.player) in (
+      record {
+        told = t ∷ [];
+        plays = subst (λ (last : Stage). Plays p.stage (act ∷ []) (t ∷ []) None last) there (one_told p act deed e);
+        written = subst (λ (text : List ℕ). Appends a b text) (one_text p deed) does.text;
+      },
+      ap (λ (r : Playing). r.all) does.player,
+    )
 does_act a b p q act deed (Err (Refused fault)) e does = absurd does.text
 does_act a b p q act deed (Err Memory) e does = part_told a b p act deed e does.text
   where
@@ -56,12 +58,14 @@ does_act a b p q act deed (Err (Io error)) e does = record {
 
 -- something stood against it, or memory was refused
 pub fails_act : (a : Option (List ℕ)) (p : Playing) (act : Act) (failure : Failure) → (let come : Result DeedText Failure = Err failure in Comes (line_of act) (deed_of p.stage.history.shapes act) come) → Carries a a p p (act ∷ []) (Err failure)
-fails_act a p act (Refused fault) comes =
-    (p.stage, record {
-       told = [];
-       plays = (record { comes = sym (comes.1 ∙ ap (λ (w : What). Err w) (sym (ap (λ (f : ScriptFault). f.what) comes.2))); line = ap (λ (f : ScriptFault). f.line) comes.2 }, refl);
-       written = keeps_nothing a;
-     })
+fails_act a p act (Refused fault) comes = (
+  p.stage,
+  record {
+    told = [];
+    plays = (record { comes = sym (comes.1 ∙ ap (λ (w : What). Err w) (sym (ap (λ (f : ScriptFault). f.what) comes.2))); line = ap (λ (f : ScriptFault). f.line) comes.2 }, refl);
+    written = keeps_nothing a;
+  },
+)
 fails_act a p act Memory comes = nothing_done a p (act ∷ [])
 fails_act a p act (Io error) comes = absurd comes
 

@@ -15,19 +15,20 @@ use Rattle.rv_history.specs.declared.command.Command.{Command}
 use Rattle.rv_history.specs.declared.command.Command.TheVariants as Commands
 use Rattle.rv_history.specs.History.{History, force}
 use Rattle.rv_history.specs.Legal.{empty}
-use Rattle.rv_history.specs.Served.{served}
 use Rattle.rv_history.specs.Steps.{due_command, after_command}
 use Rattle.rv_script.specs.Openings.{OpenedText, opened}
 use Rattle.rv_settings.specs.Settings.{SettingsText, IsSettings, IsRefused, default_capacity}
 use Rattle.rv_settings.specs.declared.fault.SettingsFault.{SettingsFault}
 use Rattle.rv_settings.specs.declared.fault.SettingsFault.TheVariants.{NoMemory}
+use Rattle.rv_fault.specs.declared.failure.Failure.{Failure}
+use Rattle.rv_fault.specs.declared.failure.Failure.TheVariants.{Refused, Memory, Io}
 use Rattle.rv_fault.specs.declared.fault.What.{What}
 use Rattle.rv_fault.specs.declared.fault.What.TheVariants as Whats
 use Rattle.rv_fault.specs.declared.fault.ScriptFault.{ScriptFault}
 use Rattle.rv_fault.specs.Written.{Known, Ended, Outcome, Puts}
 use Rattle.rv_play.specs.Acts.{Act, acts_from, line_of}
 use Rattle.rv_play.specs.Deeds.{DeedText, deed_of}
-use Rattle.rv_play.specs.Journal.{journal_text, newest_line}
+use Rattle.rv_history.specs.Journal.{journal_text, newest_line}
 
 -- Acts
 
@@ -42,7 +43,7 @@ start capacity = record { history = empty capacity }
 -- the answer that is due; one who has nothing to ask is answered misuse
 abbrev pub due_answer : Stage → Option Command → Answer
 due_answer stage None = Misuse
-due_answer stage (Some command) = due_command served stage.history command
+due_answer stage (Some command) = due_command stage.history command
 
 -- the stage after an answer
 abbrev pub after_deed : Stage → Option Command → Answer → Stage
@@ -98,6 +99,13 @@ IsCapacity None capacity = capacity ≡ Ok default_capacity
 IsCapacity (Some section) (Ok capacity) = (settings : SettingsText) × IsSettings section.text settings × (capacity ≡ settings.capacity)
 IsCapacity (Some section) (Err fault) =
     (why : SettingsFault) × IsRefused section.text why × (why ≡ NoMemory → ⊥) × (fault ≡ record { line = section.line; what = Whats.Settings why })
+
+-- a call gives what there is, unless memory ran out
+abbrev pub ReadsCapacity : Option SectionText → Result ℕ Failure → Type 0
+ReadsCapacity settings (Ok capacity) = IsCapacity settings (Ok capacity)
+ReadsCapacity settings (Err (Refused fault)) = IsCapacity settings (Err fault)
+ReadsCapacity settings (Err Memory) = Unit {0}
+ReadsCapacity settings (Err (Io error)) = ⊥
 
 -- acts are played from the beginning
 abbrev pub PlaysActs : Result ℕ ScriptFault → List Act → Run → Type 0

@@ -105,12 +105,7 @@ impl Deed {
     }
 
     /// Another line in place of that of a number.
-    pub fn replace(
-        alloc: Global,
-        actor: usize,
-        number: i64,
-        line: Line,
-    ) -> Result<Deed, AllocError>
+    pub fn replace(alloc: Global, actor: usize, number: i64, line: Line) -> Result<Deed, AllocError>
         ensures { IfOk result (λ d. d ≡ replace actor number line) }
     {
         let text = line.text(alloc)?;

@@ -1,15 +1,14 @@
 //! Carries out a script, section by section, and writes the journal of what it did.
 
-ghost use Rattle.std.specs.Prelude.{◌≡◌, ◌≤◌, ◌+◌, ◌^◌, ◌∷◌, [], ℕ, List, length, IfOk, IfErr, IfSome, Ok, Err};
+ghost use Rattle.std.specs.Prelude.{◌≡◌, ◌≤◌, ◌+◌, ◌^◌, ◌∷◌, [], length, IfSome, option_map};
 ghost use Rattle.std.specs.Str.Lines.{lines};
 ghost use Rattle.rv_text.specs.Words.{words};
-ghost use Rattle.rv_text.specs.Sections.{SectionText};
 ghost use Rattle.rv_script.specs.Openings.{AreNumbered};
 ghost use Rattle.rv_fault.specs.Written.{Writes, WritesScript};
 ghost use Rattle.rv_play.specs.Acts.{Act, line_of, line_acts, step_acts, section_acts, acts_from};
 ghost use Rattle.rv_play.specs.Deeds.{Comes, deed_of};
 ghost use Rattle.rv_play.specs.Carried.{Carries};
-ghost use Rattle.rv_play.specs.Scripted.{IsCapacity, outcome_of, start};
+ghost use Rattle.rv_play.specs.Scripted.{ReadsCapacity, outcome_of};
 
 use crate::acts::{line_deed, list_deed, shape_deed};
 use crate::deed::Deed;
@@ -126,7 +125,8 @@ fn carry_out_all<W: Write>(
 
 // How many entries the journal of a script may have.
 fn capacity_of(alloc: Global, settings: &Option<Section<'_>>) -> Result<usize, Failure>
-    ensures { Capacity settings result }
+    ensures { ReadsCapacity (option_map (λ s. record { line = s.line; opening = s.opening.now; text = s.text.now })
+        settings.now) result }
 {
     let Some(section) = settings else {
         return Ok(DEFAULT_CAPACITY);
