@@ -1,16 +1,1 @@
-pub mod Wrote
-pub mod ReadAll
-pub mod Values
-pub mod Following
-pub mod Carrying
-pub mod Telling
-pub mod Meeting
-pub mod Checking
-pub mod Numbered
-pub mod Growing
-pub mod Scripts
-pub mod Scripting
-pub mod Checked
-pub mod Inputs
-pub mod Named
-pub mod Choosing
+mod Choosing

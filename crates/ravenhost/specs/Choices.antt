@@ -7,14 +7,19 @@ use Rattle.clap.specs.Walk.{Text, one_of}
 use Rattle.clap.specs.declared.builder.action.ArgAction.TheVariants.{SetTrue}
 use Rattle.ravenhost.specs.declared.chosen.Choice.{Choice}
 use Rattle.ravenhost.specs.declared.chosen.Choice.TheVariants.{Play, Check}
+use Rattle.ravenhost.specs.declared.chosen.Unchosen.{Unchosen}
+use Rattle.ravenhost.specs.declared.chosen.Unchosen.TheVariants.{Usage, Unknown, NoMemory}
 
 -- the flag `--all`
 abbrev pub all_flag : Rule
 all_flag = record (new_rule (codes "all")) { long = Some (codes "all"); action = Some SetTrue }
 
 -- the program, of which one subcommand must be named
+abbrev pub versioned : App
+versioned = on_top (λ s. record s { has_version = true }) (new_app (codes "ravenhost"))
+
 abbrev pub alone : App
-alone = on_top (λ s. record s { subcommand_required = true }) (new_app (codes "ravenhost"))
+alone = on_top (λ s. record s { subcommand_required = true }) versioned
 
 abbrev pub program : App
 program = with_subcommand (with_subcommand alone (with_rule (new_app (codes "play")) all_flag).top)
@@ -34,6 +39,13 @@ Names found Check = found.0 ≡ codes "check"
 abbrev pub Chooses : List Text → Choice → Type 0
 Chooses words choice = (found : Text × List Row) × (subcommand_of program words ≡ Some found)
     × Names found choice
+
+-- where `clap` takes the words, nothing is chosen only for want of memory, or where its matches name no choice
+abbrev pub Lacks : List Text → Unchosen → Type 0
+Lacks words NoMemory = Unit {0}
+Lacks words Unknown =
+    (found : Text × List Row) → subcommand_of program words ≡ Some found → (found.0 ≡ codes "play" → ⊥) × (found.0 ≡ codes "check" → ⊥)
+Lacks words (Usage error) = ⊥
 
 -- the plain line of each choice, behind the program's name
 abbrev pub line_of : Choice → List Text

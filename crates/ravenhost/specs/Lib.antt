@@ -1,15 +1,2 @@
-pub mod Names
-pub mod Fronts
-pub mod Whole
-pub mod Cutting
-pub mod StepWords
-pub mod StepText
-pub mod Status
-pub mod Acts
 pub mod Choices
-pub mod Checks
-pub mod Deeds
-pub mod Journal
-pub mod Scripted
-pub mod Outcome
-pub mod Asking
+pub mod Status

@@ -1,16 +1,19 @@
 -- The status that the program ends with (own).
 use Rattle.std.specs.Prelude.{ℕ, Result, Ok, Err}
-use Rattle.ravenhost.specs.declared.failure.Failure.{Failure}
-use Rattle.ravenhost.specs.declared.failure.Failure.TheVariants.{Refused, Usage, Memory, Io}
+use Rattle.rv_fault.specs.declared.failure.Failure.{Failure}
+use Rattle.rv_fault.specs.declared.failure.Failure.TheVariants.{Refused, Memory, Io}
+use Rattle.ravenhost.specs.declared.status.Stop.{Stop}
+use Rattle.ravenhost.specs.declared.status.Stop.TheVariants.{Usage, Told, Failed}
 
 -- 1 a refused script, 2 usage or help, 3 want of memory, 4 a failed read or write
-abbrev pub failed_status : Failure → ℕ
-failed_status (Refused fault) = 1
+abbrev pub failed_status : Stop → ℕ
+failed_status Told = 0
+failed_status (Failed (Refused fault)) = 1
 failed_status Usage = 2
-failed_status Memory = 3
-failed_status (Io error) = 4
+failed_status (Failed Memory) = 3
+failed_status (Failed (Io error)) = 4
 
--- 0 where all was carried out
-abbrev pub status_of : {X : Type 0} → Result X Failure → ℕ
+-- 0 where all was carried out, or told
+abbrev pub status_of : {X : Type 0} → Result X Stop → ℕ
 status_of (Ok x) = 0
-status_of (Err failure) = failed_status failure
+status_of (Err stop) = failed_status stop

@@ -1,10 +1,10 @@
 //! The command line: what the program is to do.
 
-ghost use Rattle.std.specs.Prelude.{◌≡◌, ◌∷◌, List, Some, IfSome, IfNone, IfOk, IfErr, codes, map};
-ghost use Rattle.clap.specs.Words.{app_of, subcommand_rows_of};
+ghost use Rattle.std.specs.Prelude.{◌≡◌, ◌∷◌, List, true, Some, IfSome, IfNone, IfOk, IfErr, codes, map};
+ghost use Rattle.clap.specs.Words.{app_of, subcommand_rows_of, takes};
 ghost use Rattle.clap.specs.Walk.{Row, Text};
 ghost use Rattle.ravenhost.specs.declared.chosen.Unchosen.TheVariants as Unchosen;
-ghost use Rattle.ravenhost.specs.Choices.{Chooses, Names, line_of, program};
+ghost use Rattle.ravenhost.specs.Choices.{Chooses, Lacks, Names, line_of, program};
 
 use clap::error::ErrorKind;
 use clap::{Arg, ArgAction, ArgMatches, Command, Error};
@@ -30,6 +30,9 @@ pub enum Unchosen {
     NoMemory,
 }
 
+/// The version of the program, and the kit that proves and builds it.
+pub const VERSION: &str = "1.0.0 (rattle-kit-13b logic dac8208d650f15bf)";
+
 // The command line that the program takes.
 fn command<'a>(alloc: Global) -> Result<Command<'a>, AllocError>
     ensures { IfOk result (λ c. app_of c ≡ program) }
@@ -46,6 +49,7 @@ fn command<'a>(alloc: Global) -> Result<Command<'a>, AllocError>
     );
     Command::new(alloc, "ravenhost")
         .about("Protected objects of several units under an access list, in the profile Ravenscar")
+        .version(VERSION)
         .subcommand_required(true)
         .subcommand(play)?
         .subcommand(check)
@@ -71,6 +75,8 @@ fn choice_of(matches: &ArgMatches<'_>) -> Option<Choice>
 /// What the words of a command line choose, the first of which is the program's name.
 pub fn chosen<'a>(alloc: Global, words: &'a [&'a str]) -> Result<Choice, Unchosen>
     ensures ok { IfOk result (λ choice. Chooses (map (λ w. w.now) words.now) choice) }
+    ensures taken { takes program (map (λ w. w.now) words.now) ≡ true
+        → IfErr result (Lacks (map (λ w. w.now) words.now)) }
     ensures line { (name : Text) → (choice : Choice) → map (λ w. w.now) words.now ≡ name ∷ line_of choice
         → IfOk result (λ c. c ≡ choice) × IfErr result (λ why. why ≡ Unchosen.NoMemory) }
 {

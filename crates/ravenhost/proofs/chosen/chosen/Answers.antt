@@ -1,4 +1,4 @@
-use Rattle.std.proofs.Common.{rules, ◌∙◌, ap, ap₂}
+use Rattle.std.proofs.Common.{rules, refl, ◌∙◌, ap, ap₂}
 use Rattle.clap.specs.Words.{is_simple, subcommand_of, subcommand_rows_of, takes}
 use Rattle.ravenhost.proofs.Choosing.{simple, taken, line_chosen}
 use Rattle.ravenhost.proofs.chosen.chosen.Goals as goal
@@ -14,3 +14,8 @@ returns-clause-line c name choice is =
     let matches = (c.in-Ok-try_get_matches_from.ensures.matches (ap is_simple c.in-Ok.ensures ∙ simple)).1 in
     let chosen = line_chosen name choice c.choice_of.result (subcommand_rows_of c.in-Ok-try_get_matches_from.matches) (matches ∙ ap₂ subcommand_of c.in-Ok.ensures is) c.choice_of.ensures.found c.choice_of.ensures.none in
     search rules
+
+pub returns-in-Err-clause-taken : goal.returns-in-Err-clause-taken
+returns-in-Err-clause-taken c taking =
+    let kind = c.in-Err.ensures.passes (ap₂ takes c.in-Ok.ensures refl ∙ taking) in
+    absurd (search rules)

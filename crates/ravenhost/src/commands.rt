@@ -1,0 +1,37 @@
+//! The subcommands, over any reader and any writer.
+
+ghost use Rattle.std.specs.Prelude.{IfSome};
+ghost use Rattle.rv_fault.specs.Written.{WritesScript};
+ghost use Rattle.rv_play.specs.Scripted.{outcome_of};
+ghost use Rattle.rv_check.specs.Checks.{outcome_of as checked};
+
+use rv_fault::Failure;
+use std::alloc::Global;
+use std::io::{Read, Write};
+
+/// Carries out the script that a reader gives, and writes its journal: the line of each entry and,
+/// where all is asked for, of each answer that isn't recorded.
+pub fn play<R: Read, W: Write>(
+    alloc: Global,
+    reader: &mut R,
+    writer: &mut W,
+    all: bool,
+) -> Result<(), Failure>
+    ensures { IfSome (R.remaining reader.old) (λ script.
+        WritesScript (W.contents writer.old) (W.contents writer.new) (outcome_of all) script result) }
+{
+    rv_play::play(alloc, reader, writer, all)
+}
+
+/// Looks at the sections of the script that a reader gives, in order, and writes a line for each that
+/// is well formed, but none for settings. It stops at the first fault.
+pub fn check<R: Read, W: Write>(
+    alloc: Global,
+    reader: &mut R,
+    writer: &mut W,
+) -> Result<(), Failure>
+    ensures { IfSome (R.remaining reader.old) (λ script.
+        WritesScript (W.contents writer.old) (W.contents writer.new) checked script result) }
+{
+    rv_check::check(alloc, reader, writer)
+}

@@ -1,0 +1,31 @@
+//! The status that the program ends with.
+
+ghost use Rattle.std.specs.Prelude.{◌≡◌};
+ghost use Rattle.ravenhost.specs.Status.{status_of};
+
+use rv_fault::Failure;
+
+/// Why the program ends before its work is done.
+#[derive(Drop)]
+pub enum Stop {
+    /// The command line is none, or asks for help.
+    Usage,
+    /// The command line asks for the version, which was told.
+    Told,
+    /// The run over the script failed.
+    Failed(Failure),
+}
+
+/// The status of the program: 0 done, 1 a refused script, 2 usage or help, 3 want of memory, 4 a
+/// failed read or write.
+pub fn status_of(outcome: &Result<(), Stop>) -> u8
+    ensures { result ≡ status_of outcome.now }
+{
+    match outcome {
+        Ok(()) | Err(Stop::Told) => 0,
+        Err(Stop::Failed(Failure::Refused(_))) => 1,
+        Err(Stop::Usage) => 2,
+        Err(Stop::Failed(Failure::Memory)) => 3,
+        Err(Stop::Failed(Failure::Io(_))) => 4,
+    }
+}

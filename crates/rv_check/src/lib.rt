@@ -1,0 +1,7 @@
+//! Checking a script: its sections are looked at one by one, and each that is well formed is told.
+#![tactic(auto)]
+
+mod check;
+mod sections;
+
+pub use check::check;

@@ -1,0 +1,165 @@
+//! Looks at one section, and says that it is well formed.
+
+ghost use Rattle.std.specs.Prelude.{◌≡◌, ℕ, List, length, IfOk, option_map, string_bytes};
+ghost use Rattle.rv_fault.specs.Written.{Puts};
+ghost use Rattle.rv_check.specs.Checks.{unit_line, shape_line, list_line, unit_failure, shape_failure, list_failure, OfUnit, OfShape, OfList, OfSettings, as_section, Tells};
+ghost use Rattle.rv_script.specs.Openings.{opening_of};
+
+use rv_access::{ListFault, read_list};
+use rv_fault::{Failure, What, put, refused};
+use rv_parse::{ParseFault, parse};
+use rv_script::{Opening, opening_of};
+use rv_settings::{SettingsFault, read_settings};
+use rv_shape::catalogue::Catalogue;
+use rv_shape::fault::ShapeFault;
+use rv_shape::reading::read_shape;
+use rv_text::Section;
+use std::alloc::{AllocError, Global};
+use std::io::Write;
+
+/// The greatest length of a unit text, in bytes.
+pub const MOST_UNIT_BYTES: usize = 262_144;
+
+// The line that is said of a unit text.
+fn unit_line(alloc: Global, name: &str) -> Result<String, AllocError>
+    ensures { IfOk result (λ line. string_bytes line ≡ unit_line name.now) }
+{
+    format!(in alloc; "unit {name}: ok\n")
+}
+
+// The line that is said of a shape.
+fn shape_line(alloc: Global, name: &str) -> Result<String, AllocError>
+    ensures { IfOk result (λ line. string_bytes line ≡ shape_line name.now) }
+{
+    format!(in alloc; "shape {name}: ok\n")
+}
+
+// The line that is said of a list.
+fn list_line(alloc: Global, count: usize) -> Result<String, AllocError>
+    ensures { IfOk result (λ line. string_bytes line ≡ list_line count) }
+{
+    format!(in alloc; "list: ok {count} lines\n")
+}
+
+// Says that a section is well formed.
+fn say<W: Write>(writer: &mut W, line: Result<String, AllocError>) -> Result<(), Failure>
+    ensures { (text : List ℕ) → IfOk line (λ l. string_bytes l ≡ text)
+        → Puts (W.contents writer.old) (W.contents writer.new) text result }
+{
+    match line {
+        Ok(line) => put(writer, line.as_str()),
+        Err(_) => Err(Failure::Memory),
+    }
+}
+
+// Why a unit text is refused whose section opens at a line.
+fn unit_failure(line: usize, fault: ParseFault) -> Failure
+    ensures { result ≡ unit_failure line fault }
+{
+    match fault {
+        ParseFault::NoMemory => Failure::Memory,
+        ParseFault::Lex(fault) => refused(line, What::Lex(fault)),
+        ParseFault::Unexpected(_) | ParseFault::TooDeep(_) => refused(line, What::Parse(fault)),
+    }
+}
+
+// Looks at a unit text. So far it is well formed where it derives a tree.
+fn check_unit<W: Write>(alloc: Global, writer: &mut W, section: &Section<'_>) -> Result<(), Failure>
+    ensures { Tells (W.contents writer.old) (W.contents writer.new) section.now.line
+        (OfUnit section.now.text.now) result }
+{
+    if section.text.len() > MOST_UNIT_BYTES {
+        return Err(refused(section.line, What::TooLong));
+    }
+    match parse(alloc, section.text) {
+        Ok(unit) => {
+            let name = unit.specification.name.text.as_str();
+            say(writer, unit_line(alloc, name))
+        }
+        Err(fault) => Err(unit_failure(section.line, fault)),
+    }
+}
+
+// Why a shape is refused whose section opens at a line.
+fn shape_failure(line: usize, fault: ShapeFault) -> Failure
+    ensures { result ≡ shape_failure line fault }
+{
+    match fault {
+        ShapeFault::NoMemory => Failure::Memory,
+        _ => refused(line, What::Shape(fault)),
+    }
+}
+
+// Looks at a shape, and adds it to those of the sections before.
+fn check_shape<W: Write>(
+    alloc: Global,
+    writer: &mut W,
+    catalogue: &mut Catalogue,
+    section: &Section<'_>,
+) -> Result<(), Failure>
+    ensures { Tells (W.contents writer.old) (W.contents writer.new) section.now.line
+        (OfShape catalogue.old catalogue.new section.now.text.now) result }
+{
+    let shape = match read_shape(alloc, section.text) {
+        Ok(shape) => shape,
+        Err(fault) => return Err(shape_failure(section.line, fault)),
+    };
+    match catalogue.add(&shape) {
+        Ok(()) => say(writer, shape_line(alloc, shape.name())),
+        Err(fault) => Err(shape_failure(section.line, fault)),
+    }
+}
+
+// Why a list is refused whose section opens at a line.
+fn list_failure(line: usize, fault: ListFault) -> Failure
+    ensures { result ≡ list_failure line fault }
+{
+    match fault {
+        ListFault::NoMemory => Failure::Memory,
+        _ => refused(line, What::List(fault)),
+    }
+}
+
+// Looks at a list.
+fn check_list<W: Write>(alloc: Global, writer: &mut W, section: &Section<'_>) -> Result<(), Failure>
+    ensures { Tells (W.contents writer.old) (W.contents writer.new) section.now.line
+        (OfList section.now.text.now) result }
+{
+    match read_list(alloc, section.text) {
+        Ok(list) => say(writer, list_line(alloc, list.len())),
+        Err(fault) => Err(list_failure(section.line, fault)),
+    }
+}
+
+/// Looks at the settings of a script, if it has some. Nothing is said of them.
+pub fn check_settings(alloc: Global, settings: &Option<Section<'_>>) -> Result<(), Failure>
+    ensures { OfSettings (option_map (λ s. record { line = s.line; opening = s.opening.now; text = s.text.now })
+        settings.now) result }
+{
+    let Some(section) = settings else {
+        return Ok(());
+    };
+    match read_settings(alloc, section.text) {
+        Ok(_) => Ok(()),
+        Err(SettingsFault::NoMemory) => Err(Failure::Memory),
+        Err(fault) => Err(refused(section.line, What::Settings(fault))),
+    }
+}
+
+/// Looks at a section behind the settings. Steps, journals and commands aren't checked.
+pub fn check_section<W: Write>(
+    alloc: Global,
+    writer: &mut W,
+    catalogue: &mut Catalogue,
+    section: &Section<'_>,
+) -> Result<(), Failure>
+    ensures { Tells (W.contents writer.old) (W.contents writer.new) section.now.line
+        (as_section catalogue.old catalogue.new section.now.text.now (opening_of section.now.opening.now)) result }
+{
+    match opening_of(section.opening) {
+        Some(Opening::UnitText) => check_unit(alloc, writer, section),
+        Some(Opening::Shape) => check_shape(alloc, writer, catalogue, section),
+        Some(Opening::AccessList) => check_list(alloc, writer, section),
+        _ => Err(refused(section.line, What::BadSection)),
+    }
+}

@@ -1,0 +1,7 @@
+mod Beginning
+mod Carrying
+mod Growing
+mod Named
+mod Performing
+mod Scripting
+mod Telling

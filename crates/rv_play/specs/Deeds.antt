@@ -1,0 +1,119 @@
+-- What the acts of a script come to: deeds, with names looked up among the units that are loaded (own).
+use Rattle.std.specs.Prelude.{◌≡◌, ℕ, ℤ, pos, negsuc, List, ◌∷◌, ◌++◌, codes}
+use Rattle.std.specs.Prelude.{Option, Some, None, Result, Ok, Err}
+use Rattle.std.specs.Fmt.{signed_decimal}
+use Rattle.rv_access.specs.Words.{Words}
+use Rattle.rv_access.specs.Text.{line_text, list_text}
+use Rattle.rv_access.specs.declared.fault.ListFault.{ListFault}
+use Rattle.rv_shape.specs.Shape.{Shape}
+use Rattle.rv_shape.specs.Fits as fitting
+use Rattle.rv_shape.specs.declared.fault.ShapeFault.{ShapeFault}
+use Rattle.rv_event.specs.Text.{request_text}
+use Rattle.rv_event.specs.declared.entry.Request.{Request}
+use Rattle.rv_history.specs.declared.command.Command.{Command}
+use Rattle.rv_history.specs.declared.command.Command.TheVariants.{Ask, Load, SetList, AppendLine, RemoveLine, ReplaceLine}
+use Rattle.rv_step.specs.declared.step.Asked.{Asked}
+use Rattle.rv_step.specs.declared.step.Asked.TheVariants.{Append, Remove, Replace}
+use Rattle.rv_step.specs.Lookup.{operator, actor_of, request_of}
+use Rattle.rv_step.specs.StepText.{StepWords}
+use Rattle.rv_fault.specs.declared.failure.Failure.{Failure}
+use Rattle.rv_fault.specs.declared.failure.Failure.TheVariants.{Refused, Memory, Io}
+use Rattle.rv_fault.specs.declared.fault.What.{What}
+use Rattle.rv_fault.specs.declared.fault.What.TheVariants as Whats
+use Rattle.rv_fault.specs.declared.fault.ScriptFault.{ScriptFault}
+use Rattle.rv_play.specs.Acts.{Act, Loads, Sets, Steps, Stops}
+
+-- what is asked of the host: by which actor, which command (none where the actor has nothing to ask), and in which words
+pub record DeedText : Type 0 where
+  pub actor : ℕ
+  pub command : Option Command
+  pub words : List ℕ
+
+-- the line of a list that a number counts, from 1; below zero it counts none, as 0 does
+abbrev pub line_number : ℤ → ℕ
+line_number (pos number) = number
+line_number (negsuc number) = 0
+
+-- a request
+abbrev pub ask : List Shape → ℕ → Request → DeedText
+ask shapes actor request = record { actor = actor; command = Some (Ask actor request); words = request_text shapes request }
+
+-- the words of a step that adds a line
+abbrev pub append_words : Words → List ℕ
+append_words line = codes "append " ++ line_text line
+
+-- one more line at the end of the list
+abbrev pub append : ℕ → Words → DeedText
+append actor line = record { actor = actor; command = Some (AppendLine line); words = append_words line }
+
+-- the list without the line of a number
+abbrev pub remove : ℕ → ℤ → DeedText
+remove actor number =
+    record { actor = actor; command = Some (RemoveLine (line_number number)); words = codes "remove " ++ signed_decimal number }
+
+-- the words of a step that puts a line in place of another
+abbrev pub replace_words : ℤ → Words → List ℕ
+replace_words number line = codes "replace " ++ (signed_decimal number ++ 32 ∷ line_text line)
+
+-- another line in place of that of a number
+abbrev pub replace : ℕ → ℤ → Words → DeedText
+replace actor number line =
+    record { actor = actor; command = Some (ReplaceLine (line_number number) line); words = replace_words number line }
+
+-- a unit, loaded by the operator
+abbrev pub load : Shape → DeedText
+load shape = record { actor = operator; command = Some (Load shape); words = codes "load " ++ shape.name }
+
+-- the list, set whole by the operator
+abbrev pub set : List Words → DeedText
+set list = record { actor = operator; command = Some (SetList list); words = codes "list [" ++ (list_text list ++ codes "]") }
+
+-- what a name stands for, if it is loaded
+abbrev pub if_known : {X : Type 0} → Option X → Result X What
+if_known None = Err Whats.UnknownName
+if_known (Some x) = Ok x
+
+-- with what there is, where nothing stands against it
+infixl 10 ◌>>◌
+abbrev pub ◌>>◌ : {A B : Type 0} → Result A What → (A → Result B What) → Result B What
+(Ok x) >> f = f x
+(Err what) >> f = Err what
+
+-- what was read of a list, or the fault
+abbrev pub if_line : {X : Type 0} → Result X ListFault → Result X What
+if_line (Ok line) = Ok line
+if_line (Err fault) = Err (Whats.List fault)
+
+-- a request of an actor
+abbrev pub requests : List Shape → Asked → ℕ → Result DeedText What
+requests shapes asked actor = if_known (request_of shapes asked) >> λ request. Ok (ask shapes actor request)
+
+-- what an actor asks
+abbrev pub asks : List Shape → Asked → ℕ → Result DeedText What
+asks shapes (Append line) actor = if_line line >> λ l. Ok (append actor l)
+asks shapes (Remove number) actor = Ok (remove actor number)
+asks shapes (Replace number line) actor = if_line line >> λ l. Ok (replace actor number l)
+asks shapes asked actor = requests shapes asked actor
+
+-- a step of who is loaded
+abbrev pub step_deed : List Shape → StepWords → Result DeedText What
+step_deed shapes step = if_known (actor_of shapes step.asker) >> asks shapes step.asked
+
+-- a shape, where nothing stands against it
+abbrev pub if_fits : Shape → Option ShapeFault → Result DeedText What
+if_fits shape None = Ok (load shape)
+if_fits shape (Some fault) = Err (Whats.Shape fault)
+
+-- what an act asks where these units are loaded, or what stands against it
+abbrev pub deed_of : List Shape → Act → Result DeedText What
+deed_of shapes (Loads line shape) = if_fits shape (fitting.fault shapes shape)
+deed_of shapes (Sets line list) = Ok (set list)
+deed_of shapes (Steps line step) = step_deed shapes step
+deed_of shapes (Stops line what) = Err what
+
+-- a call gives what there is, a fault with its line, unless memory ran out
+abbrev pub Comes : ℕ → Result DeedText What → Result DeedText Failure → Type 0
+Comes line due (Ok deed) = due ≡ Ok deed
+Comes line due (Err (Refused told)) = (what : What) × (due ≡ Err what) × (told ≡ record { line = line; what = what })
+Comes line due (Err Memory) = Unit {0}
+Comes line due (Err (Io error)) = ⊥

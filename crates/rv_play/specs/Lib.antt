@@ -1,0 +1,5 @@
+pub mod Acts
+pub mod Deeds
+pub mod Scripted
+pub mod Carried
+pub mod Laws

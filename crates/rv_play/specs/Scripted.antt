@@ -1,0 +1,185 @@
+-- What a script leads to: its acts come to deeds, each is answered as is due, up to the end or to the act that a fault stands
+-- against; and the text that is told of it (own).
+use Rattle.std.specs.Prelude.{◌≡◌, ◌⊎◌, ℕ, Bool, true, false, if◌then◌else◌, List, [], ◌∷◌, ◌++◌, length, is_some, OnOk}
+use Rattle.std.specs.Prelude.{Option, Some, None, Result, Ok, Err}
+use Rattle.std.specs.List.{flat_map}
+use Rattle.rv_text.specs.Sections.{SectionText}
+use Rattle.rv_access.specs.Text.{list_text}
+use Rattle.rv_event.specs.Recorded.{recorded}
+use Rattle.rv_event.specs.Text.{entry_line, unrecorded_line}
+use Rattle.rv_event.specs.declared.entry.Entry.TheVariants.{Asked, Load, ListChange}
+use Rattle.rv_event.specs.declared.entry.Answer.{Answer}
+use Rattle.rv_event.specs.declared.entry.Answer.TheVariants.{Misuse}
+use Rattle.rv_event.specs.declared.entry.Recorded.{Recorded}
+use Rattle.rv_history.specs.declared.command.Command.{Command}
+use Rattle.rv_history.specs.declared.command.Command.TheVariants as Commands
+use Rattle.rv_history.specs.History.{History, force}
+use Rattle.rv_history.specs.Legal.{empty}
+use Rattle.rv_history.specs.Steps.{due_command, after_command}
+use Rattle.rv_script.specs.Openings.{OpenedText, opened}
+use Rattle.rv_settings.specs.Settings.{SettingsText, IsSettings, IsRefused, default_capacity}
+use Rattle.rv_settings.specs.declared.fault.SettingsFault.{SettingsFault}
+use Rattle.rv_settings.specs.declared.fault.SettingsFault.TheVariants.{NoMemory}
+use Rattle.rv_fault.specs.declared.failure.Failure.{Failure}
+use Rattle.rv_fault.specs.declared.failure.Failure.TheVariants.{Refused, Memory, Io}
+use Rattle.rv_fault.specs.declared.fault.What.{What}
+use Rattle.rv_fault.specs.declared.fault.What.TheVariants as Whats
+use Rattle.rv_fault.specs.declared.fault.ScriptFault.{ScriptFault}
+use Rattle.rv_fault.specs.Written.{Known, Ended, Outcome, Puts}
+use Rattle.rv_play.specs.Acts.{Act, acts_from, line_of}
+use Rattle.rv_play.specs.Deeds.{DeedText, deed_of}
+use Rattle.rv_history.specs.Journal.{journal_text, newest_line}
+
+-- Acts
+
+-- where a script stands: the history so far
+pub record Stage : Type 0 where
+  pub history : History
+
+-- at the beginning, with room for so many entries
+abbrev pub start : ℕ → Stage
+start capacity = record { history = empty capacity }
+
+-- the answer that is due; one who has nothing to ask is answered misuse
+abbrev pub due_answer : Stage → Option Command → Answer
+due_answer stage None = Misuse
+due_answer stage (Some command) = due_command stage.history command
+
+-- the stage after an answer
+abbrev pub after_deed : Stage → Option Command → Answer → Stage
+after_deed stage None answer = stage
+after_deed stage (Some command) answer = record { history = after_command stage.history command answer }
+
+-- what was asked, what was answered, and the stage after it
+pub record Told : Type 0 where
+  pub deed : DeedText
+  pub answer : Answer
+  pub after : Stage
+
+-- what is told of a deed at a stage: its due answer, and where that leads
+abbrev pub tell : Stage → DeedText → Told
+tell stage deed =
+    let answer = due_answer stage deed.command in
+    record { deed = deed; answer = answer; after = after_deed stage deed.command answer }
+
+-- an act comes to a deed at a stage, or to what stands against it
+abbrev pub ComesTo : Stage → Act → Result DeedText What → Type 0
+ComesTo stage act due = due ≡ deed_of stage.history.shapes act
+
+-- an act comes to a deed, and that is told
+pub record Asks (stage : Stage) (act : Act) (t : Told) : Type 0 where
+  pub comes : ComesTo stage act (Ok t.deed)
+  pub told : t ≡ tell stage t.deed
+
+-- this fault stands against an act
+pub record Stands (stage : Stage) (act : Act) (fault : ScriptFault) : Type 0 where
+  pub comes : ComesTo stage act (Err fault.what)
+  pub line : fault.line ≡ line_of act
+
+-- from a stage acts are told one after another, and lead to another stage; a fault stands against the act behind those
+abbrev pub Plays : Stage → List Act → List Told → Option ScriptFault → Stage → Type 0
+Plays stage [] [] None last = last ≡ stage
+Plays stage [] [] (Some fault) last = ⊥
+Plays stage [] (t ∷ told) fault last = ⊥
+Plays stage (act ∷ acts) [] None last = ⊥
+Plays stage (act ∷ acts) [] (Some fault) last = Stands stage act fault × (last ≡ stage)
+Plays stage (act ∷ acts) (t ∷ told) fault last = Asks stage act t × Plays t.after acts told fault last
+
+-- Scripts
+
+-- what was told, the fault that stopped it, and the stage that it led to
+pub record Run : Type 0 where
+  pub told : List Told
+  pub fault : Option ScriptFault
+  pub last : Stage
+
+-- how many entries a journal may have: as many as the settings say, where there are some, or what stands against them
+abbrev pub IsCapacity : Option SectionText → Result ℕ ScriptFault → Type 0
+IsCapacity None capacity = capacity ≡ Ok default_capacity
+IsCapacity (Some section) (Ok capacity) = (settings : SettingsText) × IsSettings section.text settings × (capacity ≡ settings.capacity)
+IsCapacity (Some section) (Err fault) =
+    (why : SettingsFault) × IsRefused section.text why × (why ≡ NoMemory → ⊥) × (fault ≡ record { line = section.line; what = Whats.Settings why })
+
+-- a call gives what there is, unless memory ran out
+abbrev pub ReadsCapacity : Option SectionText → Result ℕ Failure → Type 0
+ReadsCapacity settings (Ok capacity) = IsCapacity settings (Ok capacity)
+ReadsCapacity settings (Err (Refused fault)) = IsCapacity settings (Err fault)
+ReadsCapacity settings (Err Memory) = Unit {0}
+ReadsCapacity settings (Err (Io error)) = ⊥
+
+-- acts are played from the beginning
+abbrev pub PlaysActs : Result ℕ ScriptFault → List Act → Run → Type 0
+PlaysActs (Ok capacity) acts run = Plays (start capacity) acts run.told run.fault run.last
+PlaysActs (Err fault) acts run = run ≡ record { told = []; fault = Some fault; last = start default_capacity }
+
+-- the sections of a script are played; text before the first stands against it
+abbrev pub PlaysOpened : Result OpenedText ℕ → Run → Type 0
+PlaysOpened (Ok script) run = (capacity : Result ℕ ScriptFault) × IsCapacity script.settings capacity × PlaysActs capacity (acts_from script.sections) run
+PlaysOpened (Err line) run = PlaysActs (Err (record { line = line; what = Whats.BadSection })) [] run
+
+-- what a script leads to
+abbrev pub PlaysScript : List ℕ → Run → Type 0
+PlaysScript script run = PlaysOpened (opened script) run
+
+-- its first acts, no fault standing against them
+abbrev pub BeginsOpened : Result OpenedText ℕ → Run → Type 0
+BeginsOpened (Ok script) run =
+    (capacity : ℕ) × IsCapacity script.settings (Ok capacity)
+    × (done rest : List Act) × (acts_from script.sections ≡ done ++ rest) × Plays (start capacity) done run.told None run.last
+BeginsOpened (Err line) run = ⊥
+
+-- Texts
+
+-- the line of what was answered: that of its entry, or, where all is asked for, the one that no entry has
+abbrev pub told_line : Bool → Told → List ℕ
+told_line all t =
+    if is_some (recorded t.answer) then newest_line t.after.history
+    else if all then unrecorded_line t.after.history.shapes t.deed.actor t.deed.words t.answer
+    else []
+
+-- the lines of all that was answered
+abbrev pub told_text : Bool → List Told → List ℕ
+told_text all told = flat_map (told_line all) told
+
+-- the text of a run: its journal, or, where all is asked for, a line for each answer
+abbrev pub text_of : Bool → Run → List ℕ
+text_of false run = journal_text run.last.history
+text_of true run = told_text true run.told
+
+-- what there is to write of a script; before a failure nothing or the text of some first acts
+abbrev pub outcome_of : Bool → List ℕ → Outcome
+outcome_of all script = record {
+  Is = λ text fault. (run : Run) × PlaysScript script run × (run.fault ≡ fault) × (text ≡ text_of all run);
+  Begins = λ text. (text ≡ []) ⊎ ((run : Run) × BeginsOpened (opened script) run × (text ≡ text_of all run));
+}
+
+-- Playing
+
+-- a player: whether all is told, and the stage
+pub record Playing : Type 0 where
+  pub all : Bool
+  pub stage : Stage
+
+-- the line of the newest entry, which this command led to
+abbrev pub command_line : History → Command → Recorded → List ℕ
+command_line h (Commands.Ask actor request) word = entry_line h.shapes (length h.past) (Asked actor request word) [] []
+command_line h (Commands.Load shape) word = entry_line h.shapes (length h.past) Load shape.name []
+command_line h command word = entry_line h.shapes (length h.past) ListChange [] (list_text (force h))
+
+-- the same of a deed
+abbrev pub entry_told : History → Option Command → Recorded → List ℕ
+entry_told h None word = []
+entry_told h (Some command) word = command_line h command word
+
+-- the line of a deed that was answered so and led to this history
+abbrev pub by_answer : Bool → History → DeedText → Answer → Option Recorded → List ℕ
+by_answer all h deed answer (Some word) = entry_told h deed.command word
+by_answer all h deed answer None = if all then unrecorded_line h.shapes deed.actor deed.words answer else []
+
+abbrev pub line_told : Bool → History → DeedText → Answer → List ℕ
+line_told all h deed answer = by_answer all h deed answer (recorded answer)
+
+-- a deed was answered as is due, and its line is written
+pub record Does (old new : Known) (p q : Playing) (deed : DeedText) (result : Ended) : Type 0 where
+  pub text : Puts old new (told_line p.all (tell p.stage deed)) result
+  pub player : OnOk result (q ≡ record p { stage = (tell p.stage deed).after })

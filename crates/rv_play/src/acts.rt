@@ -1,0 +1,179 @@
+//! What the acts of a script come to: a deed, or a fault that stands against it.
+
+ghost use Rattle.std.specs.Prelude.{◌≡◌, Ok, IfOk, IfErr};
+ghost use Rattle.rv_access.specs.Reading.{list_of};
+ghost use Rattle.rv_shape.specs.Fits.{fault};
+ghost use Rattle.rv_shape.specs.ShapeText.{shape_of};
+ghost use Rattle.rv_text.specs.Words.{words};
+ghost use Rattle.rv_step.specs.StepText.{step_of};
+ghost use Rattle.rv_play.specs.Acts.{load_act, set_act, step_act};
+ghost use Rattle.rv_play.specs.Deeds.{Comes, deed_of, step_deed, if_line, if_fits, requests, asks, append, replace, ◌>>◌};
+
+use crate::deed::Deed;
+use rv_access::{Line, ListFault, read_list};
+use rv_fault::{Failure, What, refused};
+use rv_shape::catalogue::Catalogue;
+use rv_shape::fault::ShapeFault;
+use rv_shape::reading::read_shape;
+use rv_shape::shape::UnitShape;
+use rv_step::lookup::{actor_of, request_of};
+use rv_step::reading::{StepError, step_of};
+use rv_step::step::{Asked, Step};
+use std::alloc::{AllocError, Global};
+
+// A deed that was made, unless memory was refused.
+fn made(deed: Result<Deed, AllocError>) -> Result<Deed, Failure>
+    ensures ok { IfOk result (λ d. deed ≡ Ok d) }
+    ensures err { IfErr result (λ failure. failure ≡ Failure.Memory) }
+{
+    match deed {
+        Ok(deed) => Ok(deed),
+        Err(_) => Err(Failure::Memory),
+    }
+}
+
+// What loading a unit comes to.
+fn unit_deed(
+    alloc: Global,
+    catalogue: &Catalogue,
+    line: usize,
+    shape: UnitShape,
+) -> Result<Deed, Failure>
+    ensures { Comes line (if_fits shape (fault catalogue.now shape)) result }
+{
+    match catalogue.shape_fits(&shape) {
+        Some(fault) => Err(refused(line, What::Shape(fault))),
+        None => made(Deed::load(alloc, shape)),
+    }
+}
+
+/// What the shape of a section comes to, which opens at a line.
+pub fn shape_deed(
+    alloc: Global,
+    catalogue: &Catalogue,
+    line: usize,
+    text: &str,
+) -> Result<Deed, Failure>
+    ensures { Comes line (deed_of catalogue.now (load_act line (shape_of text.now))) result }
+{
+    match read_shape(alloc, text) {
+        Ok(shape) => unit_deed(alloc, catalogue, line, shape),
+        Err(ShapeFault::NoMemory) => Err(Failure::Memory),
+        Err(fault) => Err(refused(line, What::Shape(fault))),
+    }
+}
+
+/// What the list of a section comes to, which opens at a line.
+pub fn list_deed(
+    alloc: Global,
+    catalogue: &Catalogue,
+    line: usize,
+    text: &str,
+) -> Result<Deed, Failure>
+    ensures { Comes line (deed_of catalogue.now (set_act line (list_of text.now))) result }
+{
+    match read_list(alloc, text) {
+        Ok(list) => made(Deed::set(alloc, list)),
+        Err(ListFault::NoMemory) => Err(Failure::Memory),
+        Err(fault) => Err(refused(line, What::List(fault))),
+    }
+}
+
+// What a request comes to, of this actor.
+fn request_deed(
+    alloc: Global,
+    catalogue: &Catalogue,
+    line: usize,
+    actor: usize,
+    asked: &Asked,
+) -> Result<Deed, Failure>
+    ensures { Comes line (requests catalogue.now asked.now actor) result }
+{
+    match request_of(alloc, catalogue, asked) {
+        Ok(Some(request)) => made(Deed::ask(alloc, catalogue, actor, request)),
+        Ok(None) => Err(refused(line, What::UnknownName)),
+        Err(_) => Err(Failure::Memory),
+    }
+}
+
+// What a line more comes to.
+fn append_deed(
+    alloc: Global,
+    line: usize,
+    actor: usize,
+    given: Result<Line, ListFault>,
+) -> Result<Deed, Failure>
+    ensures { Comes line (if_line given >> λ l. Ok (append actor l)) result }
+{
+    match given {
+        Ok(given) => made(Deed::append(alloc, actor, given)),
+        Err(fault) => Err(refused(line, What::List(fault))),
+    }
+}
+
+// What another line in place of one comes to.
+fn replace_deed(
+    alloc: Global,
+    line: usize,
+    actor: usize,
+    number: i64,
+    given: Result<Line, ListFault>,
+) -> Result<Deed, Failure>
+    ensures { Comes line (if_line given >> λ l. Ok (replace actor number l)) result }
+{
+    match given {
+        Ok(given) => made(Deed::replace(alloc, actor, number, given)),
+        Err(fault) => Err(refused(line, What::List(fault))),
+    }
+}
+
+// What an actor asks.
+fn asked_deed(
+    alloc: Global,
+    catalogue: &Catalogue,
+    line: usize,
+    actor: usize,
+    asked: Asked,
+) -> Result<Deed, Failure>
+    ensures { Comes line (asks catalogue.now asked actor) result }
+{
+    match asked {
+        Asked::Append(given) => append_deed(alloc, line, actor, given),
+        Asked::Remove(number) => made(Deed::remove(alloc, actor, number)),
+        Asked::Replace(number, given) => replace_deed(alloc, line, actor, number, given),
+        asked => request_deed(alloc, catalogue, line, actor, &asked),
+    }
+}
+
+// What a step comes to.
+fn named_deed(
+    alloc: Global,
+    catalogue: &Catalogue,
+    line: usize,
+    step: Step,
+) -> Result<Deed, Failure>
+    ensures { Comes line (step_deed catalogue.now
+        (record { asker = step.asker; asked = step.asked })) result }
+{
+    match actor_of(alloc, catalogue, &step.asker) {
+        Ok(Some(actor)) => asked_deed(alloc, catalogue, line, actor, step.asked),
+        Ok(None) => Err(refused(line, What::UnknownName)),
+        Err(_) => Err(Failure::Memory),
+    }
+}
+
+/// What a line of the script comes to that has words.
+pub fn line_deed(
+    alloc: Global,
+    catalogue: &Catalogue,
+    line: usize,
+    text: &str,
+) -> Result<Deed, Failure>
+    ensures { Comes line (deed_of catalogue.now (step_act line (step_of (words text.now)))) result }
+{
+    match step_of(alloc, text) {
+        Ok(step) => named_deed(alloc, catalogue, line, step),
+        Err(StepError::BadStep) => Err(refused(line, What::BadStep)),
+        Err(StepError::NoMemory) => Err(Failure::Memory),
+    }
+}

@@ -1,0 +1,11 @@
+//! Playing a script: each of its acts comes to a deed, the host answers it, and the journal of what was
+//! answered is written.
+#![tactic(auto)]
+
+mod acts;
+mod deed;
+mod laws;
+mod play;
+mod player;
+
+pub use play::play;

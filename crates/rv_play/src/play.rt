@@ -1,0 +1,190 @@
+//! Carries out a script, section by section, and writes the journal of what it did.
+
+ghost use Rattle.std.specs.Prelude.{◌≡◌, ◌≤◌, ◌+◌, ◌^◌, ◌∷◌, [], length, IfSome, option_map};
+ghost use Rattle.std.specs.Str.Lines.{lines};
+ghost use Rattle.rv_text.specs.Words.{words};
+ghost use Rattle.rv_script.specs.Openings.{AreNumbered};
+ghost use Rattle.rv_fault.specs.Written.{Writes, WritesScript};
+ghost use Rattle.rv_play.specs.Acts.{Act, line_of, line_acts, step_acts, section_acts, acts_from};
+ghost use Rattle.rv_play.specs.Deeds.{Comes, deed_of};
+ghost use Rattle.rv_play.specs.Carried.{Carries};
+ghost use Rattle.rv_play.specs.Scripted.{ReadsCapacity, outcome_of};
+
+use crate::acts::{line_deed, list_deed, shape_deed};
+use crate::deed::Deed;
+use crate::player::Player;
+use rv_fault::{Failure, What, refused};
+use rv_host::host::NewFault;
+use rv_script::{Opening, ReadError, open, opening_of, read_script, text_of};
+use rv_settings::{DEFAULT_CAPACITY, SettingsFault, read_settings};
+use rv_text::{Section, Sections, has_words, next_line};
+use std::alloc::Global;
+use std::io::{Read, Write};
+
+// Carries out what an act came to.
+fn perform<W: Write>(
+    player: &mut Player,
+    writer: &mut W,
+    deed: Result<Deed, Failure>,
+) -> Result<(), Failure>
+    ensures { (act : Act) → Comes (line_of act) (deed_of player.old.stage.history.shapes act) deed
+        → Carries (W.contents writer.old) (W.contents writer.new) player.old player.new (act ∷ []) result }
+{
+    match deed {
+        Ok(deed) => player.tell(writer, &deed),
+        Err(failure) => Err(failure),
+    }
+}
+
+// Carries out the step of a line of the script, if it isn't blank.
+fn perform_line<W: Write>(
+    alloc: Global,
+    player: &mut Player,
+    writer: &mut W,
+    line: usize,
+    text: &str,
+) -> Result<(), Failure>
+    ensures { Carries (W.contents writer.old) (W.contents writer.new) player.old player.new
+        (line_acts line (words text.now)) result }
+{
+    if !has_words(text) {
+        return Ok(());
+    }
+    let deed = line_deed(alloc, player.catalogue(), line, text);
+    perform(player, writer, deed)
+}
+
+// Carries out the steps of a section, one a line.
+fn perform_all<W: Write>(
+    alloc: Global,
+    player: &mut Player,
+    writer: &mut W,
+    section: &Section,
+) -> Result<(), Failure>
+    requires { section.now.line + length section.now.text.now ≤ 2 ^ 63 }
+    ensures { Carries (W.contents writer.old) (W.contents writer.new) player.old player.new
+        (step_acts (section.now.line + 1) (lines section.now.text.now)) result }
+{
+    let mut rest = section.text;
+    let mut line = section.line;
+    while let Some((text, after)) = next_line(rest) {
+        line += 1;
+        match perform_line(alloc, player, writer, line, text) {
+            Ok(()) => {}
+            Err(failure) => return Err(failure),
+        }
+        rest = after;
+    }
+    Ok(())
+}
+
+// Carries out one section.
+fn carry_out<W: Write>(
+    alloc: Global,
+    player: &mut Player,
+    writer: &mut W,
+    section: &Section,
+) -> Result<(), Failure>
+    requires { section.now.line + length section.now.text.now ≤ 2 ^ 63 }
+    ensures { Carries (W.contents writer.old) (W.contents writer.new) player.old player.new
+        (section_acts (record {
+          line = section.now.line;
+          opening = section.now.opening.now;
+          text = section.now.text.now;
+        })) result }
+{
+    let line = section.line;
+    let deed = match opening_of(section.opening) {
+        Some(Opening::Shape) => shape_deed(alloc, player.catalogue(), line, section.text),
+        Some(Opening::AccessList) => list_deed(alloc, player.catalogue(), line, section.text),
+        Some(Opening::Steps) => return perform_all(alloc, player, writer, section),
+        _ => Err(refused(line, What::BadSection)),
+    };
+    perform(player, writer, deed)
+}
+
+// Carries out sections, in order, up to the first fault.
+fn carry_out_all<W: Write>(
+    alloc: Global,
+    player: &mut Player,
+    writer: &mut W,
+    mut sections: Sections<'_>,
+) -> Result<(), Failure>
+    requires { AreNumbered sections }
+    ensures { Carries (W.contents writer.old) (W.contents writer.new) player.old player.new
+        (acts_from sections.entry) result }
+{
+    'each: while let Some(section) = sections.next_section() {
+        match carry_out(alloc, player, writer, &section) {
+            Ok(()) => {}
+            Err(failure) => return Err(failure),
+        }
+    }
+    Ok(())
+}
+
+// How many entries the journal of a script may have.
+fn capacity_of(alloc: Global, settings: &Option<Section<'_>>) -> Result<usize, Failure>
+    ensures { ReadsCapacity (option_map (λ s. record { line = s.line; opening = s.opening.now; text = s.text.now })
+        settings.now) result }
+{
+    let Some(section) = settings else {
+        return Ok(DEFAULT_CAPACITY);
+    };
+    match read_settings(alloc, section.text) {
+        Ok(settings) => Ok(settings.capacity()),
+        Err(SettingsFault::NoMemory) => Err(Failure::Memory),
+        Err(fault) => Err(refused(section.line, What::Settings(fault))),
+    }
+}
+
+// Carries out a text from the beginning.
+fn play_text<W: Write>(alloc: Global, writer: &mut W, all: bool, text: &str) -> Result<(), Failure>
+    ensures { Writes (W.contents writer.old) (W.contents writer.new) (outcome_of all text.now) result }
+{
+    let script = match open(text) {
+        Ok(script) => script,
+        Err(line) => return Err(refused(line, What::BadSection)),
+    };
+    let capacity = match capacity_of(alloc, &script.settings) {
+        Ok(capacity) => capacity,
+        Err(failure) => return Err(failure),
+    };
+    match Player::new(alloc, capacity, all) {
+        Ok(mut player) => carry_out_all(alloc, &mut player, writer, script.sections),
+        Err(NewFault::BadCapacity) | Err(NewFault::NoMemory) => Err(Failure::Memory),
+    }
+}
+
+// Carries out the script that bytes are, if they are text.
+fn play_bytes<W: Write>(
+    alloc: Global,
+    writer: &mut W,
+    all: bool,
+    bytes: &[u8],
+) -> Result<(), Failure>
+    ensures { WritesScript (W.contents writer.old) (W.contents writer.new) (outcome_of all) bytes.now result }
+{
+    match text_of(bytes) {
+        Ok(text) => play_text(alloc, writer, all, text),
+        Err(error) => Err(refused(1, What::of_bytes(error))),
+    }
+}
+
+/// Carries out the script that a reader gives, and writes its journal: the line of each entry and,
+/// where all is asked for, of each answer that isn't recorded.
+pub fn play<R: Read, W: Write>(
+    alloc: Global,
+    reader: &mut R,
+    writer: &mut W,
+    all: bool,
+) -> Result<(), Failure>
+    ensures { IfSome (R.remaining reader.old) (λ script.
+        WritesScript (W.contents writer.old) (W.contents writer.new) (outcome_of all) script result) }
+{
+    match read_script(alloc, reader) {
+        Ok(bytes) => play_bytes(alloc, writer, all, bytes.as_slice()),
+        Err(ReadError::Memory) => Err(Failure::Memory),
+        Err(ReadError::Io(e)) => Err(Failure::Io(e)),
+    }
+}

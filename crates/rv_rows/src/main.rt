@@ -1,0 +1,101 @@
+//! Worked rows: plays or checks each script of the folder that it is run in, and says of each whether
+//! it gave what stands beside it.
+//!
+//! `NAME.raven` is a script. Where there is a `NAME.said` it is checked, and that is what has to be said;
+//! else it is played, with answers that aren't recorded, and `NAME.journal` is what has to be written.
+//! `NAME.fault` is the fault that has to be told, where there is one.
+#![tactic(auto)]
+
+use rv_check::check;
+use rv_fault::Failure;
+use rv_play::play;
+use std::alloc::Global;
+use std::{fs, io};
+
+/// What is written for a script, and behind it the line of its fault.
+fn given(alloc: Global, script: &[u8], is_checked: bool) -> io::Result<Vec<u8>> {
+    let mut reader = script;
+    let mut written = Vec::new(alloc);
+    let outcome = if is_checked {
+        check(alloc, &mut reader, &mut written)
+    } else {
+        play(alloc, &mut reader, &mut written, true)
+    };
+    match outcome {
+        Ok(()) => {}
+        Err(Failure::Refused(fault)) => {
+            let line = format!(in alloc; "{fault}\n")?;
+            written.extend_from_slice(line.as_bytes())?;
+        }
+        Err(Failure::Memory) => return Err(io::Error::from(io::ErrorKind::OutOfMemory)),
+        Err(Failure::Io(e)) => return Err(e),
+    }
+    Ok(written)
+}
+
+/// The bytes of a file, or none where it isn't there.
+fn bytes_of(rt: &HostRuntime, name: &str, ending: &str) -> io::Result<Option<Vec<u8>>> {
+    let path = format!(in rt.alloc(); "{name}.{ending}")?;
+    match fs::read(rt, path) {
+        Ok(bytes) => Ok(Some(bytes)),
+        Err(e) if e.kind() == io::ErrorKind::NotFound => Ok(None),
+        Err(e) => Err(e),
+    }
+}
+
+/// The number of the first line that differs.
+fn first_difference(given: &[u8], wanted: &[u8]) -> usize {
+    let mut number = 1usize;
+    for (one, other) in given.iter().zip(wanted.iter()) {
+        if one != other {
+            return number;
+        }
+        if *one == b'\n' {
+            number = number.saturating_add(1);
+        }
+    }
+    number
+}
+
+/// Whether a script gives what stands beside it, in words.
+fn told(rt: &HostRuntime, name: &str) -> io::Result<String> {
+    let alloc = rt.alloc();
+    let script = bytes_of(rt, name, "raven")?.unwrap_or(Vec::new(alloc));
+    let said = bytes_of(rt, name, "said")?;
+    let is_checked = said.is_some();
+    let mut wanted = match said {
+        Some(said) => said,
+        None => bytes_of(rt, name, "journal")?.unwrap_or(Vec::new(alloc)),
+    };
+    if let Some(fault) = bytes_of(rt, name, "fault")? {
+        wanted.extend_from_slice(fault.as_slice())?;
+    }
+    let given = given(alloc, script.as_slice(), is_checked)?;
+    if given.as_slice() == wanted.as_slice() {
+        return Ok(format!(in alloc; "{name}: ok")?);
+    }
+    let line = first_difference(given.as_slice(), wanted.as_slice());
+    Ok(format!(in alloc; "{name}: differs at line {line}")?)
+}
+
+/// The names of the scripts, in the order of their bytes.
+fn names_of(rt: &HostRuntime) -> io::Result<Vec<String>> {
+    let alloc = rt.alloc();
+    let mut names = Vec::new(alloc);
+    for entry in fs::read_dir(rt, ".")? {
+        let entry = entry?;
+        if let Some(name) = entry.file_name().strip_suffix(".raven") {
+            names.push(String::from_str(alloc, name)?)?;
+        }
+    }
+    names.sort()?;
+    Ok(names)
+}
+
+fn main(rt: HostRuntime) -> io::Result<()> {
+    for name in names_of(&rt)? {
+        let line = told(&rt, name.as_str())?;
+        println!(rt; "{line}")?;
+    }
+    Ok(())
+}

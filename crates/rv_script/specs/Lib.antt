@@ -1,0 +1,3 @@
+pub mod Openings
+pub mod Prefixes
+pub mod Whole

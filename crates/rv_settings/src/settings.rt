@@ -1,0 +1,52 @@
+//! The settings of a host.
+
+use crate::device::Device;
+use std::marker::Model;
+
+/// How many entries a journal may have where nothing else is set.
+pub const DEFAULT_CAPACITY: usize = 4096;
+
+/// How many requests a task's own body may make where nothing else is set.
+pub const DEFAULT_BUDGET: u32 = 1000;
+
+/// The settings of a host.
+#[derive(Drop)]
+pub struct Settings {
+    pub(crate) capacity: usize,
+    pub(crate) budget: u32,
+    pub(crate) devices: Vec<Device>,
+}
+
+impl Model for Settings {
+    ghost use Rattle.std.specs.Prelude.{map};
+    ghost use Rattle.rv_settings.specs.Settings.{SettingsText};
+
+    ghost Value = { SettingsText };
+
+    ghost view = { λ s. record { capacity = s.capacity; budget = s.budget; devices = s.devices.items } };
+}
+
+impl Settings {
+    ghost use Rattle.std.specs.Prelude.{◌≡◌, map};
+
+    /// How many entries its journal may have, 16 .. 1,048,576.
+    pub fn capacity(&self) -> usize
+        ensures { result ≡ self.now.capacity }
+    {
+        self.capacity
+    }
+
+    /// How many requests a task's own body may make, 1 .. 1,000,000.
+    pub fn budget(&self) -> u32
+        ensures { result ≡ self.now.budget }
+    {
+        self.budget
+    }
+
+    /// Its devices, in order.
+    pub fn devices(&self) -> &[Device]
+        ensures { result.now ≡ self.now.devices }
+    {
+        self.devices.as_slice()
+    }
+}

@@ -1,0 +1,4 @@
+pub mod Names
+pub mod StepWords
+pub mod StepText
+pub mod Lookup

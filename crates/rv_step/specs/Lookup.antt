@@ -1,0 +1,46 @@
+-- The names of a step, looked up among the units that are loaded (own).
+use Rattle.std.specs.Prelude.{ℕ, ◌+◌, List, ◌∷◌, Option, Some, None}
+use Rattle.rv_text.specs.Names.{dotted}
+use Rattle.rv_shape.specs.Shape.{Shape}
+use Rattle.rv_shape.specs.Names.{task_number, object_number, operation_number}
+use Rattle.rv_event.specs.declared.entry.Request.{Request}
+use Rattle.rv_event.specs.declared.entry.Request.TheVariants as Requests
+use Rattle.rv_step.specs.declared.step.Asker.{Asker}
+use Rattle.rv_step.specs.declared.step.Asker.TheVariants.{Operator, Line, Task}
+use Rattle.rv_step.specs.declared.step.Asked.{Asked}
+use Rattle.rv_step.specs.declared.step.Asked.TheVariants.{Call, Complete, Resume, DelayUntil, Clock, Fire, Quit, Tick, Halt}
+use Rattle.rv_step.specs.Names.{DottedWord}
+use Rattle.rv_step.specs.StepWords.{◌>>=◌}
+
+-- the operator's number
+abbrev pub operator : ℕ
+operator = 0
+
+-- `Unit.Name` of a name
+abbrev pub full_name : DottedWord → List ℕ
+full_name name = dotted name.unit name.name
+
+-- the number of who asks: a task that isn't loaded has none
+abbrev pub actor_of : List Shape → Asker → Option ℕ
+actor_of shapes Operator = Some operator
+actor_of shapes (Line line) = Some (line + 1)
+actor_of shapes (Task name) = task_number shapes (full_name name)
+
+-- the numbers of an object and its operation, if they are loaded
+abbrev pub callee_of : List Shape → DottedWord → List ℕ → Option (ℕ × ℕ)
+callee_of shapes object operation =
+    object_number shapes (full_name object) >>= λ o. operation_number shapes o operation >>= λ p. Some (o, p)
+
+-- the request of a step, if what it names is loaded
+abbrev pub request_of : List Shape → Asked → Option Request
+request_of shapes (Call object operation values) =
+    callee_of shapes object operation >>= λ found. Some (Requests.Call found.0 found.1 values)
+request_of shapes (Complete scalars exit) = Some (Requests.Complete scalars exit)
+request_of shapes Resume = Some Requests.Resume
+request_of shapes (DelayUntil time) = Some (Requests.DelayUntil time)
+request_of shapes Clock = Some Requests.Clock
+request_of shapes Fire = Some Requests.Fire
+request_of shapes Quit = Some Requests.Quit
+request_of shapes (Tick ticks) = Some (Requests.Tick ticks)
+request_of shapes Halt = Some Requests.Halt
+request_of shapes change = None

@@ -1,0 +1,129 @@
+-- The steps of a script, one a line: who asks, and what (own). Keywords heed case.
+use Rattle.rv_step.specs.declared.reading.StepError.{StepError}
+use Rattle.rv_step.specs.declared.reading.StepError.TheVariants.{BadStep, NoMemory}
+use Rattle.std.specs.Prelude.{◌≡◌, ℕ, ℤ, Bool, true, false, not, ◌&&◌, if◌then◌else◌, List, [], ◌∷◌, codes}
+use Rattle.std.specs.Prelude.{Option, Some, None, Result, Ok, Err}
+use Rattle.std.specs.Str.{bytes_eq}
+use Rattle.rv_text.specs.Names.{is_same_name}
+use Rattle.rv_text.specs.Numbers.{integer_of}
+use Rattle.rv_access.specs.Words.{Words}
+use Rattle.rv_access.specs.Reading.{is_comment, line_of}
+use Rattle.rv_access.specs.declared.fault.ListFault.{ListFault}
+use Rattle.rv_step.specs.declared.step.Asker.{Asker}
+use Rattle.rv_step.specs.declared.step.Asker.TheVariants.{Operator, Line, Task}
+use Rattle.rv_step.specs.declared.step.Asked.{Asked}
+use Rattle.rv_step.specs.declared.step.Asked.TheVariants as Asks
+use Rattle.rv_step.specs.StepWords.{◌>>=◌, dotted_of, identifier_of, interrupt_of, args_of, scalars_of, exit_of}
+
+-- a step
+pub record StepWords : Type 0 where
+  pub asker : Asker
+  pub asked : Asked
+
+-- `Unit.Task`
+abbrev pub task_of : List ℕ → Option Asker
+task_of word = dotted_of word >>= λ name. Some (Task name)
+
+-- a line where the word is one, else a task
+abbrev pub line_or_task : List ℕ → Option ℕ → Option Asker
+line_or_task word (Some line) = Some (Line line)
+line_or_task word None = task_of word
+
+-- `operator`, `Int_K` or `Unit.Task`
+abbrev pub asker_of : List ℕ → Option Asker
+asker_of word = if is_same_name word (codes "operator") then Some Operator else line_or_task word (interrupt_of word)
+
+-- `call Unit.Object Operation VALUES`
+abbrev pub call_of : List (List ℕ) → Option Asked
+call_of (object ∷ operation ∷ words) =
+    dotted_of object >>= λ o. identifier_of operation >>= λ p. args_of words >>= λ values. Some (Asks.Call o p values)
+call_of words = None
+
+-- `end SCALARS : EXIT`
+abbrev pub end_of : List (List ℕ) → Option Asked
+end_of words = scalars_of words >>= λ found. exit_of found.rest >>= λ exit. Some (Asks.Complete found.scalars exit)
+
+-- one number, and nothing behind it
+abbrev pub one_number : List (List ℕ) → Option ℤ
+one_number (word ∷ []) = integer_of word
+one_number words = None
+
+-- a line of a list, or what is wrong with it; blank words and a comment are none
+abbrev pub list_line : List (List ℕ) → Option (Result Words ListFault)
+list_line [] = None
+list_line (word ∷ words) = if is_comment word then None else Some (line_of 1 (word ∷ words))
+
+-- `replace N LINE`, behind the `replace`
+abbrev pub replace_of : List (List ℕ) → Option Asked
+replace_of (number ∷ words) = integer_of number >>= λ n. list_line words >>= λ line. Some (Asks.Replace n line)
+replace_of [] = None
+
+-- the requests of one word
+abbrev pub alone : List ℕ → Option Asked
+alone word =
+    if bytes_eq word (codes "resume") then Some Asks.Resume
+    else if bytes_eq word (codes "clock") then Some Asks.Clock
+    else if bytes_eq word (codes "fire") then Some Asks.Fire
+    else if bytes_eq word (codes "finish") then Some Asks.Quit
+    else if bytes_eq word (codes "halt") then Some Asks.Halt
+    else None
+
+-- the requests with a number
+abbrev pub numbered_by : List ℕ → ℤ → Option Asked
+numbered_by key number =
+    if bytes_eq key (codes "delay") then Some (Asks.DelayUntil number)
+    else if bytes_eq key (codes "tick") then Some (Asks.Tick number)
+    else if bytes_eq key (codes "remove") then Some (Asks.Remove number)
+    else None
+
+-- a request of a word and a number
+abbrev pub numbered : List ℕ → List (List ℕ) → Option Asked
+numbered key words = one_number words >>= numbered_by key
+
+-- the requests that go on
+abbrev pub longer : List ℕ → List (List ℕ) → Option Asked
+longer key words =
+    if bytes_eq key (codes "call") then call_of words
+    else if bytes_eq key (codes "end") then end_of words
+    else if bytes_eq key (codes "append") then (list_line words >>= λ line. Some (Asks.Append line))
+    else if bytes_eq key (codes "replace") then replace_of words
+    else numbered key words
+
+-- what the words behind the actor ask
+abbrev pub asked_of : List (List ℕ) → Option Asked
+asked_of [] = None
+asked_of (key ∷ []) = alone key
+asked_of (key ∷ word ∷ words) = longer key (word ∷ words)
+
+-- the operator alone changes single lines of the list
+abbrev pub is_change : Asked → Bool
+is_change (Asks.Append line) = true
+is_change (Asks.Remove number) = true
+is_change (Asks.Replace number line) = true
+is_change asked = false
+
+-- the actor is the operator
+abbrev pub is_operator : Asker → Bool
+is_operator Operator = true
+is_operator (Line line) = false
+is_operator (Task name) = false
+
+-- a step, unless it changes the list for another than the operator
+abbrev pub if_allowed : Asker → Asked → Option StepWords
+if_allowed asker asked =
+    if is_change asked && not (is_operator asker) then None else Some (record { asker = asker; asked = asked })
+
+-- the step that the words of a line are
+abbrev pub step_of : List (List ℕ) → Option StepWords
+step_of [] = None
+step_of (word ∷ words) = asker_of word >>= λ asker. asked_of words >>= λ asked. if_allowed asker asked
+
+-- a call tells what reading gives, unless memory ran out
+abbrev pub Fails : {Y : Type 0} → StepError → Option Y → Type 0
+Fails NoMemory read = Unit {0}
+Fails BadStep read = read ≡ None
+
+-- what is read is what there is
+abbrev pub Gives : {Y : Type 0} → Result Y StepError → Option Y → Type 0
+Gives (Ok x) read = read ≡ Some x
+Gives (Err e) read = Fails e read

@@ -1,0 +1,8 @@
+//! The steps of a script, `ACTOR REQUEST`, one a line: their words, and the names that they have, looked
+//! up among the units that are loaded.
+#![tactic(auto)]
+
+pub mod lookup;
+pub mod reading;
+pub mod step;
+mod words;

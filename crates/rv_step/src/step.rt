@@ -1,0 +1,119 @@
+//! The steps of a script, with names as they were written.
+
+ghost use Rattle.std.specs.Prelude.{◌≡◌, IfOk, string_bytes};
+
+use rv_access::{Line, ListFault};
+use rv_event::entry::Exit;
+use rv_value::{Args, Scalars};
+use std::alloc::{AllocError, Global};
+use std::marker::Model;
+
+/// The name of an object or a task, `Unit.Name`.
+#[derive(Drop)]
+pub struct DottedName {
+    unit: String,
+    name: String,
+}
+
+impl Model for DottedName {
+    ghost use Rattle.rv_step.specs.Names.{DottedWord};
+    ghost use Rattle.std.specs.Prelude.{string_bytes};
+
+    ghost Value = { DottedWord };
+
+    ghost view = { λ d. record { unit = string_bytes d.unit; name = string_bytes d.name } };
+}
+
+impl DottedName {
+    /// The name of these two parts.
+    pub fn new(alloc: Global, unit: &str, name: &str) -> Result<DottedName, AllocError>
+        ensures { IfOk result (λ d. d ≡ record { unit = unit.now; name = name.now }) }
+    {
+        let unit = String::from_str(alloc, unit)?;
+        let name = String::from_str(alloc, name)?;
+        Ok(DottedName { unit, name })
+    }
+
+    /// The name of the unit.
+    pub fn unit(&self) -> &str
+        ensures { result.now ≡ self.now.unit }
+    {
+        self.unit.as_str()
+    }
+
+    /// The name in the unit.
+    pub fn name(&self) -> &str
+        ensures { result.now ≡ self.now.name }
+    {
+        self.name.as_str()
+    }
+}
+
+/// A name.
+#[derive(Drop)]
+pub struct Name {
+    text: String,
+}
+
+impl Model for Name {
+    ghost use Rattle.std.specs.Prelude.{ℕ, List, string_bytes};
+
+    ghost Value = { List ℕ };
+
+    ghost view = { λ n. string_bytes n.text };
+}
+
+impl Name {
+    /// The name that a text is.
+    pub fn new(alloc: Global, text: &str) -> Result<Name, AllocError>
+        ensures { IfOk result (λ n. n ≡ text.now) }
+    {
+        let text = String::from_str(alloc, text)?;
+        Ok(Name { text })
+    }
+
+    /// Its text.
+    pub fn as_str(&self) -> &str
+        ensures { result.now ≡ self.now }
+    {
+        self.text.as_str()
+    }
+}
+
+/// Who asks.
+#[derive(Drop)]
+pub enum Asker {
+    Operator,
+    /// The line 0 .. 9 of `Int_0` .. `Int_9`.
+    Line(u8),
+    Task(DottedName),
+}
+
+/// What is asked.
+#[derive(Drop)]
+pub enum Asked {
+    /// A call of an operation of an object with these values.
+    Call(DottedName, Name, Args),
+    /// The end of a body with the object's scalars.
+    Complete(Scalars, Exit),
+    Resume,
+    DelayUntil(i64),
+    Clock,
+    Fire,
+    Quit,
+    Tick(i64),
+    Halt,
+    /// One more line at the end of the list; what is no line comes with its fault.
+    Append(Result<Line, ListFault>),
+    /// The list without the line of this number.
+    Remove(i64),
+    /// The list with another line in place of that of this number.
+    Replace(i64, Result<Line, ListFault>),
+}
+
+/// One step: who asks, and what.
+#[derive(Drop)]
+pub struct Step {
+    pub asker: Asker,
+    pub asked: Asked,
+}
