@@ -14,6 +14,7 @@ ghost use Rattle.rv_history.specs.Due.{out};
 ghost use Rattle.rv_history.specs.History.{History};
 ghost use Rattle.rv_history.specs.Journal.{journal_lines};
 ghost use Rattle.rv_history.specs.Legal.{Legal};
+ghost use Rattle.rv_history.specs.Spelled.{AreSpelled};
 
 /// Each task, object and operation of a legal history is found by its name.
 #[tactic(auto, using(crate::proofs::Found::legal_found))]
@@ -59,4 +60,11 @@ pub fn histories_differ_in_their_lines()
     ensures { (h k : History) → Legal h → Legal k →
         length h.past < 10 ^ 12 → length k.past < 10 ^ 12 → h.shapes ≡ k.shapes →
         journal_lines h ≡ journal_lines k → h.past ≡ k.past }
+{}
+
+/// And the same lists, where these are such as texts hold.
+pub fn histories_differ_in_the_lines_of_their_lists()
+    ensures { (h k : History) → Legal h → Legal k → AreSpelled h.lists → AreSpelled k.lists →
+        length h.past < 10 ^ 12 → length k.past < 10 ^ 12 → h.shapes ≡ k.shapes →
+        journal_lines h ≡ journal_lines k → h.lists ≡ k.lists }
 {}
