@@ -71,7 +71,8 @@ pub fn handed_callers_hold_their_bodies()
     ensures { (h : History) (later past : List Entry) (actor : ℕ) (values : List ℤ) (exit : Exit)
         (caller : ℕ) →
         Legal h → IsSolvent h →
-        h.past ≡ later ++ Asked actor (Complete values exit) (recorded.Done (HandedTo caller)) ∷ past →
+        h.past
+        ≡ later ++ Asked actor (Complete values exit) (recorded.Done (HandedTo caller)) ∷ past →
         list_any (is_own caller) later ≡ false → IsHanded h past actor values caller }
 {}
 
@@ -81,7 +82,8 @@ pub fn dropped_callers_are_told_of_the_drop()
     ensures { (h : History) (later past : List Entry) (actor : ℕ) (values : List ℤ) (exit : Exit)
         (caller line : ℕ) →
         Legal h → IsSolvent h →
-        h.past ≡ later ++ Asked actor (Complete values exit) (recorded.Done (Dropped caller line)) ∷ past →
+        h.past
+        ≡ later ++ Asked actor (Complete values exit) (recorded.Done (Dropped caller line)) ∷ past →
         list_any (is_own caller) later ≡ false →
         out h caller Resume ≡ Refused Grant line (changes past) }
 {}

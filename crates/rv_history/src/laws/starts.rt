@@ -31,9 +31,9 @@ pub fn start_gives_the_scalars()
         out h actor request ≡ answers.Started (scalars h.shapes allowed.object h.past) }
 {}
 
-/// Where there is room for it, a fired line starts its handler exactly when it is idle and attached,
-/// the host isn't halted, the list grants the handler to `Interrupts`, the line's priority isn't
-/// above the ceiling, and nobody holds the object.
+/// Where there is room for it, a fired line starts its handler exactly when it is idle and
+/// attached, the host isn't halted, the list grants the handler to `Interrupts`, the line's
+/// priority isn't above the ceiling, and nobody holds the object.
 pub fn fired_lines_start_exactly_when_they_may()
     ensures { (h : History) (actor line : ℕ) → who h.shapes actor ≡ Line line →
         has_room h.capacity h.shapes (Asked actor Fire Started ∷ h.past) ≡ true →

@@ -55,7 +55,8 @@ pub fn lines_determine_entries()
         Asked actor request word ≡ Asked other another answer }
 {}
 
-/// Two legal histories over the same shapes whose journals have the same lines have the same entries.
+/// Two legal histories over the same shapes whose journals have the same lines have the same
+/// entries.
 pub fn histories_differ_in_their_lines()
     ensures { (h k : History) → Legal h → Legal k →
         length h.past < 10 ^ 12 → length k.past < 10 ^ 12 → h.shapes ≡ k.shapes →
