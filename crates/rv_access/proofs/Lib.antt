@@ -1,3 +1,4 @@
 pub mod Listing
 pub mod Putting
 pub mod Spelling
+pub mod TextLines

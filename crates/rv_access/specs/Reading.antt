@@ -6,6 +6,7 @@ use Rattle.rv_text.specs.Words.{words, is_some_word}
 use Rattle.rv_text.specs.Names.{is_identifier}
 use Rattle.rv_access.specs.Spelled.{is_star_or, is_dotted}
 use Rattle.rv_access.specs.Words.{Words}
+use Rattle.rv_access.specs.Limits.{most_lines}
 use Rattle.rv_access.specs.declared.fault.ListFault.{ListFault}
 use Rattle.rv_access.specs.declared.fault.ListFault.TheVariants.{BadWord, BadName, TooMany, NoMemory}
 
@@ -50,7 +51,7 @@ is_meant line = not (is_comment line) && is_some_word (words line)
 abbrev pub step : ℕ → List Words → List ℕ → Result (List Words) ListFault
 step number list line =
     if is_meant line
-    then (if nat_le 512 (length list) then Err (TooMany number) else line_of number (words line) >>= λ more. Ok (list ++ more ∷ []))
+    then (if nat_le most_lines (length list) then Err (TooMany number) else line_of number (words line) >>= λ more. Ok (list ++ more ∷ []))
     else Ok list
 
 abbrev pub steps : ℕ → List Words → List (List ℕ) → Result (List Words) ListFault

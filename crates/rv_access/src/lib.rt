@@ -4,6 +4,7 @@
 mod changes;
 mod decision;
 mod fault;
+pub mod laws;
 mod line;
 mod list;
 mod reading;

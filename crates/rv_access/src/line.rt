@@ -29,9 +29,19 @@ impl Model for Line {
 
     ghost Value = { Words };
 
-    ghost view = { λ l. record { allow = l.allow; unit = string_bytes l.unit; object = string_bytes l.object; operation = string_bytes l.operation } };
+    ghost view = { λ l. record {
+      allow = l.allow;
+      unit = string_bytes l.unit;
+      object = string_bytes l.object;
+      operation = string_bytes l.operation;
+    } };
 
-    ghost invariant = { λ l. IsSpelled (record { allow = l.allow; unit = string_bytes l.unit; object = string_bytes l.object; operation = string_bytes l.operation }) };
+    ghost invariant = { λ l. IsSpelled (record {
+      allow = l.allow;
+      unit = string_bytes l.unit;
+      object = string_bytes l.object;
+      operation = string_bytes l.operation;
+    }) };
 }
 
 impl Line {

@@ -1,9 +1,8 @@
 -- What is loaded is found by its names, where each shape fitted when it was loaded.
-use Rattle.std.proofs.Common.{◌≡◌, ℕ, zero, suc, ◌+◌, ◌-◌, ◌<◌, ◌≤◌, List, [], ◌∷◌, ◌++◌, length, map, Some, None, Option, Bool, true, false, arith, ap, sym, ◌∙◌, refl, ◌⊎◌, inl, inr}
-use Rattle.std.specs.Prelude.{nat_lt, nat_le, slice_get, ◌||◌, ◌&&◌, ◌==◌, not, if◌then◌else◌, IsTrue}
+use Rattle.std.proofs.Common.{◌≡◌, ℕ, zero, suc, ◌+◌, ◌-◌, ◌≤◌, List, [], ◌∷◌, ◌++◌, length, map, Some, None, Bool, true, false, arith, ap, sym, ◌∙◌, refl, ◌⊎◌, inl, inr}
+use Rattle.std.specs.Prelude.{nat_lt, nat_le, slice_get, ◌||◌, ◌&&◌, ◌==◌, not, if◌then◌else◌}
 use Rattle.std.specs.List.{list_any, flat_map}
 use Rattle.std.specs.Option.{option_map}
-use Rattle.std.specs.Str.{bytes_eq}
 use Rattle.std.specs.Char.{to_ascii_lowercase, is_ascii_alphanumeric}
 use Rattle.std.proofs.lemmas.List.{map-append}
 use Rattle.std.proofs.lemmas.List.Folds.{list_any-append}
@@ -15,12 +14,11 @@ use Rattle.rv_shape.specs.declared.object.Object.TheVariants.{Protected, Suspens
 use Rattle.rv_shape.specs.declared.fault.ShapeFault.TheVariants.{NameTaken, TooMany, LineTaken, CeilingTooLow, BadRange, BadText}
 use Rattle.rv_shape.specs.Objects.{OperationShape, TaskShape, ProtectedShape}
 use Rattle.rv_shape.specs.Shape.{Shape}
-use Rattle.rv_shape.specs.Catalogue.{UnitTask, UnitObject, first_task, numbered, place, all_tasks, all_objects, tasks_of, objects_of, operations_of, suspension_operations, suspension_operation_name}
-use Rattle.rv_shape.specs.Readers.{actor_task}
+use Rattle.rv_shape.specs.Catalogue.{UnitTask, UnitObject, first_task, all_tasks, all_objects, tasks_of, objects_of, operations_of}
 use Rattle.rv_shape.specs.Forms.{is_formed, ill_operation, ill_object, ill_formed}
 use Rattle.rv_shape.specs.Fits.{among, twice, reserved, object_name, fault, name_taken, too_many, line_taken, low_ceiling, out_of_range}
-use Rattle.rv_shape.specs.Names.{unit_name, task_name, unit_object_name, operation_names, number_from, task_number, object_number, operation_number, operation_number_in}
-use Rattle.rv_shape.specs.Found.{IsFoundTask, IsFoundObject, AreFound, IsClear, AreClear, AreDistinct}
+use Rattle.rv_shape.specs.Names.{unit_name, task_name, unit_object_name, operation_names, number_from, operation_number_in}
+use Rattle.rv_shape.specs.Found.{AreFound, IsClear, AreClear, AreDistinct}
 use Rattle.rv_shape.proofs.NumberingLemmas.{same_laws}
 
 or_false : (a b : Bool) → (a || b) ≡ false → (a ≡ false) × (b ≡ false)

@@ -16,9 +16,13 @@ abbrev pub starts_with_letter : List ℕ → Bool
 starts_with_letter [] = false
 starts_with_letter (byte ∷ bytes) = is_ascii_alphabetic byte
 
+-- the most characters of an identifier (own)
+abbrev pub most_characters : ℕ
+most_characters = 64
+
 -- an identifier: at most 64 characters, a letter first, then letters and digits with single underscores between them
 abbrev pub is_identifier : List ℕ → Bool
-is_identifier word = nat_le (length word) 64 && starts_with_letter word && is_spelled true word
+is_identifier word = nat_le (length word) most_characters && starts_with_letter word && is_spelled true word
 
 abbrev pub is_dot : ℕ → Bool
 is_dot byte = byte == 46

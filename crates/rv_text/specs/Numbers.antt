@@ -7,8 +7,12 @@ abbrev pub read_on : ℕ → List ℕ → ℕ
 read_on number [] = number
 read_on number (digit ∷ digits) = read_on (10 * number + (digit - 48)) digits
 
+-- the most digits of a number (own)
+abbrev pub most_digits : ℕ
+most_digits = 18
+
 abbrev pub is_natural : List ℕ → Bool
-is_natural word = nat_lt 0 (length word) && nat_le (length word) 18 && all_ascii_digits word
+is_natural word = nat_lt 0 (length word) && nat_le (length word) most_digits && all_ascii_digits word
 
 -- the number that digits stand for
 abbrev pub natural_of : List ℕ → Option ℕ

@@ -3,6 +3,9 @@
 ghost use Rattle.std.specs.Prelude.{◌≡◌, true, option_map};
 ghost use Rattle.rv_text.specs.Names.{is_spelled, is_identifier, dotted, dotted_parts, is_same_name};
 
+/// The most characters of an identifier; the limit is our own.
+pub const MOST_CHARACTERS: usize = 64;
+
 // Whether letters and digits stand there, with single underscores between them.
 fn is_spelled(name: &[u8]) -> bool
     ensures { result ≡ is_spelled true name.now }
@@ -26,7 +29,7 @@ pub fn is_identifier(word: &str) -> bool
     ensures { result ≡ is_identifier word.now }
 {
     let bytes = word.as_bytes();
-    if bytes.len() > 64 {
+    if bytes.len() > MOST_CHARACTERS {
         return false;
     }
     match bytes {
