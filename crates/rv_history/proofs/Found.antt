@@ -1,10 +1,11 @@
 -- What a legal history has loaded is found by its names, and keeps its limits.
-use Rattle.std.proofs.Common.{◌≡◌, ℕ, zero, suc, ◌-◌, List, [], ◌∷◌, ◌++◌, Some, None, Option, Bool, true, false, cond, ap, subst, sym, ◌∙◌, refl}
+use Rattle.std.proofs.Common.{◌≡◌, ℕ, zero, suc, ◌-◌, List, [], ◌∷◌, ◌++◌, Some, None, Option, Bool, true, false, ap, subst, sym, ◌∙◌, refl}
 use Rattle.std.specs.Prelude.{◌||◌, map, nat_lt, not, is_some, slice_get, if◌then◌else◌}
 use Rattle.std.specs.List.{list_any}
 use Rattle.rv_access.specs.Words.{Words}
-use Rattle.rv_shape.specs.Catalogue.{OnProtected, OnSuspension, Nowhere, Site, UnitObject, all_objects, at_object, at_operation, at_suspension, at_unit_object, numbered, objects_of, place, suspension_operations, target}
-use Rattle.rv_shape.specs.Fits.{bad_object, crowded, fault, ill_formed, line_taken, low_ceiling, name_taken, out_of_range, shape_fits, too_many}
+use Rattle.rv_shape.specs.Catalogue.{OnProtected, Site, UnitObject, all_objects, at_object, at_operation, at_suspension, at_unit_object, numbered, objects_of, place, suspension_operations, target}
+use Rattle.rv_shape.specs.Fits.{bad_object, crowded, fault, line_taken, low_ceiling, name_taken, out_of_range, shape_fits, too_many}
+use Rattle.rv_shape.specs.Forms.{ill_formed}
 use Rattle.rv_shape.specs.Found.{AreDistinct, AreFound}
 use Rattle.rv_shape.specs.Objects.{OperationShape, ProtectedShape}
 use Rattle.rv_shape.specs.Shape.{Shape}

@@ -40,6 +40,10 @@ none_named (Dropped n line) j e = ap (λ b. if b then Some (DroppedBy line) else
 pub unsaid : (j : ℕ) (e : Entry) → is_apart j e ≡ true → said j e ≡ None
 unsaid j e apart = λ i. first_of (none_named (next_of e) j (not_named j e apart) i) (if not_own j e apart i then Some (stance_of e) else None)
 
+-- an own entry that names nobody says what it leaves it at
+pub own_said : (a : ℕ) (e : Entry) → names a e ≡ false → is_own a e ≡ true → said a e ≡ Some (stance_of e)
+own_said a e none own = λ i. first_of (none_named (next_of e) a none i) (if own i then Some (stance_of e) else None)
+
 other_named : (n : Option ℕ) (j : ℕ) → is_named j n ≡ false → is_other n j ≡ true
 other_named None j e = refl
 other_named (Some n) j e = ap not e

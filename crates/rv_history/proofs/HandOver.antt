@@ -80,7 +80,7 @@ unfolding is_hand_over
 handed_granted true line m n e = refl
 handed_granted false line m n e = absurd (off (sym (ap is_hand_over e)))
 
-dropped_denied : (g : Bool) (k m n line : ℕ) → Dropped n line ≡ judged_head g k m → (g ≡ false) × (line ≡ k)
+pub dropped_denied : (g : Bool) (k m n line : ℕ) → Dropped n line ≡ judged_head g k m → (g ≡ false) × (line ≡ k)
 unfolding is_hand_over line_in
 dropped_denied true k m n line e = absurd (off (ap is_hand_over e))
 dropped_denied false k m n line e = (refl, ap line_in e)

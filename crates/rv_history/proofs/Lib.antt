@@ -1,37 +1,49 @@
+-- What recorded answers say, and lists of bodies
 pub mod Answered
-pub mod Exactly
-pub mod Loaded
 pub mod Stances
-pub mod Waits
 pub mod Bodies
-pub mod Ending
-pub mod Orderly
-pub mod Room
-pub mod Sums
-pub mod Pays
-pub mod Ends
 pub mod Handled
+pub mod Sums
+-- Starts and refusals
+pub mod Exactly
+pub mod Fires
 pub mod First
 pub mod Refused
+-- Loads and counts
+pub mod Loaded
 pub mod Versions
-pub mod Alone
 pub mod Unrecorded
-pub mod Settled
+-- Queues, ends and hand-overs
+pub mod Waits
+pub mod Ending
 pub mod HandOver
-pub mod NeverFull
-pub mod During
-pub mod Naming
-pub mod Frame
 pub mod Silent
-pub mod Closing
-pub mod Clocks
-pub mod Released
 pub mod Handing
-pub mod Fires
+-- Order, exclusion and scalars
+pub mod Orderly
+pub mod Alone
+pub mod Settled
+pub mod During
+pub mod Frame
+-- Room
+pub mod Room
+pub mod Pays
+pub mod Ends
+pub mod NeverFull
 pub mod Costs
-pub mod Stepping
-pub mod Growing
+-- Resumes, suspension and the clock
 pub mod Resumes
+pub mod Released
+pub mod Clocks
+-- Halts, quits and steps
+pub mod Closing
+pub mod Stepping
 pub mod Spelled
+-- Words and the journal
+pub mod Naming
+pub mod Growing
 pub mod Found
 pub mod Said
+pub mod Few
+pub mod Told
+pub mod Lines

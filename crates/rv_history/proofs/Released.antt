@@ -10,7 +10,7 @@ use Rattle.rv_shape.specs.declared.object.Object.TheVariants.{Protected, Suspens
 use Rattle.rv_shape.specs.Catalogue.{UnitObject, Target, Nowhere, OnProtected, OnSuspension, at_object, at_operation, at_suspension, at_unit_object, first_of, numbered, place, suspension_operations, target, is_function}
 use Rattle.rv_shape.specs.declared.suspension.SuspensionOperation.{SuspensionOperation}
 use Rattle.rv_shape.specs.declared.suspension.SuspensionOperation.TheVariants.{SetTrue, SetFalse, CurrentState, SuspendUntilTrue}
-use Rattle.rv_event.specs.Past.{Touch, Waits, Sets, Clears, Untouched, accepted_touch, if_named, if_own, is_named, is_own, is_set, named_in, names, next_of, or_else, released, said, scalars, since, stance, stance_of, state, state_after, touch, touch_of, waiter, waiter_after}
+use Rattle.rv_event.specs.Past.{Touch, Waits, Sets, Clears, Untouched, accepted_touch, if_named, if_own, is_named, is_own, is_set, named_in, names, next_of, or_else, released, scalars, since, stance, stance_of, state, state_after, touch, touch_of, waiter, waiter_after}
 use Rattle.rv_event.specs.Recorded.{recorded}
 use Rattle.rv_event.specs.declared.entry.Answer.TheVariants as Answers
 use Rattle.rv_event.specs.declared.entry.Entry.{Entry}
@@ -35,7 +35,7 @@ use Rattle.rv_history.specs.Subject.{subject}
 use Rattle.rv_history.specs.Suspension.{IsReleased}
 use Rattle.rv_history.proofs.Answered.{off, answered}
 use Rattle.rv_history.proofs.Ending.{some_number}
-use Rattle.rv_history.proofs.Frame.{all_more, all_parts, apart_of, none_named, unsaid}
+use Rattle.rv_history.proofs.Frame.{all_more, all_parts, apart_of, own_said, unsaid}
 use Rattle.rv_history.proofs.Resumes.{resume_due, woken_ready}
 use Rattle.rv_history.proofs.Stances.{itself, same_number}
 
@@ -184,9 +184,6 @@ named_not (HandedTo n) a o s t is e =
 named_not (Dropped n line) a o s t is e =
     let f : DroppedBy line ≡ WaitsOn o = sym (ap (λ b. or_else (first_of (if b then Some (DroppedBy line) else None) s) t) is) ∙ e in
     cc
-
-own_said : (a : ℕ) (e : Entry) → names a e ≡ false → is_own a e ≡ true → said a e ≡ Some (stance_of e)
-own_said a e none own = λ i. first_of (none_named (next_of e) a none i) (if own i then Some (stance_of e) else None)
 
 own_waits : (a o : ℕ) (b : ℕ) (r : Request) (w : Recorded) (past : List Entry) → names a (Asked b r w) ≡ false → is_own a (Asked b r w) ≡ true → Suspends o r w → Outcome a o (Asked b r w ∷ past)
 own_waits a o b r w past none own s = inl (

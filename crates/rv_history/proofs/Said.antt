@@ -1,5 +1,5 @@
 -- A recorded request is one that words can say, so that its words are read back as that request.
-use Rattle.std.proofs.Common.{◌≡◌, ℕ, ◌+◌, ◌^◌, ◌<◌, ◌≤◌, List, [], ◌∷◌, length, Some, None, Option, Bool, true, false, cond, arith, ap, sym, ◌∙◌, refl}
+use Rattle.std.proofs.Common.{◌≡◌, ℕ, ◌≤◌, List, [], ◌∷◌, length, Some, None, Option, Bool, true, false, cond, arith, ap, sym, ◌∙◌, refl}
 use Rattle.std.specs.Prelude.{ℤ, pos, negsuc, ◌&&◌, ◌||◌, int_le, map, nat_le, nat_lt, not, if◌then◌else◌}
 use Rattle.std.specs.List.{filter, list_any}
 use Rattle.std.proofs.lemmas.Bool.Decides.{nat_tests}
@@ -82,8 +82,10 @@ short_in r v good in_it =
     let parts = both (int_le r.low r.high && int_le (lowest r.of) r.low) (int_le r.high (highest r.of)) (not_false _ good) in
     let low = (both (int_le r.low r.high) (int_le (lowest r.of) r.low) parts.0).1 in
     let at = both (int_le r.low v) (int_le v r.high) in_it in
-    short_between v (le_trans _ r.low v (le_trans _ (lowest r.of) r.low (low_enough r.of) low) at.0)
-    (le_trans v r.high _ at.1 (le_trans r.high (highest r.of) _ parts.1 (high_enough r.of)))
+    let first : ℤ = negsuc 999999999999999 in
+    let last : ℤ = pos 1000000000000000 in
+    short_between v (le_trans first r.low v (le_trans first (lowest r.of) r.low (low_enough r.of) low) at.0)
+    (le_trans v r.high last at.1 (le_trans r.high (highest r.of) last parts.1 (high_enough r.of)))
 
 record Fitted (rs : List Range) (vs : List ℤ) : Type 0 where
   short : AreShort vs
@@ -218,22 +220,22 @@ tick_short : (n : ℤ) → is_tick n ≡ true → IsShort n
 tick_short (pos n) e = omega (arith, le_of n 1000000 (both (nat_le 1 n) (nat_le n 1000000) e).1)
 tick_short (negsuc n) e = absurd (off e)
 
-said : (h : History) (a : ℕ) (r : Request) → Legal h → fits_actor h a r ≡ true → IsSaid h.shapes r
-said h a (Call o p vs) l e = said_call h a o p vs l (both (may_call (who h.shapes a) (mode h.shapes a h.past)) _ e).1
-said h a (Complete vs x) l e = said_end h vs x (innermost h.shapes a h.past) l (both (in_body (mode h.shapes a h.past)) _ e).1
-said h a Resume l e = tt
-said h a (DelayUntil t) l e =
+pub is_said : (h : History) (a : ℕ) (r : Request) → Legal h → fits_actor h a r ≡ true → IsSaid h.shapes r
+is_said h a (Call o p vs) l e = said_call h a o p vs l (both (may_call (who h.shapes a) (mode h.shapes a h.past)) _ e).1
+is_said h a (Complete vs x) l e = said_end h vs x (innermost h.shapes a h.past) l (both (in_body (mode h.shapes a h.past)) _ e).1
+is_said h a Resume l e = tt
+is_said h a (DelayUntil t) l e =
     let time = (both (may_call (who h.shapes a) (mode h.shapes a h.past)) (is_time t) e).1 in
     let parts = both (int_le (negsuc 999999999999999) t) (int_le t (pos 1000000000000000)) time in
     short_between t parts.0 parts.1
-said h a Clock l e = tt
-said h a Fire l e = tt
-said h a Quit l e = tt
-said h a (Tick n) l e = tick_short n (both (is_operator (who h.shapes a)) (is_tick n) e).1
-said h a Halt l e = tt
+is_said h a Clock l e = tt
+is_said h a Fire l e = tt
+is_said h a Quit l e = tt
+is_said h a (Tick n) l e = tick_short n (both (is_operator (who h.shapes a)) (is_tick n) e).1
+is_said h a Halt l e = tt
 
 pub read_back : (h : History) (a : ℕ) (r : Request) (w : Recorded) → Legal h → recorded (out h a r) ≡ Some w → request_of h.shapes (words (request_text h.shapes r)) ≡ Some r
-read_back h a r w l e = request_back h.shapes (legal_found h l) r (said h a r l (answered h a r w e).fits_in)
+read_back h a r w l e = request_back h.shapes (legal_found h l) r (is_said h a r l (answered h a r w e).fits_in)
 
 request_in : Request → Option Request → Request
 request_in r None = r

@@ -1,6 +1,6 @@
 //! The clock (D.8), and delays (9.6, D.9).
 
-ghost use Rattle.std.specs.Prelude.{◌≡◌, ◌≤◌, ◌+◌, ◌++◌, ◌↔◌, ℕ, ℤ, List, None, int_le, map, pos, sum, true};
+ghost use Rattle.std.specs.Prelude.{◌≡◌, ◌≤◌, ◌+◌, ◌*◌, ◌++◌, ◌↔◌, ℕ, ℤ, List, None, int_le, length, map, pos, sum, true};
 ghost use Rattle.rv_event.specs.Past.{clock, stance, ticks, ticks_in};
 ghost use Rattle.rv_event.specs.declared.entry.Answer.TheVariants.{Accepted, Woken};
 ghost use Rattle.rv_event.specs.declared.entry.Entry.{Entry};
@@ -21,6 +21,12 @@ pub fn clock_is_the_sum_of_ticks()
 #[tactic(auto, using(crate::proofs::Clocks::clock_grows))]
 pub fn clock_never_goes_back()
     ensures { (later past : List Entry) → clock past ≤ clock (later ++ past) }
+{}
+
+/// Each entry moves it by at most a million.
+#[tactic(auto, using(crate::proofs::Few::clock_bound))]
+pub fn clock_is_bounded_by_the_entries()
+    ensures { (h : History) → Legal h → clock h.past ≤ 1000000 * length h.past }
 {}
 
 /// An accepted tick moves it by so many.

@@ -24,7 +24,6 @@ pub fn due_answers_are_steps()
 {}
 
 /// Where commands bring only lines that a text can hold, the lists of the history have no others.
-#[tactic(auto, using(crate::proofs::Spelled::steps_spelled))]
 pub fn steps_keep_lists_spelled()
     ensures { (h k : History) (commands : List Command) (answers : List Answer) →
         AreSpelled h.lists → All BringsSpelled commands → Steps h commands answers k →

@@ -1,15 +1,18 @@
 //! What words say: names are found, and requests are read back.
 
-ghost use Rattle.std.specs.Prelude.{◌≡◌, ℕ, Some};
+ghost use Rattle.std.specs.Prelude.{◌≡◌, ◌<◌, ◌^◌, ℕ, List, Some, length};
 ghost use Rattle.rv_text.specs.Words.{words};
 ghost use Rattle.rv_shape.specs.Found.{AreFound};
+ghost use Rattle.rv_event.specs.ReadBack.{IsSaidEntry};
 ghost use Rattle.rv_event.specs.Reading.{request_of};
 ghost use Rattle.rv_event.specs.Recorded.{recorded};
-ghost use Rattle.rv_event.specs.Text.{request_text};
+ghost use Rattle.rv_event.specs.Text.{entry_line, request_text};
+ghost use Rattle.rv_event.specs.declared.entry.Entry.TheVariants.{Asked};
 ghost use Rattle.rv_event.specs.declared.entry.Recorded.{Recorded};
 ghost use Rattle.rv_event.specs.declared.entry.Request.{Request};
 ghost use Rattle.rv_history.specs.Due.{out};
 ghost use Rattle.rv_history.specs.History.{History};
+ghost use Rattle.rv_history.specs.Journal.{journal_lines};
 ghost use Rattle.rv_history.specs.Legal.{Legal};
 
 /// Each task, object and operation of a legal history is found by its name.
@@ -19,7 +22,6 @@ pub fn names_are_found()
 {}
 
 /// The words of a recorded request are read back as that request.
-#[tactic(auto, using(crate::proofs::Said::read_back))]
 pub fn recorded_requests_read_back()
     ensures { (h : History) (actor : ℕ) (request : Request) (word : Recorded) → Legal h →
         recorded (out h actor request) ≡ Some word →
@@ -27,10 +29,34 @@ pub fn recorded_requests_read_back()
 {}
 
 /// So no two recorded requests have one text.
-#[tactic(auto, using(crate::proofs::Said::texts_differ))]
 pub fn requests_differ_in_their_words()
     ensures { (h : History) (actor other : ℕ) (request another : Request) (word answer : Recorded) →
         Legal h → recorded (out h actor request) ≡ Some word →
         recorded (out h other another) ≡ Some answer →
         request_text h.shapes request ≡ request_text h.shapes another → request ≡ another }
+{}
+
+/// A recorded request makes an entry that a text can say.
+pub fn entries_are_said()
+    ensures { (h : History) (actor : ℕ) (request : Request) (word : Recorded) → Legal h →
+        length h.past < 10 ^ 12 → recorded (out h actor request) ≡ Some word →
+        IsSaidEntry h.shapes (Asked actor request word) }
+{}
+
+/// So the line of an entry determines it: two that may come next have different lines.
+pub fn lines_determine_entries()
+    ensures { (h : History) (number actor other : ℕ) (request another : Request)
+        (word answer : Recorded) (unit list more_unit more_list : List ℕ) →
+        Legal h → length h.past < 10 ^ 12 → recorded (out h actor request) ≡ Some word →
+        recorded (out h other another) ≡ Some answer →
+        entry_line h.shapes number (Asked actor request word) unit list
+        ≡ entry_line h.shapes number (Asked other another answer) more_unit more_list →
+        Asked actor request word ≡ Asked other another answer }
+{}
+
+/// Two legal histories over the same shapes whose journals have the same lines have the same entries.
+pub fn histories_differ_in_their_lines()
+    ensures { (h k : History) → Legal h → Legal k →
+        length h.past < 10 ^ 12 → length k.past < 10 ^ 12 → h.shapes ≡ k.shapes →
+        journal_lines h ≡ journal_lines k → h.past ≡ k.past }
 {}
