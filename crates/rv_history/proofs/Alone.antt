@@ -7,7 +7,6 @@ use Rattle.rv_shape.specs.Catalogue.{target, shares}
 use Rattle.rv_event.specs.Past.{under_way}
 use Rattle.rv_event.specs.declared.entry.Body.{Body}
 use Rattle.rv_history.specs.History.{History}
-use Rattle.rv_history.specs.Fitting.{Service}
 use Rattle.rv_history.specs.Legal.{Legal}
 use Rattle.rv_history.specs.Orderly.{is_on, is_exclusive_on, IsShared}
 use Rattle.rv_history.proofs.Answered.{off}
@@ -26,5 +25,5 @@ alone : (shapes : List Shape) (bs : List Body) (o : ℕ) → IsShared shapes bs 
 alone shapes bs o (inl none) e = absurd (off (sym none ∙ e))
 alone shapes bs o (inr few) e = omega (arith, few, one_at_least shapes o bs e)
 
-pub exclusive_alone : (serves : Service) (h : History) (o : ℕ) → Legal serves h → list_any (is_exclusive_on h.shapes o) (under_way h.shapes h.past) ≡ true → length (filter (is_on o) (under_way h.shapes h.past)) ≡ 1
-exclusive_alone serves h o l e = alone h.shapes (under_way h.shapes h.past) o ((legal_orderly_at serves h l).shared o) e
+pub exclusive_alone : (h : History) (o : ℕ) → Legal h → list_any (is_exclusive_on h.shapes o) (under_way h.shapes h.past) ≡ true → length (filter (is_on o) (under_way h.shapes h.past)) ≡ 1
+exclusive_alone h o l e = alone h.shapes (under_way h.shapes h.past) o ((legal_orderly_at h l).shared o) e

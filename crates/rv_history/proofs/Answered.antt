@@ -9,7 +9,7 @@ use Rattle.rv_event.specs.declared.entry.Recorded.{Recorded}
 use Rattle.rv_event.specs.declared.entry.Answer.{Answer}
 use Rattle.rv_history.specs.History.{History}
 use Rattle.rv_history.specs.Owed.{actors, has_room}
-use Rattle.rv_history.specs.Fitting.{Service, fits, fits_actor}
+use Rattle.rv_history.specs.Fitting.{fits, fits_actor}
 use Rattle.rv_history.specs.Due.{out, due, table, gate, goes_on, within, enough}
 
 pub off : false ≡ true → ⊥
@@ -53,24 +53,24 @@ gate_recorded false shut x w e = absurd (cc)
 gate_recorded true true x w e = absurd (cc)
 gate_recorded true false x w e = record { fit_in = refl; unshut = refl; said = e }
 
-pub record Answered (serves : Service) (h : History) (a : ℕ) (r : Request) (w : Recorded) : Type 0 where
+pub record Answered (h : History) (a : ℕ) (r : Request) (w : Recorded) : Type 0 where
   pub known : nat_lt a (actors h.shapes) ≡ true
-  pub fitting : fits serves h a r ≡ true
+  pub fitting : fits h a r ≡ true
   pub fits_in : fits_actor h a r ≡ true
   pub unshut : (halted h.past && not (goes_on r)) ≡ false
   pub said : recorded (table h a r) ≡ Some w
   pub paid : has_room h.capacity h.shapes (Asked a r w ∷ h.past) ≡ true
 
-pub answered : (serves : Service) (h : History) (a : ℕ) (r : Request) (w : Recorded) → recorded (out serves h a r) ≡ Some w → Answered serves h a r w
-answered serves h a r w e =
-    let x : Answer = due serves h a r in
+pub answered : (h : History) (a : ℕ) (r : Request) (w : Recorded) → recorded (out h a r) ≡ Some w → Answered h a r w
+answered h a r w e =
+    let x : Answer = due h a r in
     let in_room = within_recorded (enough h a r (recorded x)) x w e in
-    let g = gate_recorded (fits serves h a r) (halted h.past && not (goes_on r)) (table h a r) w in_room.1 in
-    let parts = both (nat_lt a (actors h.shapes)) (serves h a r && fits_actor h a r) g.fit_in in
+    let g = gate_recorded (fits h a r) (halted h.past && not (goes_on r)) (table h a r) w in_room.1 in
+    let parts = both (nat_lt a (actors h.shapes)) (fits_actor h a r) g.fit_in in
     record {
       known = parts.0;
       fitting = g.fit_in;
-      fits_in = (both (serves h a r) (fits_actor h a r) parts.1).1;
+      fits_in = parts.1;
       unshut = g.unshut;
       said = g.said;
       paid = ap (λ (o : Option Recorded). enough h a r o) (sym in_room.1) ∙ in_room.0;

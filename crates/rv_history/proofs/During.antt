@@ -11,7 +11,6 @@ use Rattle.rv_event.specs.declared.entry.Entry.TheVariants.{Asked, Load, ListCha
 use Rattle.rv_event.specs.declared.entry.Request.TheVariants.{Call, Complete, Resume, DelayUntil, Clock, Fire, Quit, Tick, Halt}
 use Rattle.rv_event.proofs.Matching.{by}
 use Rattle.rv_history.specs.History.{History}
-use Rattle.rv_history.specs.Fitting.{Service}
 use Rattle.rv_history.specs.Legal.{Legal}
 use Rattle.rv_history.specs.Orderly.{is_on, is_exclusive_on, IsShared, IsOrderly}
 use Rattle.rv_history.specs.Unended.{IsUnended}
@@ -165,10 +164,10 @@ during shapes b (e ∷ later) past k is one u =
     let s = stays shapes b.object b e (later ++ past) rest.0 u.1 in
     (none_starts shapes b.object b (started shapes (later ++ past) e) (closed (ended e) (under_way shapes (later ++ past))) is s.bodies (k.0.shared b.object), s.values ∙ rest.1)
 
-pub scalars_during : (serves : Service) (h : History) (later past : List Entry) (start : Entry) (b : Body) → Legal serves h → h.past ≡ later ++ start ∷ past → started h.shapes past start ≡ Some b →
+pub scalars_during : (h : History) (later past : List Entry) (start : Entry) (b : Body) → Legal h → h.past ≡ later ++ start ∷ past → started h.shapes past start ≡ Some b →
     shares (target h.shapes b.object b.operation) ≡ false → IsUnended h.shapes b later (start ∷ past) → scalars h.shapes b.object h.past ≡ scalars h.shapes b.object (start ∷ past)
-scalars_during serves h later past start b l split starts is u =
-    let all : IsOrderly h.shapes (later ++ start ∷ past) = subst (IsOrderly h.shapes) split (legal_orderly serves h l) in
+scalars_during h later past start b l split starts is u =
+    let all : IsOrderly h.shapes (later ++ start ∷ past) = subst (IsOrderly h.shapes) split (legal_orderly h l) in
     let here : IsOrderly h.shapes (start ∷ past) = orderly_suffix h.shapes later (start ∷ past) all in
     let rest : List Body = closed (ended start) (under_way h.shapes past) in
     let shared : IsShared h.shapes (b ∷ rest) b.object = subst (λ q. IsShared h.shapes (begun q rest) b.object) starts (here.0.shared b.object) in

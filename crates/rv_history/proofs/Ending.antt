@@ -18,7 +18,6 @@ use Rattle.rv_history.specs.History.{History}
 use Rattle.rv_history.specs.Subject.{subject}
 use Rattle.rv_history.specs.Exclusion.{barrier_at, opens_on}
 use Rattle.rv_history.specs.Rules.{granted, decided}
-use Rattle.rv_history.specs.Fitting.{Service}
 use Rattle.rv_history.specs.Due.{out, due_end, end_of, after_end, next_of_queue, judged_head}
 use Rattle.rv_history.proofs.Answered.{answered, word_is}
 use Rattle.rv_history.proofs.Bodies.{filter_first}
@@ -41,8 +40,8 @@ ends_at h a vs w (Some b) is e = by_target (target h.shapes b.object b.operation
     by_target (OnSuspension unit name wanted) at f = absurd (cc)
     by_target (OnProtected s) at f = record { body = b; site = s; inner = is; at = at; word = sym (word_is _ w f) }
 
-pub ends : (serves : Service) (h : History) (a : ℕ) (vs : List ℤ) (x : Exit) (w : Recorded) → recorded (out serves h a (Complete vs x)) ≡ Some w → Ends h a vs w
-ends serves h a vs x w e = ends_at h a vs w (innermost h.shapes a h.past) refl (answered serves h a (Complete vs x) w e).said
+pub ends : (h : History) (a : ℕ) (vs : List ℤ) (x : Exit) (w : Recorded) → recorded (out h a (Complete vs x)) ≡ Some w → Ends h a vs w
+ends h a vs x w e = ends_at h a vs w (innermost h.shapes a h.past) refl (answered h a (Complete vs x) w e).said
 
 -- whom it names
 pub record Serves (h : History) (o : ℕ) (vs : List ℤ) (next : Next) (n : ℕ) : Type 0 where
@@ -105,10 +104,10 @@ next_in : Recorded → Next
 next_in (Done next) = next
 next_in w = Nothing
 
-pub names_at : (serves : Service) (h : History) (a : ℕ) (vs : List ℤ) (x : Exit) (next : Next) (n : ℕ) → recorded (out serves h a (Complete vs x)) ≡ Some (Done next) → named_in next ≡ Some n → Names h a vs next n
+pub names_at : (h : History) (a : ℕ) (vs : List ℤ) (x : Exit) (next : Next) (n : ℕ) → recorded (out h a (Complete vs x)) ≡ Some (Done next) → named_in next ≡ Some n → Names h a vs next n
 unfolding next_in
-names_at serves h a vs x next n e f =
-    let t = ends serves h a vs x (Done next) e in
+names_at h a vs x next n e f =
+    let t = ends h a vs x (Done next) e in
     by_kind t (is_function t.site.operation.kind) refl (sym (ap next_in t.word))
   where
     by_kind : (t : Ends h a vs (Done next)) (b : Bool) → is_function t.site.operation.kind ≡ b → (if b then Nothing else after_end h t.body.object vs) ≡ next → Names h a vs next n

@@ -18,7 +18,7 @@ use Rattle.rv_event.specs.declared.entry.Recorded.TheVariants.{Done}
 use Rattle.rv_event.specs.declared.entry.Answer.TheVariants as Answers
 use Rattle.rv_history.specs.History.{History}
 use Rattle.rv_history.specs.Owed.{dues, actors, IsSolvent}
-use Rattle.rv_history.specs.Fitting.{Service, in_body, end_fits}
+use Rattle.rv_history.specs.Fitting.{in_body, end_fits}
 use Rattle.rv_history.specs.Due.{out, due, due_end, end_of, after_end}
 use Rattle.rv_history.specs.Legal.{Legal}
 use Rattle.rv_history.proofs.Answered.{off, both}
@@ -118,9 +118,9 @@ pays_end h a vs x (Some b) is free some all solvent = by_target (target h.shapes
         paid_as h a (Complete vs x) _ (Done (if is_function s.operation.kind then Nothing else after_end h b.object vs)) refl
         (paid_done h a vs x b _ free some is (by_kind (is_function s.operation.kind)) solvent)
 
-pub end_never_full : (serves : Service) (h : History) (a : ℕ) (vs : List ℤ) (x : Exit) → Legal serves h → IsSolvent h → out serves h a (Complete vs x) ≡ due serves h a (Complete vs x)
-end_never_full serves h a vs x legal solvent = out_due serves h a (Complete vs x) (λ f c.
-    let t = fit_parts serves h a (Complete vs x) f in
+pub end_never_full : (h : History) (a : ℕ) (vs : List ℤ) (x : Exit) → Legal h → IsSolvent h → out h a (Complete vs x) ≡ due h a (Complete vs x)
+end_never_full h a vs x legal solvent = out_due h a (Complete vs x) (λ f c.
+    let t = fit_parts h a (Complete vs x) f in
     let m = both (in_body (mode h.shapes a h.past)) (end_fits h.shapes vs x (innermost h.shapes a h.past)) t.1 in
     pays_end h a vs x (innermost h.shapes a h.past) refl (free_in (held h.shapes a h.past) (stance a h.past) m.0) t.0
-    (legal_waits serves h.capacity h.past h.shapes h.lists legal) solvent)
+    (legal_waits h.capacity h.past h.shapes h.lists legal) solvent)

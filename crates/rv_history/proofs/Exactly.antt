@@ -21,7 +21,7 @@ use Rattle.rv_history.specs.History.{History, version}
 use Rattle.rv_history.specs.Exclusion.{excluded, is_barred, full_queue}
 use Rattle.rv_history.specs.Owed.{has_room}
 use Rattle.rv_history.specs.Rules.{Aim, aim, aim_at, is_protected, breaks, is_call, is_held}
-use Rattle.rv_history.specs.Fitting.{Service, fits}
+use Rattle.rv_history.specs.Fitting.{fits}
 use Rattle.rv_history.specs.Due.{out, due, within, enough, gate, table, goes_on, judged, performed, due_call, due_fire, due_end, end_of, due_resume, due_delay, or_waiting}
 use Rattle.rv_history.specs.Headline.{IsAllowed}
 use Rattle.rv_history.proofs.Answered.{off, and_none, and_false, Answered, answered}
@@ -82,11 +82,11 @@ not_halted true true h e = absurd (off (sym h))
 not_halted true false h e = absurd (off (sym e))
 not_halted false c h e = refl
 
-allowed_at : (serves : Service) (h : History) (a : ℕ) (r : Request) (o : ℕ) (t : Target) → Aimed h a r o t → goes_on r ≡ false → fits serves h a r ≡ true → (halted h.past && not (goes_on r)) ≡ false → recorded (due_call h a r o t) ≡ Some Started → IsAllowed serves h a r
-allowed_at serves h a r o Nowhere at calls fit shut e = absurd (cc)
-allowed_at serves h a r o (OnSuspension unit name wanted) at calls fit shut e =
+allowed_at : (h : History) (a : ℕ) (r : Request) (o : ℕ) (t : Target) → Aimed h a r o t → goes_on r ≡ false → fits h a r ≡ true → (halted h.past && not (goes_on r)) ≡ false → recorded (due_call h a r o t) ≡ Some Started → IsAllowed h a r
+allowed_at h a r o Nowhere at calls fit shut e = absurd (cc)
+allowed_at h a r o (OnSuspension unit name wanted) at calls fit shut e =
     absurd (denied_or _ _ (version h) _ (never_performed (version h) _ _ _ wanted) e)
-allowed_at serves h a r o (OnProtected s) at calls fit shut e =
+allowed_at h a r o (OnProtected s) at calls fit shut e =
     let tests = started_tests _ _ _ _ _ _ _ _ _ _ e in
     record {
       object = o;
@@ -130,27 +130,27 @@ delayed_not h true c e = cc
 delayed_not h false true e = cc
 delayed_not h false false e = cc
 
-from_due : (serves : Service) (h : History) (a : ℕ) (r : Request) → Answered serves h a r Started → IsAllowed serves h a r
-from_due serves h a (Call o p vs) g = allowed_at serves h a (Call o p vs) o (target h.shapes o p) refl refl g.fitting g.unshut g.said
-from_due serves h a Fire g = by_handler (handler h.shapes (a - 1)) refl g.said
+from_due : (h : History) (a : ℕ) (r : Request) → Answered h a r Started → IsAllowed h a r
+from_due h a (Call o p vs) g = allowed_at h a (Call o p vs) o (target h.shapes o p) refl refl g.fitting g.unshut g.said
+from_due h a Fire g = by_handler (handler h.shapes (a - 1)) refl g.said
   where
-    by_handler : (s : Option OperationNumber) → handler h.shapes (a - 1) ≡ s → recorded (due_fire h a s) ≡ Some Started → IsAllowed serves h a Fire
+    by_handler : (s : Option OperationNumber) → handler h.shapes (a - 1) ≡ s → recorded (due_fire h a s) ≡ Some Started → IsAllowed h a Fire
     by_handler None is e = absurd (cc)
-    by_handler (Some s) is e = allowed_at serves h a Fire s.object (target h.shapes s.object s.operation) (ap (aim_at h.shapes) is) refl g.fitting g.unshut e
-from_due serves h a (Complete vs x) g = absurd (ended_not h vs (innermost h.shapes a h.past) g.said)
-from_due serves h a Resume g = absurd (resumed_not h a (stance a h.past) g.said)
-from_due serves h a (DelayUntil t) g = absurd (delayed_not h _ _ g.said)
-from_due serves h a Clock g = let e = g.said in absurd (cc)
-from_due serves h a Quit g = let e = g.said in absurd (cc)
-from_due serves h a (Tick n) g = let e = g.said in absurd (cc)
-from_due serves h a Halt g = let e = g.said in absurd (cc)
+    by_handler (Some s) is e = allowed_at h a Fire s.object (target h.shapes s.object s.operation) (ap (aim_at h.shapes) is) refl g.fitting g.unshut e
+from_due h a (Complete vs x) g = absurd (ended_not h vs (innermost h.shapes a h.past) g.said)
+from_due h a Resume g = absurd (resumed_not h a (stance a h.past) g.said)
+from_due h a (DelayUntil t) g = absurd (delayed_not h _ _ g.said)
+from_due h a Clock g = let e = g.said in absurd (cc)
+from_due h a Quit g = let e = g.said in absurd (cc)
+from_due h a (Tick n) g = let e = g.said in absurd (cc)
+from_due h a Halt g = let e = g.said in absurd (cc)
 
-pub started_allowed : (serves : Service) (h : History) (a : ℕ) (r : Request) → recorded (out serves h a r) ≡ Some Started → IsAllowed serves h a r
-started_allowed serves h a r e = from_due serves h a r (answered serves h a r Started e)
+pub started_allowed : (h : History) (a : ℕ) (r : Request) → recorded (out h a r) ≡ Some Started → IsAllowed h a r
+started_allowed h a r e = from_due h a r (answered h a r Started e)
 
 -- what is due where it is allowed
-allowed_call : (serves : Service) (h : History) (a : ℕ) (r : Request) (w : IsAllowed serves h a r) → due_call h a r (aim h.shapes a r).0 (aim h.shapes a r).1 ≡ Answers.Started (scalars h.shapes w.object h.past)
-allowed_call serves h a r w =
+allowed_call : (h : History) (a : ℕ) (r : Request) (w : IsAllowed h a r) → due_call h a r (aim h.shapes a r).0 (aim h.shapes a r).1 ≡ Answers.Started (scalars h.shapes w.object h.past)
+allowed_call h a r w =
     let at = w.wanted in
     let kept : (rule : Rule) → breaks h rule a r w.object (OnProtected w.site) ≡ false = λ rule. sym (ap (λ (v : ℕ × Target). breaks h rule a r v.0 v.1) at) ∙ w.lawful rule in
     ap (λ (v : ℕ × Target). due_call h a r v.0 v.1) at
@@ -159,30 +159,30 @@ allowed_call serves h a r w =
 pub nowhere_else : (o : ℕ) (s : Site) → (let aim : Aim = (0, Nowhere) in aim ≡ (o, OnProtected s)) → ⊥
 nowhere_else o s at = off (ap (λ (w : Aim). is_protected w.1) at)
 
-due_allowed : (serves : Service) (h : History) (a : ℕ) (r : Request) (w : IsAllowed serves h a r) → table h a r ≡ Answers.Started (scalars h.shapes w.object h.past)
-due_allowed serves h a (Call o p vs) w = allowed_call serves h a (Call o p vs) w
-due_allowed serves h a Fire w = by_handler (handler h.shapes (a - 1)) refl
+due_allowed : (h : History) (a : ℕ) (r : Request) (w : IsAllowed h a r) → table h a r ≡ Answers.Started (scalars h.shapes w.object h.past)
+due_allowed h a (Call o p vs) w = allowed_call h a (Call o p vs) w
+due_allowed h a Fire w = by_handler (handler h.shapes (a - 1)) refl
   where
     by_handler : (s : Option OperationNumber) → handler h.shapes (a - 1) ≡ s → due_fire h a s ≡ Answers.Started (scalars h.shapes w.object h.past)
     by_handler None is = absurd (nowhere_else w.object w.site (sym (ap (aim_at h.shapes) is) ∙ w.wanted))
-    by_handler (Some s) is = sym (ap (λ (v : ℕ × Target). due_call h a Fire v.0 v.1) (ap (aim_at h.shapes) is)) ∙ allowed_call serves h a Fire w
-due_allowed serves h a (Complete vs x) w = absurd (nowhere_else w.object w.site w.wanted)
-due_allowed serves h a Resume w = absurd (nowhere_else w.object w.site w.wanted)
-due_allowed serves h a (DelayUntil t) w = absurd (nowhere_else w.object w.site w.wanted)
-due_allowed serves h a Clock w = absurd (nowhere_else w.object w.site w.wanted)
-due_allowed serves h a Quit w = absurd (nowhere_else w.object w.site w.wanted)
-due_allowed serves h a (Tick n) w = absurd (nowhere_else w.object w.site w.wanted)
-due_allowed serves h a Halt w = absurd (nowhere_else w.object w.site w.wanted)
+    by_handler (Some s) is = sym (ap (λ (v : ℕ × Target). due_call h a Fire v.0 v.1) (ap (aim_at h.shapes) is)) ∙ allowed_call h a Fire w
+due_allowed h a (Complete vs x) w = absurd (nowhere_else w.object w.site w.wanted)
+due_allowed h a Resume w = absurd (nowhere_else w.object w.site w.wanted)
+due_allowed h a (DelayUntil t) w = absurd (nowhere_else w.object w.site w.wanted)
+due_allowed h a Clock w = absurd (nowhere_else w.object w.site w.wanted)
+due_allowed h a Quit w = absurd (nowhere_else w.object w.site w.wanted)
+due_allowed h a (Tick n) w = absurd (nowhere_else w.object w.site w.wanted)
+due_allowed h a Halt w = absurd (nowhere_else w.object w.site w.wanted)
 
-open_gate : (serves : Service) (h : History) (a : ℕ) (r : Request) (w : IsAllowed serves h a r) → due serves h a r ≡ Answers.Started (scalars h.shapes w.object h.past)
-open_gate serves h a r w =
+open_gate : (h : History) (a : ℕ) (r : Request) (w : IsAllowed h a r) → due h a r ≡ Answers.Started (scalars h.shapes w.object h.past)
+open_gate h a r w =
     let shut : (halted h.past && not (goes_on r)) ≡ false = and_none _ (not (goes_on r)) w.going in
-    λ i. gate (w.fitting i) (shut i) (due_allowed serves h a r w i)
+    λ i. gate (w.fitting i) (shut i) (due_allowed h a r w i)
 
-pub allowed_starts : (serves : Service) (h : History) (a : ℕ) (r : Request) (w : IsAllowed serves h a r) → has_room h.capacity h.shapes (Asked a r Started ∷ h.past) ≡ true → out serves h a r ≡ Answers.Started (scalars h.shapes w.object h.past)
-allowed_starts serves h a r w room =
+pub allowed_starts : (h : History) (a : ℕ) (r : Request) (w : IsAllowed h a r) → has_room h.capacity h.shapes (Asked a r Started ∷ h.past) ≡ true → out h a r ≡ Answers.Started (scalars h.shapes w.object h.past)
+allowed_starts h a r w room =
     let values : List ℤ = scalars h.shapes w.object h.past in
-    ap (λ (x : Answer). within (enough h a r (recorded x)) x) (open_gate serves h a r w) ∙ ap (λ b. within b (Answers.Started values)) room
+    ap (λ (x : Answer). within (enough h a r (recorded x)) x) (open_gate h a r w) ∙ ap (λ b. within b (Answers.Started values)) room
 
-pub exactly : (serves : Service) (h : History) (a : ℕ) (r : Request) → has_room h.capacity h.shapes (Asked a r Started ∷ h.past) ≡ true → (recorded (out serves h a r) ≡ Some Started) ↔ IsAllowed serves h a r
-exactly serves h a r room = (started_allowed serves h a r, λ w. ap recorded (allowed_starts serves h a r w room))
+pub exactly : (h : History) (a : ℕ) (r : Request) → has_room h.capacity h.shapes (Asked a r Started ∷ h.past) ≡ true → (recorded (out h a r) ≡ Some Started) ↔ IsAllowed h a r
+exactly h a r room = (started_allowed h a r, λ w. ap recorded (allowed_starts h a r w room))

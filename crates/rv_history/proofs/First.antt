@@ -21,7 +21,6 @@ use Rattle.rv_history.specs.History.{History, version}
 use Rattle.rv_history.specs.Subject.{subject}
 use Rattle.rv_history.specs.Exclusion.{excluded, is_barred, full_queue, conflicts, is_open}
 use Rattle.rv_history.specs.Rules.{Aim, aim, aim_at, breaks, decided, first, is_held, holds_any}
-use Rattle.rv_history.specs.Fitting.{Service}
 use Rattle.rv_history.specs.Due.{judged, suspended, performed, out, table, due_call, due_fire, due_delay, goes_on}
 use Rattle.rv_history.specs.Refusal.{is_grant, IsRefusal}
 use Rattle.rv_history.proofs.Answered.{off, and_none, and_true, answered, word_is}
@@ -183,8 +182,8 @@ delay_first h a time rule line number true over is e =
 delay_first h a time rule line number false true is e = absurd (cc)
 delay_first h a time rule line number false false is e = absurd (cc)
 
-pub names_first : (serves : Service) (h : History) (a : ℕ) (r : Request) (rule : Rule) (line number : ℕ) → goes_on r ≡ false → out serves h a r ≡ Answers.Refused rule line number → IsRefusal h a r rule line number
-names_first serves h a r rule line number calls e = by_request r calls (answered serves h a r (Refused rule line number) (ap recorded e)).said
+pub names_first : (h : History) (a : ℕ) (r : Request) (rule : Rule) (line number : ℕ) → goes_on r ≡ false → out h a r ≡ Answers.Refused rule line number → IsRefusal h a r rule line number
+names_first h a r rule line number calls e = by_request r calls (answered h a r (Refused rule line number) (ap recorded e)).said
   where
     by_request : (r : Request) → goes_on r ≡ false → recorded (table h a r) ≡ Some (Refused rule line number) → IsRefusal h a r rule line number
     by_request (Call o p vs) calls f = call_first h a o p vs rule line number (target h.shapes o p) refl f

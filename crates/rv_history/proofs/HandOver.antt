@@ -27,7 +27,7 @@ use Rattle.rv_history.specs.Subject.{subject}
 use Rattle.rv_history.specs.Exclusion.{excluded, is_barred, full_queue}
 use Rattle.rv_history.specs.Owed.{IsSolvent}
 use Rattle.rv_history.specs.Rules.{granted, decided, breaks, holds_any}
-use Rattle.rv_history.specs.Fitting.{Service, fits}
+use Rattle.rv_history.specs.Fitting.{fits}
 use Rattle.rv_history.specs.Due.{out, due_call, due_fire, due_end, due_resume, due_delay, end_of, after_end, next_of_queue, judged, judged_head, performed, or_waiting, gate, table}
 use Rattle.rv_history.specs.Legal.{Legal, after}
 use Rattle.rv_history.specs.Orderly.{is_on}
@@ -41,18 +41,18 @@ use Rattle.rv_history.proofs.Orderly.{legal_orderly_at}
 use Rattle.rv_history.proofs.Ends.{end_never_full}
 
 -- what is answered where the end comes to a queued call
-reached_answer : (serves : Service) (h : History) (a : ℕ) (vs : List ℤ) (x : Exit) (c : Body) → Legal serves h → IsSolvent h → Reaches serves h a vs x c →
-    out serves h a (Complete vs x) ≡ Answers.Done (judged_head (granted h (subject h c.actor) (target h.shapes c.object c.operation)) (decided h (subject h c.actor) (target h.shapes c.object c.operation)) c.actor)
-reached_answer serves h a vs x c l solvent r =
-    end_never_full serves h a vs x l solvent
+reached_answer : (h : History) (a : ℕ) (vs : List ℤ) (x : Exit) (c : Body) → Legal h → IsSolvent h → Reaches h a vs x c →
+    out h a (Complete vs x) ≡ Answers.Done (judged_head (granted h (subject h c.actor) (target h.shapes c.object c.operation)) (decided h (subject h c.actor) (target h.shapes c.object c.operation)) c.actor)
+reached_answer h a vs x c l solvent r =
+    end_never_full h a vs x l solvent
     ∙ (λ i. gate (r.fitting i) (and_false (halted h.past) i) (due_end h vs (r.ending i)))
     ∙ ap (end_of h vs r.body.object) r.of
     ∙ ap (λ f. Answers.Done (if f then Nothing else after_end h r.body.object vs)) r.exclusive
     ∙ (λ i. Answers.Done (if r.going i then Nothing else (if r.open_to i then next_of_queue h (r.first i) else Nothing)))
 
 -- and only there is one named
-reaches : (serves : Service) (h : History) (a : ℕ) (vs : List ℤ) (x : Exit) (next : Next) (n : ℕ) → fits serves h a (Complete vs x) ≡ true → (m : Names h a vs next n) → Reaches serves h a vs x m.served_by.call
-reaches serves h a vs x next n fit m = record {
+reaches : (h : History) (a : ℕ) (vs : List ℤ) (x : Exit) (next : Next) (n : ℕ) → fits h a (Complete vs x) ≡ true → (m : Names h a vs next n) → Reaches h a vs x m.served_by.call
+reaches h a vs x next n fit m = record {
   fitting = fit;
   body = m.body;
   site = m.site;
@@ -85,36 +85,36 @@ unfolding is_hand_over line_in
 dropped_denied true k m n line e = absurd (off (ap is_hand_over e))
 dropped_denied false k m n line e = (refl, ap line_in e)
 
-pub handed_exactly : (serves : Service) (h : History) (a : ℕ) (vs : List ℤ) (x : Exit) (n : ℕ) → Legal serves h → IsSolvent h →
-    (out serves h a (Complete vs x) ≡ Answers.Done (HandedTo n)) ↔ IsHandedOver serves h a vs x n
-handed_exactly serves h a vs x n l solvent = (to, from)
+pub handed_exactly : (h : History) (a : ℕ) (vs : List ℤ) (x : Exit) (n : ℕ) → Legal h → IsSolvent h →
+    (out h a (Complete vs x) ≡ Answers.Done (HandedTo n)) ↔ IsHandedOver h a vs x n
+handed_exactly h a vs x n l solvent = (to, from)
   where
-    to : out serves h a (Complete vs x) ≡ Answers.Done (HandedTo n) → IsHandedOver serves h a vs x n
+    to : out h a (Complete vs x) ≡ Answers.Done (HandedTo n) → IsHandedOver h a vs x n
     to e =
-        let g = answered serves h a (Complete vs x) (Words.Done (HandedTo n)) (ap recorded e) in
-        let m = names_at serves h a vs x (HandedTo n) n (ap recorded e) refl in
-        record { call = m.served_by.call; reached = reaches serves h a vs x (HandedTo n) n g.fitting m; its = m.served_by.is_its; grant = handed_granted _ _ _ n m.served_by.head }
+        let g = answered h a (Complete vs x) (Words.Done (HandedTo n)) (ap recorded e) in
+        let m = names_at h a vs x (HandedTo n) n (ap recorded e) refl in
+        record { call = m.served_by.call; reached = reaches h a vs x (HandedTo n) n g.fitting m; its = m.served_by.is_its; grant = handed_granted _ _ _ n m.served_by.head }
 
-    from : IsHandedOver serves h a vs x n → out serves h a (Complete vs x) ≡ Answers.Done (HandedTo n)
+    from : IsHandedOver h a vs x n → out h a (Complete vs x) ≡ Answers.Done (HandedTo n)
     from w =
-        reached_answer serves h a vs x w.call l solvent w.reached
+        reached_answer h a vs x w.call l solvent w.reached
         ∙ ap (λ b. Answers.Done (judged_head b (decided h (subject h w.call.actor) (target h.shapes w.call.object w.call.operation)) w.call.actor)) w.grant
         ∙ ap (λ m. Answers.Done (HandedTo m)) w.its
 
-pub dropped_exactly : (serves : Service) (h : History) (a : ℕ) (vs : List ℤ) (x : Exit) (n line : ℕ) → Legal serves h → IsSolvent h →
-    (out serves h a (Complete vs x) ≡ Answers.Done (Dropped n line)) ↔ IsDropped serves h a vs x n line
-dropped_exactly serves h a vs x n line l solvent = (to, from)
+pub dropped_exactly : (h : History) (a : ℕ) (vs : List ℤ) (x : Exit) (n line : ℕ) → Legal h → IsSolvent h →
+    (out h a (Complete vs x) ≡ Answers.Done (Dropped n line)) ↔ IsDropped h a vs x n line
+dropped_exactly h a vs x n line l solvent = (to, from)
   where
-    to : out serves h a (Complete vs x) ≡ Answers.Done (Dropped n line) → IsDropped serves h a vs x n line
+    to : out h a (Complete vs x) ≡ Answers.Done (Dropped n line) → IsDropped h a vs x n line
     to e =
-        let g = answered serves h a (Complete vs x) (Words.Done (Dropped n line)) (ap recorded e) in
-        let m = names_at serves h a vs x (Dropped n line) n (ap recorded e) refl in
+        let g = answered h a (Complete vs x) (Words.Done (Dropped n line)) (ap recorded e) in
+        let m = names_at h a vs x (Dropped n line) n (ap recorded e) refl in
         let d = dropped_denied _ _ _ n line m.served_by.head in
-        record { call = m.served_by.call; reached = reaches serves h a vs x (Dropped n line) n g.fitting m; its = m.served_by.is_its; denial = d.0; line_is = d.1 }
+        record { call = m.served_by.call; reached = reaches h a vs x (Dropped n line) n g.fitting m; its = m.served_by.is_its; denial = d.0; line_is = d.1 }
 
-    from : IsDropped serves h a vs x n line → out serves h a (Complete vs x) ≡ Answers.Done (Dropped n line)
+    from : IsDropped h a vs x n line → out h a (Complete vs x) ≡ Answers.Done (Dropped n line)
     from w =
-        reached_answer serves h a vs x w.call l solvent w.reached
+        reached_answer h a vs x w.call l solvent w.reached
         ∙ ap (λ b. Answers.Done (judged_head b (decided h (subject h w.call.actor) (target h.shapes w.call.object w.call.operation)) w.call.actor)) w.denial
         ∙ (λ i. Answers.Done (Dropped (w.its i) (sym w.line_is i)))
 
@@ -176,8 +176,8 @@ delay_not h true c next e = cc
 delay_not h false true next e = cc
 delay_not h false false next e = cc
 
-pub done_at_ends : (serves : Service) (h : History) (a : ℕ) (r : Request) (next : Next) → recorded (out serves h a r) ≡ Some (Words.Done next) → is_complete r ≡ true
-done_at_ends serves h a r next e = by_request r (answered serves h a r (Words.Done next) e).said
+pub done_at_ends : (h : History) (a : ℕ) (r : Request) (next : Next) → recorded (out h a r) ≡ Some (Words.Done next) → is_complete r ≡ true
+done_at_ends h a r next e = by_request r (answered h a r (Words.Done next) e).said
   where
     by_request : (r : Request) → recorded (table h a r) ≡ Some (Words.Done next) → is_complete r ≡ true
     by_request (Call o p vs) f = absurd (call_not h a (Call o p vs) o (target h.shapes o p) next f)
@@ -190,8 +190,8 @@ done_at_ends serves h a r next e = by_request r (answered serves h a r (Words.Do
     by_request (Tick n) f = absurd (cc)
     by_request Halt f = absurd (cc)
 
-pub only_ends : (serves : Service) (h : History) (a : ℕ) (r : Request) (next : Next) → out serves h a r ≡ Answers.Done next → is_complete r ≡ true
-only_ends serves h a r next e = done_at_ends serves h a r next (ap recorded e)
+pub only_ends : (h : History) (a : ℕ) (r : Request) (next : Next) → out h a r ≡ Answers.Done next → is_complete r ≡ true
+only_ends h a r next e = done_at_ends h a r next (ap recorded e)
 
 -- What a denial changes.
 
@@ -212,15 +212,15 @@ one_only : (c : Body) (cs : List Body) → length (c ∷ cs) ≤ 1 → cs ≡ []
 one_only c [] e = refl
 one_only c (d ∷ cs) e = absurd (omega (arith, e))
 
-pub only_dropped : (serves : Service) (h : History) (a : ℕ) (vs : List ℤ) (x : Exit) (n line : ℕ) → Legal serves h → out serves h a (Complete vs x) ≡ Answers.Done (Dropped n line) →
+pub only_dropped : (h : History) (a : ℕ) (vs : List ℤ) (x : Exit) (n line : ℕ) → Legal h → out h a (Complete vs x) ≡ Answers.Done (Dropped n line) →
     IsOnlyDropped h (after h a (Complete vs x) (Answers.Done (Dropped n line))) (after h a (Complete vs x) (Answers.Done Nothing)) n
-only_dropped serves h a vs x n line l e =
-    let m = names_at serves h a vs x (Dropped n line) n (ap recorded e) refl in
+only_dropped h a vs x n line l e =
+    let m = names_at h a vs x (Dropped n line) n (ap recorded e) refl in
     let q = m.served_by in
-    let all : AllWait h.shapes h.past (waiting h.past) = legal_waits serves h.capacity h.past h.shapes h.lists l in
+    let all : AllWait h.shapes h.past (waiting h.past) = legal_waits h.capacity h.past h.shapes h.lists l in
     let v : Waits h.shapes h.past q.call = head_waits h.shapes h.past m.body.object q.call q.rest all q.queued in
     let there : q.call.object ≡ m.body.object = same_number q.call.object m.body.object (head_on h.past m.body.object q.call q.rest q.queued) in
-    let few : length (queue m.body.object h.past) ≤ 1 = (legal_orderly_at serves h l).queues m.body.object in
+    let few : length (queue m.body.object h.past) ≤ 1 = (legal_orderly_at h l).queues m.body.object in
     let none : q.rest ≡ [] = one_only q.call q.rest (subst (λ cs. length cs ≤ 1) q.queued few) in
     let one : queue q.call.object h.past ≡ q.call ∷ [] = ap (λ o. queue o h.past) there ∙ q.queued ∙ ap (λ cs. q.call ∷ cs) none in
     let last : last_queued n h.past ≡ Some q.call = ap (λ j. last_queued j h.past) (sym q.is_its) ∙ v.last in

@@ -18,7 +18,6 @@ pub mod Alone
 pub mod Unrecorded
 pub mod Settled
 pub mod HandOver
-pub mod Serving
 pub mod NeverFull
 pub mod During
 pub mod Naming

@@ -18,48 +18,47 @@ use Rattle.rv_event.specs.declared.entry.Recorded.{Recorded}
 use Rattle.rv_event.specs.declared.entry.Recorded.TheVariants.{Started}
 use Rattle.rv_history.specs.History.{History}
 use Rattle.rv_history.specs.Rules.{aim_at, is_protected}
-use Rattle.rv_history.specs.Fitting.{Service}
 use Rattle.rv_history.specs.Due.{out}
 use Rattle.rv_history.specs.Legal.{IsLegal, Legal}
 use Rattle.rv_history.proofs.Answered.{off}
 use Rattle.rv_history.proofs.Exactly.{started_allowed, nowhere_else}
 
 -- a line that was fired has its handler
-start_stays : (serves : Service) (h : History) (more : List Shape) (a : ℕ) (r : Request) (w : Recorded) → recorded (out serves h a r) ≡ Some w → started (h.shapes ++ more) h.past (Asked a r w) ≡ started h.shapes h.past (Asked a r w)
-start_stays serves h more a (Call o p vs) w e = refl
-start_stays serves h more a Fire Started e = by_handler (handler h.shapes (a - 1)) refl
+start_stays : (h : History) (more : List Shape) (a : ℕ) (r : Request) (w : Recorded) → recorded (out h a r) ≡ Some w → started (h.shapes ++ more) h.past (Asked a r w) ≡ started h.shapes h.past (Asked a r w)
+start_stays h more a (Call o p vs) w e = refl
+start_stays h more a Fire Started e = by_handler (handler h.shapes (a - 1)) refl
   where
     by_handler : (s : Option OperationNumber) → handler h.shapes (a - 1) ≡ s → fired a (handler (h.shapes ++ more) (a - 1)) ≡ fired a (handler h.shapes (a - 1))
     by_handler None is =
-        let w = started_allowed serves h a Fire e in
+        let w = started_allowed h a Fire e in
         absurd (nowhere_else w.object w.site (sym (ap (aim_at h.shapes) is) ∙ w.wanted))
     by_handler (Some s) is = ap (fired a) (handler_stays h.shapes more (a - 1) s is ∙ sym is)
-start_stays serves h more a Fire w e = refl
-start_stays serves h more a (Complete vs y) w e = refl
-start_stays serves h more a Resume w e = refl
-start_stays serves h more a (DelayUntil t) w e = refl
-start_stays serves h more a Clock w e = refl
-start_stays serves h more a Quit w e = refl
-start_stays serves h more a (Tick n) w e = refl
-start_stays serves h more a Halt w e = refl
+start_stays h more a Fire w e = refl
+start_stays h more a (Complete vs y) w e = refl
+start_stays h more a Resume w e = refl
+start_stays h more a (DelayUntil t) w e = refl
+start_stays h more a Clock w e = refl
+start_stays h more a Quit w e = refl
+start_stays h more a (Tick n) w e = refl
+start_stays h more a Halt w e = refl
 
-pub way_stays : (serves : Service) (c : ℕ) (past : List Entry) (shapes more : List Shape) (lists : List (List Words)) → IsLegal serves c past shapes lists → under_way (shapes ++ more) past ≡ under_way shapes past
-way_stays serves c [] shapes more lists l = refl
-way_stays serves c (Asked a r w ∷ past) shapes more lists l =
+pub way_stays : (c : ℕ) (past : List Entry) (shapes more : List Shape) (lists : List (List Words)) → IsLegal c past shapes lists → under_way (shapes ++ more) past ≡ under_way shapes past
+way_stays c [] shapes more lists l = refl
+way_stays c (Asked a r w ∷ past) shapes more lists l =
     let h : History = record { capacity = c; past = past; shapes = shapes; lists = lists } in
-    let start : started (shapes ++ more) past (Asked a r w) ≡ started shapes past (Asked a r w) = start_stays serves h more a r w l.1 in
-    let before : under_way (shapes ++ more) past ≡ under_way shapes past = way_stays serves c past shapes more lists l.0 in
+    let start : started (shapes ++ more) past (Asked a r w) ≡ started shapes past (Asked a r w) = start_stays h more a r w l.1 in
+    let before : under_way (shapes ++ more) past ≡ under_way shapes past = way_stays c past shapes more lists l.0 in
     λ i. begun (start i) (closed (ended (Asked a r w)) (before i))
-way_stays serves c (Load ∷ past) shapes more lists l =
+way_stays c (Load ∷ past) shapes more lists l =
     ap (λ (ss : List Shape). under_way (ss ++ more) past) l.2
     ∙ ap (λ (ss : List Shape). under_way ss past) (append_assoc l.0 (l.1 ∷ []) more)
-    ∙ way_stays serves c past l.0 (l.1 ∷ more) lists l.3
-    ∙ sym (way_stays serves c past l.0 (l.1 ∷ []) lists l.3)
+    ∙ way_stays c past l.0 (l.1 ∷ more) lists l.3
+    ∙ sym (way_stays c past l.0 (l.1 ∷ []) lists l.3)
     ∙ ap (λ (ss : List Shape). under_way ss past) (sym l.2)
-way_stays serves c (ListChange ∷ past) shapes more lists l = way_stays serves c past shapes more l.0 l.3
+way_stays c (ListChange ∷ past) shapes more lists l = way_stays c past shapes more l.0 l.3
 
-pub under_way_stays : (serves : Service) (h : History) (more : List Shape) → Legal serves h → under_way (h.shapes ++ more) h.past ≡ under_way h.shapes h.past
-under_way_stays serves h more l = way_stays serves h.capacity h.past h.shapes more h.lists l
+pub under_way_stays : (h : History) (more : List Shape) → Legal h → under_way (h.shapes ++ more) h.past ≡ under_way h.shapes h.past
+under_way_stays h more l = way_stays h.capacity h.past h.shapes more h.lists l
 
 -- an operation of a protected object keeps its numbers
 pub protected_stays : (old more : List Shape) (o n : ℕ) (s : Site) → target old o n ≡ OnProtected s → target (old ++ more) o n ≡ OnProtected s
@@ -109,26 +108,26 @@ same_after one two o past a Quit w at bodies before = before
 same_after one two o past a (Tick n) w at bodies before = before
 same_after one two o past a Halt w at bodies before = before
 
-pub same_scalars : (serves : Service) (c : ℕ) (past : List Entry) (shapes one two : List Shape) (lists : List (List Words)) (o : ℕ) → IsLegal serves c past shapes lists →
+pub same_scalars : (c : ℕ) (past : List Entry) (shapes one two : List Shape) (lists : List (List Words)) (o : ℕ) → IsLegal c past shapes lists →
     place (shapes ++ one) o ≡ place (shapes ++ two) o → scalars (shapes ++ one) o past ≡ scalars (shapes ++ two) o past
-same_scalars serves c [] shapes one two lists o l at = ap starts_at at
-same_scalars serves c (Asked a r w ∷ past) shapes one two lists o l at =
-    same_after (shapes ++ one) (shapes ++ two) o past a r w at (way_stays serves c past shapes one lists l.0 ∙ sym (way_stays serves c past shapes two lists l.0))
-    (same_scalars serves c past shapes one two lists o l.0 at)
-same_scalars serves c (Load ∷ past) shapes one two lists o l at =
+same_scalars c [] shapes one two lists o l at = ap starts_at at
+same_scalars c (Asked a r w ∷ past) shapes one two lists o l at =
+    same_after (shapes ++ one) (shapes ++ two) o past a r w at (way_stays c past shapes one lists l.0 ∙ sym (way_stays c past shapes two lists l.0))
+    (same_scalars c past shapes one two lists o l.0 at)
+same_scalars c (Load ∷ past) shapes one two lists o l at =
     let first : shapes ++ one ≡ l.0 ++ (l.1 ∷ one) = ap (λ (ss : List Shape). ss ++ one) l.2 ∙ append_assoc l.0 (l.1 ∷ []) one in
     let second : shapes ++ two ≡ l.0 ++ (l.1 ∷ two) = ap (λ (ss : List Shape). ss ++ two) l.2 ∙ append_assoc l.0 (l.1 ∷ []) two in
     ap (λ (ss : List Shape). scalars ss o past) first
-    ∙ same_scalars serves c past l.0 (l.1 ∷ one) (l.1 ∷ two) lists o l.3 (sym (ap (λ ss. place ss o) first) ∙ at ∙ ap (λ ss. place ss o) second)
+    ∙ same_scalars c past l.0 (l.1 ∷ one) (l.1 ∷ two) lists o l.3 (sym (ap (λ ss. place ss o) first) ∙ at ∙ ap (λ ss. place ss o) second)
     ∙ sym (ap (λ (ss : List Shape). scalars ss o past) second)
-same_scalars serves c (ListChange ∷ past) shapes one two lists o l at = same_scalars serves c past shapes one two l.0 o l.3 at
+same_scalars c (ListChange ∷ past) shapes one two lists o l at = same_scalars c past shapes one two l.0 o l.3 at
 
 pub append_none : (xs : List Shape) → xs ++ [] ≡ xs
 append_none [] = refl
 append_none (x ∷ xs) = ap (λ ys. x ∷ ys) (append_none xs)
 
-pub scalars_stay : (serves : Service) (h : History) (more : List Shape) (o : ℕ) (p : UnitObject) → Legal serves h → place h.shapes o ≡ Some p → scalars (h.shapes ++ more) o h.past ≡ scalars h.shapes o h.past
-scalars_stay serves h more o p l at =
+pub scalars_stay : (h : History) (more : List Shape) (o : ℕ) (p : UnitObject) → Legal h → place h.shapes o ≡ Some p → scalars (h.shapes ++ more) o h.past ≡ scalars h.shapes o h.past
+scalars_stay h more o p l at =
     let none : h.shapes ++ [] ≡ h.shapes = append_none h.shapes in
-    same_scalars serves h.capacity h.past h.shapes more [] h.lists o l (object_stays h.shapes more o p at ∙ sym (ap (λ ss. place ss o) none ∙ at))
+    same_scalars h.capacity h.past h.shapes more [] h.lists o l (object_stays h.shapes more o p at ∙ sym (ap (λ ss. place ss o) none ∙ at))
     ∙ ap (λ (ss : List Shape). scalars ss o h.past) none

@@ -17,7 +17,7 @@ use Rattle.rv_history.specs.History.{History, version}
 use Rattle.rv_history.specs.Subject.{subject}
 use Rattle.rv_history.specs.Exclusion.{excluded, is_barred, full_queue}
 use Rattle.rv_history.specs.Rules.{decided, breaks, holds_any}
-use Rattle.rv_history.specs.Fitting.{Service, fits}
+use Rattle.rv_history.specs.Fitting.{fits}
 use Rattle.rv_history.specs.Due.{due, due_call, due_fire, due_end, due_resume, due_delay, end_of, judged, performed, or_waiting, gate, table, goes_on}
 use Rattle.rv_history.proofs.Answered.{off}
 
@@ -120,7 +120,7 @@ gate_room false c x e = refl
 gate_room true true x e = refl
 gate_room true false x e = e
 
-pub never_due : (serves : Service) (h : History) (a : ℕ) (r : Request) → due serves h a r ≡ Full → ⊥
+pub never_due : (h : History) (a : ℕ) (r : Request) → due h a r ≡ Full → ⊥
 unfolding is_full
-never_due serves h a r e =
-    off (sym (gate_room (fits serves h a r) (halted h.past && not (goes_on r)) (table h a r) (table_room h a r)) ∙ ap is_full e)
+never_due h a r e =
+    off (sym (gate_room (fits h a r) (halted h.past && not (goes_on r)) (table h a r) (table_room h a r)) ∙ ap is_full e)

@@ -23,7 +23,7 @@ use Rattle.rv_event.proofs.Matching.{by}
 use Rattle.rv_history.specs.History.{History}
 use Rattle.rv_history.specs.Exclusion.{conflicts, excluded, queue_limit}
 use Rattle.rv_history.specs.Rules.{Aim, aim_at}
-use Rattle.rv_history.specs.Fitting.{Service, held_limit, may_call, idle_line, call_fits}
+use Rattle.rv_history.specs.Fitting.{held_limit, may_call, idle_line, call_fits}
 use Rattle.rv_history.specs.Due.{out}
 use Rattle.rv_history.specs.Legal.{IsLegal, Legal}
 use Rattle.rv_history.specs.Orderly.{is_on, IsShared, IsProtected, IsOfEntry, Each, Orderly, IsOrderly}
@@ -58,11 +58,11 @@ bodies_start shapes b bs s at free few k = record {
 }
 
 -- a call that starts
-call_starts : (serves : Service) (h : History) (a o p : ℕ) (vs : List ℤ) → recorded (out serves h a (Call o p vs)) ≡ Some Started → Bodies h.shapes (under_way h.shapes h.past) →
+call_starts : (h : History) (a o p : ℕ) (vs : List ℤ) → recorded (out h a (Call o p vs)) ≡ Some Started → Bodies h.shapes (under_way h.shapes h.past) →
     Bodies h.shapes (record { actor = a; object = o; operation = p } ∷ under_way h.shapes h.past)
-call_starts serves h a o p vs e k =
-    let w = started_allowed serves h a (Call o p vs) e in
-    let g = answered serves h a (Call o p vs) Started e in
+call_starts h a o p vs e k =
+    let w = started_allowed h a (Call o p vs) e in
+    let g = answered h a (Call o p vs) Started e in
     let there : o ≡ w.object = ap (λ (m : Aim). m.0) w.wanted in
     let at : target h.shapes o p ≡ OnProtected w.site = ap (λ (m : Aim). m.1) w.wanted in
     let free : excluded h o (is_function w.site.operation.kind) ≡ false = ap (λ m. excluded h m (is_function w.site.operation.kind)) there ∙ w.free in
@@ -85,15 +85,15 @@ idle_none (Task task) (b ∷ bs) s e = absurd (off e)
 idle_none Nobody (b ∷ bs) s e = absurd (off e)
 
 -- a fired line that starts its handler
-fire_starts : (serves : Service) (h : History) (a : ℕ) → recorded (out serves h a Fire) ≡ Some Started → Bodies h.shapes (under_way h.shapes h.past) →
+fire_starts : (h : History) (a : ℕ) → recorded (out h a Fire) ≡ Some Started → Bodies h.shapes (under_way h.shapes h.past) →
     Bodies h.shapes (begun (fired a (handler h.shapes (a - 1))) (under_way h.shapes h.past))
-fire_starts serves h a e k = by_handler (handler h.shapes (a - 1)) refl
+fire_starts h a e k = by_handler (handler h.shapes (a - 1)) refl
   where
     by_handler : (s : Option OperationNumber) → handler h.shapes (a - 1) ≡ s → Bodies h.shapes (begun (fired a s) (under_way h.shapes h.past))
     by_handler None is = k
     by_handler (Some n) is =
-        let w = started_allowed serves h a Fire e in
-        let g = answered serves h a Fire Started e in
+        let w = started_allowed h a Fire e in
+        let g = answered h a Fire Started e in
         let aimed : aim_at h.shapes (Some n) ≡ (w.object, OnProtected w.site) = sym (ap (aim_at h.shapes) is) ∙ w.wanted in
         let there : n.object ≡ w.object = ap (λ (m : Aim). m.0) aimed in
         let at : target h.shapes n.object n.operation ≡ OnProtected w.site = ap (λ (m : Aim). m.1) aimed in
@@ -103,11 +103,11 @@ fire_starts serves h a e k = by_handler (handler h.shapes (a - 1)) refl
         bodies_start h.shapes (record { actor = a; object = n.object; operation = n.operation }) (under_way h.shapes h.past) w.site at free (omega (arith, zero)) k
 
 -- an end that hands over: the body that ends was alone, and the caller holds nothing
-hand_over : (serves : Service) (h : History) (a : ℕ) (vs : List ℤ) (x : Exit) (n : ℕ) → recorded (out serves h a (Complete vs x)) ≡ Some (Done (HandedTo n)) →
+hand_over : (h : History) (a : ℕ) (vs : List ℤ) (x : Exit) (n : ℕ) → recorded (out h a (Complete vs x)) ≡ Some (Done (HandedTo n)) →
     AllWait h.shapes h.past (waiting h.past) → Each (IsOfEntry h.shapes) (waiting h.past) → Bodies h.shapes (under_way h.shapes h.past) →
     Bodies h.shapes (begun (last_queued n h.past) (without a (under_way h.shapes h.past)))
-hand_over serves h a vs x n e all calls k =
-    let m = names_at serves h a vs x (HandedTo n) n e refl in
+hand_over h a vs x n e all calls k =
+    let m = names_at h a vs x (HandedTo n) n e refl in
     let q = m.served_by in
     let v : Waits h.shapes h.past q.call = head_waits h.shapes h.past m.body.object q.call q.rest all q.queued in
     let of_entry = (subst (Each (IsOfEntry h.shapes)) q.queued (each_filter (IsOfEntry h.shapes) (λ c. c.object == m.body.object) (waiting h.past) calls)).0 in
@@ -127,22 +127,22 @@ hand_over serves h a vs x n e all calls k =
     } in
     subst (λ b. Bodies h.shapes (begun b bs)) (sym last) now
 
-bodies_step : (serves : Service) (h : History) (a : ℕ) (r : Request) (w : Recorded) → recorded (out serves h a r) ≡ Some w →
+bodies_step : (h : History) (a : ℕ) (r : Request) (w : Recorded) → recorded (out h a r) ≡ Some w →
     AllWait h.shapes h.past (waiting h.past) → Each (IsOfEntry h.shapes) (waiting h.past) → Bodies h.shapes (under_way h.shapes h.past) → Bodies h.shapes (under_way h.shapes (Asked a r w ∷ h.past))
-bodies_step serves h a (Call o p vs) Started e all calls k = call_starts serves h a o p vs e k
-bodies_step serves h a (Call o p vs) w e all calls k = k
-bodies_step serves h a Fire Started e all calls k = fire_starts serves h a e k
-bodies_step serves h a Fire w e all calls k = k
-bodies_step serves h a (Complete vs x) (Done Nothing) e all calls k = bodies_end h.shapes a (under_way h.shapes h.past) k
-bodies_step serves h a (Complete vs x) (Done (HandedTo n)) e all calls k = hand_over serves h a vs x n e all calls k
-bodies_step serves h a (Complete vs x) (Done (Dropped n line)) e all calls k = bodies_end h.shapes a (under_way h.shapes h.past) k
-bodies_step serves h a (Complete vs x) w e all calls k = bodies_end h.shapes a (under_way h.shapes h.past) k
-bodies_step serves h a Resume w e all calls k = k
-bodies_step serves h a (DelayUntil t) w e all calls k = k
-bodies_step serves h a Clock w e all calls k = k
-bodies_step serves h a Quit w e all calls k = k
-bodies_step serves h a (Tick n) w e all calls k = k
-bodies_step serves h a Halt w e all calls k = k
+bodies_step h a (Call o p vs) Started e all calls k = call_starts h a o p vs e k
+bodies_step h a (Call o p vs) w e all calls k = k
+bodies_step h a Fire Started e all calls k = fire_starts h a e k
+bodies_step h a Fire w e all calls k = k
+bodies_step h a (Complete vs x) (Done Nothing) e all calls k = bodies_end h.shapes a (under_way h.shapes h.past) k
+bodies_step h a (Complete vs x) (Done (HandedTo n)) e all calls k = hand_over h a vs x n e all calls k
+bodies_step h a (Complete vs x) (Done (Dropped n line)) e all calls k = bodies_end h.shapes a (under_way h.shapes h.past) k
+bodies_step h a (Complete vs x) w e all calls k = bodies_end h.shapes a (under_way h.shapes h.past) k
+bodies_step h a Resume w e all calls k = k
+bodies_step h a (DelayUntil t) w e all calls k = k
+bodies_step h a Clock w e all calls k = k
+bodies_step h a Quit w e all calls k = k
+bodies_step h a (Tick n) w e all calls k = k
+bodies_step h a Halt w e all calls k = k
 
 -- Calls
 
@@ -159,23 +159,23 @@ calls_left shapes n calls k = record {
 not_full : (n : ℕ) → not (nat_lt n queue_limit) ≡ false → n < queue_limit
 not_full n e = grind (arith, nat_tests)
 
-calls_join : (serves : Service) (h : History) (a o p : ℕ) (vs : List ℤ) → recorded (out serves h a (Call o p vs)) ≡ Some Queued → Calls h.shapes (waiting h.past) →
+calls_join : (h : History) (a o p : ℕ) (vs : List ℤ) → recorded (out h a (Call o p vs)) ≡ Some Queued → Calls h.shapes (waiting h.past) →
     Calls h.shapes (waiting h.past ++ record { actor = a; object = o; operation = p } ∷ [])
-calls_join serves h a o p vs e k =
-    let j = joins serves h a o p vs e in
+calls_join h a o p vs e k =
+    let j = joins h a o p vs e in
     let self : Body = record { actor = a; object = o; operation = p } in
     record {
       queues = λ n. queue_join queue_limit self (waiting h.past) n (not_full (length (queue o h.past)) j.short) (k.queues n);
       known = each_append (IsOfEntry h.shapes) (waiting h.past) self k.known (j.site, j.at, j.entry);
     }
 
-calls_step : (serves : Service) (h : History) (a : ℕ) (r : Request) (w : Recorded) (q : Option Body) → queued_by (Asked a r w) ≡ q → recorded (out serves h a r) ≡ Some w → Calls h.shapes (waiting h.past) →
+calls_step : (h : History) (a : ℕ) (r : Request) (w : Recorded) (q : Option Body) → queued_by (Asked a r w) ≡ q → recorded (out h a r) ≡ Some w → Calls h.shapes (waiting h.past) →
     Calls h.shapes (joined q (left (named_in (next_of (Asked a r w))) (waiting h.past)))
-calls_step serves h a r w None is e k = calls_left h.shapes (named_in (next_of (Asked a r w))) (waiting h.past) k
-calls_step serves h a (Call o p vs) Queued (Some b) is e k =
-    subst (λ c. Calls h.shapes (waiting h.past ++ c ∷ [])) (some_is (record { actor = a; object = o; operation = p }) b is) (calls_join serves h a o p vs e k)
-calls_step serves h a (Call o p vs) w (Some b) is e k = absurd (cc)
-calls_step serves h a r w (Some b) is e k = absurd (cc)
+calls_step h a r w None is e k = calls_left h.shapes (named_in (next_of (Asked a r w))) (waiting h.past) k
+calls_step h a (Call o p vs) Queued (Some b) is e k =
+    subst (λ c. Calls h.shapes (waiting h.past ++ c ∷ [])) (some_is (record { actor = a; object = o; operation = p }) b is) (calls_join h a o p vs e k)
+calls_step h a (Call o p vs) w (Some b) is e k = absurd (cc)
+calls_step h a r w (Some b) is e k = absurd (cc)
 
 -- Both, after each entry
 
@@ -183,9 +183,9 @@ pub record Sound (shapes : List Shape) (past : List Entry) : Type 0 where
   pub bodies : Bodies shapes (under_way shapes past)
   pub calls : Calls shapes (waiting past)
 
-sound_more : (serves : Service) (c : ℕ) (past : List Entry) (old more : List Shape) (lists : List (List Words)) → IsLegal serves c past old lists → Sound old past → Sound (old ++ more) past
-sound_more serves c past old more lists l k =
-    let ways : under_way (old ++ more) past ≡ under_way old past = way_stays serves c past old more lists l in
+sound_more : (c : ℕ) (past : List Entry) (old more : List Shape) (lists : List (List Words)) → IsLegal c past old lists → Sound old past → Sound (old ++ more) past
+sound_more c past old more lists l k =
+    let ways : under_way (old ++ more) past ≡ under_way old past = way_stays c past old more lists l in
     let bs : List Body = under_way old past in
     let bodies : Bodies (old ++ more) bs = record {
       shared = λ o. shared_more old more o bs k.bodies.known (k.bodies.shared o);
@@ -200,24 +200,24 @@ sound_more serves c past old more lists l k =
       };
     }
 
-sound : (serves : Service) (c : ℕ) (past : List Entry) (shapes : List Shape) (lists : List (List Words)) → IsLegal serves c past shapes lists → Sound shapes past
-sound serves c [] shapes lists l = record {
+sound : (c : ℕ) (past : List Entry) (shapes : List Shape) (lists : List (List Words)) → IsLegal c past shapes lists → Sound shapes past
+sound c [] shapes lists l = record {
   bodies = record { shared = λ o. inl refl; stacks = λ n. omega arith; known = tt };
   calls = record { queues = λ o. omega arith; known = tt };
 }
-sound serves c (Asked a r w ∷ past) shapes lists l =
+sound c (Asked a r w ∷ past) shapes lists l =
     let h : History = record { capacity = c; past = past; shapes = shapes; lists = lists } in
-    let k : Sound shapes past = sound serves c past shapes lists l.0 in
+    let k : Sound shapes past = sound c past shapes lists l.0 in
     record {
-      bodies = bodies_step serves h a r w l.1 (legal_waits serves c past shapes lists l.0) k.calls.known k.bodies;
-      calls = calls_step serves h a r w (queued_by (Asked a r w)) refl l.1 k.calls;
+      bodies = bodies_step h a r w l.1 (legal_waits c past shapes lists l.0) k.calls.known k.bodies;
+      calls = calls_step h a r w (queued_by (Asked a r w)) refl l.1 k.calls;
     }
-sound serves c (Load ∷ past) shapes lists l =
-    let k : Sound (l.0 ++ l.1 ∷ []) past = sound_more serves c past l.0 (l.1 ∷ []) lists l.3 (sound serves c past l.0 lists l.3) in
+sound c (Load ∷ past) shapes lists l =
+    let k : Sound (l.0 ++ l.1 ∷ []) past = sound_more c past l.0 (l.1 ∷ []) lists l.3 (sound c past l.0 lists l.3) in
     let now : Sound (l.0 ++ l.1 ∷ []) (Load ∷ past) = record { bodies = k.bodies; calls = k.calls } in
     subst (λ (ss : List Shape). Sound ss (Load ∷ past)) (sym l.2) now
-sound serves c (ListChange ∷ past) shapes lists l =
-    let k : Sound shapes past = sound serves c past shapes l.0 l.3 in
+sound c (ListChange ∷ past) shapes lists l =
+    let k : Sound shapes past = sound c past shapes l.0 l.3 in
     record { bodies = k.bodies; calls = k.calls }
 
 orderly_at : (shapes : List Shape) (past : List Entry) → Sound shapes past → Orderly shapes past
@@ -229,28 +229,28 @@ orderly_at shapes past k = record {
   calls = k.calls.known;
 }
 
-pub legal_orderly_at : (serves : Service) (h : History) → Legal serves h → Orderly h.shapes h.past
-legal_orderly_at serves h l = orderly_at h.shapes h.past (sound serves h.capacity h.past h.shapes h.lists l)
+pub legal_orderly_at : (h : History) → Legal h → Orderly h.shapes h.past
+legal_orderly_at h l = orderly_at h.shapes h.past (sound h.capacity h.past h.shapes h.lists l)
 
-orderly_all : (serves : Service) (c : ℕ) (past : List Entry) (shapes more : List Shape) (lists : List (List Words)) → IsLegal serves c past shapes lists → IsOrderly (shapes ++ more) past
-orderly_all serves c [] shapes more lists l = tt
-orderly_all serves c (Asked a r w ∷ past) shapes more lists l = (
-  orderly_at (shapes ++ more) (Asked a r w ∷ past) (sound_more serves c (Asked a r w ∷ past) shapes more lists l (sound serves c (Asked a r w ∷ past) shapes lists l)),
-  orderly_all serves c past shapes more lists l.0,
+orderly_all : (c : ℕ) (past : List Entry) (shapes more : List Shape) (lists : List (List Words)) → IsLegal c past shapes lists → IsOrderly (shapes ++ more) past
+orderly_all c [] shapes more lists l = tt
+orderly_all c (Asked a r w ∷ past) shapes more lists l = (
+  orderly_at (shapes ++ more) (Asked a r w ∷ past) (sound_more c (Asked a r w ∷ past) shapes more lists l (sound c (Asked a r w ∷ past) shapes lists l)),
+  orderly_all c past shapes more lists l.0,
 )
-orderly_all serves c (Load ∷ past) shapes more lists l = (
-  orderly_at (shapes ++ more) (Load ∷ past) (sound_more serves c (Load ∷ past) shapes more lists l (sound serves c (Load ∷ past) shapes lists l)),
-  subst (λ (ss : List Shape). IsOrderly ss past) (sym (append_assoc l.0 (l.1 ∷ []) more) ∙ ap (λ (ss : List Shape). ss ++ more) (sym l.2)) (orderly_all serves c past l.0 (l.1 ∷ more) lists l.3),
+orderly_all c (Load ∷ past) shapes more lists l = (
+  orderly_at (shapes ++ more) (Load ∷ past) (sound_more c (Load ∷ past) shapes more lists l (sound c (Load ∷ past) shapes lists l)),
+  subst (λ (ss : List Shape). IsOrderly ss past) (sym (append_assoc l.0 (l.1 ∷ []) more) ∙ ap (λ (ss : List Shape). ss ++ more) (sym l.2)) (orderly_all c past l.0 (l.1 ∷ more) lists l.3),
 )
-orderly_all serves c (ListChange ∷ past) shapes more lists l = (
-  orderly_at (shapes ++ more) (ListChange ∷ past) (sound_more serves c (ListChange ∷ past) shapes more lists l (sound serves c (ListChange ∷ past) shapes lists l)),
-  orderly_all serves c past shapes more l.0 l.3,
+orderly_all c (ListChange ∷ past) shapes more lists l = (
+  orderly_at (shapes ++ more) (ListChange ∷ past) (sound_more c (ListChange ∷ past) shapes more lists l (sound c (ListChange ∷ past) shapes lists l)),
+  orderly_all c past shapes more l.0 l.3,
 )
 
 -- after each entry of a legal history
-pub legal_orderly : (serves : Service) (h : History) → Legal serves h → IsOrderly h.shapes h.past
-legal_orderly serves h l =
-    subst (λ (ss : List Shape). IsOrderly ss h.past) (append_none h.shapes) (orderly_all serves h.capacity h.past h.shapes [] h.lists l)
+pub legal_orderly : (h : History) → Legal h → IsOrderly h.shapes h.past
+legal_orderly h l =
+    subst (λ (ss : List Shape). IsOrderly ss h.past) (append_none h.shapes) (orderly_all h.capacity h.past h.shapes [] h.lists l)
 
 -- so after the first ones
 pub orderly_suffix : (shapes : List Shape) (later past : List Entry) → IsOrderly shapes (later ++ past) → IsOrderly shapes past

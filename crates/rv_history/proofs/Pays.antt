@@ -22,7 +22,7 @@ use Rattle.rv_event.specs.declared.entry.Answer.{Answer}
 use Rattle.rv_event.specs.declared.entry.Answer.TheVariants as Answers
 use Rattle.rv_history.specs.History.{History, changes}
 use Rattle.rv_history.specs.Owed.{surcharge, unfinished, dues, each, actors, halt_due, IsSolvent}
-use Rattle.rv_history.specs.Fitting.{Service, fits, fits_actor, idle_task}
+use Rattle.rv_history.specs.Fitting.{fits, fits_actor, idle_task}
 use Rattle.rv_history.specs.Due.{due, out, gate, within, enough, table, due_resume, or_waiting, scalars_held, nothing_more, goes_on}
 use Rattle.rv_history.proofs.Answered.{off, both, and_true, word_is}
 use Rattle.rv_history.proofs.Stances.{below, own_stance, other_stance}
@@ -157,20 +157,20 @@ within_paid h a r x p = by_word (recorded x) refl
     by_word None is = refl
     by_word (Some w) is = ap (λ b. within b x) (to_room _ h.capacity (p.pays w is))
 
-pub out_due : (serves : Service) (h : History) (a : ℕ) (r : Request) → (fits serves h a r ≡ true → (halted h.past && not (goes_on r)) ≡ false → Pays h a r (table h a r)) → out serves h a r ≡ due serves h a r
-out_due serves h a r p = within_paid h a r (due serves h a r) (pays_gate h a r (fits serves h a r) (halted h.past && not (goes_on r)) (table h a r) p)
+pub out_due : (h : History) (a : ℕ) (r : Request) → (fits h a r ≡ true → (halted h.past && not (goes_on r)) ≡ false → Pays h a r (table h a r)) → out h a r ≡ due h a r
+out_due h a r p = within_paid h a r (due h a r) (pays_gate h a r (fits h a r) (halted h.past && not (goes_on r)) (table h a r) p)
 
 -- the parts of what fits
-pub fit_parts : (serves : Service) (h : History) (a : ℕ) (r : Request) → fits serves h a r ≡ true → (a < actors h.shapes) × (fits_actor h a r ≡ true)
-fit_parts serves h a r f =
-    let parts = both (nat_lt a (actors h.shapes)) (serves h a r && fits_actor h a r) f in
-    (below a (actors h.shapes) parts.0, (both (serves h a r) (fits_actor h a r) parts.1).1)
+pub fit_parts : (h : History) (a : ℕ) (r : Request) → fits h a r ≡ true → (a < actors h.shapes) × (fits_actor h a r ≡ true)
+fit_parts h a r f =
+    let parts = both (nat_lt a (actors h.shapes)) (fits_actor h a r) f in
+    (below a (actors h.shapes) parts.0, parts.1)
 
-pub resume_never_full : (serves : Service) (h : History) (a : ℕ) → IsSolvent h → out serves h a Resume ≡ due serves h a Resume
-resume_never_full serves h a solvent = out_due serves h a Resume (λ f c. pays_resume h a (stance a h.past) refl (fit_parts serves h a Resume f).0 solvent)
+pub resume_never_full : (h : History) (a : ℕ) → IsSolvent h → out h a Resume ≡ due h a Resume
+resume_never_full h a solvent = out_due h a Resume (λ f c. pays_resume h a (stance a h.past) refl (fit_parts h a Resume f).0 solvent)
 
-pub quit_never_full : (serves : Service) (h : History) (a : ℕ) → IsSolvent h → out serves h a Quit ≡ due serves h a Quit
-quit_never_full serves h a solvent = out_due serves h a Quit (λ f c. let t = fit_parts serves h a Quit f in pays_quit h a t.1 t.0 solvent)
+pub quit_never_full : (h : History) (a : ℕ) → IsSolvent h → out h a Quit ≡ due h a Quit
+quit_never_full h a solvent = out_due h a Quit (λ f c. let t = fit_parts h a Quit f in pays_quit h a t.1 t.0 solvent)
 
-pub halt_never_full : (serves : Service) (h : History) → IsSolvent h → out serves h 0 Halt ≡ due serves h 0 Halt
-halt_never_full serves h solvent = out_due serves h 0 Halt (λ f c. pays_halt h (sym (and_true (halted h.past)) ∙ c) solvent)
+pub halt_never_full : (h : History) → IsSolvent h → out h 0 Halt ≡ due h 0 Halt
+halt_never_full h solvent = out_due h 0 Halt (λ f c. pays_halt h (sym (and_true (halted h.past)) ∙ c) solvent)

@@ -12,7 +12,6 @@ use Rattle.rv_event.specs.declared.entry.Answer.TheVariants as Answers
 use Rattle.rv_shape.specs.Fits.{shape_fits}
 use Rattle.rv_history.specs.History.{History}
 use Rattle.rv_history.specs.Owed.{owed, room, has_room, IsSolvent}
-use Rattle.rv_history.specs.Fitting.{Service}
 use Rattle.rv_history.specs.Due.{within, gate, nothing_more}
 use Rattle.rv_history.specs.Legal.{IsLegal, Legal, due_list, out_list}
 use Rattle.rv_history.proofs.Answered.{answered, within_recorded, gate_recorded}
@@ -36,20 +35,20 @@ list_within h list e = by_length _ (gate_recorded true (halted h.past) (due_list
     by_length true f = absurd (cc)
     by_length false f = (within_recorded (has_room h.capacity h.shapes (ListChange ∷ h.past)) nothing_more _ f).0
 
-pub solvent : (serves : Service) (c : ℕ) (past : List Entry) (shapes : List Shape) (lists : List (List Words)) → 1 ≤ c → IsLegal serves c past shapes lists → length past + owed shapes past ≤ c
-solvent serves c [] shapes lists some l = subst (λ (ss : List Shape). length {A = Entry} [] + owed ss [] ≤ c) (sym l.0) some
-solvent serves c (Asked a r w ∷ past) shapes lists some l =
+pub solvent : (c : ℕ) (past : List Entry) (shapes : List Shape) (lists : List (List Words)) → 1 ≤ c → IsLegal c past shapes lists → length past + owed shapes past ≤ c
+solvent c [] shapes lists some l = subst (λ (ss : List Shape). length {A = Entry} [] + owed ss [] ≤ c) (sym l.0) some
+solvent c (Asked a r w ∷ past) shapes lists some l =
     let h : History = record { capacity = c; past = past; shapes = shapes; lists = lists } in
-    from_room _ c (answered serves h a r w l.1).paid
-solvent serves c (Load ∷ past) shapes lists some l =
+    from_room _ c (answered h a r w l.1).paid
+solvent c (Load ∷ past) shapes lists some l =
     let has = accepted_within (shape_fits l.0 l.1) (halted past) (has_room c (l.0 ++ l.1 ∷ []) (Load ∷ past)) l.4 in
     subst (λ (ss : List Shape). length (Load ∷ past) + owed ss (Load ∷ past) ≤ c) (sym l.2) (from_room _ c has)
-solvent serves c (ListChange ∷ past) shapes lists some l =
+solvent c (ListChange ∷ past) shapes lists some l =
     let h : History = record { capacity = c; past = past; shapes = shapes; lists = l.0 } in
     from_room _ c (list_within h l.1 l.4)
 
-pub legal_solvent : (serves : Service) (h : History) → 1 ≤ h.capacity → Legal serves h → IsSolvent h
-legal_solvent serves h some l = solvent serves h.capacity h.past h.shapes h.lists some l
+pub legal_solvent : (h : History) → 1 ≤ h.capacity → Legal h → IsSolvent h
+legal_solvent h some l = solvent h.capacity h.past h.shapes h.lists some l
 
 -- an entry has its room where its cost, one entry and the change of what is owed, is no greater than the room
 pub room_reads : (h : History) (e : Entry) → IsSolvent h → (has_room h.capacity h.shapes (e ∷ h.past) ≡ true) ↔ (1 + owed h.shapes (e ∷ h.past) ≤ room h + owed h.shapes h.past)

@@ -24,7 +24,6 @@ use Rattle.rv_history.specs.History.{History}
 use Rattle.rv_history.specs.Subject.{subject}
 use Rattle.rv_history.specs.Exclusion.{barrier_at, opens_on, is_open}
 use Rattle.rv_history.specs.Rules.{granted, decided}
-use Rattle.rv_history.specs.Fitting.{Service}
 use Rattle.rv_history.specs.Due.{out, after_end, next_of_queue, judged_head}
 use Rattle.rv_history.specs.Legal.{IsLegal, Legal}
 use Rattle.rv_history.specs.Orderly.{is_on, is_exclusive_on, IsOfEntry, Each, Orderly}
@@ -75,11 +74,11 @@ fire_stays : (shapes : List Shape) (past : List Entry) (a o : ℕ) (q : Option O
 fire_stays shapes past a o q e = begun_stays (is_exclusive_on shapes o) (fired a q) (under_way shapes past) e
 
 -- a call that is queued
-queue_step : (serves : Service) (h : History) (a o p : ℕ) (vs : List ℤ) (n : ℕ) → recorded (out serves h a (Call o p vs)) ≡ Some Queued → Settled h.shapes h.past n → Settled h.shapes (Asked a (Call o p vs) Queued ∷ h.past) n
-queue_step serves h a o p vs n e k = by_object (o == n) refl k
+queue_step : (h : History) (a o p : ℕ) (vs : List ℤ) (n : ℕ) → recorded (out h a (Call o p vs)) ≡ Some Queued → Settled h.shapes h.past n → Settled h.shapes (Asked a (Call o p vs) Queued ∷ h.past) n
+queue_step h a o p vs n e k = by_object (o == n) refl k
   where
     by_object : (t : Bool) → (o == n) ≡ t → Settled h.shapes h.past n → Settled h.shapes (Asked a (Call o p vs) Queued ∷ h.past) n
-    by_object true is k = inr (inr (inl (ap (λ m. open_at h.shapes m h.past) (sym (same_number o n is)) ∙ (joins serves h a o p vs e).shut)))
+    by_object true is k = inr (inr (inl (ap (λ m. open_at h.shapes m h.past) (sym (same_number o n is)) ∙ (joins h a o p vs e).shut)))
     by_object false is (inl x) = inl x
     by_object false is (inr (inl x)) = inr (inl x)
     by_object false is (inr (inr (inl x))) = inr (inr (inl x))
@@ -164,33 +163,33 @@ end_step h a vs x w o k all t was = subst (λ u. Settled h.shapes (Asked a (Comp
         end_quiet h a vs x Nothing t.body o t.inner other (function_writes h.shapes h.past a o t.body t.inner shared) was
     by_kind false is = by_object (t.body.object == o) refl is
 
-settled_step : (serves : Service) (h : History) (a : ℕ) (r : Request) (w : Recorded) (o : ℕ) → recorded (out serves h a r) ≡ Some w → Orderly h.shapes h.past → AllWait h.shapes h.past (waiting h.past) →
+settled_step : (h : History) (a : ℕ) (r : Request) (w : Recorded) (o : ℕ) → recorded (out h a r) ≡ Some w → Orderly h.shapes h.past → AllWait h.shapes h.past (waiting h.past) →
     Settled h.shapes h.past o → Settled h.shapes (Asked a r w ∷ h.past) o
-settled_step serves h a (Call m p vs) Started o e k all was =
+settled_step h a (Call m p vs) Started o e k all was =
     quiet h.shapes h.past (Asked a (Call m p vs) Started) o (or_right (is_exclusive_on h.shapes o (record { actor = a; object = m; operation = p })) (exclusive_at h.shapes o h.past)) refl refl was
-settled_step serves h a (Call m p vs) Queued o e k all was = queue_step serves h a m p vs o e was
-settled_step serves h a (Call m p vs) w o e k all was = quiet h.shapes h.past (Asked a (Call m p vs) w) o (λ x. x) refl refl was
-settled_step serves h a Fire Started o e k all was = quiet h.shapes h.past (Asked a Fire Started) o (fire_stays h.shapes h.past a o (handler h.shapes (a - 1))) refl refl was
-settled_step serves h a Fire w o e k all was = quiet h.shapes h.past (Asked a Fire w) o (λ x. x) refl refl was
-settled_step serves h a (Complete vs x) w o e k all was = end_step h a vs x w o k all (ends serves h a vs x w e) was
-settled_step serves h a Resume w o e k all was = quiet h.shapes h.past (Asked a Resume w) o (λ x. x) refl refl was
-settled_step serves h a (DelayUntil t) w o e k all was = quiet h.shapes h.past (Asked a (DelayUntil t) w) o (λ x. x) refl refl was
-settled_step serves h a Clock w o e k all was = quiet h.shapes h.past (Asked a Clock w) o (λ x. x) refl refl was
-settled_step serves h a Quit w o e k all was = quiet h.shapes h.past (Asked a Quit w) o (λ x. x) refl refl was
-settled_step serves h a (Tick n) w o e k all was = quiet h.shapes h.past (Asked a (Tick n) w) o (λ x. x) refl refl was
-settled_step serves h a Halt w o e k all was = quiet h.shapes h.past (Asked a Halt w) o (λ x. x) refl refl was
+settled_step h a (Call m p vs) Queued o e k all was = queue_step h a m p vs o e was
+settled_step h a (Call m p vs) w o e k all was = quiet h.shapes h.past (Asked a (Call m p vs) w) o (λ x. x) refl refl was
+settled_step h a Fire Started o e k all was = quiet h.shapes h.past (Asked a Fire Started) o (fire_stays h.shapes h.past a o (handler h.shapes (a - 1))) refl refl was
+settled_step h a Fire w o e k all was = quiet h.shapes h.past (Asked a Fire w) o (λ x. x) refl refl was
+settled_step h a (Complete vs x) w o e k all was = end_step h a vs x w o k all (ends h a vs x w e) was
+settled_step h a Resume w o e k all was = quiet h.shapes h.past (Asked a Resume w) o (λ x. x) refl refl was
+settled_step h a (DelayUntil t) w o e k all was = quiet h.shapes h.past (Asked a (DelayUntil t) w) o (λ x. x) refl refl was
+settled_step h a Clock w o e k all was = quiet h.shapes h.past (Asked a Clock w) o (λ x. x) refl refl was
+settled_step h a Quit w o e k all was = quiet h.shapes h.past (Asked a Quit w) o (λ x. x) refl refl was
+settled_step h a (Tick n) w o e k all was = quiet h.shapes h.past (Asked a (Tick n) w) o (λ x. x) refl refl was
+settled_step h a Halt w o e k all was = quiet h.shapes h.past (Asked a Halt w) o (λ x. x) refl refl was
 
 -- a load
-settled_load : (serves : Service) (h : History) (more : List Shape) (o : ℕ) → Legal serves h → Settled h.shapes h.past o → Settled (h.shapes ++ more) (Load ∷ h.past) o
-settled_load serves h more o l was = by_queue (queue o h.past) refl was
+settled_load : (h : History) (more : List Shape) (o : ℕ) → Legal h → Settled h.shapes h.past o → Settled (h.shapes ++ more) (Load ∷ h.past) o
+settled_load h more o l was = by_queue (queue o h.past) refl was
   where
     k : Orderly h.shapes h.past
-    k = legal_orderly_at serves h l
+    k = legal_orderly_at h l
 
     by_queue : (q : List Body) → queue o h.past ≡ q → Settled h.shapes h.past o → Settled (h.shapes ++ more) (Load ∷ h.past) o
     by_queue q e (inl x) = inl x
     by_queue q e (inr (inl x)) =
-        inr (inl (ap (list_any (is_exclusive_on (h.shapes ++ more) o)) (way_stays serves h.capacity h.past h.shapes more h.lists l)
+        inr (inl (ap (list_any (is_exclusive_on (h.shapes ++ more) o)) (way_stays h.capacity h.past h.shapes more h.lists l)
         ∙ exclusive_more h.shapes more o (under_way h.shapes h.past) k.bodies ∙ x))
     by_queue q e (inr (inr (inr x))) = inr (inr (inr x))
     by_queue [] e (inr (inr (inl x))) = inr (inr (inr e))
@@ -200,21 +199,21 @@ settled_load serves h more o l was = by_queue (queue o h.past) refl was
         let there = protected_place h.shapes c.object c.operation entry.0 entry.1 in
         let at : place h.shapes o ≡ Some there.0 = ap (place h.shapes) (sym is) ∙ there.1 in
         let same : place (h.shapes ++ more) o ≡ place h.shapes o = object_stays h.shapes more o there.0 at ∙ sym at in
-        let values : scalars (h.shapes ++ more) o h.past ≡ scalars h.shapes o h.past = scalars_stay serves h more o there.0 l at in
+        let values : scalars (h.shapes ++ more) o h.past ≡ scalars h.shapes o h.past = scalars_stay h more o there.0 l at in
         inr (inr (inl ((λ i. opens_on (barrier_at (same i)) (values i)) ∙ x)))
 
-legal_settled : (serves : Service) (c : ℕ) (past : List Entry) (shapes : List Shape) (lists : List (List Words)) (o : ℕ) → IsLegal serves c past shapes lists → Settled shapes past o
-legal_settled serves c [] shapes lists o l = inr (inr (inr refl))
-legal_settled serves c (Asked a r w ∷ past) shapes lists o l =
+legal_settled : (c : ℕ) (past : List Entry) (shapes : List Shape) (lists : List (List Words)) (o : ℕ) → IsLegal c past shapes lists → Settled shapes past o
+legal_settled c [] shapes lists o l = inr (inr (inr refl))
+legal_settled c (Asked a r w ∷ past) shapes lists o l =
     let h : History = record { capacity = c; past = past; shapes = shapes; lists = lists } in
-    settled_step serves h a r w o l.1 (legal_orderly_at serves h l.0) (legal_waits serves c past shapes lists l.0) (legal_settled serves c past shapes lists o l.0)
-legal_settled serves c (Load ∷ past) shapes lists o l =
+    settled_step h a r w o l.1 (legal_orderly_at h l.0) (legal_waits c past shapes lists l.0) (legal_settled c past shapes lists o l.0)
+legal_settled c (Load ∷ past) shapes lists o l =
     let h : History = record { capacity = c; past = past; shapes = l.0; lists = lists } in
-    subst (λ (ss : List Shape). Settled ss (Load ∷ past) o) (sym l.2) (settled_load serves h (l.1 ∷ []) o l.3 (legal_settled serves c past l.0 lists o l.3))
-legal_settled serves c (ListChange ∷ past) shapes lists o l = legal_settled serves c past shapes l.0 o l.3
+    subst (λ (ss : List Shape). Settled ss (Load ∷ past) o) (sym l.2) (settled_load h (l.1 ∷ []) o l.3 (legal_settled c past l.0 lists o l.3))
+legal_settled c (ListChange ∷ past) shapes lists o l = legal_settled c past shapes l.0 o l.3
 
-pub free_settled : (serves : Service) (h : History) (o : ℕ) → Legal serves h → halted h.past ≡ false → list_any (is_exclusive_on h.shapes o) (under_way h.shapes h.past) ≡ false → (is_open h o ≡ false) ⊎ (queue o h.past ≡ [])
-free_settled serves h o l going free = by_case (legal_settled serves h.capacity h.past h.shapes h.lists o l)
+pub free_settled : (h : History) (o : ℕ) → Legal h → halted h.past ≡ false → list_any (is_exclusive_on h.shapes o) (under_way h.shapes h.past) ≡ false → (is_open h o ≡ false) ⊎ (queue o h.past ≡ [])
+free_settled h o l going free = by_case (legal_settled h.capacity h.past h.shapes h.lists o l)
   where
     by_case : Settled h.shapes h.past o → (is_open h o ≡ false) ⊎ (queue o h.past ≡ [])
     by_case (inl x) = absurd (off (sym going ∙ x))

@@ -27,7 +27,7 @@ use Rattle.rv_history.specs.History.{History, version}
 use Rattle.rv_history.specs.Exclusion.{excluded, is_barred, full_queue, is_open}
 use Rattle.rv_history.specs.Owed.{actors}
 use Rattle.rv_history.specs.Rules.{holds_any, breaks}
-use Rattle.rv_history.specs.Fitting.{Service, may_call, in_body, idle_line, idle_task, is_operator, is_time, is_tick, call_fits}
+use Rattle.rv_history.specs.Fitting.{may_call, in_body, idle_line, idle_task, is_operator, is_time, is_tick, call_fits}
 use Rattle.rv_history.specs.Due.{out, due_resume, judged, performed, due_call}
 use Rattle.rv_history.specs.Legal.{IsLegal}
 use Rattle.rv_history.proofs.Answered.{off, both, and_none, and_true, Answered, answered}
@@ -76,19 +76,19 @@ waits_on h false w e = cc
 unfit : (b : Bool) → b ≡ false → b ≡ true → ⊥
 unfit b e f = off (sym e ∙ f)
 
-silent_at : (serves : Service) (h : History) (a : ℕ) (r : Request) (w : Recorded) → stance a h.past ≡ InQueue → nat_lt a 11 ≡ false → Answered serves h a r w → ⊥
-silent_at serves h a (Call o p vs) w at task g = unfit _ (and_none _ (call_fits (length (held h.shapes a h.past)) vs (target h.shapes o p)) (calls_not h a at)) g.fits_in
-silent_at serves h a (Complete vs x) w at task g = unfit _ (and_none _ _ (ap (λ s. in_body (mode_by (held h.shapes a h.past) s)) at)) g.fits_in
-silent_at serves h a Resume w at task g = waits_on h (halted h.past) w (sym (ap (λ s. recorded (due_resume h a s)) at) ∙ g.said)
-silent_at serves h a (DelayUntil t) w at task g = unfit _ (and_none _ (is_time t) (calls_not h a at)) g.fits_in
-silent_at serves h a Clock w at task g = unfit _ (calls_not h a at) g.fits_in
-silent_at serves h a Fire w at task g = unfit _ (ap (λ s. idle_line (who h.shapes a) (mode_by (held h.shapes a h.past) s)) at ∙ queued_fires_none (who h.shapes a)) g.fits_in
-silent_at serves h a Quit w at task g = unfit _ (ap (λ s. idle_task (who h.shapes a) (mode_by (held h.shapes a h.past) s)) at ∙ queued_quits_none (who h.shapes a)) g.fits_in
-silent_at serves h a (Tick n) w at task g = unfit _ (and_none _ (is_tick n) (no_operator h.shapes a task)) g.fits_in
-silent_at serves h a Halt w at task g = unfit _ (no_operator h.shapes a task) g.fits_in
+silent_at : (h : History) (a : ℕ) (r : Request) (w : Recorded) → stance a h.past ≡ InQueue → nat_lt a 11 ≡ false → Answered h a r w → ⊥
+silent_at h a (Call o p vs) w at task g = unfit _ (and_none _ (call_fits (length (held h.shapes a h.past)) vs (target h.shapes o p)) (calls_not h a at)) g.fits_in
+silent_at h a (Complete vs x) w at task g = unfit _ (and_none _ _ (ap (λ s. in_body (mode_by (held h.shapes a h.past) s)) at)) g.fits_in
+silent_at h a Resume w at task g = waits_on h (halted h.past) w (sym (ap (λ s. recorded (due_resume h a s)) at) ∙ g.said)
+silent_at h a (DelayUntil t) w at task g = unfit _ (and_none _ (is_time t) (calls_not h a at)) g.fits_in
+silent_at h a Clock w at task g = unfit _ (calls_not h a at) g.fits_in
+silent_at h a Fire w at task g = unfit _ (ap (λ s. idle_line (who h.shapes a) (mode_by (held h.shapes a h.past) s)) at ∙ queued_fires_none (who h.shapes a)) g.fits_in
+silent_at h a Quit w at task g = unfit _ (ap (λ s. idle_task (who h.shapes a) (mode_by (held h.shapes a h.past) s)) at ∙ queued_quits_none (who h.shapes a)) g.fits_in
+silent_at h a (Tick n) w at task g = unfit _ (and_none _ (is_tick n) (no_operator h.shapes a task)) g.fits_in
+silent_at h a Halt w at task g = unfit _ (no_operator h.shapes a task) g.fits_in
 
-pub silent : (serves : Service) (h : History) (a : ℕ) (r : Request) (w : Recorded) → stance a h.past ≡ InQueue → nat_lt a 11 ≡ false → recorded (out serves h a r) ≡ Some w → ⊥
-silent serves h a r w at task e = silent_at serves h a r w at task (answered serves h a r w e)
+pub silent : (h : History) (a : ℕ) (r : Request) (w : Recorded) → stance a h.past ≡ InQueue → nat_lt a 11 ≡ false → recorded (out h a r) ≡ Some w → ⊥
+silent h a r w at task e = silent_at h a r w at task (answered h a r w e)
 
 -- What joined a queue.
 
@@ -172,10 +172,10 @@ not_open : (b : Bool) → not b ≡ true → b ≡ false
 not_open true e = absurd (off e)
 not_open false e = refl
 
-joins_at : (serves : Service) (h : History) (a o p : ℕ) (vs : List ℤ) (t : Target) → target h.shapes o p ≡ t → Answered serves h a (Call o p vs) Queued → recorded (due_call h a (Call o p vs) o t) ≡ Some Queued → Joins h a o p
-joins_at serves h a o p vs Nowhere is g e = absurd (cc)
-joins_at serves h a o p vs (OnSuspension unit name wanted) is g e = absurd (denied_or _ _ (version h) _ (never_performed (version h) _ _ _ wanted) e)
-joins_at serves h a o p vs (OnProtected s) is g e =
+joins_at : (h : History) (a o p : ℕ) (vs : List ℤ) (t : Target) → target h.shapes o p ≡ t → Answered h a (Call o p vs) Queued → recorded (due_call h a (Call o p vs) o t) ≡ Some Queued → Joins h a o p
+joins_at h a o p vs Nowhere is g e = absurd (cc)
+joins_at h a o p vs (OnSuspension unit name wanted) is g e = absurd (denied_or _ _ (version h) _ (never_performed (version h) _ _ _ wanted) e)
+joins_at h a o p vs (OnProtected s) is g e =
     let t : Tests (breaks h Rules.Blocking a (Call o p vs) o (OnProtected s)) (excluded h o (is_function s.operation.kind)) (is_barred h o s.operation.kind) (full_queue h o) = judged_queues _ _ _ _ _ _ _ _ _ _ e in
     let kind = both (is_entry s.operation.kind) (not (is_open h o)) t.shut in
     let calm : holds_any h a ≡ false = sym (and_true (holds_any h a)) ∙ ap (λ b. holds_any h a && b) (sym kind.0) ∙ t.calm in
@@ -194,10 +194,10 @@ joins_at serves h a o p vs (OnProtected s) is g e =
       none = none;
     }
 
-pub joins : (serves : Service) (h : History) (a o p : ℕ) (vs : List ℤ) → recorded (out serves h a (Call o p vs)) ≡ Some Queued → Joins h a o p
-joins serves h a o p vs e =
-    let g = answered serves h a (Call o p vs) Queued e in
-    joins_at serves h a o p vs (target h.shapes o p) refl g g.said
+pub joins : (h : History) (a o p : ℕ) (vs : List ℤ) → recorded (out h a (Call o p vs)) ≡ Some Queued → Joins h a o p
+joins h a o p vs e =
+    let g = answered h a (Call o p vs) Queued e in
+    joins_at h a o p vs (target h.shapes o p) refl g g.said
 
 -- What holds of a call in a queue: its actor is a task at that call, which holds nothing.
 pub record Waits (shapes : List Shape) (past : List Entry) (call : Body) : Type 0 where
@@ -247,11 +247,11 @@ others_stay shapes past a r w calls None is apart all = none_named shapes past a
 others_stay shapes past a r w calls (Some n) is apart all = one_named shapes past a r w n calls is apart all
 
 -- what joined
-new_wait : (serves : Service) (h : History) (a : ℕ) (r : Request) (w : Recorded) (q : Option Body) → queued_by (Asked a r w) ≡ q → recorded (out serves h a r) ≡ Some w → (calls : List Body) →
+new_wait : (h : History) (a : ℕ) (r : Request) (w : Recorded) (q : Option Body) → queued_by (Asked a r w) ≡ q → recorded (out h a r) ≡ Some w → (calls : List Body) →
     AllWait h.shapes (Asked a r w ∷ h.past) calls → AllWait h.shapes (Asked a r w ∷ h.past) (joined q calls)
-new_wait serves h a r w None is due calls all = all
-new_wait serves h a (Call o p vs) Queued (Some b) is due calls all =
-    let j = joins serves h a o p vs due in
+new_wait h a r w None is due calls all = all
+new_wait h a (Call o p vs) Queued (Some b) is due calls all =
+    let j = joins h a o p vs due in
     let self : Body = record { actor = a; object = o; operation = p } in
     let same : self ≡ b = some_is self b is in
     append_wait h.shapes (Asked a (Call o p vs) Queued ∷ h.past) calls b all (subst (λ c. Waits h.shapes (Asked a (Call o p vs) Queued ∷ h.past) c) same (record {
@@ -261,8 +261,8 @@ new_wait serves h a (Call o p vs) Queued (Some b) is due calls all =
       last = λ i. first_of (if itself a i then Some self else None) (last_queued a h.past);
       none = j.none;
     }))
-new_wait serves h a (Call o p vs) w (Some b) is due calls all = absurd (cc)
-new_wait serves h a r w (Some b) is due calls all = absurd (cc)
+new_wait h a (Call o p vs) w (Some b) is due calls all = absurd (cc)
+new_wait h a r w (Some b) is due calls all = absurd (cc)
 
 -- a load
 more_wait : (old more : List Shape) (past : List Entry) (e : Entry) (calls : List Body) → ((c : Body) → Waits old past c → Waits more (e ∷ past) c) → AllWait old past calls → AllWait more (e ∷ past) calls
@@ -274,21 +274,21 @@ more_tasks [] s = omega arith
 more_tasks (x ∷ old) s =
     omega (arith, more_tasks old s, length-append (tasks_of x) (all_tasks old), length-append (tasks_of x) (all_tasks (old ++ s ∷ [])))
 
-pub legal_waits : (serves : Service) (c : ℕ) (past : List Entry) (shapes : List Shape) (lists : List (List Words)) → IsLegal serves c past shapes lists → AllWait shapes past (waiting past)
-legal_waits serves c [] shapes lists l = tt
-legal_waits serves c (Asked a r w ∷ past) shapes lists l =
+pub legal_waits : (c : ℕ) (past : List Entry) (shapes : List Shape) (lists : List (List Words)) → IsLegal c past shapes lists → AllWait shapes past (waiting past)
+legal_waits c [] shapes lists l = tt
+legal_waits c (Asked a r w ∷ past) shapes lists l =
     let h : History = record { capacity = c; past = past; shapes = shapes; lists = lists } in
-    let before = legal_waits serves c past shapes lists l.0 in
-    new_wait serves h a r w (queued_by (Asked a r w)) refl l.1 _
+    let before = legal_waits c past shapes lists l.0 in
+    new_wait h a r w (queued_by (Asked a r w)) refl l.1 _
     (others_stay shapes past a r w (waiting past) (named_in (next_of (Asked a r w))) refl
-    (λ b v is. silent serves h a r w (ap (λ n. stance n past) (sym is) ∙ v.at) (ap (λ n. nat_lt n 11) (sym is) ∙ v.task) l.1)
+    (λ b v is. silent h a r w (ap (λ n. stance n past) (sym is) ∙ v.at) (ap (λ n. nat_lt n 11) (sym is) ∙ v.task) l.1)
     before)
-legal_waits serves c (Load ∷ past) shapes lists l =
-    let before = legal_waits serves c past l.0 lists l.3 in
-    let ways : under_way (l.0 ++ l.1 ∷ []) past ≡ under_way l.0 past = way_stays serves c past l.0 (l.1 ∷ []) lists l.3 in
+legal_waits c (Load ∷ past) shapes lists l =
+    let before = legal_waits c past l.0 lists l.3 in
+    let ways : under_way (l.0 ++ l.1 ∷ []) past ≡ under_way l.0 past = way_stays c past l.0 (l.1 ∷ []) lists l.3 in
     subst (λ (ss : List Shape). AllWait ss (Load ∷ past) (waiting past)) (sym l.2)
     (more_wait l.0 (l.0 ++ l.1 ∷ []) past Load (waiting past)
     (λ b v. record { at = v.at; task = v.task; known = omega (arith, v.known, more_tasks l.0 l.1); last = v.last; none = ap (λ bs. filter (λ c. c.actor == b.actor) bs) ways ∙ v.none }) before)
-legal_waits serves c (ListChange ∷ past) shapes lists l =
-    let before = legal_waits serves c past shapes l.0 l.3 in
+legal_waits c (ListChange ∷ past) shapes lists l =
+    let before = legal_waits c past shapes l.0 l.3 in
     more_wait shapes shapes past ListChange (waiting past) (λ b v. record { at = v.at; task = v.task; known = v.known; last = v.last; none = v.none }) before

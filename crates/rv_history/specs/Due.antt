@@ -29,7 +29,7 @@ use Rattle.rv_history.specs.Subject.{subject}
 use Rattle.rv_history.specs.Exclusion.{excluded, barrier_at, opens_on, is_barred, full_queue}
 use Rattle.rv_history.specs.Rules.{decided, granted, holds_any, breaks}
 use Rattle.rv_history.specs.Owed.{has_room}
-use Rattle.rv_history.specs.Fitting.{Service, fits}
+use Rattle.rv_history.specs.Fitting.{fits}
 
 -- the answer to a call of a protected operation, or to a fired line, from what is asked of it, in this order; a start
 -- carries the object's scalars
@@ -166,9 +166,9 @@ abbrev pub gate : Bool → Bool → Answer → Answer
 gate fitting shut answer = if not fitting then Misuse else (if shut then Halted else answer)
 
 -- what is due, before the room is asked
-abbrev pub due : Service → History → ℕ → Request → Answer
-due serves h actor request =
-    gate (fits serves h actor request) (halted h.past && not (goes_on request)) (table h actor request)
+abbrev pub due : History → ℕ → Request → Answer
+due h actor request =
+    gate (fits h actor request) (halted h.past && not (goes_on request)) (table h actor request)
 
 -- the room is enough for an answer: for one that isn't recorded it is
 abbrev pub enough : History → ℕ → Request → Option Recorded → Bool
@@ -180,7 +180,7 @@ abbrev pub within : Bool → Answer → Answer
 within has_enough answer = if has_enough then answer else Full
 
 -- the due answer
-abbrev pub out : Service → History → ℕ → Request → Answer
-out serves h actor request =
-    let answer = due serves h actor request in
+abbrev pub out : History → ℕ → Request → Answer
+out h actor request =
+    let answer = due h actor request in
     within (enough h actor request (recorded answer)) answer

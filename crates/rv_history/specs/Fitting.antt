@@ -148,10 +148,6 @@ fits_actor h actor Quit = idle_task (who h.shapes actor) (mode h.shapes actor h.
 fits_actor h actor (Tick n) = is_operator (who h.shapes actor) && is_tick n
 fits_actor h actor Halt = is_operator (who h.shapes actor)
 
--- the requests that a host serves: another doesn't fit
-abbrev pub Service : Type 0
-Service = History → ℕ → Request → Bool
-
--- the actor is one that there is, the request is served, and it fits the actor
-abbrev pub fits : Service → History → ℕ → Request → Bool
-fits serves h actor request = nat_lt actor (actors h.shapes) && (serves h actor request && fits_actor h actor request)
+-- the actor is one that there is, and the request fits it
+abbrev pub fits : History → ℕ → Request → Bool
+fits h actor request = nat_lt actor (actors h.shapes) && fits_actor h actor request

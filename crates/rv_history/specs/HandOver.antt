@@ -10,7 +10,7 @@ use Rattle.rv_history.specs.History.{History}
 use Rattle.rv_history.specs.Subject.{subject}
 use Rattle.rv_history.specs.Exclusion.{barrier_at, opens_on, is_open}
 use Rattle.rv_history.specs.Rules.{decided, granted}
-use Rattle.rv_history.specs.Fitting.{Service, fits}
+use Rattle.rv_history.specs.Fitting.{fits}
 
 abbrev pub is_complete : Request → Bool
 is_complete (Complete values exit) = true
@@ -18,9 +18,9 @@ is_complete request = false
 
 -- An end that leaves these values comes to a queued call: it fits and ends a body that isn't a function's, the host isn't
 -- halted, the barrier is open on the values, and the call is the first in the queue of the body's object.
-pub record Reaches (serves : Service) (h : History) (actor : ℕ) (values : List ℤ) (exit : Exit)
+pub record Reaches (h : History) (actor : ℕ) (values : List ℤ) (exit : Exit)
     (call : Body) : Type 0 where
-  pub fitting : fits serves h actor (Complete values exit) ≡ true
+  pub fitting : fits h actor (Complete values exit) ≡ true
   pub body : Body
   pub site : Site
   pub ending : innermost h.shapes actor h.past ≡ Some body
@@ -32,18 +32,18 @@ pub record Reaches (serves : Service) (h : History) (actor : ℕ) (values : List
   pub first : queue body.object h.past ≡ call ∷ behind
 
 -- the list in force grants the call to its caller
-pub record IsHandedOver (serves : Service) (h : History) (actor : ℕ) (values : List ℤ) (exit : Exit)
+pub record IsHandedOver (h : History) (actor : ℕ) (values : List ℤ) (exit : Exit)
     (caller : ℕ) : Type 0 where
   pub call : Body
-  pub reached : Reaches serves h actor values exit call
+  pub reached : Reaches h actor values exit call
   pub its : call.actor ≡ caller
   pub grant : granted h (subject h call.actor) (target h.shapes call.object call.operation) ≡ true
 
 -- it doesn't, and this line decides
-pub record IsDropped (serves : Service) (h : History) (actor : ℕ) (values : List ℤ) (exit : Exit)
+pub record IsDropped (h : History) (actor : ℕ) (values : List ℤ) (exit : Exit)
     (caller line : ℕ) : Type 0 where
   pub call : Body
-  pub reached : Reaches serves h actor values exit call
+  pub reached : Reaches h actor values exit call
   pub its : call.actor ≡ caller
   pub denial : granted h (subject h call.actor) (target h.shapes call.object call.operation) ≡ false
   pub line_is : line ≡ decided h (subject h call.actor) (target h.shapes call.object call.operation)

@@ -4,7 +4,6 @@ pub mod Exclusion
 pub mod Rules
 pub mod Owed
 pub mod Fitting
-pub mod Served
 pub mod Due
 pub mod Lists
 pub mod Legal

@@ -1,4 +1,4 @@
--- Worked rows (own): units, and commands with the answers that they get, every request taken as served.
+-- Worked rows (own): units, and commands with the answers that they get.
 use Rattle.std.specs.Prelude.{◌≡◌, ℕ, ◌+◌, Bool, true, false, List, [], ◌∷◌, ◌++◌, ℤ, pos, codes, Some, None}
 use Rattle.rv_access.specs.Words.{Words}
 use Rattle.rv_shape.specs.declared.kind.Range.{Range}
@@ -24,7 +24,6 @@ use Rattle.rv_shape.specs.Shape.{Shape}
 use Rattle.rv_history.specs.declared.command.Command.{Command}
 use Rattle.rv_history.specs.declared.command.Command.TheVariants.{Ask, Load, SetList, AppendLine, RemoveLine, ReplaceLine}
 use Rattle.rv_history.specs.History.{History}
-use Rattle.rv_history.specs.Served.{everything}
 use Rattle.rv_history.specs.Legal.{empty}
 use Rattle.rv_history.specs.Steps.{answers_to, history_after}
 
@@ -125,17 +124,17 @@ abbrev pub loads : List Command
 loads = Load plant ∷ Load nav ∷ []
 
 abbrev pub loaded : ℕ → List Words → History
-loaded capacity list = history_after everything (empty capacity) (loads ++ SetList list ∷ [])
+loaded capacity list = history_after (empty capacity) (loads ++ SetList list ∷ [])
 
 -- the commands, on these units under this list, get these answers
 abbrev pub Gives : List Words → List Command → List Answer → Type 0
-Gives list commands wanted = answers_to everything (loaded 4096 list) commands ≡ wanted
+Gives list commands wanted = answers_to (loaded 4096 list) commands ≡ wanted
 
 abbrev pub ok : Answer
 ok = Accepted (pos 0)
 
 abbrev pub NoList : Type 0
-NoList = answers_to everything (history_after everything (empty 4096) loads) (get pilot
+NoList = answers_to (history_after (empty 4096) loads) (get pilot
     ∷ []) ≡ Refused Rules.Grant 0 0 ∷ []
 
 abbrev pub DeniedCallGrantedFunction : Type 0
@@ -192,7 +191,7 @@ SubjectOfNestedCall = Gives (line true (codes "Nav") star star ∷ []) (get pilo
     ∷ pos 0 ∷ []) ∷ Refused Rules.Grant 0 1 ∷ [])
 
 abbrev pub FullAndHalted : Type 0
-FullAndHalted = answers_to everything (loaded 16 (allow_all ∷ []))
+FullAndHalted = answers_to (loaded 16 (allow_all ∷ []))
     (wait low_task ∷ set aux (pos 1) ∷ Ask operator (Tick (pos 1)) ∷ Ask operator (Tick (pos 1)) ∷ read aux
     ∷ Ask operator Halt ∷ ends aux (pos 1 ∷ pos 1 ∷ []) [] ∷ resume low_task ∷ [])
     ≡ Queued ∷ Started (pos 0 ∷ pos 0 ∷ []) ∷ ok ∷ ok ∷ Full ∷ ok ∷ Done Nothing ∷ Halted ∷ []
@@ -212,7 +211,7 @@ abbrev pub fire : ℕ → Command
 fire line = Ask (line + 1) Fire
 
 abbrev pub Interrupts : Type 0
-Interrupts = answers_to everything (empty 4096)
+Interrupts = answers_to (empty 4096)
     (Load device ∷ SetList (line true (codes "Interrupts") (codes "Dev.Latch") star ∷ []) ∷ fire 5 ∷ fire 4
     ∷ ends 5 (pos 1 ∷ []) [] ∷ fire 6 ∷ AppendLine (line false (codes "Interrupts") star (codes "Reset")) ∷ fire 4 ∷ [])
     ≡ ok ∷ ok ∷ Refused Rules.Ceiling 0 1 ∷ Started (pos 0 ∷ []) ∷ Done Nothing ∷ Unattached ∷ ok

@@ -6,7 +6,6 @@ use Rattle.rv_history.specs.declared.command.Command.{Command}
 use Rattle.rv_history.specs.declared.command.Command.TheVariants.{Ask, Load, SetList, AppendLine, RemoveLine, ReplaceLine}
 use Rattle.rv_history.specs.History.{History, force}
 use Rattle.rv_history.specs.Lists.{Change, Whole, Append, Remove, Replace, changed}
-use Rattle.rv_history.specs.Fitting.{Service}
 use Rattle.rv_history.specs.Due.{out, nothing_more}
 use Rattle.rv_history.specs.Legal.{after, out_load, after_load, out_list, after_list}
 
@@ -19,13 +18,13 @@ abbrev pub after_change : History → Change → Answer → History
 after_change h change answer = after_list h (changed (force h) change) answer
 
 -- the answer that is due to a command
-abbrev pub due_command : Service → History → Command → Answer
-due_command serves h (Ask actor request) = out serves h actor request
-due_command serves h (Load shape) = out_load h shape
-due_command serves h (SetList list) = due_change h (Whole list)
-due_command serves h (AppendLine line) = due_change h (Append line)
-due_command serves h (RemoveLine number) = due_change h (Remove number)
-due_command serves h (ReplaceLine number line) = due_change h (Replace number line)
+abbrev pub due_command : History → Command → Answer
+due_command h (Ask actor request) = out h actor request
+due_command h (Load shape) = out_load h shape
+due_command h (SetList list) = due_change h (Whole list)
+due_command h (AppendLine line) = due_change h (Append line)
+due_command h (RemoveLine number) = due_change h (Remove number)
+due_command h (ReplaceLine number line) = due_change h (Replace number line)
 
 -- the history after an answer to a command
 abbrev pub after_command : History → Command → Answer → History
@@ -41,31 +40,31 @@ abbrev pub MayLackMemory : Answer → Answer → Type 0
 MayLackMemory due answer = (answer ≡ due) ⊎ ((answer ≡ OutOfMemory) × (due ≡ nothing_more))
 
 -- an answer that a command may get
-abbrev pub IsAnswer : Service → History → Command → Answer → Type 0
-IsAnswer serves h (Ask actor request) answer = answer ≡ out serves h actor request
-IsAnswer serves h (Load shape) answer = MayLackMemory (out_load h shape) answer
-IsAnswer serves h (SetList list) answer = MayLackMemory (due_change h (Whole list)) answer
-IsAnswer serves h (AppendLine line) answer = MayLackMemory (due_change h (Append line)) answer
-IsAnswer serves h (RemoveLine number) answer = MayLackMemory (due_change h (Remove number)) answer
-IsAnswer serves h (ReplaceLine number line) answer = MayLackMemory (due_change h (Replace number line)) answer
+abbrev pub IsAnswer : History → Command → Answer → Type 0
+IsAnswer h (Ask actor request) answer = answer ≡ out h actor request
+IsAnswer h (Load shape) answer = MayLackMemory (out_load h shape) answer
+IsAnswer h (SetList list) answer = MayLackMemory (due_change h (Whole list)) answer
+IsAnswer h (AppendLine line) answer = MayLackMemory (due_change h (Append line)) answer
+IsAnswer h (RemoveLine number) answer = MayLackMemory (due_change h (Remove number)) answer
+IsAnswer h (ReplaceLine number line) answer = MayLackMemory (due_change h (Replace number line)) answer
 
 -- from h the commands may get these answers, and lead to k
-abbrev pub Steps : Service → History → List Command → List Answer → History → Type 0
-Steps serves h [] [] k = k ≡ h
-Steps serves h (command ∷ commands) (answer ∷ answers) k =
-    IsAnswer serves h command answer × Steps serves (after_command h command answer) commands answers k
-Steps serves h [] (answer ∷ answers) k = ⊥
-Steps serves h (command ∷ commands) [] k = ⊥
+abbrev pub Steps : History → List Command → List Answer → History → Type 0
+Steps h [] [] k = k ≡ h
+Steps h (command ∷ commands) (answer ∷ answers) k =
+    IsAnswer h command answer × Steps (after_command h command answer) commands answers k
+Steps h [] (answer ∷ answers) k = ⊥
+Steps h (command ∷ commands) [] k = ⊥
 
 -- the answers that are due to commands one after another, memory aside
-abbrev pub answers_to : Service → History → List Command → List Answer
-answers_to serves h [] = []
-answers_to serves h (command ∷ commands) =
-    let answer = due_command serves h command in
-    answer ∷ answers_to serves (after_command h command answer) commands
+abbrev pub answers_to : History → List Command → List Answer
+answers_to h [] = []
+answers_to h (command ∷ commands) =
+    let answer = due_command h command in
+    answer ∷ answers_to (after_command h command answer) commands
 
 -- the history that they lead to
-abbrev pub history_after : Service → History → List Command → History
-history_after serves h [] = h
-history_after serves h (command ∷ commands) =
-    history_after serves (after_command h command (due_command serves h command)) commands
+abbrev pub history_after : History → List Command → History
+history_after h [] = h
+history_after h (command ∷ commands) =
+    history_after (after_command h command (due_command h command)) commands

@@ -7,12 +7,11 @@ pub mod orderly;
 pub mod queues;
 pub mod refusals;
 pub mod room;
-pub mod service;
 pub mod starts;
 
 ghost use Rattle.rv_history.specs.Rows as rows;
 
-/// Worked examples follow from the definitions by computation, with every request taken as served.
+/// Worked examples follow from the definitions by computation.
 pub fn worked_rows()
     ensures no_list { rows.NoList }
     ensures denied_call_granted_function { rows.DeniedCallGrantedFunction }

@@ -5,7 +5,6 @@ ghost use Rattle.rv_shape.specs.Catalogue.{shares, target};
 ghost use Rattle.rv_event.specs.Past.{scalars, started};
 ghost use Rattle.rv_event.specs.declared.entry.Body.{Body};
 ghost use Rattle.rv_event.specs.declared.entry.Entry.{Entry};
-ghost use Rattle.rv_history.specs.Fitting.{Service};
 ghost use Rattle.rv_history.specs.History.{History};
 ghost use Rattle.rv_history.specs.Legal.{Legal};
 ghost use Rattle.rv_history.specs.Unended.{IsUnended};
@@ -13,8 +12,8 @@ ghost use Rattle.rv_history.specs.Unended.{IsUnended};
 /// The scalars of an object stay from the start of an exclusive body on it until that body's end.
 #[tactic(auto, using(crate::proofs::During::scalars_during))]
 pub fn scalars_stay_during_exclusive_bodies()
-    ensures { (serves : Service) (h : History) (later past : List Entry) (start : Entry) (body : Body) →
-        Legal serves h → h.past ≡ later ++ start ∷ past →
+    ensures { (h : History) (later past : List Entry) (start : Entry) (body : Body) →
+        Legal h → h.past ≡ later ++ start ∷ past →
         started h.shapes past start ≡ Some body →
         shares (target h.shapes body.object body.operation) ≡ false →
         IsUnended h.shapes body later (start ∷ past) →

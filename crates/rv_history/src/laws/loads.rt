@@ -4,22 +4,21 @@ ghost use Rattle.std.specs.Prelude.{◌≡◌, ◌++◌, ℕ, List, Some};
 ghost use Rattle.rv_shape.specs.Catalogue.{OnProtected, Site, UnitObject, place, target};
 ghost use Rattle.rv_event.specs.Past.{scalars, under_way};
 ghost use Rattle.rv_shape.specs.Shape.{Shape};
-ghost use Rattle.rv_history.specs.Fitting.{Service};
 ghost use Rattle.rv_history.specs.History.{History};
 ghost use Rattle.rv_history.specs.Legal.{Legal};
 
 /// What is under way stays when more shapes are loaded.
 #[tactic(auto, using(crate::proofs::Loaded::under_way_stays))]
 pub fn bodies_stay()
-    ensures { (serves : Service) (h : History) (more : List Shape) → Legal serves h →
+    ensures { (h : History) (more : List Shape) → Legal h →
         under_way (h.shapes ++ more) h.past ≡ under_way h.shapes h.past }
 {}
 
 /// So do the scalars of each object that there is.
 #[tactic(auto, using(crate::proofs::Loaded::scalars_stay))]
 pub fn scalars_stay()
-    ensures { (serves : Service) (h : History) (more : List Shape) (object : ℕ) (at : UnitObject) →
-        Legal serves h → place h.shapes object ≡ Some at →
+    ensures { (h : History) (more : List Shape) (object : ℕ) (at : UnitObject) →
+        Legal h → place h.shapes object ≡ Some at →
         scalars (h.shapes ++ more) object h.past ≡ scalars h.shapes object h.past }
 {}
 

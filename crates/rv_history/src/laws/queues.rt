@@ -11,7 +11,6 @@ ghost use Rattle.rv_event.specs.declared.entry.Request.TheVariants.{Complete};
 ghost use Rattle.rv_event.specs.declared.entry.Request.{Request};
 ghost use Rattle.rv_history.specs.Due.{out};
 ghost use Rattle.rv_history.specs.Exclusion.{is_open};
-ghost use Rattle.rv_history.specs.Fitting.{Service};
 ghost use Rattle.rv_history.specs.HandOver.{IsDropped, IsHandedOver, IsOnlyDropped, is_complete};
 ghost use Rattle.rv_history.specs.History.{History};
 ghost use Rattle.rv_history.specs.Legal.{Legal, after};
@@ -22,7 +21,7 @@ ghost use Rattle.rv_history.specs.Owed.{IsSolvent};
 /// closed barrier or an empty queue.
 #[tactic(auto, using(crate::proofs::Settled::free_settled))]
 pub fn free_objects_are_closed_or_unqueued()
-    ensures { (serves : Service) (h : History) (object : ℕ) → Legal serves h → halted h.past ≡ false →
+    ensures { (h : History) (object : ℕ) → Legal h → halted h.past ≡ false →
         list_any (is_exclusive_on h.shapes object) (under_way h.shapes h.past) ≡ false →
         (is_open h object ≡ false) ⊎ (queue object h.past ≡ []) }
 {}
@@ -31,33 +30,33 @@ pub fn free_objects_are_closed_or_unqueued()
 /// the host isn't halted, the barrier is open, the caller is first and the list in force grants its
 /// call.
 pub fn handed_over_exactly_when_granted()
-    ensures { (serves : Service) (h : History) (actor : ℕ) (values : List ℤ) (exit : Exit) (caller : ℕ) →
-        Legal serves h → IsSolvent h →
-        (out serves h actor (Complete values exit) ≡ Done (HandedTo caller))
-        ↔ IsHandedOver serves h actor values exit caller }
+    ensures { (h : History) (actor : ℕ) (values : List ℤ) (exit : Exit) (caller : ℕ) →
+        Legal h → IsSolvent h →
+        (out h actor (Complete values exit) ≡ Done (HandedTo caller))
+        ↔ IsHandedOver h actor values exit caller }
 {}
 
 /// It is dropped exactly where the list doesn't.
 pub fn dropped_exactly_when_denied()
-    ensures { (serves : Service) (h : History) (actor : ℕ) (values : List ℤ) (exit : Exit)
+    ensures { (h : History) (actor : ℕ) (values : List ℤ) (exit : Exit)
         (caller line : ℕ) →
-        Legal serves h → IsSolvent h →
-        (out serves h actor (Complete values exit) ≡ Done (Dropped caller line))
-        ↔ IsDropped serves h actor values exit caller line }
+        Legal h → IsSolvent h →
+        (out h actor (Complete values exit) ≡ Done (Dropped caller line))
+        ↔ IsDropped h actor values exit caller line }
 {}
 
 /// Nothing but an end is answered Done, so nothing else hands over or drops.
 pub fn only_ends_name_queued_callers()
-    ensures { (serves : Service) (h : History) (actor : ℕ) (request : Request) (next : Next) →
-        out serves h actor request ≡ Done next → is_complete request ≡ true }
+    ensures { (h : History) (actor : ℕ) (request : Request) (next : Next) →
+        out h actor request ≡ Done next → is_complete request ≡ true }
 {}
 
 /// A queued call that is found denied leaves its queue, and that is all that the denial changes.
 #[tactic(auto, using(crate::proofs::HandOver::only_dropped))]
 pub fn denials_only_drop()
-    ensures { (serves : Service) (h : History) (actor : ℕ) (values : List ℤ) (exit : Exit)
+    ensures { (h : History) (actor : ℕ) (values : List ℤ) (exit : Exit)
         (caller line : ℕ) →
-        Legal serves h → out serves h actor (Complete values exit) ≡ Done (Dropped caller line) →
+        Legal h → out h actor (Complete values exit) ≡ Done (Dropped caller line) →
         IsOnlyDropped h (after h actor (Complete values exit) (Done (Dropped caller line)))
         (after h actor (Complete values exit) (Done Nothing)) caller }
 {}

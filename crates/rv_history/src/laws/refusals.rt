@@ -5,7 +5,6 @@ ghost use Rattle.rv_event.specs.declared.entry.Answer.TheVariants.{Refused};
 ghost use Rattle.rv_event.specs.declared.entry.Request.{Request};
 ghost use Rattle.rv_event.specs.declared.entry.Rule.{Rule};
 ghost use Rattle.rv_history.specs.Due.{goes_on, out};
-ghost use Rattle.rv_history.specs.Fitting.{Service};
 ghost use Rattle.rv_history.specs.History.{History};
 ghost use Rattle.rv_history.specs.Legal.{after};
 ghost use Rattle.rv_history.specs.Refusal.{IsRefusal};
@@ -14,8 +13,8 @@ ghost use Rattle.rv_history.specs.Untouched.{Untouched};
 /// A refused request names the first rule that it violates, with the deciding line and the version
 /// of the list (an end or a quit is never refused, and a resume tells of a refusal that was).
 pub fn refusals_name_the_first_rule()
-    ensures { (serves : Service) (h : History) (actor : ℕ) (request : Request) (rule : Rule) (line version : ℕ) →
-        goes_on request ≡ false → out serves h actor request ≡ Refused rule line version →
+    ensures { (h : History) (actor : ℕ) (request : Request) (rule : Rule) (line version : ℕ) →
+        goes_on request ≡ false → out h actor request ≡ Refused rule line version →
         IsRefusal h actor request rule line version }
 {}
 

@@ -8,7 +8,6 @@ ghost use Rattle.rv_event.specs.declared.entry.Entry.TheVariants.{Asked};
 ghost use Rattle.rv_event.specs.declared.entry.Recorded.TheVariants.{Started};
 ghost use Rattle.rv_event.specs.declared.entry.Request.{Request};
 ghost use Rattle.rv_history.specs.Due.{out};
-ghost use Rattle.rv_history.specs.Fitting.{Service};
 ghost use Rattle.rv_history.specs.Headline.{IsAllowed};
 ghost use Rattle.rv_history.specs.History.{History};
 ghost use Rattle.rv_history.specs.Owed.{has_room};
@@ -16,16 +15,16 @@ ghost use Rattle.rv_history.specs.Owed.{has_room};
 /// Where there is room for it, a request is answered Started exactly when it is allowed.
 #[tactic(auto, using(crate::proofs::Exactly::exactly))]
 pub fn starts_exactly_when_allowed()
-    ensures { (serves : Service) (h : History) (actor : ℕ) (request : Request) →
+    ensures { (h : History) (actor : ℕ) (request : Request) →
         has_room h.capacity h.shapes (Asked actor request Started ∷ h.past) ≡ true →
-        (recorded (out serves h actor request) ≡ Some Started) ↔ IsAllowed serves h actor request }
+        (recorded (out h actor request) ≡ Some Started) ↔ IsAllowed h actor request }
 {}
 
 /// The caller of a body that starts gets its object's scalars.
 #[tactic(auto, using(crate::proofs::Exactly::allowed_starts))]
 pub fn start_gives_the_scalars()
-    ensures { (serves : Service) (h : History) (actor : ℕ) (request : Request)
-        (allowed : IsAllowed serves h actor request) →
+    ensures { (h : History) (actor : ℕ) (request : Request)
+        (allowed : IsAllowed h actor request) →
         has_room h.capacity h.shapes (Asked actor request Started ∷ h.past) ≡ true →
-        out serves h actor request ≡ answers.Started (scalars h.shapes allowed.object h.past) }
+        out h actor request ≡ answers.Started (scalars h.shapes allowed.object h.past) }
 {}
