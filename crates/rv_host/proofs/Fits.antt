@@ -7,7 +7,6 @@ use Rattle.rv_event.specs.declared.entry.Request.TheVariants.{Call, Resume}
 use Rattle.rv_history.specs.History.{History}
 use Rattle.rv_history.specs.Owed.{actors}
 use Rattle.rv_history.specs.Rules.{is_protected}
-use Rattle.rv_history.specs.Served.{served, is_settled}
 use Rattle.rv_history.specs.Fitting.{fits, fits_actor}
 
 both : (a b : Bool) → (a && b) ≡ true → (a ≡ true) × (b ≡ true)

@@ -15,7 +15,6 @@ use Rattle.rv_event.specs.declared.entry.Entry.TheVariants.{Load}
 use Rattle.rv_history.specs.History.{History}
 use Rattle.rv_history.specs.Owed.{has_room, each, dues, halt_due, actors}
 use Rattle.rv_history.specs.Legal.{Legal}
-use Rattle.rv_history.specs.Served.{served}
 use Rattle.rv_history.proofs.Loaded.{under_way_stays}
 
 tasks_append : (old more : List Shape) → length (all_tasks (old ++ more)) ≡ length (all_tasks old) + length (all_tasks more)

@@ -7,7 +7,6 @@ ghost use Rattle.rv_history.specs.Fitting as fitting;
 ghost use Rattle.rv_shape.specs.Readers.{target_of};
 ghost use Rattle.rv_history.specs.Owed.{actors};
 ghost use Rattle.rv_history.specs.Rules.{is_protected};
-ghost use Rattle.rv_history.specs.Served.{is_settled, served};
 ghost use Rattle.rv_host.specs.Seen.{IsSeen, history_of};
 
 use crate::asking::count_held;
