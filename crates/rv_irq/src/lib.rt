@@ -1,7 +1,7 @@
 //! The interrupt lines, their handlers and their priorities (ISO/IEC 8652:2012, C.3, C.3.1 and D.3).
 #![tactic(auto)]
 
-ghost use Rattle.std.specs.Prelude.{◌≡◌, ◌<◌, ◌+◌, None, Some, replicate, slice_set};
+ghost use Rattle.std.specs.Prelude.{◌≡◌, ◌<◌, ◌+◌, ℕ, None, Some, replicate, slice_set};
 
 use std::marker::Model;
 
@@ -42,8 +42,10 @@ impl Lines {
     ghost use Rattle.rv_irq.specs.Handlers.{handler_of};
 
     /// Lines without handlers.
+    #[tactic(auto, using(crate::proofs::Attaching::none))]
     pub fn new() -> Lines
-        ensures { result ≡ replicate LINES None }
+        ensures value { result ≡ replicate LINES None }
+        ensures free { (line : ℕ) → handler_of result line ≡ None }
     {
         Lines {
             handlers: [None; LINES],
@@ -61,10 +63,12 @@ impl Lines {
     }
 
     /// Attaches a handler to a line, 0 .. 9, that has none.
+    #[tactic(auto, using(crate::proofs::Attaching::own))]
     pub fn attach(&mut self, line: usize, handler: Handler)
         requires there { line < LINES }
         requires free { handler_of self.old line ≡ None }
-        ensures { self.new ≡ slice_set self.old line (Some handler) }
+        ensures value { self.new ≡ slice_set self.old line (Some handler) }
+        ensures attached { handler_of self.new line ≡ Some handler }
     {
         self.handlers[line] = Some(handler);
     }
