@@ -55,7 +55,7 @@ queued_quits_none (Line line) = refl
 queued_quits_none (Task task) = refl
 queued_quits_none Nobody = refl
 
-no_operator : (shapes : List Shape) (a : ℕ) → nat_lt a 11 ≡ false → is_operator (who shapes a) ≡ false
+pub no_operator : (shapes : List Shape) (a : ℕ) → nat_lt a 11 ≡ false → is_operator (who shapes a) ≡ false
 no_operator shapes a e =
     let other : (a == 0) ≡ false = grind (arith, nat_tests) in
     ap (λ (p : Bool × Bool). is_operator (if p.0 then Operator else (if p.1 then Line (a - 1) else task_of (slice_get (all_tasks shapes) (a - 11))))) (λ i. (other i, e i))
@@ -73,7 +73,7 @@ waits_on h true w e = cc
 waits_on h false w e = cc
 
 -- a request that doesn't fit isn't recorded
-unfit : (b : Bool) → b ≡ false → b ≡ true → ⊥
+pub unfit : (b : Bool) → b ≡ false → b ≡ true → ⊥
 unfit b e f = off (sym e ∙ f)
 
 silent_at : (h : History) (a : ℕ) (r : Request) (w : Recorded) → stance a h.past ≡ InQueue → nat_lt a 11 ≡ false → Answered h a r w → ⊥
@@ -269,7 +269,7 @@ more_wait : (old more : List Shape) (past : List Entry) (e : Entry) (calls : Lis
 more_wait old more past e [] stays all = tt
 more_wait old more past e (c ∷ cs) stays all = (stays c all.0, more_wait old more past e cs stays all.1)
 
-more_tasks : (old : List Shape) (s : Shape) → actors old ≤ actors (old ++ s ∷ [])
+pub more_tasks : (old : List Shape) (s : Shape) → actors old ≤ actors (old ++ s ∷ [])
 more_tasks [] s = omega arith
 more_tasks (x ∷ old) s =
     omega (arith, more_tasks old s, length-append (tasks_of x) (all_tasks old), length-append (tasks_of x) (all_tasks (old ++ s ∷ [])))

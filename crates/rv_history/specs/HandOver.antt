@@ -1,16 +1,20 @@
 -- What becomes of a queued caller at the end of a body (9.5.3, own).
 use Rattle.std.specs.Prelude.{◌≡◌, ◌≢◌, ℕ, ℤ, Bool, true, false, List, [], ◌∷◌, Some}
 use Rattle.rv_shape.specs.Catalogue.{Site, OnProtected, place, target, is_function}
-use Rattle.rv_event.specs.Past.{halted, held, innermost, mode, queue, scalars}
+use Rattle.rv_event.specs.Past.{halted, held, innermost, last_queued, mode, queue, scalars}
 use Rattle.rv_event.specs.declared.entry.Body.{Body}
+use Rattle.rv_event.specs.declared.entry.Answer.TheVariants.{Woken}
+use Rattle.rv_event.specs.declared.entry.Entry.{Entry}
 use Rattle.rv_event.specs.declared.entry.Exit.{Exit}
+use Rattle.rv_event.specs.declared.entry.Mode.TheVariants.{Handed}
 use Rattle.rv_event.specs.declared.entry.Request.{Request}
-use Rattle.rv_event.specs.declared.entry.Request.TheVariants.{Complete}
+use Rattle.rv_event.specs.declared.entry.Request.TheVariants.{Complete, Resume}
 use Rattle.rv_history.specs.History.{History}
 use Rattle.rv_history.specs.Subject.{subject}
 use Rattle.rv_history.specs.Exclusion.{barrier_at, opens_on, is_open}
 use Rattle.rv_history.specs.Rules.{decided, granted}
 use Rattle.rv_history.specs.Fitting.{fits}
+use Rattle.rv_history.specs.Due.{out}
 
 abbrev pub is_complete : Request → Bool
 is_complete (Complete values exit) = true
@@ -47,6 +51,20 @@ pub record IsDropped (h : History) (actor : ℕ) (values : List ℤ) (exit : Exi
   pub its : call.actor ≡ caller
   pub denial : granted h (subject h call.actor) (target h.shapes call.object call.operation) ≡ false
   pub line_is : line ≡ decided h (subject h call.actor) (target h.shapes call.object call.operation)
+
+-- An end after this past left these values and handed over. The caller held nothing, and now holds its queued call's
+-- body, on the object of the end; it is handed, and will be woken with those values.
+pub record IsHanded (h : History) (past : List Entry) (actor : ℕ) (values : List ℤ) (caller : ℕ) : Type 0 where
+  pub body : Body
+  pub ending : innermost h.shapes actor past ≡ Some body
+  pub call : Body
+  pub queued : last_queued caller past ≡ Some call
+  pub its : call.actor ≡ caller
+  pub there : call.object ≡ body.object
+  pub held_before : held h.shapes caller past ≡ []
+  pub holds : held h.shapes caller h.past ≡ call ∷ []
+  pub is_handed : mode h.shapes caller h.past ≡ Handed
+  pub wakes : out h caller Resume ≡ Woken (Some values)
 
 -- A denial leads to a history in which the caller has left its queue; all else is as where the same end named nobody.
 pub record IsOnlyDropped (h dropped ended : History) (caller : ℕ) : Type 0 where

@@ -11,7 +11,11 @@ pub mod Steps
 pub mod Headline
 pub mod HandOver
 pub mod Orderly
+pub mod Frame
+pub mod Suspension
+pub mod Closing
 pub mod Refusal
 pub mod Unended
 pub mod Untouched
+pub mod Journal
 pub mod Rows

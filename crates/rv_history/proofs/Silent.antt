@@ -1,0 +1,200 @@
+-- Whom an end names waits in a queue, so whoever doesn't is named by nobody; one that has quit asks nothing that is
+-- recorded, and there is nobody beyond the actors.
+use Rattle.std.proofs.Common.{◌≡◌, ◌≢◌, ℕ, ◌<◌, ◌≤◌, List, [], ◌∷◌, ◌++◌, length, Some, None, Option, Bool, true, false, arith, ap, subst, sym, ◌∙◌, refl}
+use Rattle.std.specs.Prelude.{nat_lt, ◌==◌, ◌||◌}
+use Rattle.std.specs.List.{list_all, list_any}
+use Rattle.std.proofs.lemmas.Bool.Decides.{nat_tests}
+use Rattle.rv_access.specs.Words.{Words}
+use Rattle.rv_shape.specs.Shape.{Shape}
+use Rattle.rv_shape.specs.Catalogue.{Who, Operator, Line, Task, Nobody, target, who}
+use Rattle.rv_event.specs.Past.{held, is_named, is_own, mode, mode_by, named_in, names, next_of, or_else, stance}
+use Rattle.rv_event.specs.Recorded.{recorded}
+use Rattle.rv_event.specs.declared.entry.Body.{Body}
+use Rattle.rv_event.specs.declared.entry.Entry.{Entry}
+use Rattle.rv_event.specs.declared.entry.Entry.TheVariants.{Asked, Load, ListChange}
+use Rattle.rv_event.specs.declared.entry.Mode.TheVariants as Modes
+use Rattle.rv_event.specs.declared.entry.Next.{Next}
+use Rattle.rv_event.specs.declared.entry.Next.TheVariants.{Nothing, HandedTo, Dropped}
+use Rattle.rv_event.specs.declared.entry.Recorded.{Recorded}
+use Rattle.rv_event.specs.declared.entry.Recorded.TheVariants.{Started, Queued, Refused, Done, Suspended, Delayed, Woken, Accepted}
+use Rattle.rv_event.specs.declared.entry.Request.{Request}
+use Rattle.rv_event.specs.declared.entry.Request.TheVariants.{Call, Complete, Resume, DelayUntil, Clock, Fire, Quit, Tick, Halt}
+use Rattle.rv_event.specs.declared.entry.Stance.{Stance}
+use Rattle.rv_event.specs.declared.entry.Stance.TheVariants.{Free, InQueue, HandedOver, DroppedBy, WaitsOn, WaitsUntil, Gone}
+use Rattle.rv_history.specs.Due.{out}
+use Rattle.rv_history.specs.Fitting.{awaits, call_fits, fits_actor, idle_line, idle_task, in_body, is_operator, is_tick, is_time, may_call}
+use Rattle.rv_history.specs.Frame.{is_apart}
+use Rattle.rv_history.specs.HandOver.{is_complete}
+use Rattle.rv_history.specs.History.{History}
+use Rattle.rv_history.specs.Legal.{IsLegal, Legal}
+use Rattle.rv_history.specs.Owed.{actors}
+use Rattle.rv_history.proofs.Answered.{off, and_none, Answered, answered}
+use Rattle.rv_history.proofs.Ending.{head_waits, names_at}
+use Rattle.rv_history.proofs.Frame.{all_more, apart_of, stance_stays, unsaid}
+use Rattle.rv_history.proofs.HandOver.{done_at_ends}
+use Rattle.rv_history.proofs.Stances.{below, same_number}
+use Rattle.rv_history.proofs.Waits.{Waits, legal_waits, more_tasks, no_operator, unfit}
+
+-- Whom an end names
+
+pub record IsQueued (h : History) (n : ℕ) : Type 0 where
+  pub call : Body
+  pub its : call.actor ≡ n
+  pub waits : Waits h.shapes h.past call
+
+named_next : (h : History) (a : ℕ) (r : Request) (next : Next) (n : ℕ) → Legal h → recorded (out h a r) ≡ Some (Done next) → named_in next ≡ Some n → IsQueued h n
+named_next h a r next n l e f = by_request r (done_at_ends h a r next e) e
+  where
+    by_request : (r : Request) → is_complete r ≡ true → recorded (out h a r) ≡ Some (Done next) → IsQueued h n
+    by_request (Complete vs x) is e =
+        let q = (names_at h a vs x next n e f).served_by in
+        record { call = q.call; its = q.is_its; waits = head_waits h.shapes h.past _ q.call q.rest (legal_waits h.capacity h.past h.shapes h.lists l) q.queued }
+    by_request (Call o p vs) is e = absurd (off is)
+    by_request Resume is e = absurd (off is)
+    by_request (DelayUntil t) is e = absurd (off is)
+    by_request Clock is e = absurd (off is)
+    by_request Fire is e = absurd (off is)
+    by_request Quit is e = absurd (off is)
+    by_request (Tick m) is e = absurd (off is)
+    by_request Halt is e = absurd (off is)
+
+the_named : (o : Option ℕ) (n : ℕ) → is_named n o ≡ true → o ≡ Some n
+the_named None n e = absurd (off e)
+the_named (Some m) n e = ap (λ k. Some k) (same_number m n e)
+
+pub named_queued : (h : History) (a : ℕ) (r : Request) (w : Recorded) (n : ℕ) → Legal h → recorded (out h a r) ≡ Some w → names n (Asked a r w) ≡ true → IsQueued h n
+named_queued h a r (Done next) n l e f = named_next h a r next n l e (the_named (named_in next) n f)
+named_queued h a r Started n l e f = absurd (off f)
+named_queued h a r Queued n l e f = absurd (off f)
+named_queued h a r (Refused rule line version) n l e f = absurd (off f)
+named_queued h a r Suspended n l e f = absurd (off f)
+named_queued h a r Delayed n l e f = absurd (off f)
+named_queued h a r Woken n l e f = absurd (off f)
+named_queued h a r (Accepted value) n l e f = absurd (off f)
+
+abbrev pub is_queued : Stance → Bool
+is_queued Free = false
+is_queued InQueue = true
+is_queued HandedOver = false
+is_queued (DroppedBy line) = false
+is_queued (WaitsOn object) = false
+is_queued (WaitsUntil time) = false
+is_queued Gone = false
+
+pub unnamed : (h : History) (a : ℕ) (r : Request) (w : Recorded) (n : ℕ) → Legal h → recorded (out h a r) ≡ Some w → is_queued (stance n h.past) ≡ false → names n (Asked a r w) ≡ false
+unnamed h a r w n l e calm = by_test (names n (Asked a r w)) refl
+  where
+    by_test : (b : Bool) → names n (Asked a r w) ≡ b → b ≡ false
+    by_test true f =
+        let q = named_queued h a r w n l e f in
+        absurd (off (sym calm ∙ ap is_queued (ap (λ m. stance m h.past) (sym q.its) ∙ q.waits.at)))
+    by_test false f = refl
+
+neither : (b c : Bool) → (b || c) ≡ false → (b ≡ false) × (c ≡ false)
+neither true c e = absurd (off (sym e))
+neither false c e = (refl, e)
+
+-- Whoever isn't queued, and asks nothing that is recorded, stays what it is
+
+pub apart_while : (c : ℕ) (later past : List Entry) (shapes : List Shape) (lists : List (List Words)) (n : ℕ) → IsLegal c (later ++ past) shapes lists → is_queued (stance n past) ≡ false → list_any (is_own n) later ≡ false →
+    list_all (is_apart n) later ≡ true
+apart_while c [] past shapes lists n l calm none = refl
+apart_while c (Asked a r w ∷ later) past shapes lists n l calm none =
+    let h : History = record { capacity = c; past = later ++ past; shapes = shapes; lists = lists } in
+    let parts = neither (a == n) (list_any (is_own n) later) none in
+    let rest = apart_while c later past shapes lists n l.0 calm parts.1 in
+    let still : is_queued (stance n (later ++ past)) ≡ false = ap is_queued (stance_stays n later past rest) ∙ calm in
+    all_more (is_apart n) (Asked a r w) later (apart_of n (Asked a r w) parts.0 (unnamed h a r w n l.0 l.1 still)) rest
+apart_while c (Load ∷ later) past shapes lists n l calm none = apart_while c later past l.0 lists n l.3 calm none
+apart_while c (ListChange ∷ later) past shapes lists n l calm none = apart_while c later past shapes l.0 n l.3 calm none
+
+-- One that has quit
+
+calls_none : (w : Who) → may_call w Modes.Ended ≡ false
+calls_none Operator = refl
+calls_none (Line line) = refl
+calls_none (Task task) = refl
+calls_none Nobody = refl
+
+fires_none : (w : Who) → idle_line w Modes.Ended ≡ false
+fires_none Operator = refl
+fires_none (Line line) = refl
+fires_none (Task task) = refl
+fires_none Nobody = refl
+
+quits_none : (w : Who) → idle_task w Modes.Ended ≡ false
+quits_none Operator = refl
+quits_none (Line line) = refl
+quits_none (Task task) = refl
+quits_none Nobody = refl
+
+gone_at : (h : History) (a : ℕ) (r : Request) (w : Recorded) → stance a h.past ≡ Gone → nat_lt a 11 ≡ false → Answered h a r w → ⊥
+gone_at h a r w at task g = by_request r g.fits_in
+  where
+    ended : mode h.shapes a h.past ≡ Modes.Ended
+    ended = ap (mode_by (held h.shapes a h.past)) at
+
+    calls : may_call (who h.shapes a) (mode h.shapes a h.past) ≡ false
+    calls = ap (may_call (who h.shapes a)) ended ∙ calls_none (who h.shapes a)
+
+    by_request : (r : Request) → fits_actor h a r ≡ true → ⊥
+    by_request (Call o p vs) f = unfit _ (and_none _ (call_fits (length (held h.shapes a h.past)) vs (target h.shapes o p)) calls) f
+    by_request (Complete vs x) f = unfit _ (and_none _ _ (ap in_body ended)) f
+    by_request Resume f = unfit _ (ap awaits ended) f
+    by_request (DelayUntil t) f = unfit _ (and_none _ (is_time t) calls) f
+    by_request Clock f = unfit _ calls f
+    by_request Fire f = unfit _ (ap (idle_line (who h.shapes a)) ended ∙ fires_none (who h.shapes a)) f
+    by_request Quit f = unfit _ (ap (idle_task (who h.shapes a)) ended ∙ quits_none (who h.shapes a)) f
+    by_request (Tick n) f = unfit _ (and_none _ (is_tick n) (no_operator h.shapes a task)) f
+    by_request Halt f = unfit _ (no_operator h.shapes a task) f
+
+gone_other : (h : History) (a : ℕ) (r : Request) (w : Recorded) (n : ℕ) → recorded (out h a r) ≡ Some w → stance n h.past ≡ Gone → nat_lt n 11 ≡ false → (a == n) ≡ false
+gone_other h a r w n e gone task = by_test (a == n) refl
+  where
+    by_test : (b : Bool) → (a == n) ≡ b → b ≡ false
+    by_test true is =
+        let same : a ≡ n = same_number a n is in
+        absurd (gone_at h a r w (ap (λ m. stance m h.past) same ∙ gone) (ap (λ m. nat_lt m 11) same ∙ task) (answered h a r w e))
+    by_test false is = refl
+
+-- adds no entry, and none names it
+pub gone_apart : (c : ℕ) (later past : List Entry) (shapes : List Shape) (lists : List (List Words)) (n : ℕ) → IsLegal c (later ++ past) shapes lists → stance n past ≡ Gone → nat_lt n 11 ≡ false →
+    list_all (is_apart n) later ≡ true
+gone_apart c [] past shapes lists n l gone task = refl
+gone_apart c (Asked a r w ∷ later) past shapes lists n l gone task =
+    let h : History = record { capacity = c; past = later ++ past; shapes = shapes; lists = lists } in
+    let rest = gone_apart c later past shapes lists n l.0 gone task in
+    let still : stance n (later ++ past) ≡ Gone = stance_stays n later past rest ∙ gone in
+    all_more (is_apart n) (Asked a r w) later (apart_of n (Asked a r w) (gone_other h a r w n l.1 still task) (unnamed h a r w n l.0 l.1 (ap is_queued still))) rest
+gone_apart c (Load ∷ later) past shapes lists n l gone task = gone_apart c later past l.0 lists n l.3 gone task
+gone_apart c (ListChange ∷ later) past shapes lists n l gone task = gone_apart c later past shapes l.0 n l.3 gone task
+
+-- There is nobody beyond the actors
+
+apart_numbers : (a n : ℕ) → a < n → (a == n) ≡ false
+apart_numbers a n less = grind (arith, nat_tests)
+
+above : (n m : ℕ) → nat_lt n m ≡ false → m ≤ n
+above n m e = grind (arith, nat_tests)
+
+pub beyond_free : (c : ℕ) (past : List Entry) (shapes : List Shape) (lists : List (List Words)) (n : ℕ) → IsLegal c past shapes lists → actors shapes ≤ n → stance n past ≡ Free
+beyond_free c [] shapes lists n l high = refl
+beyond_free c (Asked a r w ∷ past) shapes lists n l high =
+    let h : History = record { capacity = c; past = past; shapes = shapes; lists = lists } in
+    let before = beyond_free c past shapes lists n l.0 high in
+    let low : a < actors shapes = below a (actors shapes) (answered h a r w l.1).known in
+    let other : (a == n) ≡ false = apart_numbers a n (omega (arith, low, high)) in
+    ap (λ s. or_else s (stance n past)) (unsaid n (Asked a r w) (apart_of n (Asked a r w) other (unnamed h a r w n l.0 l.1 (ap is_queued before)))) ∙ before
+beyond_free c (Load ∷ past) shapes lists n l high =
+    let more : actors l.0 ≤ actors (l.0 ++ l.1 ∷ []) = more_tasks l.0 l.1 in
+    let whole : actors shapes ≡ actors (l.0 ++ l.1 ∷ []) = ap actors l.2 in
+    beyond_free c past l.0 lists n l.3 (omega (arith, more, whole, high))
+beyond_free c (ListChange ∷ past) shapes lists n l high = beyond_free c past shapes l.0 n l.3 high
+
+-- so whoever is at something is there
+pub known_actor : (h : History) (n : ℕ) → Legal h → (stance n h.past ≡ Free → ⊥) → n < actors h.shapes
+known_actor h n l busy = by_test (nat_lt n (actors h.shapes)) refl
+  where
+    by_test : (b : Bool) → nat_lt n (actors h.shapes) ≡ b → n < actors h.shapes
+    by_test true e = below n (actors h.shapes) e
+    by_test false e = absurd (busy (beyond_free h.capacity h.past h.shapes h.lists n l (above n (actors h.shapes) e)))
