@@ -90,7 +90,7 @@ unnamed h a r w n l e calm = by_test (names n (Asked a r w)) refl
         absurd (off (sym calm ∙ ap is_queued (ap (λ m. stance m h.past) (sym q.its) ∙ q.waits.at)))
     by_test false f = refl
 
-neither : (b c : Bool) → (b || c) ≡ false → (b ≡ false) × (c ≡ false)
+pub neither : (b c : Bool) → (b || c) ≡ false → (b ≡ false) × (c ≡ false)
 neither true c e = absurd (off (sym e))
 neither false c e = (refl, e)
 
