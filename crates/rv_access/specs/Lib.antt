@@ -1,4 +1,5 @@
 pub mod Words
+pub mod Spelled
 pub mod Lines
 pub mod Changes
 pub mod Reading

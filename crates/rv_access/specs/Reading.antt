@@ -1,9 +1,10 @@
 -- What the text of a list gives, line by line, and its first fault (own).
-use Rattle.std.specs.Prelude.{◌≡◌, ℕ, ◌+◌, Bool, true, false, not, ◌==◌, ◌&&◌, ◌||◌, nat_le, if◌then◌else◌, List, [], ◌∷◌, ◌++◌, length, codes, is_some, Result, Ok, Err}
+use Rattle.std.specs.Prelude.{◌≡◌, ℕ, ◌+◌, Bool, true, false, not, ◌==◌, ◌&&◌, nat_le, if◌then◌else◌, List, [], ◌∷◌, ◌++◌, length, codes, Result, Ok, Err}
 use Rattle.std.specs.Str.{bytes_eq}
 use Rattle.std.specs.Str.Lines.{lines}
 use Rattle.rv_text.specs.Words.{words, is_some_word}
-use Rattle.rv_text.specs.Names.{is_identifier, dotted_parts}
+use Rattle.rv_text.specs.Names.{is_identifier}
+use Rattle.rv_access.specs.Spelled.{is_star_or, is_dotted}
 use Rattle.rv_access.specs.Words.{Words}
 use Rattle.rv_access.specs.declared.fault.ListFault.{ListFault}
 use Rattle.rv_access.specs.declared.fault.ListFault.TheVariants.{BadWord, BadName, TooMany, NoMemory}
@@ -21,14 +22,6 @@ Fails fault read = read ≡ Err fault
 abbrev pub Gives : {Y : Type 0} → Result Y ListFault → Result Y ListFault → Type 0
 Gives (Ok x) read = read ≡ Ok x
 Gives (Err fault) read = Fails fault read
-
--- `*`, or a word of the form
-abbrev pub is_star_or : (List ℕ → Bool) → List ℕ → Bool
-is_star_or form word = bytes_eq word (codes "*") || form word
-
--- two identifiers with a dot between them
-abbrev pub is_dotted : List ℕ → Bool
-is_dotted word = is_some (dotted_parts word)
 
 abbrev pub named : ℕ → Bool → List ℕ → List ℕ → List ℕ → Result Words ListFault
 named number allow unit object operation =

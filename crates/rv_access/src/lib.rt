@@ -13,6 +13,3 @@ pub use fault::ListFault;
 pub use line::Line;
 pub use list::AccessList;
 pub use reading::{MOST_LINES, read_line, read_list};
-
-#[cfg(test)]
-mod tests;

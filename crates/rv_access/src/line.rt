@@ -1,13 +1,15 @@
 //! One line of an access list.
 
-ghost use Rattle.std.specs.Prelude.{◌≡◌, IfOk, string_bytes};
+ghost use Rattle.std.specs.Prelude.{◌≡◌, IfOk, IsTrue, string_bytes};
+ghost use Rattle.rv_text.specs.Names.{is_identifier};
+ghost use Rattle.rv_access.specs.Spelled.{IsSpelled, is_star_or, is_dotted};
 ghost use Rattle.rv_access.specs.Text.{line_text};
 
 use std::alloc::{AllocError, Global};
 use std::marker::Model;
 
 /// One line of a list: `allow` or `deny`, a unit, a `Unit.Object` and an operation, each a name as
-/// written or `*`.
+/// written or `*`. There is no line that a text couldn't hold.
 #[derive(Clone, Drop)]
 pub struct Line {
     // Whether it allows what it matches.
@@ -22,15 +24,19 @@ pub struct Line {
 
 impl Model for Line {
     ghost use Rattle.rv_access.specs.Words.{Words};
+    ghost use Rattle.rv_access.specs.Spelled.{IsSpelled};
     ghost use Rattle.std.specs.Prelude.{string_bytes};
 
     ghost Value = { Words };
 
     ghost view = { λ l. record { allow = l.allow; unit = string_bytes l.unit; object = string_bytes l.object; operation = string_bytes l.operation } };
+
+    ghost invariant = { λ l. IsSpelled (record { allow = l.allow; unit = string_bytes l.unit; object = string_bytes l.object; operation = string_bytes l.operation }) };
 }
 
 impl Line {
-    /// A line of these words. Err where memory was refused.
+    /// A line of these words, each of which must be `*` or a name: of a unit, of an object as
+    /// `Unit.Object`, and of an operation. Err where memory was refused.
     pub fn new(
         alloc: Global,
         allow: bool,
@@ -38,6 +44,9 @@ impl Line {
         object: &str,
         operation: &str,
     ) -> Result<Line, AllocError>
+        requires unit { IsTrue (is_star_or is_identifier unit.now) }
+        requires object { IsTrue (is_star_or is_dotted object.now) }
+        requires operation { IsTrue (is_star_or is_identifier operation.now) }
         ensures { IfOk result (λ l. l ≡ record { allow = allow; unit = unit.now; object = object.now; operation = operation.now }) }
     {
         let unit = String::from_str(alloc, unit)?;
@@ -63,6 +72,13 @@ impl Line {
         ensures { result ≡ self.now.allow }
     {
         self.allow
+    }
+
+    /// Tells that it is one that a text can hold.
+    pub fn spelled(&self)
+        ensures { IsSpelled self.now }
+    {
+        let _allow = self.allow;
     }
 
     /// The unit that calls, or `*`.

@@ -2,7 +2,9 @@
 
 ghost use Rattle.std.specs.Prelude.{◌≡◌, ◌<◌, ◌≤◌, [], ◌∷◌, ◌++◌, length, IfOk, OnOk, OnErr, option_copied, string_bytes};
 ghost use Rattle.rv_access.specs.Changes.{removed, replaced};
+ghost use Rattle.std.specs.List.{All};
 ghost use Rattle.rv_access.specs.Lines.{line_at};
+ghost use Rattle.rv_access.specs.Spelled.{IsSpelled};
 ghost use Rattle.rv_access.specs.Text.{list_text};
 
 use crate::line::Line;
@@ -17,11 +19,15 @@ pub struct AccessList {
 
 impl Model for AccessList {
     ghost use Rattle.rv_access.specs.Words.{Words};
+    ghost use Rattle.rv_access.specs.Spelled.{IsSpelled};
     ghost use Rattle.std.specs.Prelude.{List};
+    ghost use Rattle.std.specs.List.{All};
 
     ghost Value = { List Words };
 
     ghost view = { λ l. l.lines.items };
+
+    ghost invariant = { λ l. All IsSpelled l.lines.items };
 }
 
 impl AccessList {
@@ -55,6 +61,13 @@ impl AccessList {
         self.lines.as_slice()
     }
 
+    /// Tells that each of its lines is one that a text can hold.
+    pub fn spelled(&self)
+        ensures { All IsSpelled self.now }
+    {
+        let _lines = &self.lines;
+    }
+
     /// The line of a number that counts from 1, or `None` where there is none.
     pub fn line(&self, number: usize) -> Option<&Line>
         ensures { option_copied result ≡ line_at self.now number }
@@ -62,7 +75,7 @@ impl AccessList {
         if number == 0 {
             return None;
         }
-        self.lines.get(number - 1)
+        self.lines().get(number - 1)
     }
 
     /// Adds a line at the end. Err where memory was refused, and then the list is as before. The
@@ -71,6 +84,7 @@ impl AccessList {
         ensures ok { OnOk result (self.new ≡ self.old ++ line ∷ []) }
         ensures err { OnErr result (self.new ≡ self.old) }
     {
+        line.spelled();
         self.lines.push(line)?;
         Ok(())
     }
@@ -90,6 +104,7 @@ impl AccessList {
         requires there { number ≤ length self.old }
         ensures { self.new ≡ replaced self.old number line }
     {
+        line.spelled();
         self.lines[number - 1] = line;
     }
 

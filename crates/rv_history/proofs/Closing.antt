@@ -1,28 +1,22 @@
 -- After a halt only ends, resumes and quits add entries, and one that has quit adds none.
-use Rattle.std.proofs.Common.{◌≡◌, ℕ, ◌<◌, List, [], ◌∷◌, ◌++◌, Bool, true, false, Some, ap, subst, sym, ◌∙◌, refl, append_assoc}
-use Rattle.std.specs.Prelude.{ℤ, ◌&&◌, ◌||◌, not, nat_lt, if◌then◌else◌, length}
-use Rattle.std.specs.List.{list_all, list_any}
+use Rattle.std.proofs.Common.{◌≡◌, ℕ, List, [], ◌∷◌, ◌++◌, Bool, true, false, ap, subst, sym, ◌∙◌, refl, append_assoc}
+use Rattle.std.specs.Prelude.{ℤ, ◌&&◌, ◌||◌, not}
+use Rattle.std.specs.List.{list_all}
 use Rattle.rv_access.specs.Words.{Words}
 use Rattle.rv_shape.specs.Fits.{shape_fits}
 use Rattle.rv_shape.specs.Shape.{Shape}
-use Rattle.rv_shape.specs.Catalogue.{who}
-use Rattle.rv_event.specs.Past.{halted, halts, is_own, mode, stance}
-use Rattle.rv_event.specs.Recorded.{recorded}
+use Rattle.rv_event.specs.Past.{halted, halts, mode}
 use Rattle.rv_event.specs.declared.entry.Answer.{Answer}
-use Rattle.rv_event.specs.declared.entry.Answer.TheVariants as Answers
 use Rattle.rv_event.specs.declared.entry.Entry.{Entry}
 use Rattle.rv_event.specs.declared.entry.Entry.TheVariants.{Asked, Load, ListChange}
-use Rattle.rv_event.specs.declared.entry.Recorded.{Recorded}
 use Rattle.rv_event.specs.declared.entry.Recorded.TheVariants.{Accepted}
-use Rattle.rv_event.specs.declared.entry.Request.{Request}
 use Rattle.rv_event.specs.declared.entry.Request.TheVariants.{Quit}
-use Rattle.rv_event.specs.declared.entry.Stance.TheVariants.{Gone}
 use Rattle.rv_history.specs.Closing.{closes}
-use Rattle.rv_history.specs.Due.{gate, goes_on, nothing_more, out, within}
+use Rattle.rv_history.specs.Due.{gate, goes_on, nothing_more}
 use Rattle.rv_history.specs.Frame.{is_apart}
 use Rattle.rv_history.specs.History.{History}
-use Rattle.rv_history.specs.Legal.{IsLegal, Legal, due_list, out_list}
-use Rattle.rv_history.proofs.Answered.{off, answered, gate_recorded}
+use Rattle.rv_history.specs.Legal.{IsLegal, Legal}
+use Rattle.rv_history.proofs.Answered.{off, answered}
 use Rattle.rv_history.proofs.Frame.{all_more}
 use Rattle.rv_history.proofs.Loaded.{append_none}
 use Rattle.rv_history.proofs.Pays.{idle_high}

@@ -1,13 +1,12 @@
 -- What a load costs, and that what is owed is never answered Full.
 use Rattle.std.proofs.Common.{◌≡◌, ◌≢◌, ℕ, zero, suc, ◌+◌, ◌-◌, ◌≤◌, List, [], ◌∷◌, ◌++◌, length, Some, None, Option, Bool, true, false, arith, ap, subst, sym, ◌∙◌, refl, length-append}
-use Rattle.std.specs.Prelude.{nat_lt, ◌==◌, ◌&&◌, ◌↔◌, slice_get, if◌then◌else◌}
+use Rattle.std.specs.Prelude.{nat_lt, ◌==◌, ◌↔◌, slice_get, if◌then◌else◌}
 use Rattle.std.proofs.lemmas.Bool.Decides.{nat_tests}
 use Rattle.std.proofs.lemmas.List.{length-map}
 use Rattle.rv_shape.specs.Shape.{Shape}
 use Rattle.rv_shape.specs.Catalogue.{UnitTask, Operator, Line, all_tasks, task_of, tasks_of, who}
 use Rattle.rv_event.specs.Past.{halted, stance, under_way}
 use Rattle.rv_event.specs.declared.entry.Answer.TheVariants.{Full}
-use Rattle.rv_event.specs.declared.entry.Entry.{Entry}
 use Rattle.rv_event.specs.declared.entry.Entry.TheVariants.{Load, ListChange}
 use Rattle.rv_event.specs.declared.entry.Request.{Request}
 use Rattle.rv_event.specs.declared.entry.Request.TheVariants.{Call, Complete, Resume, DelayUntil, Clock, Fire, Quit, Tick, Halt}

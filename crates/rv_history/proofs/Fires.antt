@@ -1,15 +1,14 @@
 -- What a fired line needs, in its own terms, is what is asked of any call.
-use Rattle.std.proofs.Common.{◌≡◌, ℕ, ◌+◌, ◌-◌, ◌<◌, List, [], ◌∷◌, length, Some, None, Option, Bool, true, false, arith, ap, sym, ◌∙◌, refl}
+use Rattle.std.proofs.Common.{◌≡◌, ℕ, ◌+◌, ◌-◌, List, [], ◌∷◌, Some, None, Option, Bool, true, false, arith, ap, sym, ◌∙◌, refl}
 use Rattle.std.specs.Prelude.{nat_lt, ◌==◌, ◌&&◌, not, ◌↔◌, codes, map, slice_get, if◌then◌else◌}
 use Rattle.std.proofs.lemmas.Bool.Decides.{nat_tests}
 use Rattle.rv_prio.specs.Priority.{greatest}
 use Rattle.rv_shape.specs.Shape.{Shape}
-use Rattle.rv_shape.specs.Catalogue.{OperationNumber, UnitTask, Site, Target, Nowhere, OnSuspension, Who, Operator, Line, Task, Nobody, OnProtected, all_tasks, ceiling, handler, handles, is_entry, is_function, target, task_of, who}
+use Rattle.rv_shape.specs.Catalogue.{OperationNumber, UnitTask, Target, Nowhere, OnSuspension, Who, Operator, Line, Task, Nobody, OnProtected, all_tasks, ceiling, handler, handles, is_function, target, task_of, who}
 use Rattle.rv_shape.specs.declared.kind.Kind.{Kind}
 use Rattle.rv_shape.specs.declared.kind.Kind.TheVariants.{Function, Procedure, Entry as EntryKind, Handler}
-use Rattle.rv_event.specs.Past.{halted, held, mode, mode_by, stance}
+use Rattle.rv_event.specs.Past.{held, mode, mode_by, stance}
 use Rattle.rv_event.specs.Recorded.{recorded}
-use Rattle.rv_event.specs.declared.entry.Body.{Body}
 use Rattle.rv_event.specs.declared.entry.Entry.TheVariants.{Asked}
 use Rattle.rv_event.specs.declared.entry.Mode.{Mode}
 use Rattle.rv_event.specs.declared.entry.Mode.TheVariants as Modes
@@ -19,11 +18,11 @@ use Rattle.rv_event.specs.declared.entry.Rule.{Rule}
 use Rattle.rv_event.specs.declared.entry.Rule.TheVariants.{Grant, Blocking, Reentry, Ceiling, Queue, Waiter}
 use Rattle.rv_history.specs.Due.{out}
 use Rattle.rv_history.specs.Exclusion.{excluded, is_open}
-use Rattle.rv_history.specs.Fitting.{fits, idle_line}
+use Rattle.rv_history.specs.Fitting.{idle_line}
 use Rattle.rv_history.specs.Headline.{IsAllowed, MayFire}
 use Rattle.rv_history.specs.History.{History}
 use Rattle.rv_history.specs.Owed.{actors, has_room}
-use Rattle.rv_history.specs.Rules.{Aim, aim, aim_at, breaks, granted, holds_any, violates}
+use Rattle.rv_history.specs.Rules.{Aim, aim, aim_at, breaks, granted, holds_any}
 use Rattle.rv_history.specs.Subject.{active, base_of, home, subject, subject_of}
 use Rattle.rv_history.proofs.Answered.{off, both, and_false}
 use Rattle.rv_history.proofs.Exactly.{exactly, nowhere_else}

@@ -1,43 +1,42 @@
--- Whom an end hands over to holds its call's body, on the object of the end, and is woken with the values of the end.
-use Rattle.std.proofs.Common.{◌≡◌, ◌≢◌, ℕ, ◌+◌, ◌<◌, ◌≤◌, List, [], ◌∷◌, ◌++◌, length, Some, None, Option, Bool, true, false, cond, arith, ap, subst, sym, ◌∙◌, refl}
-use Rattle.std.specs.Prelude.{ℤ, nat_lt, ◌==◌, ◌&&◌, ◌||◌, not, slice_get, if◌then◌else◌}
+-- Whom an end hands over to holds its call's body, on the object of the end, and is woken with the values of the end;
+-- one that was dropped is told of the drop.
+use Rattle.std.proofs.Common.{◌≡◌, ℕ, List, [], ◌∷◌, ◌++◌, length, Some, None, true, false, cond, arith, ap, subst, sym, ◌∙◌, refl}
+use Rattle.std.specs.Prelude.{ℤ, ◌==◌, is_some, slice_get, if◌then◌else◌}
 use Rattle.std.specs.List.{filter, list_all, list_any}
-use Rattle.std.proofs.lemmas.Bool.Decides.{nat_tests}
-use Rattle.rv_access.specs.Words.{Words}
 use Rattle.rv_shape.specs.Shape.{Shape}
-use Rattle.rv_shape.specs.Catalogue.{Site, OnProtected, first_of, is_entry, is_function, shares, target}
-use Rattle.rv_event.specs.Past.{begun, ended, halted, held, innermost, is_own, last_queued, mode, mode_by, or_else, queue, scalars, stance, under_way, waiting, without}
+use Rattle.rv_shape.specs.Catalogue.{first_of, shares, target}
+use Rattle.rv_event.specs.Past.{begun, ended, held, innermost, is_own, last_queued, mode_by, or_else, said, scalars, stance, under_way, until_then, waiting, without}
 use Rattle.rv_event.specs.Recorded.{recorded}
 use Rattle.rv_event.specs.declared.entry.Answer.TheVariants as Answers
 use Rattle.rv_event.specs.declared.entry.Body.{Body}
 use Rattle.rv_event.specs.declared.entry.Entry.{Entry}
 use Rattle.rv_event.specs.declared.entry.Entry.TheVariants.{Asked, Load, ListChange}
 use Rattle.rv_event.specs.declared.entry.Exit.{Exit}
-use Rattle.rv_event.specs.declared.entry.Next.TheVariants.{HandedTo}
+use Rattle.rv_event.specs.declared.entry.Next.TheVariants.{Dropped, HandedTo}
 use Rattle.rv_event.specs.declared.entry.Recorded.TheVariants.{Done}
 use Rattle.rv_event.specs.declared.entry.Request.TheVariants.{Call, Complete, Resume, DelayUntil, Clock, Fire, Quit, Tick, Halt}
-use Rattle.rv_event.specs.declared.entry.Stance.{Stance}
-use Rattle.rv_event.specs.declared.entry.Stance.TheVariants.{Free, HandedOver}
+use Rattle.rv_event.specs.declared.entry.Rule.TheVariants as Rules
+use Rattle.rv_event.specs.declared.entry.Stance.TheVariants.{DroppedBy, Free, HandedOver}
 use Rattle.rv_event.proofs.Matching.{by}
-use Rattle.rv_history.specs.Due.{due_resume, gate, out, scalars_held}
-use Rattle.rv_history.specs.Fitting.{awaits, fits}
+use Rattle.rv_history.specs.Due.{out, scalars_held}
+use Rattle.rv_history.specs.Frame.{is_apart}
 use Rattle.rv_history.specs.HandOver.{IsHanded}
-use Rattle.rv_history.specs.History.{History}
-use Rattle.rv_history.specs.Legal.{IsLegal, Legal}
+use Rattle.rv_history.specs.History.{History, changes}
+use Rattle.rv_history.specs.Legal.{Legal}
 use Rattle.rv_history.specs.Orderly.{Each, IsOfEntry}
-use Rattle.rv_history.specs.Owed.{IsSolvent, actors}
+use Rattle.rv_history.specs.Owed.{IsSolvent}
 use Rattle.rv_history.specs.Unended.{IsUnended}
-use Rattle.rv_history.proofs.Answered.{off, and_false}
+use Rattle.rv_history.proofs.Answered.{off}
 use Rattle.rv_history.proofs.Bodies.{count_less, each_filter}
-use Rattle.rv_history.proofs.Closing.{Was, legal_before, legal_split}
+use Rattle.rv_history.proofs.Closing.{legal_before, legal_split}
 use Rattle.rv_history.proofs.During.{scalars_during}
 use Rattle.rv_history.proofs.Ending.{head_on, head_waits, names_at}
-use Rattle.rv_history.proofs.Frame.{held_stays, stance_stays}
+use Rattle.rv_history.proofs.Frame.{all_parts, held_stays, stance_stays, unsaid}
 use Rattle.rv_history.proofs.Loaded.{protected_stays, way_stays}
 use Rattle.rv_history.proofs.Orderly.{legal_orderly_at}
-use Rattle.rv_history.proofs.Pays.{resume_never_full}
+use Rattle.rv_history.proofs.Resumes.{resume_due}
 use Rattle.rv_history.proofs.Settled.{entry_excludes, no_length, own_writes}
-use Rattle.rv_history.proofs.Silent.{apart_while, is_queued, known_actor, neither}
+use Rattle.rv_history.proofs.Silent.{apart_while, is_queued, neither}
 use Rattle.rv_history.proofs.Stances.{itself, same_number}
 use Rattle.rv_history.proofs.Waits.{Waits, legal_waits}
 
@@ -114,18 +113,9 @@ unended shapes b (e ∷ later) past none =
     own_end Load other ends = cc
     own_end ListChange other ends = cc
 
-to_test : (n m : ℕ) → n < m → nat_lt n m ≡ true
-to_test n m less = grind (arith, nat_tests)
-
-busy : HandedOver ≡ Free → ⊥
-busy e = cc
-
 woken_with : (h : History) (n : ℕ) (call : Body) (vs : List ℤ) → Legal h → IsSolvent h → stance n h.past ≡ HandedOver → held h.shapes n h.past ≡ call ∷ [] → scalars h.shapes call.object h.past ≡ vs → out h n Resume ≡ Answers.Woken (Some vs)
 woken_with h n call vs l solvent at holds values =
-    let known : nat_lt n (actors h.shapes) ≡ true = to_test n (actors h.shapes) (known_actor h n l (λ free. busy (sym at ∙ free))) in
-    let fit : fits h n Resume ≡ true = λ i. known i && awaits (mode_by (held h.shapes n h.past) (at i)) in
-    resume_never_full h n solvent
-    ∙ (λ i. gate (fit i) (and_false (halted h.past) i) (due_resume h n (at i)))
+    resume_due h n HandedOver l solvent at refl
     ∙ (λ i. Answers.Woken (Some (scalars_held h (slice_get (holds i) 0))))
     ∙ ap (λ v. Answers.Woken (Some v)) values
 
@@ -154,3 +144,23 @@ handed_wakes h later past a vs x n l solvent split silent =
       is_handed = λ i. mode_by (held h.shapes n h.past) (at i);
       wakes = woken_with h n t.call vs l solvent at holds values;
     }
+
+-- One that was dropped
+
+until_apart : (j : ℕ) (later past : List Entry) → list_all (is_apart j) later ≡ true → until_then j (later ++ past) ≡ until_then j past
+until_apart j [] past apart = refl
+until_apart j (e ∷ later) past apart =
+    let parts = all_parts (is_apart j) e later apart in
+    ap (λ s. if is_some s then later ++ past else until_then j (later ++ past)) (unsaid j e parts.0) ∙ until_apart j later past parts.1
+
+pub dropped_told : (h : History) (later past : List Entry) (a : ℕ) (vs : List ℤ) (x : Exit) (n line : ℕ) → Legal h → IsSolvent h → h.past ≡ later ++ Asked a (Complete vs x) (Done (Dropped n line)) ∷ past → list_any (is_own n) later ≡ false →
+    out h n Resume ≡ Answers.Refused Rules.Grant line (changes past)
+dropped_told h later past a vs x n line l solvent split silent =
+    let e : Entry = Asked a (Complete vs x) (Done (Dropped n line)) in
+    let whole = legal_split h later (e ∷ past) l split in
+    let told : said n e ≡ Some (DroppedBy line) = λ i. first_of (if itself n i then Some (DroppedBy line) else None) (if a == n then Some Free else None) in
+    let first : stance n (e ∷ past) ≡ DroppedBy line = ap (λ s. or_else s (stance n past)) told in
+    let apart = apart_while h.capacity later (e ∷ past) h.shapes h.lists n whole (ap is_queued first) silent in
+    let at : stance n h.past ≡ DroppedBy line = ap (stance n) split ∙ stance_stays n later (e ∷ past) apart ∙ first in
+    let then_was : until_then n h.past ≡ past = ap (until_then n) split ∙ until_apart n later (e ∷ past) apart ∙ ap (λ s. if is_some s then past else until_then n past) told in
+    resume_due h n (DroppedBy line) l solvent at refl ∙ ap (λ es. Answers.Refused Rules.Grant line (changes es)) then_was

@@ -31,3 +31,7 @@ pub mod Fires
 pub mod Costs
 pub mod Stepping
 pub mod Growing
+pub mod Resumes
+pub mod Spelled
+pub mod Found
+pub mod Said

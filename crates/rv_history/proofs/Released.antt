@@ -1,8 +1,7 @@
 -- One that waits on a suspension object is that object's waiter until a Set_True there, which releases it.
-use Rattle.std.proofs.Common.{◌≡◌, ◌≢◌, ◌⊎◌, inl, inr, ℕ, ◌-◌, ◌<◌, List, [], ◌∷◌, ◌++◌, Some, None, Option, Bool, true, false, arith, ap, subst, sym, ◌∙◌, refl}
-use Rattle.std.specs.Prelude.{ℤ, nat_lt, ◌==◌, ◌&&◌, ◌||◌, not, ◌↔◌, is_some, pos, if◌then◌else◌}
+use Rattle.std.proofs.Common.{◌≡◌, ◌⊎◌, inl, inr, ℕ, List, [], ◌∷◌, ◌++◌, Some, None, Option, Bool, true, false, ap, sym, ◌∙◌, refl}
+use Rattle.std.specs.Prelude.{ℤ, ◌==◌, ◌||◌, not, ◌↔◌, is_some, pos, if◌then◌else◌}
 use Rattle.std.specs.List.{list_all, list_any}
-use Rattle.std.proofs.lemmas.Bool.Decides.{nat_tests}
 use Rattle.rv_access.specs.Words.{Words}
 use Rattle.rv_shape.specs.Shape.{Shape}
 use Rattle.rv_shape.specs.Objects.{OperationShape, ProtectedShape}
@@ -11,9 +10,8 @@ use Rattle.rv_shape.specs.declared.object.Object.TheVariants.{Protected, Suspens
 use Rattle.rv_shape.specs.Catalogue.{UnitObject, Target, Nowhere, OnProtected, OnSuspension, at_object, at_operation, at_suspension, at_unit_object, first_of, numbered, place, suspension_operations, target, is_function}
 use Rattle.rv_shape.specs.declared.suspension.SuspensionOperation.{SuspensionOperation}
 use Rattle.rv_shape.specs.declared.suspension.SuspensionOperation.TheVariants.{SetTrue, SetFalse, CurrentState, SuspendUntilTrue}
-use Rattle.rv_event.specs.Past.{Touch, Waits, Sets, Clears, Untouched, accepted_touch, halted, held, if_named, if_own, is_call_on, is_named, is_own, is_set, mode_by, named_in, names, next_of, or_else, released, said, scalars, since, stance, stance_of, state, state_after, touch, touch_of, waiter, waiter_after}
+use Rattle.rv_event.specs.Past.{Touch, Waits, Sets, Clears, Untouched, accepted_touch, if_named, if_own, is_named, is_own, is_set, named_in, names, next_of, or_else, released, said, scalars, since, stance, stance_of, state, state_after, touch, touch_of, waiter, waiter_after}
 use Rattle.rv_event.specs.Recorded.{recorded}
-use Rattle.rv_event.specs.declared.entry.Answer.{Answer}
 use Rattle.rv_event.specs.declared.entry.Answer.TheVariants as Answers
 use Rattle.rv_event.specs.declared.entry.Entry.{Entry}
 use Rattle.rv_event.specs.declared.entry.Entry.TheVariants.{Asked, Load, ListChange}
@@ -25,21 +23,20 @@ use Rattle.rv_event.specs.declared.entry.Request.{Request}
 use Rattle.rv_event.specs.declared.entry.Request.TheVariants.{Call, Complete, Resume, DelayUntil, Clock, Fire, Quit, Tick, Halt}
 use Rattle.rv_event.specs.declared.entry.Rule.TheVariants as Rules
 use Rattle.rv_event.specs.declared.entry.Stance.{Stance}
-use Rattle.rv_event.specs.declared.entry.Stance.TheVariants.{Free, InQueue, HandedOver, DroppedBy, WaitsOn, WaitsUntil, Gone}
-use Rattle.rv_history.specs.Due.{due, due_call, due_resume, gate, goes_on, judged, or_waiting, out, performed, suspended}
+use Rattle.rv_event.specs.declared.entry.Stance.TheVariants.{HandedOver, DroppedBy, WaitsOn}
+use Rattle.rv_history.specs.Due.{due_call, judged, or_waiting, out, performed}
 use Rattle.rv_history.specs.Exclusion.{excluded, full_queue, is_barred}
-use Rattle.rv_history.specs.Fitting.{awaits, fits}
 use Rattle.rv_history.specs.Frame.{is_apart}
 use Rattle.rv_history.specs.History.{History, version}
 use Rattle.rv_history.specs.Legal.{IsLegal, Legal, after}
-use Rattle.rv_history.specs.Owed.{IsSolvent, actors}
+use Rattle.rv_history.specs.Owed.{IsSolvent}
 use Rattle.rv_history.specs.Rules.{breaks, decided}
 use Rattle.rv_history.specs.Subject.{subject}
 use Rattle.rv_history.specs.Suspension.{IsReleased}
-use Rattle.rv_history.proofs.Answered.{off, and_false, answered}
+use Rattle.rv_history.proofs.Answered.{off, answered}
+use Rattle.rv_history.proofs.Ending.{some_number}
 use Rattle.rv_history.proofs.Frame.{all_more, all_parts, apart_of, none_named, unsaid}
-use Rattle.rv_history.proofs.Pays.{resume_never_full}
-use Rattle.rv_history.proofs.Silent.{known_actor}
+use Rattle.rv_history.proofs.Resumes.{resume_due, woken_ready}
 use Rattle.rv_history.proofs.Stances.{itself, same_number}
 
 -- Where a call is answered Suspended nobody waits there
@@ -229,26 +226,8 @@ set_releases a o (e ∷ later) set earlier silent sets =
 
 -- What its resume is answered
 
-to_test : (n m : ℕ) → n < m → nat_lt n m ≡ true
-to_test n m less = grind (arith, nat_tests)
-
 resume_answer : (h : History) (a o : ℕ) → Legal h → IsSolvent h → stance a h.past ≡ WaitsOn o → out h a Resume ≡ or_waiting h (released a o h.past)
-resume_answer h a o l solvent at =
-    let busy : stance a h.past ≡ Free → ⊥ = λ free. waits_not_free o (sym at ∙ free) in
-    let known : nat_lt a (actors h.shapes) ≡ true = to_test a (actors h.shapes) (known_actor h a l busy) in
-    let fit : fits h a Resume ≡ true = λ i. known i && awaits (mode_by (held h.shapes a h.past) (at i)) in
-    resume_never_full h a solvent ∙ (λ i. gate (fit i) (and_false (halted h.past) i) (due_resume h a (at i)))
-  where
-    waits_not_free : (o : ℕ) → WaitsOn o ≡ Free → ⊥
-    waits_not_free o e = cc
-
-woken_ready : (h : History) (b : Bool) → or_waiting h b ≡ Answers.Woken None → b ≡ true
-woken_ready h true e = refl
-woken_ready h false e = by_halt (halted h.past) e
-  where
-    by_halt : (b : Bool) → (if b then Answers.Halted else Answers.Waiting) ≡ Answers.Woken None → false ≡ true
-    by_halt true e = absurd (cc)
-    by_halt false e = absurd (cc)
+resume_answer h a o l solvent at = resume_due h a (WaitsOn o) l solvent at refl
 
 pub woken_exactly : (h : History) (a o : ℕ) → Legal h → IsSolvent h → stance a h.past ≡ WaitsOn o → (out h a Resume ≡ Answers.Woken None) ↔ IsReleased a o h.past
 woken_exactly h a o l solvent at = (to, from)
@@ -283,7 +262,7 @@ operation_is p (Some at) unit name d e = by_object at.object e
 
     by_object : (ob : Object) → at_object p at.unit ob ≡ OnSuspension unit name d → numbered suspension_operations p ≡ Some d
     by_object (Protected b) f = by_protected b (numbered b.operations p) f
-    by_object (Suspension n) f = by_suspension n (numbered suspension_operations p) refl f
+    by_object (Suspension s) f = by_suspension s.name (numbered suspension_operations p) refl f
 
 sets : (h : History) (a o p : ℕ) (vs : List ℤ) (v : ℤ) (unit name : List ℕ) → target h.shapes o p ≡ OnSuspension unit name SetTrue → touch o (Asked a (Call o p vs) (Accepted v)) ≡ Sets
 sets h a o p vs v unit name at =
@@ -294,3 +273,30 @@ pub set_true_leaves : (h : History) (a o p : ℕ) (vs : List ℤ) (unit name : L
 set_true_leaves h a o p vs unit name at =
     let t = sets h a o p vs (pos 0) unit name at in
     (ap (λ k. waiter_after k (waiter o h.past)) t, ap (λ k. state_after k (waiter o h.past) (state o h.past)) t)
+
+-- Who waits
+
+-- two that wait on one object, and aren't released, are one
+pub one_waits : (h : History) (a b o : ℕ) → Legal h → stance a h.past ≡ WaitsOn o → stance b h.past ≡ WaitsOn o → released a o h.past ≡ false → released b o h.past ≡ false → a ≡ b
+one_waits h a b o l at bt none nobody_set =
+    let first = waiter_of h a o l at none in
+    let second = waiter_of h b o l bt nobody_set in
+    some_number a b (sym first ∙ second)
+  where
+    waiter_of : (h : History) (a o : ℕ) → Legal h → stance a h.past ≡ WaitsOn o → released a o h.past ≡ false → waiter o h.past ≡ Some a
+    waiter_of h a o l at none = by_outcome (outcome h.capacity h.past h.shapes h.lists a o l at)
+      where
+        by_outcome : Outcome a o h.past → waiter o h.past ≡ Some a
+        by_outcome (inl was) = was.1
+        by_outcome (inr r) = absurd (off (sym none ∙ ap (released a o) r.split ∙ set_releases a o r.later r.set r.earlier r.silent r.sets))
+
+-- while one waits the state is False
+pub waited_false : (o : ℕ) (past : List Entry) → is_some (waiter o past) ≡ true → state o past ≡ false
+waited_false o [] e = absurd (off e)
+waited_false o (x ∷ past) e = by_touch (touch o x) e (waited_false o past)
+  where
+    by_touch : (t : Touch) → is_some (waiter_after t (waiter o past)) ≡ true → (is_some (waiter o past) ≡ true → state o past ≡ false) → state_after t (waiter o past) (state o past) ≡ false
+    by_touch (Waits n) f rest = refl
+    by_touch Sets f rest = absurd (off f)
+    by_touch Clears f rest = refl
+    by_touch Untouched f rest = rest f

@@ -1,5 +1,5 @@
 -- Commands lead from legal histories to legal ones.
-use Rattle.std.proofs.Common.{◌≡◌, ◌≢◌, ℕ, List, [], ◌∷◌, ◌++◌, Some, None, Option, true, false, refl, inl, inr, ap, subst, sym, ◌∙◌}
+use Rattle.std.proofs.Common.{◌≡◌, ℕ, List, [], ◌∷◌, ◌++◌, Some, None, Option, true, false, refl, inl, inr, ap, subst, sym, ◌∙◌}
 use Rattle.std.specs.Prelude.{Bool, is_some, if◌then◌else◌, nat_lt, length}
 use Rattle.std.proofs.lemmas.Bool.{false≢true}
 use Rattle.rv_access.specs.Words.{Words}
@@ -8,7 +8,7 @@ use Rattle.rv_shape.specs.Fits.{shape_fits}
 use Rattle.rv_event.specs.Past.{halted}
 use Rattle.rv_event.specs.Recorded.{recorded}
 use Rattle.rv_event.specs.declared.entry.Answer.{Answer}
-use Rattle.rv_event.specs.declared.entry.Answer.TheVariants.{BadLine, OutOfMemory}
+use Rattle.rv_event.specs.declared.entry.Answer.TheVariants.{BadLine}
 use Rattle.rv_event.specs.declared.entry.Recorded.{Recorded}
 use Rattle.rv_event.specs.declared.entry.Request.{Request}
 use Rattle.rv_event.specs.declared.entry.Entry.TheVariants.{Load, ListChange}
@@ -17,7 +17,7 @@ use Rattle.rv_history.specs.declared.command.Command.TheVariants as Commands
 use Rattle.rv_history.specs.History.{History, force}
 use Rattle.rv_history.specs.Lists.{Change, Whole, Append, Remove, Replace, changed}
 use Rattle.rv_history.specs.Due.{out, gate, within, nothing_more}
-use Rattle.rv_history.specs.Legal.{Legal, after_list, after_load, entered, line_limit, listed, out_list, out_load}
+use Rattle.rv_history.specs.Legal.{Legal, after_load, entered, line_limit, listed, out_list, out_load}
 use Rattle.rv_history.specs.Owed.{has_room}
 use Rattle.rv_history.specs.Steps.{IsAnswer, MayLackMemory, Steps, after_change, after_command, answers_to, due_change, due_command, history_after}
 

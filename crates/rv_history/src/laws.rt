@@ -12,6 +12,7 @@ pub mod room;
 pub mod starts;
 pub mod steps;
 pub mod suspension;
+pub mod words;
 
 ghost use Rattle.rv_history.specs.Rows as rows;
 

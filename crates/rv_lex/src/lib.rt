@@ -6,6 +6,4 @@ mod front;
 pub mod kind;
 pub mod lexer;
 mod literal;
-#[cfg(test)]
-mod tests;
 pub mod token;

@@ -90,29 +90,3 @@ impl Object {
         }
     }
 }
-
-#[cfg(test)]
-mod tests {
-    use super::*;
-
-    #[test]
-    fn functions_share_and_a_procedure_is_alone(rt: HostRuntime) {
-        let writer = Action::Exclusive(11);
-        let mut object = Object::new(Scalars::from_slice(&[1, 2]));
-        assert!(rt; object.may_start(Action::Shared) && object.may_start(writer));
-        object.start(Action::Shared);
-        object.start(Action::Shared);
-        assert_eq!(rt; object.state(), State::Readers(2));
-        assert!(rt; object.may_start(Action::Shared) && !object.may_start(writer));
-        object.finish(Action::Shared, Scalars::new());
-        object.finish(Action::Shared, Scalars::new());
-        assert_eq!(rt; object.state(), State::Free);
-        assert_eq!(rt; object.scalars(), Scalars::from_slice(&[1, 2]));
-        object.start(writer);
-        assert_eq!(rt; object.state(), State::Writer(11));
-        assert!(rt; !object.may_start(Action::Shared) && !object.may_start(Action::Exclusive(12)));
-        object.finish(writer, Scalars::from_slice(&[3, 4]));
-        assert_eq!(rt; object.state(), State::Free);
-        assert_eq!(rt; object.scalars(), Scalars::from_slice(&[3, 4]));
-    }
-}

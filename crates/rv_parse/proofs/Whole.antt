@@ -1,7 +1,7 @@
 -- Reading whole texts.
 use Rattle.std.proofs.Common.{◌≡◌, ◌⊎◌, inl, inr, List, [], ◌∷◌, length, Result, Ok, Err, IfOk, refl, ap, subst, arith}
 use Rattle.rv_lex.specs.Kinds.{Text}
-use Rattle.rv_lex.specs.Lexes.{Lexeme, Lexes, HasNoWords, IsNoMemory}
+use Rattle.rv_lex.specs.Lexes.{Lexeme, Lexes, Refuses as FirstFault, HasNoWords, IsNoMemory}
 use Rattle.rv_lex.specs.declared.fault.LexFault.{LexFault}
 use Rattle.rv_lex.specs.declared.fault.LexFault.TheVariants as lex
 use Rattle.rv_tree.specs.Units.{UnitTree}
@@ -13,7 +13,7 @@ use Rattle.rv_parse.specs.declared.fault.ParseFault.{ParseFault}
 use Rattle.rv_parse.specs.declared.fault.ParseFault.TheVariants as parse
 use Rattle.rv_parse.specs.Reading.{Outcome}
 use Rattle.rv_parse.specs.Contract.{Refuses}
-use Rattle.rv_parse.specs.Texts.{ReadsTree, HasWords, DeepWords, OfDepth, words_fault}
+use Rattle.rv_parse.specs.Texts.{ReadsTree, HasWords, OfWords, DeepWords, OfDepth, words_fault}
 use Rattle.rv_parse.specs.Nesting.{NestsTooDeep}
 use Rattle.rv_parse.specs.UnitRules.{unit}
 use Rattle.rv_parse.proofs.UnitSound.{unit_sound}
@@ -84,3 +84,19 @@ words_not_deep text (lex.BadCharacter at) = tt
 words_not_deep text (lex.BadLiteral at) = tt
 words_not_deep text (lex.BadIdentifier at) = tt
 words_not_deep text (lex.NotAscii at) = tt
+
+-- what is told of cut words is told of a text that has words
+pub lexed_text : (text : Text) (words : List Lexeme) (result : Result rust.UnitTree ParseFault) → Lexes text words → HasWords result → OfWords text result
+lexed_text text words (Ok tree) lexes h = tt
+lexed_text text words (Err parse.NoMemory) lexes h = tt
+lexed_text text words (Err (parse.TooDeep at)) lexes h = (words, lexes)
+lexed_text text words (Err (parse.Unexpected at)) lexes h = (words, lexes)
+lexed_text text words (Err (parse.Lex fault)) lexes h = absurd h
+
+-- a fault of the words, as it is told
+pub first_of_words : (text : Text) (fault : LexFault) → FirstFault text fault → OfWords text (Err (words_fault fault))
+first_of_words text lex.NoMemory h = tt
+first_of_words text (lex.BadCharacter at) h = h
+first_of_words text (lex.BadLiteral at) h = h
+first_of_words text (lex.BadIdentifier at) h = h
+first_of_words text (lex.NotAscii at) h = h

@@ -34,13 +34,25 @@ HasWords (Err (parse.TooDeep at)) = Unit {0}
 HasWords (Err (parse.Unexpected at)) = Unit {0}
 HasWords (Err (parse.Lex fault)) = ⊥
 
--- a fault of the words is the first of the text's words
+-- the text has words: no fault stands in them
+abbrev pub HasLexemes : Text → Type 0
+HasLexemes text = (words : List Lexeme) × Lexes text words
+
+-- the fault is the first of the text's words, and never want of memory, which is told apart
+abbrev pub IsFirstOfWords : Text → LexFault → Type 0
+IsFirstOfWords text lex.NoMemory = ⊥
+IsFirstOfWords text (lex.BadCharacter place) = Refuses text (lex.BadCharacter place)
+IsFirstOfWords text (lex.BadLiteral place) = Refuses text (lex.BadLiteral place)
+IsFirstOfWords text (lex.BadIdentifier place) = Refuses text (lex.BadIdentifier place)
+IsFirstOfWords text (lex.NotAscii place) = Refuses text (lex.NotAscii place)
+
+-- faults of words come first: one of the grammar comes only on a text that has words
 abbrev pub OfWords : Text → Result UnitTree ParseFault → Type 0
 OfWords text (Ok tree) = Unit {0}
-OfWords text (Err (parse.Lex fault)) = Refuses text fault
+OfWords text (Err (parse.Lex fault)) = IsFirstOfWords text fault
 OfWords text (Err parse.NoMemory) = Unit {0}
-OfWords text (Err (parse.Unexpected at)) = Unit {0}
-OfWords text (Err (parse.TooDeep at)) = Unit {0}
+OfWords text (Err (parse.Unexpected at)) = HasLexemes text
+OfWords text (Err (parse.TooDeep at)) = HasLexemes text
 
 -- words are refused as too deep only where they nest too deep
 abbrev pub DeepWords : List Lexeme → Result UnitTree ParseFault → Type 0

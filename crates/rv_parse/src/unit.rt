@@ -193,7 +193,7 @@ pub fn parse(alloc: Global, text: &str) -> Result<UnitTree, ParseFault>
     ensures sound { IfOk result (λ tree. Derives text.now (view.unit_view tree)) }
     // What derives the text is read, but for want of memory and depth; so it is the only one.
     ensures complete { (tree : t.UnitTree) → Derives text.now tree → ReadsTree tree result }
-    // A fault of words is the first of the text's words.
+    // A fault of words is the first of the text's words, and comes before any of the grammar.
     ensures words { OfWords text.now result }
     // Depth is refused only where too many statements or parentheses are open one inside another.
     ensures deep { OfDepth text.now result }

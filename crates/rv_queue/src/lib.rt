@@ -93,24 +93,3 @@ impl<const LIMIT: usize> Queue<LIMIT> {
         barrier_open && !self.is_empty()
     }
 }
-
-#[cfg(test)]
-mod tests {
-    use super::*;
-
-    #[test]
-    fn callers_leave_in_the_order_in_which_they_joined(rt: HostRuntime) {
-        let mut entry_queue = EntryQueue::new();
-        assert!(rt; entry_queue.is_empty() && !entry_queue.is_full() && !entry_queue.due(true));
-        assert_eq!(rt; (entry_queue.head(), entry_queue.leave()), (None, None));
-        entry_queue.join(11);
-        assert!(rt; entry_queue.is_full() && entry_queue.due(true) && !entry_queue.due(false));
-        assert_eq!(rt; (entry_queue.len(), entry_queue.head()), (1, Some(11)));
-
-        let mut longer: Queue<3> = Queue::new();
-        longer.join(12);
-        longer.join(11);
-        assert!(rt; !longer.is_full());
-        assert_eq!(rt; (longer.leave(), longer.head()), (Some(12), Some(11)));
-    }
-}

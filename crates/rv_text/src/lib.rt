@@ -13,6 +13,3 @@ pub use names::{dotted_parts, is_dotted_name, is_identifier, is_same_name};
 pub use numbers::{integer_of, natural_of};
 pub use sections::{Section, Sections, open_script};
 pub use words::{has_words, next_word};
-
-#[cfg(test)]
-mod tests;

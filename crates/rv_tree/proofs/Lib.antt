@@ -4,3 +4,4 @@ pub mod PrintsExpression
 pub mod PrintsDeclaration
 pub mod PrintsStatement
 pub mod PrintsUnit
+pub mod Begins

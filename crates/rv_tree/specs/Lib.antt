@@ -26,3 +26,4 @@ pub mod StatementPrint
 pub mod BodyPrint
 pub mod UnitPrint
 pub mod Printed
+pub mod Places

@@ -4,7 +4,9 @@
 pub mod body;
 pub mod declaration;
 pub mod expression;
+pub mod laws;
 pub mod name;
+mod place;
 mod print_body;
 mod print_declaration;
 mod print_expression;
@@ -30,6 +32,3 @@ pub use statement::{
     CaseAlternative, Choice, ElsifPart, Guard, Iteration, LoopBounds, SelectAlternative, Statement,
 };
 pub use unit::{BodyItem, ContextItem, PackageBody, PackageSpecification, UnitTree};
-
-#[cfg(test)]
-mod tests;

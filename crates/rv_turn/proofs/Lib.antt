@@ -2,4 +2,4 @@ mod KeptBySteps
 mod KeptByCuts
 mod Acts
 mod Closing
-mod Passes
+pub mod Passes

@@ -61,8 +61,6 @@ mod pass;
 mod rule;
 mod split;
 mod steps;
-#[cfg(test)]
-mod tests;
 mod turn;
 mod view;
 mod waiting;

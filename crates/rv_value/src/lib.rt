@@ -1,10 +1,8 @@
 //! Whole numbers of protected objects and their calls: short lists that are copied, and ranges.
 #![tactic(auto)]
 
-pub mod args;
+pub mod bounded;
 pub mod range;
-pub mod scalars;
 
-pub use args::{Args, MOST_ARGS};
+pub use bounded::{Args, Bounded, MOST_ARGS, MOST_SCALARS, Scalars};
 pub use range::in_range;
-pub use scalars::{MOST_SCALARS, Scalars};

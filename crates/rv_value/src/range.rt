@@ -8,16 +8,3 @@ pub fn in_range(value: i64, low: i64, high: i64) -> bool
 {
     low <= value && value <= high
 }
-
-#[cfg(test)]
-mod tests {
-    use super::*;
-
-    #[test]
-    fn a_range_has_its_bounds(rt: HostRuntime) {
-        for (value, within) in [(-2, false), (-1, true), (0, true), (3, true), (4, false)] {
-            assert_eq!(rt; in_range(value, -1, 3), within, "at {value}");
-        }
-        assert!(rt; !in_range(0, 1, 0));
-    }
-}

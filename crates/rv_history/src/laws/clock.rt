@@ -1,13 +1,15 @@
-//! The clock (D.8).
+//! The clock (D.8), and delays (9.6, D.9).
 
-ghost use Rattle.std.specs.Prelude.{◌≡◌, ◌≤◌, ◌+◌, ◌++◌, ℕ, ℤ, List, map, pos, sum};
-ghost use Rattle.rv_event.specs.Past.{clock, ticks, ticks_in};
-ghost use Rattle.rv_event.specs.declared.entry.Answer.TheVariants.{Accepted};
+ghost use Rattle.std.specs.Prelude.{◌≡◌, ◌≤◌, ◌+◌, ◌++◌, ◌↔◌, ℕ, ℤ, List, None, int_le, map, pos, sum, true};
+ghost use Rattle.rv_event.specs.Past.{clock, stance, ticks, ticks_in};
+ghost use Rattle.rv_event.specs.declared.entry.Answer.TheVariants.{Accepted, Woken};
 ghost use Rattle.rv_event.specs.declared.entry.Entry.{Entry};
-ghost use Rattle.rv_event.specs.declared.entry.Request.TheVariants.{Clock, Tick};
+ghost use Rattle.rv_event.specs.declared.entry.Request.TheVariants.{Clock, Resume, Tick};
+ghost use Rattle.rv_event.specs.declared.entry.Stance.TheVariants.{WaitsUntil};
 ghost use Rattle.rv_history.specs.Due.{out};
 ghost use Rattle.rv_history.specs.History.{History};
-ghost use Rattle.rv_history.specs.Legal.{after};
+ghost use Rattle.rv_history.specs.Legal.{Legal, after};
+ghost use Rattle.rv_history.specs.Owed.{IsSolvent};
 
 /// The clock is the sum of the accepted ticks.
 #[tactic(auto, using(crate::proofs::Clocks::clock_sum))]
@@ -33,4 +35,11 @@ pub fn ticks_move_the_clock()
 pub fn clock_is_told()
     ensures { (h : History) (actor : ℕ) (value : ℤ) →
         out h actor Clock ≡ Accepted value → value ≡ pos (clock h.past) }
+{}
+
+/// One that is delayed is woken exactly where the clock has come to its time.
+pub fn delays_end_exactly_in_time()
+    ensures { (h : History) (actor : ℕ) (time : ℤ) → Legal h → IsSolvent h →
+        stance actor h.past ≡ WaitsUntil time →
+        (out h actor Resume ≡ Woken None) ↔ (int_le time (pos (clock h.past)) ≡ true) }
 {}

@@ -1,9 +1,0 @@
-use Rattle.std.proofs.Common.{arith, ap, length}
-use Rattle.rv_value.specs.Padded.{length-take-padded}
-use Rattle.rv_value.proofs.PaddedLemmas.{IsPadded-set}
-use Rattle.rv_value.proofs.args.Args.push.Goals as goal
-
-pub invariant_of-self : goal.invariant_of-self
-invariant_of-self c =
-    let len_is = length-take-padded c.self.invariant in
-    IsPadded-set _ c.self.invariant (omega (arith, len_is, ap length c.self.view_is))
