@@ -38,17 +38,17 @@ is_due (Commands.AppendLine line) h = inl refl
 is_due (Commands.RemoveLine number) h = inl refl
 is_due (Commands.ReplaceLine number line) h = inl refl
 
-one_step : (stage : Stage) (o : Option Command) (cs : List Command) (as : List Answer) (k : History) → Steps (after_deed stage o (due_answer stage o)).history cs as k
-    → Steps stage.history (commands_onto o cs) (answers_onto o (due_answer stage o) as) k
-one_step stage None cs as k steps = steps
-one_step stage (Some c) cs as k steps = (is_due c stage.history, steps)
+one_step : (stage : Stage) (o : Option Command) (cs : List Command) (given : List Answer) (k : History) → Steps (after_deed stage o (due_answer stage o)).history cs given k
+    → Steps stage.history (commands_onto o cs) (answers_onto o (due_answer stage o) given) k
+one_step stage None cs given k steps = steps
+one_step stage (Some c) cs given k steps = (is_due c stage.history, steps)
 
-told_step : (stage : Stage) (t : Told) (cs : List Command) (as : List Answer) (k : History) → t ≡ tell stage t.deed → Steps t.after.history cs as k
-    → Steps stage.history (commands_onto t.deed.command cs) (answers_onto t.deed.command t.answer as) k
-told_step stage t cs as k e steps =
-    let there = subst (λ (u : Told). Steps u.after.history cs as k) e steps in
-    subst (λ (u : Told). Steps stage.history (commands_onto t.deed.command cs) (answers_onto t.deed.command u.answer as) k) (sym e)
-    (one_step stage t.deed.command cs as k there)
+told_step : (stage : Stage) (t : Told) (cs : List Command) (given : List Answer) (k : History) → t ≡ tell stage t.deed → Steps t.after.history cs given k
+    → Steps stage.history (commands_onto t.deed.command cs) (answers_onto t.deed.command t.answer given) k
+told_step stage t cs given k e steps =
+    let there = subst (λ (u : Told). Steps u.after.history cs given k) e steps in
+    subst (λ (u : Told). Steps stage.history (commands_onto t.deed.command cs) (answers_onto t.deed.command u.answer given) k) (sym e)
+    (one_step stage t.deed.command cs given k there)
 
 steps_from : (stage : Stage) (acts : List Act) (told : List Told) (fault : Option ScriptFault) (last : Stage) → Plays stage acts told fault last → Steps stage.history (commands told) (answers told) last.history
 steps_from stage [] [] None last plays = ap (λ (s : Stage). s.history) plays

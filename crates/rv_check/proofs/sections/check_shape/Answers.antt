@@ -1,7 +1,7 @@
 use Rattle.std.proofs.Common.{None, sym, subst}
-use Rattle.ravenhost.specs.Checks.{OfShape, shape_line}
-use Rattle.ravenhost.proofs.Checking.{said_tells, shape_read, shape_refused}
-use Rattle.ravenhost.proofs.check.check_shape.Goals as goal
+use Rattle.rv_check.specs.Checks.{OfShape, shape_line}
+use Rattle.rv_check.proofs.Checking.{said_tells, shape_read, shape_refused}
+use Rattle.rv_check.proofs.sections.check_shape.Goals as goal
 
 pub returns-in-Ok-add : goal.returns-in-Ok-add
 returns-in-Ok-add g c =

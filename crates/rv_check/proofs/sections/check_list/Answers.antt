@@ -1,7 +1,7 @@
 use Rattle.std.proofs.Common.{None, sym, subst}
-use Rattle.ravenhost.specs.Checks.{OfList, list_line}
-use Rattle.ravenhost.proofs.Checking.{said_tells, list_read}
-use Rattle.ravenhost.proofs.check.check_list.Goals as goal
+use Rattle.rv_check.specs.Checks.{OfList, list_line}
+use Rattle.rv_check.proofs.Checking.{said_tells, list_read}
+use Rattle.rv_check.proofs.sections.check_list.Goals as goal
 
 pub returns-in-Ok : goal.returns-in-Ok
 returns-in-Ok g c =

@@ -1,8 +1,8 @@
 use Rattle.std.proofs.Common.{ap, arith}
 use Rattle.rv_tree.specs.UnitView.{unit_view}
-use Rattle.ravenhost.specs.Checks.{OfUnit, unit_line}
-use Rattle.ravenhost.proofs.Checking.{said_tells}
-use Rattle.ravenhost.proofs.check.check_unit.Goals as goal
+use Rattle.rv_check.specs.Checks.{OfUnit, unit_line}
+use Rattle.rv_check.proofs.Checking.{said_tells}
+use Rattle.rv_check.proofs.sections.check_unit.Goals as goal
 
 pub returns-in-Ok : goal.returns-in-Ok
 returns-in-Ok g c =
