@@ -93,7 +93,7 @@ queue_rule h o Procedure free = refl
 queue_rule h o (EntryKind barrier) free = queue_test h o (is_barred h o (EntryKind barrier)) (full_queue h o) free
 queue_rule h o (Handler line) free = refl
 
-handler_enters : (line : ℕ) (kind : Kind) → handles line kind ≡ true → is_entry kind ≡ false
+pub handler_enters : (line : ℕ) (kind : Kind) → handles line kind ≡ true → is_entry kind ≡ false
 handler_enters line (Function range) e = refl
 handler_enters line Procedure e = refl
 handler_enters line (EntryKind barrier) e = absurd (off e)

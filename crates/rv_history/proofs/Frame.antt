@@ -29,9 +29,9 @@ pub apart_of : (j : ℕ) (e : Entry) → is_own j e ≡ false → names j e ≡ 
 apart_of j e own named = λ i. not (own i) && not (named i)
 
 pub other_actor : (a j : ℕ) → (a == j) ≡ false → j ≢ a
-other_actor a j e same = off (sym (itself a) ∙ ap (λ n. a == n) (sym same) ∙ e)
+other_actor a j e same = off (sym (sym (itself a) ∙ ap (λ n. a == n) (sym same) ∙ e))
 
-none_named : (next : Next) (j : ℕ) → is_named j (named_in next) ≡ false → if_named j next ≡ None
+pub none_named : (next : Next) (j : ℕ) → is_named j (named_in next) ≡ false → if_named j next ≡ None
 none_named Nothing j e = refl
 none_named (HandedTo n) j e = ap (λ b. if b then Some HandedOver else None) e
 none_named (Dropped n line) j e = ap (λ b. if b then Some (DroppedBy line) else None) e

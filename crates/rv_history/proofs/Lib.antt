@@ -21,3 +21,17 @@ pub mod HandOver
 pub mod NeverFull
 pub mod During
 pub mod Naming
+pub mod Frame
+pub mod Silent
+pub mod Closing
+pub mod Clocks
+pub mod Released
+pub mod Handing
+pub mod Fires
+pub mod Costs
+pub mod Stepping
+pub mod Growing
+pub mod Resumes
+pub mod Spelled
+pub mod Found
+pub mod Said

@@ -71,7 +71,7 @@ call_starts h a o p vs e k =
     bodies_start h.shapes (record { actor = a; object = o; operation = p }) (under_way h.shapes h.past) w.site at free (below _ held_limit few) k
 
 -- a line that is idle holds nothing
-idle_none : (w : Who) (bs : List Body) (s : Stance) → idle_line w (mode_by bs s) ≡ true → bs ≡ []
+pub idle_none : (w : Who) (bs : List Body) (s : Stance) → idle_line w (mode_by bs s) ≡ true → bs ≡ []
 idle_none w [] s e = refl
 idle_none (Line line) (b ∷ bs) Free e = absurd (off e)
 idle_none (Line line) (b ∷ bs) InQueue e = absurd (off e)

@@ -95,7 +95,7 @@ pays_resume h a (WaitsUntil time) is some solvent = waits_or_not h a (int_le tim
 pays_resume h a Gone is some solvent = unrecorded h a Resume Answers.Misuse refl
 
 -- a task that quits
-idle_free : (w : Who) (bs : List Body) (s : Stance) → idle_task w (mode_by bs s) ≡ true → s ≡ Free
+pub idle_free : (w : Who) (bs : List Body) (s : Stance) → idle_task w (mode_by bs s) ≡ true → s ≡ Free
 idle_free w bs Free e = refl
 idle_free (Task task) bs InQueue e = absurd (off e)
 idle_free (Task task) bs HandedOver e = absurd (off e)
@@ -107,7 +107,7 @@ idle_free Operator bs s e = absurd (off e)
 idle_free (Line line) bs s e = absurd (off e)
 idle_free Nobody bs s e = absurd (off e)
 
-idle_high : (shapes : List Shape) (a : ℕ) (m : Mode) → idle_task (who shapes a) m ≡ true → nat_lt a 11 ≡ false
+pub idle_high : (shapes : List Shape) (a : ℕ) (m : Mode) → idle_task (who shapes a) m ≡ true → nat_lt a 11 ≡ false
 idle_high shapes a m e = by_tests (a == 0) (nat_lt a 11) (task_of (slice_get (all_tasks shapes) (a - 11))) e
   where
     by_tests : (b c : Bool) (w : Who) → idle_task (if b then Operator else (if c then Line (a - 1) else w)) m ≡ true → c ≡ false
@@ -138,7 +138,7 @@ fewer_dues past j w e = by_test (j == 0) refl
         let same : dues (Asked 0 Halt w ∷ past) j ≡ dues past j = ap (λ s. dues_by s (nat_lt j 11)) (other_stance 0 j Halt w past e other) in
         omega (arith, same)
 
-pays_halt : (h : History) → halted h.past ≡ false → IsSolvent h → Pays h 0 Halt nothing_more
+pub pays_halt : (h : History) → halted h.past ≡ false → IsSolvent h → Pays h 0 Halt nothing_more
 pays_halt h going solvent =
     let owes : halt_due (halted h.past) ≡ 1 = ap halt_due going in
     paid_as h 0 Halt nothing_more (Accepted (pos 0)) refl

@@ -51,8 +51,8 @@ pub legal_solvent : (h : History) → 1 ≤ h.capacity → Legal h → IsSolvent
 legal_solvent h some l = solvent h.capacity h.past h.shapes h.lists some l
 
 -- an entry has its room where its cost, one entry and the change of what is owed, is no greater than the room
-pub room_reads : (h : History) (e : Entry) → IsSolvent h → (has_room h.capacity h.shapes (e ∷ h.past) ≡ true) ↔ (1 + owed h.shapes (e ∷ h.past) ≤ room h + owed h.shapes h.past)
-room_reads h e solvent = (
+pub room_reads : (h : History) (e : Entry) (now : List Shape) → IsSolvent h → (has_room h.capacity now (e ∷ h.past) ≡ true) ↔ (1 + owed now (e ∷ h.past) ≤ room h + owed h.shapes h.past)
+room_reads h e now solvent = (
   λ enough. let n = from_room _ h.capacity enough in omega (arith, n, solvent),
   λ cost. to_room _ h.capacity (omega (arith, cost, solvent)),
 )

@@ -48,7 +48,7 @@ or_right : (a b : Bool) → b ≡ true → (a || b) ≡ true
 or_right true b e = refl
 or_right false b e = e
 
-no_length : (xs : List Body) → length xs ≤ 0 → xs ≡ []
+pub no_length : (xs : List Body) → length xs ≤ 0 → xs ≡ []
 no_length [] e = refl
 no_length (x ∷ xs) e = absurd (omega (arith, e))
 
@@ -98,7 +98,7 @@ function_writes shapes past a o b inner is = ap (writes shapes o) inner ∙ by_t
 other_writes : (shapes : List Shape) (past : List Entry) (a o : ℕ) (b : Body) → innermost shapes a past ≡ Some b → (b.object == o) ≡ false → writes shapes o (innermost shapes a past) ≡ false
 other_writes shapes past a o b inner is = ap (writes shapes o) inner ∙ ap (λ t. if t then not (shares (target shapes b.object b.operation)) else false) is
 
-own_writes : (shapes : List Shape) (past : List Entry) (a o : ℕ) (b : Body) → innermost shapes a past ≡ Some b → (b.object == o) ≡ true → shares (target shapes b.object b.operation) ≡ false → writes shapes o (innermost shapes a past) ≡ true
+pub own_writes : (shapes : List Shape) (past : List Entry) (a o : ℕ) (b : Body) → innermost shapes a past ≡ Some b → (b.object == o) ≡ true → shares (target shapes b.object b.operation) ≡ false → writes shapes o (innermost shapes a past) ≡ true
 own_writes shapes past a o b inner is alone =
     ap (writes shapes o) inner ∙ ap (λ t. if t then not (shares (target shapes b.object b.operation)) else false) is ∙ ap not alone
 
@@ -110,7 +110,7 @@ end_quiet h a vs x next b o inner other none k =
     (λ e. begun_stays (is_exclusive_on h.shapes o) (handed h.past next) (without a (under_way h.shapes h.past)) (any_kept (is_exclusive_on h.shapes o) a b (under_way h.shapes h.past) inner other ∙ e))
     (ap (λ t. if t then vs else scalars h.shapes o h.past) none) refl k
 
-entry_excludes : (kind : Kind) → is_entry kind ≡ true → is_function kind ≡ false
+pub entry_excludes : (kind : Kind) → is_entry kind ≡ true → is_function kind ≡ false
 entry_excludes (Function range) e = absurd (off e)
 entry_excludes Procedure e = refl
 entry_excludes (EntryKind barrier) e = refl

@@ -1,20 +1,19 @@
 -- Whom an end names waits in a queue, so whoever doesn't is named by nobody; one that has quit asks nothing that is
 -- recorded, and there is nobody beyond the actors.
-use Rattle.std.proofs.Common.{◌≡◌, ◌≢◌, ℕ, ◌<◌, ◌≤◌, List, [], ◌∷◌, ◌++◌, length, Some, None, Option, Bool, true, false, arith, ap, subst, sym, ◌∙◌, refl}
+use Rattle.std.proofs.Common.{◌≡◌, ℕ, ◌<◌, ◌≤◌, List, [], ◌∷◌, ◌++◌, length, Some, None, Option, Bool, true, false, arith, ap, sym, ◌∙◌, refl}
 use Rattle.std.specs.Prelude.{nat_lt, ◌==◌, ◌||◌}
 use Rattle.std.specs.List.{list_all, list_any}
 use Rattle.std.proofs.lemmas.Bool.Decides.{nat_tests}
 use Rattle.rv_access.specs.Words.{Words}
 use Rattle.rv_shape.specs.Shape.{Shape}
 use Rattle.rv_shape.specs.Catalogue.{Who, Operator, Line, Task, Nobody, target, who}
-use Rattle.rv_event.specs.Past.{held, is_named, is_own, mode, mode_by, named_in, names, next_of, or_else, stance}
+use Rattle.rv_event.specs.Past.{held, is_named, is_own, mode, mode_by, named_in, names, or_else, stance}
 use Rattle.rv_event.specs.Recorded.{recorded}
 use Rattle.rv_event.specs.declared.entry.Body.{Body}
 use Rattle.rv_event.specs.declared.entry.Entry.{Entry}
 use Rattle.rv_event.specs.declared.entry.Entry.TheVariants.{Asked, Load, ListChange}
 use Rattle.rv_event.specs.declared.entry.Mode.TheVariants as Modes
 use Rattle.rv_event.specs.declared.entry.Next.{Next}
-use Rattle.rv_event.specs.declared.entry.Next.TheVariants.{Nothing, HandedTo, Dropped}
 use Rattle.rv_event.specs.declared.entry.Recorded.{Recorded}
 use Rattle.rv_event.specs.declared.entry.Recorded.TheVariants.{Started, Queued, Refused, Done, Suspended, Delayed, Woken, Accepted}
 use Rattle.rv_event.specs.declared.entry.Request.{Request}
@@ -22,7 +21,7 @@ use Rattle.rv_event.specs.declared.entry.Request.TheVariants.{Call, Complete, Re
 use Rattle.rv_event.specs.declared.entry.Stance.{Stance}
 use Rattle.rv_event.specs.declared.entry.Stance.TheVariants.{Free, InQueue, HandedOver, DroppedBy, WaitsOn, WaitsUntil, Gone}
 use Rattle.rv_history.specs.Due.{out}
-use Rattle.rv_history.specs.Fitting.{awaits, call_fits, fits_actor, idle_line, idle_task, in_body, is_operator, is_tick, is_time, may_call}
+use Rattle.rv_history.specs.Fitting.{awaits, call_fits, fits_actor, idle_line, idle_task, in_body, is_tick, is_time, may_call}
 use Rattle.rv_history.specs.Frame.{is_apart}
 use Rattle.rv_history.specs.HandOver.{is_complete}
 use Rattle.rv_history.specs.History.{History}
@@ -90,7 +89,7 @@ unnamed h a r w n l e calm = by_test (names n (Asked a r w)) refl
         absurd (off (sym calm ∙ ap is_queued (ap (λ m. stance m h.past) (sym q.its) ∙ q.waits.at)))
     by_test false f = refl
 
-neither : (b c : Bool) → (b || c) ≡ false → (b ≡ false) × (c ≡ false)
+pub neither : (b c : Bool) → (b || c) ≡ false → (b ≡ false) × (c ≡ false)
 neither true c e = absurd (off (sym e))
 neither false c e = (refl, e)
 

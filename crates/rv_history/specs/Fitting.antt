@@ -3,6 +3,7 @@ use Rattle.std.specs.Prelude.{ℕ, ◌-◌, Bool, true, false, nat_lt, ◌&&◌,
 use Rattle.std.specs.Prelude.{Some, None, Option, ℤ, pos, negsuc, int_le}
 use Rattle.std.specs.List.{filter}
 use Rattle.rv_shape.specs.Shape.{Shape}
+use Rattle.rv_shape.specs.Kinds.{holds}
 use Rattle.rv_shape.specs.Catalogue.{Who, Operator, Line, Task, who, Target, Nowhere, OnProtected, OnSuspension}
 use Rattle.rv_shape.specs.Catalogue.{target, is_function, goes_in, goes_out}
 use Rattle.rv_event.specs.Past.{held, innermost, mode}
@@ -28,7 +29,7 @@ abbrev pub all_fit : List Range → List ℤ → Bool
 all_fit [] [] = true
 all_fit [] (v ∷ vs) = false
 all_fit (r ∷ rs) [] = false
-all_fit (r ∷ rs) (v ∷ vs) = (int_le r.low v && int_le v r.high) && all_fit rs vs
+all_fit (r ∷ rs) (v ∷ vs) = holds r v && all_fit rs vs
 
 -- the values of a call: those of the `in` and `in out` parameters (6.2)
 abbrev pub ranges_in : List Parameter → List Range

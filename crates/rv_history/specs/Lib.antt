@@ -8,6 +8,7 @@ pub mod Due
 pub mod Lists
 pub mod Legal
 pub mod Steps
+pub mod Spelled
 pub mod Headline
 pub mod HandOver
 pub mod Orderly

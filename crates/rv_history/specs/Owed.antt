@@ -7,6 +7,8 @@ use Rattle.rv_event.specs.declared.entry.Stance.{Stance}
 use Rattle.rv_event.specs.declared.entry.Stance.TheVariants.{Free, InQueue, HandedOver, DroppedBy, WaitsOn}
 use Rattle.rv_event.specs.declared.entry.Stance.TheVariants.{WaitsUntil, Gone}
 use Rattle.rv_event.specs.declared.entry.Entry.{Entry}
+use Rattle.rv_event.specs.declared.entry.Request.{Request}
+use Rattle.rv_event.specs.declared.entry.Request.TheVariants.{Complete, Resume, Quit, Halt}
 use Rattle.rv_history.specs.History.{History}
 
 -- 2 for a queued call; 2 for a handed one, of which its open start is one; 1 for an actor that is dropped, suspended
@@ -59,3 +61,11 @@ room h = h.capacity - (length h.past + owed h.shapes h.past)
 -- the entries and what is owed are within the capacity
 abbrev pub IsSolvent : History → Type 0
 IsSolvent h = length h.past + owed h.shapes h.past ≤ h.capacity
+
+-- the requests that pay for themselves: an end, a resume, a quit and the halt
+abbrev pub is_paid : Request → Bool
+is_paid (Complete values exit) = true
+is_paid Resume = true
+is_paid Quit = true
+is_paid Halt = true
+is_paid request = false

@@ -39,6 +39,7 @@ operation name kind parameters = record { name = name; kind = kind; parameters =
 abbrev pub valve : Object
 valve = Protected (record {
   name = codes "Valve";
+  is_visible = true;
   ceiling = 20;
   components = component (pos 0) (pos 1) (pos 0) ∷ component (pos 0) (pos 100) (pos 0) ∷ [];
   operations = operation (codes "Get") (Function (range (pos 0) (pos 100))) []
@@ -49,14 +50,18 @@ valve = Protected (record {
 abbrev pub gauge : Object
 gauge = Protected (record {
   name = codes "Gauge";
+  is_visible = true;
   ceiling = 25;
   components = component (pos 0) (pos 100) (pos 7) ∷ [];
   operations = operation (codes "Read") (Function (range (pos 0) (pos 100))) []
       ∷ operation (codes "Bump") Procedure [] ∷ [];
 })
 
+abbrev pub ready : Object
+ready = Suspension (record { name = codes "Ready"; is_visible = true })
+
 abbrev pub plant : Shape
-plant = record { name = codes "Plant"; tasks = []; objects = valve ∷ gauge ∷ Suspension (codes "Ready") ∷ [] }
+plant = record { name = codes "Plant"; tasks = []; objects = valve ∷ gauge ∷ ready ∷ [] }
 
 abbrev pub task : List ℕ → ℕ → TaskShape
 task name priority = record { name = name; priority = priority }
@@ -199,6 +204,7 @@ FullAndHalted = answers_to (loaded 16 (allow_all ∷ []))
 abbrev pub latch : Object
 latch = Protected (record {
   name = codes "Latch";
+  is_visible = true;
   ceiling = 35;
   components = component (pos 0) (pos 1) (pos 0) ∷ [];
   operations = operation (codes "Trip") (Handler 5) [] ∷ operation (codes "Reset") (Handler 4) [] ∷ [];

@@ -1,5 +1,5 @@
 -- When an actor that waits on a suspension object is released (D.10).
-use Rattle.std.specs.Prelude.{◌≡◌, ℕ, true, List, ◌∷◌, ◌++◌, Some}
+use Rattle.std.specs.Prelude.{◌≡◌, ℕ, true, List, [], ◌∷◌, ◌++◌, Some}
 use Rattle.std.specs.List.{list_all}
 use Rattle.rv_event.specs.Past.{Sets, touch, waiter}
 use Rattle.rv_event.specs.declared.entry.Entry.{Entry}

@@ -1,6 +1,8 @@
 //! Laws over histories, each on a function that does nothing.
 
 pub mod bodies;
+pub mod clock;
+pub mod closing;
 pub mod journal;
 pub mod loads;
 pub mod orderly;
@@ -8,6 +10,9 @@ pub mod queues;
 pub mod refusals;
 pub mod room;
 pub mod starts;
+pub mod steps;
+pub mod suspension;
+pub mod words;
 
 ghost use Rattle.rv_history.specs.Rows as rows;
 

@@ -6,3 +6,4 @@ pub mod Drafting
 pub mod NumberingLemmas
 pub mod Added
 pub mod FitsLemmas
+pub mod FoundByName

@@ -1,10 +1,14 @@
 pub mod Objects
 pub mod Shape
+pub mod Limits
+pub mod Kinds
 pub mod Catalogue
+pub mod Forms
 pub mod Fits
 pub mod Readers
 pub mod Items
 pub mod ShapeText
 pub mod Drafts
 pub mod Names
+pub mod Found
 pub mod Printed

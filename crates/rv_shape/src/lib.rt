@@ -7,6 +7,7 @@ pub mod catalogue;
 mod draft;
 pub mod fault;
 mod fits;
+mod forms;
 mod item;
 pub mod kind;
 pub mod laws;

@@ -1,5 +1,5 @@
 -- Numbers of texts: 1 to 18 decimal digits, leading zeros too. (own)
-use Rattle.std.specs.Prelude.{ℕ, ℤ, pos, neg_ℤ, ◌+◌, ◌-◌, ◌*◌, ◌==◌, Bool, ◌&&◌, nat_le, nat_lt, length, if◌then◌else◌, List, [], ◌∷◌, Option, Some, None}
+use Rattle.std.specs.Prelude.{ℕ, ℤ, pos, negsuc, neg_ℤ, ◌+◌, ◌-◌, ◌*◌, ◌==◌, Bool, ◌&&◌, nat_le, nat_lt, length, if◌then◌else◌, List, [], ◌∷◌, Option, Some, None}
 use Rattle.std.specs.Str.{all_ascii_digits}
 
 -- the value of digits behind a number
@@ -26,3 +26,8 @@ as_integer (Some number) = Some (pos number)
 abbrev pub integer_of : List ℕ → Option ℤ
 integer_of [] = None
 integer_of (byte ∷ bytes) = if byte == 45 then negated (natural_of bytes) else as_integer (natural_of (byte ∷ bytes))
+
+-- a number as one that counts: none below 0
+abbrev pub natural_part : ℤ → ℕ
+natural_part (pos number) = number
+natural_part (negsuc number) = 0

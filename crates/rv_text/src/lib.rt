@@ -10,6 +10,6 @@ mod words;
 
 pub use lines::next_line;
 pub use names::{dotted_parts, is_dotted_name, is_identifier, is_same_name};
-pub use numbers::{integer_of, natural_of};
+pub use numbers::{integer_of, natural_of, natural_part};
 pub use sections::{Section, Sections, open_script};
 pub use words::{has_words, next_word};

@@ -1,11 +1,17 @@
-//! What a load leaves as it was.
+//! Loads: how many there are, and what one leaves as it was.
 
-ghost use Rattle.std.specs.Prelude.{◌≡◌, ◌++◌, ℕ, List, Some};
+ghost use Rattle.std.specs.Prelude.{◌≡◌, ◌++◌, ℕ, List, Some, length};
 ghost use Rattle.rv_shape.specs.Catalogue.{OnProtected, Site, UnitObject, place, target};
 ghost use Rattle.rv_event.specs.Past.{scalars, under_way};
 ghost use Rattle.rv_shape.specs.Shape.{Shape};
-ghost use Rattle.rv_history.specs.History.{History};
+ghost use Rattle.rv_history.specs.History.{History, loads};
 ghost use Rattle.rv_history.specs.Legal.{Legal};
+
+/// There are as many shapes as loads.
+#[tactic(auto, using(crate::proofs::Versions::shapes_counted))]
+pub fn shapes_are_as_many_as_loads()
+    ensures { (h : History) → Legal h → loads h.past ≡ length h.shapes }
+{}
 
 /// What is under way stays when more shapes are loaded.
 #[tactic(auto, using(crate::proofs::Loaded::under_way_stays))]

@@ -1,18 +1,22 @@
 //! What becomes of queued callers.
 
 ghost use Rattle.std.specs.List.{list_any};
-ghost use Rattle.std.specs.Prelude.{◌≡◌, ◌↔◌, ◌⊎◌, ℕ, ℤ, List, [], false, true};
-ghost use Rattle.rv_event.specs.Past.{halted, queue, under_way};
-ghost use Rattle.rv_event.specs.declared.entry.Answer.TheVariants.{Done};
+ghost use Rattle.std.specs.Prelude.{◌≡◌, ◌↔◌, ◌⊎◌, ◌++◌, ◌∷◌, ℕ, ℤ, List, [], false, true};
+ghost use Rattle.rv_event.specs.Past.{halted, is_own, queue, under_way};
+ghost use Rattle.rv_event.specs.declared.entry.Answer.TheVariants.{Done, Refused};
+ghost use Rattle.rv_event.specs.declared.entry.Entry.TheVariants.{Asked};
+ghost use Rattle.rv_event.specs.declared.entry.Entry.{Entry};
 ghost use Rattle.rv_event.specs.declared.entry.Exit.{Exit};
 ghost use Rattle.rv_event.specs.declared.entry.Next.TheVariants.{Dropped, HandedTo, Nothing};
 ghost use Rattle.rv_event.specs.declared.entry.Next.{Next};
-ghost use Rattle.rv_event.specs.declared.entry.Request.TheVariants.{Complete};
+ghost use Rattle.rv_event.specs.declared.entry.Recorded.TheVariants as recorded;
+ghost use Rattle.rv_event.specs.declared.entry.Request.TheVariants.{Complete, Resume};
 ghost use Rattle.rv_event.specs.declared.entry.Request.{Request};
+ghost use Rattle.rv_event.specs.declared.entry.Rule.TheVariants.{Grant};
 ghost use Rattle.rv_history.specs.Due.{out};
 ghost use Rattle.rv_history.specs.Exclusion.{is_open};
-ghost use Rattle.rv_history.specs.HandOver.{IsDropped, IsHandedOver, IsOnlyDropped, is_complete};
-ghost use Rattle.rv_history.specs.History.{History};
+ghost use Rattle.rv_history.specs.HandOver.{IsDropped, IsHanded, IsHandedOver, IsOnlyDropped, is_complete};
+ghost use Rattle.rv_history.specs.History.{History, changes};
 ghost use Rattle.rv_history.specs.Legal.{Legal, after};
 ghost use Rattle.rv_history.specs.Orderly.{is_exclusive_on};
 ghost use Rattle.rv_history.specs.Owed.{IsSolvent};
@@ -59,4 +63,25 @@ pub fn denials_only_drop()
         Legal h → out h actor (Complete values exit) ≡ Done (Dropped caller line) →
         IsOnlyDropped h (after h actor (Complete values exit) (Done (Dropped caller line)))
         (after h actor (Complete values exit) (Done Nothing)) caller }
+{}
+
+/// Until it asks for anything, the caller whom an end handed over to holds its queued call's body
+/// alone, on the object of the end; it is handed, and is woken with the values that the end left.
+pub fn handed_callers_hold_their_bodies()
+    ensures { (h : History) (later past : List Entry) (actor : ℕ) (values : List ℤ) (exit : Exit)
+        (caller : ℕ) →
+        Legal h → IsSolvent h →
+        h.past ≡ later ++ Asked actor (Complete values exit) (recorded.Done (HandedTo caller)) ∷ past →
+        list_any (is_own caller) later ≡ false → IsHanded h past actor values caller }
+{}
+
+/// Whenever it asks, a caller that was dropped is refused by the line of the drop, with the version
+/// that the list had then.
+pub fn dropped_callers_are_told_of_the_drop()
+    ensures { (h : History) (later past : List Entry) (actor : ℕ) (values : List ℤ) (exit : Exit)
+        (caller line : ℕ) →
+        Legal h → IsSolvent h →
+        h.past ≡ later ++ Asked actor (Complete values exit) (recorded.Done (Dropped caller line)) ∷ past →
+        list_any (is_own caller) later ≡ false →
+        out h caller Resume ≡ Refused Grant line (changes past) }
 {}

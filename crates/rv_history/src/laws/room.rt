@@ -1,7 +1,9 @@
 //! Room: what is under way can always end.
 
-ghost use Rattle.std.specs.Prelude.{◌≡◌, ◌≢◌, ◌≤◌, ◌+◌, ◌↔◌, ◌∷◌, ℕ, List, ℤ, true};
+ghost use Rattle.std.specs.Prelude.{◌≡◌, ◌≢◌, ◌≤◌, ◌+◌, ◌↔◌, ◌∷◌, ◌++◌, ℕ, List, [], ℤ, length, true};
+ghost use Rattle.rv_shape.specs.Shape.{Shape};
 ghost use Rattle.rv_event.specs.declared.entry.Answer.TheVariants.{Full};
+ghost use Rattle.rv_event.specs.declared.entry.Entry.TheVariants.{ListChange, Load};
 ghost use Rattle.rv_event.specs.declared.entry.Entry.{Entry};
 ghost use Rattle.rv_event.specs.declared.entry.Exit.{Exit};
 ghost use Rattle.rv_event.specs.declared.entry.Request.TheVariants.{Complete, Halt, Quit, Resume};
@@ -9,7 +11,7 @@ ghost use Rattle.rv_event.specs.declared.entry.Request.{Request};
 ghost use Rattle.rv_history.specs.Due.{due, out};
 ghost use Rattle.rv_history.specs.History.{History};
 ghost use Rattle.rv_history.specs.Legal.{Legal};
-ghost use Rattle.rv_history.specs.Owed.{IsSolvent, has_room, owed, room};
+ghost use Rattle.rv_history.specs.Owed.{IsSolvent, has_room, is_paid, owed, room};
 
 /// On a legal history what is owed has its room: room is never negative.
 #[tactic(auto, using(crate::proofs::Room::legal_solvent))]
@@ -17,13 +19,28 @@ pub fn room_is_never_negative()
     ensures { (h : History) → 1 ≤ h.capacity → Legal h → IsSolvent h }
 {}
 
-/// An entry has its room exactly where its cost, one and the change of what is owed, is no greater
-/// than the room.
+/// An entry, with the shapes that there are then, has its room exactly where its cost, one and the
+/// change of what is owed, is no greater than the room.
 #[tactic(auto, using(crate::proofs::Room::room_reads))]
 pub fn cost_is_one_and_the_change_of_owed()
-    ensures { (h : History) (entry : Entry) → IsSolvent h →
-        (has_room h.capacity h.shapes (entry ∷ h.past) ≡ true)
-        ↔ (1 + owed h.shapes (entry ∷ h.past) ≤ room h + owed h.shapes h.past) }
+    ensures { (h : History) (entry : Entry) (shapes : List Shape) → IsSolvent h →
+        (has_room h.capacity shapes (entry ∷ h.past) ≡ true)
+        ↔ (1 + owed shapes (entry ∷ h.past) ≤ room h + owed h.shapes h.past) }
+{}
+
+/// A load costs one and its tasks, each of which owes its quit.
+#[tactic(auto, using(crate::proofs::Costs::load_costs))]
+pub fn loads_cost_one_and_their_tasks()
+    ensures { (h : History) (shape : Shape) → Legal h → IsSolvent h →
+        (has_room h.capacity (h.shapes ++ shape ∷ []) (Load ∷ h.past) ≡ true)
+        ↔ (1 + length shape.tasks ≤ room h) }
+{}
+
+/// A list change costs one.
+#[tactic(auto, using(crate::proofs::Costs::list_costs))]
+pub fn list_changes_cost_one()
+    ensures { (h : History) → IsSolvent h →
+        (has_room h.capacity h.shapes (ListChange ∷ h.past) ≡ true) ↔ (1 ≤ room h) }
 {}
 
 /// Full is never due: it stands in for an answer that has no room.
@@ -55,8 +72,15 @@ pub fn quit_has_room()
         out h actor Quit ≡ due h actor Quit }
 {}
 
-/// So is a halt of the operator.
-#[tactic(auto, using(crate::proofs::Pays::halt_never_full))]
+/// So is a halt.
+#[tactic(auto, using(crate::proofs::Costs::halt_paid))]
 pub fn halt_has_room()
-    ensures { (h : History) → IsSolvent h → out h 0 Halt ≡ due h 0 Halt }
+    ensures { (h : History) (actor : ℕ) → IsSolvent h → out h actor Halt ≡ due h actor Halt }
+{}
+
+/// None of the four is ever answered Full.
+#[tactic(auto, using(crate::proofs::Costs::paid_never_full))]
+pub fn paid_requests_are_never_full()
+    ensures { (h : History) (actor : ℕ) (request : Request) → Legal h → IsSolvent h →
+        is_paid request ≡ true → out h actor request ≢ Full }
 {}

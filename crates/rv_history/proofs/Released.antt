@@ -1,0 +1,302 @@
+-- One that waits on a suspension object is that object's waiter until a Set_True there, which releases it.
+use Rattle.std.proofs.Common.{◌≡◌, ◌⊎◌, inl, inr, ℕ, List, [], ◌∷◌, ◌++◌, Some, None, Option, Bool, true, false, ap, sym, ◌∙◌, refl}
+use Rattle.std.specs.Prelude.{ℤ, ◌==◌, ◌||◌, not, ◌↔◌, is_some, pos, if◌then◌else◌}
+use Rattle.std.specs.List.{list_all, list_any}
+use Rattle.rv_access.specs.Words.{Words}
+use Rattle.rv_shape.specs.Shape.{Shape}
+use Rattle.rv_shape.specs.Objects.{OperationShape, ProtectedShape}
+use Rattle.rv_shape.specs.declared.object.Object.{Object}
+use Rattle.rv_shape.specs.declared.object.Object.TheVariants.{Protected, Suspension}
+use Rattle.rv_shape.specs.Catalogue.{UnitObject, Target, Nowhere, OnProtected, OnSuspension, at_object, at_operation, at_suspension, at_unit_object, first_of, numbered, place, suspension_operations, target, is_function}
+use Rattle.rv_shape.specs.declared.suspension.SuspensionOperation.{SuspensionOperation}
+use Rattle.rv_shape.specs.declared.suspension.SuspensionOperation.TheVariants.{SetTrue, SetFalse, CurrentState, SuspendUntilTrue}
+use Rattle.rv_event.specs.Past.{Touch, Waits, Sets, Clears, Untouched, accepted_touch, if_named, if_own, is_named, is_own, is_set, named_in, names, next_of, or_else, released, said, scalars, since, stance, stance_of, state, state_after, touch, touch_of, waiter, waiter_after}
+use Rattle.rv_event.specs.Recorded.{recorded}
+use Rattle.rv_event.specs.declared.entry.Answer.TheVariants as Answers
+use Rattle.rv_event.specs.declared.entry.Entry.{Entry}
+use Rattle.rv_event.specs.declared.entry.Entry.TheVariants.{Asked, Load, ListChange}
+use Rattle.rv_event.specs.declared.entry.Next.{Next}
+use Rattle.rv_event.specs.declared.entry.Next.TheVariants.{Nothing, HandedTo, Dropped}
+use Rattle.rv_event.specs.declared.entry.Recorded.{Recorded}
+use Rattle.rv_event.specs.declared.entry.Recorded.TheVariants.{Started, Queued, Refused, Done, Suspended, Delayed, Woken, Accepted}
+use Rattle.rv_event.specs.declared.entry.Request.{Request}
+use Rattle.rv_event.specs.declared.entry.Request.TheVariants.{Call, Complete, Resume, DelayUntil, Clock, Fire, Quit, Tick, Halt}
+use Rattle.rv_event.specs.declared.entry.Rule.TheVariants as Rules
+use Rattle.rv_event.specs.declared.entry.Stance.{Stance}
+use Rattle.rv_event.specs.declared.entry.Stance.TheVariants.{HandedOver, DroppedBy, WaitsOn}
+use Rattle.rv_history.specs.Due.{due_call, judged, or_waiting, out, performed}
+use Rattle.rv_history.specs.Exclusion.{excluded, full_queue, is_barred}
+use Rattle.rv_history.specs.Frame.{is_apart}
+use Rattle.rv_history.specs.History.{History, version}
+use Rattle.rv_history.specs.Legal.{IsLegal, Legal, after}
+use Rattle.rv_history.specs.Owed.{IsSolvent}
+use Rattle.rv_history.specs.Rules.{breaks, decided}
+use Rattle.rv_history.specs.Subject.{subject}
+use Rattle.rv_history.specs.Suspension.{IsReleased}
+use Rattle.rv_history.proofs.Answered.{off, answered}
+use Rattle.rv_history.proofs.Ending.{some_number}
+use Rattle.rv_history.proofs.Frame.{all_more, all_parts, apart_of, none_named, unsaid}
+use Rattle.rv_history.proofs.Resumes.{resume_due, woken_ready}
+use Rattle.rv_history.proofs.Stances.{itself, same_number}
+
+-- Where a call is answered Suspended nobody waits there
+
+judged_not : (v l : ℕ) (vs : List ℤ) (d b r a y c f : Bool) → recorded (judged v l vs d b r a y c f) ≡ Some Suspended → ⊥
+judged_not v l vs true b r a y c f e = cc
+judged_not v l vs false true r a y c f e = cc
+judged_not v l vs false false true a y c f e = cc
+judged_not v l vs false false false true y c f e = cc
+judged_not v l vs false false false false true c f e = cc
+judged_not v l vs false false false false false true true e = cc
+judged_not v l vs false false false false false true false e = cc
+judged_not v l vs false false false false false false f e = cc
+
+unwaited : (v : ℕ) (b w s : Bool) (d : SuspensionOperation) (l : ℕ) (denied : Bool) → recorded (if denied then Answers.Refused Rules.Grant l v else performed v b w s d) ≡ Some Suspended → (d ≡ SuspendUntilTrue) × (w ≡ false)
+unwaited v b w s d l true e = absurd (cc)
+unwaited v b w s SetTrue l false e = absurd (cc)
+unwaited v b w s SetFalse l false e = absurd (cc)
+unwaited v b w s CurrentState l false e = absurd (cc)
+unwaited v true w s SuspendUntilTrue l false e = absurd (cc)
+unwaited v false true s SuspendUntilTrue l false e = absurd (cc)
+unwaited v false false s SuspendUntilTrue l false e = (refl, refl)
+
+nobody : (o : Option ℕ) → is_some o ≡ false → o ≡ None
+nobody None e = refl
+nobody (Some n) e = absurd (off (sym e))
+
+no_waiter : (h : History) (a o p : ℕ) (vs : List ℤ) (t : Target) → recorded (due_call h a (Call o p vs) o t) ≡ Some Suspended → waiter o h.past ≡ None
+no_waiter h a o p vs Nowhere e = absurd (cc)
+no_waiter h a o p vs (OnProtected s) e =
+    absurd (judged_not (version h) (decided h (subject h a) (OnProtected s)) (scalars h.shapes o h.past) (breaks h Rules.Grant a (Call o p vs) o (OnProtected s)) (breaks h Rules.Blocking a (Call o p vs) o (OnProtected s))
+    (breaks h Rules.Reentry a (Call o p vs) o (OnProtected s)) (breaks h Rules.Ceiling a (Call o p vs) o (OnProtected s)) (excluded h o (is_function s.operation.kind)) (is_barred h o s.operation.kind) (full_queue h o) e)
+no_waiter h a o p vs (OnSuspension unit name wanted) e =
+    let t : Target = OnSuspension unit name wanted in
+    let u = unwaited (version h) (breaks h Rules.Blocking a (Call o p vs) o t) (breaks h Rules.Waiter a (Call o p vs) o t) (state o h.past) wanted (decided h (subject h a) t) (breaks h Rules.Grant a (Call o p vs) o t) e in
+    let none : is_some (waiter o h.past) ≡ false = ap (λ d. breaks h Rules.Waiter a (Call o p vs) o (OnSuspension unit name d)) (sym u.0) ∙ u.1 in
+    nobody (waiter o h.past) none
+
+pub suspends_alone : (h : History) (a o p : ℕ) (vs : List ℤ) → recorded (out h a (Call o p vs)) ≡ Some Suspended → waiter o h.past ≡ None
+suspends_alone h a o p vs e = no_waiter h a o p vs (target h.shapes o p) (answered h a (Call o p vs) Suspended e).said
+
+-- What an entry does to an object whose waiter there is
+
+abbrev pub waits : Touch → Bool
+waits (Waits actor) = true
+waits Sets = false
+waits Clears = false
+waits Untouched = false
+
+call_waits : (h : History) (b p : ℕ) (vs : List ℤ) (q o : ℕ) (w : Recorded) (a : ℕ) → recorded (out h b (Call q p vs)) ≡ Some w → waiter o h.past ≡ Some a → waits (if q == o then touch_of (Asked b (Call q p vs) w) else Untouched) ≡ false
+call_waits h b p vs q o w a e there = by_test (q == o) refl
+  where
+    by_word : (w : Recorded) → (q == o) ≡ true → recorded (out h b (Call q p vs)) ≡ Some w → waits (touch_of (Asked b (Call q p vs) w)) ≡ false
+    by_word Suspended is e =
+        let none : waiter o h.past ≡ None = ap (λ m. waiter m h.past) (sym (same_number q o is)) ∙ suspends_alone h b q p vs e in
+        let some : is_some (waiter o h.past) ≡ true = ap is_some there in
+        absurd (off (sym (ap is_some none) ∙ some))
+    by_word (Accepted v) is e = by_operation (numbered suspension_operations p)
+      where
+        by_operation : (d : Option SuspensionOperation) → waits (accepted_touch d) ≡ false
+        by_operation None = refl
+        by_operation (Some SetTrue) = refl
+        by_operation (Some SetFalse) = refl
+        by_operation (Some CurrentState) = refl
+        by_operation (Some SuspendUntilTrue) = refl
+    by_word Started is e = refl
+    by_word Queued is e = refl
+    by_word (Refused rule line v) is e = refl
+    by_word (Done next) is e = refl
+    by_word Delayed is e = refl
+    by_word Woken is e = refl
+
+    by_test : (t : Bool) → (q == o) ≡ t → waits (if t then touch_of (Asked b (Call q p vs) w) else Untouched) ≡ false
+    by_test true is = by_word w is e
+    by_test false is = refl
+
+touches : (h : History) (b : ℕ) (r : Request) (o : ℕ) (w : Recorded) (a : ℕ) → recorded (out h b r) ≡ Some w → waiter o h.past ≡ Some a → waits (touch o (Asked b r w)) ≡ false
+touches h b (Call q p vs) o w a e there = call_waits h b p vs q o w a e there
+touches h b (Complete vs x) o w a e there = refl
+touches h b Resume o w a e there = refl
+touches h b (DelayUntil t) o w a e there = refl
+touches h b Clock o w a e there = refl
+touches h b Fire o w a e there = refl
+touches h b Quit o w a e there = refl
+touches h b (Tick n) o w a e there = refl
+touches h b Halt o w a e there = refl
+
+-- Until it is released it is the waiter
+
+abbrev pub Outcome : ℕ → ℕ → List Entry → Type 0
+Outcome a o past = ((released a o past ≡ false) × (waiter o past ≡ Some a)) ⊎ IsReleased a o past
+
+since_apart : (a : ℕ) (e : Entry) (past : List Entry) → is_apart a e ≡ true → since a (e ∷ past) ≡ e ∷ since a past
+since_apart a e past apart = ap (λ s. if is_some s then [] else e ∷ since a past) (unsaid a e apart)
+
+released_more : (a o : ℕ) (e : Entry) (past : List Entry) → is_apart a e ≡ true → released a o (e ∷ past) ≡ (is_set (touch o e) || released a o past)
+released_more a o e past apart = ap (list_any (λ x. is_set (touch o x))) (since_apart a e past apart)
+
+apart_step : (a o : ℕ) (e : Entry) (past : List Entry) → is_apart a e ≡ true → (waiter o past ≡ Some a → waits (touch o e) ≡ false) → Outcome a o past → Outcome a o (e ∷ past)
+apart_step a o e past apart calm (inr r) = inr (record {
+  later = e ∷ r.later;
+  set = r.set;
+  earlier = r.earlier;
+  split = ap (λ es. e ∷ es) r.split;
+  sets = r.sets;
+  waited = r.waited;
+  silent = all_more (is_apart a) e (r.later ++ r.set ∷ []) apart r.silent;
+})
+apart_step a o e past apart calm (inl was) = by_touch (touch o e) refl
+  where
+    by_touch : (t : Touch) → touch o e ≡ t → Outcome a o (e ∷ past)
+    by_touch (Waits n) is = absurd (off (sym (calm was.1) ∙ ap waits is))
+    by_touch Sets is = inr (record { later = []; set = e; earlier = past; split = refl; sets = is; waited = was.1; silent = all_more (is_apart a) e [] apart refl })
+    by_touch Clears is = inl (released_more a o e past apart ∙ ap (λ t. is_set t || released a o past) is ∙ was.0, ap (λ t. waiter_after t (waiter o past)) is ∙ was.1)
+    by_touch Untouched is = inl (released_more a o e past apart ∙ ap (λ t. is_set t || released a o past) is ∙ was.0, ap (λ t. waiter_after t (waiter o past)) is ∙ was.1)
+
+-- the entry by which it waits
+record Suspends (o : ℕ) (r : Request) (w : Recorded) : Type 0 where
+  operation : ℕ
+  values : List ℤ
+  call : r ≡ Call o operation values
+  word : w ≡ Suspended
+
+suspends_by : (b : ℕ) (r : Request) (w : Recorded) (o : ℕ) → stance_of (Asked b r w) ≡ WaitsOn o → Suspends o r w
+suspends_by b (Call q p vs) Suspended o e =
+    let same : q ≡ o = cc in
+    record { operation = p; values = vs; call = ap (λ m. Call m p vs) same; word = refl }
+suspends_by b (Call q p vs) w o e = absurd (cc)
+suspends_by b (Complete vs x) w o e = absurd (cc)
+suspends_by b Resume w o e = absurd (cc)
+suspends_by b (DelayUntil t) Delayed o e = absurd (cc)
+suspends_by b (DelayUntil t) w o e = absurd (cc)
+suspends_by b Clock w o e = absurd (cc)
+suspends_by b Fire w o e = absurd (cc)
+suspends_by b Quit (Accepted v) o e = absurd (cc)
+suspends_by b Quit w o e = absurd (cc)
+suspends_by b (Tick n) w o e = absurd (cc)
+suspends_by b Halt w o e = absurd (cc)
+
+named_not : (next : Next) (a o : ℕ) (s : Option Stance) (t : Stance) → is_named a (named_in next) ≡ true → or_else (first_of (if_named a next) s) t ≡ WaitsOn o → ⊥
+named_not Nothing a o s t is e = off is
+named_not (HandedTo n) a o s t is e =
+    let f : HandedOver ≡ WaitsOn o = sym (ap (λ b. or_else (first_of (if b then Some HandedOver else None) s) t) is) ∙ e in
+    cc
+named_not (Dropped n line) a o s t is e =
+    let f : DroppedBy line ≡ WaitsOn o = sym (ap (λ b. or_else (first_of (if b then Some (DroppedBy line) else None) s) t) is) ∙ e in
+    cc
+
+own_said : (a : ℕ) (e : Entry) → names a e ≡ false → is_own a e ≡ true → said a e ≡ Some (stance_of e)
+own_said a e none own = λ i. first_of (none_named (next_of e) a none i) (if own i then Some (stance_of e) else None)
+
+own_waits : (a o : ℕ) (b : ℕ) (r : Request) (w : Recorded) (past : List Entry) → names a (Asked b r w) ≡ false → is_own a (Asked b r w) ≡ true → Suspends o r w → Outcome a o (Asked b r w ∷ past)
+own_waits a o b r w past none own s = inl (
+  ap (λ t. list_any (λ x. is_set (touch o x)) (if is_some t then [] else Asked b r w ∷ since a past)) (own_said a (Asked b r w) none own),
+  (λ i. waiter_after (touch o (Asked b (s.call i) (s.word i))) (waiter o past))
+      ∙ ap (λ t. waiter_after (if t then Waits b else Untouched) (waiter o past)) (itself o)
+      ∙ ap (λ n. Some n) (same_number b a own),
+)
+
+pub outcome : (c : ℕ) (past : List Entry) (shapes : List Shape) (lists : List (List Words)) (a o : ℕ) → IsLegal c past shapes lists → stance a past ≡ WaitsOn o → Outcome a o past
+outcome c [] shapes lists a o l at = absurd (cc)
+outcome c (Load ∷ past) shapes lists a o l at = apart_step a o Load past refl (λ w. refl) (outcome c past l.0 lists a o l.3 at)
+outcome c (ListChange ∷ past) shapes lists a o l at = apart_step a o ListChange past refl (λ w. refl) (outcome c past shapes l.0 a o l.3 at)
+outcome c (Asked b r w ∷ past) shapes lists a o l at = by_tests (names a (Asked b r w)) (is_own a (Asked b r w)) refl refl (λ was. outcome c past shapes lists a o l.0 was)
+  where
+    by_tests : (n m : Bool) → names a (Asked b r w) ≡ n → is_own a (Asked b r w) ≡ m → (stance a past ≡ WaitsOn o → Outcome a o past) → Outcome a o (Asked b r w ∷ past)
+    by_tests true m named own rest = absurd (named_not (next_of (Asked b r w)) a o (if_own a (Asked b r w)) (stance a past) named at)
+    by_tests false true named own rest =
+        own_waits a o b r w past named own (suspends_by b r w o (sym (ap (λ s. or_else s (stance a past)) (own_said a (Asked b r w) named own)) ∙ at))
+    by_tests false false named own rest =
+        let apart = apart_of a (Asked b r w) own named in
+        let h : History = record { capacity = c; past = past; shapes = shapes; lists = lists } in
+        apart_step a o (Asked b r w) past apart (λ there. touches h b r o w a l.1 there) (rest (sym (ap (λ s. or_else s (stance a past)) (unsaid a (Asked b r w) apart)) ∙ at))
+
+-- A Set_True since then releases it
+
+or_more : (b c : Bool) → c ≡ true → (b || c) ≡ true
+or_more true c e = refl
+or_more false c e = e
+
+set_releases : (a o : ℕ) (later : List Entry) (set : Entry) (earlier : List Entry) → list_all (is_apart a) (later ++ set ∷ []) ≡ true → touch o set ≡ Sets → released a o (later ++ set ∷ earlier) ≡ true
+set_releases a o [] set earlier silent sets =
+    released_more a o set earlier (all_parts (is_apart a) set [] silent).0 ∙ ap (λ t. is_set t || released a o earlier) sets
+set_releases a o (e ∷ later) set earlier silent sets =
+    let parts = all_parts (is_apart a) e (later ++ set ∷ []) silent in
+    released_more a o e (later ++ set ∷ earlier) parts.0 ∙ or_more (is_set (touch o e)) (released a o (later ++ set ∷ earlier)) (set_releases a o later set earlier parts.1 sets)
+
+-- What its resume is answered
+
+resume_answer : (h : History) (a o : ℕ) → Legal h → IsSolvent h → stance a h.past ≡ WaitsOn o → out h a Resume ≡ or_waiting h (released a o h.past)
+resume_answer h a o l solvent at = resume_due h a (WaitsOn o) l solvent at refl
+
+pub woken_exactly : (h : History) (a o : ℕ) → Legal h → IsSolvent h → stance a h.past ≡ WaitsOn o → (out h a Resume ≡ Answers.Woken None) ↔ IsReleased a o h.past
+woken_exactly h a o l solvent at = (to, from)
+  where
+    to : out h a Resume ≡ Answers.Woken None → IsReleased a o h.past
+    to e = by_outcome (outcome h.capacity h.past h.shapes h.lists a o l at)
+      where
+        by_outcome : Outcome a o h.past → IsReleased a o h.past
+        by_outcome (inl was) = absurd (off (sym was.0 ∙ woken_ready h (released a o h.past) (sym (resume_answer h a o l solvent at) ∙ e)))
+        by_outcome (inr r) = r
+
+    from : IsReleased a o h.past → out h a Resume ≡ Answers.Woken None
+    from r =
+        let yes : released a o h.past ≡ true = ap (released a o) r.split ∙ set_releases a o r.later r.set r.earlier r.silent r.sets in
+        resume_answer h a o l solvent at ∙ ap (or_waiting h) yes
+
+-- What a Set_True leaves
+
+operation_is : (p : ℕ) (q : Option UnitObject) (unit name : List ℕ) (d : SuspensionOperation) → at_unit_object p q ≡ OnSuspension unit name d → numbered suspension_operations p ≡ Some d
+operation_is p None unit name d e = absurd (cc)
+operation_is p (Some at) unit name d e = by_object at.object e
+  where
+    by_protected : (b : ProtectedShape) (s : Option OperationShape) → at_operation at.unit b s ≡ OnSuspension unit name d → numbered suspension_operations p ≡ Some d
+    by_protected b None f = absurd (cc)
+    by_protected b (Some s) f = absurd (cc)
+
+    by_suspension : (n : List ℕ) (s : Option SuspensionOperation) → numbered suspension_operations p ≡ s → at_suspension at.unit n s ≡ OnSuspension unit name d → numbered suspension_operations p ≡ Some d
+    by_suspension n None is f = absurd (cc)
+    by_suspension n (Some k) is f =
+        let same : k ≡ d = cc in
+        is ∙ ap (λ x. Some x) same
+
+    by_object : (ob : Object) → at_object p at.unit ob ≡ OnSuspension unit name d → numbered suspension_operations p ≡ Some d
+    by_object (Protected b) f = by_protected b (numbered b.operations p) f
+    by_object (Suspension s) f = by_suspension s.name (numbered suspension_operations p) refl f
+
+sets : (h : History) (a o p : ℕ) (vs : List ℤ) (v : ℤ) (unit name : List ℕ) → target h.shapes o p ≡ OnSuspension unit name SetTrue → touch o (Asked a (Call o p vs) (Accepted v)) ≡ Sets
+sets h a o p vs v unit name at =
+    (λ i. if itself o i then accepted_touch (numbered suspension_operations p) else Untouched) ∙ ap accepted_touch (operation_is p (place h.shapes o) unit name SetTrue at)
+
+pub set_true_leaves : (h : History) (a o p : ℕ) (vs : List ℤ) (unit name : List ℕ) → target h.shapes o p ≡ OnSuspension unit name SetTrue →
+    let next = (after h a (Call o p vs) (Answers.Accepted (pos 0))).past in (waiter o next ≡ None) × (state o next ≡ not (is_some (waiter o h.past)))
+set_true_leaves h a o p vs unit name at =
+    let t = sets h a o p vs (pos 0) unit name at in
+    (ap (λ k. waiter_after k (waiter o h.past)) t, ap (λ k. state_after k (waiter o h.past) (state o h.past)) t)
+
+-- Who waits
+
+-- two that wait on one object, and aren't released, are one
+pub one_waits : (h : History) (a b o : ℕ) → Legal h → stance a h.past ≡ WaitsOn o → stance b h.past ≡ WaitsOn o → released a o h.past ≡ false → released b o h.past ≡ false → a ≡ b
+one_waits h a b o l at bt none nobody_set =
+    let first = waiter_of h a o l at none in
+    let second = waiter_of h b o l bt nobody_set in
+    some_number a b (sym first ∙ second)
+  where
+    waiter_of : (h : History) (a o : ℕ) → Legal h → stance a h.past ≡ WaitsOn o → released a o h.past ≡ false → waiter o h.past ≡ Some a
+    waiter_of h a o l at none = by_outcome (outcome h.capacity h.past h.shapes h.lists a o l at)
+      where
+        by_outcome : Outcome a o h.past → waiter o h.past ≡ Some a
+        by_outcome (inl was) = was.1
+        by_outcome (inr r) = absurd (off (sym none ∙ ap (released a o) r.split ∙ set_releases a o r.later r.set r.earlier r.silent r.sets))
+
+-- while one waits the state is False
+pub waited_false : (o : ℕ) (past : List Entry) → is_some (waiter o past) ≡ true → state o past ≡ false
+waited_false o [] e = absurd (off e)
+waited_false o (x ∷ past) e = by_touch (touch o x) e (waited_false o past)
+  where
+    by_touch : (t : Touch) → is_some (waiter_after t (waiter o past)) ≡ true → (is_some (waiter o past) ≡ true → state o past ≡ false) → state_after t (waiter o past) (state o past) ≡ false
+    by_touch (Waits n) f rest = refl
+    by_touch Sets f rest = absurd (off f)
+    by_touch Clears f rest = refl
+    by_touch Untouched f rest = rest f

@@ -1,0 +1,61 @@
+-- What the resume of one that waits is answered: what is due by what it waits at.
+use Rattle.std.proofs.Common.{◌≡◌, ℕ, ◌<◌, List, Bool, true, false, arith, ap, sym, ◌∙◌, refl}
+use Rattle.std.specs.Prelude.{nat_lt, ◌&&◌, ◌↔◌, int_le, pos, ℤ, None, if◌then◌else◌}
+use Rattle.std.proofs.lemmas.Bool.Decides.{nat_tests}
+use Rattle.rv_event.specs.Past.{clock, halted, held, mode_by, stance}
+use Rattle.rv_event.specs.declared.entry.Answer.TheVariants as Answers
+use Rattle.rv_event.specs.declared.entry.Body.{Body}
+use Rattle.rv_event.specs.declared.entry.Request.TheVariants.{Resume}
+use Rattle.rv_event.specs.declared.entry.Stance.{Stance}
+use Rattle.rv_event.specs.declared.entry.Stance.TheVariants.{Free, InQueue, HandedOver, DroppedBy, WaitsOn, WaitsUntil, Gone}
+use Rattle.rv_history.specs.Due.{due_resume, gate, or_waiting, out}
+use Rattle.rv_history.specs.Fitting.{awaits, fits}
+use Rattle.rv_history.specs.History.{History}
+use Rattle.rv_history.specs.Legal.{Legal}
+use Rattle.rv_history.specs.Owed.{IsSolvent, actors}
+use Rattle.rv_history.proofs.Answered.{off, and_false}
+use Rattle.rv_history.proofs.Pays.{resume_never_full}
+use Rattle.rv_history.proofs.Silent.{known_actor}
+
+abbrev pub is_waiting : Stance → Bool
+is_waiting Free = false
+is_waiting InQueue = true
+is_waiting HandedOver = true
+is_waiting (DroppedBy line) = true
+is_waiting (WaitsOn object) = true
+is_waiting (WaitsUntil time) = true
+is_waiting Gone = false
+
+awaits_at : (bodies : List Body) (s : Stance) → is_waiting s ≡ true → awaits (mode_by bodies s) ≡ true
+awaits_at bodies Free e = absurd (off e)
+awaits_at bodies InQueue e = refl
+awaits_at bodies HandedOver e = refl
+awaits_at bodies (DroppedBy line) e = refl
+awaits_at bodies (WaitsOn object) e = refl
+awaits_at bodies (WaitsUntil time) e = refl
+awaits_at bodies Gone e = absurd (off e)
+
+to_test : (n m : ℕ) → n < m → nat_lt n m ≡ true
+to_test n m less = grind (arith, nat_tests)
+
+pub resume_due : (h : History) (a : ℕ) (s : Stance) → Legal h → IsSolvent h → stance a h.past ≡ s → is_waiting s ≡ true → out h a Resume ≡ due_resume h a s
+resume_due h a s l solvent at waiting =
+    let busy : stance a h.past ≡ Free → ⊥ = λ free. off (ap is_waiting (sym free ∙ at) ∙ waiting) in
+    let known : nat_lt a (actors h.shapes) ≡ true = to_test a (actors h.shapes) (known_actor h a l busy) in
+    let ready : awaits (mode_by (held h.shapes a h.past) (stance a h.past)) ≡ true = ap (λ t. awaits (mode_by (held h.shapes a h.past) t)) at ∙ awaits_at (held h.shapes a h.past) s waiting in
+    let fit : fits h a Resume ≡ true = λ i. known i && ready i in
+    resume_never_full h a solvent ∙ (λ i. gate (fit i) (and_false (halted h.past) i) (due_resume h a (at i)))
+
+pub woken_ready : (h : History) (b : Bool) → or_waiting h b ≡ Answers.Woken None → b ≡ true
+woken_ready h true e = refl
+woken_ready h false e = by_halt (halted h.past) e
+  where
+    by_halt : (b : Bool) → (if b then Answers.Halted else Answers.Waiting) ≡ Answers.Woken None → false ≡ true
+    by_halt true e = absurd (cc)
+    by_halt false e = absurd (cc)
+
+-- one that is delayed
+pub delay_ends : (h : History) (a : ℕ) (time : ℤ) → Legal h → IsSolvent h → stance a h.past ≡ WaitsUntil time → (out h a Resume ≡ Answers.Woken None) ↔ (int_le time (pos (clock h.past)) ≡ true)
+delay_ends h a time l solvent at =
+    let answer = resume_due h a (WaitsUntil time) l solvent at refl in
+    (λ e. woken_ready h _ (sym answer ∙ e), λ over. answer ∙ ap (or_waiting h) over)
