@@ -20,6 +20,7 @@ use Rattle.rv_parse.specs.declared.fault.ParseFault.{ParseFault}
 use Rattle.rv_parse.specs.declared.fault.ParseFault.TheVariants as Parses
 use Rattle.rv_script.specs.Openings.{OpenedText, opened, opening_of}
 use Rattle.rv_script.specs.Prefixes.{WritesPrefix}
+use Rattle.rv_script.specs.UnitTexts.{without_returns}
 use Rattle.rv_script.specs.declared.opening.Opening.{Opening}
 use Rattle.rv_script.specs.declared.opening.Opening.TheVariants as Openings
 use Rattle.rv_settings.specs.Settings.{SettingsText, IsSettings, IsRefused}
@@ -64,7 +65,7 @@ IsOfGrammar (Parses.TooDeep at) = Unit {0}
 IsOfGrammar (Parses.Lex told) = ⊥
 IsOfGrammar Parses.NoMemory = ⊥
 
--- a unit text is well formed so far where it derives a tree; one that is too long is refused whatever its words
+-- a unit text, which has no carriage return before a line feed, is well formed so far where it derives a tree; one that is too long is refused whatever its words
 abbrev pub OfUnit : List ℕ → Finding
 OfUnit text said None = (tree : UnitTree) × (length text ≤ most_unit_bytes) × Derives text tree × (said ≡ unit_line tree.specification.name.text)
 OfUnit text said (Some Whats.TooLong) = (most_unit_bytes < length text) × (said ≡ [])
@@ -97,7 +98,7 @@ OfList text = as_list (list_of text)
 -- a section behind the settings, on the shapes of those before, and the shapes that there are then; openings that aren't named
 -- here aren't checked
 abbrev pub as_section : List Shape → List Shape → List ℕ → Option Opening → Finding
-as_section shapes after text (Some Openings.UnitText) said what = OfUnit text said what × (after ≡ shapes)
+as_section shapes after text (Some Openings.UnitText) said what = OfUnit (without_returns text) said what × (after ≡ shapes)
 as_section shapes after text (Some Openings.Shape) said what = OfShape shapes after text said what
 as_section shapes after text (Some Openings.AccessList) said what = OfList text said what × (after ≡ shapes)
 as_section shapes after text opening said what = (what ≡ Some Whats.BadSection) × (said ≡ [])
