@@ -20,7 +20,7 @@ pub fn play<R: Read, W: Write>(
     ensures { IfSome (R.remaining reader.old) (λ script.
         WritesScript (W.contents writer.old) (W.contents writer.new) (outcome_of all) script result) }
 {
-    rv_play::play(alloc, reader, writer, all)
+    rv_play::play::play(alloc, reader, writer, all)
 }
 
 /// Looks at the sections of the script that a reader gives, in order, and writes a line for each that
@@ -33,5 +33,5 @@ pub fn check<R: Read, W: Write>(
     ensures { IfSome (R.remaining reader.old) (λ script.
         WritesScript (W.contents writer.old) (W.contents writer.new) checked script result) }
 {
-    rv_check::check(alloc, reader, writer)
+    rv_check::check::check(alloc, reader, writer)
 }

@@ -1,73 +1,127 @@
 -- Sections that were looked at, and then others.
-use Rattle.std.proofs.Common.{◌≡◌, inl, inr, ℕ, Bool, true, false, List, [], ◌∷◌, ◌++◌, Some, None, Option, Ok, Err, Result, refl, sym, ap, subst, append_assoc, append-nil}
+use Rattle.std.proofs.Common.{◌≡◌, inl, inr, ℕ, List, [], ◌∷◌, ◌++◌, Some, None, Option, Ok, Err, Result, refl, sym, ap, ◌∙◌, subst, append_assoc, append-nil}
 use Rattle.std.specs.Io.KnownBytes.{Appends}
-use Rattle.std.specs.Str.Lines.{lines}
-use Rattle.rv_text.specs.Sections.{SectionText, front_of, sections_of}
+use Rattle.rv_text.specs.Sections.{SectionText}
 use Rattle.rv_shape.specs.Shape.{Shape}
-use Rattle.ravenhost.specs.declared.failure.Failure.{Failure}
-use Rattle.ravenhost.specs.declared.failure.Failure.TheVariants.{Refused, Usage, Memory, Io}
-use Rattle.ravenhost.specs.declared.fault.What.TheVariants as Whats
-use Rattle.ravenhost.specs.Cutting.{first_meant}
-use Rattle.ravenhost.specs.declared.fault.ScriptFault.{ScriptFault}
-use Rattle.ravenhost.specs.Checks.{Tells, TellsAll, OfSection, Checks, behind_front, ChecksScript}
-use Rattle.ravenhost.proofs.Wrote.{appends_more}
-use Rattle.ravenhost.proofs.Carrying.{keeps_nothing}
+use Rattle.rv_script.specs.Openings.{OpenedText, opened}
+use Rattle.rv_script.specs.Prefixes.{WritesPrefix}
+use Rattle.rv_script.proofs.Wrote.{appends_more, keeps_nothing, nothing_yet, prefix_behind}
+use Rattle.rv_fault.specs.declared.failure.Failure.{Failure}
+use Rattle.rv_fault.specs.declared.failure.Failure.TheVariants.{Refused, Memory, Io}
+use Rattle.rv_fault.specs.declared.fault.What.TheVariants as Whats
+use Rattle.rv_fault.specs.declared.fault.ScriptFault.{ScriptFault}
+use Rattle.rv_fault.specs.Written.{WritesSome, Writes}
+use Rattle.rv_check.specs.Checks.{Finding, TellsSome, Tells, TellsAll, OfSection, Checks, ChecksSome, AreSettings, OfSettings, ChecksOpened, BeginsOpened, outcome_of}
 
--- what is said so far; what completes the rest completes the whole
-pub record SoFar (old now : Option (List ℕ)) (first : Bool) (shapes : List Shape) (left all : List SectionText) : Type 0 where
+-- what is said so far of the sections that are done, and how what is said of others goes on behind it
+pub record SoFar (old now : Option (List ℕ)) (shapes : List Shape) (left all : List SectionText) : Type 0 where
+  pub done : List SectionText
+  pub split : all ≡ done ++ left
   pub said : List ℕ
   pub written : Appends old now said
-  pub whole : (more : List ℕ) (told : Option ScriptFault) → Checks first shapes left more told → Checks true [] all (said ++ more) told
+  pub whole : (others : List SectionText) (more : List ℕ) (told : Option ScriptFault) → Checks shapes others more told → Checks [] (done ++ others) (said ++ more) told
 
-pub at_first : (old : Option (List ℕ)) (shapes : List Shape) (all : List SectionText) → shapes ≡ [] → SoFar old old true shapes all all
-at_first old shapes all e = record { said = []; written = keeps_nothing old; whole = λ more told h. subst (λ (l : List Shape). Checks true l all more told) e h }
-
--- one more section that is well formed
-pub one_said : (old now new : Option (List ℕ)) (first : Bool) (shapes after : List Shape) (section : SectionText) (left others all : List SectionText) → left ≡ section ∷ others → SoFar old now first shapes left all
-    → (line : List ℕ) × OfSection first shapes after section line None × Appends now new line → SoFar old new false after others all
-one_said old now new first shapes after section left others all e so h = record {
-  said = so.said ++ h.0;
-  written = appends_more old now new so.said h.0 so.written h.2;
-  whole = λ more told rest.
-      let here : Checks first shapes (section ∷ others) (h.0 ++ more) told = inr (h.0, more, after, h.1, rest, refl) in
-      let there : Checks first shapes left (h.0 ++ more) told = subst (λ (l : List SectionText). Checks first shapes l (h.0 ++ more) told) (sym e) here in
-      subst (λ (t : List ℕ). Checks true [] all t told) (sym (append_assoc so.said h.0 more)) (so.whole (h.0 ++ more) told there);
+pub at_first : (old : Option (List ℕ)) (shapes : List Shape) (all : List SectionText) → shapes ≡ [] → SoFar old old shapes all all
+at_first old shapes all e = record {
+  done = [];
+  split = refl;
+  said = [];
+  written = keeps_nothing old;
+  whole = λ others more told h. subst (λ (l : List Shape). Checks l others more told) e h;
 }
 
+-- one more section that is well formed
+one_whole : (old now : Option (List ℕ)) (shapes after : List Shape) (section : SectionText) (left all : List SectionText) (so : SoFar old now shapes left all) (line : List ℕ) → OfSection shapes after section line None
+    → (others : List SectionText) (more : List ℕ) (told : Option ScriptFault) → Checks after others more told → Checks [] ((so.done ++ section ∷ []) ++ others) ((so.said ++ line) ++ more) told
+one_whole old now shapes after section left all so line found others more told rest =
+    let here : Checks shapes (section ∷ others) (line ++ more) told = inr (line, more, after, found, rest, refl) in
+    let there : Checks [] (so.done ++ section ∷ others) (so.said ++ (line ++ more)) told = so.whole (section ∷ others) (line ++ more) told here in
+    subst (λ (ss : List SectionText). Checks [] ss ((so.said ++ line) ++ more) told) (sym (append_assoc so.done (section ∷ []) others))
+    (subst (λ (t : List ℕ). Checks [] (so.done ++ section ∷ others) t told) (sym (append_assoc so.said line more)) there)
+
+one_more : (section : SectionText) (done left others all : List SectionText) → left ≡ section ∷ others → all ≡ done ++ left → all ≡ (done ++ section ∷ []) ++ others
+one_more section done left others all e split = split ∙ ap (λ (ss : List SectionText). done ++ ss) e ∙ sym (append_assoc done (section ∷ []) others)
+
+pub one_said : (old now new : Option (List ℕ)) (shapes after : List Shape) (section : SectionText) (left others all : List SectionText) → left ≡ section ∷ others → SoFar old now shapes left all
+    → (line : List ℕ) × OfSection shapes after section line None × Appends now new line → SoFar old new after others all
+one_said old now new shapes after section left others all e so h = record {
+  done = so.done ++ section ∷ [];
+  split = one_more section so.done left others all e so.split;
+  said = so.said ++ h.0;
+  written = appends_more old now new so.said h.0 so.written h.2;
+  whole = one_whole old now shapes after section left all so h.0 h.1;
+}
+
+-- what is said of all that is done
+said_done : (old now : Option (List ℕ)) (shapes : List Shape) (left all : List SectionText) (so : SoFar old now shapes left all) → Checks [] so.done so.said None
+said_done old now shapes left all so =
+    subst (λ (ss : List SectionText). Checks [] ss so.said None) (append-nil so.done)
+    (subst (λ (t : List ℕ). Checks [] (so.done ++ []) t None) (append-nil so.said) (so.whole [] [] None (refl, refl)))
+
 -- no section is left
-pub all_said : (old now : Option (List ℕ)) (first : Bool) (shapes : List Shape) (left all : List SectionText) → left ≡ [] → SoFar old now first shapes left all
-    → (said : List ℕ) × Checks true [] all said None × Appends old now said
-all_said old now first shapes left all e so =
-    let there : Checks first shapes left [] None = subst (λ (l : List SectionText). Checks first shapes l [] None) (sym e) (refl, refl) in
-    (so.said, subst (λ (t : List ℕ). Checks true [] all t None) (append-nil so.said) (so.whole [] None there), so.written)
+pub all_said : (old now : Option (List ℕ)) (shapes : List Shape) (left all : List SectionText) → left ≡ [] → SoFar old now shapes left all → (said : List ℕ) × Checks [] all said None × Appends old now said
+all_said old now shapes left all e so =
+    let whole : all ≡ so.done = so.split ∙ ap (λ (ss : List SectionText). so.done ++ ss) e ∙ append-nil so.done in
+    (so.said, subst (λ (ss : List SectionText). Checks [] ss so.said None) (sym whole) (said_done old now shapes left all so), so.written)
+
+part_said : (old now new : Option (List ℕ)) (shapes after : List Shape) (section : SectionText) (left others all : List SectionText) → left ≡ section ∷ others → SoFar old now shapes left all → TellsSome now new (OfSection shapes after section)
+    → (said : List ℕ) × ChecksSome all said × WritesPrefix old new said
+part_said old now new shapes after section left others all e so (inl same) =
+    let some : WritesPrefix old now so.said = record { prefix = so.said; rest = []; whole = sym (append-nil so.said); written = so.written } in
+    (so.said, (so.done, left, so.split, said_done old now shapes left all so), subst (λ (o : Option (List ℕ)). WritesPrefix old o so.said) (sym same) some)
+part_said old now new shapes after section left others all e so (inr h) =
+    let checks = one_whole old now shapes after section left all so h.0 h.1 [] [] None (refl, refl) in
+    let done = so.done ++ section ∷ [] in
+    let said = so.said ++ h.0 in (
+      said,
+      (
+        done,
+        others,
+        one_more section so.done left others all e so.split,
+        subst (λ (ss : List SectionText). Checks [] ss said None) (append-nil done) (subst (λ (t : List ℕ). Checks [] (done ++ []) t None) (append-nil said) checks),
+      ),
+      prefix_behind old now new so.said h.0 so.written h.2,
+    )
 
 -- a section that something stands against, or a failure
-pub stopped : (old now new : Option (List ℕ)) (first : Bool) (shapes after : List Shape) (section : SectionText) (left others all : List SectionText) (e : Failure) → left ≡ section ∷ others → SoFar old now first shapes left all
-    → (let r : Result (Unit {0}) Failure = Err e in Tells now new section.line (OfSection first shapes after section) r) → let r : Result (Unit {0}) Failure = Err e in TellsAll old new (Checks true [] all) r
-stopped old now new first shapes after section left others all (Refused told) e so h =
+pub stopped : (old now new : Option (List ℕ)) (shapes after : List Shape) (section : SectionText) (left others all : List SectionText) (e : Failure) → left ≡ section ∷ others → SoFar old now shapes left all
+    → (let r : Result (Unit {0}) Failure = Err e in Tells now new section.line (OfSection shapes after section) r) → let r : Result (Unit {0}) Failure = Err e in TellsAll old new all r
+stopped old now new shapes after section left others all (Refused told) e so h =
     let same : Some told ≡ Some (record { line = section.line; what = told.what }) = ap (λ (n : ℕ). let o : Option ScriptFault = Some (record { line = n; what = told.what }) in o) h.1 in
-    let here : Checks first shapes (section ∷ others) [] (Some told) = inl (told.what, after, h.0, refl, same) in
-    let there : Checks first shapes left [] (Some told) = subst (λ (l : List SectionText). Checks first shapes l [] (Some told)) (sym e) here in
-    (so.said, subst (λ (t : List ℕ). Checks true [] all t (Some told)) (append-nil so.said) (so.whole [] (Some told) there), subst (λ (o : Option (List ℕ)). Appends old o so.said) (sym h.2) so.written)
-stopped old now new first shapes after section left others all Usage e so h = absurd h
-stopped old now new first shapes after section left others all Memory e so h = tt
-stopped old now new first shapes after section left others all (Io error) e so h = tt
+    let here : Checks shapes (section ∷ others) [] (Some told) = inl (told.what, after, h.0, refl, same) in
+    let there : Checks [] (so.done ++ section ∷ others) (so.said ++ []) (Some told) = so.whole (section ∷ others) [] (Some told) here in
+    let whole : all ≡ so.done ++ section ∷ others = so.split ∙ ap (λ (ss : List SectionText). so.done ++ ss) e in (
+      so.said,
+      subst (λ (ss : List SectionText). Checks [] ss so.said (Some told)) (sym whole) (subst (λ (t : List ℕ). Checks [] (so.done ++ section ∷ others) t (Some told)) (append-nil so.said) there),
+      subst (λ (o : Option (List ℕ)). Appends old o so.said) (sym h.2) so.written,
+    )
+stopped old now new shapes after section left others all Memory e so h = part_said old now new shapes after section left others all e so h
+stopped old now new shapes after section left others all (Io error) e so h = part_said old now new shapes after section left others all e so h
 
 -- text before the first section
-pub front_told : (script : List ℕ) (old : Option (List ℕ)) (line : ℕ) → first_meant 1 (lines (front_of script)) ≡ Some line → let r : Result (Unit {0}) Failure = Err (Refused (record { line = line; what = Whats.BadSection })) in TellsAll old old (ChecksScript script) r
+pub front_told : (script : List ℕ) (old : Option (List ℕ)) (line : ℕ) → opened script ≡ Err line → let r : Result (Unit {0}) Failure = Err (Refused (record { line = line; what = Whats.BadSection })) in Writes old old (outcome_of script) r
 front_told script old line e =
     let told : Option ScriptFault = Some (record { line = line; what = Whats.BadSection }) in
-    let here : behind_front (Some line) (sections_of script) [] told = (refl, refl) in
-    ([], subst (λ (o : Option ℕ). behind_front o (sections_of script) [] told) (sym e) here, keeps_nothing old)
+    record { text = []; is = subst (λ (o : Result OpenedText ℕ). ChecksOpened o [] told) (sym e) (refl, refl); written = keeps_nothing old }
 
-tells_by : (old new : Option (List ℕ)) (is as_well : List ℕ → Option ScriptFault → Type 0) (r : Result (Unit {0}) Failure) → ((said : List ℕ) (told : Option ScriptFault) → is said told → as_well said told) → TellsAll old new is r → TellsAll old new as_well r
-tells_by old new is as_well (Ok x) f h = (h.0, f h.0 None h.1, h.2)
-tells_by old new is as_well (Err (Refused told)) f h = (h.0, f h.0 (Some told) h.1, h.2)
-tells_by old new is as_well (Err Usage) f h = absurd h
-tells_by old new is as_well (Err Memory) f h = tt
-tells_by old new is as_well (Err (Io error)) f h = tt
+-- nothing is written of any script
+pub memory_told : (script : List ℕ) (old : Option (List ℕ)) → WritesSome old old (outcome_of script).Begins
+memory_told script old = record { text = []; begins = inl refl; written = nothing_yet old [] }
 
--- nothing stands before the first section
-pub script_told : (script : List ℕ) (old new : Option (List ℕ)) (sections : List SectionText) (r : Result (Unit {0}) Failure) → first_meant 1 (lines (front_of script)) ≡ None → sections ≡ sections_of script → TellsAll old new (Checks true [] sections) r → TellsAll old new (ChecksScript script) r
-script_told script old new sections r e same h = tells_by old new (Checks true [] sections) (ChecksScript script) r
-    (λ said told g. subst (λ (o : Option ℕ). behind_front o (sections_of script) said told) (sym e) (subst (λ (l : List SectionText). Checks true [] l said told) same g)) h
+-- settings that were refused, or not read
+pub settings_told : (script : List ℕ) (old : Option (List ℕ)) (whole : OpenedText) (e : Failure) → opened script ≡ Ok whole → (let r : Result (Unit {0}) Failure = Err e in OfSettings whole.settings r) → let r : Result (Unit {0}) Failure = Err e in Writes old old (outcome_of script) r
+settings_told script old whole (Refused told) is settings =
+    record { text = []; is = subst (λ (o : Result OpenedText ℕ). ChecksOpened o [] (Some told)) (sym is) (inr (told, settings, refl, refl)); written = keeps_nothing old }
+settings_told script old whole Memory is settings = memory_told script old
+settings_told script old whole (Io error) is settings = absurd settings
+
+-- the sections behind the settings
+pub sections_told : (script : List ℕ) (old new : Option (List ℕ)) (whole : OpenedText) (r : Result (Unit {0}) Failure) → opened script ≡ Ok whole → AreSettings whole.settings None → TellsAll old new whole.sections r → Writes old new (outcome_of script) r
+sections_told script old new whole (Ok x) is settings h =
+    record { text = h.0; is = subst (λ (o : Result OpenedText ℕ). ChecksOpened o h.0 None) (sym is) (inl (settings, h.1)); written = h.2 }
+sections_told script old new whole (Err (Refused told)) is settings h =
+    record { text = h.0; is = subst (λ (o : Result OpenedText ℕ). ChecksOpened o h.0 (Some told)) (sym is) (inl (settings, h.1)); written = h.2 }
+sections_told script old new whole (Err Memory) is settings h =
+    record { text = h.0; begins = inr (subst (λ (o : Result OpenedText ℕ). BeginsOpened o h.0) (sym is) (settings, h.1)); written = h.2 }
+sections_told script old new whole (Err (Io error)) is settings h =
+    record { text = h.0; begins = inr (subst (λ (o : Result OpenedText ℕ). BeginsOpened o h.0) (sym is) (settings, h.1)); written = h.2 }

@@ -1,13 +1,14 @@
 -- What is told of a section that was looked at.
-use Rattle.std.proofs.Common.{◌≡◌, ◌≢◌, ℕ, List, [], ◌∷◌, ◌++◌, Some, None, Option, Ok, Err, Result, length, refl, sym, ◌∙◌, subst}
+use Rattle.std.proofs.Common.{◌≡◌, ◌≢◌, ◌≤◌, ℕ, List, [], ◌∷◌, ◌++◌, Some, None, Option, Ok, Err, Result, length, refl, sym, ◌∙◌, subst, inl, inr}
 use Rattle.rv_tree.specs.Units.{UnitTree}
 use Rattle.rv_tree.specs.Derives.{Derives}
 use Rattle.rv_parse.specs.Texts.{ReadsTree, OfWords, OfDepth}
 use Rattle.rv_parse.specs.declared.fault.ParseFault.{ParseFault}
 use Rattle.rv_parse.specs.declared.fault.ParseFault.TheVariants as Parses
-use Rattle.ravenhost.specs.declared.failure.Failure.{Failure}
-use Rattle.ravenhost.specs.declared.failure.Failure.TheVariants.{Refused, Usage, Memory, Io}
-use Rattle.ravenhost.specs.declared.fault.What.TheVariants as Whats
+use Rattle.rv_fault.specs.declared.failure.Failure.{Failure}
+use Rattle.rv_fault.specs.declared.failure.Failure.TheVariants.{Refused, Memory, Io}
+use Rattle.rv_fault.specs.declared.fault.What.TheVariants as Whats
+use Rattle.rv_fault.specs.Written.{Puts}
 use Rattle.rv_access.specs.Words.{Words}
 use Rattle.rv_access.specs.Reading.{list_of, Fails as ListFails}
 use Rattle.rv_access.specs.declared.fault.ListFault.{ListFault}
@@ -18,22 +19,21 @@ use Rattle.rv_shape.specs.Drafts.{Fails as ShapeFails}
 use Rattle.rv_shape.specs.Fits.{fault}
 use Rattle.rv_shape.specs.declared.fault.ShapeFault.{ShapeFault}
 use Rattle.rv_shape.specs.declared.fault.ShapeFault.TheVariants as Shapes
-use Rattle.ravenhost.specs.Checks.{Finding, Said, Tells, OfUnit, OfShape, OfList, as_shape, fitting, list_line, shape_line, unit_failure, shape_failure, list_failure}
+use Rattle.rv_check.specs.Checks.{Finding, Tells, OfUnit, OfShape, OfList, as_shape, fitting, list_line, shape_line, unit_failure, shape_failure, list_failure, most_unit_bytes}
 
 -- a line that is said tells what was found
-pub said_tells : (old new : Option (List ℕ)) (line : ℕ) (finds : Finding) (said : List ℕ) (r : Result (Unit {0}) Failure) → finds said None → Said old new said r → Tells old new line finds r
+pub said_tells : (old new : Option (List ℕ)) (line : ℕ) (finds : Finding) (said : List ℕ) (r : Result (Unit {0}) Failure) → finds said None → Puts old new said r → Tells old new line finds r
 said_tells old new line finds said (Ok x) f h = (said, f, h)
 said_tells old new line finds said (Err (Refused told)) f h = absurd h
-said_tells old new line finds said (Err Usage) f h = absurd h
-said_tells old new line finds said (Err Memory) f h = tt
-said_tells old new line finds said (Err (Io error)) f h = (said, f, h)
+said_tells old new line finds said (Err Memory) f h = inr (said, f, h)
+said_tells old new line finds said (Err (Io error)) f h = inr (said, f, h)
 
 -- what stands against a unit text is told
-pub unit_told : (text : List ℕ) (old : Option (List ℕ)) (line : ℕ) (fault : ParseFault) → ((tree : UnitTree) → Derives text tree → ReadsTree tree (Err fault)) → OfWords text (Err fault) → OfDepth text (Err fault) → let r : Result (Unit {0}) Failure = Err (unit_failure line fault) in Tells old old line (OfUnit text) r
-unit_told text old line Parses.NoMemory complete words deep = tt
-unit_told text old line (Parses.Lex told) complete words deep = ((words, refl), refl, refl)
-unit_told text old line (Parses.Unexpected at) complete words deep = ((complete, deep, refl), refl, refl)
-unit_told text old line (Parses.TooDeep at) complete words deep = ((complete, deep, refl), refl, refl)
+pub unit_told : (text : List ℕ) (old : Option (List ℕ)) (line : ℕ) (fault : ParseFault) → length text ≤ most_unit_bytes → ((tree : UnitTree) → Derives text tree → ReadsTree tree (Err fault)) → OfWords text (Err fault) → OfDepth text (Err fault) → let r : Result (Unit {0}) Failure = Err (unit_failure line fault) in Tells old old line (OfUnit text) r
+unit_told text old line Parses.NoMemory few complete words deep = inl refl
+unit_told text old line (Parses.Lex told) few complete words deep = ((few, words, refl), refl, refl)
+unit_told text old line (Parses.Unexpected at) few complete words deep = ((few, tt, complete, words, deep, refl), refl, refl)
+unit_told text old line (Parses.TooDeep at) few complete words deep = ((few, tt, complete, words, deep, refl), refl, refl)
 
 -- a list that was read
 pub list_read : (text : List ℕ) (list : List Words) → list_of text ≡ Ok list → OfList text (list_line (length list)) None
@@ -41,7 +41,7 @@ list_read text list h = rw h (refl, refl)
 
 -- what stands against a list is told
 pub list_told : (text : List ℕ) (old : Option (List ℕ)) (line : ℕ) (told : ListFault) → ListFails told (list_of text) → let r : Result (Unit {0}) Failure = Err (list_failure line told) in Tells old old line (OfList text) r
-list_told text old line Lists.NoMemory h = tt
+list_told text old line Lists.NoMemory h = inl refl
 list_told text old line (Lists.BadWord at) h = (rw h (refl, refl), refl, refl)
 list_told text old line (Lists.BadName at) h = (rw h (refl, refl), refl, refl)
 list_told text old line (Lists.TooMany at) h = (rw h (refl, refl), refl, refl)
@@ -55,7 +55,7 @@ shape_read shapes after text shape h f e =
 
 -- a text that is no shape
 pub shape_unread : (shapes after : List Shape) (text : List ℕ) (old : Option (List ℕ)) (line : ℕ) (told : ShapeFault) → ShapeFails told (shape_of text) → let r : Result (Unit {0}) Failure = Err (shape_failure line told) in Tells old old line (OfShape shapes after text) r
-shape_unread shapes after text old line Shapes.NoMemory h = tt
+shape_unread shapes after text old line Shapes.NoMemory h = inl refl
 shape_unread shapes after text old line Shapes.BadText h = (rw h (refl, refl), refl, refl)
 shape_unread shapes after text old line _ h = absurd h
 
@@ -75,17 +75,18 @@ shape_refused shapes after text shape old line told h found memory = by_fault (f
     Refusal f = let r : Result (Unit {0}) Failure = Err (shape_failure line f) in Tells old old line (OfShape shapes after text) r
 
     by_told : (f : ShapeFault) → fault shapes shape ≡ Some f → Refusal f
-    by_told Shapes.NoMemory e = tt
+    by_told Shapes.NoMemory e = inl refl
     by_told f e = (against shapes after text shape f h e, refl, refl)
 
     by_fault : (o : Option ShapeFault) → fault shapes shape ≡ o → Refusal told
-    by_fault None e = subst Refusal (sym (memory e)) tt
+    by_fault None e = subst Refusal (sym (memory e)) (inl refl)
     by_fault (Some f) e = by_told told (found (λ none. let both : Some f ≡ None = sym e ∙ none in absurd cc))
 
 -- a finding with a fact beside it
 pub tells_with : (P : Type 0) (old new : Option (List ℕ)) (line : ℕ) (finds : Finding) (r : Result (Unit {0}) Failure) → P → Tells old new line finds r → Tells old new line (λ said what. finds said what × P) r
 tells_with P old new line finds (Ok x) p h = (h.0, (h.1, p), h.2)
 tells_with P old new line finds (Err (Refused told)) p h = ((h.0, p), h.1, h.2)
-tells_with P old new line finds (Err Usage) p h = absurd h
-tells_with P old new line finds (Err Memory) p h = tt
-tells_with P old new line finds (Err (Io error)) p h = (h.0, (h.1, p), h.2)
+tells_with P old new line finds (Err Memory) p (inl e) = inl e
+tells_with P old new line finds (Err Memory) p (inr h) = inr (h.0, (h.1, p), h.2)
+tells_with P old new line finds (Err (Io error)) p (inl e) = inl e
+tells_with P old new line finds (Err (Io error)) p (inr h) = inr (h.0, (h.1, p), h.2)

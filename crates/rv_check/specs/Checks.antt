@@ -1,10 +1,8 @@
 -- The sections of a script that is checked: what is said of each, or what stands against it (own).
-use Rattle.std.specs.Prelude.{◌≡◌, ◌⊎◌, ◌<◌, ◌≤◌, ℕ, Bool, true, false, if◌then◌else◌, List, [], ◌∷◌, ◌++◌, length, codes, Option, Some, None, Result, Ok, Err}
-use Rattle.std.specs.Str.{bytes_eq}
-use Rattle.std.specs.Str.Lines.{lines}
+use Rattle.std.specs.Prelude.{◌≡◌, ◌⊎◌, ◌<◌, ◌≤◌, ℕ, List, [], ◌∷◌, ◌++◌, length, codes, Option, Some, None, Result, Ok, Err}
 use Rattle.std.specs.Fmt.{decimal}
 use Rattle.std.specs.Io.KnownBytes.{Appends}
-use Rattle.rv_text.specs.Sections.{SectionText, front_of, sections_of}
+use Rattle.rv_text.specs.Sections.{SectionText}
 use Rattle.rv_access.specs.Reading.{list_of}
 use Rattle.rv_access.specs.Words.{Words}
 use Rattle.rv_access.specs.declared.fault.ListFault.{ListFault}
@@ -15,31 +13,25 @@ use Rattle.rv_shape.specs.Fits.{fault}
 use Rattle.rv_shape.specs.declared.fault.ShapeFault.{ShapeFault}
 use Rattle.rv_shape.specs.declared.fault.ShapeFault.TheVariants.{BadText}
 use Rattle.rv_shape.specs.declared.fault.ShapeFault.TheVariants as Shapes
-use Rattle.rv_lex.specs.Lexes.{Refuses}
 use Rattle.rv_tree.specs.Units.{UnitTree}
 use Rattle.rv_tree.specs.Derives.{Derives}
-use Rattle.rv_parse.specs.Texts.{ReadsTree, OfDepth}
+use Rattle.rv_parse.specs.Texts.{ReadsTree, OfWords, OfDepth}
 use Rattle.rv_parse.specs.declared.fault.ParseFault.{ParseFault}
 use Rattle.rv_parse.specs.declared.fault.ParseFault.TheVariants as Parses
-use Rattle.ravenhost.specs.Whole.{IsScript, IsRefused}
-use Rattle.ravenhost.specs.declared.check.Checked.{Checked}
-use Rattle.ravenhost.specs.declared.check.Checked.TheVariants.{Settings, UnitText, Shape as ShapeText, AccessList}
-use Rattle.ravenhost.specs.declared.failure.Failure.{Failure}
-use Rattle.ravenhost.specs.declared.failure.Failure.TheVariants.{Refused, Usage, Memory, Io}
-use Rattle.ravenhost.specs.declared.fault.What.{What}
-use Rattle.ravenhost.specs.declared.fault.What.TheVariants as Whats
-use Rattle.ravenhost.specs.declared.fault.ScriptFault.{ScriptFault}
-use Rattle.ravenhost.specs.Cutting.{first_meant}
-use Rattle.ravenhost.specs.Fronts.{WritesFront}
-
--- what a line opens, byte for byte
-abbrev pub checked_as : List ℕ → Option Checked
-checked_as line =
-    if bytes_eq line (codes "@host.toml") then Some Settings
-    else if bytes_eq line (codes "@unit") then Some UnitText
-    else if bytes_eq line (codes "@shape") then Some ShapeText
-    else if bytes_eq line (codes "@list") then Some AccessList
-    else None
+use Rattle.rv_script.specs.Openings.{OpenedText, opened, opening_of}
+use Rattle.rv_script.specs.Prefixes.{WritesPrefix}
+use Rattle.rv_script.specs.UnitTexts.{without_returns}
+use Rattle.rv_script.specs.declared.opening.Opening.{Opening}
+use Rattle.rv_script.specs.declared.opening.Opening.TheVariants as Openings
+use Rattle.rv_settings.specs.Settings.{SettingsText, IsSettings, IsRefused}
+use Rattle.rv_settings.specs.declared.fault.SettingsFault.{SettingsFault}
+use Rattle.rv_settings.specs.declared.fault.SettingsFault.TheVariants as Setting
+use Rattle.rv_fault.specs.declared.failure.Failure.{Failure}
+use Rattle.rv_fault.specs.declared.failure.Failure.TheVariants.{Refused, Memory, Io}
+use Rattle.rv_fault.specs.declared.fault.What.{What}
+use Rattle.rv_fault.specs.declared.fault.What.TheVariants as Whats
+use Rattle.rv_fault.specs.declared.fault.ScriptFault.{ScriptFault}
+use Rattle.rv_fault.specs.Written.{Known, Ended, Outcome}
 
 -- the lines that are said of sections that are well formed
 abbrev pub unit_line : List ℕ → List ℕ
@@ -50,14 +42,6 @@ shape_line name = codes "shape " ++ (name ++ (codes ": ok" ++ 10 ∷ []))
 
 abbrev pub list_line : ℕ → List ℕ
 list_line count = codes "list: ok " ++ (decimal count ++ (codes " lines" ++ 10 ∷ []))
-
--- a line is written, unless memory or a write failed
-abbrev pub Said : {X : Type 0} → Option (List ℕ) → Option (List ℕ) → List ℕ → Result X Failure → Type 0
-Said old new line (Ok x) = Appends old new line
-Said old new line (Err (Refused told)) = ⊥
-Said old new line (Err Usage) = ⊥
-Said old new line (Err Memory) = Unit {0}
-Said old new line (Err (Io error)) = WritesFront old new line
 
 -- why a unit text is refused whose section opens at a line
 abbrev pub unit_failure : ℕ → ParseFault → Failure
@@ -70,12 +54,25 @@ unit_failure line (Parses.TooDeep at) = Refused (record { line = line; what = Wh
 abbrev pub Finding : Type 1
 Finding = List ℕ → Option What → Type 0
 
--- a unit text is well formed so far where it derives a tree
+-- the greatest length of a unit text, in bytes
+abbrev pub most_unit_bytes : ℕ
+most_unit_bytes = 262144
+
+-- a fault of the grammar
+abbrev pub IsOfGrammar : ParseFault → Type 0
+IsOfGrammar (Parses.Unexpected at) = Unit {0}
+IsOfGrammar (Parses.TooDeep at) = Unit {0}
+IsOfGrammar (Parses.Lex told) = ⊥
+IsOfGrammar Parses.NoMemory = ⊥
+
+-- a unit text, which has no carriage return before a line feed, is well formed so far where it derives a tree; one that is too long is refused whatever its words
 abbrev pub OfUnit : List ℕ → Finding
-OfUnit text said None = (tree : UnitTree) × (length text ≤ 262144) × Derives text tree × (said ≡ unit_line tree.specification.name.text)
-OfUnit text said (Some Whats.TooLong) = (262144 < length text) × (said ≡ [])
-OfUnit text said (Some (Whats.Lex told)) = Refuses text told × (said ≡ [])
-OfUnit text said (Some (Whats.Parse told)) = ((tree : UnitTree) → Derives text tree → ReadsTree tree (Err told)) × OfDepth text (Err told) × (said ≡ [])
+OfUnit text said None = (tree : UnitTree) × (length text ≤ most_unit_bytes) × Derives text tree × (said ≡ unit_line tree.specification.name.text)
+OfUnit text said (Some Whats.TooLong) = (most_unit_bytes < length text) × (said ≡ [])
+OfUnit text said (Some (Whats.Lex told)) = (length text ≤ most_unit_bytes) × OfWords text (Err (Parses.Lex told)) × (said ≡ [])
+OfUnit text said (Some (Whats.Parse told)) =
+    (length text ≤ most_unit_bytes) × IsOfGrammar told × ((tree : UnitTree) → Derives text tree → ReadsTree tree (Err told))
+    × OfWords text (Err told) × OfDepth text (Err told) × (said ≡ [])
 OfUnit text said (Some what) = ⊥
 
 -- a shape fits those of the sections before, and stands behind them from then on
@@ -98,21 +95,16 @@ as_list (Err told) said what = (what ≡ Some (Whats.List told)) × (said ≡ []
 abbrev pub OfList : List ℕ → Finding
 OfList text = as_list (list_of text)
 
--- settings may come first; nothing is said of them
-abbrev pub OfSettings : Bool → Finding
-OfSettings true said what = (what ≡ None) × (said ≡ [])
-OfSettings false said what = (what ≡ Some Whats.BadSection) × (said ≡ [])
+-- a section behind the settings, on the shapes of those before, and the shapes that there are then; openings that aren't named
+-- here aren't checked
+abbrev pub as_section : List Shape → List Shape → List ℕ → Option Opening → Finding
+as_section shapes after text (Some Openings.UnitText) said what = OfUnit (without_returns text) said what × (after ≡ shapes)
+as_section shapes after text (Some Openings.Shape) said what = OfShape shapes after text said what
+as_section shapes after text (Some Openings.AccessList) said what = OfList text said what × (after ≡ shapes)
+as_section shapes after text opening said what = (what ≡ Some Whats.BadSection) × (said ≡ [])
 
--- a section, on the shapes of those before, and the shapes that there are then
-abbrev pub as_section : Bool → List Shape → List Shape → List ℕ → Option Checked → Finding
-as_section first shapes after text None said what = (what ≡ Some Whats.BadSection) × (said ≡ [])
-as_section first shapes after text (Some Settings) said what = OfSettings first said what × (after ≡ shapes)
-as_section first shapes after text (Some UnitText) said what = OfUnit text said what × (after ≡ shapes)
-as_section first shapes after text (Some ShapeText) said what = OfShape shapes after text said what
-as_section first shapes after text (Some AccessList) said what = OfList text said what × (after ≡ shapes)
-
-abbrev pub OfSection : Bool → List Shape → List Shape → SectionText → Finding
-OfSection first shapes after section = as_section first shapes after section.text (checked_as section.opening)
+abbrev pub OfSection : List Shape → List Shape → SectionText → Finding
+OfSection shapes after section = as_section shapes after section.text (opening_of section.opening)
 
 -- why a shape or a list is refused whose section opens at a line
 abbrev pub shape_failure : ℕ → ShapeFault → Failure
@@ -123,43 +115,64 @@ abbrev pub list_failure : ℕ → ListFault → Failure
 list_failure line Lists.NoMemory = Memory
 list_failure line told = Refused (record { line = line; what = Whats.List told })
 
+-- a prefix of what is to be said is written, or nothing yet
+abbrev pub TellsSome : Known → Known → Finding → Type 0
+TellsSome old new finds = (new ≡ old) ⊎ ((said : List ℕ) × finds said None × WritesPrefix old new said)
+
 -- what was looked at is told: the line, or what stands against it, with the line of the section's opening
-abbrev pub Tells : {X : Type 0} → Option (List ℕ) → Option (List ℕ) → ℕ → Finding → Result X Failure → Type 0
+abbrev pub Tells : Known → Known → ℕ → Finding → Ended → Type 0
 Tells old new line finds (Ok x) = (said : List ℕ) × finds said None × Appends old new said
 Tells old new line finds (Err (Refused told)) = finds [] (Some told.what) × (told.line ≡ line) × (new ≡ old)
-Tells old new line finds (Err Usage) = ⊥
-Tells old new line finds (Err Memory) = Unit {0}
-Tells old new line finds (Err (Io error)) = (said : List ℕ) × finds said None × WritesFront old new said
+Tells old new line finds (Err Memory) = TellsSome old new finds
+Tells old new line finds (Err (Io error)) = TellsSome old new finds
 
 -- sections in turn: what is said of them, up to the first that something stands against, which is told with its line
-abbrev pub Checks : Bool → List Shape → List SectionText → List ℕ → Option ScriptFault → Type 0
-Checks first shapes [] said told = (said ≡ []) × (told ≡ None)
-Checks first shapes (section ∷ others) said told =
-    ((what : What) × (after : List Shape) × OfSection first shapes after section [] (Some what) × (said ≡ []) × (told ≡ Some (record { line = section.line; what = what })))
-    ⊎ ((line more : List ℕ) × (after : List Shape) × OfSection first shapes after section line None × Checks false after others more told × (said ≡ line ++ more))
+abbrev pub Checks : List Shape → List SectionText → List ℕ → Option ScriptFault → Type 0
+Checks shapes [] said told = (said ≡ []) × (told ≡ None)
+Checks shapes (section ∷ others) said told =
+    ((what : What) × (after : List Shape) × OfSection shapes after section [] (Some what) × (said ≡ []) × (told ≡ Some (record { line = section.line; what = what })))
+    ⊎ ((line more : List ℕ) × (after : List Shape) × OfSection shapes after section line None × Checks after others more told × (said ≡ line ++ more))
 
--- text before the first section stands against the script
-abbrev pub behind_front : Option ℕ → List SectionText → List ℕ → Option ScriptFault → Type 0
-behind_front None sections said told = Checks true [] sections said told
-behind_front (Some line) sections said told = (said ≡ []) × (told ≡ Some (record { line = line; what = Whats.BadSection }))
+-- what is said of some first sections
+abbrev pub ChecksSome : List SectionText → List ℕ → Type 0
+ChecksSome sections said = (done rest : List SectionText) × (sections ≡ done ++ rest) × Checks [] done said None
 
--- what is said of a script, and what is told
-abbrev pub ChecksScript : List ℕ → List ℕ → Option ScriptFault → Type 0
-ChecksScript script said told = behind_front (first_meant 1 (lines (front_of script))) (sections_of script) said told
+-- all that is to be said of sections is written, and a refusal is what is to be told
+abbrev pub TellsAll : Known → Known → List SectionText → Ended → Type 0
+TellsAll old new sections (Ok x) = (said : List ℕ) × Checks [] sections said None × Appends old new said
+TellsAll old new sections (Err (Refused told)) = (said : List ℕ) × Checks [] sections said (Some told) × Appends old new said
+TellsAll old new sections (Err Memory) = (said : List ℕ) × ChecksSome sections said × WritesPrefix old new said
+TellsAll old new sections (Err (Io error)) = (said : List ℕ) × ChecksSome sections said × WritesPrefix old new said
 
--- all that is to be said is written, and a refusal is what is to be told; of other failures nothing is said here
-abbrev pub TellsAll : {X : Type 0} → Option (List ℕ) → Option (List ℕ) → (List ℕ → Option ScriptFault → Type 0) → Result X Failure → Type 0
-TellsAll old new is (Ok x) = (said : List ℕ) × is said None × Appends old new said
-TellsAll old new is (Err (Refused told)) = (said : List ℕ) × is said (Some told) × Appends old new said
-TellsAll old new is (Err Usage) = ⊥
-TellsAll old new is (Err Memory) = Unit {0}
-TellsAll old new is (Err (Io error)) = Unit {0}
+-- what stands against the settings of a script, if something does; nothing is said of them
+abbrev pub AreSettings : Option SectionText → Option ScriptFault → Type 0
+AreSettings None told = told ≡ None
+AreSettings (Some section) None = (settings : SettingsText) × IsSettings section.text settings
+AreSettings (Some section) (Some told) =
+    (why : SettingsFault) × IsRefused section.text why × (why ≡ Setting.NoMemory → ⊥) × (told ≡ record { line = section.line; what = Whats.Settings why })
 
--- nothing is said of bytes that are no script, and this is told at line 1
-abbrev pub RefusesBytes : What → List ℕ → Option ScriptFault → Type 0
-RefusesBytes what said told = (said ≡ []) × (told ≡ Some (record { line = 1; what = what }))
+-- settings were looked at
+abbrev pub OfSettings : Option SectionText → Ended → Type 0
+OfSettings settings (Ok x) = AreSettings settings None
+OfSettings settings (Err (Refused told)) = AreSettings settings (Some told)
+OfSettings settings (Err Memory) = Unit {0}
+OfSettings settings (Err (Io error)) = ⊥
 
--- the text of a script is looked at, and bytes that are none are refused
-pub record ChecksBytes (old new : Option (List ℕ)) (bytes : List ℕ) (result : Result (Unit {0}) Failure) : Type 0 where
-  pub text : IsScript bytes → TellsAll old new (ChecksScript bytes) result
-  pub refused : (what : What) → IsRefused bytes what → TellsAll old new (RefusesBytes what) result
+-- what is said of a script, and what is told; settings come before the other sections
+abbrev pub ChecksOpened : Result OpenedText ℕ → List ℕ → Option ScriptFault → Type 0
+ChecksOpened (Ok script) said told =
+    (AreSettings script.settings None × Checks [] script.sections said told)
+    ⊎ ((fault : ScriptFault) × AreSettings script.settings (Some fault) × (said ≡ []) × (told ≡ Some fault))
+ChecksOpened (Err line) said told = (said ≡ []) × (told ≡ Some (record { line = line; what = Whats.BadSection }))
+
+-- what is said of some first sections of a script
+abbrev pub BeginsOpened : Result OpenedText ℕ → List ℕ → Type 0
+BeginsOpened (Ok script) said = AreSettings script.settings None × ChecksSome script.sections said
+BeginsOpened (Err line) said = ⊥
+
+-- what there is to write of a script; before a failure nothing or what is said of some first sections
+abbrev pub outcome_of : List ℕ → Outcome
+outcome_of script = record {
+  Is = λ said told. ChecksOpened (opened script) said told;
+  Begins = λ said. (said ≡ []) ⊎ BeginsOpened (opened script) said;
+}

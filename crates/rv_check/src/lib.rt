@@ -1,7 +1,5 @@
 //! Checking a script: its sections are looked at one by one, and each that is well formed is told.
 #![tactic(auto)]
 
-mod check;
+pub mod check;
 mod sections;
-
-pub use check::check;

@@ -4,10 +4,12 @@ ghost use Rattle.std.specs.Prelude.{◌≡◌, ℕ, List, length, IfOk, option_m
 ghost use Rattle.rv_fault.specs.Written.{Puts};
 ghost use Rattle.rv_check.specs.Checks.{unit_line, shape_line, list_line, unit_failure, shape_failure, list_failure, OfUnit, OfShape, OfList, OfSettings, as_section, Tells};
 ghost use Rattle.rv_script.specs.Openings.{opening_of};
+ghost use Rattle.rv_script.specs.UnitTexts.{without_returns};
 
 use rv_access::{ListFault, read_list};
 use rv_fault::{Failure, What, put, refused};
 use rv_parse::{ParseFault, parse};
+use rv_script::unit_text::unit_text;
 use rv_script::{Opening, opening_of};
 use rv_settings::{SettingsFault, read_settings};
 use rv_shape::catalogue::Catalogue;
@@ -63,20 +65,36 @@ fn unit_failure(line: usize, fault: ParseFault) -> Failure
     }
 }
 
-// Looks at a unit text. So far it is well formed where it derives a tree.
-fn check_unit<W: Write>(alloc: Global, writer: &mut W, section: &Section<'_>) -> Result<(), Failure>
-    ensures { Tells (W.contents writer.old) (W.contents writer.new) section.now.line
-        (OfUnit section.now.text.now) result }
+// Looks at a unit text that has no carriage return before a line feed. So far it is well formed where it
+// derives a tree.
+fn check_text<W: Write>(
+    alloc: Global,
+    writer: &mut W,
+    line: usize,
+    text: &str,
+) -> Result<(), Failure>
+    ensures { Tells (W.contents writer.old) (W.contents writer.new) line (OfUnit text.now) result }
 {
-    if section.text.len() > MOST_UNIT_BYTES {
-        return Err(refused(section.line, What::TooLong));
+    if text.len() > MOST_UNIT_BYTES {
+        return Err(refused(line, What::TooLong));
     }
-    match parse(alloc, section.text) {
+    match parse(alloc, text) {
         Ok(unit) => {
             let name = unit.specification.name.text.as_str();
             say(writer, unit_line(alloc, name))
         }
-        Err(fault) => Err(unit_failure(section.line, fault)),
+        Err(fault) => Err(unit_failure(line, fault)),
+    }
+}
+
+// Looks at a unit text, without each carriage return that stands before a line feed.
+fn check_unit<W: Write>(alloc: Global, writer: &mut W, section: &Section<'_>) -> Result<(), Failure>
+    ensures { Tells (W.contents writer.old) (W.contents writer.new) section.now.line
+        (OfUnit (without_returns section.now.text.now)) result }
+{
+    match unit_text(alloc, section.text) {
+        Ok(text) => check_text(alloc, writer, section.line, text.as_str()),
+        Err(_) => Err(Failure::Memory),
     }
 }
 

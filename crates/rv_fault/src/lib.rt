@@ -4,8 +4,8 @@
 
 mod failure;
 mod fault;
-mod put;
+mod writing;
 
 pub use failure::{Failure, refused};
 pub use fault::{ScriptFault, What};
-pub use put::put;
+pub use writing::put;

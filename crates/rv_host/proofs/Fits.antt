@@ -1,27 +1,33 @@
--- What is known of a request that is served and fits.
-use Rattle.std.proofs.Common.{◌≡◌, ℕ, List, Bool, true, false, refl}
-use Rattle.std.specs.Prelude.{ℤ, ◌&&◌, nat_lt}
-use Rattle.rv_shape.specs.Catalogue.{target}
-use Rattle.rv_event.specs.Past.{stance}
-use Rattle.rv_event.specs.declared.entry.Request.TheVariants.{Call, Resume}
+-- Who fires is a line.
+use Rattle.std.proofs.Common.{◌≡◌, refl, ℕ, ◌-◌, ◌<◌, ◌≤◌, Bool, true, false, Option, Some, None, arith}
+use Rattle.std.specs.Prelude.{◌==◌, nat_lt, slice_get, if◌then◌else◌}
+use Rattle.std.proofs.lemmas.Bool.Decides.{nat_tests}
+use Rattle.rv_shape.specs.Catalogue.{UnitTask, Operator, Line, task_of, all_tasks, who}
+use Rattle.rv_event.specs.Past.{mode}
+use Rattle.rv_event.specs.declared.entry.Mode.{Mode}
+use Rattle.rv_event.specs.declared.entry.Request.TheVariants.{Fire}
 use Rattle.rv_history.specs.History.{History}
 use Rattle.rv_history.specs.Owed.{actors}
-use Rattle.rv_history.specs.Rules.{is_protected}
-use Rattle.rv_history.specs.Served.{served, is_settled}
-use Rattle.rv_history.specs.Fitting.{fits, fits_actor}
+use Rattle.rv_history.specs.Fitting.{fits, idle_line}
+use Rattle.rv_history.proofs.Answered.{both}
 
-both : (a b : Bool) → (a && b) ≡ true → (a ≡ true) × (b ≡ true)
-both true b e = (refl, e)
-both false b e = absurd (cc)
+no_task : (t : Option UnitTask) (m : Mode) → idle_line (task_of t) m ≡ true → ⊥
+no_task None m e = absurd (cc)
+no_task (Some t) m e = absurd (cc)
 
-pub call_protected : (h : History) (a o p : ℕ) (vs : List ℤ) → fits served h a (Call o p vs) ≡ true → is_protected (target h.shapes o p) ≡ true
-call_protected h a o p vs e =
-    (both (is_protected (target h.shapes o p)) (fits_actor h a (Call o p vs)) (both (nat_lt a (actors h.shapes)) (is_protected (target h.shapes o p) && fits_actor h a (Call o p vs)) e).1).0
+below : (a : ℕ) → nat_lt a 11 ≡ true → a ≤ 10
+below a e = grind (arith, nat_tests)
 
-pub resume_settled : (h : History) (a : ℕ) → fits served h a Resume ≡ true → is_settled (stance a h.past) ≡ true
-resume_settled h a e =
-    (both (is_settled (stance a h.past)) (fits_actor h a Resume) (both (nat_lt a (actors h.shapes)) (is_settled (stance a h.past) && fits_actor h a Resume) e).1).0
+first : (a : ℕ) → (a == 0) ≡ true → a ≤ 10
+first a e = grind (arith, nat_tests)
 
-pub not_served : (a b : Bool) → (a && (false && b)) ≡ true → false ≡ true
-not_served true b e = e
-not_served false b e = e
+by_tests : (a : ℕ) (s t : Bool) (w : Option UnitTask) (m : Mode) → (a == 0) ≡ s → nat_lt a 11 ≡ t →
+    idle_line (if s then Operator else (if t then Line (a - 1) else task_of w)) m ≡ true → a ≤ 10
+by_tests a true t w m e f g = first a e
+by_tests a false true w m e f g = below a f
+by_tests a false false w m e f g = absurd (no_task w m g)
+
+pub fires_line : (h : History) (a : ℕ) → fits h a Fire ≡ true → a ≤ 10
+fires_line h a e =
+    by_tests a (a == 0) (nat_lt a 11) (slice_get (all_tasks h.shapes) (a - 11)) (mode h.shapes a h.past) refl refl
+    (both (nat_lt a (actors h.shapes)) (idle_line (who h.shapes a) (mode h.shapes a h.past)) e).1

@@ -4,8 +4,10 @@ pub mod Written
 pub mod Counting
 pub mod Starting
 pub mod Holding
-pub mod Ands
 pub mod Fits
+pub mod Modes
+pub mod Depth
+pub mod Times
 pub mod Small
 pub mod RoomLeft
 pub mod Solvent
@@ -13,4 +15,5 @@ pub mod Loading
 pub mod Changing
 pub mod Running
 pub mod Marking
+pub mod Paid
 pub mod Paging

@@ -1,5 +1,6 @@
 -- A history as a scan has seen it (own).
-use Rattle.std.specs.Prelude.{reverse}
+use Rattle.std.specs.Prelude.{◌<◌, ◌^◌, reverse}
+use Rattle.rv_event.specs.Past.{clock}
 use Rattle.rv_host.specs.declared.seen.Seen.{Seen}
 use Rattle.rv_history.specs.History.{History}
 use Rattle.rv_host.specs.Found.{IsFound}
@@ -16,7 +17,8 @@ history_of seen =
           seen.lists.now;
     }
 
--- the scan is of that history, which is orderly
+-- the scan is of that history, which is orderly, and whose clock is a number of 63 bits
 pub record IsSeen (seen : Seen) : Type 0 where
   pub found : IsFound seen.catalogue.now seen.object (reverse seen.entries.now) seen.scan.now
   pub orderly : Orderly seen.catalogue.now (reverse seen.entries.now)
+  pub timely : clock (reverse seen.entries.now) < 2 ^ 63

@@ -1,20 +1,15 @@
-//! The host over lists of commands: each answer is a function of the journal.
+//! The host: it carries out commands one after another, and each of its answers is a function of its
+//! journal, as rv_history defines it. `host` is what is used; `past` reads the journal, `rules` asks
+//! what the rules ask, `facts` has what an answer depends on and the answer, `due` puts them together.
 #![tactic(auto)]
 
 mod answering;
 pub mod answers;
-mod asking;
-mod backward;
-mod entries;
-mod finding;
-mod fitting;
+mod due;
+mod facts;
 pub mod host;
-mod judging;
-mod looking;
-mod owing;
-pub mod page;
-mod replay;
-mod scan;
+pub mod pages;
+mod past;
+mod room;
+mod rules;
 mod seen;
-mod standing;
-mod values;

@@ -1,6 +1,6 @@
 //! A history as a scan has seen it, of which the questions are asked.
 
-use crate::finding::Scan;
+use crate::past::scan::Scan;
 use rv_access::AccessList;
 use rv_event::entry::Entry;
 use rv_shape::catalogue::Catalogue;

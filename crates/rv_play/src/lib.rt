@@ -5,7 +5,5 @@
 mod acts;
 mod deed;
 mod laws;
-mod play;
+pub mod play;
 mod player;
-
-pub use play::play;

@@ -6,9 +6,9 @@
 //! `NAME.fault` is the fault that has to be told, where there is one.
 #![tactic(auto)]
 
-use rv_check::check;
+use rv_check::check::check;
 use rv_fault::Failure;
-use rv_play::play;
+use rv_play::play::play;
 use std::alloc::Global;
 use std::{fs, io};
 

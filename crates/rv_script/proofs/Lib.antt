@@ -1,3 +1,4 @@
 pub mod Numbered
 pub mod ReadAll
+pub mod Returns
 pub mod Wrote

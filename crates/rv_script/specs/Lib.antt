@@ -1,3 +1,4 @@
 pub mod Openings
 pub mod Prefixes
+pub mod UnitTexts
 pub mod Whole

@@ -5,6 +5,7 @@
 
 mod opening;
 mod read;
+pub mod unit_text;
 mod write;
 
 pub use opening::{Opened, Opening, open, opening_of};

@@ -10,7 +10,7 @@ use Rattle.rv_step.specs.declared.step.Asker.TheVariants.{Operator, Line, Task}
 use Rattle.rv_step.specs.declared.step.Asked.{Asked}
 use Rattle.rv_step.specs.declared.step.Asked.TheVariants.{Call, Complete, Resume, DelayUntil, Clock, Fire, Quit, Tick, Halt}
 use Rattle.rv_step.specs.Names.{DottedWord}
-use Rattle.rv_step.specs.StepWords.{◌>>=◌}
+use Rattle.rv_shape.specs.Items.{◌>>=◌}
 
 -- the operator's number
 abbrev pub operator : ℕ

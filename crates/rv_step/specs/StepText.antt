@@ -13,7 +13,9 @@ use Rattle.rv_step.specs.declared.step.Asker.{Asker}
 use Rattle.rv_step.specs.declared.step.Asker.TheVariants.{Operator, Line, Task}
 use Rattle.rv_step.specs.declared.step.Asked.{Asked}
 use Rattle.rv_step.specs.declared.step.Asked.TheVariants as Asks
-use Rattle.rv_step.specs.StepWords.{◌>>=◌, dotted_of, identifier_of, interrupt_of, args_of, scalars_of, exit_of}
+use Rattle.rv_event.specs.Words.{interrupt_of, args_of, scalars_of, exit_of}
+use Rattle.rv_shape.specs.Items.{◌>>=◌}
+use Rattle.rv_step.specs.StepWords.{dotted_of, identifier_of}
 
 -- a step
 pub record StepWords : Type 0 where

@@ -5,4 +5,3 @@
 pub mod lookup;
 pub mod reading;
 pub mod step;
-mod words;

@@ -3,6 +3,14 @@
 #![tactic(auto)]
 
 #[cfg(test)]
+mod rooms;
+#[cfg(test)]
+mod scripts;
+#[cfg(test)]
+mod settings;
+#[cfg(test)]
+mod steps;
+#[cfg(test)]
 mod trees;
 #[cfg(test)]
 mod turns;

@@ -1,17 +1,17 @@
-use Rattle.ravenhost.proofs.Checked.{one_said, stopped, all_said}
-use Rattle.ravenhost.proofs.check.check_sections.Goals as goal
+use Rattle.rv_check.proofs.Checked.{one_said, stopped, all_said}
+use Rattle.rv_check.proofs.check.check_sections.Goals as goal
 
 pub each-preserved : goal.each-preserved
 each-preserved g c =
-    one_said (g.W.Write.contents c.args.writer.now) (g.W.Write.contents c.each.writer) (g.W.Write.contents c.check_section.new.writer) c.each.is_first c.each.catalogue c.check_section.new.catalogue _ c.each.sections c.next_section.new.self c.args.sections
+    one_said (g.W.Write.contents c.args.writer.now) (g.W.Write.contents c.each.writer) (g.W.Write.contents c.check_section.new.writer) c.each.catalogue c.check_section.new.catalogue _ c.each.sections c.next_section.new.self c.args.sections
     c.in-Some.ensures.first c.each.invariant c.in-Ok.ensures
 
 pub returns-in-Err : goal.returns-in-Err
 returns-in-Err g c =
-    stopped (g.W.Write.contents c.args.writer.now) (g.W.Write.contents c.each.writer) (g.W.Write.contents c.check_section.new.writer) c.each.is_first c.each.catalogue c.check_section.new.catalogue _ c.each.sections c.next_section.new.self c.args.sections
+    stopped (g.W.Write.contents c.args.writer.now) (g.W.Write.contents c.each.writer) (g.W.Write.contents c.check_section.new.writer) c.each.catalogue c.check_section.new.catalogue _ c.each.sections c.next_section.new.self c.args.sections
     c.in-Err.failure c.in-Some.ensures.first c.each.invariant c.in-Err.ensures
 
 pub returns : goal.returns
 returns g c =
-    all_said (g.W.Write.contents c.args.writer.now) (g.W.Write.contents c.each.writer) c.each.is_first c.each.catalogue c.each.sections c.args.sections
+    all_said (g.W.Write.contents c.args.writer.now) (g.W.Write.contents c.each.writer) c.each.catalogue c.each.sections c.args.sections
     c.in_default.ensures.none.0 c.each.invariant

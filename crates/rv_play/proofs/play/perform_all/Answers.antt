@@ -1,9 +1,9 @@
 use Rattle.std.proofs.Common.{◌≡◌, ℕ, ◌+◌, List, ◌∷◌, ◌++◌, ap, sym, ◌∙◌, arith, rules, append_assoc}
 use Rattle.std.specs.Str.Lines.{lines}
 use Rattle.rv_text.specs.Words.{words}
-use Rattle.ravenhost.specs.Acts.{Act, line_acts, step_acts}
-use Rattle.ravenhost.proofs.Carrying.{carries_then, carries_fails}
-use Rattle.ravenhost.proofs.play.perform_all.Goals as goal
+use Rattle.rv_play.specs.Acts.{Act, line_acts, step_acts}
+use Rattle.rv_play.proofs.Carrying.{carries_then, carries_fails}
+use Rattle.rv_play.proofs.play.perform_all.Goals as goal
 
 -- the lines that are left, with the first of them
 with_first : (done : List Act) (number : ℕ) (rest : List (List ℕ)) (line : List ℕ) (after : List (List ℕ)) (whole : List Act) → rest ≡ line ∷ after → done ++ step_acts number rest ≡ whole → done ++ (line_acts number (words line) ++ step_acts (number + 1) after) ≡ whole
@@ -12,7 +12,7 @@ with_first done number rest line after whole e same = ap (λ (ls : List (List �
 pub returns-in-Err : goal.returns-in-Err
 returns-in-Err g c =
     let inv = c.loop-text.invariant in
-    carries_fails _ _ _ _ _ _ _ inv.done (line_acts (c.loop-text.line + 1) (words c.in-Some.text.now)) (step_acts (c.loop-text.line + 1 + 1) (lines c.in-Some.after.now)) _ _
+    carries_fails _ _ _ _ _ _ inv.done (line_acts (c.loop-text.line + 1) (words c.in-Some.text.now)) (step_acts (c.loop-text.line + 1 + 1) (lines c.in-Some.after.now)) _ _
     inv.carried c.in-Err.ensures
     (with_first inv.done (c.loop-text.line + 1) (lines c.loop-text.rest.now) c.in-Some.text.now (lines c.in-Some.after.now) _ c.in-Some.ensures.lines inv.all_acts)
 
@@ -27,5 +27,5 @@ loop-text-preserved g c =
       all_acts =
           append_assoc inv.done now (step_acts (c.loop-text.line + 1 + 1) (lines c.in-Some.after.now))
           ∙ with_first inv.done (c.loop-text.line + 1) (lines c.loop-text.rest.now) c.in-Some.text.now (lines c.in-Some.after.now) _ c.in-Some.ensures.lines inv.all_acts;
-      carried = carries_then _ _ _ _ _ _ _ inv.done now _ inv.carried c.in-Ok.ensures;
+      carried = carries_then _ _ _ _ _ _ inv.done now _ inv.carried c.in-Ok.ensures;
     }

@@ -2,9 +2,9 @@ use Rattle.std.proofs.Common.{◌≡◌, ◌+◌, ◌≤◌, List, ◌++◌, Ok,
 use denote.Text.{Utf8}
 use denote.Shadow.{shadow}
 use Rattle.std.specs.Str.Lines.{lines}
-use Rattle.ravenhost.specs.Acts.{Act, step_acts}
-use Rattle.ravenhost.specs.Outcome.{Carries}
-use Rattle.ravenhost.proofs.play.perform_all.Given as goal
+use Rattle.rv_play.specs.Acts.{Act, step_acts}
+use Rattle.rv_play.specs.Carried.{Carries}
+use Rattle.rv_play.proofs.play.perform_all.Given as goal
 
 -- the steps so far were carried out, and the others are those of the lines that are left
 abbrev pub invariant-loop-text : goal.invariant-loop-text
@@ -14,7 +14,7 @@ invariant-loop-text g l =
       few : l.line + length l.rest ≤ l.fn.section.line + length l.fn.section.text.now;
       done : List Act;
       all_acts : done ++ step_acts (l.line + 1) (lines l.rest) ≡ step_acts (l.fn.section.line + 1) (lines l.fn.section.text.now);
-      carried : Carries l.all (g.W.Write.contents l.fn.writer) (g.W.Write.contents l.writer) l.fn.host l.host done (Ok tt);
+      carried : Carries (g.W.Write.contents l.fn.writer) (g.W.Write.contents l.writer) l.fn.player l.player done (Ok tt);
     }
 
 abbrev pub decreases-loop-text : goal.decreases-loop-text

@@ -1,0 +1,83 @@
+-- Bytes that are a script, and bytes that are none.
+use Rattle.std.proofs.Common.{◌≡◌, ℕ, ◌<◌, ◌≤◌, ◌+◌, List, [], Some, None, Option, Err, Result, length, take, refl, sym, ap, ◌∙◌, subst, arith, min, length-take, inl, inr}
+use Rattle.std.specs.Prelude.{Bool, IfSome, ◌⊎◌}
+use Rattle.std.specs.Str.{IsUtf8}
+use Rattle.std.proofs.lemmas.List.{take_all}
+use Rattle.rv_script.specs.Whole.{IsScript, IsRefused, most_bytes}
+use Rattle.rv_script.specs.declared.read.TextError.{TextError}
+use Rattle.rv_script.specs.declared.read.TextError.TheVariants.{TooLong, NotText}
+use Rattle.rv_script.proofs.Wrote.{keeps_nothing, nothing_yet}
+use Rattle.rv_fault.specs.declared.failure.Failure.{Failure}
+use Rattle.rv_fault.specs.declared.failure.Failure.TheVariants.{Refused, Memory, Io}
+use Rattle.rv_fault.specs.declared.fault.ScriptFault.{ScriptFault}
+use Rattle.rv_fault.specs.Faults.{of_bytes}
+use Rattle.rv_fault.specs.Written.{Outcome, Writes, WritesScript, refused_bytes}
+
+not_both : (bytes : List ℕ) (error : TextError) → IsScript bytes → IsRefused bytes error → ⊥
+not_both bytes TooLong script refused = let short = script.short in absurd (omega arith)
+not_both bytes NotText script refused = refused.1 script.text
+
+-- it is too long where more was asked for than a script may have
+still_long : (bytes script : List ℕ) → bytes ≡ take 16777217 script → 16777216 < length script → 16777216 < length bytes
+still_long bytes script e long =
+    let same : length bytes ≡ min 16777217 (length script) = ap length e ∙ length-take 16777217 script in
+    omega arith
+
+refused_read : (bytes script : List ℕ) (error : TextError) → bytes ≡ take 16777217 script → IsRefused script error → IsRefused bytes error
+refused_read bytes script TooLong e refused = still_long bytes script e refused
+refused_read bytes script NotText e refused =
+    subst (λ (l : List ℕ). IsRefused l NotText) (sym (e ∙ take_all 16777217 script (omega (arith, refused.0)))) refused
+
+written_read : (old new : Option (List ℕ)) (outcome : List ℕ → Outcome) (bytes script : List ℕ) (r : Result (Unit {0}) Failure) → bytes ≡ take 16777217 script → WritesScript old new outcome bytes r → WritesScript old new outcome script r
+written_read old new outcome bytes script r e written =
+    let whole = λ (short : length script ≤ 16777216). e ∙ take_all 16777217 script (omega arith) in
+    record {
+      text = λ is.
+          let same = whole is.short in
+          subst (λ (l : List ℕ). Writes old new (outcome l) r) same (written.text (subst IsScript (sym same) is));
+      refused = λ error refused. written.refused error (refused_read bytes script error e refused);
+    }
+
+-- what is told of what was read is told of all that the reader had
+pub script_read : (old new known : Option (List ℕ)) (outcome : List ℕ → Outcome) (bytes : List ℕ) (r : Result (Unit {0}) Failure) → IfSome known (λ input. bytes ≡ take 16777217 input) → WritesScript old new outcome bytes r
+    → IfSome known (λ script. WritesScript old new outcome script r)
+script_read old new None outcome bytes r e written = tt
+script_read old new (Some script) outcome bytes r e written = written_read old new outcome bytes script r e written
+
+-- bytes are refused for one reason
+same_reason : (bytes : List ℕ) (error told : TextError) → IsRefused bytes told → IsRefused bytes error → error ≡ told
+same_reason bytes TooLong TooLong x y = refl
+same_reason bytes NotText NotText x y = refl
+same_reason bytes TooLong NotText x y = let few = x.0 in absurd (omega (arith, y))
+same_reason bytes NotText TooLong x y = let few = y.0 in absurd (omega (arith, x))
+
+pub script_written : (old new : Option (List ℕ)) (outcome : List ℕ → Outcome) (bytes text : List ℕ) (r : Result (Unit {0}) Failure) → (text ≡ bytes) × IsScript bytes → Writes old new (outcome text) r → WritesScript old new outcome bytes r
+script_written old new outcome bytes text r is written =
+    record {
+      text = λ _. subst (λ (l : List ℕ). Writes old new (outcome l) r) is.0 written;
+      refused = λ error refused. absurd (not_both bytes error is.1 refused);
+    }
+
+abbrev fault_of : TextError → ScriptFault
+fault_of error = record { line = 1; what = of_bytes error }
+
+pub script_refused : (old : Option (List ℕ)) (outcome : List ℕ → Outcome) (bytes : List ℕ) (told : TextError) (failure : Failure) → IsRefused bytes told → failure ≡ Refused (fault_of told) → WritesScript old old outcome bytes (Err failure)
+script_refused old outcome bytes told failure refused e =
+    subst (λ (f : Failure). WritesScript old old outcome bytes (Err f)) (sym e)
+    (record {
+      text = λ is. absurd (not_both bytes told is refused);
+      refused = λ error it. record {
+        text = [];
+        is = (refl, ap (λ (w : TextError). Some (fault_of w)) (sym (same_reason bytes error told refused it)));
+        written = keeps_nothing old;
+      };
+    })
+
+-- where nothing was read, nothing is written
+pub unwritten : (old : Option (List ℕ)) (outcome : List ℕ → Outcome) (bytes : List ℕ) (failure : Failure) → (let r : Result (Unit {0}) Failure = Err failure in Writes old old (outcome bytes) r)
+    → ((error : TextError) → let r : Result (Unit {0}) Failure = Err failure in Writes old old (refused_bytes error) r) → WritesScript old old outcome bytes (Err failure)
+unwritten old outcome bytes failure text refused = record { text = λ _. text; refused = λ error _. refused error }
+
+-- nothing is a prefix of what there is to write of bytes that are none
+pub none_written : (old : Option (List ℕ)) (error : TextError) → let r : Result (Unit {0}) Failure = Err Memory in Writes old old (refused_bytes error) r
+none_written old error = record { text = []; begins = refl; written = nothing_yet old [] }

@@ -1,0 +1,67 @@
+//! The answers to ends of bodies.
+
+ghost use Rattle.std.specs.Prelude.{◌≡◌, slice_get, List};
+ghost use Rattle.rv_event.specs.declared.entry.Body.{Body};
+ghost use Rattle.rv_history.specs.Due as due;
+ghost use Rattle.rv_host.specs.Seen.{IsSeen, history_of};
+
+use crate::past::counts::is_halted;
+use crate::rules::exclusion::{is_function, opens_at};
+use crate::rules::grant::{decide_call, subject};
+use crate::rules::queue::head_call;
+use crate::seen::Seen;
+use rv_event::entry::{Answer, Body, Next};
+use rv_shape::actor::Callee;
+use rv_value::Scalars;
+
+// The head of a queue: handed over where the list in force grants its call, else dropped.
+fn serve(seen: &Seen, head: Option<Body>) -> Next
+    requires { IsSeen seen.now }
+    ensures { (calls : List Body) → head ≡ slice_get calls 0 → result ≡ due.next_of_queue (history_of seen.now) calls }
+{
+    let Some(call) = head else {
+        return Next::Nothing;
+    };
+    let callee = seen.catalogue.callee(call.object, call.operation);
+    let (granted, line) = decide_call(seen, subject(seen, call.actor), &callee);
+    if granted {
+        Next::HandedTo(call.actor)
+    } else {
+        Next::Dropped(call.actor, line)
+    }
+}
+
+// What becomes of the queue of an object at the end of an exclusive body that leaves these
+// scalars.
+fn after_end(seen: &Seen, object: usize, scalars: &Scalars) -> Next
+    requires { IsSeen seen.now }
+    ensures { result ≡ due.after_end (history_of seen.now) object scalars.now }
+{
+    if is_halted(seen.entries) {
+        return Next::Nothing;
+    }
+    if !opens_at(seen.catalogue, object, scalars) {
+        return Next::Nothing;
+    }
+    serve(seen, head_call(seen.scan.waiting(), object))
+}
+
+/// The answer to the end of a body.
+pub fn due_end(seen: &Seen, body: Option<Body>, scalars: &Scalars) -> Answer
+    requires { IsSeen seen.now }
+    ensures { result ≡ due.due_end (history_of seen.now) scalars.now body }
+{
+    let Some(body) = body else {
+        return Answer::Misuse;
+    };
+    match seen.catalogue.callee(body.object, body.operation) {
+        Callee::Protected(_, _, found) => {
+            if is_function(found.kind()) {
+                return Answer::Done(Next::Nothing);
+            }
+            Answer::Done(after_end(seen, body.object, scalars))
+        }
+        Callee::Nowhere => Answer::Misuse,
+        Callee::Suspension(_, _, _) => Answer::Misuse,
+    }
+}

@@ -1,0 +1,9 @@
+//! The rules, each with what it asks of a history.
+
+pub mod blocking;
+pub mod ceiling;
+pub mod exclusion;
+pub mod fitting;
+pub mod grant;
+pub mod queue;
+pub mod values;
