@@ -12,7 +12,8 @@ STRANGE_LINES = edges.parts(r"""a = 1 | zeta = 1 | Capacity = 64 | capacity.x = 
 NUMBERS = edges.parts("""16 | 17 | 15 | 0 | -1 | 64 | 40 | +40 | 4_0 | 0x20 | 0o40 | 0b100000 | 040 | 1_048_576 | 1048577 | 1048575 | 4__0 | _40 | 40_
 | 40.0 | 4e1 | true | "40" | '40' | [40] | {} | 1_000_000 | 1000001 | 1 | 41 | inf | nan | 1979-05-27 | 07:32:00 | -0 | +0 | 0X20
 | 9223372036854775807 | -9223372036854775808 | 40,""")
-NAMES = edges.parts("""Plant | valve | N_1 | Plant.Valve | a.b | a.b.c | _x | x_ | a__b | 1x | | begin | Int_5 | operator | é | Plant Valve | * | .""") \
+NAMES = edges.parts("""Plant | valve | N_1 | Plant.Valve | a.b | a.b.c | _x | x_ | a__b | 1x | |
+begin | Int_5 | operator | é | Plant Valve | * | .""") \
     + [edges.LONG, edges.TOO_LONG, f"{edges.LONG}.{edges.LONG}", f"x.{edges.TOO_LONG}"]
 DEVICE = {"unit": "Plant", "task": "Probe", "object": "Plant.Valve", "operation": "Set", "priority": "12", "calls": "50"}
 MORE_KEYS = ("extra = 1", "zone = 'x'", "Unit = 'P'", "alpha = 1", "unit = 'Q'", "unit.x = 1", "'unit ' = 'x'")

@@ -1,8 +1,10 @@
+#!/usr/bin/env python3
 """Worked by hand: scripts with what they must print."""
+import sys
 from collections.abc import Iterator
 from typing import NamedTuple
 
-from play import Outcome
+from play import Outcome, play
 
 UNRECORDED = ("misuse", "halted", "full", "busy", "waiting", "unattached", "badline")
 
@@ -62,7 +64,8 @@ SETTINGS = {  # a text and its fault
     "budget = 0/a = 1": "UnknownKey", "budget = 0/z = 1": "BadValue", "budget = 1": None, "budget = 1000000": None, "budget = 1000001": "BadValue",
     "budget = 0/a = ": "NotToml", "zeta = 1/capacity = 15": "BadValue", "[capacity]": "BadValue", "[budgets]": "UnknownKey",
     "[[device]]": "BadValue", "[[device]]/x = 1": "UnknownKey", "[[device]]/calls = 0/x = 1": "BadValue", "[[device]]/calls = 0/a = 1": "UnknownKey",
-    "[[device]]/calls = 5/[[device]]/x = 1": "UnknownKey", "zeta = 1/[[device]]/calls = 5": "UnknownKey", "device = []": None, "device = 5": "BadValue",
+    "[[device]]/calls = 5/[[device]]/x = 1": "UnknownKey", "zeta = 1/[[device]]/calls = 5": "UnknownKey",
+    "device = []": None, "device = 5": "BadValue",
     "[device]": "BadValue", "device = [1]": "BadValue", "zeta = 1/[[device]]/calls = 0": "BadValue",
     "[[device]]/unit = 'P'/task = 'T'/object = 'P.O'/operation = 'R'/priority = 40/calls = 1000000": None,
     "[[device]]/unit = 'P'/task = 'T'/object = 'P.O'/operation = 'R'/priority = 41/calls = 1": "BadValue",
@@ -75,20 +78,24 @@ WAITING_UNITS = "protected O 35/scalar 0 1 0/procedure R/entry E 1/handler H 4/h
 TASKS = "task A 10/task B 20/task C 40/task D 1"
 WORKED = (  # the list, the capacity or none, and the steps with their answers
     # suspension objects
-    ("allow * * *", None, """T.A call P.S Current_State -> accepted 0/T.A call P.S Set_True -> accepted 0/T.A call P.S Current_State -> accepted 1
+    ("allow * * *", None, """T.A call P.S Current_State -> accepted 0/T.A call P.S Set_True -> accepted 0
+/T.A call P.S Current_State -> accepted 1
 /T.A call P.S Suspend_Until_True -> accepted 0/T.A call P.S Current_State -> accepted 0/T.A call P.S Suspend_Until_True -> suspended
 /T.A resume -> waiting/T.A call P.S Set_True -> misuse/T.B call P.S Suspend_Until_True -> refused 6 line 0 version 1
 /T.B call P.S Set_False -> accepted 0/T.A resume -> waiting/T.B call P.S Set_True -> accepted 0/T.B call P.S Current_State -> accepted 0
 /T.B call P.S Suspend_Until_True -> suspended/T.A resume -> woken/T.A resume -> misuse/T.A call P.S Set_True -> accepted 0
 /T.A call P.S Set_True -> accepted 0/T.A call P.S Current_State -> accepted 1/T.B resume -> woken/T.B call P.S Set_False -> accepted 0
-/T.B call P.S Current_State -> accepted 0/operator call P.S Set_True -> misuse/Int_4 call P.S Set_True -> misuse/T.B call P.S Set_True 1 -> misuse"""),
+/T.B call P.S Current_State -> accepted 0/operator call P.S Set_True -> misuse/Int_4 call P.S Set_True -> misuse
+/T.B call P.S Set_True 1 -> misuse"""),
     ("allow * * */deny T P.S Set_True", None, """T.A call P.S Set_True -> refused 1 line 2 version 1/T.A call P.O R -> started
-/T.A call P.S Set_True -> accepted 0/T.A call P.S Suspend_Until_True -> refused 2 line 0 version 1/T.A call P.S Current_State -> accepted 1
+/T.A call P.S Set_True -> accepted 0/T.A call P.S Suspend_Until_True -> refused 2 line 0 version 1
+/T.A call P.S Current_State -> accepted 1
 /T.A delay 5 -> refused 2 line 0 version 1/T.A delay -5 -> refused 2 line 0 version 1/T.A clock -> accepted 0/T.A finish -> misuse
 /T.A end 0 : return -> done/T.A call P.S Current_State 0 -> misuse/T.A finish -> accepted 0/T.A finish -> misuse/T.A clock -> misuse
 /T.A call P.O R -> misuse/T.A resume -> misuse/T.A delay 1 -> misuse"""),
     # time
-    ("", None, """T.A clock -> accepted 0/T.A delay 0 -> accepted 0/T.A delay -1000000000000000 -> accepted 0/T.A delay -1000000000000001 -> misuse
+    ("", None, """T.A clock -> accepted 0/T.A delay 0 -> accepted 0/T.A delay -1000000000000000 -> accepted 0
+/T.A delay -1000000000000001 -> misuse
 /operator tick 0 -> misuse/operator tick 1000001 -> misuse/operator tick -1 -> misuse/operator tick 1000000 -> accepted 0
 /T.B clock -> accepted 1000000/T.B delay 1000000 -> accepted 0/T.B delay 1000001 -> delayed/T.B resume -> waiting/T.B clock -> misuse
 /T.B delay 5 -> misuse/operator tick 1 -> accepted 0/T.B resume -> woken/T.B resume -> misuse/T.B delay 1000000000000001 -> misuse
@@ -97,36 +104,49 @@ WORKED = (  # the list, the capacity or none, and the steps with their answers
     # interrupts
     ("allow * * *", None, """Int_3 fire -> unattached/Int_5 fire -> refused 4 line 0 version 1/Int_4 fire -> started/Int_4 fire -> misuse
 /Int_4 clock -> accepted 0/Int_4 call P.O E -> refused 2 line 0 version 1/Int_4 call P.O R -> refused 3 line 0 version 1
-/Int_4 call P.Q W -> started/Int_4 call P.O R -> refused 3 line 0 version 1/Int_4 delay 1 -> refused 2 line 0 version 1/Int_4 end : return -> done
+/Int_4 call P.Q W -> started/Int_4 call P.O R -> refused 3 line 0 version 1/Int_4 delay 1 -> refused 2 line 0 version 1
+/Int_4 end : return -> done
 /Int_4 end : return -> misuse/Int_4 end 1 : return -> done/Int_4 resume -> misuse/Int_4 call P.Q W -> misuse/Int_4 finish -> misuse
 /operator fire -> misuse/T.A fire -> misuse/T.C call P.O R -> refused 4 line 0 version 1/T.A call P.O H -> started/Int_4 fire -> busy
 /Int_3 fire -> unattached/T.A end 1 : return -> done/Int_4 fire -> started"""),
     ("allow * * */deny Interrupts P.O h", None, """Int_4 fire -> refused 1 line 2 version 1/Int_5 fire -> refused 4 line 0 version 1
 /T.A call P.O H -> started/Int_4 fire -> refused 1 line 2 version 1"""),
-    ("allow interrupts P.O */allow P P.Q W", None, """Int_4 fire -> started/Int_4 call P.Q W -> started/Int_4 call P.Q W -> refused 3 line 0 version 1
-/Int_4 call P.O R -> refused 1 line 0 version 1/Int_4 call P.S Set_True -> refused 1 line 0 version 1/T.A call P.Q W -> refused 1 line 0 version 1"""),
-    ("allow * * *", None, """T.A call P.O E -> queued/T.A resume -> waiting/Int_4 fire -> started/Int_4 end 1 : return -> done handed T.A/Int_4 fire -> busy
+    ("allow interrupts P.O */allow P P.Q W", None, """Int_4 fire -> started/Int_4 call P.Q W -> started
+/Int_4 call P.Q W -> refused 3 line 0 version 1
+/Int_4 call P.O R -> refused 1 line 0 version 1/Int_4 call P.S Set_True -> refused 1 line 0 version 1
+/T.A call P.Q W -> refused 1 line 0 version 1"""),
+    ("allow * * *", None, """T.A call P.O E -> queued/T.A resume -> waiting/Int_4 fire -> started/Int_4 end 1 : return -> done handed T.A
+/Int_4 fire -> busy
 /T.A end 0 : return -> misuse/T.A resume -> woken/T.A end 0 : return -> done/T.B call P.O E -> queued/Int_4 fire -> started
 /operator append deny T P.O E = [allow * * *; deny T P.O E]/Int_4 end 1 : overrun -> done dropped T.B line 2
 /operator append allow * * * = [allow * * *; deny T P.O E; allow * * *]/Int_4 fire -> started/T.B call P.Q W -> misuse
 /T.B resume -> refused 1 line 2 version 2"""),
     # a halt
-    ("allow * * *", None, """T.A call P.O E -> queued/T.B call P.O R -> started/T.C delay 10 -> delayed/T.D call P.S Suspend_Until_True -> suspended
-/operator tick 10 -> accepted 0/T.A halt -> misuse/Int_1 halt -> misuse/operator halt -> accepted 0/operator halt -> halted/operator tick 1 -> halted
-/operator tick 0 -> misuse/operator append allow * * * -> halted/operator remove 9 -> halted/T.B call P.Q W -> halted/T.B call P.Q W 1 -> misuse
+    ("allow * * *", None, """T.A call P.O E -> queued/T.B call P.O R -> started/T.C delay 10 -> delayed
+/T.D call P.S Suspend_Until_True -> suspended
+/operator tick 10 -> accepted 0/T.A halt -> misuse/Int_1 halt -> misuse/operator halt -> accepted 0/operator halt -> halted
+/operator tick 1 -> halted
+/operator tick 0 -> misuse/operator append allow * * * -> halted/operator remove 9 -> halted/T.B call P.Q W -> halted
+/T.B call P.Q W 1 -> misuse
 /T.B call P.S Set_True -> halted/T.B clock -> halted/T.B delay 1 -> halted/T.B delay 1000000000000001 -> misuse/Int_4 fire -> halted
-/Int_3 fire -> halted/T.C resume -> woken/T.D resume -> halted/T.B end 2 : return -> misuse/T.B end 1 : return -> done/T.A resume -> halted
+/Int_3 fire -> halted/T.C resume -> woken/T.D resume -> halted/T.B end 2 : return -> misuse/T.B end 1 : return -> done
+/T.A resume -> halted
 /T.A finish -> misuse/T.C finish -> accepted 0/T.B resume -> misuse/T.B finish -> accepted 0"""),
-    ("allow * * *", None, """T.A call P.O E -> queued/T.B call P.O R -> started/T.D call P.S Suspend_Until_True -> suspended/T.B call P.S Set_True -> accepted 0
+    ("allow * * *", None, """T.A call P.O E -> queued/T.B call P.O R -> started/T.D call P.S Suspend_Until_True -> suspended
+/T.B call P.S Set_True -> accepted 0
 /T.B end 1 : return -> done handed T.A/operator halt -> accepted 0/T.D resume -> woken/T.A resume -> woken/T.A end 1 : return -> done"""),
     # room: 17 less 3 entries, 4 tasks and the halt is 9 at first
-    ("allow * * *", 17, """T.A call P.S Suspend_Until_True -> suspended/T.B delay 5 -> delayed/T.D call P.O R -> started/T.D call P.S Set_True -> accepted 0
+    ("allow * * *", 17, """T.A call P.S Suspend_Until_True -> suspended/T.B delay 5 -> delayed/T.D call P.O R -> started
+/T.D call P.S Set_True -> accepted 0
 /T.A resume -> woken/T.D end 0 : return -> done/T.A call P.O E -> full/T.A call P.O R -> started/operator tick 5 -> full/T.D clock -> full
-/T.B resume -> waiting/T.C delay 9 -> full/T.C delay 0 -> full/operator append deny * * * -> full/operator remove 2 -> badline/Int_4 fire -> busy
-/T.A end 1 : return -> done/Int_4 fire -> full/Int_5 fire -> full/Int_3 fire -> unattached/T.D finish -> accepted 0/T.A finish -> accepted 0
+/T.B resume -> waiting/T.C delay 9 -> full/T.C delay 0 -> full/operator append deny * * * -> full/operator remove 2 -> badline
+/Int_4 fire -> busy
+/T.A end 1 : return -> done/Int_4 fire -> full/Int_5 fire -> full/Int_3 fire -> unattached/T.D finish -> accepted 0
+/T.A finish -> accepted 0
 /operator halt -> accepted 0/T.B finish -> misuse/T.B resume -> halted/T.C finish -> accepted 0"""),
     ("allow * * *", 18, """T.A call P.O E -> queued/T.B call P.O R -> started/operator append deny T P.O E = [allow * * *; deny T P.O E]
-/T.B end 1 : return -> done dropped T.A line 2/T.B clock -> accepted 0/T.B clock -> accepted 0/T.B clock -> accepted 0/T.B clock -> accepted 0
+/T.B end 1 : return -> done dropped T.A line 2/T.B clock -> accepted 0/T.B clock -> accepted 0/T.B clock -> accepted 0
+/T.B clock -> accepted 0
 /T.B clock -> accepted 0/T.B clock -> full/T.A resume -> refused 1 line 2 version 2/T.B clock -> full/operator halt -> accepted 0"""),
 )
 
@@ -181,3 +201,16 @@ def worked_scripts() -> Iterator[Script]:
         yield Script(("@host.toml\n" + rows(text)).encode(), Outcome(b"", told, 1 if fault else 0))
     for lines, fault in MISREAD_LISTS.items():
         yield Script(f"@list\n{lines}".encode(), Outcome(b"", f"script line 1: list {fault}\n".encode(), 1))
+
+
+def main() -> int:
+    found = list(worked_scripts())
+    missed = [script for script in found if play(script.text, True) != script.expected]
+    for script in missed:
+        print(f"{script.text.decode()}=== the model says\n{play(script.text, True)}\n=== expected\n{script.expected}\n")
+    print(f"{len(found)} worked scripts, {len(missed)} differ")
+    return 1 if missed else 0
+
+
+if __name__ == "__main__":
+    sys.exit(main())
