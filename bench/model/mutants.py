@@ -3,6 +3,7 @@
 import sys
 import types
 from collections.abc import Callable
+from functools import cache
 from pathlib import Path
 
 from edges import edge_scripts
@@ -13,6 +14,7 @@ from worked import worked_scripts
 
 MODEL = ("words", "lists", "settings", "shapes", "host", "steps", "play")
 Play = Callable[[bytes, bool], Outcome]
+MADE = {"worked": worked_scripts, "edges": edge_scripts}
 COUNTS = {"settings": 600, "shapes": 600, "lists": 200, "deep": 100, "crossed": 200, "waits": 300, "random": 300, "damaged": 600, "full": 40}
 
 
@@ -33,10 +35,20 @@ def mutated(mutant: Mutant) -> Play:
         sys.modules.update(kept)
 
 
-def noticing_kind(changed: Play, known: dict[str, list[tuple[bytes, Outcome]]]) -> str | None:
+@cache
+def known(kind: str) -> list[tuple[bytes, Outcome]]:
+    """The scripts of a kind, with what the model says to them."""
+    if kind in MADE:
+        texts = [script.text for script in MADE[kind]()]
+    else:
+        texts = [KINDS[kind][0](seed) for seed in range(COUNTS[kind])]
+    return [(text, play(text, True)) for text in texts]
+
+
+def noticing_kind(changed: Play) -> str | None:
     """The first kind with a script to which the changed model says something else."""
-    for kind, found in known.items():
-        if any(changed(script, True) != outcome for script, outcome in found):
+    for kind in [*MADE, *COUNTS]:
+        if any(changed(script, True) != outcome for script, outcome in known(kind)):
             return kind
     return None
 
@@ -48,13 +60,9 @@ def asked_for() -> list[Mutant]:
 
 
 def main() -> int:
-    drawn = {kind: [KINDS[kind][0](seed) for seed in range(count)] for kind, count in COUNTS.items()}
-    made = {"worked": [script.text for script in worked_scripts()], "edges": [script.text for script in edge_scripts()]}
-    known = {kind: [(script, play(script, True)) for script in found]
-             for kind, found in {**made, **drawn}.items()}
     missed, mutants = 0, asked_for()
     for mutant in mutants:
-        kind = noticing_kind(mutated(mutant), known)
+        kind = noticing_kind(mutated(mutant))
         missed += kind is None
         print(f"{mutant.name}: {f'noticed by {kind}' if kind else 'NOT NOTICED'}", flush=True)
     print(f"{len(mutants)} wrong readings, {missed} not noticed")

@@ -227,7 +227,7 @@ MUTANTS = [Mutant(*mutant) for mutant in (
      "key=lambda item: item[0] in {**HOST_KEYS, **DEVICE_KEYS, 'device': 0}"),
     ("keys as they stand", "settings", "return sorted(table.items(), key=lambda item: item[0].encode())",
      "return list(table.items())"),
-    ("keys heed no case", "settings", "key not in DEVICE_KEYS", "key.lower() not in DEVICE_KEYS"),
+    ("keys heed no case", "settings", "in in_order(device):", "in in_order({key.lower(): value for key, value in device.items()}):"),
     ("unknown keys pass", "settings", '            raise SettingsFault("UnknownKey")\n    if', "            pass\n    if"),
     ("missing keys pass", "settings", "len(device) < len(DEVICE_KEYS)", "len(device) < 0"),
     ("missing keys are told at their device", "settings",

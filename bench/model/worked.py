@@ -69,6 +69,8 @@ SETTINGS = {  # a text and its fault
     "[device]": "BadValue", "device = [1]": "BadValue", "zeta = 1/[[device]]/calls = 0": "BadValue",
     "[[device]]/unit = 'P'/task = 'T'/object = 'P.O'/operation = 'R'/priority = 40/calls = 1000000": None,
     "[[device]]/unit = 'P'/task = 'T'/object = 'P.O'/operation = 'R'/priority = 41/calls = 1": "BadValue",
+    "[[device]]/unit = 'P'/task = 'T'/object = 'P.O'/operation = 'R'/priority = 1/calls = 1000001": "BadValue",
+    "[[device]]/unit = 'P'/task = 'T'/object = 'P.O'/operation = 'R'/priority = 0/calls = 1": "BadValue",
     "[[device]]/unit = 'P'/task = 'T'/object = 'PO'/operation = 'R'/priority = 1/calls = 1": "BadValue",
     "[[device]]/unit = 'P.T'/task = 'T'/object = 'P.O'/operation = 'R'/priority = 1/calls = 1": "BadValue",
     "[[device]]/unit = 'P'/task = ''/object = 'P.O'/operation = 'R'/priority = 1/calls = 1": "BadValue",
