@@ -1,5 +1,5 @@
 #!/usr/bin/env python3
-"""Compares the model of `ravenhost play` with the built program. README.md says more."""
+"""Compares the model of `ravenhost` with the built program. README.md says more."""
 import argparse
 import os
 import re
@@ -11,6 +11,7 @@ from itertools import zip_longest
 from pathlib import Path
 from typing import NamedTuple
 
+from check import check
 from edges import edge_scripts, large_scripts
 from generators import KINDS
 from play import Outcome, play
@@ -21,33 +22,44 @@ FIXED = {"worked": worked_scripts, "edges": edge_scripts, "big": large_scripts}
 SECONDS = 300
 SHRINKING_RUNS = 1000
 MOST_SHOWN = 5_000
+HOWS = ("play --all", "play", "check")
 
 
 class Difference(NamedTuple):
     kind: str
     script: Script
-    show_all: bool
+    how: str  # of HOWS
 
 
-def run(program: Path, script: bytes, show_all: bool) -> Outcome:
+def modelled(script: bytes, how: str) -> Outcome:
+    """What the model says to the script."""
+    return check(script) if how == "check" else play(script, how == "play --all")
+
+
+def run(program: Path, script: bytes, how: str) -> Outcome:
     """What the program writes for the script, and its status."""
-    command = [program, "play"] + ["--all"] * show_all
     try:
-        ended = subprocess.run(command, input=script, capture_output=True, timeout=SECONDS)
+        ended = subprocess.run([program, *how.split()], input=script, capture_output=True, timeout=SECONDS)
     except subprocess.TimeoutExpired:
         return Outcome(b"", f"not ended after {SECONDS} seconds\n".encode(), -1)
     return Outcome(ended.stdout, ended.stderr, ended.returncode)
 
 
-def scripts(kind: str, count: int, seed: int) -> Iterator[tuple[Script, bool]]:
-    """The scripts of a kind, each with whether it is played with --all; those made by hand are played both ways."""
+def scripts(kind: str, count: int, seed: int) -> Iterator[tuple[Script, str]]:
+    """The scripts of a kind, each with what it is given to: those made by hand to all, of the others every eighth to another
+    command than `play --all`. To `check` goes none with a unit text."""
     if kind in FIXED:
-        for script in FIXED[kind]():
-            yield from ((script, True), (script, False))
+        yield from ((script, how) for script in FIXED[kind]() for how in HOWS if is_served(script, how))
         return
     draw, rarity = KINDS[kind]
     for place in range(seed, seed + max(1, count // rarity)):
-        yield Script(draw(place)), place % 8 != 0
+        script, how = Script(draw(place)), {0: "play", 1: "check"}.get(place % 8, "play --all")
+        yield script, how if is_served(script, how) else "play"
+
+
+def is_served(script: Script, how: str) -> bool:
+    """Whether the model knows what is due: not of unit texts in `check`."""
+    return how != "check" or b"@unit" not in script.text
 
 
 def fault_words(outcome: Outcome) -> str:
@@ -83,16 +95,16 @@ def compare_kind(kind: str, program: Path, count: int, seed: int, found: dict[st
     """Plays the scripts of a kind, keeps the shortest of each kind of difference, and tells how many ran and differed."""
     counts: Counter[str] = Counter()
     runs = differing = 0
-    for script, show_all in scripts(kind, count, seed):
-        outcome, model = run(program, script.text, show_all), play(script.text, show_all)
-        expected = script.expected if script.expected and show_all else outcome
+    for script, how in scripts(kind, count, seed):
+        outcome, model = run(program, script.text, how), modelled(script.text, how)
+        expected = script.expected if script.expected and how == "play --all" else outcome
         counts += tally(outcome)
         runs += 1
         if not outcome == model == expected:
             differing += 1
             name = signature(model, outcome) if model != outcome else "both differ from what is expected"
             if name not in found or len(script.text) < len(found[name].script.text):
-                found[name] = Difference(kind, script, show_all)
+                found[name] = Difference(kind, script, how)
     told = ", ".join(f"{name} {times}" for name, times in sorted(counts.items()))
     print(f"{kind}: {runs} runs, {differing} differ; {told}", flush=True)
     return runs, differing
@@ -117,14 +129,14 @@ def thinned(script: bytes, piece: bytes, differs: Callable[[bytes], bool]) -> by
 def shrunk(found: Difference, program: Path) -> Difference:
     """The same kind of difference with a smaller script, as far as it goes in so many runs: lines are left out, then words."""
     budget = iter(range(SHRINKING_RUNS))
-    outcomes = play(found.script.text, found.show_all), run(program, found.script.text, found.show_all)
+    outcomes = modelled(found.script.text, found.how), run(program, found.script.text, found.how)
     name = signature(*outcomes)
 
     def differs(script: bytes) -> bool:
         if next(budget, None) is None:
             return False
-        model, other = play(script, found.show_all), run(program, script, found.show_all)
-        return model != other and signature(model, other) == name
+        model, other = modelled(script, found.how), run(program, script, found.how)
+        return model != other and signature(model, other) == name and is_served(Script(script), found.how)
 
     script = found.script.text
     if not differs(script):
@@ -141,10 +153,10 @@ def shown(text: bytes) -> str:
 def report(name: str, found: Difference, program: Path) -> None:
     """Prints a script with what the model and the program say to it."""
     text = found.script.text
-    outcomes = {"model": play(text, found.show_all), "program": run(program, text, found.show_all)}
+    outcomes = {"model": modelled(text, found.how), "program": run(program, text, found.how)}
     if found.script.expected:
         outcomes["expected"] = found.script.expected
-    print(f"\n=== {name}\n== a script of the kind {found.kind}, played {'with' if found.show_all else 'without'} --all:\n{shown(text)}")
+    print(f"\n=== {name}\n== a script of the kind {found.kind}, given to `{found.how}`:\n{shown(text)}")
     for who, outcome in outcomes.items():
         print(f"== {who}: status {outcome.status}\n{shown(outcome.output)}{shown(outcome.fault)}", end="")
 

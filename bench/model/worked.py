@@ -2,10 +2,12 @@
 """Worked by hand: scripts with what they must print."""
 import sys
 from collections.abc import Iterator
+from pathlib import Path
 from typing import NamedTuple
 
 from play import Outcome, play
 
+ROOT = Path(__file__).resolve().parents[2]
 UNRECORDED = ("misuse", "halted", "full", "busy", "waiting", "unattached", "badline")
 
 
@@ -205,8 +207,21 @@ def worked_scripts() -> Iterator[Script]:
         yield Script(f"@list\n{lines}".encode(), Outcome(b"", f"script line 1: list {fault}\n".encode(), 1))
 
 
+def document_scripts() -> Iterator[Script]:
+    """The example of docs/SCRIPTS.md with its journal, and the script whose journal README.md shows."""
+    example = (ROOT / "docs/SCRIPTS.md").read_text().partition("## An example\n")[2]
+    script, journal = [indented(part) for part in example.split("`play --all` prints")]
+    yield Script(script.encode(), Outcome(journal.encode(), b"", 0))
+    shown = (ROOT / "README.md").read_text().partition("journal:\n")[2].partition("rt ci")[0]
+    yield Script((ROOT / "examples/denied_call.raven").read_bytes(), Outcome(indented(shown).encode(), b"", 0))
+
+
+def indented(text: str) -> str:
+    return "".join(line[4:] + "\n" for line in text.split("\n") if line.startswith("    ") and line.strip())
+
+
 def main() -> int:
-    found = list(worked_scripts())
+    found = [*worked_scripts(), *document_scripts()]
     missed = [script for script in found if play(script.text, True) != script.expected]
     for script in missed:
         print(f"{script.text.decode()}=== the model says\n{play(script.text, True)}\n=== expected\n{script.expected}\n")
