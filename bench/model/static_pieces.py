@@ -51,6 +51,8 @@ package body $N is
    $bodies
 end $N;
 """
+BEFORE = ""  # a unit that the text speaks of
+NAMES = ("Plant", "Nav", "U_1", "Engine_Room", "x")
 CONTEXT = ("with Ada.Real_Time;", "with Ada.Synchronous_Task_Control;")
 DEFAULTS = {"barrier": "Ready", "pilot_end": "Pilot"}  # of slots that can't be empty
 
@@ -235,7 +237,8 @@ statements: ^A;
 statements: raise ^Limit;
 handlers: exception when ^Limit => null;
 locals: Z : ^Limit := 1;""",
-    "names EndName": "pilot_end: ^Pilots\npilot_end: ^Valve\ntasks: task Other is pragma Priority (3); end ^Pilot; "
+    "names EndName": "pilot_end: ^Pilots\npilot_end: ^Valve\n"
+                     "tasks: task Other is pragma Priority (3); end ^Pilot; "
                      "|| bodies: task body Other is begin null; end Other;\nbodies: task body Other is begin null; end ^Pilot; || tasks: task Other;",
     "types Mismatch": """statements: A := ^True;
 statements: B := ^1;

@@ -8,17 +8,19 @@ import sys
 from collections import Counter
 from collections.abc import Iterator
 from pathlib import Path
+from types import ModuleType
 from typing import NamedTuple
 
-from static_pieces import CONTEXT, DEFAULTS, FRAME, GOOD, WRONG
+import static_pairs
+import static_pieces
 
 Part = dict[str, list[str]]  # texts for slots
-UNITS = ("Plant", "Nav", "U_1", "Engine_Room", "x")
 SHARED_SLOTS = {"context", "statements", "procedure", "function", "entry"}  # that several parts may fill
 MARK = "^"
 
 
 class Case(NamedTuple):
+    before: str  # a unit text that stands before it, or nothing
     text: str
     verdict: str
 
@@ -31,8 +33,10 @@ def read_part(line: str) -> Part:
     return part
 
 
-GOOD_PARTS = [read_part(line) for line in GOOD.splitlines()]
-WRONG_PARTS = [(verdict, read_part(line)) for verdict, lines in WRONG.items() for line in lines.splitlines()]
+SOURCES = (static_pieces, static_pairs)
+GOOD_PARTS = {source: [read_part(line) for line in source.GOOD.splitlines()] for source in SOURCES}
+WRONG_PARTS = [(source, verdict, read_part(line)) for source in SOURCES
+               for verdict, lines in source.WRONG.items() for line in lines.splitlines()]
 
 
 def fits(part: Part, chosen: list[Part]) -> bool:
@@ -42,9 +46,9 @@ def fits(part: Part, chosen: list[Part]) -> bool:
     return not taken & set(part) and not any(bar.rstrip(";") in text for bar in barred for text in part.get("context", []))
 
 
-def filled(chosen: list[Part], unit: str) -> str:
+def filled(source: ModuleType, chosen: list[Part], unit: str) -> str:
     """The frame with the parts in its slots, and in its context each clause once."""
-    slots: dict[str, list[str]] = {"context": list(CONTEXT)}
+    slots: dict[str, list[str]] = {"context": list(source.CONTEXT)}
     for part in chosen:
         for slot, texts in part.items():
             slots.setdefault(slot, []).extend(text for text in texts if text not in slots.get("context", []))
@@ -52,9 +56,9 @@ def filled(chosen: list[Part], unit: str) -> str:
 
     def text_of(found: re.Match[str]) -> str:
         slot = found[1]
-        return " ".join(slots.get(slot, [])) or DEFAULTS.get(slot, "")
+        return " ".join(slots.get(slot, [])) or source.DEFAULTS.get(slot, "")
 
-    return re.sub(r"\$([a-z_]+)", text_of, FRAME).replace("$N", unit)
+    return re.sub(r"\$([a-z_]+)", text_of, source.FRAME).replace("$N", unit)
 
 
 def laid_out(dice: random.Random, text: str) -> str:
@@ -74,24 +78,27 @@ def laid_out(dice: random.Random, text: str) -> str:
 def draw(seed: int) -> Case:
     """A text of that number: an even one is right, an odd one wrong."""
     dice = random.Random(f"static {seed}")
-    verdict, wrong = WRONG_PARTS[seed // 2 % len(WRONG_PARTS)] if seed % 2 else ("", {})
-    chosen = [wrong] if wrong else []
-    for part in dice.sample(GOOD_PARTS, dice.randint(0, 14)):
+    source, verdict, wrong = WRONG_PARTS[seed // 2 % len(WRONG_PARTS)]
+    chosen = [wrong] if seed % 2 else []
+    for part in dice.sample(GOOD_PARTS[source], dice.randint(0, 12)):
         if fits(part, chosen):
             chosen.append(part)
     dice.shuffle(chosen)
-    text = laid_out(dice, filled(chosen, dice.choice(UNITS)))
-    if wrong:
+    text = laid_out(dice, filled(source, chosen, dice.choice(source.NAMES)))
+    if MARK in text:
         place = len(text[:text.index(MARK)].encode())
-        return Case(text.replace(MARK, ""), f"{verdict} at {place}")
+        return Case(source.BEFORE, text.replace(MARK, ""), f"{verdict} at {place}")
     name = re.search(r"(?i)\bpackage\s(?:\s|--[^\n]*\n)*(\w+)", text)[1]
-    return Case(text, f"unit {name}: ok")
+    return Case(source.BEFORE, text, f"unit {name}: ok")
 
 
 def verdict_of(program: Path, case: Case) -> str:
     """What `ravenhost check` says of the text."""
-    ended = subprocess.run([program, "check"], input=f"@unit\n{case.text}".encode(), capture_output=True, timeout=60)
-    return (ended.stdout + ended.stderr).decode(errors="replace").strip().removeprefix("script line 1: ")
+    texts = [case.before, case.text] if case.before else [case.text]
+    script = "".join(f"@unit\n{text}" for text in texts)
+    ended = subprocess.run([program, "check"], input=script.encode(), capture_output=True, timeout=60)
+    told = (ended.stdout + ended.stderr).decode(errors="replace").strip().splitlines()
+    return re.sub(r"^script line \d+: ", "", told[-1]) if told else "nothing"
 
 
 def compare(program: Path, cases: Iterator[Case], grammar_alone: bool) -> int:
@@ -108,7 +115,7 @@ def compare(program: Path, cases: Iterator[Case], grammar_alone: bool) -> int:
         if name not in found or len(case.text) < len(found[name][0].text):
             found[name] = case, told
     for case, told in found.values():
-        print(f"=== due: {case.verdict}\n=== told: {told}\n{case.text}")
+        print(f"=== due: {case.verdict}\n=== told: {told}\n{case.before}{case.text}")
     print(f"{runs} texts, {differing} differ, in {len(found)} kinds of difference")
     return 1 if differing else 0
 
@@ -117,7 +124,7 @@ def main() -> int:
     parser = argparse.ArgumentParser(description="Unit texts with the verdicts that are due on them.")
     parser.add_argument("--texts", metavar="N", type=int, default=len(WRONG_PARTS) * 4)
     parser.add_argument("--seed", metavar="S", type=int, default=0, help="the number of the first text")
-    parser.add_argument("--write", metavar="DIR", type=Path, help="writes each text and its verdict there")
+    parser.add_argument("--write", metavar="DIR", type=Path, help="writes each text, behind that of which it speaks, and its verdict there")
     parser.add_argument("--program", metavar="PATH", type=Path, help="asks this program of each text")
     parser.add_argument("--grammar", action="store_true", help="takes an ok for any verdict: asks whether each text parses")
     arguments = parser.parse_args()
@@ -125,7 +132,7 @@ def main() -> int:
     if arguments.write:
         arguments.write.mkdir(parents=True, exist_ok=True)
         for place, case in enumerate(cases):
-            (arguments.write / f"{place:04d}.ada").write_text(case.text)
+            (arguments.write / f"{place:04d}.ada").write_text(case.before + case.text)
             (arguments.write / f"{place:04d}.verdict").write_text(case.verdict + "\n")
     if arguments.program:
         return compare(arguments.program.absolute(), iter(cases), arguments.grammar)
