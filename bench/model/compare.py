@@ -46,26 +46,20 @@ def run(program: Path, script: bytes, how: str) -> Outcome:
 
 
 def scripts(kind: str, count: int, seed: int) -> Iterator[tuple[Script, str]]:
-    """The scripts of a kind, each with what it is given to: those made by hand to all, of the others every eighth to another
-    command than `play --all`. To `check` goes none with a unit text."""
+    """The scripts of a kind, each with what it is given to: those made by hand to all, unit texts to `check`, of the others every
+    fourth to another command than `play --all`."""
     if kind in FIXED:
-        yield from ((script, how) for script in FIXED[kind]() for how in HOWS if is_served(script, how))
+        yield from ((script, how) for script in FIXED[kind]() for how in HOWS)
         return
     draw, rarity = KINDS[kind]
     for place in range(seed, seed + max(1, count // rarity)):
-        script, how = Script(draw(place)), {0: "play", 1: "check"}.get(place % 8, "play --all")
-        yield script, how if is_served(script, how) else "play"
-
-
-def is_served(script: Script, how: str) -> bool:
-    """Whether the model knows what is due: not of unit texts in `check`."""
-    return how != "check" or b"@unit" not in script.text
+        yield Script(draw(place)), "check" if kind == "units" else {0: "play", 1: "check"}.get(place % 8, "play --all")
 
 
 def fault_words(outcome: Outcome) -> str:
     """The fault behind a journal, without its lines."""
     fault = outcome.fault.decode(errors="replace").strip()
-    return re.sub(r"^script line \d+: | at line \d+", "", fault)
+    return re.sub(r"^script line \d+: | at (line )?\d+", "", fault)
 
 
 def tally(outcome: Outcome) -> Counter[str]:
@@ -136,7 +130,7 @@ def shrunk(found: Difference, program: Path) -> Difference:
         if next(budget, None) is None:
             return False
         model, other = modelled(script, found.how), run(program, script, found.how)
-        return model != other and signature(model, other) == name and is_served(Script(script), found.how)
+        return model != other and signature(model, other) == name
 
     script = found.script.text
     if not differs(script):

@@ -7,6 +7,7 @@ from drawing import chance
 from drawing_settings import draw_settings
 from drawing_steps import Drawer
 from drawing_toml import draw_toml
+from drawing_units import draw_units
 from edges import parts
 from play import Player
 from words import words_of
@@ -266,5 +267,5 @@ def draw_waits(seed: int) -> bytes:
 KINDS: dict[str, tuple[Callable[[int], bytes], int]] = {
     "random": (draw_random, 1), "damaged": (draw_damaged, 1), "lists": (draw_lists, 2), "shapes": (draw_shapes, 1),
     "deep": (draw_deep, 2), "crossed": (draw_crossed, 1), "wide": (draw_wide, 4), "long": (draw_long, 20),
-    "full": (draw_full, 5), "waits": (draw_waits, 1), "settings": (draw_settings, 1), "toml": (draw_toml, 1),
+    "full": (draw_full, 5), "waits": (draw_waits, 1), "settings": (draw_settings, 1), "toml": (draw_toml, 1), "units": (draw_units, 1),
 }
