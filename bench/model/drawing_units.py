@@ -7,7 +7,7 @@ from drawing import chance
 from grammar_words import RESERVED
 
 WORDS = sorted(RESERVED) + list("(),;:.'+-*/=<>|") + [":=", "=>", "..", "/=", "<=", ">=", "X", "Valve", "1", "16#FF#", "others", "**", "_x", "x_", "a__b", "1_0",
-         "1__0", "1_", "2147483647", "2147483648", "2#101#", "17#0#", "1#0#", "16#G#", "16#F", "16#F#a", "1.5", "1..2", "1e5", "1E", "0x1", "é", "xé", "1é", '"a"', "&", "@x",
+         "1__0", "1_", "2147483647", "2147483648", "2#101#", "17#0#", "1#0#", "16#G#", "16#F", "16#F#a", "1.5", "1..2", "1e5", "1E", "2#12#", "8#8#", "10#A#", "0x1", "é", "xé", "1é", '"a"', "&", "@x",
          "N" * 64, "N" * 65, "16#7FFF_FFFF#", "16#8000_0000#", "16#F_#", "1_6#F#", "01", "-- c", "--", "...", "<>", "<<", ":", "= =", "- 1", "end", "begin", "body", "000000000000001"]
 CHARACTERS = " \t\n_#.'\"();:=<>-*/|@é\x00\x7f0aZ1&"
 
@@ -26,6 +26,23 @@ def damaged(dice: random.Random, text: str) -> str:
     return text[:start] + other + text[end:]
 
 
+def literal(dice: random.Random) -> str:
+    """A literal or nearly one, also near the largest value and with digits about as large as the base."""
+    base = dice.choice((2, 3, 8, 10, 16, 1, 17, 0))
+    digits = "".join(dice.choice("0123456789ABCDEFabcdefG"[:dice.choice((base, base, base, base + 1))] or "0") for _ in range(dice.randint(1, 5)))
+    largest = dice.choice((2**31 - 1, 2**31, 2**31 - 2))
+    based = dice.choice((digits, digits, f"{largest:x}" if base == 16 else f"{largest:o}" if base == 8 else digits))
+    text = dice.choice((f"{base}#{based}#", f"{base}#{based}#", str(largest), f"{largest:_}", f"0{largest}", digits))
+    at = dice.randint(0, len(text))
+    return text[:at] + dice.choices(("", "_", "#", ".", "E", "1", "."), (80, 5, 2, 2, 2, 2, 2))[0] + text[at:] + dice.choices(("", ".5", "..", "a", "_"), (80, 5, 5, 5, 5))[0]
+
+
+def small(dice: random.Random) -> str:
+    """A text of a few words about a literal."""
+    words = [literal(dice)] + ([dice.choice(WORDS)] if chance(dice, .2) else [])
+    return f"package P is{dice.choice(CHARACTERS) if chance(dice, .2) else ' '}X : constant := {' '.join(words)}; end P; package body P is end P;"
+
+
 def nested(dice: random.Random) -> str:
     """Statements or parentheses about as deep as is allowed."""
     depth = dice.choice((20, 62, 63, 64, 65, 66))
@@ -40,8 +57,10 @@ def draw_units(seed: int) -> bytes:
     """One or two unit texts, most of them damaged once."""
     dice = random.Random(f"units {seed}")
     case = static_rules.draw(seed * 2 + dice.randint(0, 1))
-    text = nested(dice) if chance(dice, .1) else case.text
-    for _ in range(dice.choices((0, 1, 2), (15, 70, 15))[0]):
+    text, damages = case.text, dice.choices((0, 1, 2), (15, 70, 15))[0]
+    if chance(dice, .4):
+        text, damages = dice.choice((nested, small, small))(dice), dice.choice((0, 0, 0, 1))
+    for _ in range(damages):
         text = damaged(dice, text) or "x"
     before = f"@unit\n{case.before}" if case.before and chance(dice, .3) else ""
     script = f"{before}@unit\n{text}{dice.choice(('', chr(10), chr(10) * 2))}"
