@@ -13,12 +13,13 @@ from typing import NamedTuple
 
 from check import check
 from edges import edge_scripts, large_scripts
+from edges_units import unit_scripts
 from generators import KINDS
 from play import Outcome, play
 from worked import Script, worked_scripts
 
 PROGRAM = Path(__file__).resolve().parents[2] / "crates/ravenhost/out/ravenhost"
-FIXED = {"worked": worked_scripts, "edges": edge_scripts, "big": large_scripts}
+FIXED = {"worked": worked_scripts, "edges": edge_scripts, "texts": unit_scripts, "big": large_scripts}
 SECONDS = 300
 SHRINKING_RUNS = 1000
 MOST_SHOWN = 5_000
@@ -49,7 +50,7 @@ def scripts(kind: str, count: int, seed: int) -> Iterator[tuple[Script, str]]:
     """The scripts of a kind, each with what it is given to: those made by hand to all, unit texts to `check`, of the others every
     fourth to another command than `play --all`."""
     if kind in FIXED:
-        yield from ((script, how) for script in FIXED[kind]() for how in HOWS)
+        yield from ((script, how) for script in FIXED[kind]() for how in (HOWS if kind != "texts" else ("check",)))
         return
     draw, rarity = KINDS[kind]
     for place in range(seed, seed + max(1, count // rarity)):

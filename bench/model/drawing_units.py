@@ -37,8 +37,26 @@ def literal(dice: random.Random) -> str:
     return text[:at] + dice.choices(("", "_", "#", ".", "E", "1", "."), (80, 5, 2, 2, 2, 2, 2))[0] + text[at:] + dice.choices(("", ".5", "..", "a", "_"), (80, 5, 5, 5, 5))[0]
 
 
+OPERANDS = ("A", "A", "A", "1", "A.B", "A'First", "F (1)", "F (A, 2)", "(A)", "(A and B)", "not A", "abs 1", "- A", "+ 1", "not not A", "- - 1", "(", "F ()", "A (1) (2)")
+OPERATORS = ("and", "and", "and then", "and then", "or", "or else", "xor", "=", "<", "/=", "+", "-", "*", "/", "mod", "rem", "..", "range", "then", "else", ",")
+
+
+def expression(dice: random.Random) -> str:
+    """Operands with operators between them, mostly one that was there already."""
+    words, operator = [dice.choice(OPERANDS)], dice.choice(OPERATORS)
+    for _ in range(dice.choice((0, 1, 2, 3, 4))):
+        operator = operator if chance(dice, .6) else dice.choice(OPERATORS)
+        words += [operator, dice.choice(OPERANDS)]
+    return " ".join(words)
+
+
 def small(dice: random.Random) -> str:
-    """A text of a few words about a literal."""
+    """A text of a few words: a literal, or an expression in one of its places."""
+    if chance(dice, .5):
+        frames = ("if {} then null; end if;", "for I in {} loop null; end loop;", "A := {};", "case A is when {} => null; end case;", "P ({});", "{};",
+                  "return {};", "delay {};", "requeue {};", "select when {} => terminate; end select;", "pragma {};", "accept {};")
+        statement = dice.choice(frames).format(expression(dice))
+        return f"package P is end P; package body P is task body T is begin {statement} end T; end P;"
     words = [literal(dice)] + ([dice.choice(WORDS)] if chance(dice, .2) else [])
     return f"package P is{dice.choice(CHARACTERS) if chance(dice, .2) else ' '}X : constant := {' '.join(words)}; end P; package body P is end P;"
 

@@ -40,7 +40,7 @@ class Reader:
 
     def opened(self) -> None:
         """An opening parenthesis."""
-        if self.see("(") and self.parentheses_open == MOST_OPEN:
+        if self.parentheses_open == MOST_OPEN:
             self.refuse("TooDeep")
         self.take("(")
         self.parentheses_open += 1

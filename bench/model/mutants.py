@@ -8,6 +8,7 @@ from pathlib import Path
 
 from check import check
 from edges import edge_scripts
+from edges_units import unit_scripts
 from generators import KINDS
 from play import Outcome, play
 from readings import MUTANTS, Mutant
@@ -16,7 +17,8 @@ from worked import worked_scripts
 MODEL = ("words", "lists", "settings", "shapes", "host", "steps", "play", "grammar_words", "grammar_reader", "grammar_statements", "grammar",
          "check")
 Says = Callable[[bytes], Outcome]
-MADE = {"worked": worked_scripts, "edges": edge_scripts}
+MADE = {"worked": worked_scripts, "edges": edge_scripts, "texts": unit_scripts}
+HOWS = {"units": ("check",), "texts": ("check",), "edges": ("play", "check")}  # where it isn't play alone
 COUNTS = {"units": 800, "settings": 600, "shapes": 600, "lists": 200, "deep": 100, "crossed": 200, "waits": 300, "random": 300, "damaged": 600, "full": 40}
 
 
@@ -45,7 +47,7 @@ def mutated(mutant: Mutant) -> dict[str, Says]:
 def known(kind: str) -> list[tuple[bytes, str, Outcome]]:
     """The scripts of a kind, to what they are given, and what the model says to them."""
     texts = [script.text for script in MADE[kind]()] if kind in MADE else [KINDS[kind][0](seed) for seed in range(COUNTS[kind])]
-    hows = ("check",) if kind == "units" else ("play", "check") if kind == "edges" else ("play",)
+    hows = HOWS.get(kind, ("play",))
     return [(text, how, both(play, check)[how](text)) for text in texts for how in hows]
 
 
@@ -60,7 +62,7 @@ def said(says: Says, script: bytes) -> Outcome | None:
 def noticing_kind(mutant: Mutant) -> str | None:
     """The first kind with a script to which the changed model says something else."""
     changed = mutated(mutant)
-    first = ["units"] if mutant.module.startswith("grammar") else []
+    first = ["texts", "units"] if mutant.module.startswith("grammar") else []
     for kind in [*first, *MADE, *COUNTS]:
         if any(said(changed[how], script) != outcome for script, how, outcome in known(kind)):
             return kind

@@ -259,7 +259,6 @@ MUTANTS = [Mutant(*mutant) for mutant in (
     ("vertical tabs are words", "grammar_words", " \\t\\n\\r\\v\\f", " \\t\\n\\r\\f"),
     ("65 open", "grammar_reader", "MOST_OPEN = 64", "MOST_OPEN = 65"),
     ("63 open", "grammar_reader", "MOST_OPEN = 64", "MOST_OPEN = 63"),
-    ("TooDeep where no parenthesis stands", "grammar_reader", 'if self.see("(") and', "if"),
     ("and behind and then", "grammar_reader", "self.take(more)\n", "self.took(more)\n"),
     ("mixed operators", "grammar_reader", "while self.took(operator):", "while self.took('and') or self.took('or') or self.took('xor'):"),
     ("two signs", "grammar_reader", 'self.at += self.see("+", "-")\n', 'self.at += self.see("+", "-")\n        self.at += self.see("+", "-")\n'),

@@ -69,7 +69,7 @@ def laid_out(dice: random.Random, text: str) -> str:
         return dice.choice((found[0].upper(), found[0].lower())) if dice.random() < cases else found[0]
 
     def blank(found: re.Match[str]) -> str:
-        others = ("\n", "\t", "  ", " -- x := 1; é\n", "\n\n   ", "\x0b", "\x0c", " --\n")
+        others = ("\n", "\t", "  ", " -- x := 1; é\n", " -- x\r)\n", "\n\n   ", "\x0b", "\x0c", " --\n")
         return dice.choice(others) if dice.random() < blanks else found[0]
 
     return re.sub(r"\s+", blank, re.sub(r"[A-Za-z]\w*", word, text))
