@@ -6,9 +6,12 @@ import static_rules
 from drawing import chance
 from grammar_words import RESERVED
 
-WORDS = sorted(RESERVED) + list("(),;:.'+-*/=<>|") + [":=", "=>", "..", "/=", "<=", ">=", "X", "Valve", "1", "16#FF#", "others", "**", "_x", "x_", "a__b", "1_0",
-         "1__0", "1_", "2147483647", "2147483648", "2#101#", "17#0#", "1#0#", "16#G#", "16#F", "16#F#a", "1.5", "1..2", "1e5", "1E", "2#12#", "8#8#", "10#A#", "0x1", "é", "xé", "1é", '"a"', "&", "@x",
-         "N" * 64, "N" * 65, "16#7FFF_FFFF#", "16#8000_0000#", "16#F_#", "1_6#F#", "01", "-- c", "--", "...", "<>", "<<", ":", "= =", "- 1", "end", "begin", "body", "000000000000001"]
+WORDS = sorted(RESERVED) + list("(),;:.'+-*/=<>|") + [
+    ":=", "=>", "..", "/=", "<=", ">=", "X", "Valve", "1", "16#FF#", "others", "**", "_x", "x_", "a__b", "1_0", "1__0", "1_", "2147483647",
+    "2147483648", "2#101#", "17#0#", "1#0#", "16#G#", "16#F", "16#F#a", "1.5", "1..2", "1e5", "1E", "2#12#", "8#8#", "10#A#", "0x1", "é",
+    "xé", "1é", '"a"', "&", "@x", "N" * 64,
+    "N" * 65, "16#7FFF_FFFF#", "16#8000_0000#", "16#F_#", "1_6#F#", "01",
+    "-- c", "--", "...", "<>", "<<", ":", "= =", "- 1", "end", "begin", "body", "000000000000001"]
 CHARACTERS = " \t\n_#.'\"();:=<>-*/|@é\x00\x7f0aZ1&"
 
 
@@ -22,7 +25,8 @@ def damaged(dice: random.Random, text: str) -> str:
     if kind == "character":
         at = dice.randint(0, len(text))
         return text[:at] + dice.choice(("", dice.choice(CHARACTERS))) + text[at + dice.randint(0, 1):]
-    other = {"word": dice.choice(WORDS), "out": "", "in": f"{text[start:end]} {dice.choice(WORDS)}", "double": f"{text[start:end]} {text[start:end]}"}[kind]
+    old, new = text[start:end], dice.choice(WORDS)
+    other = {"word": new, "out": "", "in": f"{old} {new}", "double": f"{old} {old}"}[kind]
     return text[:start] + other + text[end:]
 
 
@@ -34,11 +38,14 @@ def literal(dice: random.Random) -> str:
     based = dice.choice((digits, digits, f"{largest:x}" if base == 16 else f"{largest:o}" if base == 8 else digits))
     text = dice.choice((f"{base}#{based}#", f"{base}#{based}#", str(largest), f"{largest:_}", f"0{largest}", digits))
     at = dice.randint(0, len(text))
-    return text[:at] + dice.choices(("", "_", "#", ".", "E", "1", "."), (80, 5, 2, 2, 2, 2, 2))[0] + text[at:] + dice.choices(("", ".5", "..", "a", "_"), (80, 5, 5, 5, 5))[0]
+    within = dice.choices(("", "_", "#", ".", "E", "1", "."), (80, 5, 2, 2, 2, 2, 2))[0]
+    return text[:at] + within + text[at:] + dice.choices(("", ".5", "..", "a", "_"), (80, 5, 5, 5, 5))[0]
 
 
-OPERANDS = ("A", "A", "A", "1", "A.B", "A'First", "F (1)", "F (A, 2)", "(A)", "(A and B)", "not A", "abs 1", "- A", "+ 1", "not not A", "- - 1", "(", "F ()", "A (1) (2)")
-OPERATORS = ("and", "and", "and then", "and then", "or", "or else", "xor", "=", "<", "/=", "+", "-", "*", "/", "mod", "rem", "..", "range", "then", "else", ",")
+OPERANDS = ("A", "A", "A", "1", "A.B", "A'First", "F (1)", "F (A, 2)", "(A)", "(A and B)", "not A", "abs 1", "- A", "+ 1", "not not A",
+            "- - 1", "(", "F ()", "A (1) (2)")
+OPERATORS = ("and", "and", "and then", "and then", "or", "or else", "xor", "=", "<", "/=", "+", "-", "*", "/", "mod", "rem", "..", "range",
+             "then", "else", ",")
 
 
 def expression(dice: random.Random) -> str:
@@ -53,12 +60,13 @@ def expression(dice: random.Random) -> str:
 def small(dice: random.Random) -> str:
     """A text of a few words: a literal, or an expression in one of its places."""
     if chance(dice, .5):
-        frames = ("if {} then null; end if;", "for I in {} loop null; end loop;", "A := {};", "case A is when {} => null; end case;", "P ({});", "{};",
-                  "return {};", "delay {};", "requeue {};", "select when {} => terminate; end select;", "pragma {};", "accept {};")
+        frames = ("if {} then null; end if;", "for I in {} loop null; end loop;", "A := {};", "case A is when {} => null; end case;",
+                  "P ({});", "{};", "return {};", "delay {};", "requeue {};", "select when {} => terminate; end select;", "pragma {};", "accept {};")
         statement = dice.choice(frames).format(expression(dice))
         return f"package P is end P; package body P is task body T is begin {statement} end T; end P;"
     words = [literal(dice)] + ([dice.choice(WORDS)] if chance(dice, .2) else [])
-    return f"package P is{dice.choice(CHARACTERS) if chance(dice, .2) else ' '}X : constant := {' '.join(words)}; end P; package body P is end P;"
+    gap = dice.choice(CHARACTERS) if chance(dice, .2) else " "
+    return f"package P is{gap}X : constant := {' '.join(words)}; end P; package body P is end P;"
 
 
 def nested(dice: random.Random) -> str:

@@ -19,7 +19,8 @@ MODEL = ("words", "lists", "settings", "shapes", "host", "steps", "play", "gramm
 Says = Callable[[bytes], Outcome]
 MADE = {"worked": worked_scripts, "edges": edge_scripts, "texts": unit_scripts}
 HOWS = {"units": ("check",), "texts": ("check",), "edges": ("play", "check")}  # where it isn't play alone
-COUNTS = {"units": 800, "settings": 600, "shapes": 600, "lists": 200, "deep": 100, "crossed": 200, "waits": 300, "random": 300, "damaged": 600, "full": 40}
+COUNTS = {"units": 800, "settings": 600, "shapes": 600,
+          "lists": 200, "deep": 100, "crossed": 200, "waits": 300, "random": 300, "damaged": 600, "full": 40}
 
 
 def both(play: Callable[[bytes, bool], Outcome], check: Says) -> dict[str, Says]:
