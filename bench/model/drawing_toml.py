@@ -56,7 +56,8 @@ def toml_line(dice: random.Random) -> str:
     if chance(dice, .12):
         return either(dice, HEADERS)
     between = dice.choice((" = ", "=", "\t=\t", " ="))
-    return dice.choice(("", "", "", " ", "\t")) + dice.choice(KEYS) + between + value(dice) + dice.choices(("", "  ", " # c", "#", " x"), (70, 10, 10, 8, 2))[0]
+    behind = dice.choices(("", "  ", " # c", "#", " x"), (70, 10, 10, 8, 2))[0]
+    return dice.choice(("", "", "", " ", "\t")) + dice.choice(KEYS) + between + value(dice) + behind
 
 
 def damaged(dice: random.Random, text: str) -> str:

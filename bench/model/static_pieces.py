@@ -74,7 +74,7 @@ spec: Cut : constant Boolean := Limit > 0 or else 1 / 0 = 1;
 spec: Slow : constant Ada.Real_Time.Time_Span := Ada.Real_Time.Milliseconds (5);
 tasks: Second_Gate, Third_Gate : Gate;
 operations: procedure More (Z : in out Integer); || operation_bodies: procedure More (Z : in out Integer) is begin Z := Z + Level; end More;
-operations: function Is_Ready (Z : Integer) return Boolean; || operation_bodies: function Is_Ready (Z : Integer) return Boolean is begin return Ready and Z > 0; end Is_Ready;
+operations: function Is_Ready (Z : Integer) return Boolean; || operation_bodies: function Is_Ready (Z : Integer) return Boolean is begin return Ready; end;
 private: procedure Hidden; || operation_bodies: procedure Hidden is begin Few := 2; end Hidden; || procedure: Hidden;
 private: Low, High : Integer range 0 .. 5 := 2;
 private: Early : Boolean := Limit > 3;
