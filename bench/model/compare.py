@@ -1,5 +1,5 @@
 #!/usr/bin/env python3
-"""Compares the model of `ravenhost play` with the built program. README.md says more."""
+"""Compares the model of `ravenhost` with the built program. README.md says more."""
 import argparse
 import os
 import re
@@ -7,45 +7,60 @@ import subprocess
 import sys
 from collections import Counter
 from collections.abc import Callable, Iterator
+from itertools import zip_longest
 from pathlib import Path
 from typing import NamedTuple
 
-from edges import Script, edge_scripts, large_scripts
+from check import check
+from edges import edge_scripts, large_scripts
+from edges_units import unit_scripts
 from generators import KINDS
 from play import Outcome, play
+from worked import Script, worked_scripts
 
 PROGRAM = Path(__file__).resolve().parents[2] / "crates/ravenhost/out/ravenhost"
-FIXED = {"edges": edge_scripts, "big": large_scripts}
+FIXED = {"worked": worked_scripts, "edges": edge_scripts, "texts": unit_scripts, "big": large_scripts}
 SECONDS = 300
-SHRINKING_RUNS = 2000
-MOST_SHOWN = 10_000
+SHRINKING_RUNS = 1000
+MOST_SHOWN = 5_000
+HOWS = ("play --all", "play", "check")
 
 
 class Difference(NamedTuple):
     kind: str
     script: Script
-    show_all: bool
+    how: str  # of HOWS
 
 
-def run(program: Path, script: bytes, show_all: bool) -> Outcome:
+def modelled(script: bytes, how: str) -> Outcome:
+    """What the model says to the script."""
+    return check(script) if how == "check" else play(script, how == "play --all")
+
+
+def run(program: Path, script: bytes, how: str) -> Outcome:
     """What the program writes for the script, and its status."""
-    command = [program, "play"] + ["--all"] * show_all
     try:
-        ended = subprocess.run(command, input=script, capture_output=True, timeout=SECONDS)
+        ended = subprocess.run([program, *how.split()], input=script, capture_output=True, timeout=SECONDS)
     except subprocess.TimeoutExpired:
         return Outcome(b"", f"not ended after {SECONDS} seconds\n".encode(), -1)
     return Outcome(ended.stdout, ended.stderr, ended.returncode)
 
 
-def scripts(kind: str, count: int, seed: int) -> Iterator[tuple[Script, bool]]:
-    """The scripts of a kind, each with whether it is played with --all; those made by hand are played both ways."""
+def scripts(kind: str, count: int, seed: int) -> Iterator[tuple[Script, str]]:
+    """The scripts of a kind, each with what it is given to: those made by hand to all, unit texts to `check`, of the others every
+    fourth to another command than `play --all`."""
     if kind in FIXED:
-        for script in FIXED[kind]():
-            yield from ((script, True), (script, False))
+        yield from ((script, how) for script in FIXED[kind]() for how in (HOWS if kind != "texts" else ("check",)))
         return
     draw, rarity = KINDS[kind]
     for place in range(seed, seed + max(1, count // rarity)):
-        yield Script(draw(place)), place % 8 != 0
+        yield Script(draw(place)), "check" if kind == "units" else {0: "play", 1: "check"}.get(place % 8, "play --all")
+
+
+def fault_words(outcome: Outcome) -> str:
+    """The fault behind a journal, without its lines."""
+    fault = outcome.fault.decode(errors="replace").strip()
+    return re.sub(r"^script line \d+: | at (line )?\d+", "", fault)
 
 
 def tally(outcome: Outcome) -> Counter[str]:
@@ -53,26 +68,41 @@ def tally(outcome: Outcome) -> Counter[str]:
     journal = outcome.output.decode(errors="replace")
     counts = Counter(re.findall(r" -> (refused \d|done \w+|\w+)", journal))
     if outcome.fault:
-        fault = outcome.fault.decode(errors="replace").strip()
-        counts["fault " + re.sub(r"^script line \d+: | at line \d+", "", fault)] += 1
+        counts["fault " + fault_words(outcome)] += 1
     return counts
 
 
-def compare_kind(kind: str, program: Path, count: int, seed: int) -> Difference | None:
-    """Plays the scripts of a kind up to the first difference, and prints a line of what the program answered."""
+def step_words(line: bytes) -> str:
+    """What a line of a journal asks, and how it is answered, without names and numbers."""
+    found = re.match(r"(\S+ \S+ \S+).* -> (refused \d|done \w+|\w+)", line.decode(errors="replace"))
+    return re.sub(r"\d+|\S+\.\S+", "_", found[1]) + " -> " + found[2] if found else "none"
+
+
+def signature(model: Outcome, program: Outcome) -> str:
+    """What kind of difference it is: that of the first line that isn't the same, else that of the faults."""
+    for one, other in zip_longest(model.output.splitlines(), program.output.splitlines(), fillvalue=b""):
+        if one != other:
+            return f"{step_words(one)} | {step_words(other)}"
+    return f"{model.status} {fault_words(model)} | {program.status} {fault_words(program)}"
+
+
+def compare_kind(kind: str, program: Path, count: int, seed: int, found: dict[str, Difference]) -> tuple[int, int]:
+    """Plays the scripts of a kind, keeps the shortest of each kind of difference, and tells how many ran and differed."""
     counts: Counter[str] = Counter()
-    runs, found = 0, None
-    for script, show_all in scripts(kind, count, seed):
-        outcome = run(program, script.text, show_all)
+    runs = differing = 0
+    for script, how in scripts(kind, count, seed):
+        outcome, model = run(program, script.text, how), modelled(script.text, how)
+        expected = script.expected if script.expected and how == "play --all" else outcome
         counts += tally(outcome)
         runs += 1
-        expected = script.expected if script.expected and show_all else outcome
-        if not outcome == play(script.text, show_all) == expected:
-            found = Difference(kind, script, show_all)
-            break
+        if not outcome == model == expected:
+            differing += 1
+            name = signature(model, outcome) if model != outcome else "both differ from what is expected"
+            if name not in found or len(script.text) < len(found[name].script.text):
+                found[name] = Difference(kind, script, how)
     told = ", ".join(f"{name} {times}" for name, times in sorted(counts.items()))
-    print(f"{kind}: {runs} runs, {'A DIFFERENCE' if found else 'no difference'}; {told}", flush=True)
-    return found
+    print(f"{kind}: {runs} runs, {differing} differ; {told}", flush=True)
+    return runs, differing
 
 
 def thinned(script: bytes, piece: bytes, differs: Callable[[bytes], bool]) -> bytes:
@@ -92,16 +122,21 @@ def thinned(script: bytes, piece: bytes, differs: Callable[[bytes], bool]) -> by
 
 
 def shrunk(found: Difference, program: Path) -> Difference:
-    """The same with a smaller script, as far as it goes in so many runs: lines are left out, then words, then bytes."""
+    """The same kind of difference with a smaller script, as far as it goes in so many runs: lines are left out, then words."""
     budget = iter(range(SHRINKING_RUNS))
+    outcomes = modelled(found.script.text, found.how), run(program, found.script.text, found.how)
+    name = signature(*outcomes)
 
     def differs(script: bytes) -> bool:
-        return next(budget, None) is not None and play(script, found.show_all) != run(program, script, found.show_all)
+        if next(budget, None) is None:
+            return False
+        model, other = modelled(script, found.how), run(program, script, found.how)
+        return model != other and signature(model, other) == name
 
     script = found.script.text
     if not differs(script):
         return found
-    for piece in (rb"[^\n]*\n|[^\n]+", rb"\S+|\s", rb".") * 2:
+    for piece in (rb"[^\n]*\n|[^\n]+", rb"\S+|\s"):
         script = thinned(script, piece, differs)
     return found._replace(script=Script(script))
 
@@ -110,21 +145,20 @@ def shown(text: bytes) -> str:
     return text[:MOST_SHOWN].decode(errors="backslashreplace")
 
 
-def report(found: Difference, program: Path) -> None:
+def report(name: str, found: Difference, program: Path) -> None:
     """Prints a script with what the model and the program say to it."""
     text = found.script.text
-    outcomes = {"model": play(text, found.show_all), "program": run(program, text, found.show_all)}
+    outcomes = {"model": modelled(text, found.how), "program": run(program, text, found.how)}
     if found.script.expected:
         outcomes["expected"] = found.script.expected
-    print(f"\n== a script of the kind {found.kind}, played {'with' if found.show_all else 'without'} --all; as bytes:")
-    print(f"{text[:MOST_SHOWN]!r}\n{shown(text)}")
-    for name, outcome in outcomes.items():
-        print(f"== {name}: status {outcome.status}\n{shown(outcome.output)}{shown(outcome.fault)}", end="")
+    print(f"\n=== {name}\n== a script of the kind {found.kind}, given to `{found.how}`:\n{shown(text)}")
+    for who, outcome in outcomes.items():
+        print(f"== {who}: status {outcome.status}\n{shown(outcome.output)}{shown(outcome.fault)}", end="")
 
 
 def read_arguments() -> argparse.Namespace:
     parser = argparse.ArgumentParser(description="Compares the model of `ravenhost play` with the built program.")
-    names = list(KINDS) + list(FIXED)
+    names = list(FIXED) + list(KINDS)
     parser.add_argument("kinds", metavar="KIND", nargs="*", help=f"of {', '.join(names)}; all where none is given")
     parser.add_argument("--scripts", metavar="N", type=int, default=1000,
                         help="scripts of the kind random; of others as many or fewer")
@@ -145,12 +179,15 @@ def main() -> int:
         print(f"compare.py: there is no program {program}: build it (./ravenhost does), or name one by --program",
               file=sys.stderr)
         return 127
-    found = [compare_kind(kind, program, arguments.scripts, arguments.seed) for kind in arguments.kinds]
-    smallest = [shrunk(each, program) for each in found if each]
-    if not smallest:
-        return 0
-    report(min(smallest, key=lambda each: len(each.script.text)), program)
-    return 1
+    found: dict[str, Difference] = {}
+    runs = differing = 0
+    for kind in arguments.kinds:
+        more_runs, more_differing = compare_kind(kind, program, arguments.scripts, arguments.seed, found)
+        runs, differing = runs + more_runs, differing + more_differing
+    print(f"{runs} runs, {differing} differ, in {len(found)} kinds of difference", flush=True)
+    for name, each in found.items():
+        report(name, shrunk(each, program), program)
+    return 1 if found else 0
 
 
 if __name__ == "__main__":

@@ -1,28 +1,14 @@
-"""Made by hand: lines at the edges of what is allowed, worked examples with what they must print, and large scripts."""
+"""Made by hand: lines at the edges of what is allowed, and large scripts."""
 from collections.abc import Iterator
-from typing import NamedTuple
 
-from play import LARGEST_SCRIPT, Outcome
-
-
-class Script(NamedTuple):
-    text: bytes
-    expected: Outcome | None = None  # with --all
-
-
-def parts(text: str) -> list[str]:
-    """What stands between bars."""
-    return [part.strip(" \n").replace("\n", " ") for part in text.split("|")]
-
-
-def rows(text: str) -> str:
-    """Lines of a script, where / stands for a line's end."""
-    return text.replace("/", "\n") + "\n"
+from play import LARGEST_SCRIPT
+from worked import Script, parts, rows
 
 
 LONG, TOO_LONG = "N" * 64, "N" * 65
 HEAD = rows("@shape/unit U/task T 5/task S 5/protected O 20/scalar 0 1 0/function Get 0 1/procedure P in 0 9/entry E 1/suspension Q"
             "/@list/allow * * */@steps")
+SUSPENSION_CALLS = ["Suspend_Until_True"] * 4 + ["Set_True"] * 4 + ["Set_False", "Current_State", "set_true", "Set_True 1", "SET_FALSE"]
 OPENINGS = parts("""@list | @shape | @steps | @List | @SHAPE | @step | @ | @unit | @host.toml | @run | @journal | @end | @list x
 | @stepss | @@list""") + ["@steps ", "@steps\t", " @steps", "@shape\x0b", "@\tlist"]
 SHAPE_LINES = parts("""task $N 15 | suspension $N | protected $N 35 | scalar 0 1 0 | scalar 0 1 2 | scalar 1 0 0 | scalar 0 2 0
@@ -60,7 +46,16 @@ STEP_LINES = parts("""$T | $T call | $T call $O | $T call $O x | $T call $O 1x |
 | $T call $O P 007 | $T call $O P -0 | $T call $O P 0099 | u.s END : return | u.s end 001 -0 : return 0005 | @foo resume
 | U.T call u.q set_TRUE | U.T call U.Q Set_True 5 | U.T call U.Q nope | OPERATOR resume | operator append allow\tu   U.o  *
 | operator remove 002 | operator remove -0 | operator replace 99 allow a b c | $T call $O P 1000000000000000000
-| $T call $O P -999999999999999999 | a. resume""") \
+| $T call $O P -999999999999999999 | a. resume | $T delay | $T delay 5 6 | $T delay x | $T delay +5 | $T delay 007 | $T delay -0
+| $T delay until 5 | $T Delay 5 | $T delay 1000000000000000000 | $T delay 999999999999999999 | $T delay 1000000000000000
+| $T delay 1000000000000001 | $T delay -1000000000000000 | $T delay -1000000000000001 | no.no delay 5 | no.no delay x | operator delay 5
+| Int_3 delay 5 | $T clock 1 | $T Clock | no.no clock | operator clock | Int_3 clock | $T finish now | $T Finish | no.no finish
+| operator finish | Int_3 finish | operator tick | operator tick 1 2 | operator tick x | operator tick 1.5 | operator tick 001
+| operator tick -0 | operator tick 0 | operator tick -1 | operator tick 1000000 | operator tick 1000001 | operator tick 1000000000000000000
+| operator Tick 1 | OPERATOR tick 1 | Int_3 tick 1 | no.no tick 1 | operator halt | operator halt now | operator Halt | Int_3 halt
+| no.no halt | Int_0 fire | INT_9 fire | Int_3 fire x | Int_3 Fire | operator fire | no.no fire | Int_10 fire | operator.x fire
+| U.T call U.Q Suspend_Until_True | u.t call u.q SUSPEND_until_TRUE | U.T call U.Q Suspend_Until_True 0 | U.T call U.Q Current_State
+| U.T call U.Q Suspend | U.S call U.Q Set_True | operator call U.Q Set_True | Int_3 call U.Q Set_True""") \
     + ["\x0c", "\u00a0", "$T\x0bresume", " \t$T  \t resume\t", f"{TOO_LONG}.x resume", f"x.{LONG} resume", f"$T call $O {TOO_LONG}",
        f"$T end {'0 ' * 32}: return", f"$T end {'0 ' * 33}: return"]
 SHAPES_BASE = parts("""@shape | unit A | task T 3 | protected H 33 | scalar 0 1 0 | handler X 1 | handler Y 7 | @shape | unit B | task K 5
@@ -92,10 +87,21 @@ SHAPES_REPEATS = (  # a line, what is put behind it over and over, and how often
     ("unit A", "suspension S{}", (250, 251, 252, 253)), ("unit A", "task M{} 1", (59, 60, 61, 62)),
     ("unit A", "@shape/unit V{}", (61, 62, 63, 64)),
 )
+STRANGE_SETTINGS = [
+    "capacity = 64\r\nbudget = 5\r\n", "\ufeffcapacity = 64", "capacity\t=\t64", "capacity = 64\n\x00", "# \x7f", "# \x1f", "#\t", "# é",
+    "x = '''\n'''\n", "capacity = 18446744073709551616", "capacity = 9223372036854775807", "[[device]]\n" * 3, "device = [[]]",
+    "device = {}", "[device]\n", "x = 1\n[x]", "a.b = 1\na.c = 2", "a.b = 1\na = 2", "'capacity' = 20", '"cap\\u0061city" = 20',
+    '"cap\\x61city" = 20', '"\\e" = 1', "x = {a = 1,}", "x = {a = 1,\n b = 2}", "x = [1,\n2,\n]", "x = 07:32", "x = 1979-02-30",
+    "x = 1979-05-27T07:32:00Z", "x = 1979-05-27 07:32:00.5+01:00", "x = 1e", "x = .5", "x = 5.", "x = 1.5e+3", "x = +nan", "x = tru",
+    "x = 'a", 'x = "\\ud800"', 'x = "\\U0010ffff"', 'x = """a"""b"', "x = [1 2]", "x = ]", "x", "x =", "= 1", "é = 1", "[]", "[a.]",
+    "[a]\n[a]", "[a.b]\n[a]", "[[a]]\n[a]", "[a]\n[[a]]", "capacity = 0xFF", "capacity = 0xff", "capacity = 0x_40", "capacity = 1__0"]
 LISTED = "@list\n" + "allow * * *\n" * 512
 BODIES = rows("U.T call U.O Get/U.T end 0 : return 0/U.T end : return 0 0/U.T end : return 2/U.T end : return/U.T end : raise Program_Error"
               "/U.T call U.O P 5/U.T end : return/U.T end 2 : return/U.T end 1 : return 1/U.T end 1 : overrun")
 TEXTS = [
+    "@host.toml", "@host.toml\n", "@host.toml\n@steps\n", "@host.toml\n@host.toml\n", "@list\n@host.toml\n", "@host.toml ", "\n@host.toml\n",
+    "#\n@host.toml\n", "@host.toml\ncapacity = 64\r", "@host.toml\ncapacity = 64\r\r\n", "@host.toml\n@\n", '@host.toml\nx = """\n@steps\n"""\n',
+    "@host.tom", "@HOST.toml\n", "@host.toml\nx\n@foo\n", "@foo\n@host.toml\nx\n",
     "", "\n \n\t\n", "\r\n\r\n@steps\n", "@steps\r", "\r", "\x0c\n@steps\n", "\u00a0\n@steps\n", "\x00", "\ufeff@steps\n", "\n\nx\n@steps\n",
     "x\n@foo\n", "#\n@steps\n", "@list", "@shape", "@shape\n@steps\n", "@list\n@list\n", "@shape\nunit U", "@shape\nunit U\r", "@shape\nunit U\n\n",
     "@shape\n\nunit U\n", HEAD + "U.T\rresume\n", HEAD + "U.T resume\r\r\n", HEAD + "U.T resume\r", HEAD + "\r", HEAD + BODIES,
@@ -106,62 +112,6 @@ TEXTS = [
 ]
 BAD_BYTES = [b"@list\n# \xe9\n", HEAD.encode() + b"U.T resume\n\xff", b"@list\n#\xc0\xaf\n", b"@list\n#\xed\xa0\x80\n", b"@list\n#\xe2\x82",
              b"@list\n#\xf4\x8f\xbf\xbf\n"]
-UNITS = rows("@shape/unit Plant/protected Valve 20/scalar 0 1 0/scalar 0 100 0/function Get 0 100/procedure Set in 0 100/entry Wait 1"
-             "/protected Gauge 25/scalar 0 100 7/function Read 0 100/procedure Bump/suspension Ready"
-             "/@shape/unit Nav/task Pilot 15/task Aux 20/task High 21/task Low 10")
-QUEUED = "Nav.Pilot call Plant.Valve Wait -> queued/Nav.Aux call Plant.Valve Set 1 -> started"
-EXAMPLES = {  # the list's lines or no list, and the steps with their answers; behind = is the list that a change leads to
-    None: ["Nav.Pilot call Plant.Valve Get -> refused 1 line 0 version 0"],
-    "": ["Nav.Pilot call Plant.Valve Get -> refused 1 line 0 version 1"],
-    "allow * * */deny Nav Plant.Valve Set": [
-        "Nav.Pilot call Plant.Valve Set 5 -> refused 1 line 2 version 1/Nav.Pilot call Plant.Valve Get -> started"
-        "/Nav.Pilot end : return 0 -> done"],
-    "allow Plant * *": ["Nav.High call Plant.Valve Set 5 -> refused 1 line 0 version 1"],
-    "allow Nav * *": ["Nav.Pilot call Plant.Valve Get -> started/Nav.Pilot call Plant.Gauge Read -> refused 1 line 0 version 1"],
-    "allow * * *": [
-        "Nav.Aux call Plant.Valve Set 5 -> started/Nav.High call Plant.Valve Set 5 -> refused 4 line 0 version 1",
-        "Nav.Pilot call Plant.Valve Get -> started/Nav.Aux call Plant.Valve Get -> started/Nav.Pilot end : return 0 -> done"
-        "/Nav.Low call Plant.Valve Set 9 -> busy/Nav.Aux end : return 0 -> done/Nav.Low call Plant.Valve Set 9 -> started",
-        "Nav.Pilot call Plant.Valve Wait -> queued/Nav.Low call Plant.Valve Wait -> refused 5 line 0 version 1",
-        QUEUED + "/Nav.Low call Plant.Valve Wait -> busy/Nav.Aux end 1 1 : return -> done handed Nav.Pilot"
-        "/Nav.Pilot resume -> woken/Nav.Pilot end 0 1 : return -> done",
-        QUEUED + "/operator append deny Nav Plant.Valve Wait = [allow * * *; deny Nav Plant.Valve Wait]"
-        "/Nav.Aux end 1 1 : return -> done dropped Nav.Pilot line 2/Nav.Low call Plant.Valve Get -> started"
-        "/Nav.Pilot resume -> refused 1 line 2 version 2",
-        QUEUED + "/Nav.Aux end 1 1 : return -> done handed Nav.Pilot"
-        "/operator append deny Nav Plant.Valve Wait = [allow * * *; deny Nav Plant.Valve Wait]"
-        "/Nav.Pilot resume -> woken/Nav.Pilot end 0 1 : return -> done",
-        "Nav.Pilot call Plant.Valve Set 1 -> started/Nav.Pilot end 1 1 : return -> done"
-        "/Nav.Pilot call Plant.Gauge Bump -> started/Nav.Pilot call Plant.Valve Wait -> refused 2 line 0 version 1"],
-    "allow * * */deny Nav * *": ["operator remove 3 -> badline/operator remove 2 = [allow * * *]"
-                                 "/operator replace 1 deny * * * = [deny * * *]/Nav.Pilot call Plant.Valve Get -> refused 1 line 1 version 3"],
-}
-MISREAD_LISTS = {"\n# x\nALLOW * * *\n": "BadWord at line 3", "allow * * *\n" * 513: "TooMany at line 513", "allow a b c\n": "BadName at line 1"}
-
-
-def example(lines: str | None, steps: str) -> Script:
-    """A worked example: two units, a list or none, and steps with their answers."""
-    script, journal = UNITS, ["1 operator load Plant -> accepted 0", "2 operator load Nav -> accepted 0"]
-    if lines is not None:
-        script += rows(f"@list/{lines}")
-        journal.append(f"3 operator list [{lines.replace('/', '; ')}] -> accepted 0")
-    script += "@steps\n"
-    entries = len(journal)
-    for step in steps.split("/"):
-        request, _, changed = step.partition(" = ")
-        script += request.split(" -> ")[0] + "\n"
-        recorded = f"operator list {changed} -> accepted 0" if changed else step
-        unrecorded = recorded.endswith(("-> busy", "-> badline"))
-        entries += not unrecorded
-        journal.append(f"{'-' if unrecorded else entries} {recorded}")
-    return Script(script.encode(), Outcome(("\n".join(journal) + "\n").encode(), b"", 0))
-
-
-def examples() -> Iterator[Script]:
-    for lines, runs in EXAMPLES.items():
-        yield from (example(lines, steps) for steps in runs)
-    for lines, fault in MISREAD_LISTS.items():
-        yield Script(f"@list\n{lines}".encode(), Outcome(b"", f"script line 1: list {fault}\n".encode(), 1))
 
 
 def edited_shapes(edits: dict[str, str]) -> bytes:
@@ -174,11 +124,12 @@ def repeated(line: str, text: str, times: int) -> str:
 
 
 def edge_scripts() -> Iterator[Script]:
-    yield from examples()
-    texts = TEXTS + [HEAD + opening + "\n" for opening in OPENINGS]
+    texts = TEXTS + [f"@host.toml\n{text}\n@steps\n" for text in STRANGE_SETTINGS] + [HEAD + opening + "\n" for opening in OPENINGS]
     texts += [f"@list\n{line}\n" for line in LIST_LINES] + [f"{HEAD}operator append {line}\n" for line in LIST_LINES]
     lines = [line.replace("$T", "U.T").replace("$O", "U.O") for line in STEP_LINES]
-    texts += [HEAD + line + "\nU.T resume\n" for line in lines] + [HEAD + "U.T call U.O P 1\n" + line + "\n" for line in lines]
+    texts += [HEAD + line + "\nU.T resume\nU.T clock\n" for line in lines]
+    texts += [HEAD + "operator halt\n" + line + "\n" for line in lines]
+    texts += [HEAD + "U.T call U.O P 1\n" + line + "\n" for line in lines]
     shape = rows("@shape/unit U/protected O 35/scalar 0 1 0")
     texts += [shape + line.replace("$N", name) + "\n" for line in SHAPE_LINES for name in (NAMES[0], TOO_LONG)]
     texts += [f"@shape\nunit {name}\ntask {name} 1\nprotected O 1\nprocedure {name}\n" for name in NAMES]

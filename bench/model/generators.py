@@ -3,7 +3,13 @@ import random
 from collections.abc import Callable
 
 import edges
-from drawing import Drawer, chance
+from drawing import chance
+from drawing_settings import draw_settings
+from drawing_steps import Drawer
+from drawing_toml import draw_toml
+from drawing_units import draw_units
+from edges import parts
+from play import Player
 from words import words_of
 
 VOCABULARY = """unit task protected suspension scalar function procedure entry handler in out inout open closed allow deny
@@ -14,10 +20,14 @@ Int_A Int_5.T append remove replace Append tick halt fire finish clock delay go 
 000000000000000001 9223372036854775808 2147483647 2147483648 -2147483648 -2147483649 1_0 0x1 - --1 1- # a.b a.b.c a. .b .
 .. _a a_ a__b 1a a-b Ada system Standard HOST Interrupts begin é @ @steps Set_True set_false Current_State x; [ ] ->
 """.split() + ["", edges.LONG, edges.TOO_LONG, edges.LONG + ".M", edges.TOO_LONG + ".M", "N." + edges.TOO_LONG]
-LINES = ["", " ", "\r", "\x0c", "@steps", "@list", "@shape", "# x", "allow * * *", "unit Q", "task T 1", "\ufeff@steps"]
+LINES = ["", " ", "\r", "\x0c", "@steps", "@list", "@shape", "@host.toml", "# x", "allow * * *", "unit Q", "task T 1", "\ufeff@steps"]
 CHARACTERS = " \t._:-*#@09aZ\x00\x0b\x0c\r\u00a0\u2028\x85é\ufeff\n\x7f"
 BYTES = (b"\xff", b"\xc0\x80", b"\xed\xa0\x80", b"\x80", b"\xe2\x82", b"\xf4\x90\x80\x80", b"\x00", b"\xc3")
 LAST_BYTES = (b"\r", b"\n\n", b"\n@steps", b"\n@list", b"\n@shape", b"\n@steps\r", b"\n@list\r", b"\n@", b"\n ")
+
+
+QUEUING_UNIT = parts("""unit Full | task One 1 | task Two 1 | task Three 1 | suspension Flag | protected Valve 40
+| scalar 0 1 0 | procedure Set | entry Wait 1 | handler Hit 9""")
 
 
 def encoded(lines: list[str]) -> bytes:
@@ -39,18 +49,17 @@ def draw_wide(seed: int) -> bytes:
     return Drawer(f"wide {seed}", wide=True).draw(60).text().encode()
 
 
-QUEUING_UNIT = edges.parts("""unit Full | task One 1 | task Two 1 | task Three 1 | protected Valve 40 | scalar 0 1 0 | procedure Set
-| entry Wait 1""")
-
-
 def draw_full(seed: int) -> bytes:
     """Steps or changes of the list until the journal has hardly any room left, and more steps behind that."""
     drawer = Drawer(f"full {seed}", plain=True)
+    dice, is_stepped = drawer.dice, seed % 4 > 0
+    if seed % 10:
+        drawer.section("@host.toml", [f"capacity = {dice.randint(24, 120)}"])
     drawer.section("@shape", QUEUING_UNIT)
-    drawer.draw(150)
-    dice, host, is_stepped = drawer.dice, drawer.host, seed % 4 == 0
-    room = dice.randint(0, 9)
-    while host.room() > room:
+    drawer.free_lines.remove(9)
+    drawer.draw(15 if seed % 10 else 150, has_settings=False)
+    host, room = drawer.host, dice.randint(0, 9)
+    while host.room() > room and not host.is_halted:
         if host.room() > 40 and len(host.list) > 9:
             drawer.list_section()
         change = dice.choice(("append allow * * *", f"remove {len(host.list)}"))
@@ -129,7 +138,7 @@ def draw_damaged(seed: int) -> bytes:
         damage(dice, drawer.lines)
         drawer.lines = drawer.lines or [""]
     catalogue = drawer.host.catalogue
-    names = {"$N": dice.choice(edges.NAMES), "$T": dice.choice([task.full_name() for task in catalogue.tasks.values()]),
+    names = {"$N": dice.choice(edges.NAMES), "$T": dice.choice([task.full_name() for task in catalogue.tasks.values()] or ["a.b"]),
              "$O": dice.choice([target.full_name() for target in catalogue.objects.values()] or ["a.b"])}
     script = drawer.text()
     for placeholder, name in names.items():
@@ -165,7 +174,7 @@ def draw_deep(seed: int) -> bytes:
     """Up to 20 objects, held one inside another."""
     dice = random.Random(f"deep {seed}")
     depth = dice.randint(14, 20)
-    lines = ["@shape", "unit D", "task T 1", "task S 1"]
+    lines = ["@shape", "unit D", "task T 1", "task S 1", "suspension Q"]
     for place in range(depth):
         lines += [f"protected O{place} {1 + place}", "scalar 0 1 0", "procedure P", "function F 0 1", "entry E 1"]
     denied = dice.choice(("# none", "# none", f"deny D D.O{dice.randrange(depth)} F"))
@@ -173,8 +182,9 @@ def draw_deep(seed: int) -> bytes:
     held: list[str] = []
     for _ in range(dice.randint(depth, 60)):
         other = f"D.{dice.choice('TS')} call D.O{dice.randrange(depth)} {dice.choice('FPE')}"
-        others = (other, "D.S end 1 : return", "D.S end : return 1", "D.S resume")
-        drawn = dice.choices(("call", "end", *others), (70, 10, 12, 3, 3, 2))[0]
+        late = dice.choice(("D.T delay 5", "D.T clock", f"D.T call D.Q {dice.choice(edges.SUSPENSION_CALLS)}"))
+        others = (other, late, "D.S end 1 : return", "D.S end : return 1", "D.S resume")
+        drawn = dice.choices(("call", "end", *others), (70, 10, 12, 10, 3, 3, 2))[0]
         if drawn == "call" and len(held) < depth:
             held.append(dice.choice("FP"))
             lines.append(f"D.T call D.O{len(held) - 1} {held[-1]}")
@@ -186,7 +196,7 @@ def draw_deep(seed: int) -> bytes:
 
 
 CROSSED_LISTS = ("allow * * *", "allow T * *|deny P * *", "allow T * *|allow P * F", "allow * * *|deny T P.O0 E")
-CROSSED_CHANGES = edges.parts("""append deny T P.O0 E | append allow * * * | remove 2 | remove 9 | replace 1 deny * * *
+CROSSED_CHANGES = parts("""append deny T P.O0 E | append allow * * * | remove 2 | remove 9 | replace 1 deny * * *
 | replace 1 allow * * * | append deny P * * | append allow P * * | append deny * * E""")
 CROSSED_ENDS = [": return 0", ": return 1"] + ["0 : return", "1 : return"] * 2 \
     + ["1 : raise Program_Error", "1 : overrun", ": overrun", "1 : stopped"]
@@ -211,9 +221,51 @@ def draw_crossed(seed: int) -> bytes:
     return encoded(lines)
 
 
+WAITING_UNITS = parts("""unit P | suspension S0 | suspension S1 | protected O0 40 | scalar 0 1 0 | function F 0 1 | procedure P
+| entry E 1 | handler H 3 | handler J 9 | protected O1 35 | handler G 4 | handler K 7 | procedure R | function F 0 1""")
+WAITING_LISTS = ("allow * * *", "allow * * *", "allow T * *|allow Interrupts * *", "allow * * *|deny P * *", "allow * * *|deny Interrupts P.O0 *",
+                 "allow * * *|deny * P.S0 Suspend_Until_True", "allow * * *|deny T P.S1 set_true")
+WAITING_CALLS = parts("O0 E | O0 E | O0 E | O0 E | O0 P | O0 P | O0 F | O0 H | O1 R | O1 F | O1 G")
+WAITING_CHANGES = parts("""append deny T P.O0 E | append allow * * * | append deny Interrupts * H | append deny * P.S0 *
+| append deny P * * | remove 2 | remove 9 | replace 1 allow * * *""")
+
+
+def draw_waits(seed: int) -> bytes:
+    """Steps of tasks and lines that wait on suspension objects, for times and in a queue; most that don't fit are left out."""
+    dice, player = random.Random(f"waits {seed}"), Player(True)
+    tasks = dice.randint(2, 4)
+    capacity = dice.choice((4096, dice.randint(20, 64)))
+    levels = [dice.choice((1, 10, 35, 36, 40)) for _ in range(tasks)]
+    sections = {"@host.toml": [f"capacity = {capacity}"], "@shape": WAITING_UNITS, "@list": dice.choice(WAITING_LISTS).split("|")}
+    tasks_unit = ["unit T"] + [f"task T{place} {level}" for place, level in enumerate(levels)]
+    lines = []
+    for opening, section in [*sections.items(), ("@shape", tasks_unit)]:
+        lines += [opening] + section
+        player.section(opening, section, 0)
+    lines.append("@steps")
+    clock, halts, finishes = 0, chance(dice, .4), dice.choice((1, 8))
+    for _ in range(dice.choice((30, 100, 200, 300))):
+        task, ticks = f"T.T{dice.randrange(tasks)}", dice.randint(1, 3)
+        line = f"Int_{dice.choice((3, 4, 7, 9, dice.randrange(10)))}"
+        actor = dice.choice((task, task, line))
+        drawn = {f"{actor} call P.S{dice.randrange(2)} {dice.choice(edges.SUSPENSION_CALLS)}": 30, f"{task} resume": 30,
+                 f"{task} delay {clock + dice.randint(-1, 4)}": 10, f"operator tick {ticks}": 10, f"{actor} clock": 2,
+                 f"{line} fire": 20, f"{actor} call P.{dice.choice(WAITING_CALLS)}": 25,
+                 f"{actor} end {dice.choice(CROSSED_ENDS)}": 60, f"{line} end {dice.choice((': return', '1 : return', ': return 1'))}": 40,
+                 f"{task} finish": finishes, f"operator {dice.choice(WAITING_CHANGES)}": 4, "operator halt": int(halts)}
+        step = dice.choices(list(drawn), list(drawn.values()))[0]
+        player.step(step, 0)
+        if player.host.is_halted and chance(dice, .03):
+            break
+        if not player.output[-1].endswith("-> misuse\n") or chance(dice, .1):
+            lines.append(step)
+            clock += ticks if "tick" in step else 0
+    return encoded(lines)
+
+
 # A kind with the number N is drawn once where the kind `random` is drawn N times.
 KINDS: dict[str, tuple[Callable[[int], bytes], int]] = {
     "random": (draw_random, 1), "damaged": (draw_damaged, 1), "lists": (draw_lists, 2), "shapes": (draw_shapes, 1),
     "deep": (draw_deep, 2), "crossed": (draw_crossed, 1), "wide": (draw_wide, 4), "long": (draw_long, 20),
-    "full": (draw_full, 50),
+    "full": (draw_full, 5), "waits": (draw_waits, 1), "settings": (draw_settings, 1), "toml": (draw_toml, 1), "units": (draw_units, 1),
 }

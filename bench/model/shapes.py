@@ -46,7 +46,7 @@ class Operation:
 
 @dataclass(eq=False)
 class SharedObject:
-    """A protected object, or, without a ceiling, a suspension object; with its state since the load."""
+    """A protected object, or, without a ceiling, a suspension object; with its state from the load on."""
     name: str
     ceiling: int | None
     scalars: list[Scalar] = field(default_factory=list)
@@ -54,7 +54,9 @@ class SharedObject:
     unit: str = ""
     values: list[int] = field(default_factory=list)
     holders: list[tuple["Actor", Operation]] = field(default_factory=list)
-    waiting: tuple["Actor", Operation] | None = None
+    waiting: tuple["Actor", Operation] | None = None  # the call in the entry's queue
+    is_true: bool = False  # of a suspension object
+    sleeper: "Actor | None" = None  # who waits on a suspension object
 
     def full_name(self) -> str:
         return f"{self.unit}.{self.name}"
@@ -79,16 +81,26 @@ class Body(NamedTuple):
 
 @dataclass(eq=False)
 class Actor:
-    """A task, with its state; or the operator or an interrupt line, which have no unit."""
+    """The operator, an interrupt line, or a task, with its state."""
     name: str
-    unit: str = ""
+    kind: str  # operator, line, task
+    unit: str = ""  # of a task; for a line, the name for which its calls are judged
     priority: int = 0
-    mode: str = "idle"  # idle, in body, queued, handed, dropped
+    mode: str = "idle"  # idle, in body, queued, handed, dropped, suspended, released, delayed, ended
     held: list[Body] = field(default_factory=list)
     denial: tuple[int, int] = (0, 0)  # line and version of its last drop
+    until: int = 0  # the time that its last delay names
 
     def full_name(self) -> str:
-        return f"{self.unit}.{self.name}" if self.unit else self.name
+        return f"{self.unit}.{self.name}" if self.kind == "task" else self.name
+
+    def may_act(self) -> bool:
+        """Whether its own text runs: a task that is idle or in a body, or a line in a body."""
+        return self.mode == "in body" or self.kind == "task" and self.mode == "idle"
+
+    def subject(self) -> str:
+        """The unit for which its calls are judged."""
+        return self.held[-1].target.unit if self.held else self.unit
 
     def active_priority(self) -> int:
         """The greatest of its own priority and the ceilings of what it holds (D.3)."""
@@ -166,7 +178,7 @@ def read_unit(lines: list[str]) -> Unit:
             ensure(len(words) == 3)
             name, priority = identifier(words[1]), number(words[2])
             current = SharedObject(name, priority) if words[0] == "protected" else None
-            (unit.objects if current else unit.tasks).append(current or Actor(name, unit.name, priority))
+            (unit.objects if current else unit.tasks).append(current or Actor(name, "task", unit.name, priority))
         elif words[0] == "suspension":
             ensure(len(words) == 2)
             operations = [Operation("suspension", name) for name in SUSPENSION_OPERATIONS]
@@ -189,7 +201,7 @@ class Catalogue:
         self.units: dict[str, Unit] = {}
         self.objects: dict[str, SharedObject] = {}
         self.tasks: dict[str, Actor] = {}
-        self.lines: list[int] = []
+        self.handlers: dict[int, Body] = {}  # by the number of their line
 
     def name_taken(self, unit: Unit) -> bool:
         return folded(unit.name) in self.units or folded(unit.name) in RESERVED_UNITS \
@@ -204,7 +216,7 @@ class Catalogue:
             or any(len(operation.parameters) > 4 for _, operation in unit.operations())
 
     def line_taken(self, unit: Unit) -> bool:
-        lines = self.lines + handled_lines(unit)
+        lines = list(self.handlers) + handled_lines(unit)
         return len(set(lines)) < len(lines)
 
     def fault(self, unit: Unit) -> str | None:
@@ -221,7 +233,8 @@ class Catalogue:
 
     def add(self, unit: Unit) -> None:
         self.units[folded(unit.name)] = unit
-        self.lines += handled_lines(unit)
+        self.handlers |= {operation.line: Body(target, operation) for target, operation in unit.operations()
+                          if operation.line is not None}
         for target in unit.objects:
             target.unit = unit.name
             target.values = [scalar.start for scalar in target.scalars]

@@ -1,0 +1,60 @@
+"""Settings of the host: the section @host.toml."""
+import tomllib
+
+from words import is_dotted, is_identifier
+
+CAPACITY = 4096  # where it isn't set
+Check = tuple[type, object]  # a type of value, and what is asked of the value: a range or a form
+
+
+class SettingsFault(Exception):
+    def __init__(self, fault: str) -> None:
+        super().__init__(f"settings {fault}")
+
+
+HOST_KEYS = {"capacity": (int, range(16, 1_048_576 + 1)), "budget": (int, range(1, 1_000_000 + 1))}
+DEVICE_KEYS = {"unit": (str, is_identifier), "task": (str, is_identifier), "object": (str, is_dotted), "operation": (str, is_identifier),
+               "priority": (int, range(1, 40 + 1)), "calls": (int, range(1, 1_000_000 + 1))}
+
+
+def in_order(table: dict[str, object]) -> list[tuple[str, object]]:
+    """The keys in the order of their bytes, with their values."""
+    return sorted(table.items(), key=lambda item: item[0].encode())
+
+
+def check_value(value: object, check: Check) -> None:
+    kind, allowed = check
+    is_good = type(value) is kind and (value in allowed if isinstance(allowed, range) else allowed(value))
+    if not is_good:
+        raise SettingsFault("BadValue")
+
+
+def check_device(device: object) -> None:
+    if not isinstance(device, dict):
+        raise SettingsFault("BadValue")
+    for key, value in in_order(device):
+        if key not in DEVICE_KEYS:
+            raise SettingsFault("UnknownKey")
+        check_value(value, DEVICE_KEYS[key])
+
+
+def read_settings(lines: list[str]) -> int:
+    """The capacity that a section's lines set."""
+    try:
+        table = tomllib.loads("\r\n".join(lines))
+    except tomllib.TOMLDecodeError:
+        raise SettingsFault("NotToml")
+    devices = []
+    for key, value in in_order(table):
+        if key == "device":
+            check_value(value, (list, lambda _: True))
+            devices = value
+            for device in devices:
+                check_device(device)
+        elif key in HOST_KEYS:
+            check_value(value, HOST_KEYS[key])
+        else:
+            raise SettingsFault("UnknownKey")
+    if any(len(device) < len(DEVICE_KEYS) for device in devices):
+        raise SettingsFault("BadValue")
+    return table.get("capacity", CAPACITY)
