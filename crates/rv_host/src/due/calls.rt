@@ -16,7 +16,7 @@ use crate::facts::{CallFacts, SuspensionFacts};
 use crate::past::counts::count_lists;
 use crate::rules::blocking::{is_call, is_holding, is_inside, may_block, waits};
 use crate::rules::ceiling::is_above;
-use crate::rules::exclusion::{is_busy, is_closed, is_function};
+use crate::rules::exclusion::{is_busy, is_closed};
 use crate::rules::grant::{decide_call, subject};
 use crate::rules::queue::is_full;
 use crate::seen::Seen;
@@ -60,7 +60,7 @@ fn call_facts(
         blocking: inside && may_block,
         reentry: call && holding,
         above: is_above(seen, actor, ceiling),
-        busy: is_busy(seen, is_function(kind)),
+        busy: is_busy(seen, kind.is_function()),
         barred: is_closed(seen, kind),
         full: is_full(seen),
     }

@@ -6,7 +6,7 @@ ghost use Rattle.rv_history.specs.Due as due;
 ghost use Rattle.rv_host.specs.Seen.{IsSeen, history_of};
 
 use crate::past::counts::is_halted;
-use crate::rules::exclusion::{is_function, opens_at};
+use crate::rules::exclusion::opens_at;
 use crate::rules::grant::{decide_call, subject};
 use crate::rules::queue::head_call;
 use crate::seen::Seen;
@@ -56,7 +56,7 @@ pub fn due_end(seen: &Seen, body: Option<Body>, scalars: &Scalars) -> Answer
     };
     match seen.catalogue.callee(body.object, body.operation) {
         Callee::Protected(_, _, found) => {
-            if is_function(found.kind()) {
+            if found.kind().is_function() {
                 return Answer::Done(Next::Nothing);
             }
             Answer::Done(after_end(seen, body.object, scalars))

@@ -1,40 +1,11 @@
 //! Whether values fit the parameters, the result or the components that they are for.
 
-ghost use Rattle.std.specs.Prelude.{◌≡◌, ◌&&◌, [], ◌∷◌, map, if◌then◌else◌, int_le};
+ghost use Rattle.std.specs.Prelude.{◌≡◌, ◌&&◌, [], ◌∷◌, map, if◌then◌else◌};
 ghost use Rattle.rv_shape.specs.Catalogue as catalogues;
 ghost use Rattle.rv_history.specs.Fitting as fitting;
 
 use rv_event::entry::Exit;
-use rv_shape::kind::{Component, Kind, Parameter, ParameterMode, Range};
-
-// Whether a value is in a range.
-fn is_within(value: i64, range: &Range) -> bool
-    ensures { result ≡ (int_le range.now.low value && int_le value range.now.high) }
-{
-    range.low <= value && value <= range.high
-}
-
-// Whether a parameter of this mode takes a value in.
-fn goes_in(mode: ParameterMode) -> bool
-    ensures { result ≡ catalogues.goes_in mode }
-{
-    match mode {
-        ParameterMode::In => true,
-        ParameterMode::Out => false,
-        ParameterMode::InOut => true,
-    }
-}
-
-// Whether a parameter of this mode gives a value back.
-fn goes_out(mode: ParameterMode) -> bool
-    ensures { result ≡ catalogues.goes_out mode }
-{
-    match mode {
-        ParameterMode::In => false,
-        ParameterMode::Out => true,
-        ParameterMode::InOut => true,
-    }
-}
+use rv_shape::kind::{Component, Kind, Parameter, Range};
 
 /// Whether there is one value in range for each parameter that takes one in.
 pub fn fit_parameters(parameters: &[Parameter], values: &[i64]) -> bool
@@ -43,13 +14,13 @@ pub fn fit_parameters(parameters: &[Parameter], values: &[i64]) -> bool
     let [parameter, others @ ..] = parameters else {
         return values.len() == 0;
     };
-    if !goes_in(parameter.mode) {
+    if !parameter.mode.goes_in() {
         return fit_parameters(others, values);
     }
     let [value, rest @ ..] = values else {
         return false;
     };
-    is_within(*value, &parameter.range) && fit_parameters(others, rest)
+    parameter.range.holds(*value) && fit_parameters(others, rest)
 }
 
 // Whether there is one value in range for each parameter that gives one back.
@@ -59,13 +30,13 @@ fn fit_outward(parameters: &[Parameter], values: &[i64]) -> bool
     let [parameter, others @ ..] = parameters else {
         return values.len() == 0;
     };
-    if !goes_out(parameter.mode) {
+    if !parameter.mode.goes_out() {
         return fit_outward(others, values);
     }
     let [value, rest @ ..] = values else {
         return false;
     };
-    is_within(*value, &parameter.range) && fit_outward(others, rest)
+    parameter.range.holds(*value) && fit_outward(others, rest)
 }
 
 // Whether there is one value in range for each component.
@@ -78,7 +49,7 @@ fn fit_components(components: &[Component], values: &[i64]) -> bool
     let [value, rest @ ..] = values else {
         return false;
     };
-    is_within(*value, &component.range) && fit_components(others, rest)
+    component.range.holds(*value) && fit_components(others, rest)
 }
 
 // Whether there is one value, the function's result.
@@ -88,7 +59,7 @@ fn fit_result(range: &Range, values: &[i64]) -> bool
     let [value, rest @ ..] = values else {
         return false;
     };
-    is_within(*value, range) && rest.len() == 0
+    range.holds(*value) && rest.len() == 0
 }
 
 // Whether the values are those of a return.
