@@ -1,6 +1,6 @@
 -- A script from its beginning.
-use Rattle.std.proofs.Common.{◌≡◌, ℕ, List, [], ◌∷◌, ◌++◌, Some, None, Option, Ok, Err, Result, refl, sym, ap, ◌∙◌, subst, inl, inr}
-use Rattle.std.specs.Prelude.{Bool}
+use Rattle.std.proofs.Common.{◌≡◌, ℕ, List, [], ◌∷◌, ◌++◌, Some, None, Option, Ok, Err, Result, true, false, refl, sym, ap, ◌∙◌, subst, inl, inr}
+use Rattle.std.specs.Prelude.{Bool, IfSome}
 use Rattle.std.specs.Io.KnownBytes.{Appends}
 use Rattle.rv_text.specs.Sections.{SectionText}
 use Rattle.rv_script.specs.Openings.{OpenedText, opened}
@@ -11,7 +11,8 @@ use Rattle.rv_fault.specs.declared.failure.Failure.{Failure}
 use Rattle.rv_fault.specs.declared.failure.Failure.TheVariants.{Refused, Memory, Io}
 use Rattle.rv_fault.specs.declared.fault.What.TheVariants as Whats
 use Rattle.rv_fault.specs.declared.fault.ScriptFault.{ScriptFault}
-use Rattle.rv_fault.specs.Written.{Known, WritesAll, WritesSome, Writes}
+use Rattle.rv_script.specs.declared.read.TextError.{TextError}
+use Rattle.rv_fault.specs.Written.{Known, WritesAll, WritesSome, Writes, WritesScript, refused_bytes}
 use Rattle.rv_play.specs.Acts.{Act, acts_from}
 use Rattle.rv_play.specs.Scripted.{Stage, Told, Run, Playing, start, Plays, PlaysActs, PlaysOpened, PlaysScript, BeginsOpened, IsCapacity, ReadsCapacity, told_text, text_of, outcome_of}
 use Rattle.rv_play.specs.Carried.{Whole, Part, Carries}
@@ -94,3 +95,15 @@ pub unread : (all : Bool) (a : Option (List ℕ)) (script : List ℕ) (whole : O
 unread all a script whole (Refused fault) e is = settings_refused all a script whole fault e is
 unread all a script whole Memory e is = memory_first all a script
 unread all a script whole (Io error) e is = absurd is
+
+-- a read that failed
+none_some : (a : Option (List ℕ)) (error : TextError) → WritesSome a a (refused_bytes error).Begins
+none_some a error = record { text = []; begins = refl; written = nothing_yet a [] }
+
+pub memory_unread : (all : Bool) (a known : Option (List ℕ)) → IfSome known (λ script. let r : Result (Unit {0}) Failure = Err Memory in WritesScript a a (outcome_of all) script r)
+memory_unread all a None = tt
+memory_unread all a (Some script) = record { text = λ is. nothing_some all a script; refused = λ error refused. none_some a error }
+
+pub failed_unread : (all : Bool) (a known : Option (List ℕ)) (e : _) → IfSome known (λ script. let r : Result (Unit {0}) Failure = Err (Io e) in WritesScript a a (outcome_of all) script r)
+failed_unread all a None e = tt
+failed_unread all a (Some script) e = record { text = λ is. nothing_some all a script; refused = λ error refused. none_some a error }

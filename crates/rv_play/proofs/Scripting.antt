@@ -1,11 +1,12 @@
 -- What is told of scripts are steps of the host, which lead to legal histories.
-use Rattle.std.proofs.Common.{◌≡◌, ℕ, List, [], ◌∷◌, ◌++◌, Some, None, Option, Ok, Err, Result, refl, sym, ap, subst}
+use Rattle.std.proofs.Common.{◌≡◌, ℕ, List, [], ◌∷◌, ◌++◌, Some, None, Option, Ok, Err, Result, refl, sym, ap, subst, inl}
 use Rattle.rv_event.specs.declared.entry.Answer.{Answer}
 use Rattle.rv_history.specs.declared.command.Command.{Command}
 use Rattle.rv_history.specs.History.{History}
 use Rattle.rv_history.specs.Legal.{Legal, empty}
-use Rattle.rv_history.specs.Steps.{Steps}
-use Rattle.rv_history.proofs.Stepping.{is_due, legal_after}
+use Rattle.rv_history.specs.declared.command.Command.TheVariants as Commands
+use Rattle.rv_history.specs.Steps.{Steps, IsAnswer, due_command}
+use Rattle.rv_history.proofs.Stepping.{legal_after}
 use Rattle.rv_script.specs.Openings.{OpenedText, opened}
 use Rattle.rv_settings.specs.Settings.{default_capacity}
 use Rattle.rv_fault.specs.declared.fault.ScriptFault.{ScriptFault}
@@ -14,6 +15,14 @@ use Rattle.rv_play.specs.Laws.{commands, answers, commands_onto, answers_onto}
 use Rattle.rv_play.specs.Scripted.{Stage, Told, Run, tell, due_answer, after_deed, start, Plays, PlaysActs, PlaysOpened, PlaysScript}
 
 -- Steps
+
+is_due : (c : Command) (h : History) → IsAnswer h c (due_command h c)
+is_due (Commands.Ask actor request) h = refl
+is_due (Commands.Load shape) h = inl refl
+is_due (Commands.SetList list) h = inl refl
+is_due (Commands.AppendLine line) h = inl refl
+is_due (Commands.RemoveLine number) h = inl refl
+is_due (Commands.ReplaceLine number line) h = inl refl
 
 one_step : (stage : Stage) (o : Option Command) (cs : List Command) (given : List Answer) (k : History) → Steps (after_deed stage o (due_answer stage o)).history cs given k
     → Steps stage.history (commands_onto o cs) (answers_onto o (due_answer stage o) given) k

@@ -84,15 +84,23 @@ abbrev pub if_line : {X : Type 0} → Result X ListFault → Result X What
 if_line (Ok line) = Ok line
 if_line (Err fault) = Err (Whats.List fault)
 
+-- a line more, or what is wrong with it
+abbrev pub appends : ℕ → Result Words ListFault → Result DeedText What
+appends actor line = if_line line >> λ l. Ok (append actor l)
+
+-- another line in place of one, or what is wrong with it
+abbrev pub replaces : ℕ → ℤ → Result Words ListFault → Result DeedText What
+replaces actor number line = if_line line >> λ l. Ok (replace actor number l)
+
 -- a request of an actor
 abbrev pub requests : List Shape → Asked → ℕ → Result DeedText What
 requests shapes asked actor = if_known (request_of shapes asked) >> λ request. Ok (ask shapes actor request)
 
 -- what an actor asks
 abbrev pub asks : List Shape → Asked → ℕ → Result DeedText What
-asks shapes (Append line) actor = if_line line >> λ l. Ok (append actor l)
+asks shapes (Append line) actor = appends actor line
 asks shapes (Remove number) actor = Ok (remove actor number)
-asks shapes (Replace number line) actor = if_line line >> λ l. Ok (replace actor number l)
+asks shapes (Replace number line) actor = replaces actor number line
 asks shapes asked actor = requests shapes asked actor
 
 -- a step of who is loaded

@@ -7,7 +7,7 @@ ghost use Rattle.rv_shape.specs.ShapeText.{shape_of};
 ghost use Rattle.rv_text.specs.Words.{words};
 ghost use Rattle.rv_step.specs.StepText.{step_of};
 ghost use Rattle.rv_play.specs.Acts.{load_act, set_act, step_act};
-ghost use Rattle.rv_play.specs.Deeds.{Comes, deed_of, step_deed, if_line, if_fits, requests, asks, append, replace, ◌>>◌};
+ghost use Rattle.rv_play.specs.Deeds.{Comes, deed_of, step_deed, if_fits, requests, asks, appends, replaces};
 
 use crate::deed::Deed;
 use rv_access::{Line, ListFault, read_list};
@@ -103,7 +103,7 @@ fn append_deed(
     actor: usize,
     given: Result<Line, ListFault>,
 ) -> Result<Deed, Failure>
-    ensures { Comes line (if_line given >> λ l. Ok (append actor l)) result }
+    ensures { Comes line (appends actor given) result }
 {
     match given {
         Ok(given) => made(Deed::append(alloc, actor, given)),
@@ -119,7 +119,7 @@ fn replace_deed(
     number: i64,
     given: Result<Line, ListFault>,
 ) -> Result<Deed, Failure>
-    ensures { Comes line (if_line given >> λ l. Ok (replace actor number l)) result }
+    ensures { Comes line (replaces actor number given) result }
 {
     match given {
         Ok(given) => made(Deed::replace(alloc, actor, number, given)),
