@@ -1,0 +1,2 @@
+pub mod FirstOf
+pub mod Noted

@@ -1,0 +1,9 @@
+pub mod Found
+pub mod Scope
+pub mod Barriers
+pub mod Dependences
+pub mod ExpressionWalk
+pub mod StatementWalk
+pub mod DeclarationWalk
+pub mod UnitWalk
+pub mod Conforms

@@ -1,0 +1,270 @@
+//! What a package and its protected units declare, by name.
+
+ghost use Rattle.std.specs.Prelude.{◌≡◌, map};
+ghost use Rattle.rv_tree.specs.NameView.{identifier_view, identifiers_view, name_view};
+ghost use Rattle.rv_tree.specs.DeclarationView.{maybe, parameter_view, operation_view, element_view, protected_unit_view, declaration_view};
+ghost use Rattle.rv_tree.specs.BodyView.{local_view};
+ghost use Rattle.rv_tree.specs.UnitView.{body_item_view, unit_view};
+ghost use Rattle.rv_restrict.specs.Scope.{is_among, is_parameter, declares, first_declared, declarations_of, declared, unit_of, is_fixed, is_type, is_operation, is_among_operations, is_element, is_among_elements, is_component, is_among_components, has_component, declares_inside, is_local_type, type_named, names_protected_type};
+
+use rv_text::is_same_name;
+use rv_tree::{
+    BodyItem, Declaration, Identifier, Local, Name, OperationDeclaration, Parameter,
+    ProtectedElement, ProtectedUnit, UnitTree,
+};
+
+// Whether a name is among these.
+fn is_among(name: &str, names: &Vec<Identifier>) -> bool
+    ensures { result ≡ is_among name.now (identifiers_view names.now.items) }
+{
+    for one in names {
+        if is_same_name(one.text.as_str(), name) {
+            return true;
+        }
+    }
+    false
+}
+
+// Whether a parameter has the name.
+pub(crate) fn is_parameter(name: &str, parameters: &Vec<Parameter>) -> bool
+    ensures { result ≡ is_parameter name.now (map parameter_view parameters.now.items) }
+{
+    for parameter in parameters {
+        if is_among(name, &parameter.names) {
+            return true;
+        }
+    }
+    false
+}
+
+// Whether this declaration has the name.
+fn declares(name: &str, declaration: &Declaration) -> bool
+    ensures { result ≡ declares name.now (declaration_view declaration.now) }
+{
+    match declaration {
+        Declaration::Pragma(_) => false,
+        Declaration::Subtype {
+            at: _,
+            name: own,
+            mark: _,
+            range: _,
+        } => is_same_name(own.text.as_str(), name),
+        Declaration::Protected(unit) => is_same_name(unit.name.text.as_str(), name),
+        Declaration::Task(task) => is_same_name(task.name.text.as_str(), name),
+        Declaration::Variable { names, mark: _ } => is_among(name, names),
+        Declaration::Constant {
+            names,
+            mark: _,
+            value: _,
+        } => is_among(name, names),
+    }
+}
+
+// The first of these that has the name.
+fn first_declared<'a>(name: &str, list: &'a Vec<Declaration>) -> Option<&'a Declaration>
+    ensures { maybe (λ d. declaration_view d.now) result ≡ first_declared name.now (map declaration_view list.now.items) }
+{
+    for declaration in list {
+        if declares(name, declaration) {
+            return Some(declaration);
+        }
+    }
+    None
+}
+
+// The first declaration of a package's body that has the name.
+fn first_declared_in_body<'a>(name: &str, items: &'a Vec<BodyItem>) -> Option<&'a Declaration>
+    ensures { maybe (λ d. declaration_view d.now) result ≡ first_declared name.now (declarations_of (map body_item_view items.now.items)) }
+{
+    for item in items {
+        if let BodyItem::Declaration(declaration) = item {
+            if declares(name, declaration) {
+                return Some(declaration);
+            }
+        }
+    }
+    None
+}
+
+// What the package declares by this name.
+#[tactic(auto, unfolding(crate::specs::Scope::declared))]
+pub(crate) fn declared<'a>(tree: &'a UnitTree, name: &str) -> Option<&'a Declaration>
+    ensures { maybe (λ d. declaration_view d.now) result ≡ declared (unit_view tree.now) name.now }
+{
+    match first_declared(name, &tree.specification.declarations) {
+        Some(declaration) => Some(declaration),
+        None => first_declared_in_body(name, &tree.body.items),
+    }
+}
+
+// The protected unit that the package declares by this name.
+fn protected_unit<'a>(tree: &'a UnitTree, name: &str) -> Option<&'a ProtectedUnit>
+    ensures { maybe (λ u. protected_unit_view u.now) result ≡ unit_of (declared (unit_view tree.now) name.now) }
+{
+    match declared(tree, name) {
+        Some(Declaration::Protected(unit)) => Some(unit),
+        _ => None,
+    }
+}
+
+// Whether the package declares a constant or a subtype by this name.
+pub(crate) fn is_fixed(tree: &UnitTree, name: &str) -> bool
+    ensures { result ≡ is_fixed (declared (unit_view tree.now) name.now) }
+{
+    match declared(tree, name) {
+        Some(Declaration::Subtype { .. }) => true,
+        Some(Declaration::Constant { .. }) => true,
+        _ => false,
+    }
+}
+
+fn is_operation(name: &str, operation: &OperationDeclaration) -> bool
+    ensures { result ≡ is_operation name.now (operation_view operation.now) }
+{
+    match operation {
+        OperationDeclaration::Pragma(_) => false,
+        OperationDeclaration::Function {
+            at: _,
+            name: own,
+            parameters: _,
+            mark: _,
+        } => is_same_name(own.text.as_str(), name),
+        OperationDeclaration::Procedure {
+            at: _,
+            name: own,
+            parameters: _,
+            aspects: _,
+        } => is_same_name(own.text.as_str(), name),
+        OperationDeclaration::Entry(entry) => is_same_name(entry.name.text.as_str(), name),
+    }
+}
+
+fn is_among_operations(name: &str, list: &Vec<OperationDeclaration>) -> bool
+    ensures { result ≡ is_among_operations name.now (map operation_view list.now.items) }
+{
+    for operation in list {
+        if is_operation(name, operation) {
+            return true;
+        }
+    }
+    false
+}
+
+fn is_element(name: &str, element: &ProtectedElement) -> bool
+    ensures { result ≡ is_element name.now (element_view element.now) }
+{
+    match element {
+        ProtectedElement::Operation(operation) => is_operation(name, operation),
+        ProtectedElement::Component {
+            names,
+            mark: _,
+            range: _,
+            value: _,
+        } => is_among(name, names),
+    }
+}
+
+fn is_among_elements(name: &str, list: &Vec<ProtectedElement>) -> bool
+    ensures { result ≡ is_among_elements name.now (map element_view list.now.items) }
+{
+    for element in list {
+        if is_element(name, element) {
+            return true;
+        }
+    }
+    false
+}
+
+fn is_component(name: &str, element: &ProtectedElement) -> bool
+    ensures { result ≡ is_component name.now (element_view element.now) }
+{
+    match element {
+        ProtectedElement::Operation(_) => false,
+        ProtectedElement::Component {
+            names,
+            mark: _,
+            range: _,
+            value: _,
+        } => is_among(name, names),
+    }
+}
+
+fn is_among_components(name: &str, list: &Vec<ProtectedElement>) -> bool
+    ensures { result ≡ is_among_components name.now (map element_view list.now.items) }
+{
+    for element in list {
+        if is_component(name, element) {
+            return true;
+        }
+    }
+    false
+}
+
+// Whether the protected unit has a component of this name.
+pub(crate) fn has_component(tree: &UnitTree, unit: &str, name: &str) -> bool
+    ensures { result ≡ has_component (unit_of (declared (unit_view tree.now) unit.now)) name.now }
+{
+    let Some(unit) = protected_unit(tree, unit) else {
+        return false;
+    };
+    match &unit.private {
+        None => false,
+        Some(elements) => is_among_components(name, elements),
+    }
+}
+
+// Whether the protected unit declares this name.
+pub(crate) fn declares_inside(tree: &UnitTree, unit: &str, name: &str) -> bool
+    ensures { result ≡ declares_inside (unit_of (declared (unit_view tree.now) unit.now)) name.now }
+{
+    let Some(unit) = protected_unit(tree, unit) else {
+        return false;
+    };
+    if is_among_operations(name, &unit.operations) {
+        return true;
+    }
+    match &unit.private {
+        None => false,
+        Some(elements) => is_among_elements(name, elements),
+    }
+}
+
+// Whether the package declares a protected type by this name.
+fn is_type(tree: &UnitTree, name: &str) -> bool
+    ensures { result ≡ is_type (unit_of (declared (unit_view tree.now) name.now)) }
+{
+    match protected_unit(tree, name) {
+        Some(unit) => unit.is_type,
+        None => false,
+    }
+}
+
+// Whether a block declares a protected type by this name.
+fn is_local_type(name: &str, locals: &Vec<Local>) -> bool
+    ensures { result ≡ is_local_type name.now (map local_view locals.now.items) }
+{
+    for local in locals {
+        if let Local::Protected(unit) = local {
+            if unit.is_type && is_same_name(unit.name.text.as_str(), name) {
+                return true;
+            }
+        }
+    }
+    false
+}
+
+// Whether a mark names a protected type of the package or of this block.
+#[tactic(auto, unfolding(crate::specs::Scope::names_protected_type))]
+pub(crate) fn names_protected_type(tree: &UnitTree, locals: &Vec<Local>, mark: &Name) -> bool
+    ensures { result ≡ names_protected_type (unit_view tree.now) (map local_view locals.now.items) (name_view mark.now) }
+{
+    let first = mark.first.text.as_str();
+    match mark.more.as_slice() {
+        [] => is_type(tree, first) || is_local_type(first, locals),
+        [inner] => {
+            is_same_name(first, tree.specification.name.text.as_str())
+                && is_type(tree, inner.text.as_str())
+        }
+        _ => false,
+    }
+}

@@ -1,0 +1,15 @@
+//! The restrictions of the Ravenscar profile (ISO/IEC 8652:2012, D.13), looked for in a unit's tree.
+#![tactic(auto)]
+
+mod barrier;
+mod declaration;
+mod declared;
+mod dependence;
+mod expression;
+mod first;
+mod statement;
+mod unit;
+pub mod violation;
+
+pub use unit::first_violation;
+pub use violation::{Restriction, Violation};
