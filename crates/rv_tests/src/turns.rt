@@ -3,11 +3,7 @@ ghost use Rattle.std.specs.Prelude.{◌≡◌, ℕ, true, false, [], IfSome};
 ghost use Rattle.atomic_table.specs.Seated.{TableId};
 ghost use Rattle.rv_turn.specs.Histories.{Each};
 
-use rv_turn::counted::Counted;
-use rv_turn::notes::Note;
-use rv_turn::pass::{Pass, Worn};
-use rv_turn::split::SplitFault;
-use rv_turn::turn::Turn;
+use rv_turn::{Counted, Note, Pass, SplitFault, Turn, Worn};
 use std::alloc::{AllocError, Global};
 use std::marker::{Brand, PhantomData};
 use std::sync::{Mutex, Wait};
