@@ -135,20 +135,30 @@ list_performed a b p q deed result shapes section e loaded performs comes =
     section_carried a b p q result section (Some Openings.AccessList) e
     (act_performed a b p q deed result shapes section.line (set_act section.line (list_of section.text)) loaded (set_line section.line (list_of section.text)) performs comes)
 
-other_acts : (section : SectionText) (o : Option Opening) → (o ≡ Some Openings.Shape → ⊥) → (o ≡ Some Openings.AccessList → ⊥) → (o ≡ Some Openings.Steps → ⊥) → Stops section.line Whats.BadSection ∷ [] ≡ acts_in section o
-other_acts section (Some Openings.Settings) shape list steps = refl
-other_acts section (Some Openings.UnitText) shape list steps = refl
-other_acts section (Some Openings.Shape) shape list steps = absurd (shape refl)
-other_acts section (Some Openings.AccessList) shape list steps = absurd (list refl)
-other_acts section (Some Openings.Steps) shape list steps = absurd (steps refl)
-other_acts section (Some Openings.Journal) shape list steps = refl
-other_acts section (Some Openings.Run) shape list steps = refl
-other_acts section None shape list steps = refl
+-- a section whose opening stops the script
+stopped : (a : Known) (p : Playing) (section : SectionText) (o : Option Opening) (failure : Failure) → opening_of section.opening ≡ o → Stops section.line Whats.BadSection ∷ [] ≡ acts_in section o
+    → failure ≡ Refused (record { line = section.line; what = Whats.BadSection }) → (let r : Ended = Err failure in Carries a a p p (section_acts section) r)
+stopped a p section o failure e acts is =
+    let refused : Failure = Refused (record { line = section.line; what = Whats.BadSection }) in
+    let one : Carries a a p p (Stops section.line Whats.BadSection ∷ []) (Err refused) = fails_act a p (Stops section.line Whats.BadSection) refused (Whats.BadSection, refl, refl) in
+    let those : Carries a a p p (acts_in section o) (Err refused) = subst (λ (xs : List Act). Carries a a p p xs (Err refused)) acts one in
+    subst (λ (f : Failure). Carries a a p p (section_acts section) (Err f)) (sym is) (section_carried a a p p (Err refused) section o e those)
+
+-- a line that opens nothing
+pub not_opened : (a : Known) (p : Playing) (section : SectionText) (failure : Failure) → opening_of section.opening ≡ None → failure ≡ Refused (record { line = section.line; what = Whats.BadSection })
+    → (let r : Ended = Err failure in Carries a a p p (section_acts section) r)
+not_opened a p section failure e is = stopped a p section None failure e refl is
+
+other_acts : (section : SectionText) (o : Opening) → (o ≡ Openings.Shape → ⊥) → (o ≡ Openings.AccessList → ⊥) → (o ≡ Openings.Steps → ⊥) → Stops section.line Whats.BadSection ∷ [] ≡ acts_in section (Some o)
+other_acts section Openings.Settings shape list steps = refl
+other_acts section Openings.UnitText shape list steps = refl
+other_acts section Openings.Shape shape list steps = absurd (shape refl)
+other_acts section Openings.AccessList shape list steps = absurd (list refl)
+other_acts section Openings.Steps shape list steps = absurd (steps refl)
+other_acts section Openings.Journal shape list steps = refl
+other_acts section Openings.Run shape list steps = refl
 
 -- a section that isn't played
-pub other_refused : (a : Known) (p : Playing) (section : SectionText) (o : Option Opening) → opening_of section.opening ≡ o → (o ≡ Some Openings.Shape → ⊥) → (o ≡ Some Openings.AccessList → ⊥) → (o ≡ Some Openings.Steps → ⊥)
-    → (let r : Ended = Err (Refused (record { line = section.line; what = Whats.BadSection })) in Carries a a p p (section_acts section) r)
-other_refused a p section o e shape list steps =
-    let r : Ended = Err (Refused (record { line = section.line; what = Whats.BadSection })) in
-    let one : Carries a a p p (Stops section.line Whats.BadSection ∷ []) r = fails_act a p (Stops section.line Whats.BadSection) (Refused (record { line = section.line; what = Whats.BadSection })) (Whats.BadSection, refl, refl) in
-    section_carried a a p p r section o e (subst (λ (acts : List Act). Carries a a p p acts r) (other_acts section o shape list steps) one)
+pub not_played : (a : Known) (p : Playing) (section : SectionText) (o : Opening) (failure : Failure) → opening_of section.opening ≡ Some o → (o ≡ Openings.Shape → ⊥) → (o ≡ Openings.AccessList → ⊥) → (o ≡ Openings.Steps → ⊥)
+    → failure ≡ Refused (record { line = section.line; what = Whats.BadSection }) → (let r : Ended = Err failure in Carries a a p p (section_acts section) r)
+not_played a p section o failure e shape list steps is = stopped a p section (Some o) failure e (other_acts section o shape list steps) is
