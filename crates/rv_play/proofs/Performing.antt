@@ -1,6 +1,6 @@
 -- One act.
-use Rattle.std.proofs.Common.{◌≡◌, ℕ, List, [], ◌∷◌, ◌++◌, Some, None, Option, Ok, Err, Result, refl, sym, ap, ◌∙◌, subst, append-nil}
-use Rattle.std.specs.Prelude.{Bool, true, OnOk}
+use Rattle.std.proofs.Common.{◌≡◌, ℕ, List, [], ◌∷◌, Some, None, Option, Ok, Err, Result, refl, sym, ap, ◌∙◌, subst, append-nil}
+use Rattle.std.specs.Prelude.{true}
 use Rattle.std.specs.Io.KnownBytes.{Appends}
 use Rattle.rv_script.specs.Prefixes.{WritesPrefix}
 use Rattle.rv_script.proofs.Wrote.{keeps_nothing}
@@ -23,8 +23,8 @@ use Rattle.rv_script.specs.Openings.{opening_of}
 use Rattle.rv_step.specs.StepText.{StepWords, step_of}
 use Rattle.rv_play.specs.Acts.{Act, Stops, line_of, step_act, line_acts, load_act, set_act, acts_in, section_acts}
 use Rattle.rv_play.specs.Deeds.{DeedText, deed_of, Comes}
-use Rattle.rv_play.specs.Scripted.{Stage, Told, Playing, Asks, Plays, tell, told_line, told_text, Does}
-use Rattle.rv_play.specs.Carried.{Whole, Part, Carries}
+use Rattle.rv_play.specs.Scripted.{Stage, Playing, Plays, tell, told_line, told_text, Does}
+use Rattle.rv_play.specs.Carried.{Part, Carries}
 use Rattle.rv_play.proofs.Carrying.{nothing_done}
 
 one_told : (p : Playing) (act : Act) (deed : DeedText) → deed_of p.stage.history.shapes act ≡ Ok deed → Plays p.stage (act ∷ []) (tell p.stage deed ∷ []) None (tell p.stage deed).after

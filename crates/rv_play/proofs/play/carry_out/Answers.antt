@@ -1,4 +1,4 @@
-use Rattle.std.proofs.Common.{◌≡◌, Some, None, sym, ◌∙◌}
+use Rattle.std.proofs.Common.{◌≡◌, Some, sym, ◌∙◌}
 use Rattle.rv_text.specs.Sections.{SectionText}
 use Rattle.rv_script.specs.declared.opening.Opening.TheVariants as Openings
 use Rattle.rv_script.specs.Openings.{opening_of}
