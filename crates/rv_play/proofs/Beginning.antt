@@ -1,10 +1,7 @@
 -- A script from its beginning.
-use Rattle.std.proofs.Common.{◌≡◌, ℕ, List, [], ◌∷◌, ◌++◌, Some, None, Option, Ok, Err, Result, true, false, refl, sym, ap, ◌∙◌, subst, inl, inr}
+use Rattle.std.proofs.Common.{◌≡◌, ℕ, List, [], Some, None, Option, Ok, Err, Result, true, false, refl, sym, subst, inl, inr}
 use Rattle.std.specs.Prelude.{Bool, IfSome}
-use Rattle.std.specs.Io.KnownBytes.{Appends}
-use Rattle.rv_text.specs.Sections.{SectionText}
 use Rattle.rv_script.specs.Openings.{OpenedText, opened}
-use Rattle.rv_script.specs.Prefixes.{WritesPrefix}
 use Rattle.rv_script.proofs.Wrote.{keeps_nothing, nothing_yet}
 use Rattle.rv_settings.specs.Settings.{default_capacity}
 use Rattle.rv_fault.specs.declared.failure.Failure.{Failure}
@@ -12,9 +9,9 @@ use Rattle.rv_fault.specs.declared.failure.Failure.TheVariants.{Refused, Memory,
 use Rattle.rv_fault.specs.declared.fault.What.TheVariants as Whats
 use Rattle.rv_fault.specs.declared.fault.ScriptFault.{ScriptFault}
 use Rattle.rv_script.specs.declared.read.TextError.{TextError}
-use Rattle.rv_fault.specs.Written.{Known, WritesAll, WritesSome, Writes, WritesScript, refused_bytes}
-use Rattle.rv_play.specs.Acts.{Act, acts_from}
-use Rattle.rv_play.specs.Scripted.{Stage, Told, Run, Playing, start, Plays, PlaysActs, PlaysOpened, PlaysScript, BeginsOpened, IsCapacity, ReadsCapacity, told_text, text_of, outcome_of}
+use Rattle.rv_fault.specs.Written.{WritesAll, WritesSome, Writes, WritesScript, refused_bytes}
+use Rattle.rv_play.specs.Acts.{acts_from}
+use Rattle.rv_play.specs.Scripted.{Stage, Run, Playing, start, PlaysOpened, PlaysScript, BeginsOpened, IsCapacity, ReadsCapacity, told_text, text_of, outcome_of}
 use Rattle.rv_play.specs.Carried.{Whole, Part, Carries}
 use Rattle.rv_play.proofs.Named.{text_is}
 

@@ -1,6 +1,6 @@
 -- One act.
-use Rattle.std.proofs.Common.{◌≡◌, ℕ, List, [], ◌∷◌, ◌++◌, Some, None, Option, Ok, Err, Result, refl, sym, ap, ◌∙◌, subst, append-nil}
-use Rattle.std.specs.Prelude.{Bool, OnOk}
+use Rattle.std.proofs.Common.{◌≡◌, ℕ, List, [], ◌∷◌, Some, None, Option, Ok, Err, Result, refl, sym, ap, ◌∙◌, subst, append-nil}
+use Rattle.std.specs.Prelude.{true}
 use Rattle.std.specs.Io.KnownBytes.{Appends}
 use Rattle.rv_script.specs.Prefixes.{WritesPrefix}
 use Rattle.rv_script.proofs.Wrote.{keeps_nothing}
@@ -8,11 +8,23 @@ use Rattle.rv_fault.specs.declared.failure.Failure.{Failure}
 use Rattle.rv_fault.specs.declared.failure.Failure.TheVariants.{Refused, Memory, Io}
 use Rattle.rv_fault.specs.declared.fault.ScriptFault.{ScriptFault}
 use Rattle.rv_fault.specs.declared.fault.What.{What}
-use Rattle.rv_step.specs.StepText.{step_of}
-use Rattle.rv_play.specs.Acts.{Act, line_of, step_act, line_acts}
+use Rattle.rv_fault.specs.declared.fault.What.TheVariants as Whats
+use Rattle.rv_fault.specs.Written.{Known, Ended}
+use Rattle.rv_text.specs.Words.{is_some_word}
+use Rattle.rv_text.specs.Sections.{SectionText}
+use Rattle.rv_access.specs.Words.{Words}
+use Rattle.rv_access.specs.Reading.{list_of}
+use Rattle.rv_access.specs.declared.fault.ListFault.{ListFault}
+use Rattle.rv_shape.specs.Shape.{Shape}
+use Rattle.rv_shape.specs.ShapeText.{shape_of}
+use Rattle.rv_script.specs.declared.opening.Opening.{Opening}
+use Rattle.rv_script.specs.declared.opening.Opening.TheVariants as Openings
+use Rattle.rv_script.specs.Openings.{opening_of}
+use Rattle.rv_step.specs.StepText.{StepWords, step_of}
+use Rattle.rv_play.specs.Acts.{Act, Stops, line_of, step_act, line_acts, load_act, set_act, acts_in, section_acts}
 use Rattle.rv_play.specs.Deeds.{DeedText, deed_of, Comes}
-use Rattle.rv_play.specs.Scripted.{Stage, Told, Playing, Asks, Plays, tell, told_line, told_text, Does}
-use Rattle.rv_play.specs.Carried.{Whole, Part, Carries}
+use Rattle.rv_play.specs.Scripted.{Stage, Playing, Plays, tell, told_line, told_text, Does}
+use Rattle.rv_play.specs.Carried.{Part, Carries}
 use Rattle.rv_play.proofs.Carrying.{nothing_done}
 
 one_told : (p : Playing) (act : Act) (deed : DeedText) → deed_of p.stage.history.shapes act ≡ Ok deed → Plays p.stage (act ∷ []) (tell p.stage deed ∷ []) None (tell p.stage deed).after
@@ -69,13 +81,84 @@ fails_act a p act (Refused fault) comes = (
 fails_act a p act Memory comes = nothing_done a p (act ∷ [])
 fails_act a p act (Io error) comes = absurd comes
 
--- a line that has words has one act
-pub acts_at : (line : ℕ) (ws : List (List ℕ)) (word : List ℕ) (others : List (List ℕ)) → ws ≡ word ∷ others → step_act line (step_of ws) ∷ [] ≡ line_acts line ws
-acts_at line ws word others e = subst (λ (l : List (List ℕ)). step_act line (step_of l) ∷ [] ≡ line_acts line l) (sym e) refl
+-- The lines of acts
 
-pub line_of_step : (line : ℕ) (ws : List (List ℕ)) → line_of (step_act line (step_of ws)) ≡ line
-line_of_step line ws = by_step (step_of ws)
-  where
-    by_step : (o : _) → line_of (step_act line o) ≡ line
-    by_step None = refl
-    by_step (Some step) = refl
+step_line : (line : ℕ) (step : Option StepWords) → line_of (step_act line step) ≡ line
+step_line line None = refl
+step_line line (Some step) = refl
+
+load_line : (line : ℕ) (shape : Option Shape) → line_of (load_act line shape) ≡ line
+load_line line None = refl
+load_line line (Some shape) = refl
+
+set_line : (line : ℕ) (list : Result (List Words) ListFault) → line_of (set_act line list) ≡ line
+set_line line (Ok list) = refl
+set_line line (Err fault) = refl
+
+-- Acts of the script
+
+-- what an act came to was carried out, for each act that came to it
+abbrev pub Performs : Known → Known → Playing → Playing → Result DeedText Failure → Ended → Type 0
+Performs a b p q deed result = (act : Act) → Comes (line_of act) (deed_of p.stage.history.shapes act) deed → Carries a b p q (act ∷ []) result
+
+-- what an act of this line came to, where these shapes are loaded
+act_performed : (a b : Known) (p q : Playing) (deed : Result DeedText Failure) (result : Ended) (shapes : List Shape) (line : ℕ) (act : Act) → shapes ≡ p.stage.history.shapes → line_of act ≡ line → Performs a b p q deed result
+    → Comes line (deed_of shapes act) deed → Carries a b p q (act ∷ []) result
+act_performed a b p q deed result shapes line act loaded same performs comes =
+    let there : Comes line (deed_of p.stage.history.shapes act) deed = subst (λ (ss : List Shape). Comes line (deed_of ss act) deed) loaded comes in
+    performs act (subst (λ (n : ℕ). Comes n (deed_of p.stage.history.shapes act) deed) (sym same) there)
+
+-- a line that has words
+pub line_performed : (a b : Known) (p q : Playing) (deed : Result DeedText Failure) (result : Ended) (shapes : List Shape) (line : ℕ) (ws : List (List ℕ)) → shapes ≡ p.stage.history.shapes → is_some_word ws ≡ true → Performs a b p q deed result
+    → Comes line (deed_of shapes (step_act line (step_of ws))) deed → Carries a b p q (line_acts line ws) result
+line_performed a b p q deed result shapes line [] loaded some performs comes = absurd cc
+line_performed a b p q deed result shapes line (word ∷ others) loaded some performs comes =
+    act_performed a b p q deed result shapes line (step_act line (step_of (word ∷ others))) loaded (step_line line (step_of (word ∷ others))) performs comes
+
+-- Sections
+
+-- a section of an opening
+pub section_carried : (a b : Known) (p q : Playing) (result : Ended) (section : SectionText) (o : Option Opening) → opening_of section.opening ≡ o → Carries a b p q (acts_in section o) result → Carries a b p q (section_acts section) result
+section_carried a b p q result section o e carries = subst (λ (opening : Option Opening). Carries a b p q (acts_in section opening) result) (sym e) carries
+
+-- a shape
+pub shape_performed : (a b : Known) (p q : Playing) (deed : Result DeedText Failure) (result : Ended) (shapes : List Shape) (section : SectionText) → opening_of section.opening ≡ Some Openings.Shape → shapes ≡ p.stage.history.shapes → Performs a b p q deed result
+    → Comes section.line (deed_of shapes (load_act section.line (shape_of section.text))) deed → Carries a b p q (section_acts section) result
+shape_performed a b p q deed result shapes section e loaded performs comes =
+    section_carried a b p q result section (Some Openings.Shape) e
+    (act_performed a b p q deed result shapes section.line (load_act section.line (shape_of section.text)) loaded (load_line section.line (shape_of section.text)) performs comes)
+
+-- an access list
+pub list_performed : (a b : Known) (p q : Playing) (deed : Result DeedText Failure) (result : Ended) (shapes : List Shape) (section : SectionText) → opening_of section.opening ≡ Some Openings.AccessList → shapes ≡ p.stage.history.shapes → Performs a b p q deed result
+    → Comes section.line (deed_of shapes (set_act section.line (list_of section.text))) deed → Carries a b p q (section_acts section) result
+list_performed a b p q deed result shapes section e loaded performs comes =
+    section_carried a b p q result section (Some Openings.AccessList) e
+    (act_performed a b p q deed result shapes section.line (set_act section.line (list_of section.text)) loaded (set_line section.line (list_of section.text)) performs comes)
+
+-- a section whose opening stops the script
+stopped : (a : Known) (p : Playing) (section : SectionText) (o : Option Opening) (failure : Failure) → opening_of section.opening ≡ o → Stops section.line Whats.BadSection ∷ [] ≡ acts_in section o
+    → failure ≡ Refused (record { line = section.line; what = Whats.BadSection }) → (let r : Ended = Err failure in Carries a a p p (section_acts section) r)
+stopped a p section o failure e acts is =
+    let refused : Failure = Refused (record { line = section.line; what = Whats.BadSection }) in
+    let one : Carries a a p p (Stops section.line Whats.BadSection ∷ []) (Err refused) = fails_act a p (Stops section.line Whats.BadSection) refused (Whats.BadSection, refl, refl) in
+    let those : Carries a a p p (acts_in section o) (Err refused) = subst (λ (xs : List Act). Carries a a p p xs (Err refused)) acts one in
+    subst (λ (f : Failure). Carries a a p p (section_acts section) (Err f)) (sym is) (section_carried a a p p (Err refused) section o e those)
+
+-- a line that opens nothing
+pub not_opened : (a : Known) (p : Playing) (section : SectionText) (failure : Failure) → opening_of section.opening ≡ None → failure ≡ Refused (record { line = section.line; what = Whats.BadSection })
+    → (let r : Ended = Err failure in Carries a a p p (section_acts section) r)
+not_opened a p section failure e is = stopped a p section None failure e refl is
+
+other_acts : (section : SectionText) (o : Opening) → (o ≡ Openings.Shape → ⊥) → (o ≡ Openings.AccessList → ⊥) → (o ≡ Openings.Steps → ⊥) → Stops section.line Whats.BadSection ∷ [] ≡ acts_in section (Some o)
+other_acts section Openings.Settings shape list steps = refl
+other_acts section Openings.UnitText shape list steps = refl
+other_acts section Openings.Shape shape list steps = absurd (shape refl)
+other_acts section Openings.AccessList shape list steps = absurd (list refl)
+other_acts section Openings.Steps shape list steps = absurd (steps refl)
+other_acts section Openings.Journal shape list steps = refl
+other_acts section Openings.Run shape list steps = refl
+
+-- a section that isn't played
+pub not_played : (a : Known) (p : Playing) (section : SectionText) (o : Opening) (failure : Failure) → opening_of section.opening ≡ Some o → (o ≡ Openings.Shape → ⊥) → (o ≡ Openings.AccessList → ⊥) → (o ≡ Openings.Steps → ⊥)
+    → failure ≡ Refused (record { line = section.line; what = Whats.BadSection }) → (let r : Ended = Err failure in Carries a a p p (section_acts section) r)
+not_played a p section o failure e shape list steps is = stopped a p section (Some o) failure e (other_acts section o shape list steps) is

@@ -20,7 +20,6 @@ use Rattle.rv_fault.specs.declared.failure.Failure.{Failure}
 use Rattle.rv_fault.specs.declared.failure.Failure.TheVariants.{Refused, Memory, Io}
 use Rattle.rv_fault.specs.declared.fault.What.{What}
 use Rattle.rv_fault.specs.declared.fault.What.TheVariants as Whats
-use Rattle.rv_fault.specs.declared.fault.ScriptFault.{ScriptFault}
 use Rattle.rv_play.specs.Acts.{Act, Loads, Sets, Steps, Stops}
 
 -- what is asked of the host: by which actor, which command (none where the actor has nothing to ask), and in which words

@@ -94,13 +94,21 @@ fn carry_out<W: Write>(
         })) result }
 {
     let line = section.line;
-    let deed = match opening_of(section.opening) {
-        Some(Opening::Shape) => shape_deed(alloc, player.catalogue(), line, section.text),
-        Some(Opening::AccessList) => list_deed(alloc, player.catalogue(), line, section.text),
-        Some(Opening::Steps) => return perform_all(alloc, player, writer, section),
-        _ => Err(refused(line, What::BadSection)),
+    let Some(opening) = opening_of(section.opening) else {
+        return Err(refused(line, What::BadSection));
     };
-    perform(player, writer, deed)
+    match opening {
+        Opening::Shape => {
+            let deed = shape_deed(alloc, player.catalogue(), line, section.text);
+            perform(player, writer, deed)
+        }
+        Opening::AccessList => {
+            let deed = list_deed(alloc, player.catalogue(), line, section.text);
+            perform(player, writer, deed)
+        }
+        Opening::Steps => perform_all(alloc, player, writer, section),
+        _ => Err(refused(line, What::BadSection)),
+    }
 }
 
 // Carries out sections, in order, up to the first fault.

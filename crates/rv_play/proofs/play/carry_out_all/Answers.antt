@@ -1,4 +1,4 @@
-use Rattle.std.proofs.Common.{◌≡◌, ℕ, List, [], ◌∷◌, ◌++◌, Ok, ap, sym, ◌∙◌, refl, subst, append_assoc, append-nil}
+use Rattle.std.proofs.Common.{◌≡◌, List, [], ◌∷◌, ◌++◌, Ok, ap, sym, ◌∙◌, refl, subst, append_assoc}
 use Rattle.rv_text.specs.Sections.{SectionText}
 use Rattle.rv_script.specs.Openings.{AreNumbered}
 use Rattle.rv_play.specs.Acts.{Act, section_acts, acts_from}
