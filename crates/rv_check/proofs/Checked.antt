@@ -1,4 +1,6 @@
 -- Sections that were looked at, and then others.
+use Rattle.rv_script.specs.declared.read.TextError.{TextError}
+use Rattle.std.specs.Prelude.{IfSome}
 use Rattle.std.proofs.Common.{◌≡◌, inl, inr, ℕ, List, [], ◌∷◌, ◌++◌, Some, None, Option, Ok, Err, Result, refl, sym, ap, ◌∙◌, subst, append_assoc, append-nil}
 use Rattle.std.specs.Io.KnownBytes.{Appends}
 use Rattle.rv_text.specs.Sections.{SectionText}
@@ -10,7 +12,7 @@ use Rattle.rv_fault.specs.declared.failure.Failure.{Failure}
 use Rattle.rv_fault.specs.declared.failure.Failure.TheVariants.{Refused, Memory, Io}
 use Rattle.rv_fault.specs.declared.fault.What.TheVariants as Whats
 use Rattle.rv_fault.specs.declared.fault.ScriptFault.{ScriptFault}
-use Rattle.rv_fault.specs.Written.{WritesSome, Writes}
+use Rattle.rv_fault.specs.Written.{WritesSome, Writes, WritesScript, refused_bytes}
 use Rattle.rv_check.specs.Checks.{Finding, TellsSome, Tells, TellsAll, OfSection, Checks, ChecksSome, AreSettings, OfSettings, ChecksOpened, BeginsOpened, outcome_of}
 
 -- what is said so far of the sections that are done, and how what is said of others goes on behind it
@@ -125,3 +127,12 @@ sections_told script old new whole (Err Memory) is settings h =
     record { text = h.0; begins = inr (subst (λ (o : Result OpenedText ℕ). BeginsOpened o h.0) (sym is) (settings, h.1)); written = h.2 }
 sections_told script old new whole (Err (Io error)) is settings h =
     record { text = h.0; begins = inr (subst (λ (o : Result OpenedText ℕ). BeginsOpened o h.0) (sym is) (settings, h.1)); written = h.2 }
+
+-- nothing is a prefix of what is told of bytes that are no script
+none_told : (old : Option (List ℕ)) (error : TextError) → WritesSome old old (refused_bytes error).Begins
+none_told old error = record { text = []; begins = refl; written = nothing_yet old [] }
+
+-- a reader that failed
+pub failed_unread : (old known : Option (List ℕ)) (e : _) → IfSome known (λ script. let r : Result (Unit {0}) Failure = Err (Io e) in WritesScript old old outcome_of script r)
+failed_unread old None e = tt
+failed_unread old (Some script) e = record { text = λ is. memory_told script old; refused = λ error refused. none_told old error }

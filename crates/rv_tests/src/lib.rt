@@ -3,16 +3,30 @@
 #![tactic(auto)]
 
 #[cfg(test)]
+mod entries;
+#[cfg(test)]
+mod fits;
+#[cfg(test)]
+mod lists;
+#[cfg(test)]
+mod parts;
+#[cfg(test)]
 mod rooms;
 #[cfg(test)]
 mod scripts;
 #[cfg(test)]
 mod settings;
 #[cfg(test)]
+mod shapes;
+#[cfg(test)]
 mod steps;
+#[cfg(test)]
+mod texts;
 #[cfg(test)]
 mod trees;
 #[cfg(test)]
 mod turns;
+#[cfg(test)]
+mod values;
 #[cfg(test)]
 mod words;

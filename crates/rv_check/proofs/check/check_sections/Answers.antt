@@ -1,4 +1,4 @@
-use Rattle.rv_check.proofs.Checked.{one_said, stopped, all_said}
+use Rattle.rv_check.proofs.Checked.{at_first, one_said, stopped, all_said}
 use Rattle.rv_check.proofs.check.check_sections.Goals as goal
 
 pub each-preserved : goal.each-preserved
@@ -15,3 +15,7 @@ pub returns : goal.returns
 returns g c =
     all_said (g.W.Write.contents c.args.writer.now) (g.W.Write.contents c.each.writer) c.each.catalogue c.each.sections c.args.sections
     c.in_default.ensures.none.0 c.each.invariant
+
+pub each-init : goal.each-init
+each-init g c =
+    at_first (g.W.Write.contents c.args.writer.now) c.new-catalogue.result c.args.sections c.new-catalogue.ensures
