@@ -1,0 +1,13 @@
+pub mod Asking
+pub mod Operators
+pub mod Activations
+pub mod Bodies
+pub mod Calls
+pub mod Choices
+pub mod World
+pub mod Expressions
+pub mod Statements
+pub mod Blocks
+pub mod Sizes
+pub mod Tasks
+pub mod Next

@@ -1,0 +1,261 @@
+//! What is asked of the host, and what its answers come to (9.5.1, 9.5.3, 9.6, D.8, D.10).
+
+ghost use Rattle.std.specs.Prelude.{◌≡◌, ℕ, [], ◌∷◌, Some, None};
+ghost use Rattle.rv_exec.specs.Asking.{Ran, asking, ended};
+ghost use Rattle.rv_exec.specs.Calls.{internal, is_protected, is_past, request_of, refusal, started, queued, suspended, delayed, refused, accepted, replied, woken, resumed, reached, exit_of, seen, completed, end_of, stops, gives};
+
+use crate::activation::value_at;
+use crate::end::{Asked, Cause, Reply};
+use crate::outward::Outward;
+use rv_code::Callee;
+use rv_event::entry::{Answer, Exception, Exit, Request, Rule};
+use rv_value::{Args, Scalars};
+
+/// The operation of the same object, where it is an internal call (9.5).
+pub fn internal(callee: Callee) -> Option<usize>
+    ensures { result ≡ internal callee }
+{
+    match callee {
+        Callee::Internal(operation) => Some(operation),
+        _ => None,
+    }
+}
+
+fn is_protected(callee: Callee) -> bool
+    ensures { result ≡ is_protected callee }
+{
+    match callee {
+        Callee::Function(_, _) | Callee::Procedure(_, _) | Callee::Entry(_, _) => true,
+        _ => false,
+    }
+}
+
+fn is_past(held: u32, callee: Callee) -> bool
+    ensures { result ≡ is_past held callee }
+{
+    if held == 0 {
+        is_protected(callee)
+    } else {
+        false
+    }
+}
+
+fn request_of(callee: Callee, values: Args) -> Request
+    ensures { result ≡ request_of callee values }
+{
+    match callee {
+        Callee::Function(object, operation)
+        | Callee::Procedure(object, operation)
+        | Callee::Entry(object, operation) => Request::Call(object, operation, values),
+        Callee::SetTrue(object) => Request::Call(object, 1, Args::new()),
+        Callee::SetFalse(object) => Request::Call(object, 2, Args::new()),
+        Callee::CurrentState(object) => Request::Call(object, 3, Args::new()),
+        Callee::SuspendUntilTrue(object) => Request::Call(object, 4, Args::new()),
+        Callee::DelayUntil => Request::DelayUntil(value_at(values, 0)),
+        Callee::Clock | Callee::Internal(_) => Request::Clock,
+    }
+}
+
+fn refusal(rule: Rule) -> Exception
+    ensures { result ≡ refusal rule }
+{
+    match rule {
+        Rule::Grant => Exception::AccessDenied,
+        _ => Exception::ProgramError,
+    }
+}
+
+fn stops(is_idle: bool) -> Reply
+    ensures { result ≡ stops is_idle }
+{
+    Reply::Settled(Asked::Abandoned(Cause::Stopped(is_idle)))
+}
+
+fn started(callee: Callee, components: Scalars) -> Reply
+    ensures { result ≡ started callee components }
+{
+    match callee {
+        Callee::Function(object, operation) => {
+            Reply::Settled(Asked::Started(object, operation, true, components))
+        }
+        Callee::Procedure(object, operation) | Callee::Entry(object, operation) => {
+            Reply::Settled(Asked::Started(object, operation, false, components))
+        }
+        _ => stops(false),
+    }
+}
+
+fn queued(callee: Callee) -> Reply
+    ensures { result ≡ queued callee }
+{
+    match callee {
+        Callee::Entry(_, _) => Reply::Waits,
+        _ => stops(false),
+    }
+}
+
+fn suspended(callee: Callee) -> Reply
+    ensures { result ≡ suspended callee }
+{
+    match callee {
+        Callee::SuspendUntilTrue(_) => Reply::Waits,
+        _ => stops(false),
+    }
+}
+
+fn delayed(callee: Callee) -> Reply
+    ensures { result ≡ delayed callee }
+{
+    match callee {
+        Callee::DelayUntil => Reply::Waits,
+        _ => stops(false),
+    }
+}
+
+fn refused(callee: Callee, rule: Rule) -> Reply
+    ensures { result ≡ refused callee rule }
+{
+    match callee {
+        Callee::Clock => stops(true),
+        _ => Reply::Settled(Asked::Abandoned(Cause::Raised(refusal(rule)))),
+    }
+}
+
+fn gives_one(value: i64) -> Reply
+    ensures { result ≡ gives (value ∷ []) }
+{
+    Reply::Settled(Asked::Given(Args::from_slice(&[value])))
+}
+
+fn accepted(callee: Callee, value: i64) -> Reply
+    ensures { result ≡ accepted callee value }
+{
+    match callee {
+        Callee::Clock | Callee::CurrentState(_) => gives_one(value),
+        Callee::SetTrue(_)
+        | Callee::SetFalse(_)
+        | Callee::SuspendUntilTrue(_)
+        | Callee::DelayUntil => Reply::Settled(Asked::Given(Args::new())),
+        _ => stops(true),
+    }
+}
+
+fn replied(callee: Callee, answer: Answer) -> Reply
+    ensures { result ≡ replied callee answer }
+{
+    match answer {
+        Answer::Started(components) => started(callee, components),
+        Answer::Queued => queued(callee),
+        Answer::Refused(rule, _, _) => refused(callee, rule),
+        Answer::Suspended => suspended(callee),
+        Answer::Delayed => delayed(callee),
+        Answer::Accepted(value) => accepted(callee, value),
+        _ => stops(true),
+    }
+}
+
+fn woken(callee: Callee, components: Option<Scalars>) -> Asked
+    ensures { result ≡ woken callee components }
+{
+    match callee {
+        Callee::Entry(object, operation) => match components {
+            Some(values) => Asked::Started(object, operation, false, values),
+            None => Asked::Abandoned(Cause::Stopped(false)),
+        },
+        Callee::SuspendUntilTrue(_) | Callee::DelayUntil => match components {
+            Some(_) => Asked::Abandoned(Cause::Stopped(false)),
+            None => Asked::Given(Args::new()),
+        },
+        _ => Asked::Abandoned(Cause::Stopped(false)),
+    }
+}
+
+fn resumed(callee: Callee, answer: Answer) -> Asked
+    ensures { result ≡ resumed callee answer }
+{
+    match answer {
+        Answer::Woken(components) => woken(callee, components),
+        Answer::Refused(rule, _, _) => Asked::Abandoned(Cause::Raised(refusal(rule))),
+        _ => Asked::Abandoned(Cause::Stopped(false)),
+    }
+}
+
+/// Asks one request, and resumes where the actor waits. The actor may hold so many more objects.
+pub fn reached<R, O: Outward<R>>(
+    runtime: &R,
+    held: u32,
+    callee: Callee,
+    values: Args,
+    outward: &mut O,
+) -> Asked
+    ensures { Ran O.went outward.old (reached held callee values) outward.new result }
+{
+    if is_past(held, callee) {
+        return Asked::Abandoned(Cause::Raised(Exception::ProgramError));
+    }
+    let answer = outward.ask(runtime, request_of(callee, values));
+    match replied(callee, answer) {
+        Reply::Settled(asked) => asked,
+        Reply::Waits => {
+            let answer = outward.ask(runtime, Request::Resume);
+            resumed(callee, answer)
+        }
+    }
+}
+
+/// How a body ends, for the host.
+pub fn exit_of(outcome: &Result<Args, Cause>) -> Exit
+    ensures { result ≡ exit_of outcome.now }
+{
+    match outcome {
+        Ok(values) => Exit::Return(*values),
+        Err(Cause::Raised(exception)) => Exit::Raise(*exception),
+        Err(Cause::Overrun) => Exit::Overrun,
+        Err(Cause::Stopped(_)) => Exit::Stopped,
+    }
+}
+
+fn seen(outcome: Result<Args, Cause>) -> Result<Args, Cause>
+    ensures { result ≡ seen outcome }
+{
+    match outcome {
+        Ok(values) => Ok(values),
+        Err(Cause::Raised(exception)) => Err(Cause::Raised(exception)),
+        Err(Cause::Overrun) => Err(Cause::Raised(Exception::ProgramError)),
+        Err(Cause::Stopped(_)) => Err(Cause::Stopped(true)),
+    }
+}
+
+fn completed(outcome: Result<Args, Cause>, answer: Answer) -> Result<Args, Cause>
+    ensures { result ≡ completed outcome answer }
+{
+    match answer {
+        Answer::Done(_) => seen(outcome),
+        _ => Err(Cause::Stopped(false)),
+    }
+}
+
+/// The request that ends a body (9.5.1).
+pub fn end_of(is_function: bool, outcome: &Result<Args, Cause>, components: Scalars) -> Request
+    ensures { result ≡ end_of is_function outcome.now components }
+{
+    let exit = exit_of(outcome);
+    if is_function {
+        Request::Complete(Scalars::new(), exit)
+    } else {
+        Request::Complete(components, exit)
+    }
+}
+
+/// Asks the end of a body (9.5.1): by this request, behind which it comes to this.
+pub fn complete<R, O: Outward<R>>(
+    runtime: &R,
+    request: Request,
+    outcome: Result<Args, Cause>,
+    outward: &mut O,
+) -> Result<Args, Cause>
+    ensures { Ran O.went outward.old (asking request (λ answer. ended (completed outcome answer))) outward.new result }
+{
+    let answer = outward.ask(runtime, request);
+    completed(outcome, answer)
+}

@@ -1,0 +1,52 @@
+//! What the end of a body comes to (6.4.1, 6.5, 11.3).
+
+ghost use Rattle.std.specs.Prelude.{◌≡◌};
+ghost use Rattle.rv_code.specs.BodyView.{body_view};
+ghost use Rattle.rv_exec.specs.Blocks.{outcome_of, function_outcome, procedure_outcome};
+ghost use Rattle.rv_exec.specs.Statements.{raised_again};
+
+use crate::activation::Activation;
+use crate::end::{Cause, End};
+use rv_code::Body;
+use rv_event::entry::Exception;
+use rv_value::Args;
+
+fn function_outcome(end: End) -> Result<Args, Cause>
+    ensures { result ≡ function_outcome end }
+{
+    match end {
+        End::Return(Some(value)) => Ok(Args::from_slice(&[value])),
+        End::Abandoned(cause) => Err(cause),
+        _ => Err(Cause::Raised(Exception::ProgramError)),
+    }
+}
+
+fn procedure_outcome(end: End, values: Args) -> Result<Args, Cause>
+    ensures { result ≡ procedure_outcome end values }
+{
+    match end {
+        End::Abandoned(cause) => Err(cause),
+        _ => Ok(values),
+    }
+}
+
+/// What a body comes to, by how its statements end (6.4.1, 6.5).
+pub fn outcome_of(body: &Body, end: End, activation: &Activation) -> Result<Args, Cause>
+    ensures { result ≡ outcome_of (body_view body.now) end activation.now }
+{
+    if body.is_function {
+        function_outcome(end)
+    } else {
+        procedure_outcome(end, activation.given_back(&body.parameters))
+    }
+}
+
+/// What `raise;` raises (11.3).
+pub fn raised_again(handling: Option<Exception>) -> Cause
+    ensures { result ≡ raised_again handling }
+{
+    match handling {
+        Some(exception) => Cause::Raised(exception),
+        None => Cause::Raised(Exception::ProgramError),
+    }
+}

@@ -1,0 +1,4 @@
+pub mod Scopes
+pub mod Variables
+pub mod Used
+pub mod Bound

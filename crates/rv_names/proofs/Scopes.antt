@@ -1,0 +1,23 @@
+-- A region that was begun ends where it began, whatever was declared in it.
+use Rattle.std.proofs.Common.{◌≡◌, ◌∙◌, ap, sym, subst, refl, ℕ, List, [], ◌∷◌, ◌++◌, Option, Some, None}
+use Rattle.rv_tree.specs.Names.{Identifier}
+use Rattle.rv_names.specs.declared.declared.Declared.{Declared}
+use Rattle.rv_names.specs.Scope.{Region, ScopeView, OnlyDeclares, entered, with_meaning}
+
+pub left : (s0 e s new : ScopeView) → ((scope : ScopeView) (region : Region) → s ≡ record (entered scope) { innermost = region } → new ≡ scope) →
+    e ≡ entered s0 → OnlyDeclares e s → new ≡ s0
+left s0 e s new leave entering only =
+    leave s0 s.innermost (only ∙ ap (λ (x : ScopeView). record x { innermost = s.innermost }) entering)
+
+pub declares_on : (a b c : ScopeView) → OnlyDeclares a b → OnlyDeclares b c → OnlyDeclares a c
+declares_on a b c first then_ = then_ ∙ ap (λ (x : ScopeView). record x { innermost = c.innermost }) first
+
+pub declares_two : (a b c : ScopeView) (i j : Identifier) (m n : Option Declared) → b ≡ with_meaning i m a → c ≡ with_meaning j n b → OnlyDeclares a c
+declares_two a b c i j m n first second =
+    let P : ScopeView → Type 0 = λ x. OnlyDeclares a x in
+    subst P (sym (second ∙ ap (λ x. with_meaning j n x) first)) refl
+
+pub declares_same : (a b c : ScopeView) → OnlyDeclares a b → c ≡ b → OnlyDeclares a c
+declares_same a b c only same =
+    let P : ScopeView → Type 0 = λ x. OnlyDeclares a x in
+    subst P (sym same) only

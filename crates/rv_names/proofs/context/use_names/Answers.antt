@@ -1,0 +1,13 @@
+use Rattle.std.proofs.Common.{◌<◌, length, arith}
+use Rattle.rv_names.proofs.Used.{uses_on, scope_on}
+use Rattle.rv_names.proofs.context.use_names.Goals as goal
+
+pub loop-one-preserved : goal.loop-one-preserved
+loop-one-preserved c =
+    let lt : c.loop-one.one-index < length c.deref-one-items.result.now = omega arith in
+    record {
+      faults = uses_on c.loop-one.scope c.use_name.new.scope c.loop-one.faults c.use_name.new.faults _ c.deref-one-items.result.now
+          c.loop-one.one-index c.one-item.result c.one-item.is lt c.in_ok-use_name.ensures.scope c.in_ok-use_name.ensures.faults c.loop-one.invariant.faults;
+      scope = scope_on c.loop-one.scope c.use_name.new.scope _ c.deref-one-items.result.now
+          c.loop-one.one-index c.one-item.result c.one-item.is lt c.in_ok-use_name.ensures.scope c.loop-one.invariant.scope;
+    }

@@ -1,0 +1,14 @@
+use Rattle.std.proofs.Common.{◌≡◌, drop, map}
+use Rattle.rv_tree.specs.DeclarationView.{element_view}
+use Rattle.rv_names.specs.Bound.{judged}
+use Rattle.rv_names.specs.Scope.{OnlyDeclares}
+use Rattle.rv_names.specs.DeclarationUses.{elements_uses, with_elements}
+use Rattle.rv_names.proofs.protected.elements.Given as goal
+
+abbrev pub invariant-loop-one : goal.invariant-loop-one
+invariant-loop-one l = record {
+  faults : elements_uses judged l.scope (map element_view (drop l.one-index l.one-items)) l.faults
+      ≡ elements_uses judged l.initial.scope (map element_view l.one-items) l.initial.faults;
+  scope : with_elements (map element_view (drop l.one-index l.one-items)) l.scope ≡ with_elements (map element_view l.one-items) l.initial.scope;
+  only : OnlyDeclares l.initial.scope l.scope;
+}

@@ -1,0 +1,9 @@
+pub mod Predefined
+pub mod Scope
+pub mod Visible
+pub mod Wanted
+pub mod ExpressionUses
+pub mod StatementUses
+pub mod DeclarationUses
+pub mod UnitUses
+pub mod Bound

@@ -1,0 +1,150 @@
+//! The names that context clauses use, and what these make visible.
+
+ghost use Rattle.std.specs.Prelude.{◌≡◌, OnOk, map};
+ghost use Rattle.rv_tree.specs.NameView.{name_view, names_view};
+ghost use Rattle.rv_tree.specs.UnitView.{context_item_view};
+ghost use Rattle.rv_names.specs.Bound.{judged};
+ghost use Rattle.rv_names.specs.Wanted.{denoted};
+ghost use Rattle.rv_names.specs.UnitUses.{with_parents, withed as scope_withed, used_by as scope_used_by, with_names_uses, with_names as scope_with_names, use_names_uses, use_names as scope_use_names, use_type_uses, context_item_uses, with_context_item, context_uses, with_context};
+
+use crate::declared::Declared;
+use crate::expression::name;
+use crate::fault::Faults;
+use crate::pragma::stray_pragma;
+use crate::predefined::Library;
+use crate::scope::Scope;
+use crate::wanted::Wanted;
+use rv_tree::name::Name;
+use rv_tree::unit::ContextItem;
+use std::alloc::AllocError;
+
+// The packages that hold a package.
+fn add_parents(library: Library, scope: &mut Scope) -> Result<(), AllocError>
+    ensures { OnOk result (scope.new ≡ with_parents library scope.old) }
+{
+    match library {
+        Library::RealTime | Library::SynchronousTaskControl | Library::Interrupts => {
+            scope.add_library(Library::Ada)
+        }
+        Library::InterruptNames => {
+            scope.add_library(Library::Ada)?;
+            scope.add_library(Library::Interrupts)
+        }
+        _ => Ok(()),
+    }
+}
+
+// What a `with` names.
+fn add_withed(found: Option<Declared>, scope: &mut Scope) -> Result<(), AllocError>
+    ensures { OnOk result (scope.new ≡ scope_withed found scope.old) }
+{
+    match found {
+        Some(Declared::Unit(index)) => scope.add_unit(index),
+        Some(Declared::LibraryPackage(library)) => {
+            add_parents(library, scope)?;
+            scope.add_library(library)
+        }
+        _ => Ok(()),
+    }
+}
+
+// What a `use` names.
+fn add_used(found: Option<Declared>, scope: &mut Scope) -> Result<(), AllocError>
+    ensures { OnOk result (scope.new ≡ scope_used_by found scope.old) }
+{
+    match found {
+        Some(Declared::LibraryPackage(library)) => scope.use_library(library),
+        _ => Ok(()),
+    }
+}
+
+// A library unit that a `with` names.
+fn with_name(one: &Name, scope: &mut Scope, faults: &mut Faults) -> Result<(), AllocError>
+    ensures faults { OnOk result (faults.new ≡ judged scope.old Wanted.With (name_view one.now) faults.old) }
+    ensures scope { OnOk result (scope.new ≡ scope_withed (denoted Wanted.With scope.old (name_view one.now)) scope.old) }
+{
+    name(one, Wanted::With, scope, faults);
+    let found = scope.denoted(Wanted::With, one);
+    add_withed(found, scope)
+}
+
+fn with_names(list: &Vec<Name>, scope: &mut Scope, faults: &mut Faults) -> Result<(), AllocError>
+    ensures faults { OnOk result (faults.new ≡ with_names_uses judged scope.old (names_view list.now.items) faults.old) }
+    ensures scope { OnOk result (scope.new ≡ scope_with_names (names_view list.now.items) scope.old) }
+{
+    for one in list {
+        with_name(one, scope, faults)?;
+    }
+    Ok(())
+}
+
+// A package that a `use` names.
+fn use_name(one: &Name, scope: &mut Scope, faults: &mut Faults) -> Result<(), AllocError>
+    ensures faults { OnOk result (faults.new ≡ judged scope.old Wanted.Use (name_view one.now) faults.old) }
+    ensures scope { OnOk result (scope.new ≡ scope_used_by (denoted Wanted.Use scope.old (name_view one.now)) scope.old) }
+{
+    name(one, Wanted::Use, scope, faults);
+    let found = scope.denoted(Wanted::Use, one);
+    add_used(found, scope)
+}
+
+fn use_names(list: &Vec<Name>, scope: &mut Scope, faults: &mut Faults) -> Result<(), AllocError>
+    ensures faults { OnOk result (faults.new ≡ use_names_uses judged scope.old (names_view list.now.items) faults.old) }
+    ensures scope { OnOk result (scope.new ≡ scope_use_names (names_view list.now.items) scope.old) }
+{
+    for one in list {
+        use_name(one, scope, faults)?;
+    }
+    Ok(())
+}
+
+fn use_types(list: &Vec<Name>, scope: &Scope, faults: &mut Faults)
+    ensures { faults.new ≡ use_type_uses judged scope.now (names_view list.now.items) faults.old }
+{
+    for one in list {
+        name(one, Wanted::Subtype, scope, faults);
+    }
+}
+
+fn context_item(
+    item: &ContextItem,
+    scope: &mut Scope,
+    faults: &mut Faults,
+) -> Result<(), AllocError>
+    ensures faults { OnOk result (faults.new ≡ context_item_uses judged scope.old (context_item_view item.now) faults.old) }
+    ensures scope { OnOk result (scope.new ≡ with_context_item (context_item_view item.now) scope.old) }
+{
+    match item {
+        ContextItem::Pragma(pragma) => {
+            stray_pragma(pragma, faults);
+            Ok(())
+        }
+        ContextItem::With(_, names) => with_names(names, scope, faults),
+        ContextItem::Use {
+            at: _,
+            is_type,
+            names,
+        } => {
+            if *is_type {
+                use_types(names, scope, faults);
+                return Ok(());
+            }
+            use_names(names, scope, faults)
+        }
+    }
+}
+
+/// The items before the package.
+pub(crate) fn context(
+    list: &Vec<ContextItem>,
+    scope: &mut Scope,
+    faults: &mut Faults,
+) -> Result<(), AllocError>
+    ensures faults { OnOk result (faults.new ≡ context_uses judged scope.old (map context_item_view list.now.items) faults.old) }
+    ensures scope { OnOk result (scope.new ≡ with_context (map context_item_view list.now.items) scope.old) }
+{
+    for item in list {
+        context_item(item, scope, faults)?;
+    }
+    Ok(())
+}

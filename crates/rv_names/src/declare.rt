@@ -1,0 +1,87 @@
+//! Declares identifiers, and tells of those that a region declares twice.
+
+ghost use Rattle.std.specs.Prelude.{◌≡◌, OnOk, Some};
+ghost use Rattle.rv_tree.specs.NameView.{identifier_view, identifiers_view};
+ghost use Rattle.rv_names.specs.Scope.{hiding, hiding_all, declaring_all, meaning_of, OnlyDeclares};
+
+use crate::declared::Declared;
+use crate::fault::{Faults, NameFault};
+use crate::scope::Scope;
+use rv_tree::name::Identifier;
+use std::alloc::AllocError;
+
+/// An identifier inside its own declaration, where it denotes nothing and hides what it denoted (8.3). The innermost
+/// region must not declare it yet.
+pub(crate) fn hide(
+    declared: &Identifier,
+    scope: &mut Scope,
+    faults: &mut Faults,
+) -> Result<(), AllocError>
+    ensures scope { OnOk result (scope.new ≡ hiding (identifier_view declared.now) scope.old) }
+    ensures faults { OnOk result (faults.new ≡ faults.old) }
+{
+    if scope.innermost().find(declared.text.as_str()).is_some() {
+        faults.tell(NameFault::Duplicate(declared.at));
+    }
+    scope.declare(declared, None)
+}
+
+/// The same, of several.
+pub(crate) fn hide_all(
+    declared: &Vec<Identifier>,
+    scope: &mut Scope,
+    faults: &mut Faults,
+) -> Result<(), AllocError>
+    ensures scope { OnOk result (scope.new ≡ hiding_all (identifiers_view declared.now.items) scope.old) }
+    ensures faults { OnOk result (faults.new ≡ faults.old) }
+    ensures only { OnOk result (OnlyDeclares scope.old scope.new) }
+{
+    for identifier in declared {
+        hide(identifier, scope, faults)?;
+    }
+    Ok(())
+}
+
+/// Declares identifiers that were hidden in their declaration, and what each denotes.
+pub(crate) fn declare_all(
+    declared: &Vec<Identifier>,
+    form: Form,
+    scope: &mut Scope,
+) -> Result<(), AllocError>
+    ensures scope { OnOk result (scope.new ≡ declaring_all form (identifiers_view declared.now.items) scope.old) }
+    ensures only { OnOk result (OnlyDeclares scope.old scope.new) }
+{
+    for identifier in declared {
+        let meaning = form.meaning(identifier.at);
+        scope.declare(identifier, Some(meaning))?;
+    }
+    Ok(())
+}
+
+/// What the identifiers of one declaration denote.
+#[derive(Clone, Copy, Drop)]
+pub(crate) enum Form {
+    Constant,
+    Variable,
+    Parameter,
+    Component,
+    /// Objects of the protected type of this number.
+    ProtectedObject(usize),
+    Suspension,
+}
+
+impl Form {
+    // What the identifier at this place denotes.
+    fn meaning(self, at: usize) -> Declared
+        ensures { result ≡ meaning_of self at }
+    {
+        match self {
+            Form::Constant => Declared::Constant(at),
+            Form::Variable => Declared::Variable(at),
+            Form::Parameter => Declared::Parameter(at),
+            Form::Component => Declared::Component(at),
+            Form::ProtectedObject(number) => Declared::ProtectedObject(at, number),
+            Form::Suspension => Declared::Suspension(at),
+        }
+    }
+}

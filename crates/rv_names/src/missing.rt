@@ -1,0 +1,284 @@
+//! Why a name denotes nothing: whether what it names exists and isn't visible, or doesn't exist.
+
+use crate::declared::Declared;
+use crate::fault::NameFault;
+use crate::predefined::Library;
+use crate::scope::Scope;
+use crate::wanted::Wanted;
+use rv_shape::object::Operation;
+use rv_text::is_same_name;
+use rv_tree::body::{Block, Local};
+use rv_tree::declaration::{Declaration, OperationDeclaration, ProtectedElement, ProtectedUnit};
+use rv_tree::name::{Identifier, Name};
+use rv_tree::unit::{BodyItem, UnitTree};
+
+/// What is declared around a point of a text, before it and behind it.
+#[derive(Drop)]
+pub(crate) struct Around<'a> {
+    pub(crate) tree: &'a UnitTree,
+    /// The protected units of the text, in the order of their numbers.
+    pub(crate) units: &'a [&'a ProtectedUnit],
+    /// The protected unit that the point is in.
+    pub(crate) unit: Option<&'a ProtectedUnit>,
+    /// The block that the point is in.
+    pub(crate) block: Option<&'a Block>,
+}
+
+const LIBRARIES: [Library; 8] = [
+    Library::Standard,
+    Library::System,
+    Library::Ada,
+    Library::RealTime,
+    Library::SynchronousTaskControl,
+    Library::Interrupts,
+    Library::InterruptNames,
+    Library::Host,
+];
+
+fn is_one_of(name: &str, identifiers: &Vec<Identifier>) -> bool {
+    for identifier in identifiers {
+        if is_same_name(name, identifier.text.as_str()) {
+            return true;
+        }
+    }
+    false
+}
+
+fn declares(declaration: &Declaration, name: &str) -> bool {
+    match declaration {
+        Declaration::Pragma(_) => false,
+        Declaration::Subtype {
+            at: _,
+            name: declared,
+            mark: _,
+            range: _,
+        } => is_same_name(name, declared.text.as_str()),
+        Declaration::Protected(unit) => is_same_name(name, unit.name.text.as_str()),
+        Declaration::Task(task) => is_same_name(name, task.name.text.as_str()),
+        Declaration::Variable { names, mark: _ } => is_one_of(name, names),
+        Declaration::Constant {
+            names,
+            mark: _,
+            value: _,
+        } => is_one_of(name, names),
+    }
+}
+
+// Whether the package declares a name anywhere.
+fn package_declares(tree: &UnitTree, name: &str) -> bool {
+    for declaration in &tree.specification.declarations {
+        if declares(declaration, name) {
+            return true;
+        }
+    }
+    for item in &tree.body.items {
+        if let BodyItem::Declaration(declaration) = item {
+            if declares(declaration, name) {
+                return true;
+            }
+        }
+    }
+    false
+}
+
+fn is_operation(operation: &OperationDeclaration, name: &str) -> bool {
+    match operation {
+        OperationDeclaration::Pragma(_) => false,
+        OperationDeclaration::Function {
+            at: _,
+            name: declared,
+            parameters: _,
+            mark: _,
+        } => is_same_name(name, declared.text.as_str()),
+        OperationDeclaration::Procedure {
+            at: _,
+            name: declared,
+            parameters: _,
+            aspects: _,
+        } => is_same_name(name, declared.text.as_str()),
+        OperationDeclaration::Entry(entry) => is_same_name(name, entry.name.text.as_str()),
+    }
+}
+
+fn is_element(element: &ProtectedElement, name: &str) -> bool {
+    match element {
+        ProtectedElement::Operation(operation) => is_operation(operation, name),
+        ProtectedElement::Component {
+            names,
+            mark: _,
+            range: _,
+            value: _,
+        } => is_one_of(name, names),
+    }
+}
+
+// Whether a protected unit declares a name after `private`.
+fn has_private(unit: &ProtectedUnit, name: &str) -> bool {
+    if let Some(elements) = &unit.private {
+        for element in elements {
+            if is_element(element, name) {
+                return true;
+            }
+        }
+    }
+    false
+}
+
+// Whether a protected unit declares a name.
+fn has_member(unit: &ProtectedUnit, name: &str) -> bool {
+    for operation in &unit.operations {
+        if is_operation(operation, name) {
+            return true;
+        }
+    }
+    has_private(unit, name)
+}
+
+fn is_local(local: &Local, name: &str) -> bool {
+    match local {
+        Local::Object {
+            names,
+            is_constant: _,
+            mark: _,
+            range: _,
+            value: _,
+        } => is_one_of(name, names),
+        _ => false,
+    }
+}
+
+fn block_declares(block: &Block, name: &str) -> bool {
+    for local in &block.locals {
+        if is_local(local, name) {
+            return true;
+        }
+    }
+    false
+}
+
+// Whether a library package declares a name.
+fn library_declares(name: &str) -> bool {
+    if Library::root(name).is_some() {
+        return true;
+    }
+    for library in &LIBRARIES {
+        if library.declaration(name).is_some() {
+            return true;
+        }
+    }
+    false
+}
+
+fn has_operation(operations: &[Operation], name: &str) -> bool {
+    for operation in operations {
+        if is_same_name(name, operation.name()) {
+            return true;
+        }
+    }
+    false
+}
+
+impl<'a> Around<'a> {
+    // Whether a simple name is declared somewhere, so that a `with`, a `use` or an earlier place would make it visible.
+    fn knows(&self, scope: &Scope, name: &str) -> bool {
+        if package_declares(self.tree, name) {
+            return true;
+        }
+        if let Some(unit) = self.unit {
+            if has_member(unit, name) {
+                return true;
+            }
+        }
+        if let Some(block) = self.block {
+            if block_declares(block, name) {
+                return true;
+            }
+        }
+        scope.is_loaded(name) || scope.is_hidden(name) || library_declares(name)
+    }
+
+    // Whether what stands behind a point exists, and is only shown to no one here.
+    fn knows_behind(&self, scope: &Scope, prefix: Declared, name: &str) -> bool {
+        match prefix {
+            Declared::OwnUnit => package_declares(self.tree, name),
+            Declared::UnitObject(unit, object) => scope.has_unit_operation(unit, object, name),
+            Declared::LibraryPackage(library) => library.child(name).is_some(),
+            Declared::SingleProtected(_, number) | Declared::ProtectedObject(_, number) => {
+                match self.units.get(number) {
+                    Some(unit) => has_private(unit, name),
+                    None => false,
+                }
+            }
+            _ => false,
+        }
+    }
+
+    // The fault of a name that isn't visible.
+    fn invisible(&self, scope: &Scope, name: &Name) -> NameFault {
+        let at = name.first.at;
+        let simple = name.first.text.as_str();
+        let Some(mut found) = scope.direct(simple) else {
+            return unseen(at, self.knows(scope, simple));
+        };
+        for identifier in &name.more {
+            let part = identifier.text.as_str();
+            match scope.selected(found, part) {
+                Some(next) => found = next,
+                None => return unseen(at, self.knows_behind(scope, found, part)),
+            }
+        }
+        NameFault::Unknown(at)
+    }
+
+    /// The fault of a name that denotes nothing where this is wanted.
+    pub(crate) fn fault(&self, scope: &Scope, wanted: Wanted, name: &Name) -> NameFault {
+        match wanted {
+            Wanted::Nothing => NameFault::WrongKind(name.first.at),
+            Wanted::With
+            | Wanted::PackageBody
+            | Wanted::ProtectedBody
+            | Wanted::TaskBody
+            | Wanted::FunctionBody
+            | Wanted::ProcedureBody
+            | Wanted::EntryBody => NameFault::Unknown(name.first.at),
+            _ => self.invisible(scope, name),
+        }
+    }
+}
+
+// The fault of a name at a place, that is declared somewhere or not.
+fn unseen(at: usize, is_known: bool) -> NameFault {
+    if is_known {
+        NameFault::NotVisible(at)
+    } else {
+        NameFault::Unknown(at)
+    }
+}
+
+impl<'a> Scope<'a> {
+    // Whether a unit of this name is loaded.
+    fn is_loaded(&self, name: &str) -> bool {
+        for shape in self.shapes() {
+            if is_same_name(name, shape.name()) {
+                return true;
+            }
+        }
+        false
+    }
+
+    // Whether a name is hidden by its own declaration.
+    fn is_hidden(&self, name: &str) -> bool {
+        self.innermost_meaning(name).is_some()
+    }
+
+    // Whether an object of a loaded unit has an operation of this name.
+    fn has_unit_operation(&self, unit: usize, object: usize, name: &str) -> bool {
+        match self.shapes().get(unit) {
+            Some(shape) => match shape.objects().get(object) {
+                Some(found) => has_operation(found.operations(), name),
+                None => false,
+            },
+            None => false,
+        }
+    }
+}

@@ -1,0 +1,349 @@
+//! The names that protected units use, and what they declare.
+
+ghost use Rattle.std.specs.Prelude.{◌≡◌, OnOk, IfOk, map, length, []};
+ghost use Rattle.rv_tree.specs.NameView.{identifier_view, identifiers_view, name_view};
+ghost use Rattle.rv_tree.specs.ExpressionView.{expression_view, range_view};
+ghost use Rattle.rv_tree.specs.DeclarationView.{maybe, aspect_view, parameter_view, operation_view, element_view, protected_unit_view};
+ghost use Rattle.rv_names.specs.Bound.{judged};
+ghost use Rattle.rv_names.specs.Scope.{OnlyDeclares, declaring_all, hiding_all, hiding, entered};
+ghost use Rattle.rv_names.specs.ExpressionUses.{◌▷◌, value_uses, maybe_uses, range_uses};
+ghost use Rattle.rv_names.specs.DeclarationUses.{aspects_uses, parameters_uses, with_parameters, declaring_operation, operation_uses, with_operation, operations_uses, with_operations, element_uses, with_element, elements_uses, with_elements, private_uses, with_private, with_members, protected_unit_uses, protected_meaning as meaning_of_unit, with_shown, with_all_shown, declaring_protected_unit};
+
+use crate::declare::{Form, declare_all, hide, hide_all};
+use crate::declared::{Declared, OperationKind};
+use crate::expression::{maybe_range, maybe_value, name};
+use crate::fault::Faults;
+use crate::pragma::{aspects, pragma, procedure_rules, protected_rules};
+use crate::region::Region;
+use crate::scope::Scope;
+use crate::wanted::Wanted;
+use rv_tree::declaration::{
+    Aspect, OperationDeclaration, Parameter, ProtectedElement, ProtectedUnit,
+};
+use rv_tree::expression::{Expression, RangeConstraint};
+use rv_tree::name::{Identifier, Name};
+use std::alloc::{AllocError, Global};
+
+// A parameter specification.
+fn parameter(part: &Parameter, scope: &mut Scope, faults: &mut Faults) -> Result<(), AllocError>
+    ensures faults { OnOk result (faults.new
+        ≡ judged (hiding_all (identifiers_view part.now.names.items) scope.old) Wanted.Subtype (name_view part.now.mark) faults.old) }
+    ensures scope { OnOk result (scope.new
+        ≡ declaring_all Form.Parameter (identifiers_view part.now.names.items) (hiding_all (identifiers_view part.now.names.items) scope.old)) }
+    ensures only { OnOk result (OnlyDeclares scope.old scope.new) }
+{
+    hide_all(&part.names, scope, faults)?;
+    name(&part.mark, Wanted::Subtype, scope, faults);
+    declare_all(&part.names, Form::Parameter, scope)
+}
+
+/// The parameters of an operation, in the innermost region.
+pub(crate) fn parameters(
+    list: &Vec<Parameter>,
+    scope: &mut Scope,
+    faults: &mut Faults,
+) -> Result<(), AllocError>
+    ensures faults { OnOk result (faults.new ≡ parameters_uses judged scope.old (map parameter_view list.now.items) faults.old) }
+    ensures scope { OnOk result (scope.new ≡ with_parameters (map parameter_view list.now.items) scope.old) }
+    ensures only { OnOk result (OnlyDeclares scope.old scope.new) }
+{
+    for one in list {
+        parameter(one, scope, faults)?;
+    }
+    Ok(())
+}
+
+// The mark of a result, if there is one.
+fn result_mark(mark: Option<&Name>, scope: &Scope, faults: &mut Faults)
+    ensures { faults.new
+        ≡ maybe_uses (judged scope.now Wanted.Subtype) (maybe (λ n. name_view n.now) mark.entry) faults.old }
+{
+    if let Some(mark) = mark {
+        name(mark, Wanted::Subtype, scope, faults);
+    }
+}
+
+// The parameters of a declaration, which stand in a region of their own, and the mark of a result behind them.
+fn profile(
+    list: &Vec<Parameter>,
+    mark: Option<&Name>,
+    scope: &mut Scope,
+    faults: &mut Faults,
+) -> Result<(), AllocError>
+    ensures faults { OnOk result (faults.new ≡ (parameters_uses judged (entered scope.old) (map parameter_view list.now.items)
+        ▷ maybe_uses (judged (with_parameters (map parameter_view list.now.items) (entered scope.old)) Wanted.Subtype)
+        (maybe (λ n. name_view n.now) mark.entry)) faults.old) }
+    ensures scope { OnOk result (scope.new ≡ scope.old) }
+{
+    scope.enter()?;
+    parameters(list, scope, faults)?;
+    result_mark(mark, scope, faults);
+    scope.leave();
+    Ok(())
+}
+
+/// An operation's identifier is declared.
+pub(crate) fn declare_operation(
+    declared: &Identifier,
+    kind: OperationKind,
+    scope: &mut Scope,
+) -> Result<(), AllocError>
+    ensures scope { OnOk result (scope.new ≡ declaring_operation kind (identifier_view declared.now) scope.old) }
+{
+    scope.declare(declared, Some(Declared::Operation(declared.at, kind)))
+}
+
+fn function(
+    declared: &Identifier,
+    list: &Vec<Parameter>,
+    mark: &Name,
+    scope: &mut Scope,
+    faults: &mut Faults,
+) -> Result<(), AllocError>
+    ensures faults { OnOk result (faults.new
+        ≡ (parameters_uses judged (entered (hiding (identifier_view declared.now) scope.old)) (map parameter_view list.now.items)
+        ▷ judged (with_parameters (map parameter_view list.now.items) (entered (hiding (identifier_view declared.now) scope.old))) Wanted.Subtype (name_view mark.now)) faults.old) }
+    ensures scope { OnOk result (scope.new
+        ≡ declaring_operation OperationKind.Function (identifier_view declared.now) (hiding (identifier_view declared.now) scope.old)) }
+{
+    hide(declared, scope, faults)?;
+    profile(list, Some(mark), scope, faults)?;
+    declare_operation(declared, OperationKind::Function, scope)
+}
+
+fn procedure(
+    declared: &Identifier,
+    list: &Vec<Parameter>,
+    given: &Vec<Aspect>,
+    scope: &mut Scope,
+    faults: &mut Faults,
+) -> Result<(), AllocError>
+    ensures faults { OnOk result (faults.new
+        ≡ (parameters_uses judged (entered (hiding (identifier_view declared.now) scope.old)) (map parameter_view list.now.items)
+        ▷ aspects_uses judged (hiding (identifier_view declared.now) scope.old) (map aspect_view given.now.items)) faults.old) }
+    ensures scope { OnOk result (scope.new
+        ≡ declaring_operation OperationKind.Procedure (identifier_view declared.now) (hiding (identifier_view declared.now) scope.old)) }
+{
+    hide(declared, scope, faults)?;
+    profile(list, None, scope, faults)?;
+    aspects(given, scope, faults);
+    procedure_rules(list, given, faults);
+    declare_operation(declared, OperationKind::Procedure, scope)
+}
+
+fn entry(
+    declared: &Identifier,
+    list: &Vec<Parameter>,
+    scope: &mut Scope,
+    faults: &mut Faults,
+) -> Result<(), AllocError>
+    ensures faults { OnOk result (faults.new
+        ≡ parameters_uses judged (entered (hiding (identifier_view declared.now) scope.old)) (map parameter_view list.now.items) faults.old) }
+    ensures scope { OnOk result (scope.new
+        ≡ declaring_operation OperationKind.Entry (identifier_view declared.now) (hiding (identifier_view declared.now) scope.old)) }
+{
+    hide(declared, scope, faults)?;
+    profile(list, None, scope, faults)?;
+    declare_operation(declared, OperationKind::Entry, scope)
+}
+
+fn operation(
+    one: &OperationDeclaration,
+    scope: &mut Scope,
+    faults: &mut Faults,
+) -> Result<(), AllocError>
+    ensures faults { OnOk result (faults.new ≡ operation_uses judged scope.old (operation_view one.now) faults.old) }
+    ensures scope { OnOk result (scope.new ≡ with_operation (operation_view one.now) scope.old) }
+{
+    match one {
+        OperationDeclaration::Pragma(one) => {
+            pragma(one, scope, faults);
+            Ok(())
+        }
+        OperationDeclaration::Function {
+            at: _,
+            name: declared,
+            parameters: list,
+            mark,
+        } => function(declared, list, mark, scope, faults),
+        OperationDeclaration::Procedure {
+            at: _,
+            name: declared,
+            parameters: list,
+            aspects: given,
+        } => procedure(declared, list, given, scope, faults),
+        OperationDeclaration::Entry(one) => entry(&one.name, &one.parameters, scope, faults),
+    }
+}
+
+fn operations(
+    list: &Vec<OperationDeclaration>,
+    scope: &mut Scope,
+    faults: &mut Faults,
+) -> Result<(), AllocError>
+    ensures faults { OnOk result (faults.new ≡ operations_uses judged scope.old (map operation_view list.now.items) faults.old) }
+    ensures scope { OnOk result (scope.new ≡ with_operations (map operation_view list.now.items) scope.old) }
+    ensures only { OnOk result (OnlyDeclares scope.old scope.new) }
+{
+    for one in list {
+        operation(one, scope, faults)?;
+    }
+    Ok(())
+}
+
+fn component(
+    names: &Vec<Identifier>,
+    mark: &Name,
+    part: &Option<RangeConstraint>,
+    start: &Option<Expression>,
+    scope: &mut Scope,
+    faults: &mut Faults,
+) -> Result<(), AllocError>
+    ensures faults { OnOk result (faults.new
+        ≡ (judged (hiding_all (identifiers_view names.now.items) scope.old) Wanted.Subtype (name_view mark.now)
+        ▷ maybe_uses (range_uses judged (hiding_all (identifiers_view names.now.items) scope.old)) (maybe range_view part.now)
+        ▷ maybe_uses (value_uses judged (hiding_all (identifiers_view names.now.items) scope.old)) (maybe expression_view start.now)) faults.old) }
+    ensures scope { OnOk result (scope.new
+        ≡ declaring_all Form.Component (identifiers_view names.now.items) (hiding_all (identifiers_view names.now.items) scope.old)) }
+    ensures only { OnOk result (OnlyDeclares scope.old scope.new) }
+{
+    hide_all(names, scope, faults)?;
+    name(mark, Wanted::Subtype, scope, faults);
+    maybe_range(part, scope, faults);
+    maybe_value(start, scope, faults);
+    declare_all(names, Form::Component, scope)
+}
+
+fn element(one: &ProtectedElement, scope: &mut Scope, faults: &mut Faults) -> Result<(), AllocError>
+    ensures faults { OnOk result (faults.new ≡ element_uses judged scope.old (element_view one.now) faults.old) }
+    ensures scope { OnOk result (scope.new ≡ with_element (element_view one.now) scope.old) }
+    ensures only { OnOk result (OnlyDeclares scope.old scope.new) }
+{
+    match one {
+        ProtectedElement::Operation(one) => operation(one, scope, faults),
+        ProtectedElement::Component {
+            names,
+            mark,
+            range: part,
+            value: start,
+        } => component(names, mark, part, start, scope, faults),
+    }
+}
+
+fn elements(
+    list: &Vec<ProtectedElement>,
+    scope: &mut Scope,
+    faults: &mut Faults,
+) -> Result<(), AllocError>
+    ensures faults { OnOk result (faults.new ≡ elements_uses judged scope.old (map element_view list.now.items) faults.old) }
+    ensures scope { OnOk result (scope.new ≡ with_elements (map element_view list.now.items) scope.old) }
+    ensures only { OnOk result (OnlyDeclares scope.old scope.new) }
+{
+    for one in list {
+        element(one, scope, faults)?;
+    }
+    Ok(())
+}
+
+fn private_part(
+    part: &Option<Vec<ProtectedElement>>,
+    scope: &mut Scope,
+    faults: &mut Faults,
+) -> Result<(), AllocError>
+    ensures faults { OnOk result (faults.new ≡ private_uses judged scope.old (maybe (λ v. map element_view v.items) part.now) faults.old) }
+    ensures only { OnOk result (OnlyDeclares scope.old scope.new) }
+{
+    match part {
+        None => Ok(()),
+        Some(list) => elements(list, scope, faults),
+    }
+}
+
+// What a protected unit of this number declares: a type, or a single object.
+fn unit_meaning(is_type: bool, number: usize, at: usize) -> Declared
+    ensures { result ≡ meaning_of_unit is_type number at }
+{
+    if is_type {
+        Declared::ProtectedType(at, number)
+    } else {
+        Declared::SingleProtected(at, number)
+    }
+}
+
+// An operation before `private`, as others see it.
+fn show(alloc: Global, one: &OperationDeclaration, region: &mut Region) -> Result<(), AllocError>
+    ensures { OnOk result (region.new ≡ with_shown (operation_view one.now) region.old) }
+{
+    match one {
+        OperationDeclaration::Pragma(_) => Ok(()),
+        OperationDeclaration::Function {
+            at: _,
+            name: declared,
+            parameters: _,
+            mark: _,
+        } => {
+            let meaning = Declared::Operation(declared.at, OperationKind::Function);
+            region.declare(alloc, declared.text.as_str(), Some(meaning))
+        }
+        OperationDeclaration::Procedure {
+            at: _,
+            name: declared,
+            parameters: _,
+            aspects: _,
+        } => {
+            let meaning = Declared::Operation(declared.at, OperationKind::Procedure);
+            region.declare(alloc, declared.text.as_str(), Some(meaning))
+        }
+        OperationDeclaration::Entry(entry) => {
+            let meaning = Declared::Operation(entry.name.at, OperationKind::Entry);
+            region.declare(alloc, entry.name.text.as_str(), Some(meaning))
+        }
+    }
+}
+
+// All operations before `private`.
+fn shown(alloc: Global, list: &Vec<OperationDeclaration>) -> Result<Region, AllocError>
+    ensures { IfOk result (λ region. region ≡ with_all_shown (map operation_view list.now.items) []) }
+{
+    let mut region = Region::new(alloc);
+    for one in list {
+        show(alloc, one, &mut region)?;
+    }
+    Ok(region)
+}
+
+// What a protected unit declares, in a region of its own.
+fn parts(unit: &ProtectedUnit, scope: &mut Scope, faults: &mut Faults) -> Result<(), AllocError>
+    ensures faults { OnOk result (faults.new
+        ≡ (operations_uses judged (entered scope.old) (map operation_view unit.now.operations.items)
+        ▷ private_uses judged (with_operations (map operation_view unit.now.operations.items) (entered scope.old))
+        (maybe (λ v. map element_view v.items) unit.now.private)) faults.old) }
+    ensures scope { OnOk result (scope.new ≡ scope.old) }
+{
+    scope.enter()?;
+    operations(&unit.operations, scope, faults)?;
+    private_part(&unit.private, scope, faults)?;
+    scope.leave();
+    Ok(())
+}
+
+/// A protected unit of the package.
+pub(crate) fn protected_unit<'a>(
+    unit: &'a ProtectedUnit,
+    scope: &mut Scope,
+    faults: &mut Faults<'a>,
+) -> Result<(), AllocError>
+    ensures faults { OnOk result (faults.new ≡ protected_unit_uses judged scope.old (protected_unit_view unit.now) faults.old) }
+    ensures scope { OnOk result (scope.new ≡ declaring_protected_unit (protected_unit_view unit.now) scope.old) }
+{
+    hide(&unit.name, scope, faults)?;
+    aspects(&unit.aspects, scope, faults);
+    protected_rules(unit, faults);
+    faults.set_unit(Some(unit));
+    parts(unit, scope, faults)?;
+    faults.set_unit(None);
+    let meaning = unit_meaning(unit.is_type, scope.shown().len(), unit.name.at);
+    scope.declare(&unit.name, Some(meaning))?;
+    let operations = shown(scope.allocator(), &unit.operations)?;
+    scope.show(operations)
+}

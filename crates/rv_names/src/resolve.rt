@@ -1,0 +1,130 @@
+//! Names of whole unit texts.
+
+ghost use Rattle.std.specs.Prelude.{◌≡◌, ◌++◌, IfOk, OnOk, map, true, List, []};
+ghost use Rattle.rv_tree.specs.DeclarationView.{declaration_view, protected_unit_view};
+ghost use Rattle.rv_tree.specs.UnitView.{body_item_view, unit_view};
+ghost use Rattle.rv_names.specs.Bound.{judged, AreBound, AllBound, uses};
+ghost use Rattle.rv_names.specs.ExpressionUses.{◌▷◌, simple as simple_name};
+ghost use Rattle.rv_names.specs.UnitUses.{unit_uses, protected_units as all_protected_units, unit_onto, item_onto};
+
+use crate::context::context;
+use crate::declaration::declarations;
+use crate::fault::{Faults, NameFault};
+use crate::missing::Around;
+use crate::operation_body::body_name;
+use crate::rules::package_bodies;
+use crate::scope::Scope;
+use crate::unit::body_items;
+use crate::wanted::Wanted;
+use rv_shape::catalogue::Catalogue;
+use rv_tree::declaration::{Declaration, ProtectedUnit};
+use rv_tree::unit::{BodyItem, UnitTree};
+use std::alloc::{AllocError, Global};
+
+/// A unit text's tree and the loaded units, over which each name of the text is bound to the one declaration that is
+/// visible.
+#[derive(Drop)]
+pub struct Named<'a> {
+    pub tree: &'a UnitTree,
+    pub catalogue: &'a Catalogue,
+    ghost bound: { AreBound catalogue.now (unit_view tree.now) },
+}
+
+// A protected unit, behind those before it.
+fn push_unit<'a>(
+    units: &mut Vec<&'a ProtectedUnit>,
+    declaration: &'a Declaration,
+) -> Result<(), AllocError>
+    ensures { OnOk result (map (λ u. protected_unit_view u.now) units.new.items ≡ unit_onto (map (λ u. protected_unit_view u.now) units.old.items) (declaration_view declaration.now)) }
+{
+    if let Declaration::Protected(unit) = declaration {
+        units.push(unit)?;
+    }
+    Ok(())
+}
+
+// The same, of an item of the package body.
+fn push_item<'a>(units: &mut Vec<&'a ProtectedUnit>, item: &'a BodyItem) -> Result<(), AllocError>
+    ensures { OnOk result (map (λ u. protected_unit_view u.now) units.new.items ≡ item_onto (map (λ u. protected_unit_view u.now) units.old.items) (body_item_view item.now)) }
+{
+    match item {
+        BodyItem::Declaration(declaration) => push_unit(units, declaration),
+        BodyItem::Protected(_) => Ok(()),
+        BodyItem::Task(_) => Ok(()),
+    }
+}
+
+/// The protected units of a text, in the order of their numbers.
+pub fn protected_units<'a>(
+    alloc: Global,
+    tree: &'a UnitTree,
+) -> Result<Vec<&'a ProtectedUnit>, AllocError>
+    ensures { IfOk result (λ units. map (λ u. protected_unit_view u.now) units.items ≡ all_protected_units (unit_view tree.now)) }
+{
+    let mut units = Vec::new(alloc);
+    for declaration in &tree.specification.declarations {
+        push_unit(&mut units, declaration)?;
+    }
+    for item in &tree.body.items {
+        push_item(&mut units, item)?;
+    }
+    Ok(units)
+}
+
+// Walks through a whole text.
+fn walk<'a>(
+    alloc: Global,
+    tree: &'a UnitTree,
+    units: &'a [&'a ProtectedUnit],
+    catalogue: &'a Catalogue,
+    faults: &mut Faults<'a>,
+) -> Result<(), AllocError>
+    requires { map (λ u. protected_unit_view u.now) units.now ≡ all_protected_units (unit_view tree.now) }
+    ensures { OnOk result (faults.new ≡ unit_uses judged catalogue.now (unit_view tree.now) faults.old) }
+{
+    let unit = tree.specification.name.text.as_str();
+    let mut scope = Scope::new(alloc, unit, catalogue);
+    context(&tree.context, &mut scope, faults)?;
+    declarations(&tree.specification.declarations, &mut scope, faults)?;
+    body_name(&tree.body.name, Wanted::PackageBody, &scope, faults);
+    body_items(&tree.body.items, units, &mut scope, faults)?;
+    package_bodies(alloc, tree, faults)
+}
+
+// The fault at the least place, or none where each name is bound.
+fn least_fault(
+    alloc: Global,
+    tree: &UnitTree,
+    catalogue: &Catalogue,
+) -> Result<Option<NameFault>, AllocError>
+    ensures { IfOk result (λ fault. fault ≡ None → AreBound catalogue.now (unit_view tree.now)) }
+{
+    let units = protected_units(alloc, tree)?;
+    let mut faults = Faults::new(Around {
+        tree,
+        units: units.as_slice(),
+        unit: None,
+        block: None,
+    });
+    walk(alloc, tree, units.as_slice(), catalogue, &mut faults)?;
+    Ok(faults.least())
+}
+
+/// Binds each name of a text to the one declaration that is visible, over the loaded units.
+///
+/// # Errors
+/// The fault at the least place: at one place the first in the order of `NameFault`. `NoMemory` where memory was refused.
+pub fn resolve<'a>(
+    alloc: Global,
+    tree: &'a UnitTree,
+    catalogue: &'a Catalogue,
+) -> Result<Named<'a>, NameFault>
+    ensures tree { IfOk result (λ named. named.tree.now ≡ tree.now) }
+    ensures catalogue { IfOk result (λ named. named.catalogue.now ≡ catalogue.now) }
+    ensures bound { IfOk result (λ named. AllBound (uses catalogue.now (unit_view tree.now))) }
+{
+    match least_fault(alloc, tree, catalogue)? {
+        None => Ok(Named { tree, catalogue }),
+        Some(fault) => Err(fault),
+    }
+}

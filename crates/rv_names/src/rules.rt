@@ -1,0 +1,362 @@
+//! Which declarations have a body, and whether it is that of its declaration (6.3, 7.2, 9.1, 9.4).
+
+ghost use Rattle.std.specs.Prelude.{◌≡◌, OnOk};
+
+use crate::fault::{Faults, NameFault};
+use crate::region::Region;
+use crate::scope::Scope;
+use rv_text::is_same_name;
+use rv_tree::body::{OperationBody, ProtectedBody};
+use rv_tree::declaration::{
+    Declaration, Mode, OperationDeclaration, Parameter, ProtectedElement, ProtectedUnit,
+};
+use rv_tree::name::{Identifier, Name};
+use rv_tree::unit::{BodyItem, UnitTree};
+use std::alloc::{AllocError, Global};
+
+// A body of this name, beside those before it.
+fn note(
+    alloc: Global,
+    body: &Identifier,
+    bodies: &mut Region,
+    faults: &mut Faults,
+) -> Result<(), AllocError>
+    ensures { OnOk result (faults.new ≡ faults.old) }
+{
+    let name = body.text.as_str();
+    if bodies.find(name).is_some() {
+        faults.tell(NameFault::Duplicate(body.at));
+    }
+    bodies.declare(alloc, name, None)
+}
+
+// A declaration whose first token stands at this place has a body.
+fn has_body(at: usize, declared: &Identifier, bodies: &Region, faults: &mut Faults)
+    ensures { faults.new ≡ faults.old }
+{
+    if bodies.find(declared.text.as_str()).is_none() {
+        faults.tell(NameFault::WrongKind(at));
+    }
+}
+
+fn declaration_has_body(declaration: &Declaration, bodies: &Region, faults: &mut Faults)
+    ensures { faults.new ≡ faults.old }
+{
+    match declaration {
+        Declaration::Protected(unit) => has_body(unit.at, &unit.name, bodies, faults),
+        Declaration::Task(task) => has_body(task.at, &task.name, bodies, faults),
+        _ => {}
+    }
+}
+
+// The bodies of a package.
+fn package_bodies_of(
+    alloc: Global,
+    items: &Vec<BodyItem>,
+    faults: &mut Faults,
+) -> Result<Region, AllocError>
+    ensures { OnOk result (faults.new ≡ faults.old) }
+{
+    let mut bodies = Region::new(alloc);
+    for item in items {
+        match item {
+            BodyItem::Declaration(_) => {}
+            BodyItem::Protected(body) => note(alloc, &body.name, &mut bodies, faults)?,
+            BodyItem::Task(body) => note(alloc, &body.name, &mut bodies, faults)?,
+        }
+    }
+    Ok(bodies)
+}
+
+/// Each protected unit and each task of the package has one body, and the names after `end` are the opening ones.
+pub(crate) fn package_bodies(
+    alloc: Global,
+    tree: &UnitTree,
+    faults: &mut Faults,
+) -> Result<(), AllocError>
+    ensures { OnOk result (faults.new ≡ faults.old) }
+{
+    let bodies = package_bodies_of(alloc, &tree.body.items, faults)?;
+    for declaration in &tree.specification.declarations {
+        declaration_has_body(declaration, &bodies, faults);
+    }
+    for item in &tree.body.items {
+        if let BodyItem::Declaration(declaration) = item {
+            declaration_has_body(declaration, &bodies, faults);
+        }
+    }
+    faults.end_name(&tree.specification.name, &tree.specification.end_name);
+    faults.end_name(&tree.body.name, &tree.body.end_name);
+    Ok(())
+}
+
+fn body_name(body: &OperationBody) -> &Identifier {
+    match body {
+        OperationBody::Function {
+            at: _,
+            name,
+            parameters: _,
+            mark: _,
+            block: _,
+        } => name,
+        OperationBody::Procedure {
+            at: _,
+            name,
+            parameters: _,
+            block: _,
+        } => name,
+        OperationBody::Entry {
+            at: _,
+            name,
+            parameters: _,
+            barrier: _,
+            block: _,
+        } => name,
+    }
+}
+
+fn operation_has_body(operation: &OperationDeclaration, bodies: &Region, faults: &mut Faults)
+    ensures { faults.new ≡ faults.old }
+{
+    match operation {
+        OperationDeclaration::Pragma(_) => {}
+        OperationDeclaration::Function {
+            at,
+            name,
+            parameters: _,
+            mark: _,
+        } => has_body(*at, name, bodies, faults),
+        OperationDeclaration::Procedure {
+            at,
+            name,
+            parameters: _,
+            aspects: _,
+        } => has_body(*at, name, bodies, faults),
+        OperationDeclaration::Entry(entry) => has_body(entry.at, &entry.name, bodies, faults),
+    }
+}
+
+/// Each operation of a protected unit has one body, with its parameters and its result.
+pub(crate) fn unit_bodies(
+    unit: &ProtectedUnit,
+    body: &ProtectedBody,
+    scope: &Scope,
+    faults: &mut Faults,
+) -> Result<(), AllocError>
+    ensures { OnOk result (faults.new ≡ faults.old) }
+{
+    let alloc = scope.allocator();
+    let mut bodies = Region::new(alloc);
+    for one in &body.operations {
+        note(alloc, body_name(one), &mut bodies, faults)?;
+        conforms(alloc, unit, one, scope, faults)?;
+    }
+    for operation in &unit.operations {
+        operation_has_body(operation, &bodies, faults);
+    }
+    if let Some(elements) = &unit.private {
+        for element in elements {
+            if let ProtectedElement::Operation(operation) = element {
+                operation_has_body(operation, &bodies, faults);
+            }
+        }
+    }
+    Ok(())
+}
+
+// What an operation takes and gives.
+#[derive(Drop)]
+struct Profile<'a> {
+    parameters: &'a Vec<Parameter>,
+    mark: Option<&'a Name>,
+}
+
+// The profile of an operation, if it has the name.
+fn declared_profile<'a>(operation: &'a OperationDeclaration, sought: &str) -> Option<Profile<'a>> {
+    match operation {
+        OperationDeclaration::Pragma(_) => None,
+        OperationDeclaration::Function {
+            at: _,
+            name,
+            parameters,
+            mark,
+        } => profile_if(
+            is_same_name(sought, name.text.as_str()),
+            parameters,
+            Some(mark),
+        ),
+        OperationDeclaration::Procedure {
+            at: _,
+            name,
+            parameters,
+            aspects: _,
+        } => profile_if(is_same_name(sought, name.text.as_str()), parameters, None),
+        OperationDeclaration::Entry(entry) => profile_if(
+            is_same_name(sought, entry.name.text.as_str()),
+            &entry.parameters,
+            None,
+        ),
+    }
+}
+
+fn profile_if<'a>(
+    is_sought: bool,
+    parameters: &'a Vec<Parameter>,
+    mark: Option<&'a Name>,
+) -> Option<Profile<'a>> {
+    if is_sought {
+        Some(Profile { parameters, mark })
+    } else {
+        None
+    }
+}
+
+// The profile of the operation of a name.
+fn profile_of<'a>(unit: &'a ProtectedUnit, sought: &str) -> Option<Profile<'a>> {
+    for operation in &unit.operations {
+        if let Some(profile) = declared_profile(operation, sought) {
+            return Some(profile);
+        }
+    }
+    if let Some(elements) = &unit.private {
+        for element in elements {
+            if let ProtectedElement::Operation(operation) = element {
+                if let Some(profile) = declared_profile(operation, sought) {
+                    return Some(profile);
+                }
+            }
+        }
+    }
+    None
+}
+
+fn body_profile(body: &OperationBody) -> Profile<'_> {
+    match body {
+        OperationBody::Function {
+            at: _,
+            name: _,
+            parameters,
+            mark,
+            block: _,
+        } => Profile {
+            parameters,
+            mark: Some(mark),
+        },
+        OperationBody::Procedure {
+            at: _,
+            name: _,
+            parameters,
+            block: _,
+        } => Profile {
+            parameters,
+            mark: None,
+        },
+        OperationBody::Entry {
+            at: _,
+            name: _,
+            parameters,
+            barrier: _,
+            block: _,
+        } => Profile {
+            parameters,
+            mark: None,
+        },
+    }
+}
+
+// A body has the profile of its declaration (6.3.1).
+fn conforms(
+    alloc: Global,
+    unit: &ProtectedUnit,
+    body: &OperationBody,
+    scope: &Scope,
+    faults: &mut Faults,
+) -> Result<(), AllocError>
+    ensures { OnOk result (faults.new ≡ faults.old) }
+{
+    let name = body_name(body);
+    let Some(declared) = profile_of(unit, name.text.as_str()) else {
+        return Ok(());
+    };
+    let given = body_profile(body);
+    if !have_same_formals(alloc, &declared, &given, scope)?
+        || !is_same_result(declared.mark, given.mark, scope)
+    {
+        faults.tell(NameFault::WrongKind(name.at));
+    }
+    Ok(())
+}
+
+// A parameter by itself.
+#[derive(Drop)]
+struct Formal<'a> {
+    name: &'a str,
+    mode: Mode,
+    mark: &'a Name,
+}
+
+// The parameters one by one.
+fn formals<'a>(
+    alloc: Global,
+    parameters: &'a Vec<Parameter>,
+) -> Result<Vec<Formal<'a>>, AllocError> {
+    let mut formals = Vec::new(alloc);
+    for parameter in parameters {
+        for identifier in &parameter.names {
+            formals.push(Formal {
+                name: identifier.text.as_str(),
+                mode: parameter.mode,
+                mark: &parameter.mark,
+            })?;
+        }
+    }
+    Ok(formals)
+}
+
+fn have_same_formals(
+    alloc: Global,
+    declared: &Profile,
+    given: &Profile,
+    scope: &Scope,
+) -> Result<bool, AllocError> {
+    let declared = formals(alloc, declared.parameters)?;
+    let given = formals(alloc, given.parameters)?;
+    if declared.len() != given.len() {
+        return Ok(false);
+    }
+    for (one, other) in declared.iter().zip(given.iter()) {
+        if !is_same_formal(one, other, scope) {
+            return Ok(false);
+        }
+    }
+    Ok(true)
+}
+
+fn is_same_formal(one: &Formal, other: &Formal, scope: &Scope) -> bool {
+    is_same_name(one.name, other.name)
+        && is_same_mode(one.mode, other.mode)
+        && is_same_mark(one.mark, other.mark, scope)
+}
+
+// A mode that is not written is `in`.
+fn is_same_mode(one: Mode, other: Mode) -> bool {
+    match one {
+        Mode::NotWritten | Mode::In => matches!(other, Mode::NotWritten | Mode::In),
+        Mode::Out => matches!(other, Mode::Out),
+        Mode::InOut => matches!(other, Mode::InOut),
+    }
+}
+
+fn is_same_mark(one: &Name, other: &Name, scope: &Scope) -> bool {
+    scope.visible(one) == scope.visible(other)
+}
+
+fn is_same_result(one: Option<&Name>, other: Option<&Name>, scope: &Scope) -> bool {
+    match one {
+        Some(one) => match other {
+            Some(other) => is_same_mark(one, other, scope),
+            None => false,
+        },
+        None => other.is_none(),
+    }
+}

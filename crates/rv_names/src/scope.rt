@@ -1,0 +1,217 @@
+//! What is declared at a point of a text.
+
+ghost use Rattle.std.specs.Prelude.{◌≡◌, ◌==◌, ◌++◌, ◌∷◌, [], OnOk};
+ghost use Rattle.std.specs.List.{list_any};
+ghost use Rattle.rv_tree.specs.NameView.{identifier_view};
+ghost use Rattle.rv_names.specs.Predefined.{named};
+ghost use Rattle.rv_names.specs.Scope.{ScopeView, Region as RegionView, with_meaning, entered, in_body_of, showing, with_unit, with_library, using_library, empty_scope};
+
+use crate::declared::Declared;
+use crate::predefined::{Library, is_among};
+use crate::region::Region;
+use rv_shape::catalogue::Catalogue;
+use rv_shape::shape::UnitShape;
+use rv_tree::name::Identifier;
+use std::alloc::{AllocError, Global};
+use std::marker::Model;
+
+/// What is declared at a point of a text.
+#[derive(Drop)]
+pub struct Scope<'a> {
+    alloc: Global,
+    // The name of the text's unit.
+    unit: &'a str,
+    // The regions around the innermost one, the package's first.
+    around: Vec<Region>,
+    innermost: Region,
+    // The protected unit whose body the point is in, by the place of its identifier.
+    current: Option<usize>,
+    // The operations before `private` of each protected unit of the text that was declared so far.
+    shown: Vec<Region>,
+    // The indexes of the loaded units that a `with` names.
+    units: Vec<usize>,
+    // The library packages that a `with` names, and those that a `use` names.
+    libraries: Vec<Library>,
+    used: Vec<Library>,
+    catalogue: &'a Catalogue,
+}
+
+impl<'a> Model for Scope<'a> {
+    ghost use Rattle.rv_names.specs.Scope.{ScopeView};
+
+    ghost Value = { ScopeView };
+
+    ghost view = { λ s. record {
+      unit = s.unit.now;
+      around = s.around.items;
+      innermost = s.innermost;
+      current = s.current;
+      shown = s.shown.items;
+      units = s.units.items;
+      libraries = s.libraries.items;
+      used = s.used.items;
+      shapes = s.catalogue.now;
+    } };
+}
+
+impl<'a> Scope<'a> {
+    /// Before a text of a unit of this name, over the loaded units.
+    pub fn new(alloc: Global, unit: &'a str, catalogue: &'a Catalogue) -> Scope<'a>
+        ensures { result ≡ empty_scope unit.now catalogue.now }
+    {
+        Scope {
+            alloc,
+            unit,
+            around: Vec::new(alloc),
+            innermost: Region::new(alloc),
+            current: None,
+            shown: Vec::new(alloc),
+            units: Vec::new(alloc),
+            libraries: Vec::new(alloc),
+            used: Vec::new(alloc),
+            catalogue,
+        }
+    }
+
+    pub(crate) fn unit(&self) -> &str
+        ensures { result.now ≡ self.now.unit }
+    {
+        self.unit
+    }
+
+    pub(crate) fn around(&self) -> &[Region]
+        ensures { result.now ≡ self.now.around }
+    {
+        self.around.as_slice()
+    }
+
+    pub(crate) fn innermost(&self) -> &Region
+        ensures { result.now ≡ self.now.innermost }
+    {
+        &self.innermost
+    }
+
+    pub(crate) fn current(&self) -> Option<usize>
+        ensures { result ≡ self.now.current }
+    {
+        self.current
+    }
+
+    pub(crate) fn shown(&self) -> &[Region]
+        ensures { result.now ≡ self.now.shown }
+    {
+        self.shown.as_slice()
+    }
+
+    pub(crate) fn allocator(&self) -> Global {
+        self.alloc
+    }
+
+    pub(crate) fn has_unit(&self, index: usize) -> bool
+        ensures { result ≡ list_any (λ other. other == index) self.now.units }
+    {
+        for other in &self.units {
+            if *other == index {
+                return true;
+            }
+        }
+        false
+    }
+
+    pub(crate) fn libraries(&self) -> &[Library]
+        ensures { result.now ≡ self.now.libraries }
+    {
+        self.libraries.as_slice()
+    }
+
+    pub(crate) fn used(&self) -> &[Library]
+        ensures { result.now ≡ self.now.used }
+    {
+        self.used.as_slice()
+    }
+
+    pub(crate) fn shapes(&self) -> &[UnitShape]
+        ensures { result.now ≡ self.now.shapes }
+    {
+        self.catalogue.shapes()
+    }
+
+    /// Declares an identifier in the innermost region: what it denotes, or nothing inside its own declaration (8.3).
+    pub fn declare(
+        &mut self,
+        declared: &Identifier,
+        meaning: Option<Declared>,
+    ) -> Result<(), AllocError>
+        ensures { OnOk result (self.new ≡ with_meaning (identifier_view declared.now) meaning self.old) }
+    {
+        self.innermost
+            .declare(self.alloc, declared.text.as_str(), meaning)
+    }
+
+    /// Begins a region.
+    pub fn enter(&mut self) -> Result<(), AllocError>
+        ensures { OnOk result (self.new ≡ entered self.old) }
+    {
+        let innermost = std::mem::replace(&mut self.innermost, Region::new(self.alloc));
+        self.around.push(innermost)?;
+        Ok(())
+    }
+
+    /// Ends the innermost region.
+    pub fn leave(&mut self)
+        ensures { (scope : ScopeView) (region : RegionView) →
+            self.old ≡ record (entered scope) { innermost = region } → self.new ≡ scope }
+    {
+        if let Some(innermost) = self.around.pop() {
+            self.innermost = innermost;
+        }
+    }
+
+    /// Begins the body of the protected unit whose identifier has this place, or ends a protected body.
+    pub fn set_current(&mut self, current: Option<usize>)
+        ensures { self.new ≡ record self.old { current = current } }
+    {
+        self.current = current;
+    }
+
+    /// A protected unit is declared, with these operations before `private`.
+    pub(crate) fn show(&mut self, operations: Region) -> Result<(), AllocError>
+        ensures { OnOk result (self.new ≡ showing operations self.old) }
+    {
+        self.shown.push(operations)?;
+        Ok(())
+    }
+
+    /// A `with` names the loaded unit of this index.
+    pub fn add_unit(&mut self, index: usize) -> Result<(), AllocError>
+        ensures { OnOk result (self.new ≡ with_unit index self.old) }
+    {
+        if self.has_unit(index) {
+            return Ok(());
+        }
+        self.units.push(index)?;
+        Ok(())
+    }
+
+    /// A `with` names a library package.
+    pub fn add_library(&mut self, library: Library) -> Result<(), AllocError>
+        ensures { OnOk result (self.new ≡ with_library library self.old) }
+    {
+        if is_among(library, self.libraries.as_slice()) {
+            return Ok(());
+        }
+        self.libraries.push(library)?;
+        Ok(())
+    }
+
+    /// A `use` names a library package.
+    pub fn use_library(&mut self, library: Library) -> Result<(), AllocError>
+        ensures { OnOk result (self.new ≡ using_library library self.old) }
+    {
+        if is_among(library, self.used.as_slice()) {
+            return Ok(());
+        }
+        self.used.push(library)?;
+        Ok(())
+    }
+}

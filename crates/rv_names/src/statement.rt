@@ -1,0 +1,252 @@
+//! The names that statements use.
+
+ghost use Rattle.std.specs.Prelude.{◌≡◌, OnOk, IfOk, map};
+ghost use Rattle.rv_tree.specs.NameView.{name_view};
+ghost use Rattle.rv_tree.specs.DeclarationView.{maybe};
+ghost use Rattle.rv_tree.specs.ExpressionView.{expression_view};
+ghost use Rattle.rv_tree.specs.Statements.{statements_of, elsif_parts_of, alternatives_of};
+ghost use Rattle.rv_tree.specs.StatementView.{statement_view, statements_view, elsif_parts_view, alternatives_view, choice_view, bounds_view, iteration_view};
+ghost use Rattle.rv_names.specs.Bound.{judged};
+ghost use Rattle.rv_names.specs.ExpressionUses.{◌▷◌, value_uses, maybe_uses};
+ghost use Rattle.rv_names.specs.StatementUses.{choice_uses, choices_uses, bounds_uses, statement_uses, iteration_uses, in_loop, statements_uses, elsif_parts_uses, alternatives_uses};
+
+use crate::declare::hide;
+use crate::declared::Declared;
+use crate::expression::{
+    expression, expressions, maybe_name, maybe_value, name, range, refuse, value,
+};
+use crate::fault::Faults;
+use crate::scope::Scope;
+use crate::wanted::Wanted;
+use rv_tree::expression::Expression;
+use rv_tree::name::Name;
+use rv_tree::statement::{CaseAlternative, Choice, ElsifPart, Iteration, LoopBounds, Statement};
+use std::alloc::AllocError;
+
+fn choice(choice: &Choice, scope: &Scope, faults: &mut Faults)
+    ensures { faults.new ≡ choice_uses judged scope.now (choice_view choice.now) faults.old }
+{
+    match choice {
+        Choice::Others(_) => {}
+        Choice::Value(e) => expression(e, Wanted::Choice, scope, faults),
+        Choice::Range(low, high) => {
+            value(low, scope, faults);
+            value(high, scope, faults);
+        }
+    }
+}
+
+fn choices(list: &Vec<Choice>, scope: &Scope, faults: &mut Faults)
+    ensures { faults.new
+        ≡ choices_uses judged scope.now (map choice_view list.now.items) faults.old }
+{
+    for one in list {
+        choice(one, scope, faults);
+    }
+}
+
+fn bounds(bounds: &LoopBounds, scope: &Scope, faults: &mut Faults)
+    ensures { faults.new ≡ bounds_uses judged scope.now (bounds_view bounds.now) faults.old }
+{
+    match bounds {
+        LoopBounds::Whole(e) => expression(e, Wanted::Subtype, scope, faults),
+        LoopBounds::Between(low, high) => {
+            value(low, scope, faults);
+            value(high, scope, faults);
+        }
+        LoopBounds::Constrained(mark, part) => {
+            name(mark, Wanted::Subtype, scope, faults);
+            range(part, scope, faults);
+        }
+    }
+}
+
+// `exit`, which stands in a loop.
+fn exit(at: usize, condition: &Option<Expression>, scope: &Scope, faults: &mut Faults)
+    ensures { faults.new ≡ maybe_uses (value_uses judged scope.now) (maybe expression_view condition.now) faults.old }
+{
+    faults.exit(at);
+    maybe_value(condition, scope, faults);
+}
+
+// `raise`, without a name in a handler alone.
+fn raise(at: usize, exception: &Option<Name>, scope: &Scope, faults: &mut Faults)
+    ensures { faults.new ≡ maybe_uses (judged scope.now Wanted.Exception) (maybe name_view exception.now) faults.old }
+{
+    if exception.is_none() {
+        faults.raise_again(at);
+    }
+    maybe_name(exception, Wanted::Exception, scope, faults);
+}
+
+#[cycle(statement)]
+fn statement(
+    statement: &Statement,
+    scope: &mut Scope,
+    faults: &mut Faults,
+) -> Result<(), AllocError>
+    ensures faults { OnOk result
+        (faults.new ≡ statement_uses judged scope.old (statement_view statement.now) faults.old) }
+    ensures scope { OnOk result (scope.new ≡ scope.old) }
+{
+    match statement {
+        Statement::Null(_) => {}
+        Statement::Assignment(target, assigned) => {
+            name(target, Wanted::Target, scope, faults);
+            value(assigned, scope, faults);
+        }
+        Statement::Call(called, arguments) => {
+            name(called, Wanted::Procedure, scope, faults);
+            expressions(arguments, scope, faults);
+        }
+        Statement::If {
+            at: _,
+            condition,
+            statements: chosen,
+            elsif_parts: parts,
+            else_statements: otherwise,
+        } => {
+            value(condition, scope, faults);
+            statements(chosen, scope, faults)?;
+            elsif_parts(parts, scope, faults)?;
+            statements(otherwise, scope, faults)?;
+        }
+        Statement::Case {
+            at: _,
+            selector,
+            alternatives: choices,
+        } => {
+            value(selector, scope, faults);
+            alternatives(choices, scope, faults)?;
+        }
+        Statement::Loop {
+            at: _,
+            iteration,
+            statements: body,
+        } => turns(iteration, body, scope, faults)?,
+        Statement::Exit(at, condition) => exit(*at, condition, scope, faults),
+        Statement::Return(_, returned) => maybe_value(returned, scope, faults),
+        Statement::Raise(at, exception) => raise(*at, exception, scope, faults),
+        Statement::Delay {
+            at: _,
+            is_until: _,
+            time,
+        } => value(time, scope, faults),
+        Statement::Abort(at, _) => refuse(*at, scope, faults),
+        Statement::Requeue {
+            at,
+            target: _,
+            with_abort: _,
+        } => refuse(*at, scope, faults),
+        Statement::Accept {
+            at,
+            entry: _,
+            parameters: _,
+            statements: _,
+            end_name: _,
+        } => refuse(*at, scope, faults),
+        Statement::Select {
+            at,
+            alternatives: _,
+            else_statements: _,
+            abort_statements: _,
+        } => refuse(*at, scope, faults),
+    }
+    Ok(())
+}
+
+#[cycle(statement)]
+fn turns(
+    iteration: &Iteration,
+    body: &Vec<Statement>,
+    scope: &mut Scope,
+    faults: &mut Faults,
+) -> Result<(), AllocError>
+    ensures faults { OnOk result
+        (faults.new ≡ (iteration_uses judged scope.old (iteration_view iteration.now) ▷ statements_uses judged (in_loop (iteration_view iteration.now) scope.old) (statements_of (statements_view body.now.items))) faults.old) }
+    ensures scope { OnOk result (scope.new ≡ scope.old) }
+{
+    match iteration {
+        Iteration::Forever => looped(body, scope, faults),
+        Iteration::While(condition) => {
+            value(condition, scope, faults);
+            looped(body, scope, faults)
+        }
+        Iteration::For {
+            parameter,
+            is_reverse: _,
+            bounds: over,
+        } => {
+            scope.enter()?;
+            hide(parameter, scope, faults)?;
+            bounds(over, scope, faults);
+            scope.declare(parameter, Some(Declared::LoopParameter(parameter.at)))?;
+            looped(body, scope, faults)?;
+            scope.leave();
+            Ok(())
+        }
+    }
+}
+
+// The statements of a loop.
+#[cycle(statement)]
+fn looped(body: &Vec<Statement>, scope: &mut Scope, faults: &mut Faults) -> Result<(), AllocError>
+    ensures faults { OnOk result
+        (faults.new ≡ statements_uses judged scope.old (statements_of (statements_view body.now.items)) faults.old) }
+    ensures scope { OnOk result (scope.new ≡ scope.old) }
+{
+    faults.enter_loop();
+    statements(body, scope, faults)?;
+    faults.leave_loop();
+    Ok(())
+}
+
+#[cycle(statement)]
+pub(crate) fn statements(
+    list: &Vec<Statement>,
+    scope: &mut Scope,
+    faults: &mut Faults,
+) -> Result<(), AllocError>
+    ensures faults { OnOk result
+        (faults.new ≡ statements_uses judged scope.old (statements_of (statements_view list.now.items)) faults.old) }
+    ensures scope { OnOk result (scope.new ≡ scope.old) }
+{
+    for one in list {
+        statement(one, scope, faults)?;
+    }
+    Ok(())
+}
+
+#[cycle(statement)]
+fn elsif_parts(
+    list: &Vec<ElsifPart>,
+    scope: &mut Scope,
+    faults: &mut Faults,
+) -> Result<(), AllocError>
+    ensures faults { OnOk result
+        (faults.new ≡ elsif_parts_uses judged scope.old (elsif_parts_of (elsif_parts_view list.now.items)) faults.old) }
+    ensures scope { OnOk result (scope.new ≡ scope.old) }
+{
+    for part in list {
+        value(&part.condition, scope, faults);
+        statements(&part.statements, scope, faults)?;
+    }
+    Ok(())
+}
+
+#[cycle(statement)]
+fn alternatives(
+    list: &Vec<CaseAlternative>,
+    scope: &mut Scope,
+    faults: &mut Faults,
+) -> Result<(), AllocError>
+    ensures faults { OnOk result
+        (faults.new ≡ alternatives_uses judged scope.old (alternatives_of (alternatives_view list.now.items)) faults.old) }
+    ensures scope { OnOk result (scope.new ≡ scope.old) }
+{
+    for alternative in list {
+        choices(&alternative.choices, scope, faults);
+        statements(&alternative.statements, scope, faults)?;
+    }
+    Ok(())
+}

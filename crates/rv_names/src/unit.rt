@@ -1,0 +1,145 @@
+//! The names that package bodies and whole unit texts use.
+
+ghost use Rattle.std.specs.Prelude.{◌≡◌, true, None, OnOk, IfOk, map};
+ghost use Rattle.std.specs.Option.{option_map};
+ghost use Rattle.rv_tree.specs.NameView.{identifier_view};
+ghost use Rattle.rv_tree.specs.DeclarationView.{declaration_view, protected_unit_view};
+ghost use Rattle.rv_tree.specs.BodyView.{operation_body_view, protected_body_view, task_body_view};
+ghost use Rattle.rv_tree.specs.UnitView.{body_item_view, unit_view};
+ghost use Rattle.rv_names.specs.Bound.{judged};
+ghost use Rattle.rv_names.specs.Scope.{in_body_of};
+ghost use Rattle.rv_names.specs.ExpressionUses.{◌▷◌, simple as simple_name};
+ghost use Rattle.rv_names.specs.UnitUses.{operation_bodies_uses, in_protected_unit, unit_number as unit_number_of, protected_unit_of, bodies_of_unit, protected_body_uses, task_body_uses, body_item_uses, with_body_item, body_items_uses};
+
+use crate::body::block;
+use crate::declaration::declaration;
+use crate::declared::Declared;
+use crate::fault::Faults;
+use crate::members::members;
+use crate::operation_body::{body_name, operation_bodies};
+use crate::rules::unit_bodies;
+use crate::scope::Scope;
+use crate::wanted::Wanted;
+use rv_tree::body::{OperationBody, ProtectedBody, TaskBody};
+use rv_tree::declaration::ProtectedUnit;
+use rv_tree::unit::BodyItem;
+use std::alloc::AllocError;
+
+// The number of the protected unit that is declared, if it is one.
+fn unit_number(found: Option<Declared>) -> Option<usize>
+    ensures { result ≡ unit_number_of found }
+{
+    match found {
+        Some(Declared::ProtectedType(_, number)) => Some(number),
+        Some(Declared::SingleProtected(_, number)) => Some(number),
+        _ => None,
+    }
+}
+
+// The bodies of the operations of the protected unit around the point.
+fn current_bodies<'a>(
+    unit: &'a ProtectedUnit,
+    body: &'a ProtectedBody,
+    scope: &mut Scope,
+    faults: &mut Faults<'a>,
+) -> Result<(), AllocError>
+    ensures faults { OnOk result (faults.new
+        ≡ operation_bodies_uses judged (in_body_of unit.now.name.at scope.old) (map operation_body_view body.now.operations.items) faults.old) }
+    ensures scope { OnOk result (scope.new ≡ scope.old) }
+{
+    let around = scope.current();
+    scope.set_current(Some(unit.name.at));
+    faults.set_unit(Some(unit));
+    operation_bodies(&body.operations, scope, faults)?;
+    unit_bodies(unit, body, scope, faults)?;
+    faults.set_unit(None);
+    scope.set_current(around);
+    Ok(())
+}
+
+// The bodies of the operations of a protected unit.
+fn in_unit<'a>(
+    unit: &'a ProtectedUnit,
+    body: &'a ProtectedBody,
+    scope: &mut Scope,
+    faults: &mut Faults<'a>,
+) -> Result<(), AllocError>
+    ensures faults { OnOk result (faults.new
+        ≡ operation_bodies_uses judged (in_protected_unit (protected_unit_view unit.now) scope.old) (map operation_body_view body.now.operations.items) faults.old) }
+    ensures scope { OnOk result (scope.new ≡ scope.old) }
+{
+    members(unit, scope, faults)?;
+    current_bodies(unit, body, scope, faults)?;
+    scope.leave();
+    Ok(())
+}
+
+fn protected_body<'a>(
+    body: &'a ProtectedBody,
+    units: &'a [&'a ProtectedUnit],
+    scope: &mut Scope,
+    faults: &mut Faults<'a>,
+) -> Result<(), AllocError>
+    ensures faults { OnOk result (faults.new
+        ≡ protected_body_uses judged (map (λ u. protected_unit_view u.now) units.now) scope.old (protected_body_view body.now) faults.old) }
+    ensures scope { OnOk result (scope.new ≡ scope.old) }
+{
+    body_name(&body.name, Wanted::ProtectedBody, scope, faults);
+    faults.end_name(&body.name, &body.end_name);
+    let found = scope.denoted_by_body(Wanted::ProtectedBody, &body.name);
+    let Some(number) = unit_number(found) else {
+        return Ok(());
+    };
+    match units.get(number) {
+        Some(unit) => in_unit(unit, body, scope, faults),
+        None => Ok(()),
+    }
+}
+
+fn task_body<'a>(
+    body: &'a TaskBody,
+    scope: &mut Scope,
+    faults: &mut Faults<'a>,
+) -> Result<(), AllocError>
+    ensures faults { OnOk result (faults.new ≡ task_body_uses judged scope.old (task_body_view body.now) faults.old) }
+    ensures scope { OnOk result (scope.new ≡ scope.old) }
+{
+    body_name(&body.name, Wanted::TaskBody, scope, faults);
+    scope.enter()?;
+    block(&body.name, &body.block, scope, faults)?;
+    scope.leave();
+    Ok(())
+}
+
+fn body_item<'a>(
+    item: &'a BodyItem,
+    units: &'a [&'a ProtectedUnit],
+    scope: &mut Scope,
+    faults: &mut Faults<'a>,
+) -> Result<(), AllocError>
+    ensures faults { OnOk result (faults.new
+        ≡ body_item_uses judged (map (λ u. protected_unit_view u.now) units.now) scope.old (body_item_view item.now) faults.old) }
+    ensures scope { OnOk result (scope.new ≡ with_body_item (body_item_view item.now) scope.old) }
+{
+    match item {
+        BodyItem::Declaration(one) => declaration(one, scope, faults),
+        BodyItem::Protected(body) => protected_body(body, units, scope, faults),
+        BodyItem::Task(body) => task_body(body, scope, faults),
+    }
+}
+
+/// The items of the package body.
+pub(crate) fn body_items<'a>(
+    list: &'a Vec<BodyItem>,
+    units: &'a [&'a ProtectedUnit],
+    scope: &mut Scope,
+    faults: &mut Faults<'a>,
+) -> Result<(), AllocError>
+    ensures faults { OnOk result (faults.new
+        ≡ body_items_uses judged (map (λ u. protected_unit_view u.now) units.now) scope.old (map body_item_view list.now.items) faults.old) }
+{
+    for item in list {
+        body_item(item, units, scope, faults)?;
+    }
+    Ok(())
+}

@@ -1,0 +1,440 @@
+//! Which declaration a name denotes.
+
+ghost use Rattle.std.specs.Prelude.{◌≡◌, true, ◌++◌, ◌∷◌, [], map, drop, None, option_map};
+ghost use Rattle.rv_tree.specs.NameView.{name_view, identifier_view};
+ghost use Rattle.rv_shape.specs.Fits.{object_name};
+ghost use Rattle.rv_names.specs.Predefined.{named};
+ghost use Rattle.rv_names.specs.Visible.{found_in as found_in_regions, in_region, index_from, with_named, library_item, used_item, own_unit, root_library, with_named_unit, from_outside, direct, unit_object, unit_operation, outer_operation, is_current, selected, visible, library_named, library_unit, innermost_meaning, flat};
+ghost use Rattle.rv_names.specs.Visible.{kind_of as operation_kind_of, object_at as object_declared, shown_operation as shown_operation_of, of_object as operation_of_object, unit_named as unit_named_of, child_library as child_library_of};
+ghost use Rattle.rv_names.specs.Wanted.{denoted, is_body};
+ghost use Rattle.rv_names.specs.ExpressionUses.{simple as simple_name};
+
+use crate::declared::{Declared, OperationKind};
+use crate::predefined::{Library, is_among};
+use crate::region::Region;
+use crate::scope::Scope;
+use crate::wanted::Wanted;
+use rv_shape::kind::Kind;
+use rv_shape::object::{Object, Operation};
+use rv_shape::shape::UnitShape;
+use rv_text::is_same_name;
+use rv_tree::name::{Identifier, Name};
+
+// What a name denotes in the last of these regions that declares it.
+fn found_in(name: &str, regions: &[Region]) -> Option<Option<Declared>>
+    ensures { result ≡ found_in_regions name.now None regions.now }
+{
+    let mut found = None;
+    for region in regions {
+        if let Some(meaning) = region.find(name) {
+            found = Some(meaning);
+        }
+    }
+    found
+}
+
+// The index of the unit of a name.
+fn unit_index(shapes: &[UnitShape], name: &str) -> Option<usize>
+    ensures { result ≡ index_from (λ s. s.name) name.now 0 shapes.now }
+{
+    for (index, shape) in shapes.iter().enumerate() {
+        if is_same_name(name, shape.name()) {
+            return Some(index);
+        }
+    }
+    None
+}
+
+// The index of the object of a name.
+fn object_index(objects: &[Object], name: &str) -> Option<usize>
+    ensures { result ≡ index_from object_name name.now 0 objects.now }
+{
+    for (index, object) in objects.iter().enumerate() {
+        if is_same_name(name, object.name()) {
+            return Some(index);
+        }
+    }
+    None
+}
+
+// The index of the operation of a name.
+fn operation_index(operations: &[Operation], name: &str) -> Option<usize>
+    ensures { result ≡ index_from (λ o. o.name) name.now 0 operations.now }
+{
+    for (index, operation) in operations.iter().enumerate() {
+        if is_same_name(name, operation.name()) {
+            return Some(index);
+        }
+    }
+    None
+}
+
+// The kind of an operation of a loaded unit.
+fn kind_of(kind: Kind) -> OperationKind
+    ensures { result ≡ operation_kind_of kind }
+{
+    match kind {
+        Kind::Function(_) => OperationKind::Function,
+        Kind::Procedure | Kind::Handler(_) => OperationKind::Procedure,
+        Kind::Entry(_) => OperationKind::Entry,
+    }
+}
+
+// An object of a loaded unit, by the indexes of the two. All objects of a shape are taken as visible (own).
+fn object_at(unit: usize, index: usize, object: &Object) -> Declared
+    ensures { result ≡ object_declared unit index object.now }
+{
+    match object {
+        Object::Protected(_) => Declared::UnitObject(unit, index),
+        Object::Suspension(_) => Declared::UnitSuspension(unit, index),
+    }
+}
+
+// An operation before `private` of this name, of the object of these indexes.
+fn shown_operation(
+    unit: usize,
+    object: usize,
+    operations: &[Operation],
+    name: &str,
+) -> Option<Declared>
+    ensures { result ≡ shown_operation_of unit object operations.now name.now }
+{
+    let index = operation_index(operations, name)?;
+    let operation = operations.get(index)?;
+    if !operation.is_visible() {
+        return None;
+    }
+    let kind = kind_of(operation.kind());
+    Some(Declared::UnitOperation(unit, object, index, kind))
+}
+
+// An operation as one of an object of this place, seen from outside.
+fn of_object(object: usize, operation: Declared) -> Option<Declared>
+    ensures { result ≡ operation_of_object object operation }
+{
+    match operation {
+        Declared::Operation(at, kind) => Some(Declared::ObjectOperation(object, at, kind)),
+        _ => None,
+    }
+}
+
+// The child package that a name ends at, from a package on.
+fn child_library(library: Library, more: &[Identifier]) -> Option<Library>
+    ensures { result ≡ child_library_of (Some library) (map identifier_view more.now) }
+{
+    let mut found = Some(library);
+    for identifier in more {
+        found = match found {
+            Some(prefix) => prefix.child(identifier.text.as_str()),
+            None => None,
+        };
+    }
+    found
+}
+
+// The library package of a name.
+fn library_named(name: &Name) -> Option<Library>
+    ensures { result ≡ library_named (name_view name.now) }
+{
+    let library = Library::root(name.first.text.as_str())?;
+    child_library(library, name.more.as_slice())
+}
+
+// The loaded unit of a name.
+fn unit_named(shapes: &[UnitShape], name: &Name) -> Option<usize>
+    ensures { result ≡ unit_named_of shapes.now (name_view name.now) }
+{
+    if name.more.is_empty() {
+        unit_index(shapes, name.first.text.as_str())
+    } else {
+        None
+    }
+}
+
+impl<'a> Scope<'a> {
+    // What a name denotes in the innermost region that declares it.
+    pub(crate) fn innermost_meaning(&self, name: &str) -> Option<Option<Declared>>
+        ensures { result ≡ innermost_meaning self.now name.now }
+    {
+        if let Some(meaning) = self.innermost().find(name) {
+            return Some(meaning);
+        }
+        found_in(name, self.around())
+    }
+
+    // What a name denotes in the region of a number, the package's being 0.
+    fn in_region(&self, number: usize, name: &str) -> Option<Declared>
+        ensures { result ≡ in_region number self.now name.now }
+    {
+        if let Some(region) = self.around().get(number) {
+            return declared_in(region, name);
+        }
+        if number == self.around().len() {
+            declared_in(self.innermost(), name)
+        } else {
+            None
+        }
+    }
+
+    // A library package, if a `with` names it; Standard needs none.
+    fn with_named(&self, library: Library) -> Option<Declared>
+        ensures { result ≡ with_named self.now library }
+    {
+        match library {
+            Library::Standard => Some(Declared::LibraryPackage(library)),
+            _ => {
+                if is_among(library, self.libraries()) {
+                    Some(Declared::LibraryPackage(library))
+                } else {
+                    None
+                }
+            }
+        }
+    }
+
+    // What a package declares, with the child packages that a `with` names.
+    fn library_item(&self, library: Library, name: &str) -> Option<Declared>
+        ensures { result ≡ library_item self.now library name.now }
+    {
+        if let Some(item) = library.declaration(name) {
+            return Some(Declared::Predefined(item));
+        }
+        let child = library.child(name)?;
+        self.with_named(child)
+    }
+
+    // What the packages that a `use` names declare (8.4).
+    fn used_item(&self, name: &str) -> Option<Declared>
+        ensures { result ≡ used_item self.now name.now self.now.used }
+    {
+        for library in self.used() {
+            if let Some(item) = self.library_item(*library, name) {
+                return Some(item);
+            }
+        }
+        None
+    }
+
+    // The text's unit, if it has this name.
+    fn own_unit(&self, name: &str) -> Option<Option<Declared>>
+        ensures { result ≡ own_unit self.now name.now }
+    {
+        if is_same_name(name, self.unit()) {
+            Some(Some(Declared::OwnUnit))
+        } else {
+            None
+        }
+    }
+
+    // A loaded unit of this name that a `with` names.
+    fn with_named_unit(&self, name: &str) -> Option<Declared>
+        ensures { result ≡ with_named_unit self.now name.now }
+    {
+        let index = unit_index(self.shapes(), name)?;
+        if self.has_unit(index) {
+            Some(Declared::Unit(index))
+        } else {
+            None
+        }
+    }
+
+    // A library package that stands in no other, if a `with` names it.
+    fn root_library(&self, name: &str) -> Option<Declared>
+        ensures { result ≡ root_library self.now name.now }
+    {
+        let library = Library::root(name)?;
+        self.with_named(library)
+    }
+
+    // What a simple name denotes that no declaration of the text hides.
+    fn from_outside(&self, name: &str) -> Option<Declared>
+        ensures { result ≡ from_outside self.now name.now }
+    {
+        if let Some(item) = Library::Standard.declaration(name) {
+            return Some(Declared::Predefined(item));
+        }
+        if let Some(unit) = self.with_named_unit(name) {
+            return Some(unit);
+        }
+        if let Some(library) = self.root_library(name) {
+            return Some(library);
+        }
+        self.used_item(name)
+    }
+
+    // What a simple name denotes.
+    pub(crate) fn direct(&self, name: &str) -> Option<Declared>
+        ensures { result ≡ direct self.now name.now }
+    {
+        if let Some(meaning) = self.innermost_meaning(name) {
+            return meaning;
+        }
+        if let Some(meaning) = self.own_unit(name) {
+            return meaning;
+        }
+        self.from_outside(name)
+    }
+
+    // An object of a loaded unit.
+    fn unit_object(&self, unit: usize, name: &str) -> Option<Declared>
+        ensures { result ≡ unit_object self.now unit name.now }
+    {
+        let shape = self.shapes().get(unit)?;
+        let index = object_index(shape.objects(), name)?;
+        let object = shape.objects().get(index)?;
+        Some(object_at(unit, index, object))
+    }
+
+    // An operation before `private` of an object of a loaded unit.
+    fn unit_operation(&self, unit: usize, object: usize, name: &str) -> Option<Declared>
+        ensures { result ≡ unit_operation self.now unit object name.now }
+    {
+        let shape = self.shapes().get(unit)?;
+        let found = shape.objects().get(object)?;
+        shown_operation(unit, object, found.operations(), name)
+    }
+
+    // An operation before `private` of an object of the text.
+    fn outer_operation(&self, object: usize, number: usize, name: &str) -> Option<Declared>
+        ensures { result ≡ outer_operation self.now object number name.now }
+    {
+        let operations = self.shown().get(number)?;
+        let operation = declared_in(operations, name)?;
+        of_object(object, operation)
+    }
+
+    // Whether the point is in the body of the protected unit whose identifier has this place.
+    fn is_current(&self, at: usize) -> bool
+        ensures { result ≡ is_current self.now at }
+    {
+        match self.current() {
+            Some(current) => current == at,
+            None => false,
+        }
+    }
+
+    // What a name behind a point denotes.
+    pub(crate) fn selected(&self, prefix: Declared, name: &str) -> Option<Declared>
+        ensures { result ≡ selected self.now prefix name.now }
+    {
+        match prefix {
+            Declared::OwnUnit => self.in_region(0, name),
+            Declared::Unit(unit) => self.unit_object(unit, name),
+            Declared::UnitObject(unit, object) => self.unit_operation(unit, object, name),
+            Declared::LibraryPackage(library) => self.library_item(library, name),
+            Declared::ProtectedType(at, _) => {
+                if self.is_current(at) {
+                    self.in_region(1, name)
+                } else {
+                    None
+                }
+            }
+            Declared::SingleProtected(at, number) => {
+                if self.is_current(at) {
+                    self.in_region(1, name)
+                } else {
+                    self.outer_operation(at, number, name)
+                }
+            }
+            Declared::ProtectedObject(at, number) => self.outer_operation(at, number, name),
+            _ => None,
+        }
+    }
+
+    /// The declaration that a name denotes, or `None` where none is visible.
+    pub fn visible(&self, name: &Name) -> Option<Declared>
+        ensures { result ≡ visible self.now (name_view name.now) }
+    {
+        let mut found = self.direct(name.first.text.as_str());
+        for identifier in &name.more {
+            found = match found {
+                Some(prefix) => self.selected(prefix, identifier.text.as_str()),
+                None => None,
+            };
+        }
+        found
+    }
+
+    /// The library unit of a name, whether a `with` names it or not.
+    pub fn library_unit(&self, name: &Name) -> Option<Declared>
+        ensures { result ≡ library_unit self.now (name_view name.now) }
+    {
+        if let Some(library) = library_named(name) {
+            return Some(Declared::LibraryPackage(library));
+        }
+        let index = unit_named(self.shapes(), name)?;
+        Some(Declared::Unit(index))
+    }
+
+    // What the innermost region declares by a name.
+    pub(crate) fn in_innermost(&self, name: &str) -> Option<Declared>
+        ensures { result ≡ flat (named name.now self.now.innermost) }
+    {
+        declared_in(self.innermost(), name)
+    }
+
+    /// What a name denotes where this is wanted: a `with` names library units, a body what the innermost region
+    /// declares, and all else what is visible.
+    pub fn denoted(&self, wanted: Wanted, name: &Name) -> Option<Declared>
+        ensures { result ≡ denoted wanted self.now (name_view name.now) }
+    {
+        let simple = name.first.text.as_str();
+        match wanted {
+            Wanted::With => self.library_unit(name),
+            Wanted::PackageBody => match self.own_unit(simple) {
+                Some(meaning) => meaning,
+                None => None,
+            },
+            Wanted::ProtectedBody
+            | Wanted::TaskBody
+            | Wanted::FunctionBody
+            | Wanted::ProcedureBody
+            | Wanted::EntryBody => self.in_innermost(simple),
+            Wanted::Nothing => None,
+            _ => self.visible(name),
+        }
+    }
+}
+
+// What a region declares by a name.
+fn declared_in(region: &Region, name: &str) -> Option<Declared>
+    ensures { result ≡ flat (named name.now region.now) }
+{
+    match region.find(name) {
+        Some(meaning) => meaning,
+        None => None,
+    }
+}
+
+impl<'a> Scope<'a> {
+    /// What the name of a body denotes.
+    pub(crate) fn denoted_by_body(&self, wanted: Wanted, declared: &Identifier) -> Option<Declared>
+        requires { is_body wanted ≡ true }
+        ensures { result ≡ denoted wanted self.now (simple_name (identifier_view declared.now)) }
+    {
+        let text = declared.text.as_str();
+        match wanted {
+            Wanted::PackageBody => match self.own_unit(text) {
+                Some(meaning) => meaning,
+                None => None,
+            },
+            Wanted::ProtectedBody
+            | Wanted::TaskBody
+            | Wanted::FunctionBody
+            | Wanted::ProcedureBody
+            | Wanted::EntryBody => self.in_innermost(text),
+            Wanted::With
+            | Wanted::Use
+            | Wanted::Subtype
+            | Wanted::ObjectType
+            | Wanted::Value
+            | Wanted::Choice
+            | Wanted::Called
+            | Wanted::Target
+            | Wanted::Procedure
+            | Wanted::Exception
+            | Wanted::Handler
+            | Wanted::Nothing => None,
+        }
+    }
+}

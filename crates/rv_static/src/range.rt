@@ -1,0 +1,130 @@
+//! Subtypes with their ranges, and what a component starts at.
+
+ghost use Rattle.std.specs.Prelude.{◌≡◌};
+ghost use Rattle.rv_tree.specs.NameView.{name_view};
+ghost use Rattle.rv_tree.specs.DeclarationView.{maybe};
+ghost use Rattle.rv_tree.specs.ExpressionView.{expression_view, range_view};
+ghost use Rattle.rv_static.specs.Meanings.{range_in, in_bounds};
+ghost use Rattle.rv_static.specs.Ranges.{static_number, bounded, narrowed, within, start_of};
+ghost use Rattle.rv_static.specs.Told.{told_unless};
+
+use crate::fault::{Faults, TypeFault};
+use crate::meaning::{Meaning, Meanings, Number};
+use crate::place::place_of;
+use crate::value::operand;
+use rv_shape::kind::Range;
+use rv_tree::{Expression, Name, RangeConstraint};
+
+/// The range of the subtype that a mark names (3.2.2); or `None`, where a fault was told.
+pub fn subtype<N: Meanings>(mark: &Name, names: &N, faults: &mut Faults) -> Option<Range>
+    ensures value { result ≡ range_in (N.means names.now (name_view mark.now)) }
+    ensures told { faults.new ≡ told_unless result faults.old }
+{
+    match names.meaning(mark) {
+        Meaning::Subtype(range) => Some(range),
+        _ => {
+            faults.tell(TypeFault::Mismatch(mark.first.at));
+            None
+        }
+    }
+}
+
+/// The number of a static expression of the range's type (4.9); or `None`, where a fault was told.
+#[tactic(auto, unfolding(crate::specs::Ranges::static_number))]
+pub fn static_number<N: Meanings>(
+    range: Range,
+    e: &Expression,
+    names: &N,
+    faults: &mut Faults,
+) -> Option<i64>
+    ensures value { result ≡ static_number (N.means names.now) range (expression_view e.now) }
+    ensures told { faults.new ≡ told_unless result faults.old }
+{
+    match operand(range.of, e, true, names, faults)? {
+        Number::Known(number) => Some(number),
+        Number::Skipped => {
+            faults.tell(TypeFault::NotStatic(place_of(e)));
+            None
+        }
+    }
+}
+
+fn in_bounds(range: Range, number: i64) -> bool
+    ensures { result ≡ in_bounds range number }
+{
+    range.low <= number && number <= range.high
+}
+
+// The range between two bounds, whose places are told where they aren't in the subtype.
+fn bounded(
+    range: Range,
+    low: i64,
+    high: i64,
+    places: (usize, usize),
+    faults: &mut Faults,
+) -> Option<Range>
+    ensures value { result ≡ bounded range low high }
+    ensures told { faults.new ≡ told_unless result faults.old }
+{
+    let found = Range {
+        of: range.of,
+        low,
+        high,
+    };
+    if high < low {
+        return Some(found);
+    }
+    if !in_bounds(range, low) {
+        faults.tell(TypeFault::TooLarge(places.0));
+        return None;
+    }
+    if !in_bounds(range, high) {
+        faults.tell(TypeFault::TooLarge(places.1));
+        return None;
+    }
+    Some(found)
+}
+
+/// A subtype with a range constraint, if one is written (3.5); or `None`, where a fault was told.
+pub fn narrowed<N: Meanings>(
+    range: Range,
+    constraint: &Option<RangeConstraint>,
+    names: &N,
+    faults: &mut Faults,
+) -> Option<Range>
+    ensures value { result ≡ narrowed (N.means names.now) range (maybe range_view constraint.now) }
+    ensures told { faults.new ≡ told_unless result faults.old }
+{
+    match constraint {
+        None => Some(range),
+        Some(constraint) => {
+            let low = static_number(range, &constraint.low, names, faults)?;
+            let high = static_number(range, &constraint.high, names, faults)?;
+            let places = (place_of(&constraint.low), place_of(&constraint.high));
+            bounded(range, low, high, places, faults)
+        }
+    }
+}
+
+/// What a component of a range starts at: its first value where none is given (own); or `None`, where a fault was told.
+pub fn start<N: Meanings>(
+    range: Range,
+    given: &Option<Expression>,
+    names: &N,
+    faults: &mut Faults,
+) -> Option<i64>
+    ensures value { result ≡ start_of (N.means names.now) range (maybe expression_view given.now) }
+    ensures told { faults.new ≡ told_unless result faults.old }
+{
+    match given {
+        None => Some(range.low),
+        Some(e) => {
+            let number = static_number(range, e, names, faults)?;
+            if in_bounds(range, number) {
+                return Some(number);
+            }
+            faults.tell(TypeFault::TooLarge(place_of(e)));
+            None
+        }
+    }
+}
