@@ -91,7 +91,7 @@ STRANGE_SETTINGS = [
     "capacity = 64\r\nbudget = 5\r\n", "\ufeffcapacity = 64", "capacity\t=\t64", "capacity = 64\n\x00", "# \x7f", "# \x1f", "#\t", "# é",
     "x = '''\n'''\n", "capacity = 18446744073709551616", "capacity = 9223372036854775807", "[[device]]\n" * 3, "device = [[]]",
     "device = {}", "[device]\n", "x = 1\n[x]", "a.b = 1\na.c = 2", "a.b = 1\na = 2", "'capacity' = 20", '"cap\\u0061city" = 20',
-    '"cap\\x61city" = 20', '"\\e" = 1', "x = {a = 1,}", "x = {a = 1,\n b = 2}", "x = [1,\n2,\n]", "x = 07:32", "x = 1979-02-30",
+    '"cap\\x61city" = 20', '"\\e" = 1', "x = {a = 1,}", "x = {a = 1,\n b = 2}", "x = [1,\n2,\n]", "x = 1979-02-30",
     "x = 1979-05-27T07:32:00Z", "x = 1979-05-27 07:32:00.5+01:00", "x = 1e", "x = .5", "x = 5.", "x = 1.5e+3", "x = +nan", "x = tru",
     "x = 'a", 'x = "\\ud800"', 'x = "\\U0010ffff"', 'x = """a"""b"', "x = [1 2]", "x = ]", "x", "x =", "= 1", "é = 1", "[]", "[a.]",
     "[a]\n[a]", "[a.b]\n[a]", "[[a]]\n[a]", "[a]\n[[a]]", "capacity = 0xFF", "capacity = 0xff", "capacity = 0x_40", "capacity = 1__0"]

@@ -1,4 +1,5 @@
 """Settings of the host: the section @host.toml."""
+import re
 import tomllib
 
 from words import is_dotted, is_identifier
@@ -38,12 +39,32 @@ def check_device(device: object) -> None:
         check_value(value, DEVICE_KEYS[key])
 
 
-def read_settings(lines: list[str]) -> int:
-    """The capacity that a section's lines set."""
+def is_wide(value: object) -> bool:
+    """Whether a whole number in the value is past 64 bits."""
+    if isinstance(value, dict):
+        return any(is_wide(each) for each in value.values())
+    if isinstance(value, list):
+        return any(is_wide(each) for each in value)
+    return isinstance(value, int) and not -(2**63) <= value < 2**63
+
+
+def read_toml(text: str) -> dict[str, object]:
+    """The table of a text in TOML 1.1, of which `tomllib` knows all but `\\e`, `\\xHH` and times without seconds: a byte order mark is
+    passed over, and a number past 64 bits is none."""
+    text = re.sub(r'(?<!\\)((?:\\\\)*)\\e', r"\1\\u001b", text.removeprefix("\ufeff"))
+    text = re.sub(r'(?<!\\)((?:\\\\)*)\\x([0-9A-Fa-f]{2})', r"\1\\u00\2", text)
     try:
-        table = tomllib.loads("\r\n".join(lines))
+        table = tomllib.loads(text)
     except tomllib.TOMLDecodeError:
         raise SettingsFault("NotToml")
+    if is_wide(table):
+        raise SettingsFault("NotToml")
+    return table
+
+
+def read_settings(lines: list[str]) -> int:
+    """The capacity that a section's lines set."""
+    table = read_toml("\r\n".join(lines))
     devices = []
     for key, value in in_order(table):
         if key == "device":
