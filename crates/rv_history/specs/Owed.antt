@@ -1,7 +1,7 @@
 -- Room: the entries that are still owed are kept free, so that what is under way can always end (own).
 use Rattle.std.specs.Prelude.{ℕ, zero, suc, ◌+◌, ◌-◌, ◌≤◌, Bool, true, false, nat_lt, nat_le, if◌then◌else◌, List, length}
 use Rattle.rv_shape.specs.Shape.{Shape}
-use Rattle.rv_shape.specs.Catalogue.{all_tasks}
+use Rattle.rv_shape.specs.Catalogue.{all_tasks, first_task}
 use Rattle.rv_event.specs.Past.{stance, under_way, halted}
 use Rattle.rv_event.specs.declared.entry.Stance.{Stance}
 use Rattle.rv_event.specs.declared.entry.Stance.TheVariants.{Free, InQueue, HandedOver, DroppedBy, WaitsOn}
@@ -29,7 +29,7 @@ unfinished stance = 1
 
 -- what an actor owes beside its open starts: the tasks are those from 11 on
 abbrev pub dues : List Entry → ℕ → ℕ
-dues past actor = surcharge (stance actor past) + (if nat_lt actor 11 then 0 else unfinished (stance actor past))
+dues past actor = surcharge (stance actor past) + (if nat_lt actor first_task then 0 else unfinished (stance actor past))
 
 -- the sum over all numbers below n
 abbrev pub each : ℕ → (ℕ → ℕ) → ℕ
@@ -38,7 +38,7 @@ each (suc n) f = f n + each n f
 
 -- one more than the greatest number of an actor: the operator, ten lines, the tasks
 abbrev pub actors : List Shape → ℕ
-actors shapes = 11 + length (all_tasks shapes)
+actors shapes = first_task + length (all_tasks shapes)
 
 -- 1 for the halt, while the host isn't halted
 abbrev pub halt_due : Bool → ℕ

@@ -8,6 +8,7 @@ use crate::past::counts::is_halted;
 use crate::past::entries::{halts, said};
 use crate::past::standing::standing_of;
 use rv_event::entry::{Entry, Stance};
+use rv_shape::actor::FIRST_TASK;
 
 // What a stance owes: 2 for a queued call, 1 for one that was handed an object beside its open
 // start, or that was dropped, suspended or delayed.
@@ -53,7 +54,7 @@ fn dues_with(entries: &[Entry], entry: &Entry, actor: usize) -> usize
     ensures within { result ≤ 3 }
 {
     let stance = stance_with(entries, entry, actor);
-    if actor < 11 {
+    if actor < FIRST_TASK {
         surcharge(stance)
     } else {
         surcharge(stance) + unfinished(stance)

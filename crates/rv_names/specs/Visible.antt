@@ -10,7 +10,7 @@ use Rattle.rv_shape.specs.declared.kind.Kind.TheVariants as k
 use Rattle.rv_shape.specs.declared.object.Object.{Object}
 use Rattle.rv_shape.specs.declared.object.Object.TheVariants as o
 use Rattle.rv_shape.specs.Fits.{object_name}
-use Rattle.rv_shape.specs.Catalogue.{first_of, operations_of}
+use Rattle.rv_shape.specs.Catalogue.{first_of, operations_of, is_seen}
 use Rattle.rv_names.specs.declared.declared.Declared.{Declared}
 use Rattle.rv_names.specs.declared.declared.Declared.TheVariants as d
 use Rattle.rv_names.specs.declared.declared.OperationKind.{OperationKind}
@@ -117,12 +117,13 @@ abbrev pub object_at : ℕ → ℕ → Object → Declared
 object_at unit index (o.Protected object) = d.UnitObject unit index
 object_at unit index (o.Suspension object) = d.UnitSuspension unit index
 
--- an object of a loaded unit
+-- an object of a loaded unit, but none that only the unit's body declares (7.2)
 abbrev pub unit_object : ScopeView → ℕ → List ℕ → Option Declared
 unit_object scope unit name =
     slice_get scope.shapes unit >>= λ shape.
     index_from object_name name 0 shape.objects >>= λ index.
-    slice_get shape.objects index >>= λ object. Some (object_at unit index object)
+    slice_get shape.objects index >>= λ object.
+    if is_seen object then Some (object_at unit index object) else None
 
 -- an operation before `private` of the object of these indexes
 abbrev pub shown_operation : ℕ → ℕ → List OperationShape → List ℕ → Option Declared

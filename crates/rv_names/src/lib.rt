@@ -17,6 +17,7 @@ mod declare;
 pub mod declared;
 mod expression;
 pub mod fault;
+mod find;
 mod members;
 mod missing;
 mod operation_body;

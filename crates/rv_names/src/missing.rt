@@ -201,6 +201,7 @@ impl<'a> Around<'a> {
     fn knows_behind(&self, scope: &Scope, prefix: Declared, name: &str) -> bool {
         match prefix {
             Declared::OwnUnit => package_declares(self.tree, name),
+            Declared::Unit(unit) => scope.has_object(unit, name),
             Declared::UnitObject(unit, object) => scope.has_unit_operation(unit, object, name),
             Declared::LibraryPackage(library) => library.child(name).is_some(),
             Declared::SingleProtected(_, number) | Declared::ProtectedObject(_, number) => {
@@ -269,6 +270,19 @@ impl<'a> Scope<'a> {
     // Whether a name is hidden by its own declaration.
     fn is_hidden(&self, name: &str) -> bool {
         self.innermost_meaning(name).is_some()
+    }
+
+    // Whether a loaded unit has an object of this name.
+    fn has_object(&self, unit: usize, name: &str) -> bool {
+        let Some(shape) = self.shapes().get(unit) else {
+            return false;
+        };
+        for object in shape.objects() {
+            if is_same_name(name, object.name()) {
+                return true;
+            }
+        }
+        false
     }
 
     // Whether an object of a loaded unit has an operation of this name.

@@ -1,155 +1,22 @@
 //! Which declaration a name denotes.
 
-ghost use Rattle.std.specs.Prelude.{◌≡◌, true, ◌++◌, ◌∷◌, [], map, drop, None, option_map};
+ghost use Rattle.std.specs.Prelude.{◌≡◌, true, None};
 ghost use Rattle.rv_tree.specs.NameView.{name_view, identifier_view};
-ghost use Rattle.rv_shape.specs.Fits.{object_name};
 ghost use Rattle.rv_names.specs.Predefined.{named};
-ghost use Rattle.rv_names.specs.Visible.{found_in as found_in_regions, in_region, index_from, with_named, library_item, used_item, own_unit, root_library, with_named_unit, from_outside, direct, unit_object, unit_operation, outer_operation, is_current, selected, visible, library_named, library_unit, innermost_meaning, flat};
-ghost use Rattle.rv_names.specs.Visible.{kind_of as operation_kind_of, object_at as object_declared, shown_operation as shown_operation_of, of_object as operation_of_object, unit_named as unit_named_of, child_library as child_library_of};
+ghost use Rattle.rv_names.specs.Visible.{in_region, with_named, library_item, used_item, own_unit, root_library, with_named_unit, from_outside, direct, unit_object, unit_operation, outer_operation, is_current, selected, visible, library_named, library_unit, innermost_meaning, flat};
 ghost use Rattle.rv_names.specs.Wanted.{denoted, is_body};
 ghost use Rattle.rv_names.specs.ExpressionUses.{simple as simple_name};
 
-use crate::declared::{Declared, OperationKind};
+use crate::declared::Declared;
+use crate::find::{
+    declared_in, found_in, library_named, object_at, object_index, of_object, shown_operation,
+    unit_index, unit_named,
+};
 use crate::predefined::{Library, is_among};
-use crate::region::Region;
 use crate::scope::Scope;
 use crate::wanted::Wanted;
-use rv_shape::kind::Kind;
-use rv_shape::object::{Object, Operation};
-use rv_shape::shape::UnitShape;
 use rv_text::is_same_name;
 use rv_tree::name::{Identifier, Name};
-
-// What a name denotes in the last of these regions that declares it.
-fn found_in(name: &str, regions: &[Region]) -> Option<Option<Declared>>
-    ensures { result ≡ found_in_regions name.now None regions.now }
-{
-    let mut found = None;
-    for region in regions {
-        if let Some(meaning) = region.find(name) {
-            found = Some(meaning);
-        }
-    }
-    found
-}
-
-// The index of the unit of a name.
-fn unit_index(shapes: &[UnitShape], name: &str) -> Option<usize>
-    ensures { result ≡ index_from (λ s. s.name) name.now 0 shapes.now }
-{
-    for (index, shape) in shapes.iter().enumerate() {
-        if is_same_name(name, shape.name()) {
-            return Some(index);
-        }
-    }
-    None
-}
-
-// The index of the object of a name.
-fn object_index(objects: &[Object], name: &str) -> Option<usize>
-    ensures { result ≡ index_from object_name name.now 0 objects.now }
-{
-    for (index, object) in objects.iter().enumerate() {
-        if is_same_name(name, object.name()) {
-            return Some(index);
-        }
-    }
-    None
-}
-
-// The index of the operation of a name.
-fn operation_index(operations: &[Operation], name: &str) -> Option<usize>
-    ensures { result ≡ index_from (λ o. o.name) name.now 0 operations.now }
-{
-    for (index, operation) in operations.iter().enumerate() {
-        if is_same_name(name, operation.name()) {
-            return Some(index);
-        }
-    }
-    None
-}
-
-// The kind of an operation of a loaded unit.
-fn kind_of(kind: Kind) -> OperationKind
-    ensures { result ≡ operation_kind_of kind }
-{
-    match kind {
-        Kind::Function(_) => OperationKind::Function,
-        Kind::Procedure | Kind::Handler(_) => OperationKind::Procedure,
-        Kind::Entry(_) => OperationKind::Entry,
-    }
-}
-
-// An object of a loaded unit, by the indexes of the two. All objects of a shape are taken as visible (own).
-fn object_at(unit: usize, index: usize, object: &Object) -> Declared
-    ensures { result ≡ object_declared unit index object.now }
-{
-    match object {
-        Object::Protected(_) => Declared::UnitObject(unit, index),
-        Object::Suspension(_) => Declared::UnitSuspension(unit, index),
-    }
-}
-
-// An operation before `private` of this name, of the object of these indexes.
-fn shown_operation(
-    unit: usize,
-    object: usize,
-    operations: &[Operation],
-    name: &str,
-) -> Option<Declared>
-    ensures { result ≡ shown_operation_of unit object operations.now name.now }
-{
-    let index = operation_index(operations, name)?;
-    let operation = operations.get(index)?;
-    if !operation.is_visible() {
-        return None;
-    }
-    let kind = kind_of(operation.kind());
-    Some(Declared::UnitOperation(unit, object, index, kind))
-}
-
-// An operation as one of an object of this place, seen from outside.
-fn of_object(object: usize, operation: Declared) -> Option<Declared>
-    ensures { result ≡ operation_of_object object operation }
-{
-    match operation {
-        Declared::Operation(at, kind) => Some(Declared::ObjectOperation(object, at, kind)),
-        _ => None,
-    }
-}
-
-// The child package that a name ends at, from a package on.
-fn child_library(library: Library, more: &[Identifier]) -> Option<Library>
-    ensures { result ≡ child_library_of (Some library) (map identifier_view more.now) }
-{
-    let mut found = Some(library);
-    for identifier in more {
-        found = match found {
-            Some(prefix) => prefix.child(identifier.text.as_str()),
-            None => None,
-        };
-    }
-    found
-}
-
-// The library package of a name.
-fn library_named(name: &Name) -> Option<Library>
-    ensures { result ≡ library_named (name_view name.now) }
-{
-    let library = Library::root(name.first.text.as_str())?;
-    child_library(library, name.more.as_slice())
-}
-
-// The loaded unit of a name.
-fn unit_named(shapes: &[UnitShape], name: &Name) -> Option<usize>
-    ensures { result ≡ unit_named_of shapes.now (name_view name.now) }
-{
-    if name.more.is_empty() {
-        unit_index(shapes, name.first.text.as_str())
-    } else {
-        None
-    }
-}
 
 impl<'a> Scope<'a> {
     // What a name denotes in the innermost region that declares it.
@@ -275,13 +142,16 @@ impl<'a> Scope<'a> {
         self.from_outside(name)
     }
 
-    // An object of a loaded unit.
+    // An object of a loaded unit, but none that only the unit's body declares (7.2).
     fn unit_object(&self, unit: usize, name: &str) -> Option<Declared>
         ensures { result ≡ unit_object self.now unit name.now }
     {
         let shape = self.shapes().get(unit)?;
         let index = object_index(shape.objects(), name)?;
         let object = shape.objects().get(index)?;
+        if !object.is_visible() {
+            return None;
+        }
         Some(object_at(unit, index, object))
     }
 
@@ -393,16 +263,6 @@ impl<'a> Scope<'a> {
             Wanted::Nothing => None,
             _ => self.visible(name),
         }
-    }
-}
-
-// What a region declares by a name.
-fn declared_in(region: &Region, name: &str) -> Option<Declared>
-    ensures { result ≡ flat (named name.now region.now) }
-{
-    match region.find(name) {
-        Some(meaning) => meaning,
-        None => None,
     }
 }
 

@@ -10,9 +10,9 @@ ghost use Rattle.rv_parse.specs.BodyRules as rules;
 ghost use Rattle.rv_parse.specs.Contract.{Reads};
 
 use crate::cursor::Cursor;
-use crate::declaration::parameters;
 use crate::fault::ParseFault;
 use crate::name::end_name;
+use crate::operation::parameters;
 use crate::phrase::{Phrase, at_least_one, listed, many, optional, optional_after};
 use crate::statement::statements;
 use rv_lex::kind::Kind;

@@ -17,7 +17,7 @@ use crate::fault::ParseFault;
 use crate::phrase::{Phrase, listed, optional, optional_after};
 use rv_lex::kind::Kind;
 use rv_tree::{
-    Choice, Expression, Identifier, Iteration, LoopBounds, Name, RangeConstraint, Statement,
+    Choice, Expression, Guard, Identifier, Iteration, LoopBounds, Name, RangeConstraint, Statement,
 };
 use std::alloc::Global;
 
@@ -249,5 +249,28 @@ pub fn simple_statement(alloc: Global, tokens: &mut Cursor<'_>) -> Result<Statem
         Some(Kind::Abort) => abort_statement(alloc, tokens),
         Some(Kind::Requeue) => requeue_statement(alloc, tokens),
         _ => Err(ParseFault::Unexpected(tokens.place())),
+    }
+}
+
+// "when" expr "=>"
+impl Phrase for Guard {
+    ghost Tree = { t.Guard };
+
+    ghost view = { view.guard_view };
+
+    ghost starts = { spec.sees k.When };
+
+    ghost rule = { rules.guard };
+
+    fn begins(tokens: &Cursor<'_>) -> bool {
+        tokens.sees(Kind::When)
+    }
+
+    #[tactic(auto, unfolding(crate::specs::StatementRules::guard))]
+    fn read(alloc: Global, tokens: &mut Cursor<'_>) -> Result<Guard, ParseFault> {
+        let at = tokens.expect(Kind::When)?;
+        let condition = Expression::read(alloc, tokens)?;
+        tokens.expect(Kind::Arrow)?;
+        Ok(Guard { at, condition })
     }
 }

@@ -12,8 +12,8 @@ ghost use Rattle.rv_parse.specs.Contract.{Reads, Refuses};
 ghost use Rattle.rv_parse.specs.NestsStatements.{NestsStatements};
 
 use crate::cursor::Cursor;
-use crate::declaration::parameters;
 use crate::fault::ParseFault;
+use crate::operation::parameters;
 use crate::phrase::{Phrase, listed, optional};
 use crate::simple::{iteration, simple_statement};
 use rv_lex::kind::Kind;
@@ -101,29 +101,6 @@ pub fn statements(alloc: Global, tokens: &mut Cursor<'_>) -> Result<Vec<Statemen
         statement,
     }
     .statements(tokens)
-}
-
-// "when" expr "=>"
-impl Phrase for Guard {
-    ghost Tree = { t.Guard };
-
-    ghost view = { view.guard_view };
-
-    ghost starts = { spec.sees k.When };
-
-    ghost rule = { rules.guard };
-
-    fn begins(tokens: &Cursor<'_>) -> bool {
-        tokens.sees(Kind::When)
-    }
-
-    #[tactic(auto, unfolding(crate::specs::StatementRules::guard))]
-    fn read(alloc: Global, tokens: &mut Cursor<'_>) -> Result<Guard, ParseFault> {
-        let at = tokens.expect(Kind::When)?;
-        let condition = Expression::read(alloc, tokens)?;
-        tokens.expect(Kind::Arrow)?;
-        Ok(Guard { at, condition })
-    }
 }
 
 impl<F: Fn(Global, &mut Cursor<'_>, usize) -> Result<Statement, ParseFault>> Nested<F> {

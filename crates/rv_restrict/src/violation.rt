@@ -84,3 +84,9 @@ impl Violation {
         }
     }
 }
+
+impl fmt::Display for Violation {
+    fn fmt<W: fmt::Write>(&self, f: &mut fmt::Formatter<W>) -> fmt::Result {
+        write!(f, "{} at {}", self.restriction, self.place)
+    }
+}

@@ -1,12 +1,8 @@
 -- Blocks and bodies (ISO/IEC 8652:2012, 6.3, 9.1, 9.4, 9.5.2, 11.2), one clause a production.
-use Rattle.std.specs.Prelude.{◌≡◌, ℕ, Bool, true, false, List, [], ◌∷◌, Option, Some, None}
-use Rattle.rv_lex.specs.declared.kind.Kind.{Kind}
+use Rattle.std.specs.Prelude.{List, [], ◌∷◌}
 use Rattle.rv_lex.specs.declared.kind.Kind.TheVariants as k
-use Rattle.rv_lex.specs.Lexes.{Lexeme}
-use Rattle.rv_tree.specs.Phrases.{Phrase, ◌⨾◌, Is, IsAt, Nothing, Flag, Maybe, Each, AtLeastOne, EachAfter, Listed}
-use Rattle.rv_tree.specs.Names.{Identifier, Name}
+use Rattle.rv_tree.specs.Phrases.{Phrase, ◌⨾◌, Is, IsAt, Nothing, Flag, Maybe, Each, AtLeastOne, Listed}
 use Rattle.rv_tree.specs.NameGrammar.{IsIdentifier, IsName, AreIdentifiers, IsEnd}
-use Rattle.rv_tree.specs.Expressions.{Expression}
 use Rattle.rv_tree.specs.ExpressionGrammar.{IsExpression, IsRange}
 use Rattle.rv_tree.specs.DeclarationGrammar.{IsPragma, AreParameters, IsInitial, IsProtectedUnit, IsTask}
 use Rattle.rv_tree.specs.StatementGrammar.{AreStatements}

@@ -1,5 +1,5 @@
 -- The bodies that values of the code stand for.
-use Rattle.std.specs.Prelude.{ℕ, List, map, Option}
+use Rattle.std.specs.Prelude.{map}
 use Rattle.rv_tree.specs.Bodies as t
 use Rattle.rv_tree.specs.Statements.{statements_of}
 use Rattle.rv_tree.specs.NameView.{identifier_view, identifiers_view, name_view}

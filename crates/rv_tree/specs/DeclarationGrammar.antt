@@ -1,12 +1,10 @@
 -- Declarations of packages, protected units and tasks, one clause a production.
-use Rattle.std.specs.Prelude.{◌≡◌, ℕ, Bool, true, false, List, [], ◌∷◌, Option, Some, None}
-use Rattle.rv_lex.specs.declared.kind.Kind.{Kind}
+use Rattle.std.specs.Prelude.{List, [], ◌∷◌, Option, Some, None}
 use Rattle.rv_lex.specs.declared.kind.Kind.TheVariants as k
-use Rattle.rv_lex.specs.Lexes.{Lexeme}
 use Rattle.rv_tree.specs.declared.declaration.Mode.{Mode}
 use Rattle.rv_tree.specs.declared.declaration.Mode.TheVariants.{NotWritten, In, Out, InOut}
 use Rattle.rv_tree.specs.Phrases.{Phrase, ◌⨾◌, Is, IsAt, Nothing, Flag, Maybe, Each, After, Listed, Enclosed}
-use Rattle.rv_tree.specs.Names.{Identifier, Name}
+use Rattle.rv_tree.specs.Names.{Identifier}
 use Rattle.rv_tree.specs.NameGrammar.{IsIdentifier, IsName, AreIdentifiers, IsEnd}
 use Rattle.rv_tree.specs.Expressions.{Expression}
 use Rattle.rv_tree.specs.ExpressionGrammar.{IsExpression, IsRange}

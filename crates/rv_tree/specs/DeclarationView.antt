@@ -1,14 +1,8 @@
 -- The declarations that values of the code stand for.
-use Rattle.std.specs.Prelude.{ℕ, List, map, Option, Some, None}
-use Rattle.rv_tree.specs.Names as n
-use Rattle.rv_tree.specs.Expressions as e
+use Rattle.std.specs.Prelude.{map, Option, Some, None}
 use Rattle.rv_tree.specs.Declarations as t
 use Rattle.rv_tree.specs.NameView.{identifier_view, identifiers_view, name_view}
 use Rattle.rv_tree.specs.ExpressionView.{expression_view, range_view}
-use Rattle.rv_tree.specs.declared.name.Identifier.{Identifier}
-use Rattle.rv_tree.specs.declared.name.Name.{Name}
-use Rattle.rv_tree.specs.declared.expression.Expression.{Expression}
-use Rattle.rv_tree.specs.declared.expression.RangeConstraint.{RangeConstraint}
 use Rattle.rv_tree.specs.declared.declaration.PragmaArgument.{PragmaArgument}
 use Rattle.rv_tree.specs.declared.declaration.Pragma.{Pragma}
 use Rattle.rv_tree.specs.declared.declaration.Aspect.{Aspect}

@@ -1,5 +1,5 @@
 -- The tree that an expression of the code stands for.
-use Rattle.std.specs.Prelude.{ℕ, List, map}
+use Rattle.std.specs.Prelude.{List, map}
 use Rattle.rv_tree.specs.Expressions as t
 use Rattle.rv_tree.specs.NameView.{identifier_view, name_view}
 use Rattle.rv_tree.specs.declared.expression.Factor.{Factor, fold-Factor}

@@ -1,8 +1,8 @@
 -- name = id {"." id}, and lists of both (ISO/IEC 8652:2012, 2.3, 4.1).
-use Rattle.std.specs.Prelude.{◌≡◌, ℕ, List, [], ◌∷◌, Option, Some, None}
+use Rattle.std.specs.Prelude.{◌≡◌, List, ◌∷◌, Option}
 use Rattle.rv_lex.specs.declared.kind.Kind.TheVariants as k
 use Rattle.rv_lex.specs.Lexes.{Lexeme}
-use Rattle.rv_tree.specs.Phrases.{Phrase, ◌⨾◌, Is, Nothing, Maybe, Listed, EachAfter}
+use Rattle.rv_tree.specs.Phrases.{Phrase, ◌⨾◌, Is, Maybe, Listed, EachAfter}
 use Rattle.rv_tree.specs.Names.{Identifier, Name}
 
 abbrev pub IsIdentifier : Identifier → Phrase

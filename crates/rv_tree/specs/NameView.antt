@@ -1,5 +1,5 @@
 -- The names that values of the code stand for.
-use Rattle.std.specs.Prelude.{ℕ, List, map, Option, string_bytes}
+use Rattle.std.specs.Prelude.{List, map, string_bytes}
 use Rattle.rv_tree.specs.Names as t
 use Rattle.rv_tree.specs.declared.name.Identifier.{Identifier}
 use Rattle.rv_tree.specs.declared.name.Name.{Name}

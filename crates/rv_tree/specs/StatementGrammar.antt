@@ -1,10 +1,8 @@
 -- Statements (ISO/IEC 8652:2012, 5.1), one clause a production.
-use Rattle.std.specs.Prelude.{◌≡◌, ℕ, Bool, true, false, List, [], ◌∷◌, Option, Some, None}
-use Rattle.rv_lex.specs.declared.kind.Kind.{Kind}
+use Rattle.std.specs.Prelude.{ℕ, Bool, true, false, Option, Some, None}
 use Rattle.rv_lex.specs.declared.kind.Kind.TheVariants as k
-use Rattle.rv_lex.specs.Lexes.{Lexeme}
-use Rattle.rv_tree.specs.Phrases.{Phrase, ◌⨾◌, Is, IsAt, Nothing, Never, Flag, Maybe, After, Listed, Enclosed}
-use Rattle.rv_tree.specs.Names.{Identifier, Name}
+use Rattle.rv_tree.specs.Phrases.{Phrase, ◌⨾◌, Is, IsAt, Nothing, Never, Flag, Maybe, After, Listed}
+use Rattle.rv_tree.specs.Names.{Identifier}
 use Rattle.rv_tree.specs.NameGrammar.{IsIdentifier, IsName, AreNames}
 use Rattle.rv_tree.specs.Expressions.{Expression, Expressions, no_expressions, and_expression}
 use Rattle.rv_tree.specs.ExpressionGrammar.{IsExpression, AreArguments, IsRange}

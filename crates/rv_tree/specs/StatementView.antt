@@ -1,5 +1,5 @@
 -- The tree that a statement of the code stands for.
-use Rattle.std.specs.Prelude.{ℕ, List, map, Option}
+use Rattle.std.specs.Prelude.{List, map}
 use Rattle.rv_tree.specs.Statements as t
 use Rattle.rv_tree.specs.Expressions.{expressions_of}
 use Rattle.rv_tree.specs.NameView.{identifier_view, name_view, names_view}

@@ -1,11 +1,7 @@
 -- Whole unit texts (ISO/IEC 8652:2012, 7.1, 7.2, 10.1), one clause a production.
-use Rattle.std.specs.Prelude.{◌≡◌, ℕ, Bool, true, false, List, [], ◌∷◌, Option, Some, None}
-use Rattle.rv_lex.specs.declared.kind.Kind.{Kind}
 use Rattle.rv_lex.specs.declared.kind.Kind.TheVariants as k
-use Rattle.rv_lex.specs.Lexes.{Lexeme}
-use Rattle.rv_tree.specs.Phrases.{Phrase, ◌⨾◌, Is, IsAt, Nothing, Flag, Maybe, Each, EachAfter, Listed}
-use Rattle.rv_tree.specs.Names.{Identifier, Name}
-use Rattle.rv_tree.specs.NameGrammar.{IsIdentifier, IsName, AreNames, IsEnd}
+use Rattle.rv_tree.specs.Phrases.{Phrase, ◌⨾◌, Is, IsAt, Flag, Each}
+use Rattle.rv_tree.specs.NameGrammar.{IsIdentifier, AreNames, IsEnd}
 use Rattle.rv_tree.specs.DeclarationGrammar.{IsPragma, IsDeclaration}
 use Rattle.rv_tree.specs.BodyGrammar.{IsProtectedBody, IsTaskBody}
 use Rattle.rv_tree.specs.Units.{ContextItem, context_pragma, with_clause, use_clause, PackageSpecification, BodyItem, body_declaration, body_protected, body_task, PackageBody, UnitTree}

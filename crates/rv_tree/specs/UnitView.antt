@@ -1,5 +1,5 @@
 -- The unit text's tree that a value of the code stands for.
-use Rattle.std.specs.Prelude.{ℕ, List, map, Option}
+use Rattle.std.specs.Prelude.{map}
 use Rattle.rv_tree.specs.Units as t
 use Rattle.rv_tree.specs.NameView.{identifier_view, names_view}
 use Rattle.rv_tree.specs.DeclarationView.{maybe, pragma_view, declaration_view}

@@ -5,10 +5,8 @@ ghost use Rattle.rv_tree.specs.BodyView.{handler_view};
 ghost use Rattle.rv_tree.specs.BodyPrint.{handlers_onto};
 
 use crate::body::{Block, ExceptionChoice, Handler, Local, OperationBody, ProtectedBody, TaskBody};
-use crate::print_declaration::{
-    print_end, print_identifiers, print_maybe_initial, print_parameters,
-};
 use crate::print_expression::print_expression;
+use crate::print_part::{print_end, print_identifiers, print_maybe_initial, print_parameters};
 use crate::print_statement::print_statements;
 use crate::printer::{Printed, Printer};
 use rv_lex::kind::Kind;

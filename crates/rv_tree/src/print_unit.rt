@@ -5,7 +5,7 @@ ghost use Rattle.rv_tree.specs.UnitView.{unit_view};
 ghost use Rattle.rv_tree.specs.UnitPrint.{unit_onto};
 ghost use Rattle.rv_tree.specs.Printed.{PrintsTree};
 
-use crate::print_declaration::print_end;
+use crate::print_part::print_end;
 use crate::printer::{Printed, Printer};
 use crate::unit::{BodyItem, ContextItem, PackageBody, PackageSpecification, UnitTree};
 use rv_lex::kind::Kind;

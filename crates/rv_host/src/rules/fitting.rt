@@ -15,7 +15,7 @@ use crate::rules::values::{fit_exit, fit_parameters, fit_scalars};
 use crate::seen::Seen;
 use rv_event::entry::{Body, Exit, Mode, Request, Stance};
 use rv_prio::MOST_HELD;
-use rv_shape::actor::{Actor, Callee};
+use rv_shape::actor::{Actor, Callee, FIRST_TASK};
 use rv_shape::catalogue::Catalogue;
 
 /// The actor's innermost body.
@@ -183,7 +183,7 @@ fn fits_call(seen: &Seen, actor: usize, mode: Mode, callee: &Callee, values: &[i
 pub fn is_known(catalogue: &Catalogue, actor: usize) -> bool
     ensures { result ≡ nat_lt actor (actors catalogue.now) }
 {
-    actor < 11 + catalogue.tasks()
+    actor < FIRST_TASK + catalogue.tasks()
 }
 
 // Whether a request fits an actor that there is, in this mode.
