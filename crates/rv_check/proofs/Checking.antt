@@ -1,10 +1,9 @@
 -- What is told of a section that was looked at.
 use Rattle.std.proofs.Common.{◌≡◌, ◌≢◌, ◌≤◌, ℕ, List, [], ◌∷◌, ◌++◌, Some, None, Option, Ok, Err, Result, length, refl, sym, ◌∙◌, subst, inl, inr}
-use Rattle.rv_tree.specs.Units.{UnitTree}
-use Rattle.rv_tree.specs.Derives.{Derives}
-use Rattle.rv_parse.specs.Texts.{ReadsTree, OfWords, OfDepth}
-use Rattle.rv_parse.specs.declared.fault.ParseFault.{ParseFault}
-use Rattle.rv_parse.specs.declared.fault.ParseFault.TheVariants as Parses
+use Rattle.rv_script.specs.UnitTexts.{most_unit_bytes}
+use Rattle.rv_unit.specs.Compiles.{IsUnit, IsRefused}
+use Rattle.rv_unit.specs.declared.fault.UnitFault.{UnitFault}
+use Rattle.rv_unit.specs.declared.fault.UnitFault.TheVariants as Units
 use Rattle.rv_fault.specs.declared.failure.Failure.{Failure}
 use Rattle.rv_fault.specs.declared.failure.Failure.TheVariants.{Refused, Memory, Io}
 use Rattle.rv_fault.specs.declared.fault.What.TheVariants as Whats
@@ -19,7 +18,7 @@ use Rattle.rv_shape.specs.Drafts.{Fails as ShapeFails}
 use Rattle.rv_shape.specs.Fits.{fault}
 use Rattle.rv_shape.specs.declared.fault.ShapeFault.{ShapeFault}
 use Rattle.rv_shape.specs.declared.fault.ShapeFault.TheVariants as Shapes
-use Rattle.rv_check.specs.Checks.{Finding, Tells, OfUnit, OfShape, OfList, as_shape, fitting, list_line, shape_line, unit_failure, shape_failure, list_failure, most_unit_bytes}
+use Rattle.rv_check.specs.Checks.{Finding, Tells, Adds, OfUnit, OfShape, OfList, as_shape, fitting, list_line, shape_line, unit_failure, shape_failure, list_failure}
 
 -- a line that is said tells what was found
 pub said_tells : (old new : Option (List ℕ)) (line : ℕ) (finds : Finding) (said : List ℕ) (r : Result (Unit {0}) Failure) → finds said None → Puts old new said r → Tells old new line finds r
@@ -29,11 +28,23 @@ said_tells old new line finds said (Err Memory) f h = inr (said, f, h)
 said_tells old new line finds said (Err (Io error)) f h = inr (said, f, h)
 
 -- what stands against a unit text is told
-pub unit_told : (text : List ℕ) (old : Option (List ℕ)) (line : ℕ) (fault : ParseFault) → length text ≤ most_unit_bytes → ((tree : UnitTree) → Derives text tree → ReadsTree tree (Err fault)) → OfWords text (Err fault) → OfDepth text (Err fault) → let r : Result (Unit {0}) Failure = Err (unit_failure line fault) in Tells old old line (OfUnit text) r
-unit_told text old line Parses.NoMemory few complete words deep = inl refl
-unit_told text old line (Parses.Lex told) few complete words deep = ((few, words, refl), refl, refl)
-unit_told text old line (Parses.Unexpected at) few complete words deep = ((few, tt, complete, words, deep, refl), refl, refl)
-unit_told text old line (Parses.TooDeep at) few complete words deep = ((few, tt, complete, words, deep, refl), refl, refl)
+pub unit_told : (shapes after : List Shape) (text : List ℕ) (old : Option (List ℕ)) (line : ℕ) (told : UnitFault) → length text ≤ most_unit_bytes → IsRefused shapes text told → let r : Result (Unit {0}) Failure = Err (unit_failure line told) in Tells old old line (OfUnit shapes after text) r
+unit_told shapes after text old line Units.NoMemory few refused = inl refl
+unit_told shapes after text old line (Units.Lex told) few refused = ((few, refused, (λ (e : Units.Lex told ≡ Units.NoMemory). absurd cc), refl), refl, refl)
+unit_told shapes after text old line (Units.Parse told) few refused = ((few, refused, (λ (e : Units.Parse told ≡ Units.NoMemory). absurd cc), refl), refl, refl)
+unit_told shapes after text old line (Units.Restriction told) few refused = ((few, refused, (λ (e : Units.Restriction told ≡ Units.NoMemory). absurd cc), refl), refl, refl)
+unit_told shapes after text old line (Units.Names told) few refused = ((few, refused, (λ (e : Units.Names told ≡ Units.NoMemory). absurd cc), refl), refl, refl)
+unit_told shapes after text old line (Units.Types told) few refused = ((few, refused, (λ (e : Units.Types told ≡ Units.NoMemory). absurd cc), refl), refl, refl)
+unit_told shapes after text old line (Units.Shape told) few refused = ((few, refused, (λ (e : Units.Shape told ≡ Units.NoMemory). absurd cc), refl), refl, refl)
+
+-- a unit that a text gives was added, or its line wasn't written whole
+pub adds_told : (old new : Option (List ℕ)) (line : ℕ) (shapes after : List Shape) (shape : Shape) (text : List ℕ) → length text ≤ most_unit_bytes → IsUnit shapes text shape → (r : Result (Unit {0}) Failure) → Tells old new line (Adds shapes after shape) r → Tells old new line (OfUnit shapes after text) r
+adds_told old new line shapes after shape text few unit (Ok x) h = (h.0, (shape, few, unit, h.1), h.2)
+adds_told old new line shapes after shape text few unit (Err (Refused told)) h = absurd h.0
+adds_told old new line shapes after shape text few unit (Err Memory) (inl same) = inl same
+adds_told old new line shapes after shape text few unit (Err Memory) (inr h) = inr (h.0, (shape, few, unit, h.1), h.2)
+adds_told old new line shapes after shape text few unit (Err (Io error)) (inl same) = inl same
+adds_told old new line shapes after shape text few unit (Err (Io error)) (inr h) = inr (h.0, (shape, few, unit, h.1), h.2)
 
 -- a list that was read
 pub list_read : (text : List ℕ) (list : List Words) → list_of text ≡ Ok list → OfList text (list_line (length list)) None

@@ -13,14 +13,12 @@ use Rattle.rv_shape.specs.Fits.{fault}
 use Rattle.rv_shape.specs.declared.fault.ShapeFault.{ShapeFault}
 use Rattle.rv_shape.specs.declared.fault.ShapeFault.TheVariants.{BadText}
 use Rattle.rv_shape.specs.declared.fault.ShapeFault.TheVariants as Shapes
-use Rattle.rv_tree.specs.Units.{UnitTree}
-use Rattle.rv_tree.specs.Derives.{Derives}
-use Rattle.rv_parse.specs.Texts.{ReadsTree, OfWords, OfDepth}
-use Rattle.rv_parse.specs.declared.fault.ParseFault.{ParseFault}
-use Rattle.rv_parse.specs.declared.fault.ParseFault.TheVariants as Parses
+use Rattle.rv_unit.specs.Compiles.{IsUnit, IsRefused as IsNoUnit}
+use Rattle.rv_unit.specs.declared.fault.UnitFault.{UnitFault}
+use Rattle.rv_unit.specs.declared.fault.UnitFault.TheVariants as Units
 use Rattle.rv_script.specs.Openings.{OpenedText, opened, opening_of}
 use Rattle.rv_script.specs.Prefixes.{WritesPrefix}
-use Rattle.rv_script.specs.UnitTexts.{without_returns}
+use Rattle.rv_script.specs.UnitTexts.{most_unit_bytes, without_returns}
 use Rattle.rv_script.specs.declared.opening.Opening.{Opening}
 use Rattle.rv_script.specs.declared.opening.Opening.TheVariants as Openings
 use Rattle.rv_settings.specs.Settings.{SettingsText, IsSettings, IsRefused}
@@ -44,36 +42,25 @@ abbrev pub list_line : ℕ → List ℕ
 list_line count = codes "list: ok " ++ (decimal count ++ (codes " lines" ++ 10 ∷ []))
 
 -- why a unit text is refused whose section opens at a line
-abbrev pub unit_failure : ℕ → ParseFault → Failure
-unit_failure line Parses.NoMemory = Memory
-unit_failure line (Parses.Lex told) = Refused (record { line = line; what = Whats.Lex told })
-unit_failure line (Parses.Unexpected at) = Refused (record { line = line; what = Whats.Parse (Parses.Unexpected at) })
-unit_failure line (Parses.TooDeep at) = Refused (record { line = line; what = Whats.Parse (Parses.TooDeep at) })
+abbrev pub unit_failure : ℕ → UnitFault → Failure
+unit_failure line Units.NoMemory = Memory
+unit_failure line told = Refused (record { line = line; what = Whats.Unit told })
 
 -- what is said of a section, and what stands against it
 abbrev pub Finding : Type 1
 Finding = List ℕ → Option What → Type 0
 
--- the greatest length of a unit text, in bytes
-abbrev pub most_unit_bytes : ℕ
-most_unit_bytes = 262144
+-- a unit fits those of the sections before, and stands behind them from then on
+abbrev pub Adds : List Shape → List Shape → Shape → Finding
+Adds shapes after shape said None = (said ≡ unit_line shape.name) × (after ≡ shapes ++ shape ∷ [])
+Adds shapes after shape said (Some what) = ⊥
 
--- a fault of the grammar
-abbrev pub IsOfGrammar : ParseFault → Type 0
-IsOfGrammar (Parses.Unexpected at) = Unit {0}
-IsOfGrammar (Parses.TooDeep at) = Unit {0}
-IsOfGrammar (Parses.Lex told) = ⊥
-IsOfGrammar Parses.NoMemory = ⊥
-
--- a unit text, which has no carriage return before a line feed, is well formed so far where it derives a tree; one that is too long is refused whatever its words
-abbrev pub OfUnit : List ℕ → Finding
-OfUnit text said None = (tree : UnitTree) × (length text ≤ most_unit_bytes) × Derives text tree × (said ≡ unit_line tree.specification.name.text)
-OfUnit text said (Some Whats.TooLong) = (most_unit_bytes < length text) × (said ≡ [])
-OfUnit text said (Some (Whats.Lex told)) = (length text ≤ most_unit_bytes) × OfWords text (Err (Parses.Lex told)) × (said ≡ [])
-OfUnit text said (Some (Whats.Parse told)) =
-    (length text ≤ most_unit_bytes) × IsOfGrammar told × ((tree : UnitTree) → Derives text tree → ReadsTree tree (Err told))
-    × OfWords text (Err told) × OfDepth text (Err told) × (said ≡ [])
-OfUnit text said (Some what) = ⊥
+-- a unit text, which has no carriage return before a line feed, gives a unit that fits; one that is too long is refused whatever its words
+abbrev pub OfUnit : List Shape → List Shape → List ℕ → Finding
+OfUnit shapes after text said None = (shape : Shape) × (length text ≤ most_unit_bytes) × IsUnit shapes text shape × Adds shapes after shape said None
+OfUnit shapes after text said (Some Whats.TooLong) = (most_unit_bytes < length text) × (said ≡ [])
+OfUnit shapes after text said (Some (Whats.Unit told)) = (length text ≤ most_unit_bytes) × IsNoUnit shapes text told × (told ≡ Units.NoMemory → ⊥) × (said ≡ [])
+OfUnit shapes after text said (Some what) = ⊥
 
 -- a shape fits those of the sections before, and stands behind them from then on
 abbrev pub fitting : List Shape → List Shape → Shape → Option ShapeFault → Finding
@@ -98,7 +85,7 @@ OfList text = as_list (list_of text)
 -- a section behind the settings, on the shapes of those before, and the shapes that there are then; openings that aren't named
 -- here aren't checked
 abbrev pub as_section : List Shape → List Shape → List ℕ → Option Opening → Finding
-as_section shapes after text (Some Openings.UnitText) said what = OfUnit (without_returns text) said what × (after ≡ shapes)
+as_section shapes after text (Some Openings.UnitText) said what = OfUnit shapes after (without_returns text) said what
 as_section shapes after text (Some Openings.Shape) said what = OfShape shapes after text said what
 as_section shapes after text (Some Openings.AccessList) said what = OfList text said what × (after ≡ shapes)
 as_section shapes after text opening said what = (what ≡ Some Whats.BadSection) × (said ≡ [])

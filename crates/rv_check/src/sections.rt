@@ -2,25 +2,22 @@
 
 ghost use Rattle.std.specs.Prelude.{◌≡◌, ℕ, List, length, IfOk, option_map, string_bytes};
 ghost use Rattle.rv_fault.specs.Written.{Puts};
-ghost use Rattle.rv_check.specs.Checks.{unit_line, shape_line, list_line, unit_failure, shape_failure, list_failure, OfUnit, OfShape, OfList, OfSettings, as_section, Tells};
+ghost use Rattle.rv_check.specs.Checks.{unit_line, shape_line, list_line, unit_failure, shape_failure, list_failure, Adds, OfUnit, OfShape, OfList, OfSettings, as_section, Tells};
 ghost use Rattle.rv_script.specs.Openings.{opening_of};
 ghost use Rattle.rv_script.specs.UnitTexts.{without_returns};
 
 use rv_access::{ListFault, read_list};
 use rv_fault::{Failure, What, put, refused};
-use rv_parse::{ParseFault, parse};
-use rv_script::unit_text::unit_text;
+use rv_script::unit_text::{MOST_UNIT_BYTES, unit_text};
 use rv_script::{Opening, opening_of};
 use rv_settings::{SettingsFault, read_settings};
 use rv_shape::catalogue::Catalogue;
 use rv_shape::fault::ShapeFault;
 use rv_shape::reading::read_shape;
 use rv_text::Section;
+use rv_unit::{Unit, UnitFault, compile};
 use std::alloc::{AllocError, Global};
 use std::io::Write;
-
-/// The greatest length of a unit text, in bytes.
-pub const MOST_UNIT_BYTES: usize = 262_144;
 
 // The line that is said of a unit text.
 fn unit_line(alloc: Global, name: &str) -> Result<String, AllocError>
@@ -55,45 +52,62 @@ fn say<W: Write>(writer: &mut W, line: Result<String, AllocError>) -> Result<(),
 }
 
 // Why a unit text is refused whose section opens at a line.
-fn unit_failure(line: usize, fault: ParseFault) -> Failure
+fn unit_failure(line: usize, fault: UnitFault) -> Failure
     ensures { result ≡ unit_failure line fault }
 {
     match fault {
-        ParseFault::NoMemory => Failure::Memory,
-        ParseFault::Lex(fault) => refused(line, What::Lex(fault)),
-        ParseFault::Unexpected(_) | ParseFault::TooDeep(_) => refused(line, What::Parse(fault)),
+        UnitFault::NoMemory => Failure::Memory,
+        _ => refused(line, What::Unit(fault)),
     }
 }
 
-// Looks at a unit text that has no carriage return before a line feed. So far it is well formed where it
-// derives a tree.
+// Adds a unit, which fits, to those of the sections before: memory alone may be refused.
+fn add_unit<W: Write>(
+    alloc: Global,
+    writer: &mut W,
+    catalogue: &mut Catalogue,
+    line: usize,
+    unit: &Unit,
+) -> Result<(), Failure>
+    ensures { Tells (W.contents writer.old) (W.contents writer.new) line (Adds catalogue.old catalogue.new unit.now.shape) result }
+{
+    match catalogue.add(&unit.shape) {
+        Ok(()) => say(writer, unit_line(alloc, unit.shape.name())),
+        Err(_) => Err(Failure::Memory),
+    }
+}
+
+// Looks at a unit text that has no carriage return before a line feed, and adds the unit to those of the sections before.
 fn check_text<W: Write>(
     alloc: Global,
     writer: &mut W,
+    catalogue: &mut Catalogue,
     line: usize,
     text: &str,
 ) -> Result<(), Failure>
-    ensures { Tells (W.contents writer.old) (W.contents writer.new) line (OfUnit text.now) result }
+    ensures { Tells (W.contents writer.old) (W.contents writer.new) line (OfUnit catalogue.old catalogue.new text.now) result }
 {
     if text.len() > MOST_UNIT_BYTES {
         return Err(refused(line, What::TooLong));
     }
-    match parse(alloc, text) {
-        Ok(unit) => {
-            let name = unit.specification.name.text.as_str();
-            say(writer, unit_line(alloc, name))
-        }
+    match compile(alloc, text, catalogue) {
+        Ok(unit) => add_unit(alloc, writer, catalogue, line, &unit),
         Err(fault) => Err(unit_failure(line, fault)),
     }
 }
 
 // Looks at a unit text, without each carriage return that stands before a line feed.
-fn check_unit<W: Write>(alloc: Global, writer: &mut W, section: &Section<'_>) -> Result<(), Failure>
+fn check_unit<W: Write>(
+    alloc: Global,
+    writer: &mut W,
+    catalogue: &mut Catalogue,
+    section: &Section<'_>,
+) -> Result<(), Failure>
     ensures { Tells (W.contents writer.old) (W.contents writer.new) section.now.line
-        (OfUnit (without_returns section.now.text.now)) result }
+        (OfUnit catalogue.old catalogue.new (without_returns section.now.text.now)) result }
 {
     match unit_text(alloc, section.text) {
-        Ok(text) => check_text(alloc, writer, section.line, text.as_str()),
+        Ok(text) => check_text(alloc, writer, catalogue, section.line, text.as_str()),
         Err(_) => Err(Failure::Memory),
     }
 }
@@ -175,7 +189,7 @@ pub fn check_section<W: Write>(
         (as_section catalogue.old catalogue.new section.now.text.now (opening_of section.now.opening.now)) result }
 {
     match opening_of(section.opening) {
-        Some(Opening::UnitText) => check_unit(alloc, writer, section),
+        Some(Opening::UnitText) => check_unit(alloc, writer, catalogue, section),
         Some(Opening::Shape) => check_shape(alloc, writer, catalogue, section),
         Some(Opening::AccessList) => check_list(alloc, writer, section),
         _ => Err(refused(section.line, What::BadSection)),

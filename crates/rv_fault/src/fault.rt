@@ -4,11 +4,10 @@ ghost use Rattle.std.specs.Prelude.{◌≡◌};
 ghost use Rattle.rv_fault.specs.Faults.{of_bytes};
 
 use rv_access::ListFault;
-use rv_lex::fault::LexFault;
-use rv_parse::ParseFault;
 use rv_script::TextError;
 use rv_settings::SettingsFault;
 use rv_shape::fault::ShapeFault;
+use rv_unit::UnitFault;
 use thiserror::Error;
 
 /// What is wrong with a script.
@@ -38,12 +37,9 @@ pub enum What {
     /// A section whose text is no list.
     #[error("list {0}")]
     List(ListFault),
-    /// A unit text whose words have a fault.
-    #[error("lex {0}")]
-    Lex(LexFault),
-    /// A unit text that derives no tree, or nests too deep.
-    #[error("parse {0}")]
-    Parse(ParseFault),
+    /// A unit text that is no unit, or one that doesn't fit.
+    #[error("{0}")]
+    Unit(UnitFault),
 }
 
 impl What {

@@ -20,21 +20,22 @@ use Rattle.rv_shape.specs.ShapeText.{shape_of}
 use Rattle.rv_script.specs.declared.opening.Opening.{Opening}
 use Rattle.rv_script.specs.declared.opening.Opening.TheVariants as Openings
 use Rattle.rv_script.specs.Openings.{opening_of}
+use Rattle.rv_script.specs.UnitTexts.{without_returns}
 use Rattle.rv_step.specs.StepText.{StepWords, step_of}
-use Rattle.rv_play.specs.Acts.{Act, Stops, line_of, step_act, line_acts, load_act, set_act, acts_in, section_acts}
-use Rattle.rv_play.specs.Deeds.{DeedText, deed_of, Comes}
+use Rattle.rv_play.specs.Acts.{Act, Compiles, Stops, line_of, step_act, line_acts, load_act, set_act, acts_in, section_acts}
+use Rattle.rv_play.specs.Deeds.{DeedText, ComesToDeed, Comes}
 use Rattle.rv_play.specs.Scripted.{Stage, Playing, Plays, tell, told_line, told_text, Does}
 use Rattle.rv_play.specs.Carried.{Part, Carries}
 use Rattle.rv_play.proofs.Carrying.{nothing_done}
 
-one_told : (p : Playing) (act : Act) (deed : DeedText) → deed_of p.stage.history.shapes act ≡ Ok deed → Plays p.stage (act ∷ []) (tell p.stage deed ∷ []) None (tell p.stage deed).after
-one_told p act deed e = (record { comes = sym e; told = refl }, refl)
+one_told : (p : Playing) (act : Act) (deed : DeedText) → ComesToDeed p.stage.history.shapes act (Ok deed) → Plays p.stage (act ∷ []) (tell p.stage deed ∷ []) None (tell p.stage deed).after
+one_told p act deed e = (record { comes = e; told = refl }, refl)
 
 one_text : (p : Playing) (deed : DeedText) → told_line p.all (tell p.stage deed) ≡ told_text p.all (tell p.stage deed ∷ [])
 one_text p deed = sym (append-nil (told_line p.all (tell p.stage deed)))
 
 -- the act was carried out; its line, or a prefix of it, is written
-pub does_act : (a b : Option (List ℕ)) (p q : Playing) (act : Act) (deed : DeedText) (result : Result (Unit {0}) Failure) → deed_of p.stage.history.shapes act ≡ Ok deed → Does a b p q deed result → Carries a b p q (act ∷ []) result
+pub does_act : (a b : Option (List ℕ)) (p q : Playing) (act : Act) (deed : DeedText) (result : Result (Unit {0}) Failure) → ComesToDeed p.stage.history.shapes act (Ok deed) → Does a b p q deed result → Carries a b p q (act ∷ []) result
 does_act a b p q act deed (Ok x) e does =
     let t = tell p.stage deed in
     let there : t.after ≡ q.stage = ap (λ (r : Playing). r.stage) (sym does.player) in (
@@ -48,7 +49,7 @@ does_act a b p q act deed (Ok x) e does =
 does_act a b p q act deed (Err (Refused fault)) e does = absurd does.text
 does_act a b p q act deed (Err Memory) e does = part_told a b p act deed e does.text
   where
-    part_told : (a b : Option (List ℕ)) (p : Playing) (act : Act) (deed : DeedText) → deed_of p.stage.history.shapes act ≡ Ok deed → WritesPrefix a b (told_line p.all (tell p.stage deed)) → Part a b p (act ∷ [])
+    part_told : (a b : Option (List ℕ)) (p : Playing) (act : Act) (deed : DeedText) → ComesToDeed p.stage.history.shapes act (Ok deed) → WritesPrefix a b (told_line p.all (tell p.stage deed)) → Part a b p (act ∷ [])
     part_told a b p act deed e text = record {
       done = act ∷ [];
       rest = [];
@@ -69,12 +70,12 @@ does_act a b p q act deed (Err (Io error)) e does = record {
 }
 
 -- something stood against it, or memory was refused
-pub fails_act : (a : Option (List ℕ)) (p : Playing) (act : Act) (failure : Failure) → (let come : Result DeedText Failure = Err failure in Comes (line_of act) (deed_of p.stage.history.shapes act) come) → Carries a a p p (act ∷ []) (Err failure)
+pub fails_act : (a : Option (List ℕ)) (p : Playing) (act : Act) (failure : Failure) → (let come : Result DeedText Failure = Err failure in Comes (line_of act) (ComesToDeed p.stage.history.shapes act) come) → Carries a a p p (act ∷ []) (Err failure)
 fails_act a p act (Refused fault) comes = (
   p.stage,
   record {
     told = [];
-    plays = (record { comes = sym (comes.1 ∙ ap (λ (w : What). Err w) (sym (ap (λ (f : ScriptFault). f.what) comes.2))); line = ap (λ (f : ScriptFault). f.line) comes.2 }, refl);
+    plays = (record { comes = subst (λ (w : What). ComesToDeed p.stage.history.shapes act (Err w)) (sym (ap (λ (f : ScriptFault). f.what) comes.2)) comes.1; line = ap (λ (f : ScriptFault). f.line) comes.2 }, refl);
     written = keeps_nothing a;
   },
 )
@@ -99,18 +100,18 @@ set_line line (Err fault) = refl
 
 -- what an act came to was carried out, for each act that came to it
 abbrev pub Performs : Known → Known → Playing → Playing → Result DeedText Failure → Ended → Type 0
-Performs a b p q deed result = (act : Act) → Comes (line_of act) (deed_of p.stage.history.shapes act) deed → Carries a b p q (act ∷ []) result
+Performs a b p q deed result = (act : Act) → Comes (line_of act) (ComesToDeed p.stage.history.shapes act) deed → Carries a b p q (act ∷ []) result
 
 -- what an act of this line came to, where these shapes are loaded
 act_performed : (a b : Known) (p q : Playing) (deed : Result DeedText Failure) (result : Ended) (shapes : List Shape) (line : ℕ) (act : Act) → shapes ≡ p.stage.history.shapes → line_of act ≡ line → Performs a b p q deed result
-    → Comes line (deed_of shapes act) deed → Carries a b p q (act ∷ []) result
+    → Comes line (ComesToDeed shapes act) deed → Carries a b p q (act ∷ []) result
 act_performed a b p q deed result shapes line act loaded same performs comes =
-    let there : Comes line (deed_of p.stage.history.shapes act) deed = subst (λ (ss : List Shape). Comes line (deed_of ss act) deed) loaded comes in
-    performs act (subst (λ (n : ℕ). Comes n (deed_of p.stage.history.shapes act) deed) (sym same) there)
+    let there : Comes line (ComesToDeed p.stage.history.shapes act) deed = subst (λ (ss : List Shape). Comes line (ComesToDeed ss act) deed) loaded comes in
+    performs act (subst (λ (n : ℕ). Comes n (ComesToDeed p.stage.history.shapes act) deed) (sym same) there)
 
 -- a line that has words
 pub line_performed : (a b : Known) (p q : Playing) (deed : Result DeedText Failure) (result : Ended) (shapes : List Shape) (line : ℕ) (ws : List (List ℕ)) → shapes ≡ p.stage.history.shapes → is_some_word ws ≡ true → Performs a b p q deed result
-    → Comes line (deed_of shapes (step_act line (step_of ws))) deed → Carries a b p q (line_acts line ws) result
+    → Comes line (ComesToDeed shapes (step_act line (step_of ws))) deed → Carries a b p q (line_acts line ws) result
 line_performed a b p q deed result shapes line [] loaded some performs comes = absurd cc
 line_performed a b p q deed result shapes line (word ∷ others) loaded some performs comes =
     act_performed a b p q deed result shapes line (step_act line (step_of (word ∷ others))) loaded (step_line line (step_of (word ∷ others))) performs comes
@@ -123,17 +124,24 @@ section_carried a b p q result section o e carries = subst (λ (opening : Option
 
 -- a shape
 pub shape_performed : (a b : Known) (p q : Playing) (deed : Result DeedText Failure) (result : Ended) (shapes : List Shape) (section : SectionText) → opening_of section.opening ≡ Some Openings.Shape → shapes ≡ p.stage.history.shapes → Performs a b p q deed result
-    → Comes section.line (deed_of shapes (load_act section.line (shape_of section.text))) deed → Carries a b p q (section_acts section) result
+    → Comes section.line (ComesToDeed shapes (load_act section.line (shape_of section.text))) deed → Carries a b p q (section_acts section) result
 shape_performed a b p q deed result shapes section e loaded performs comes =
     section_carried a b p q result section (Some Openings.Shape) e
     (act_performed a b p q deed result shapes section.line (load_act section.line (shape_of section.text)) loaded (load_line section.line (shape_of section.text)) performs comes)
 
 -- an access list
 pub list_performed : (a b : Known) (p q : Playing) (deed : Result DeedText Failure) (result : Ended) (shapes : List Shape) (section : SectionText) → opening_of section.opening ≡ Some Openings.AccessList → shapes ≡ p.stage.history.shapes → Performs a b p q deed result
-    → Comes section.line (deed_of shapes (set_act section.line (list_of section.text))) deed → Carries a b p q (section_acts section) result
+    → Comes section.line (ComesToDeed shapes (set_act section.line (list_of section.text))) deed → Carries a b p q (section_acts section) result
 list_performed a b p q deed result shapes section e loaded performs comes =
     section_carried a b p q result section (Some Openings.AccessList) e
     (act_performed a b p q deed result shapes section.line (set_act section.line (list_of section.text)) loaded (set_line section.line (list_of section.text)) performs comes)
+
+-- a unit text
+pub unit_performed : (a b : Known) (p q : Playing) (deed : Result DeedText Failure) (result : Ended) (shapes : List Shape) (section : SectionText) → opening_of section.opening ≡ Some Openings.UnitText → shapes ≡ p.stage.history.shapes → Performs a b p q deed result
+    → Comes section.line (ComesToDeed shapes (Compiles section.line (without_returns section.text))) deed → Carries a b p q (section_acts section) result
+unit_performed a b p q deed result shapes section e loaded performs comes =
+    section_carried a b p q result section (Some Openings.UnitText) e
+    (act_performed a b p q deed result shapes section.line (Compiles section.line (without_returns section.text)) loaded refl performs comes)
 
 -- a section whose opening stops the script
 stopped : (a : Known) (p : Playing) (section : SectionText) (o : Option Opening) (failure : Failure) → opening_of section.opening ≡ o → Stops section.line Whats.BadSection ∷ [] ≡ acts_in section o
@@ -149,16 +157,16 @@ pub not_opened : (a : Known) (p : Playing) (section : SectionText) (failure : Fa
     → (let r : Ended = Err failure in Carries a a p p (section_acts section) r)
 not_opened a p section failure e is = stopped a p section None failure e refl is
 
-other_acts : (section : SectionText) (o : Opening) → (o ≡ Openings.Shape → ⊥) → (o ≡ Openings.AccessList → ⊥) → (o ≡ Openings.Steps → ⊥) → Stops section.line Whats.BadSection ∷ [] ≡ acts_in section (Some o)
-other_acts section Openings.Settings shape list steps = refl
-other_acts section Openings.UnitText shape list steps = refl
-other_acts section Openings.Shape shape list steps = absurd (shape refl)
-other_acts section Openings.AccessList shape list steps = absurd (list refl)
-other_acts section Openings.Steps shape list steps = absurd (steps refl)
-other_acts section Openings.Journal shape list steps = refl
-other_acts section Openings.Run shape list steps = refl
+other_acts : (section : SectionText) (o : Opening) → (o ≡ Openings.UnitText → ⊥) → (o ≡ Openings.Shape → ⊥) → (o ≡ Openings.AccessList → ⊥) → (o ≡ Openings.Steps → ⊥) → Stops section.line Whats.BadSection ∷ [] ≡ acts_in section (Some o)
+other_acts section Openings.Settings unit shape list steps = refl
+other_acts section Openings.UnitText unit shape list steps = absurd (unit refl)
+other_acts section Openings.Shape unit shape list steps = absurd (shape refl)
+other_acts section Openings.AccessList unit shape list steps = absurd (list refl)
+other_acts section Openings.Steps unit shape list steps = absurd (steps refl)
+other_acts section Openings.Journal unit shape list steps = refl
+other_acts section Openings.Run unit shape list steps = refl
 
 -- a section that isn't played
-pub not_played : (a : Known) (p : Playing) (section : SectionText) (o : Opening) (failure : Failure) → opening_of section.opening ≡ Some o → (o ≡ Openings.Shape → ⊥) → (o ≡ Openings.AccessList → ⊥) → (o ≡ Openings.Steps → ⊥)
+pub not_played : (a : Known) (p : Playing) (section : SectionText) (o : Opening) (failure : Failure) → opening_of section.opening ≡ Some o → (o ≡ Openings.UnitText → ⊥) → (o ≡ Openings.Shape → ⊥) → (o ≡ Openings.AccessList → ⊥) → (o ≡ Openings.Steps → ⊥)
     → failure ≡ Refused (record { line = section.line; what = Whats.BadSection }) → (let r : Ended = Err failure in Carries a a p p (section_acts section) r)
 not_played a p section o failure e shape list steps is = stopped a p section (Some o) failure e (other_acts section o shape list steps) is

@@ -13,13 +13,15 @@ use Rattle.rv_shape.specs.declared.fault.ShapeFault.TheVariants.{BadText}
 use Rattle.rv_script.specs.declared.opening.Opening.{Opening}
 use Rattle.rv_script.specs.declared.opening.Opening.TheVariants as Openings
 use Rattle.rv_script.specs.Openings.{opening_of}
+use Rattle.rv_script.specs.UnitTexts.{without_returns}
 use Rattle.rv_fault.specs.declared.fault.What.{What}
 use Rattle.rv_fault.specs.declared.fault.What.TheVariants as Whats
 use Rattle.rv_step.specs.StepText.{StepWords, step_of}
 
--- one act of a script, with the line that a fault of it is told at
+-- one act of a script, with the line that a fault of it is told at; a unit text is compiled over the units that are loaded then
 pub data Act : Type 0 where
   Loads : ℕ → Shape → Act
+  Compiles : ℕ → List ℕ → Act
   Sets : ℕ → List Words → Act
   Steps : ℕ → StepWords → Act
   Stops : ℕ → What → Act
@@ -27,6 +29,7 @@ pub data Act : Type 0 where
 -- the line that a fault of an act is told at
 abbrev pub line_of : Act → ℕ
 line_of (Loads line shape) = line
+line_of (Compiles line text) = line
 line_of (Sets line list) = line
 line_of (Steps line step) = line
 line_of (Stops line what) = line
@@ -58,6 +61,7 @@ set_act line (Err fault) = Stops line (Whats.List fault)
 
 -- what a section of an opening asks; openings that aren't named here aren't played
 abbrev pub acts_in : SectionText → Option Opening → List Act
+acts_in section (Some Openings.UnitText) = Compiles section.line (without_returns section.text) ∷ []
 acts_in section (Some Openings.Shape) = load_act section.line (shape_of section.text) ∷ []
 acts_in section (Some Openings.AccessList) = set_act section.line (list_of section.text) ∷ []
 acts_in section (Some Openings.Steps) = step_acts (section.line + 1) (lines section.text)

@@ -1,5 +1,5 @@
 -- What the acts of a script come to: deeds, with names looked up among the units that are loaded (own).
-use Rattle.std.specs.Prelude.{◌≡◌, ℕ, ℤ, pos, negsuc, List, ◌∷◌, ◌++◌, codes}
+use Rattle.std.specs.Prelude.{◌≡◌, ◌<◌, ◌≤◌, ℕ, ℤ, pos, negsuc, List, ◌∷◌, ◌++◌, codes, length}
 use Rattle.std.specs.Prelude.{Option, Some, None, Result, Ok, Err}
 use Rattle.std.specs.Fmt.{signed_decimal}
 use Rattle.rv_access.specs.Words.{Words}
@@ -20,7 +20,10 @@ use Rattle.rv_fault.specs.declared.failure.Failure.{Failure}
 use Rattle.rv_fault.specs.declared.failure.Failure.TheVariants.{Refused, Memory, Io}
 use Rattle.rv_fault.specs.declared.fault.What.{What}
 use Rattle.rv_fault.specs.declared.fault.What.TheVariants as Whats
-use Rattle.rv_play.specs.Acts.{Act, Loads, Sets, Steps, Stops}
+use Rattle.rv_script.specs.UnitTexts.{most_unit_bytes}
+use Rattle.rv_unit.specs.Compiles.{IsUnit, IsRefused}
+use Rattle.rv_unit.specs.declared.fault.UnitFault.TheVariants as Units
+use Rattle.rv_play.specs.Acts.{Act, Loads, Compiles, Sets, Steps, Stops}
 
 -- what is asked of the host: by which actor, which command (none where the actor has nothing to ask), and in which words
 pub record DeedText : Type 0 where
@@ -111,16 +114,28 @@ abbrev pub if_fits : Shape → Option ShapeFault → Result DeedText What
 if_fits shape None = Ok (load shape)
 if_fits shape (Some fault) = Err (Whats.Shape fault)
 
--- what an act asks where these units are loaded, or what stands against it
-abbrev pub deed_of : List Shape → Act → Result DeedText What
-deed_of shapes (Loads line shape) = if_fits shape (fitting.fault shapes shape)
-deed_of shapes (Sets line list) = Ok (set list)
-deed_of shapes (Steps line step) = step_deed shapes step
-deed_of shapes (Stops line what) = Err what
+-- a unit text comes to the load of the unit that it gives; one that is too long is refused whatever its words
+abbrev pub compiles : List Shape → List ℕ → Result DeedText What → Type 0
+compiles shapes text (Ok deed) = (shape : Shape) × (length text ≤ most_unit_bytes) × IsUnit shapes text shape × (deed ≡ load shape)
+compiles shapes text (Err Whats.TooLong) = most_unit_bytes < length text
+compiles shapes text (Err (Whats.Unit told)) = (length text ≤ most_unit_bytes) × IsRefused shapes text told × (told ≡ Units.NoMemory → ⊥)
+compiles shapes text (Err what) = ⊥
 
--- a call gives what there is, a fault with its line, unless memory ran out
-abbrev pub Comes : ℕ → Result DeedText What → Result DeedText Failure → Type 0
-Comes line due (Ok deed) = due ≡ Ok deed
-Comes line due (Err (Refused told)) = (what : What) × (due ≡ Err what) × (told ≡ record { line = line; what = what })
-Comes line due (Err Memory) = Unit {0}
-Comes line due (Err (Io error)) = ⊥
+-- what there is
+abbrev pub just : Result DeedText What → Result DeedText What → Type 0
+just due found = due ≡ found
+
+-- what an act comes to where these units are loaded: a deed, or what stands against it
+abbrev pub ComesToDeed : List Shape → Act → Result DeedText What → Type 0
+ComesToDeed shapes (Loads line shape) found = just (if_fits shape (fitting.fault shapes shape)) found
+ComesToDeed shapes (Compiles line text) found = compiles shapes text found
+ComesToDeed shapes (Sets line list) found = just (Ok (set list)) found
+ComesToDeed shapes (Steps line step) found = just (step_deed shapes step) found
+ComesToDeed shapes (Stops line what) found = just (Err what) found
+
+-- a call gives what is found, a fault with its line, unless memory ran out
+abbrev pub Comes : ℕ → (Result DeedText What → Type 0) → Result DeedText Failure → Type 0
+Comes line finds (Ok deed) = finds (Ok deed)
+Comes line finds (Err (Refused told)) = (what : What) × finds (Err what) × (told ≡ record { line = line; what = what })
+Comes line finds (Err Memory) = Unit {0}
+Comes line finds (Err (Io error)) = ⊥

@@ -27,7 +27,7 @@ use Rattle.rv_fault.specs.declared.fault.What.TheVariants as Whats
 use Rattle.rv_fault.specs.declared.fault.ScriptFault.{ScriptFault}
 use Rattle.rv_fault.specs.Written.{Known, Ended, Outcome, Puts}
 use Rattle.rv_play.specs.Acts.{Act, acts_from, line_of}
-use Rattle.rv_play.specs.Deeds.{DeedText, deed_of}
+use Rattle.rv_play.specs.Deeds.{DeedText, ComesToDeed}
 use Rattle.rv_history.specs.Journal.{journal_text, newest_line}
 
 -- Acts
@@ -64,7 +64,7 @@ tell stage deed =
 
 -- an act comes to a deed at a stage, or to what stands against it
 abbrev pub ComesTo : Stage → Act → Result DeedText What → Type 0
-ComesTo stage act due = due ≡ deed_of stage.history.shapes act
+ComesTo stage act found = ComesToDeed stage.history.shapes act found
 
 -- an act comes to a deed, and that is told
 pub record Asks (stage : Stage) (act : Act) (t : Told) : Type 0 where

@@ -5,13 +5,15 @@ ghost use Rattle.rv_access.specs.Reading.{list_of};
 ghost use Rattle.rv_shape.specs.Fits.{fault};
 ghost use Rattle.rv_shape.specs.ShapeText.{shape_of};
 ghost use Rattle.rv_text.specs.Words.{words};
+ghost use Rattle.rv_script.specs.UnitTexts.{without_returns};
 ghost use Rattle.rv_step.specs.StepText.{step_of};
 ghost use Rattle.rv_play.specs.Acts.{load_act, set_act, step_act};
-ghost use Rattle.rv_play.specs.Deeds.{Comes, deed_of, step_deed, if_fits, requests, asks, appends, replaces};
+ghost use Rattle.rv_play.specs.Deeds.{Comes, ComesToDeed, compiles, just, step_deed, if_fits, requests, asks, appends, replaces};
 
 use crate::deed::Deed;
 use rv_access::{Line, ListFault, read_list};
 use rv_fault::{Failure, What, refused};
+use rv_script::unit_text::{MOST_UNIT_BYTES, unit_text};
 use rv_shape::catalogue::Catalogue;
 use rv_shape::fault::ShapeFault;
 use rv_shape::reading::read_shape;
@@ -19,6 +21,7 @@ use rv_shape::shape::UnitShape;
 use rv_step::lookup::{actor_of, request_of};
 use rv_step::reading::{StepError, step_of};
 use rv_step::step::{Asked, Step};
+use rv_unit::{UnitFault, compile};
 use std::alloc::{AllocError, Global};
 
 // A deed that was made, unless memory was refused.
@@ -32,18 +35,52 @@ fn made(deed: Result<Deed, AllocError>) -> Result<Deed, Failure>
     }
 }
 
-// What loading a unit comes to.
-fn unit_deed(
+// What loading a shape that was read comes to.
+fn load_deed(
     alloc: Global,
     catalogue: &Catalogue,
     line: usize,
     shape: UnitShape,
 ) -> Result<Deed, Failure>
-    ensures { Comes line (if_fits shape (fault catalogue.now shape)) result }
+    ensures { Comes line (just (if_fits shape (fault catalogue.now shape))) result }
 {
     match catalogue.shape_fits(&shape) {
         Some(fault) => Err(refused(line, What::Shape(fault))),
         None => made(Deed::load(alloc, shape)),
+    }
+}
+
+// What a unit text comes to that has no carriage return before a line feed.
+fn text_deed(
+    alloc: Global,
+    catalogue: &Catalogue,
+    line: usize,
+    text: &str,
+) -> Result<Deed, Failure>
+    ensures { Comes line (compiles catalogue.now text.now) result }
+{
+    if text.len() > MOST_UNIT_BYTES {
+        return Err(refused(line, What::TooLong));
+    }
+    match compile(alloc, text, catalogue) {
+        Ok(unit) => made(Deed::load(alloc, unit.shape)),
+        Err(UnitFault::NoMemory) => Err(Failure::Memory),
+        Err(fault) => Err(refused(line, What::Unit(fault))),
+    }
+}
+
+/// What the unit text of a section comes to, which opens at a line.
+pub fn unit_deed(
+    alloc: Global,
+    catalogue: &Catalogue,
+    line: usize,
+    text: &str,
+) -> Result<Deed, Failure>
+    ensures { Comes line (compiles catalogue.now (without_returns text.now)) result }
+{
+    match unit_text(alloc, text) {
+        Ok(text) => text_deed(alloc, catalogue, line, text.as_str()),
+        Err(_) => Err(Failure::Memory),
     }
 }
 
@@ -54,10 +91,10 @@ pub fn shape_deed(
     line: usize,
     text: &str,
 ) -> Result<Deed, Failure>
-    ensures { Comes line (deed_of catalogue.now (load_act line (shape_of text.now))) result }
+    ensures { Comes line (ComesToDeed catalogue.now (load_act line (shape_of text.now))) result }
 {
     match read_shape(alloc, text) {
-        Ok(shape) => unit_deed(alloc, catalogue, line, shape),
+        Ok(shape) => load_deed(alloc, catalogue, line, shape),
         Err(ShapeFault::NoMemory) => Err(Failure::Memory),
         Err(fault) => Err(refused(line, What::Shape(fault))),
     }
@@ -70,7 +107,7 @@ pub fn list_deed(
     line: usize,
     text: &str,
 ) -> Result<Deed, Failure>
-    ensures { Comes line (deed_of catalogue.now (set_act line (list_of text.now))) result }
+    ensures { Comes line (ComesToDeed catalogue.now (set_act line (list_of text.now))) result }
 {
     match read_list(alloc, text) {
         Ok(list) => made(Deed::set(alloc, list)),
@@ -87,7 +124,7 @@ fn request_deed(
     actor: usize,
     asked: &Asked,
 ) -> Result<Deed, Failure>
-    ensures { Comes line (requests catalogue.now asked.now actor) result }
+    ensures { Comes line (just (requests catalogue.now asked.now actor)) result }
 {
     match request_of(alloc, catalogue, asked) {
         Ok(Some(request)) => made(Deed::ask(alloc, catalogue, actor, request)),
@@ -103,7 +140,7 @@ fn append_deed(
     actor: usize,
     given: Result<Line, ListFault>,
 ) -> Result<Deed, Failure>
-    ensures { Comes line (appends actor given) result }
+    ensures { Comes line (just (appends actor given)) result }
 {
     match given {
         Ok(given) => made(Deed::append(alloc, actor, given)),
@@ -119,7 +156,7 @@ fn replace_deed(
     number: i64,
     given: Result<Line, ListFault>,
 ) -> Result<Deed, Failure>
-    ensures { Comes line (replaces actor number given) result }
+    ensures { Comes line (just (replaces actor number given)) result }
 {
     match given {
         Ok(given) => made(Deed::replace(alloc, actor, number, given)),
@@ -135,7 +172,7 @@ fn asked_deed(
     actor: usize,
     asked: Asked,
 ) -> Result<Deed, Failure>
-    ensures { Comes line (asks catalogue.now asked actor) result }
+    ensures { Comes line (just (asks catalogue.now asked actor)) result }
 {
     match asked {
         Asked::Append(given) => append_deed(alloc, line, actor, given),
@@ -152,8 +189,8 @@ fn named_deed(
     line: usize,
     step: Step,
 ) -> Result<Deed, Failure>
-    ensures { Comes line (step_deed catalogue.now
-        (record { asker = step.asker; asked = step.asked })) result }
+    ensures { Comes line (just (step_deed catalogue.now
+        (record { asker = step.asker; asked = step.asked }))) result }
 {
     match actor_of(alloc, catalogue, &step.asker) {
         Ok(Some(actor)) => asked_deed(alloc, catalogue, line, actor, step.asked),
@@ -169,7 +206,7 @@ pub fn line_deed(
     line: usize,
     text: &str,
 ) -> Result<Deed, Failure>
-    ensures { Comes line (deed_of catalogue.now (step_act line (step_of (words text.now)))) result }
+    ensures { Comes line (ComesToDeed catalogue.now (step_act line (step_of (words text.now)))) result }
 {
     match step_of(alloc, text) {
         Ok(step) => named_deed(alloc, catalogue, line, step),

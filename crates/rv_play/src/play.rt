@@ -6,11 +6,11 @@ ghost use Rattle.rv_text.specs.Words.{words};
 ghost use Rattle.rv_script.specs.Openings.{AreNumbered};
 ghost use Rattle.rv_fault.specs.Written.{Writes, WritesScript};
 ghost use Rattle.rv_play.specs.Acts.{Act, line_of, line_acts, step_acts, section_acts, acts_from};
-ghost use Rattle.rv_play.specs.Deeds.{Comes, deed_of};
+ghost use Rattle.rv_play.specs.Deeds.{Comes, ComesToDeed};
 ghost use Rattle.rv_play.specs.Carried.{Carries};
 ghost use Rattle.rv_play.specs.Scripted.{ReadsCapacity, outcome_of};
 
-use crate::acts::{line_deed, list_deed, shape_deed};
+use crate::acts::{line_deed, list_deed, shape_deed, unit_deed};
 use crate::deed::Deed;
 use crate::player::Player;
 use rv_fault::{Failure, What, refused};
@@ -27,7 +27,7 @@ fn perform<W: Write>(
     writer: &mut W,
     deed: Result<Deed, Failure>,
 ) -> Result<(), Failure>
-    ensures { (act : Act) → Comes (line_of act) (deed_of player.old.stage.history.shapes act) deed
+    ensures { (act : Act) → Comes (line_of act) (ComesToDeed player.old.stage.history.shapes act) deed
         → Carries (W.contents writer.old) (W.contents writer.new) player.old player.new (act ∷ []) result }
 {
     match deed {
@@ -98,6 +98,10 @@ fn carry_out<W: Write>(
         return Err(refused(line, What::BadSection));
     };
     match opening {
+        Opening::UnitText => {
+            let deed = unit_deed(alloc, player.catalogue(), line, section.text);
+            perform(player, writer, deed)
+        }
         Opening::Shape => {
             let deed = shape_deed(alloc, player.catalogue(), line, section.text);
             perform(player, writer, deed)

@@ -12,3 +12,7 @@ joined (part ∷ next ∷ parts) = strip_carriage_return part ++ 10 ∷ joined (
 -- a text without each carriage return that stands before a line feed
 abbrev pub without_returns : List ℕ → List ℕ
 without_returns text = joined (slice_split (λ byte. byte == 10) text)
+
+-- the greatest length of a unit text, in bytes
+abbrev pub most_unit_bytes : ℕ
+most_unit_bytes = 262144

@@ -6,6 +6,9 @@ ghost use Rattle.rv_script.specs.UnitTexts.{without_returns};
 
 use std::alloc::{AllocError, Global};
 
+/// The greatest length of a unit text, in bytes.
+pub const MOST_UNIT_BYTES: usize = 262_144;
+
 // A line without the carriage return at its end.
 fn stripped(line: &str) -> &str
     ensures { result.now ≡ strip_carriage_return line.now }

@@ -1,0 +1,70 @@
+-- Which unit a text is over the loaded units, and why it is none (own). What is looked at first is told first: words, grammar,
+-- restrictions, names, types, shape.
+use Rattle.std.specs.Prelude.{◌≡◌, ◌⊎◌, ℕ, List, Some, None, Err}
+use Rattle.rv_shape.specs.Shape.{Shape}
+use Rattle.rv_shape.specs.Fits as fitting
+use Rattle.rv_tree.specs.Units.{UnitTree}
+use Rattle.rv_tree.specs.Derives.{Derives}
+use Rattle.rv_parse.specs.Texts.{ReadsTree, OfWords, OfDepth}
+use Rattle.rv_parse.specs.declared.fault.ParseFault.{ParseFault}
+use Rattle.rv_parse.specs.declared.fault.ParseFault.TheVariants as Parses
+use Rattle.rv_restrict.specs.Conforms.{Conforms, IsFirst, violations}
+use Rattle.rv_names.specs.Bound.{AllBound, uses}
+use Rattle.rv_outline.specs.Shapes.{shape_of}
+use Rattle.rv_unit.specs.declared.fault.UnitFault.{UnitFault}
+use Rattle.rv_unit.specs.declared.fault.UnitFault.TheVariants.{Lex, Parse, Restriction, Names, Types, Shape as Fits, NoMemory}
+
+-- a tree conforms to the profile (D.13), and each of its names is bound to the one declaration that is visible (8.3)
+pub record IsBound (shapes : List Shape) (tree : UnitTree) : Type 0 where
+  pub conforms : Conforms tree
+  pub bound : AllBound (uses shapes tree)
+
+-- and its declarations give this shape
+pub record HasShape (shapes : List Shape) (tree : UnitTree) (shape : Shape) : Type 0 where
+  pub bound : IsBound shapes tree
+  pub shape : shape_of shapes tree ≡ Some shape
+
+-- a tree gives a unit of this shape, which fits those that are loaded
+pub record GivesUnit (shapes : List Shape) (tree : UnitTree) (shape : Shape) : Type 0 where
+  pub has : HasShape shapes tree shape
+  pub fits : fitting.fault shapes shape ≡ None
+
+-- a text is a unit of this shape
+pub record IsUnit (shapes : List Shape) (text : List ℕ) (shape : Shape) : Type 0 where
+  pub tree : UnitTree
+  pub derives : Derives text tree
+  pub gives : GivesUnit shapes tree shape
+
+-- a fault of the grammar
+abbrev pub IsOfGrammar : ParseFault → Type 0
+IsOfGrammar (Parses.Unexpected at) = Unit {0}
+IsOfGrammar (Parses.TooDeep at) = Unit {0}
+IsOfGrammar (Parses.Lex told) = ⊥
+IsOfGrammar Parses.NoMemory = ⊥
+
+-- a text has words, and derives no tree, or nests too deep
+pub record HasNoTree (text : List ℕ) (told : ParseFault) : Type 0 where
+  pub of_grammar : IsOfGrammar told
+  pub no_tree : (tree : UnitTree) → Derives text tree → ReadsTree tree (Err told)
+  pub words : OfWords text (Err told)
+  pub deep : OfDepth text (Err told)
+
+-- this is why a text isn't read
+abbrev pub IsOfText : List ℕ → UnitFault → Type 0
+IsOfText text (Lex told) = OfWords text (Err (Parses.Lex told))
+IsOfText text (Parse told) = HasNoTree text told
+IsOfText text NoMemory = Unit {0}
+IsOfText text other = ⊥
+
+-- this is why a tree gives no unit; which fault of names or of types it is, and its place, isn't said here
+abbrev pub IsOfTree : List Shape → UnitTree → UnitFault → Type 0
+IsOfTree shapes tree (Restriction violation) = IsFirst violation (violations tree)
+IsOfTree shapes tree (Names told) = Conforms tree
+IsOfTree shapes tree (Types told) = IsBound shapes tree
+IsOfTree shapes tree (Fits told) = (shape : Shape) × HasShape shapes tree shape × (fitting.fault shapes shape ≡ Some told)
+IsOfTree shapes tree NoMemory = Unit {0}
+IsOfTree shapes tree other = ⊥
+
+-- this is why a text is no unit: it isn't read, or its tree gives none
+abbrev pub IsRefused : List Shape → List ℕ → UnitFault → Type 0
+IsRefused shapes text fault = IsOfText text fault ⊎ ((tree : UnitTree) × Derives text tree × IsOfTree shapes tree fault)

@@ -1,0 +1,90 @@
+//! Compiles unit texts.
+
+ghost use Rattle.std.specs.Prelude.{◌≡◌, Some, IfOk, IfErr};
+ghost use Rattle.rv_tree.specs.UnitView.{unit_view};
+ghost use Rattle.rv_tree.specs.Derives.{Derives};
+ghost use Rattle.rv_outline.specs.Shapes.{shape_of as shape_of_tree};
+ghost use Rattle.rv_unit.specs.Compiles.{IsBound, IsOfText, IsOfTree, GivesUnit, IsUnit, IsRefused};
+
+use crate::fault::UnitFault;
+use crate::unit::Unit;
+use rv_names::NameFault;
+use rv_names::resolve::{Named, resolve};
+use rv_outline::outline_of;
+use rv_parse::{ParseFault, parse};
+use rv_restrict::first_violation;
+use rv_shape::catalogue::Catalogue;
+use rv_shape::shape::UnitShape;
+use rv_static::{Faults, TypeFault};
+use rv_tree::UnitTree;
+use std::alloc::Global;
+
+// The tree of a text.
+fn tree_of(alloc: Global, text: &str) -> Result<UnitTree, UnitFault>
+    ensures tree { IfOk result (λ tree. Derives text.now (unit_view tree)) }
+    ensures fault { IfErr result (λ fault. IsOfText text.now fault) }
+{
+    match parse(alloc, text) {
+        Ok(tree) => Ok(tree),
+        Err(ParseFault::NoMemory) => Err(UnitFault::NoMemory),
+        Err(ParseFault::Lex(fault)) => Err(UnitFault::Lex(fault)),
+        Err(fault) => Err(UnitFault::Parse(fault)),
+    }
+}
+
+// A fault of names, or want of memory.
+fn of_names(fault: NameFault) -> UnitFault {
+    match fault {
+        NameFault::NoMemory => UnitFault::NoMemory,
+        _ => UnitFault::Names(fault),
+    }
+}
+
+// The shape of a text whose names are bound.
+fn shape_of(alloc: Global, named: &Named) -> Result<UnitShape, UnitFault>
+    ensures shape { IfOk result (λ shape. shape_of_tree named.now.catalogue.now (unit_view named.now.tree.now) ≡ Some shape) }
+    ensures fault { IfErr result (λ fault. IsBound named.now.catalogue.now (unit_view named.now.tree.now)
+        → IsOfTree named.now.catalogue.now (unit_view named.now.tree.now) fault) }
+{
+    let mut faults = Faults::new();
+    let Ok(outline) = outline_of(alloc, named, &mut faults) else {
+        return Err(UnitFault::NoMemory);
+    };
+    match faults.first() {
+        None => Ok(outline.into_parts().0),
+        Some(TypeFault::NoMemory) => Err(UnitFault::NoMemory),
+        Some(fault) => Err(UnitFault::Types(fault)),
+    }
+}
+
+// The unit of a tree.
+fn unit_of(alloc: Global, tree: &UnitTree, catalogue: &Catalogue) -> Result<Unit, UnitFault>
+    ensures unit { IfOk result (λ unit. GivesUnit catalogue.now (unit_view tree.now) unit.shape) }
+    ensures fault { IfErr result (λ fault. IsOfTree catalogue.now (unit_view tree.now) fault) }
+{
+    if let Some(violation) = first_violation(tree) {
+        return Err(UnitFault::Restriction(violation));
+    }
+    let named = match resolve(alloc, tree, catalogue) {
+        Ok(named) => named,
+        Err(fault) => return Err(of_names(fault)),
+    };
+    let shape = shape_of(alloc, &named)?;
+    match catalogue.shape_fits(&shape) {
+        None => Ok(Unit { shape }),
+        Some(fault) => Err(UnitFault::Shape(fault)),
+    }
+}
+
+/// The unit of a text, over the loaded units.
+///
+/// # Errors
+/// The first fault of the first look that finds one: words, grammar, restrictions, names, types, shape. Of the faults of
+/// names, and of those of types, the one at the least place. `NoMemory` where memory was refused.
+pub fn compile(alloc: Global, text: &str, catalogue: &Catalogue) -> Result<Unit, UnitFault>
+    ensures unit { IfOk result (λ unit. IsUnit catalogue.now text.now unit.shape) }
+    ensures fault { IfErr result (λ fault. IsRefused catalogue.now text.now fault) }
+{
+    let tree = tree_of(alloc, text)?;
+    unit_of(alloc, &tree, catalogue)
+}

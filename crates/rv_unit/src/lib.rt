@@ -1,0 +1,11 @@
+//! Unit texts become units: a text is read, judged by the profile's restrictions, by what its names denote and by its
+//! types, and gives the shape of its unit. What is wrong is told as the first of these finds it.
+#![tactic(auto)]
+
+mod compile;
+mod fault;
+mod unit;
+
+pub use compile::compile;
+pub use fault::UnitFault;
+pub use unit::Unit;
