@@ -22,7 +22,7 @@ pub record IsBound (shapes : List Shape) (tree : UnitTree) : Type 0 where
 -- and its declarations give this shape
 pub record HasShape (shapes : List Shape) (tree : UnitTree) (shape : Shape) : Type 0 where
   pub bound : IsBound shapes tree
-  pub shape : shape_of shapes tree ≡ Some shape
+  pub declared : shape_of shapes tree ≡ Some shape
 
 -- a tree gives a unit of this shape, which fits those that are loaded
 pub record GivesUnit (shapes : List Shape) (tree : UnitTree) (shape : Shape) : Type 0 where

@@ -2,10 +2,10 @@
 //! types, and gives the shape of its unit. What is wrong is told as the first of these finds it.
 #![tactic(auto)]
 
-mod compile;
+mod compiling;
 mod fault;
 mod unit;
 
-pub use compile::compile;
+pub use compiling::compile;
 pub use fault::UnitFault;
 pub use unit::Unit;

@@ -32,14 +32,6 @@ fn tree_of(alloc: Global, text: &str) -> Result<UnitTree, UnitFault>
     }
 }
 
-// A fault of names, or want of memory.
-fn of_names(fault: NameFault) -> UnitFault {
-    match fault {
-        NameFault::NoMemory => UnitFault::NoMemory,
-        _ => UnitFault::Names(fault),
-    }
-}
-
 // The shape of a text whose names are bound.
 fn shape_of(alloc: Global, named: &Named) -> Result<UnitShape, UnitFault>
     ensures shape { IfOk result (λ shape. shape_of_tree named.now.catalogue.now (unit_view named.now.tree.now) ≡ Some shape) }
@@ -67,7 +59,8 @@ fn unit_of(alloc: Global, tree: &UnitTree, catalogue: &Catalogue) -> Result<Unit
     }
     let named = match resolve(alloc, tree, catalogue) {
         Ok(named) => named,
-        Err(fault) => return Err(of_names(fault)),
+        Err(NameFault::NoMemory) => return Err(UnitFault::NoMemory),
+        Err(fault) => return Err(UnitFault::Names(fault)),
     };
     let shape = shape_of(alloc, &named)?;
     match catalogue.shape_fits(&shape) {
