@@ -169,4 +169,4 @@ other_acts section Openings.Run unit shape list steps = refl
 -- a section that isn't played
 pub not_played : (a : Known) (p : Playing) (section : SectionText) (o : Opening) (failure : Failure) → opening_of section.opening ≡ Some o → (o ≡ Openings.UnitText → ⊥) → (o ≡ Openings.Shape → ⊥) → (o ≡ Openings.AccessList → ⊥) → (o ≡ Openings.Steps → ⊥)
     → failure ≡ Refused (record { line = section.line; what = Whats.BadSection }) → (let r : Ended = Err failure in Carries a a p p (section_acts section) r)
-not_played a p section o failure e shape list steps is = stopped a p section (Some o) failure e (other_acts section o shape list steps) is
+not_played a p section o failure e unit shape list steps is = stopped a p section (Some o) failure e (other_acts section o unit shape list steps) is
