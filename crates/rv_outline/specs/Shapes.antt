@@ -86,13 +86,24 @@ pub record OutlineView : Type 0 where
   pub objects : List ObjectType
   pub shape : Shape
 
+abbrev pub unit_shapes : Draft → List ProtectedShape
+unit_shapes draft = map (unit_shape draft.kinds) draft.units
+
+-- the shape of a unit of this name
+abbrev pub shape_with : List ℕ → Draft → Shape
+shape_with name draft = record {
+  name = name;
+  tasks = draft.tasks;
+  objects = objects_onto (unit_shapes draft) (take (most_objects + 1) draft.objects) [];
+}
+
 abbrev pub outline_of : List ℕ → Draft → OutlineView
 outline_of name draft = record {
   told = draft.told;
   known = draft.known;
-  units = map (unit_shape draft.kinds) draft.units;
+  units = unit_shapes draft;
   objects = map (λ object. object.of) draft.objects;
-  shape = record { name = name; tasks = draft.tasks; objects = objects_onto (map (unit_shape draft.kinds) draft.units) (take (most_objects + 1) draft.objects) [] };
+  shape = shape_with name draft;
 }
 
 -- the outline of a text over the loaded units

@@ -9,6 +9,8 @@ mod fits;
 #[cfg(test)]
 mod lists;
 #[cfg(test)]
+mod outline;
+#[cfg(test)]
 mod parts;
 #[cfg(test)]
 mod rooms;
