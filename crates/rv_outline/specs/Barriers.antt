@@ -1,7 +1,9 @@
 -- The barriers that entry bodies give (ISO/IEC 8652:2012, 9.5.2, D.7 Simple_Barriers).
-use Rattle.std.specs.Prelude.{ℕ, ◌+◌, ℤ, ◌&&◌, nat_lt, if◌then◌else◌, Option, Some, None}
+use Rattle.std.specs.Prelude.{ℕ, ◌+◌, ℤ, Bool, ◌&&◌, nat_lt, if◌then◌else◌, Option, Some, None}
 use Rattle.rv_tree.specs.Expressions.{Expression, name}
 use Rattle.rv_shape.specs.declared.kind.ValueType.TheVariants.{Boolean}
+use Rattle.rv_shape.specs.declared.kind.Range.{Range}
+use Rattle.rv_shape.specs.Forms.{is_at}
 use Rattle.rv_shape.specs.declared.kind.Barrier.{Barrier}
 use Rattle.rv_shape.specs.declared.kind.Barrier.TheVariants.{AlwaysOpen, AlwaysClosed, Component}
 use Rattle.rv_names.specs.declared.declared.Declared.{Declared}
@@ -30,10 +32,14 @@ component_named scope other = None
 abbrev pub most_indexes : ℕ
 most_indexes = 4294967296
 
--- the barrier that is a component, which is a Boolean; components are numbered from 1 there
+-- the subtype of a component that is a barrier: all of Boolean (own)
+abbrev pub is_whole_boolean : Range → Bool
+is_whole_boolean range = same_type range.of Boolean && is_at 0 range.low && is_at 1 range.high
+
+-- the barrier that is a component; components are numbered from 1 there
 abbrev pub component_barrier : Option Known → Option Barrier
 component_barrier (Some (k.Component index range)) =
-    if same_type range.of Boolean && nat_lt index most_indexes then Some (Component (index + 1)) else None
+    if is_whole_boolean range && nat_lt index most_indexes then Some (Component (index + 1)) else None
 component_barrier other = None
 
 -- the barrier that is always the same

@@ -69,7 +69,8 @@ operation_body_outlined scope (entry_body at i parameters condition block) draft
 
 abbrev pub operation_bodies_outlined : ScopeView → List OperationBody → Draft → Draft
 operation_bodies_outlined scope [] draft = draft
-operation_bodies_outlined scope (body ∷ more) draft = operation_bodies_outlined scope more (operation_body_outlined scope body draft)
+operation_bodies_outlined scope (body ∷ more) draft =
+    operation_bodies_outlined scope more (operation_body_outlined scope body draft)
 
 -- the bodies of the operations of a protected unit
 abbrev pub bodies_outlined : ScopeView → List OperationBody → Option ProtectedUnit → Draft → Draft
@@ -90,8 +91,16 @@ body_items_outlined units scope [] draft = draft
 body_items_outlined units scope (one ∷ more) draft =
     body_items_outlined units (with_body_item one scope) more (body_item_outlined units scope one draft)
 
--- all that a text declares, over the loaded units
+-- what the package specification declares, over the loaded units
+abbrev pub specification_drafted : List Shape → UnitTree → Draft
+specification_drafted shapes tree =
+    declarations_outlined (package_scope shapes tree) tree.specification.declarations (empty_draft (length (all_objects shapes)))
+
+-- the point behind it, where the package body begins
+abbrev pub body_scope : List Shape → UnitTree → ScopeView
+body_scope shapes tree = with_declarations tree.specification.declarations (package_scope shapes tree)
+
+-- all that a text declares
 abbrev pub drafted : List Shape → UnitTree → Draft
 drafted shapes tree =
-    body_items_outlined (protected_units tree) (with_declarations tree.specification.declarations (package_scope shapes tree)) tree.body.items
-    (declarations_outlined (package_scope shapes tree) tree.specification.declarations (empty_draft (length (all_objects shapes))))
+    body_items_outlined (protected_units tree) (body_scope shapes tree) tree.body.items (specification_drafted shapes tree)

@@ -105,8 +105,11 @@ adding_components (i ∷ more) component draft = adding_components more componen
 -- it has one more operation
 abbrev pub adding_operation : Identifier → OperationShape → Draft → Draft
 adding_operation i operation draft =
-    record (knowing i (k.Operation (length draft.units) (length draft.current.operations)) draft)
-    { current = record draft.current { operations = draft.current.operations ++ record { at = i.at; operation = operation } ∷ [] } }
+    record (knowing i (k.Operation (length draft.units) (length draft.current.operations)) draft) {
+      current = record draft.current {
+        operations = draft.current.operations ++ record { at = i.at; operation = operation } ∷ [];
+      };
+    }
 
 -- it has one more, where that was found: a fault was told before
 abbrev pub adding_found : Identifier → Option OperationShape → Draft → Draft
@@ -129,7 +132,10 @@ priority_or other (Some priority) = priority
 -- the task is declared (9.1)
 abbrev pub finished_task : Draft → Draft
 finished_task draft = record draft {
-  tasks = draft.tasks ++ record { name = draft.current.name; priority = priority_or default_priority draft.current.priority } ∷ [];
+  tasks = draft.tasks ++ record {
+    name = draft.current.name;
+    priority = priority_or default_priority draft.current.priority;
+  } ∷ [];
   current = empty_unit [] false;
 }
 

@@ -42,7 +42,8 @@ abbrev pub parameters_onto : Bool → Table → ScopeView → List t.Parameter �
 parameters_onto of_function table scope [] done = Some done
 parameters_onto of_function table scope (p ∷ more) done =
     parameter_of of_function table (hiding_all p.names scope) p >>= λ parameter.
-    parameters_onto of_function table (declaring_all f.Parameter p.names (hiding_all p.names scope)) more (for_each_name parameter p.names done)
+    parameters_onto of_function table (declaring_all f.Parameter p.names (hiding_all p.names scope)) more
+    (for_each_name parameter p.names done)
 
 -- an operation of a name and a kind, and whether it stands before `private`
 abbrev pub operation_of : Identifier → Kind → Bool → List Parameter → OperationShape

@@ -68,12 +68,14 @@ operation_outlined scope is_visible (a_procedure at i parameters aspects) draft 
     procedure_aspects_outlined (hiding i scope) i aspects
     (noted (procedure_of draft.known (hiding i scope) is_visible i parameters) (adding_operation i) draft)
 operation_outlined scope is_visible (an_entry entry) draft =
-    noted (entry_of draft.known (hiding entry.name scope) is_visible entry.name entry.parameters) (adding_operation entry.name) draft
+    noted (entry_of draft.known (hiding entry.name scope) is_visible entry.name entry.parameters)
+    (adding_operation entry.name) draft
 
 -- what stands before `private` is visible
 abbrev pub operations_outlined : ScopeView → List OperationDeclaration → Draft → Draft
 operations_outlined scope [] draft = draft
-operations_outlined scope (o ∷ more) draft = operations_outlined (with_operation o scope) more (operation_outlined scope true o draft)
+operations_outlined scope (o ∷ more) draft =
+    operations_outlined (with_operation o scope) more (operation_outlined scope true o draft)
 
 -- what stands after it isn't
 abbrev pub element_outlined : ScopeView → ProtectedElement → Draft → Draft

@@ -5,12 +5,12 @@ ghost use Rattle.rv_tree.specs.ExpressionView.{expression_view};
 ghost use Rattle.rv_shape.specs.declared.kind.ValueType.TheVariants.{Boolean};
 ghost use Rattle.rv_static.specs.Meanings.{same_type};
 ghost use Rattle.rv_static.specs.Told.{told_unless};
-ghost use Rattle.rv_outline.specs.Barriers.{component_place as place_of_component, component_named as component_of_name, component_barrier as barrier_of_component, fixed_barrier as barrier_of_value, barrier_of};
+ghost use Rattle.rv_outline.specs.Barriers.{component_place as place_of_component, component_named as component_of_name, component_barrier as barrier_of_component, is_whole_boolean as whole_boolean, fixed_barrier as barrier_of_value, barrier_of};
 
 use crate::known::{Known, Table};
 use crate::point::{Point, whole_range};
 use rv_names::{Declared, Scope};
-use rv_shape::kind::{Barrier, ValueType};
+use rv_shape::kind::{Barrier, Range, ValueType};
 use rv_static::{Faults, TypeFault, static_number};
 use rv_tree::Expression;
 
@@ -43,13 +43,20 @@ fn is_boolean(of: ValueType) -> bool
     }
 }
 
+// Whether a component of this subtype is a barrier: it is all of Boolean.
+fn is_whole_boolean(range: Range) -> bool
+    ensures { result ≡ whole_boolean range }
+{
+    is_boolean(range.of) && range.low == 0 && range.high == 1
+}
+
 // The barrier that is a component.
 fn component_barrier(known: Option<Known>) -> Option<Barrier>
     ensures { result ≡ barrier_of_component known }
 {
     match known {
         Some(Known::Component(index, range)) => {
-            if is_boolean(range.of) && index < 4294967296 {
+            if is_whole_boolean(range) && index < 4294967296 {
                 Some(Barrier::Component(index + 1))
             } else {
                 None

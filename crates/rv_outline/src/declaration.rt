@@ -84,8 +84,8 @@ fn object_type(mark: Option<Declared>) -> ObjectType
     }
 }
 
-// What the identifiers of these objects denote, by their mark.
-fn object_form(mark: Option<Declared>) -> Form
+/// What the identifiers of these objects denote, by their mark.
+pub(crate) fn object_form(mark: Option<Declared>) -> Form
     ensures { result ≡ form_of_objects mark }
 {
     match mark {

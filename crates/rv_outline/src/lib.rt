@@ -15,6 +15,7 @@ mod draft;
 mod handler;
 pub mod known;
 pub mod outline;
+pub mod package;
 pub mod point;
 mod pragma;
 mod priority;

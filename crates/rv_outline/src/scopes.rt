@@ -29,8 +29,12 @@ pub fn hide_all(declared: &Vec<Identifier>, scope: &mut Scope) -> Result<(), All
     Ok(())
 }
 
-// The identifiers of a declaration in a region: hidden, and behind it declared.
-fn declare_names(names: &Vec<Identifier>, form: Form, scope: &mut Scope) -> Result<(), AllocError>
+/// The identifiers of a declaration: hidden in it, and behind it declared.
+pub fn declare_names(
+    names: &Vec<Identifier>,
+    form: Form,
+    scope: &mut Scope,
+) -> Result<(), AllocError>
     ensures scope { OnOk result (scope.new
         ≡ declaring_all form (identifiers_view names.now.items) (hiding_all (identifiers_view names.now.items) scope.old)) }
     ensures only { OnOk result (OnlyDeclares scope.old scope.new) }

@@ -108,17 +108,3 @@ is_component_name tree unit parameters (logical op e es) = false
 unfoldable pub is_simple_barrier : UnitTree → List ℕ → List Parameter → Expression → Bool
 is_simple_barrier tree unit parameters e =
     is_component_name tree unit parameters e || never_changes (is_constant tree unit parameters) e
-
--- the place of an expression's first word
-abbrev pub place_of : Expression → ℕ
-place_of (literal at number) = at
-place_of (name n) = n.first.at
-place_of (attribute n i) = n.first.at
-place_of (call n es) = n.first.at
-place_of (parenthesized at e) = at
-place_of (highest at op e) = at
-place_of (product e fs) = place_of e
-place_of (signed at op e) = at
-place_of (sum e ts) = place_of e
-place_of (relation e op f) = place_of e
-place_of (logical op e es) = place_of e

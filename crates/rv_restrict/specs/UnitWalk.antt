@@ -5,10 +5,11 @@ use Rattle.rv_tree.specs.Expressions.{Expression}
 use Rattle.rv_tree.specs.Declarations.{Parameter}
 use Rattle.rv_tree.specs.Bodies.{Local, an_object, local_pragma, local_protected_unit, local_task, Handler, Block, OperationBody, function_body, procedure_body, entry_body, ProtectedBody, TaskBody}
 use Rattle.rv_tree.specs.Units.{ContextItem, context_pragma, with_clause, use_clause, BodyItem, body_declaration, body_protected, body_task, UnitTree}
+use Rattle.rv_tree.specs.Places.{expression_place}
 use Rattle.rv_restrict.specs.declared.violation.Restriction.TheVariants.{NoLocalProtectedObjects, NoTaskHierarchy, SimpleBarriers, NoDynamicPriorities, NoDependence}
 use Rattle.rv_restrict.specs.Found.{Note, ◌▷◌, nothing, broken, broken_unless, maybe_noted, each_noted}
 use Rattle.rv_restrict.specs.Scope.{names_protected_type}
-use Rattle.rv_restrict.specs.Barriers.{is_simple_barrier, place_of}
+use Rattle.rv_restrict.specs.Barriers.{is_simple_barrier}
 use Rattle.rv_restrict.specs.Dependences.{is_excluded, is_dynamic_priorities}
 use Rattle.rv_restrict.specs.ExpressionWalk.{expression_noted, range_noted}
 use Rattle.rv_restrict.specs.StatementWalk.{statements_noted}
@@ -40,7 +41,7 @@ block_noted note tree b =
 -- the barrier of an entry with these parameters
 abbrev pub barrier_noted : {A : Type 0} → Note A → UnitTree → List ℕ → List Parameter → Expression → A → A
 barrier_noted note tree unit parameters e =
-    broken_unless note (is_simple_barrier tree unit parameters e) SimpleBarriers (place_of e) ▷ expression_noted note e
+    broken_unless note (is_simple_barrier tree unit parameters e) SimpleBarriers (expression_place e) ▷ expression_noted note e
 
 -- the body of an operation of the protected unit of this name
 abbrev pub operation_body_noted : {A : Type 0} → Note A → UnitTree → List ℕ → OperationBody → A → A

@@ -7,7 +7,7 @@ ghost use Rattle.rv_tree.specs.ExpressionView.{expression_view, expressions_view
 ghost use Rattle.rv_tree.specs.DeclarationView.{parameter_view};
 ghost use Rattle.rv_tree.specs.UnitView.{unit_view};
 ghost use Rattle.rv_restrict.specs.Scope.{declared, is_declaration};
-ghost use Rattle.rv_restrict.specs.Barriers.{is_hidden, is_package_name, component_named, is_of_standard, is_of_system, is_fixed_or_library, is_fixed_of, constant_named, is_constant, never_changes, never_change, factors_never_change, terms_never_change, is_component_name, is_simple_barrier, place_of};
+ghost use Rattle.rv_restrict.specs.Barriers.{is_hidden, is_package_name, component_named, is_of_standard, is_of_system, is_fixed_or_library, is_fixed_of, constant_named, is_constant, never_changes, never_change, factors_never_change, terms_never_change, is_component_name, is_simple_barrier};
 
 use crate::declared::{declared, declares_inside, has_component, is_fixed, is_parameter};
 use rv_text::is_same_name;
@@ -236,23 +236,4 @@ pub(crate) fn is_simple_barrier(
     ensures { result ≡ is_simple_barrier (unit_view tree.now) unit.now (map parameter_view parameters.now.items) (expression_view e.now) }
 {
     is_component_name(tree, unit, parameters, e) || never_changes(tree, unit, parameters, e)
-}
-
-// The place of an expression's first word.
-pub(crate) fn place_of(e: &Expression) -> usize
-    ensures { result ≡ place_of (expression_view e.now) }
-{
-    match e {
-        Expression::Literal(at, _) => *at,
-        Expression::Name(name) => name.first.at,
-        Expression::Attribute(prefix, _) => prefix.first.at,
-        Expression::Call(name, _) => name.first.at,
-        Expression::Parenthesized(at, _) => *at,
-        Expression::Highest(at, _, _) => *at,
-        Expression::Product(first, _) => place_of(first),
-        Expression::Signed(at, _, _) => *at,
-        Expression::Sum(first, _) => place_of(first),
-        Expression::Relation(left, _, _) => place_of(left),
-        Expression::Logical(_, first, _) => place_of(first),
-    }
 }

@@ -10,7 +10,7 @@ ghost use Rattle.rv_restrict.specs.Conforms.{violations, Conforms, IsFirst};
 ghost use Rattle.rv_restrict.specs.Found.{earlier, first_of, each_noted};
 ghost use Rattle.rv_restrict.specs.UnitWalk.{first_place, local_noted, block_noted, barrier_noted, with_noted, operation_body_noted, protected_body_noted, item_noted, unit_noted};
 
-use crate::barrier::{is_simple_barrier, place_of};
+use crate::barrier::is_simple_barrier;
 use crate::declared::names_protected_type;
 use crate::dependence::{is_dynamic_priorities, is_excluded};
 use crate::first::{First, Judged};
@@ -109,7 +109,7 @@ fn barrier(
     ensures { first.new ≡ barrier_noted earlier (unit_view tree.now) unit.now (map parameter_view parameters.now.items) (expression_view e.now) first.old }
 {
     let keeps = is_simple_barrier(tree, unit, parameters, e);
-    first.note_unless(keeps, Restriction::SimpleBarriers, place_of(e));
+    first.note_unless(keeps, Restriction::SimpleBarriers, e.place());
     e.judge(first);
 }
 

@@ -11,6 +11,8 @@ mod hosts;
 #[cfg(test)]
 mod lists;
 #[cfg(test)]
+mod outline;
+#[cfg(test)]
 mod parts;
 #[cfg(test)]
 mod scripts;
