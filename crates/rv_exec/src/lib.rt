@@ -9,7 +9,12 @@ pub mod choices;
 pub mod end;
 pub mod operators;
 pub mod outcome;
+pub mod machine;
 pub mod outward;
 pub mod ranges;
 pub mod replay;
+mod run;
 pub mod setting;
+
+#[cfg(test)]
+mod tests;
