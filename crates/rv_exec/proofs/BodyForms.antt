@@ -3,7 +3,10 @@ use Rattle.std.proofs.Common.{◌≡◌, ℕ, zero, suc, ◌+◌, ◌-◌, ◌*�
 use Rattle.std.specs.Prelude.{replicate}
 use Rattle.rv_event.specs.declared.entry.Exception.{Exception}
 use Rattle.rv_event.specs.declared.entry.Exception.TheVariants.{ProgramError}
+use Rattle.rv_event.specs.declared.entry.Answer.TheVariants as answer
+use Rattle.rv_event.specs.declared.entry.Exit.{Exit}
 use Rattle.rv_event.specs.declared.entry.Request.{Request}
+use Rattle.rv_event.specs.declared.entry.Request.TheVariants as request
 use Rattle.rv_code.specs.declared.body.Declaration.{Declaration as RustDeclaration}
 use Rattle.rv_code.specs.declared.expression.Callee.{Callee}
 use Rattle.rv_code.specs.Bodies.{Declaration, Handler, Body, UnitBodies}
@@ -20,14 +23,15 @@ use Rattle.rv_exec.specs.declared.end.End.TheVariants as end
 use Rattle.rv_exec.specs.declared.setting.Setting.{Setting}
 use Rattle.rv_exec.specs.Asking.{Trace, Asking, ended, asking, and_then, Ran}
 use Rattle.rv_exec.specs.Activations.{assigned, bound, opened, spent, refilled}
-use Rattle.rv_exec.specs.Blocks.{elaborated, in_handler, raised, handling, handled_by, handled, block, outcome_of, closed, body_meaning, inner_at, performed, outer_at, world}
-use Rattle.rv_exec.specs.Bodies.{operation_of}
-use Rattle.rv_exec.specs.Calls.{Outcome, internal, reached, completed, end_of, completes}
+use Rattle.rv_exec.specs.Blocks.{elaborated, in_handler, raised, handling, handled_by, handled, block, outcome_of, closed, body_meaning, inner_at, performed, outer_at, exits, operation_run, operation_setting, world}
+use Rattle.rv_exec.specs.Bodies.{operation_of, task_of}
+use Rattle.rv_exec.specs.Tasks.{task_setting, quits, over, task_meaning, task_run, fired, line_run}
+use Rattle.rv_exec.specs.Calls.{Outcome, internal, reached, exit_of, completed, end_of, completes}
 use Rattle.rv_exec.specs.Choices.{handler_of}
 use Rattle.rv_exec.specs.Expressions.{on_value, value, called, called_by, asked_by, answered, returned}
 use Rattle.rv_exec.specs.Statements.{abandons, go_on, meanings}
 use Rattle.rv_exec.specs.World.{World, Run, GotAll}
-use Rattle.rv_exec.proofs.Runs.{ran_end, ran_then, ran_eq, ran_to}
+use Rattle.rv_exec.proofs.Runs.{ran_end, ran_then, ran_ask_then, ran_eq, ran_to}
 use Rattle.rv_exec.proofs.Forms.{with_value, without_value}
 use Rattle.rv_exec.proofs.StatementForms.{goes_on_not}
 
@@ -166,3 +170,32 @@ module _ {S : Type 0} (went : S → Trace → S → Type 0) (none : (s : S) → 
       let f' = subst (λ (q : Request). Ran went u (asking q (λ answer. ended (completed outcome answer))) r last) is f in
       ran_then went both s t r _ (performed (λ o p f k. and_then (inner_at bodies o (outer_at bodies held) 65 p values k 100000) (completes f))) (asked.Started object operation is_function components) last h
       (ran_then went both t u r _ (completes is_function) (outcome, (left, steps)) last g' f')
+
+  -- the body of an operation that has started, and how it exits
+  pub operation_goes : (bodies : UnitBodies) (object operation : ℕ) (values components left : List ℤ) (steps : ℕ) (setting : Setting) (outcome : Outcome) (exit : Exit) (s t : S) → setting ≡ operation_setting object → Ran went s (inner_at bodies setting.object (outer_at bodies setting.held) setting.nested operation values components 100000) t (outcome, (left, steps)) → exit ≡ exit_of outcome → Ran went s (operation_run bodies object operation values components) t (exit, left)
+  operation_goes bodies object operation values components left steps setting outcome exit s t is h got =
+      let h' = subst (λ (k : Setting). Ran went s (inner_at bodies k.object (outer_at bodies k.held) k.nested operation values components 100000) t (outcome, (left, steps))) is h in
+      ran_then went both s t t _ exits (outcome, (left, steps)) _ h' (ran_end went none t _ _ (ap (λ (k : Exit). ended (k, left)) (sym got)))
+
+  -- the handler of a line, and its end
+  pub line_goes : (bodies : UnitBodies) (object operation : ℕ) (values components left : List ℤ) (steps : ℕ) (setting : Setting) (outcome last : Outcome) (ends : Request) (s t u r : S) → setting ≡ operation_setting object → values ≡ [] → went s ((request.Fire, answer.Started components) ∷ []) t → Ran went t (inner_at bodies setting.object (outer_at bodies setting.held) setting.nested operation values components 100000) u (outcome, (left, steps)) → ends ≡ end_of false outcome left → Ran went u (asking ends (λ given. ended (completed outcome given))) r last → Ran went s (line_run bodies object operation) r last
+  line_goes bodies object operation values components left steps setting outcome last ends s t u r is empty out h got f =
+      let h' = subst (λ (k : Setting). Ran went t (inner_at bodies k.object (outer_at bodies k.held) k.nested operation values components 100000) u (outcome, (left, steps))) is h in
+      let h'' = subst (λ (k : List ℤ). Ran went t (inner_at bodies object (outer_at bodies 15) 65 operation k components 100000) u (outcome, (left, steps))) empty h' in
+      let f' = subst (λ (q : Request). Ran went u (asking q (λ given. ended (completed outcome given))) r last) got f in
+      ran_ask_then went both s t r request.Fire (answer.Started components) (fired bodies object operation) last out
+      (ran_then went both t u r _ (completes false) (outcome, (left, steps)) last h'' f')
+
+  -- the body of a task, and its end
+  pub task_goes : (bodies : UnitBodies) (body : Body) (requests : ℕ) (setting : Setting) (a b : Activation) (e : End) (outcome : Outcome) (exit : Exit) (s t u : S) → setting ≡ task_setting → a ≡ opened (replicate 68 (pos 0)) [] 100000 requests → Ran went s (block (world bodies setting) body a) t (e, b) → outcome ≡ outcome_of body e b → Ran went t (quits outcome) u exit → Ran went s (task_meaning bodies (Some body) requests) u exit
+  unfolding task_meaning
+  task_goes bodies body requests setting a b e outcome exit s t u is from h got f =
+      let h' = subst (λ (k : Setting). Ran went s (block (world bodies k) body a) t (e, b)) is h in
+      let h'' = subst (λ (k : Activation). Ran went s (block (world bodies task_setting) body k) t (e, b)) from h' in
+      let f' = subst (λ (o : Outcome). Ran went t (quits o) u exit) got f in
+      ran_then went both s t u _ (over body) (e, b) exit h'' f'
+
+  pub no_task : (bodies : UnitBodies) (actor requests : ℕ) (values : List ℤ) (exit : Exit) (s t : S) → task_of bodies actor ≡ None → values ≡ [] → Ran went s (quits (Ok values)) t exit → Ran went s (task_run bodies actor requests) t exit
+  unfolding task_meaning
+  no_task bodies actor requests values exit s t is empty h =
+      rw is (subst (λ (k : List ℤ). Ran went s (quits (Ok k)) t exit) empty h)

@@ -6,3 +6,4 @@ pub mod StatementForms
 pub mod Smaller
 pub mod BodyForms
 pub mod Steps
+pub mod Replays

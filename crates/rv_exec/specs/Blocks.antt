@@ -99,10 +99,18 @@ outer_at bodies (suc held) callee values =
     and_then (reached (suc held) callee values) (performed (λ object operation is_function components.
     and_then (inner_at bodies object (outer_at bodies held) 65 operation values components 100000) (completes is_function)))
 
--- the body of an operation that has started, whose actor holds this object alone: how it exits, and the components then
+-- how a body exits, and the components then
+abbrev pub exits : Outcome × (List ℤ × ℕ) → Asking (Exit × List ℤ)
+exits (outcome, (components, steps)) = ended (exit_of outcome, components)
+
+-- the body of an operation that has started, whose actor holds this object alone
 abbrev pub operation_run : UnitBodies → ℕ → ℕ → List ℤ → List ℤ → Asking (Exit × List ℤ)
 operation_run bodies object operation values components =
-    and_then (inner_at bodies object (outer_at bodies 15) 65 operation values components 100000) (λ r. ended (exit_of r.0, r.1.0))
+    and_then (inner_at bodies object (outer_at bodies 15) 65 operation values components 100000) exits
+
+-- what its statements run in
+abbrev pub operation_setting : ℕ → Setting
+operation_setting object = record { object = object; held = 15; nested = 65; is_task = false; handling = None }
 
 -- what statements of this setting run in
 abbrev pub world : UnitBodies → Setting → World

@@ -3,6 +3,8 @@ use Rattle.std.specs.Prelude.{◌≡◌, if◌then◌else◌, List, [], ◌∷�
 use Rattle.std.proofs.Common.{sym, ap, ◌∙◌, subst}
 use Rattle.rv_event.specs.declared.entry.Request.{Request}
 use Rattle.rv_event.specs.declared.entry.Answer.{Answer}
+use Rattle.rv_exec.specs.declared.machine.NextAsk.{NextAsk}
+use Rattle.rv_exec.specs.declared.machine.NextAsk.TheVariants as next_ask
 use Rattle.rv_exec.specs.Asking.{stands, Trace, Asking, ended, asking, Along}
 
 -- the answers that leave no request standing, in order
@@ -15,6 +17,10 @@ abbrev pub next_of : {A : Type 0} → Asking A → List Answer → Option Reques
 next_of (ended a) answers = None
 next_of (asking request next) [] = Some request
 next_of (asking request next) (answer ∷ answers) = next_of (next answer) answers
+
+abbrev pub told : Option Request → NextAsk
+told (Some request) = next_ask.Asks request
+told None = next_ask.Ended
 
 -- the answers that are left, and the first request without one
 abbrev pub Left : Type 0

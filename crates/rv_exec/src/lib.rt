@@ -7,14 +7,13 @@ pub mod asks;
 pub mod bodies;
 pub mod choices;
 pub mod end;
+pub mod machine;
 pub mod operators;
 pub mod outcome;
-pub mod machine;
 pub mod outward;
 pub mod ranges;
 pub mod replay;
 mod run;
 pub mod setting;
-
 #[cfg(test)]
 mod tests;

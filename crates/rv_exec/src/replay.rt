@@ -1,7 +1,9 @@
 //! An outside that gives answers again.
 
-ghost use Rattle.std.specs.Prelude.{◌≡◌};
+ghost use Rattle.std.specs.Prelude.{◌≡◌, ◌≤◌, ◌<◌, false, length, drop, get_or};
+ghost use Rattle.rv_event.specs.declared.entry.Answer.{Answer};
 ghost use Rattle.rv_exec.specs.Asking.{stands};
+ghost use Rattle.rv_exec.specs.Next.{settling};
 
 use crate::outward::Outward;
 use rv_event::entry::{Answer, Request};
@@ -13,6 +15,21 @@ fn stands(answer: Answer) -> bool
         Answer::Busy | Answer::Waiting | Answer::Misuse => true,
         _ => false,
     }
+}
+
+// Where the first answer is that settles its request, or how many answers there are.
+#[tactic(auto, using(crate::proofs::Replays::stands_passed))]
+fn settling_at(answers: &[Answer]) -> usize
+    ensures within { result ≤ length answers.now }
+    ensures found { result < length answers.now → (default : Answer) → stands (get_or answers.now result default) ≡ false }
+    ensures rest { settling answers.now ≡ settling (drop result answers.now) }
+{
+    for (place, answer) in answers.iter().enumerate() {
+        if !stands(*answer) {
+            return place;
+        }
+    }
+    answers.len()
 }
 
 /// Gives the answers again, but for those that leave their request standing; then keeps the first request that has
@@ -34,13 +51,11 @@ impl<'a> Outward<()> for Replay<'a> {
         if self.asked.is_some() {
             return Answer::Halted;
         }
-        let answers = self.answers;
-        for index in 0..answers.len() {
-            let answer = answers[index];
-            if !stands(answer) {
-                self.answers = &answers[index + 1..];
-                return answer;
-            }
+        let place = settling_at(self.answers);
+        if place < self.answers.len() {
+            let answer = self.answers[place];
+            self.answers = &self.answers[place + 1..];
+            return answer;
         }
         self.asked = Some(request);
         Answer::Halted

@@ -15,20 +15,19 @@ ghost use Rattle.rv_exec.specs.Expressions.{value, linked, arguments, called};
 ghost use Rattle.rv_exec.specs.Sizes.{most_size};
 ghost use Rattle.rv_exec.specs.Statements.{meaning, meanings, first_true, values_over};
 
-use rv_code::{Body, Branch, Callee, Declaration, Expression, Link, MOST_SLOTS, Statement};
-use rv_event::entry::Exception;
-use rv_value::{Args, Scalars};
-
 use crate::activation::{Activation, MOST_STEPS, joined, value_at};
 use crate::asks::{complete, end_of, internal, reached};
 use crate::bodies::Bodies;
 use crate::choices::{alternative_of, handler_of};
 use crate::end::{Asked, Cause, End};
-use crate::outcome::{outcome_of, raised, raised_again};
 use crate::operators::{decides, is_true, prefix_of, result_of, within};
+use crate::outcome::{outcome_of, raised, raised_again};
 use crate::outward::Outward;
 use crate::ranges::{Values, fits, span, value_before};
 use crate::setting::{MOST_NESTED, Setting};
+use rv_code::{Body, Branch, Callee, Declaration, Expression, Link, MOST_SLOTS, Statement};
+use rv_event::entry::Exception;
+use rv_value::{Args, Scalars};
 
 /// Evaluates an expression (4.4).
 #[cycle(run)]
@@ -69,7 +68,9 @@ fn value_of<R, O: Outward<R>>(
         Expression::Call(callee, given) => {
             match arguments(activation, runtime, bodies, setting, given, outward) {
                 Ok(values) => {
-                    match called(activation, runtime, bodies, setting, *callee, values, outward) {
+                    match called(
+                        activation, runtime, bodies, setting, *callee, values, outward,
+                    ) {
                         Ok(back) => Ok(value_at(back, 0)),
                         Err(cause) => Err(cause),
                     }
@@ -268,11 +269,25 @@ pub fn run_block<R, O: Outward<R>>(
     ensures ran { Ran O.went outward.old (block (world (bodies_view bodies.now) setting) (body_view body.now) activation.old) outward.new (result, activation.new) }
     ensures steps { steps_left activation.new ≤ steps_left activation.old }
 {
-    match elaborate(activation, runtime, bodies, setting, &body.declarations, outward) {
+    match elaborate(
+        activation,
+        runtime,
+        bodies,
+        setting,
+        &body.declarations,
+        outward,
+    ) {
         End::Next => {}
         end => return end,
     }
-    let end = run_all(activation, runtime, bodies, setting, &body.statements, outward);
+    let end = run_all(
+        activation,
+        runtime,
+        bodies,
+        setting,
+        &body.statements,
+        outward,
+    );
     let Some(exception) = raised(end) else {
         return end;
     };
@@ -304,7 +319,14 @@ fn elaborate<R, O: Outward<R>>(
     ensures steps { steps_left activation.new ≤ steps_left activation.old }
 {
     for declaration in declarations {
-        match value_of(activation, runtime, bodies, setting, &declaration.initial, outward) {
+        match value_of(
+            activation,
+            runtime,
+            bodies,
+            setting,
+            &declaration.initial,
+            outward,
+        ) {
             Ok(value) => match activation.assign(declaration.target, value) {
                 End::Next => {}
                 end => return end,
@@ -412,13 +434,7 @@ fn run_one<R, O: Outward<R>>(
         },
         Statement::ExitWhen(condition) => {
             match value_of(activation, runtime, bodies, setting, condition, outward) {
-                Ok(value) => {
-                    if is_true(value) {
-                        End::Exit
-                    } else {
-                        End::Next
-                    }
-                }
+                Ok(value) => { if is_true(value) { End::Exit } else { End::Next } }
                 Err(cause) => End::Abandoned(cause),
             }
         }
@@ -434,7 +450,9 @@ fn run_one<R, O: Outward<R>>(
         Statement::Call(callee, given, targets) => {
             match arguments(activation, runtime, bodies, setting, given, outward) {
                 Ok(values) => {
-                    match called(activation, runtime, bodies, setting, *callee, values, outward) {
+                    match called(
+                        activation, runtime, bodies, setting, *callee, values, outward,
+                    ) {
                         Ok(back) => activation.copy_back(targets, back),
                         Err(cause) => End::Abandoned(cause),
                     }
@@ -461,10 +479,24 @@ fn run_if<R, O: Outward<R>>(
     ensures steps { steps_left activation.new ≤ steps_left activation.old }
 {
     for branch in branches {
-        match value_of(activation, runtime, bodies, setting, &branch.condition, outward) {
+        match value_of(
+            activation,
+            runtime,
+            bodies,
+            setting,
+            &branch.condition,
+            outward,
+        ) {
             Ok(value) => {
                 if is_true(value) {
-                    return run_all(activation, runtime, bodies, setting, &branch.statements, outward);
+                    return run_all(
+                        activation,
+                        runtime,
+                        bodies,
+                        setting,
+                        &branch.statements,
+                        outward,
+                    );
                 }
             }
             Err(cause) => return End::Abandoned(cause),

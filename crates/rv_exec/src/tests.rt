@@ -1,25 +1,24 @@
 ghost use Rattle.std.specs.Prelude.{◌≤◌, length};
 
-use std::alloc::Global;
-use std::test::Fail;
-
+use crate::bodies::Bodies;
+use crate::machine::{Machine, NextAsk, next_ask, next_line_ask, run_body};
+use crate::replay::Replay;
 use rv_code::{
-    Body, Branch, Callee, Choice, Declaration, ExceptionChoice, Expression, Handler, Link, ObjectBodies,
-    Alternative, Operator, Place, Statement, Target, UnitBodies,
+    Alternative, Body, Branch, Callee, Choice, Declaration, ExceptionChoice, Expression, Handler,
+    Link, ObjectBodies, Operator, Place, Statement, Target, UnitBodies,
 };
 use rv_event::entry::{Answer, Exception, Exit, Next, Request, Rule};
 use rv_shape::kind::{Parameter, ParameterMode, Range, ValueType};
 use rv_value::{Args, Scalars};
-
-use crate::bodies::Bodies;
-use crate::machine::{Machine, next_ask, run_body};
-use crate::replay::Replay;
+use std::alloc::Global;
+use std::test::Fail;
 
 const INTEGER: Range = Range {
     of: ValueType::Integer,
     low: -2147483648,
     high: 2147483647,
 };
+
 const BOOLEAN: Range = Range {
     of: ValueType::Boolean,
     low: 0,
@@ -27,11 +26,17 @@ const BOOLEAN: Range = Range {
 };
 
 fn component(index: usize, range: Range) -> Target {
-    Target { place: Place::Component(index), range }
+    Target {
+        place: Place::Component(index),
+        range,
+    }
 }
 
 fn variable(slot: usize) -> Target {
-    Target { place: Place::Variable(slot), range: INTEGER }
+    Target {
+        place: Place::Variable(slot),
+        range: INTEGER,
+    }
 }
 
 fn body(alloc: Global, is_function: bool) -> Body {
@@ -50,27 +55,50 @@ fn links(alloc: Global, operator: Operator, operand: Expression) -> Result<Vec<L
     Ok(all)
 }
 
-fn binary(alloc: Global, left: Expression, operator: Operator, right: Expression) -> Result<Expression, Fail> {
+fn binary(
+    alloc: Global,
+    left: Expression,
+    operator: Operator,
+    right: Expression,
+) -> Result<Expression, Fail> {
     Ok(Expression::Chain(Box::new(alloc, left)?, links(alloc, operator, right)?))
 }
 
 // Valve: Get, Add (N), Wait (N : out) of the components Ready and Level.
 fn valve(alloc: Global) -> Result<ObjectBodies, Fail> {
     let mut get = body(alloc, true);
-    get.statements.push(Statement::ReturnValue(Expression::Component(1)))?;
+    get.statements
+        .push(Statement::ReturnValue(Expression::Component(1)))?;
     let mut add = body(alloc, false);
-    add.parameters.push(Parameter { mode: ParameterMode::In, range: INTEGER })?;
+    add.parameters.push(Parameter {
+        mode: ParameterMode::In,
+        range: INTEGER,
+    })?;
     add.statements.push(Statement::Assign(
         component(1, INTEGER),
-        binary(alloc, Expression::Component(1), Operator::Add, Expression::Variable(0))?,
+        binary(
+            alloc,
+            Expression::Component(1),
+            Operator::Add,
+            Expression::Variable(0),
+        )?,
     ))?;
     add.statements.push(Statement::Assign(
         component(0, BOOLEAN),
-        binary(alloc, Expression::Component(1), Operator::Greater, Expression::Value(5))?,
+        binary(
+            alloc,
+            Expression::Component(1),
+            Operator::Greater,
+            Expression::Value(5),
+        )?,
     ))?;
     let mut wait = body(alloc, false);
-    wait.parameters.push(Parameter { mode: ParameterMode::Out, range: INTEGER })?;
-    wait.statements.push(Statement::Assign(variable(0), Expression::Component(1)))?;
+    wait.parameters.push(Parameter {
+        mode: ParameterMode::Out,
+        range: INTEGER,
+    })?;
+    wait.statements
+        .push(Statement::Assign(variable(0), Expression::Component(1)))?;
     wait.statements.push(Statement::Assign(component(0, BOOLEAN), Expression::Value(0)))?;
     let mut operations = Vec::new(alloc);
     operations.push(get)?;
@@ -87,7 +115,10 @@ fn call_add(alloc: Global, value: i64) -> Result<Statement, Fail> {
 
 fn units(alloc: Global, first: i64, second: i64) -> Result<Bodies, Fail> {
     let mut pilot = body(alloc, false);
-    pilot.declarations.push(Declaration { target: variable(0), initial: Expression::Value(-2147483648) })?;
+    pilot.declarations.push(Declaration {
+        target: variable(0),
+        initial: Expression::Value(-2147483648),
+    })?;
     let mut back = Vec::new(alloc);
     back.push(variable(0))?;
     pilot.statements.push(Statement::Call(Callee::Entry(1, 3), Vec::new(alloc), back))?;
@@ -131,13 +162,23 @@ fn started(scalars: &[i64]) -> Answer
 fn a_task_asks_in_turn(rt: HostRuntime) -> Result<(), Fail> {
     let bodies = units(rt.alloc(), 4, 4)?;
     let machine = Machine::reserve(rt.alloc(), 10)?;
-    let answers = [started(&[0, 0]), DONE, started(&[0, 4]), DONE, Answer::Accepted(0)];
-    assert!(rt; next_ask(&machine, &bodies, 12, &answers[..0]) == Some(call(1, 2, &[4])));
-    assert!(rt; next_ask(&machine, &bodies, 12, &answers[..1]) == Some(end(&[0, 4], back(&[]))));
-    assert!(rt; next_ask(&machine, &bodies, 12, &answers[..2]) == Some(call(1, 2, &[4])));
-    assert!(rt; next_ask(&machine, &bodies, 12, &answers[..3]) == Some(end(&[1, 8], back(&[]))));
-    assert!(rt; next_ask(&machine, &bodies, 12, &answers[..4]) == Some(Request::Quit));
-    assert!(rt; next_ask(&machine, &bodies, 12, &answers).is_none());
+    let answers = [
+        started(&[0, 0]),
+        DONE,
+        started(&[0, 4]),
+        DONE,
+        Answer::Accepted(0),
+    ];
+    assert!(rt; next_ask(&machine, &bodies, 12, &answers[..0]) == NextAsk::Asks(call(1, 2, &[4])));
+    assert!(rt;
+        next_ask(&machine, &bodies, 12, &answers[..1]) == NextAsk::Asks(end(&[0, 4], back(&[])))
+    );
+    assert!(rt; next_ask(&machine, &bodies, 12, &answers[..2]) == NextAsk::Asks(call(1, 2, &[4])));
+    assert!(rt;
+        next_ask(&machine, &bodies, 12, &answers[..3]) == NextAsk::Asks(end(&[1, 8], back(&[])))
+    );
+    assert!(rt; next_ask(&machine, &bodies, 12, &answers[..4]) == NextAsk::Asks(Request::Quit));
+    assert!(rt; next_ask(&machine, &bodies, 12, &answers) == NextAsk::Ended);
     Ok(())
 }
 
@@ -150,14 +191,16 @@ fn an_entry_call_waits(rt: HostRuntime) -> Result<(), Fail> {
         Answer::Woken(Some(Scalars::from_slice(&[1, 8]))),
         DONE,
     ];
-    assert!(rt; next_ask(&machine, &bodies, 11, &answers[..0]) == Some(call(1, 3, &[])));
-    assert!(rt; next_ask(&machine, &bodies, 11, &answers[..1]) == Some(Request::Resume));
-    assert!(rt; next_ask(&machine, &bodies, 11, &answers[..2]) == Some(end(&[0, 8], back(&[8]))));
-    assert!(rt; next_ask(&machine, &bodies, 11, &answers) == Some(Request::Quit));
+    assert!(rt; next_ask(&machine, &bodies, 11, &answers[..0]) == NextAsk::Asks(call(1, 3, &[])));
+    assert!(rt; next_ask(&machine, &bodies, 11, &answers[..1]) == NextAsk::Asks(Request::Resume));
+    assert!(rt;
+        next_ask(&machine, &bodies, 11, &answers[..2]) == NextAsk::Asks(end(&[0, 8], back(&[8])))
+    );
+    assert!(rt; next_ask(&machine, &bodies, 11, &answers) == NextAsk::Asks(Request::Quit));
     let halted = [Answer::Queued, Answer::Halted];
-    assert!(rt; next_ask(&machine, &bodies, 11, &halted).is_none());
+    assert!(rt; next_ask(&machine, &bodies, 11, &halted) == NextAsk::Ended);
     let refused = [Answer::Refused(Rule::Ceiling, 0, 1)];
-    assert!(rt; next_ask(&machine, &bodies, 11, &refused) == Some(Request::Quit));
+    assert!(rt; next_ask(&machine, &bodies, 11, &refused) == NextAsk::Asks(Request::Quit));
     Ok(())
 }
 
@@ -166,9 +209,12 @@ fn an_overflow_raises(rt: HostRuntime) -> Result<(), Fail> {
     let bodies = units(rt.alloc(), 6, 2147483647)?;
     let machine = Machine::reserve(rt.alloc(), 10)?;
     let answers = [started(&[0, 0]), DONE, started(&[1, 6])];
-    assert!(rt; next_ask(&machine, &bodies, 12, &answers) == Some(end(&[1, 6], Exit::Raise(Exception::ConstraintError))));
+    assert!(rt;
+        next_ask(&machine, &bodies, 12, &answers)
+            == NextAsk::Asks(end(&[1, 6], Exit::Raise(Exception::ConstraintError)))
+    );
     let small = Machine::reserve(rt.alloc(), 1)?;
-    assert!(rt; next_ask(&small, &bodies, 12, &answers[..2]) == Some(Request::Quit));
+    assert!(rt; next_ask(&small, &bodies, 12, &answers[..2]) == NextAsk::Asks(Request::Quit));
     Ok(())
 }
 
@@ -178,10 +224,20 @@ fn looping(alloc: Global, turns: i64, more: usize) -> Result<Bodies, Fail> {
     let mut inside = Vec::new(alloc);
     inside.push(Statement::Assign(
         variable(0),
-        binary(alloc, Expression::Variable(0), Operator::Add, Expression::Value(1))?,
+        binary(
+            alloc,
+            Expression::Variable(0),
+            Operator::Add,
+            Expression::Value(1),
+        )?,
     ))?;
     count.statements.push(Statement::While(
-        binary(alloc, Expression::Variable(0), Operator::Less, Expression::Value(turns))?,
+        binary(
+            alloc,
+            Expression::Variable(0),
+            Operator::Less,
+            Expression::Value(turns),
+        )?,
         inside,
     ))?;
     for _ in 0..more {
@@ -191,7 +247,10 @@ fn looping(alloc: Global, turns: i64, more: usize) -> Result<Bodies, Fail> {
     handled.push(Statement::Null)?;
     let mut choices = Vec::new(alloc);
     choices.push(ExceptionChoice::Others)?;
-    count.handlers.push(Handler { choices, statements: handled })?;
+    count.handlers.push(Handler {
+        choices,
+        statements: handled,
+    })?;
     let mut operations = Vec::new(alloc);
     operations.push(count)?;
     let mut bodies = Bodies::new(alloc);
@@ -200,7 +259,10 @@ fn looping(alloc: Global, turns: i64, more: usize) -> Result<Bodies, Fail> {
 }
 
 fn exit_of_loop(bodies: &Bodies) -> Exit {
-    let mut outward = Replay { answers: &[], asked: None };
+    let mut outward = Replay {
+        answers: &[],
+        asked: None,
+    };
     run_body(&(), bodies, 1, 1, Scalars::new(), Args::new(), &mut outward).exit
 }
 
@@ -221,20 +283,51 @@ fn ranges_and_cases(rt: HostRuntime) -> Result<(), Fail> {
     choices.push(Choice::Values(2, 3))?;
     let mut first = Vec::new(alloc);
     let mut product = Vec::new(alloc);
-    product.push(Link { operator: Operator::Multiply, operand: Expression::Value(10) })?;
-    product.push(Link { operator: Operator::Add, operand: Expression::Variable(1) })?;
-    first.push(Statement::Assign(variable(0), Expression::Chain(Box::new(alloc, Expression::Variable(0))?, product)))?;
+    product.push(Link {
+        operator: Operator::Multiply,
+        operand: Expression::Value(10),
+    })?;
+    product.push(Link {
+        operator: Operator::Add,
+        operand: Expression::Variable(1),
+    })?;
+    first.push(Statement::Assign(
+        variable(0),
+        Expression::Chain(Box::new(alloc, Expression::Variable(0))?, product),
+    ))?;
     let mut others = Vec::new(alloc);
     others.push(Choice::Others)?;
     let mut then = Vec::new(alloc);
-    then.push(Statement::Assign(variable(0), binary(alloc, Expression::Variable(0), Operator::Add, Expression::Value(100))?))?;
+    then.push(Statement::Assign(
+        variable(0),
+        binary(
+            alloc,
+            Expression::Variable(0),
+            Operator::Add,
+            Expression::Value(100),
+        )?,
+    ))?;
     let mut branches = Vec::new(alloc);
-    branches.push(Branch { condition: binary(alloc, Expression::Variable(1), Operator::Equal, Expression::Value(1))?, statements: then })?;
+    branches.push(Branch {
+        condition: binary(
+            alloc,
+            Expression::Variable(1),
+            Operator::Equal,
+            Expression::Value(1),
+        )?,
+        statements: then,
+    })?;
     let mut second = Vec::new(alloc);
     second.push(Statement::If(branches, Vec::new(alloc)))?;
     let mut alternatives = Vec::new(alloc);
-    alternatives.push(Alternative { choices, statements: first })?;
-    alternatives.push(Alternative { choices: others, statements: second })?;
+    alternatives.push(Alternative {
+        choices,
+        statements: first,
+    })?;
+    alternatives.push(Alternative {
+        choices: others,
+        statements: second,
+    })?;
     let mut inside = Vec::new(alloc);
     inside.push(Statement::Case(Expression::Variable(1), alternatives))?;
     sum.statements.push(Statement::For {
@@ -245,11 +338,20 @@ fn ranges_and_cases(rt: HostRuntime) -> Result<(), Fail> {
         high: Expression::Value(4),
         statements: inside,
     })?;
-    sum.statements.push(Statement::ReturnValue(Expression::Variable(0)))?;
+    sum.statements
+        .push(Statement::ReturnValue(Expression::Variable(0)))?;
     let mut twice = body(alloc, true);
-    twice.statements.push(Statement::ReturnValue(binary(alloc, Expression::Call(Callee::Internal(1), Vec::new(alloc)), Operator::Subtract, Expression::Call(Callee::Internal(1), Vec::new(alloc)))?))?;
+    twice.statements.push(Statement::ReturnValue(binary(
+        alloc,
+        Expression::Call(Callee::Internal(1), Vec::new(alloc)),
+        Operator::Subtract,
+        Expression::Call(Callee::Internal(1), Vec::new(alloc)),
+    )?))?;
     let mut itself = body(alloc, true);
-    itself.statements.push(Statement::ReturnValue(Expression::Call(Callee::Internal(3), Vec::new(alloc))))?;
+    itself.statements.push(Statement::ReturnValue(Expression::Call(
+        Callee::Internal(3),
+        Vec::new(alloc),
+    )))?;
     let mut operations = Vec::new(alloc);
     operations.push(sum)?;
     operations.push(twice)?;
@@ -257,11 +359,74 @@ fn ranges_and_cases(rt: HostRuntime) -> Result<(), Fail> {
     operations.push(body(alloc, true))?;
     let mut bodies = Bodies::new(alloc);
     bodies.objects.push(ObjectBodies { operations })?;
-    let mut outward = Replay { answers: &[], asked: None };
-    assert!(rt; run_body(&(), &bodies, 1, 1, Scalars::new(), Args::new(), &mut outward).exit == back(&[132]));
-    assert!(rt; run_body(&(), &bodies, 1, 2, Scalars::new(), Args::new(), &mut outward).exit == back(&[0]));
-    assert!(rt; run_body(&(), &bodies, 1, 3, Scalars::new(), Args::new(), &mut outward).exit == Exit::Overrun);
-    assert!(rt; run_body(&(), &bodies, 1, 4, Scalars::new(), Args::new(), &mut outward).exit == Exit::Raise(Exception::ProgramError));
-    assert!(rt; run_body(&(), &bodies, 1, 5, Scalars::new(), Args::new(), &mut outward).exit == Exit::Raise(Exception::ProgramError));
+    let mut outward = Replay {
+        answers: &[],
+        asked: None,
+    };
+    assert!(rt;
+        run_body(
+            &(),
+            &bodies,
+            1,
+            1,
+            Scalars::new(),
+            Args::new(),
+            &mut outward
+        )
+        .exit
+            == back(&[132])
+    );
+    assert!(rt;
+        run_body(
+            &(),
+            &bodies,
+            1,
+            2,
+            Scalars::new(),
+            Args::new(),
+            &mut outward
+        )
+        .exit
+            == back(&[0])
+    );
+    assert!(rt;
+        run_body(
+            &(),
+            &bodies,
+            1,
+            3,
+            Scalars::new(),
+            Args::new(),
+            &mut outward
+        )
+        .exit
+            == Exit::Overrun
+    );
+    assert!(rt;
+        run_body(
+            &(),
+            &bodies,
+            1,
+            4,
+            Scalars::new(),
+            Args::new(),
+            &mut outward
+        )
+        .exit
+            == Exit::Raise(Exception::ProgramError)
+    );
+    assert!(rt;
+        run_body(
+            &(),
+            &bodies,
+            1,
+            5,
+            Scalars::new(),
+            Args::new(),
+            &mut outward
+        )
+        .exit
+            == Exit::Raise(Exception::ProgramError)
+    );
     Ok(())
 }
