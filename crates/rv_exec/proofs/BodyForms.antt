@@ -39,8 +39,8 @@ pub activation_is : (a : Activation) (slots components : List ℤ) (steps reques
 activation_is a slots components steps requests e f g h = λ i. record { slots = e i; components = f i; steps = g i; requests = h i }
 
 -- a call of the host is lower, whatever may nest
-pub calls_fall : (held nested most : ℕ) → (held + 0) * most + 0 < (held + nested) * most + 1
-calls_fall held nested most = let h : held * most ≤ (held + nested) * most = mul-le-mul_right most (omega arith) in omega (arith, h)
+pub calls_fall : (held nested most left : ℕ) → (held + 0) * most + 0 < (held + nested) * most + (left + 1)
+calls_fall held nested most left = let h : held * most ≤ (held + nested) * most = mul-le-mul_right most (omega arith) in omega (arith, h)
 
 module _ {S : Type 0} (went : S → Trace → S → Type 0) (none : (s : S) → went s [] s) (both : (s t u : S) (a b : Trace) → went s a t → went t b u → went s (a ++ b) u) where
   module _ (w : World) where

@@ -40,13 +40,9 @@ pub within_smaller : (x : Expression) (range : Range) (e : Expression) → x ≡
 unfolding size
 within_smaller x range e is = rw is (omega arith)
 
-pub arguments_smaller : (x : Expression) (c : Callee) (es : Expressions) → x ≡ code.call c es → expressions_size es < size x
+pub call_smaller : (x : Expression) (c : Callee) (es : Expressions) → x ≡ code.call c es → expressions_size es + 1 < size x
 unfolding size
-arguments_smaller x c es is = rw is (omega arith)
-
-pub call_counts : (x : Expression) (c : Callee) (es : Expressions) → x ≡ code.call c es → 1 < size x
-unfolding size
-call_counts x c es is = rw is (omega arith)
+call_smaller x c es is = rw is (omega arith)
 
 pub argument_smaller : (xs : List RustExpression) (i : ℕ) (x : RustExpression) → i < length xs → x ≡ get_or xs i x → size (expression_view x) < expressions_size (expressions_view xs)
 unfolding size
@@ -74,9 +70,9 @@ pub choice_smaller : (x : Statement) (bs : Branches) (otherwise : Statements) �
 unfolding statement_size
 choice_smaller x bs otherwise is = rw is (omega arith)
 
-pub selector_smaller : (x : Statement) (e : Expression) (more : Alternatives) → x ≡ tree.selection e more → size e < statement_size x
+pub selection_smaller : (x : Statement) (e : Expression) (more : Alternatives) → x ≡ tree.selection e more → size e + alternatives_size more < statement_size x
 unfolding statement_size
-selector_smaller x e more is = rw is (omega arith)
+selection_smaller x e more is = rw is (omega arith)
 
 abbrev size_or : Statements → Option Statements → ℕ
 size_or ss None = statements_size ss
@@ -90,30 +86,18 @@ chosen_smaller : (b : Bool) (one ss : Statements) (o : Option Statements) (m : �
 chosen_smaller true one ss o m h is = let e : statements_size one ≡ statements_size ss = ap (λ x. size_or one x) is in omega (arith, e)
 chosen_smaller false one ss o m h is = let l = h is in omega (arith, l)
 
-alternatives_smaller : (more : Alternatives) (v : ℤ) (ss : Statements) → alternative_of more v ≡ Some ss → statements_size ss < alternatives_size more
+pub alternatives_smaller : (more : Alternatives) (v : ℤ) (ss : Statements) → alternative_of more v ≡ Some ss → statements_size ss < alternatives_size more
 unfolding statement_size
 alternatives_smaller no_alternatives v ss is = let e : 0 ≡ 1 = ap is_some is in absurd (omega (arith, e))
 alternatives_smaller (and_alternative choices one more) v ss is = chosen_smaller (covered choices v) one ss (alternative_of more v) (alternatives_size more) (alternatives_smaller more v ss) is
-
-pub alternative_smaller : (x : Statement) (e : Expression) (more : Alternatives) (v : ℤ) (ss : Statements) → x ≡ tree.selection e more → alternative_of more v ≡ Some ss → statements_size ss < statement_size x
-unfolding statement_size
-alternative_smaller x e more v ss is found = let h = alternatives_smaller more v ss found in rw is (omega (arith, h))
 
 pub while_smaller : (x : Statement) (e : Expression) (ss : Statements) → x ≡ tree.while_loop e ss → size e + statements_size ss + 1 < statement_size x
 unfolding statement_size
 while_smaller x e ss is = rw is (omega arith)
 
-pub low_smaller : (x : Statement) (slot : ℕ) (r : Bool) (range : Range) (low high : Expression) (ss : Statements) → x ≡ tree.for_loop slot r range low high ss → size low < statement_size x
+pub for_smaller : (x : Statement) (slot : ℕ) (r : Bool) (range : Range) (low high : Expression) (ss : Statements) → x ≡ tree.for_loop slot r range low high ss → size low + size high + statements_size ss + 1 < statement_size x
 unfolding statement_size
-low_smaller x slot r range low high ss is = rw is (omega arith)
-
-pub high_smaller : (x : Statement) (slot : ℕ) (r : Bool) (range : Range) (low high : Expression) (ss : Statements) → x ≡ tree.for_loop slot r range low high ss → size high < statement_size x
-unfolding statement_size
-high_smaller x slot r range low high ss is = rw is (omega arith)
-
-pub turn_smaller : (x : Statement) (slot : ℕ) (r : Bool) (range : Range) (low high : Expression) (ss : Statements) → x ≡ tree.for_loop slot r range low high ss → statements_size ss + 1 < statement_size x
-unfolding statement_size
-turn_smaller x slot r range low high ss is = rw is (omega arith)
+for_smaller x slot r range low high ss is = rw is (omega arith)
 
 pub condition_smaller : (x : Statement) (e : Expression) → x ≡ tree.exit_when e → size e < statement_size x
 unfolding statement_size
@@ -123,13 +107,9 @@ pub returned_smaller : (x : Statement) (e : Expression) → x ≡ tree.returns_v
 unfolding statement_size
 returned_smaller x e is = rw is (omega arith)
 
-pub passed_smaller : (x : Statement) (c : Callee) (es : Expressions) (targets : List Target) → x ≡ tree.calls c es targets → expressions_size es < statement_size x
+pub passed_smaller : (x : Statement) (c : Callee) (es : Expressions) (targets : List Target) → x ≡ tree.calls c es targets → expressions_size es + 1 < statement_size x
 unfolding statement_size
 passed_smaller x c es targets is = rw is (omega arith)
-
-pub called_counts : (x : Statement) (c : Callee) (es : Expressions) (targets : List Target) → x ≡ tree.calls c es targets → 1 < statement_size x
-unfolding statement_size
-called_counts x c es targets is = rw is (omega arith)
 
 pub statement_smaller : (xs : List RustStatement) (i : ℕ) (x : RustStatement) → i < length xs → x ≡ get_or xs i x → statement_size (statement_view x) < statements_size (statements_view xs)
 unfolding statement_size

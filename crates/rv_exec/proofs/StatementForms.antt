@@ -21,8 +21,8 @@ use Rattle.rv_exec.specs.Asking.{Trace, Asking, ended, and_then, Ran}
 use Rattle.rv_exec.specs.Activations.{assigned, stepped, put_slot, copied_back, fits, span}
 use Rattle.rv_exec.specs.Choices.{covered, alternative_of}
 use Rattle.rv_exec.specs.Operators.{is_true}
-use Rattle.rv_exec.specs.Expressions.{on_value, value, arguments, called}
-use Rattle.rv_exec.specs.Statements.{abandons, go_on, again, turns, values_over, for_each, raised_again, meaning, meanings, first_true, selected}
+use Rattle.rv_exec.specs.Expressions.{on_value, value, arguments, passing}
+use Rattle.rv_exec.specs.Statements.{abandons, go_on, again, turns, values_over, for_each, raised_again, exit_where, meaning, meanings, first_true, selected}
 use Rattle.rv_exec.specs.World.{World, Run}
 use Rattle.rv_exec.proofs.Runs.{ran_end, ran_then, ran_eq, ran_to}
 use Rattle.rv_exec.proofs.Forms.{with_value, without_value, with_step}
@@ -114,8 +114,8 @@ module _ {S : Type 0} (went : S → Trace → S → Type 0) (none : (s : S) → 
     unfolding meaning
     case_fails x e more a b why s t is h = rw is (without_value went none both (value w e a) abandons _ why b _ s t h refl)
 
-    pub while_goes : (x : Statement) (e : Expression) (ss : Statements) (a : Activation) (last : End × Activation) (s t : S) → x ≡ tree.while_loop e ss → Ran went s (meaning w (tree.while_loop e ss) a) t last → Ran went s (meaning w x a) t last
-    while_goes x e ss a last s t is h = rw is h
+    pub same_goes : (x y : Statement) (a : Activation) (last : End × Activation) (s t : S) → x ≡ y → Ran went s (meaning w y a) t last → Ran went s (meaning w x a) t last
+    same_goes x y a last s t is h = rw is h
 
     pub for_goes : (x : Statement) (slot : ℕ) (is_reverse : Bool) (range : Range) (low high : Expression) (ss : Statements) (a b c : Activation) (from to : ℤ) (last : End × Activation) (s t u r : S) → x ≡ tree.for_loop slot is_reverse range low high ss → Ran went s (value w low a) t (Ok from, b) → Ran went t (value w high b) u (Ok to, c) → Ran went u (for_each is_reverse range slot (meanings w ss) from to c) r last → Ran went s (meaning w x a) r last
     unfolding meaning
@@ -132,13 +132,9 @@ module _ {S : Type 0} (went : S → Trace → S → Type 0) (none : (s : S) → 
     high_fails x slot is_reverse range low high ss a b c from why s t u is h g =
         rw is (with_value went none both (value w low a) abandons _ from b _ s t u h (without_value went none both (value w high b) abandons _ why c _ t u g refl))
 
-    pub exit_goes : (x : Statement) (e : Expression) (a b : Activation) (v : ℤ) (s t : S) → x ≡ tree.exit_when e → Ran went s (value w e a) t (Ok v, b) → is_true v ≡ true → Ran went s (meaning w x a) t (end.Exit, b)
+    pub exit_goes : (x : Statement) (e : Expression) (a b : Activation) (v : ℤ) (r : End) (s t : S) → x ≡ tree.exit_when e → Ran went s (value w e a) t (Ok v, b) → r ≡ exit_where v → Ran went s (meaning w x a) t (r, b)
     unfolding meaning
-    exit_goes x e a b v s t is h truth = rw is (with_value went none both (value w e a) abandons _ v b _ s t t h (ran_end went none t _ _ (rw truth refl)))
-
-    pub exit_passes : (x : Statement) (e : Expression) (a b : Activation) (v : ℤ) (s t : S) → x ≡ tree.exit_when e → Ran went s (value w e a) t (Ok v, b) → is_true v ≡ false → Ran went s (meaning w x a) t (end.Next, b)
-    unfolding meaning
-    exit_passes x e a b v s t is h falsity = rw is (with_value went none both (value w e a) abandons _ v b _ s t t h (ran_end went none t _ _ (rw falsity refl)))
+    exit_goes x e a b v r s t is h got = rw is (with_value went none both (value w e a) abandons _ v b _ s t t h (ran_end went none t _ _ (ap (λ (k : End). ended (k, b)) (sym got))))
 
     pub exit_fails : (x : Statement) (e : Expression) (a b : Activation) (why : Cause) (s t : S) → x ≡ tree.exit_when e → Ran went s (value w e a) t (Err why, b) → Ran went s (meaning w x a) t (end.Abandoned why, b)
     unfolding meaning
@@ -164,20 +160,14 @@ module _ {S : Type 0} (went : S → Trace → S → Type 0) (none : (s : S) → 
     unfolding meaning
     reraise_goes x why a s is got = rw is (ran_end went none s _ _ (ap (λ (y : Cause). ended (end.Abandoned y, a)) (sym got)))
 
-    pub statement_calls : (x : Statement) (callee : Callee) (es : Expressions) (targets : List Target) (a b c : Activation) (values back : List ℤ) (last : End × Activation) (s t u : S) → x ≡ tree.calls callee es targets → Ran went s (arguments w es [] a) t (Ok values, b) → Ran went t (called w callee values b) u (Ok back, c) → last ≡ copied_back targets 0 back c → Ran went s (meaning w x a) u last
+    pub statement_calls : (x : Statement) (callee : Callee) (es : Expressions) (targets : List Target) (a b : Activation) (back : List ℤ) (last : End × Activation) (s t : S) → x ≡ tree.calls callee es targets → Ran went s (passing w callee (arguments w es [] a)) t (Ok back, b) → last ≡ copied_back targets 0 back b → Ran went s (meaning w x a) t last
     unfolding meaning
-    statement_calls x callee es targets a b c values back last s t u is h g got =
-        rw is (with_value went none both (arguments w es [] a) abandons _ values b _ s t u h
-        (with_value went none both (called w callee values b) abandons _ back c _ t u u g (ran_end went none u _ _ (ap ended (sym got)))))
+    statement_calls x callee es targets a b back last s t is h got =
+        rw is (with_value went none both (passing w callee (arguments w es [] a)) abandons _ back b _ s t t h (ran_end went none t _ _ (ap ended (sym got))))
 
-    pub statement_call_fails : (x : Statement) (callee : Callee) (es : Expressions) (targets : List Target) (a b c : Activation) (values : List ℤ) (why : Cause) (s t u : S) → x ≡ tree.calls callee es targets → Ran went s (arguments w es [] a) t (Ok values, b) → Ran went t (called w callee values b) u (Err why, c) → Ran went s (meaning w x a) u (end.Abandoned why, c)
+    pub statement_call_fails : (x : Statement) (callee : Callee) (es : Expressions) (targets : List Target) (a b : Activation) (why : Cause) (s t : S) → x ≡ tree.calls callee es targets → Ran went s (passing w callee (arguments w es [] a)) t (Err why, b) → Ran went s (meaning w x a) t (end.Abandoned why, b)
     unfolding meaning
-    statement_call_fails x callee es targets a b c values why s t u is h g =
-        rw is (with_value went none both (arguments w es [] a) abandons _ values b _ s t u h (without_value went none both (called w callee values b) abandons _ why c _ t u g refl))
-
-    pub statement_arguments_fail : (x : Statement) (callee : Callee) (es : Expressions) (targets : List Target) (a b : Activation) (why : Cause) (s t : S) → x ≡ tree.calls callee es targets → Ran went s (arguments w es [] a) t (Err why, b) → Ran went s (meaning w x a) t (end.Abandoned why, b)
-    unfolding meaning
-    statement_arguments_fail x callee es targets a b why s t is h = rw is (without_value went none both (arguments w es [] a) abandons _ why b _ s t h refl)
+    statement_call_fails x callee es targets a b why s t is h = rw is (without_value went none both (passing w callee (arguments w es [] a)) abandons _ why b _ s t h refl)
 
     -- the rest of the branches of `if`
     branch_taken_on : (xs : List RustBranch) (i : ℕ) (x : RustBranch) (otherwise : Activation → Run) (v : ℤ) (a b : Activation) (last : End × Activation) (s t u : S) → i < length xs → x ≡ get_or xs i x → Ran went s (value w ((branch_view x).condition) a) t (Ok v, b) → is_true v ≡ true → Ran went t (meanings w ((branch_view x).statements) b) u last → Ran went s (first_true w (branches_view (drop i xs)) otherwise a) u last

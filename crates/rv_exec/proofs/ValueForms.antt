@@ -15,7 +15,7 @@ use Rattle.rv_exec.specs.Asking.{Trace, Asking, ended, and_then, Ran}
 use Rattle.rv_exec.specs.Activations.{joined}
 use Rattle.rv_exec.specs.Calls.{Outcome}
 use Rattle.rv_exec.specs.Operators.{prefix_of, within, decides, result_of}
-use Rattle.rv_exec.specs.Expressions.{on_value, fails, value, linked, arguments, called, given, first_given}
+use Rattle.rv_exec.specs.Expressions.{on_value, fails, value, linked, arguments, called, passing, given, first_given}
 use Rattle.rv_exec.specs.World.{World, Got, GotAll}
 use Rattle.rv_exec.proofs.Runs.{ran_end, ran_then, ran_eq, ran_to}
 use Rattle.rv_exec.proofs.Forms.{with_value, without_value}
@@ -63,21 +63,21 @@ module _ {S : Type 0} (went : S → Trace → S → Type 0) (none : (s : S) → 
   unfolding value
   within_fails x range e a b why s t is h = rw is (without_value went none both (value w e a) fails _ why b _ s t h refl)
 
-  pub call_goes : (x : Expression) (callee : Callee) (es : Expressions) (a b c : Activation) (values back : List ℤ) (r : ℤ) (s t u : S) → x ≡ code.call callee es → Ran went s (arguments w es [] a) t (Ok values, b) → Ran went t (called w callee values b) u (Ok back, c) → r ≡ slice_index_or back 0 (pos 0) → Ran went s (value w x a) u (Ok r, c)
+  pub call_goes : (x : Expression) (callee : Callee) (es : Expressions) (a b : Activation) (back : List ℤ) (r : ℤ) (s t : S) → x ≡ code.call callee es → Ran went s (passing w callee (arguments w es [] a)) t (Ok back, b) → r ≡ slice_index_or back 0 (pos 0) → Ran went s (value w x a) t (Ok r, b)
   unfolding value
-  call_goes x callee es a b c values back r s t u is h g got =
-      rw is (with_value went none both (arguments w es [] a) fails _ values b _ s t u h
-      (ran_then went both t u u (called w callee values b) given (Ok back, c) _ g (ran_end went none u _ _ (ap (λ (y : ℤ). ended (Ok y, c)) (sym got)))))
+  call_goes x callee es a b back r s t is h got =
+      rw is (ran_then went both s t t _ given (Ok back, b) _ h (ran_end went none t _ _ (ap (λ (y : ℤ). ended (Ok y, b)) (sym got))))
 
-  pub call_fails : (x : Expression) (callee : Callee) (es : Expressions) (a b c : Activation) (values : List ℤ) (why : Cause) (s t u : S) → x ≡ code.call callee es → Ran went s (arguments w es [] a) t (Ok values, b) → Ran went t (called w callee values b) u (Err why, c) → Ran went s (value w x a) u (Err why, c)
+  pub call_fails : (x : Expression) (callee : Callee) (es : Expressions) (a b : Activation) (why : Cause) (s t : S) → x ≡ code.call callee es → Ran went s (passing w callee (arguments w es [] a)) t (Err why, b) → Ran went s (value w x a) t (Err why, b)
   unfolding value
-  call_fails x callee es a b c values why s t u is h g =
-      rw is (with_value went none both (arguments w es [] a) fails _ values b _ s t u h
-      (ran_then went both t u u (called w callee values b) given (Err why, c) _ g (ran_end went none u _ _ refl)))
+  call_fails x callee es a b why s t is h = rw is (ran_then went both s t t _ given (Err why, b) _ h (ran_end went none t _ _ refl))
 
-  pub arguments_fail : (x : Expression) (callee : Callee) (es : Expressions) (a b : Activation) (why : Cause) (s t : S) → x ≡ code.call callee es → Ran went s (arguments w es [] a) t (Err why, b) → Ran went s (value w x a) t (Err why, b)
-  unfolding value
-  arguments_fail x callee es a b why s t is h = rw is (without_value went none both (arguments w es [] a) fails _ why b _ s t h refl)
+  -- a call behind its arguments
+  pub passes : (callee : Callee) (what : Asking GotAll) (a : Activation) (values : List ℤ) (last : GotAll) (s t u : S) → Ran went s what t (Ok values, a) → Ran went t (called w callee values a) u last → Ran went s (passing w callee what) u last
+  passes callee what a values last s t u h g = with_value went none both what fails (called w callee) values a last s t u h g
+
+  pub passes_not : (callee : Callee) (what : Asking GotAll) (a : Activation) (why : Cause) (s t : S) → Ran went s what t (Err why, a) → Ran went s (passing w callee what) t (Err why, a)
+  passes_not callee what a why s t h = without_value went none both what fails (called w callee) why a _ s t h refl
 
   -- the rest of the links
   pub no_link_left : (xs : List RustLink) (i : ℕ) (v : ℤ) (a : Activation) (s : S) → length xs ≤ i → Ran went s (linked w (links_view (drop i xs)) v a) s (Ok v, a)
