@@ -1,5 +1,5 @@
 -- One lemma for each way that a body, and a call, goes.
-use Rattle.std.proofs.Common.{◌≡◌, ℕ, zero, suc, ◌+◌, ◌-◌, ◌*◌, ◌<◌, ◌≤◌, ℤ, pos, List, [], ◌∷◌, ◌++◌, Bool, true, false, length, get_or, drop, map, refl, sym, ap, ◌∙◌, subst, arith, Option, Some, None, Result, Ok, Err, mul-le-mul_right}
+use Rattle.std.proofs.Common.{◌≡◌, ℕ, zero, suc, ◌+◌, ◌-◌, ◌*◌, ◌<◌, ◌≤◌, ℤ, pos, List, [], ◌∷◌, ◌++◌, Bool, false, length, get_or, drop, map, refl, sym, ap, ◌∙◌, subst, arith, Option, Some, None, Ok, Err, mul-le-mul_right}
 use Rattle.std.specs.Prelude.{replicate}
 use Rattle.rv_event.specs.declared.entry.Exception.{Exception}
 use Rattle.rv_event.specs.declared.entry.Exception.TheVariants.{ProgramError}
@@ -9,12 +9,11 @@ use Rattle.rv_event.specs.declared.entry.Request.{Request}
 use Rattle.rv_event.specs.declared.entry.Request.TheVariants as request
 use Rattle.rv_code.specs.declared.body.Declaration.{Declaration as RustDeclaration}
 use Rattle.rv_code.specs.declared.expression.Callee.{Callee}
-use Rattle.rv_code.specs.Bodies.{Declaration, Handler, Body, UnitBodies}
+use Rattle.rv_code.specs.Bodies.{Body, UnitBodies}
 use Rattle.rv_code.specs.BodyView.{declaration_view}
 use Rattle.rv_code.specs.ExpressionView.{expression_view}
 use Rattle.rv_code.specs.Statements.{Statements}
 use Rattle.rv_exec.specs.declared.activation.Activation.{Activation}
-use Rattle.rv_exec.specs.declared.end.Asked.{Asked}
 use Rattle.rv_exec.specs.declared.end.Asked.TheVariants as asked
 use Rattle.rv_exec.specs.declared.end.Cause.{Cause}
 use Rattle.rv_exec.specs.declared.end.Cause.TheVariants as cause
@@ -28,10 +27,10 @@ use Rattle.rv_exec.specs.Bodies.{operation_of, task_of}
 use Rattle.rv_exec.specs.Tasks.{task_setting, quits, over, task_meaning, task_run, fired, line_run}
 use Rattle.rv_exec.specs.Calls.{Outcome, internal, reached, exit_of, completed, end_of, completes}
 use Rattle.rv_exec.specs.Choices.{handler_of}
-use Rattle.rv_exec.specs.Expressions.{on_value, value, called, called_by, asked_by, answered, returned}
+use Rattle.rv_exec.specs.Expressions.{value, called, called_by, asked_by, answered, returned}
 use Rattle.rv_exec.specs.Statements.{abandons, go_on, meanings}
-use Rattle.rv_exec.specs.World.{World, Run, GotAll}
-use Rattle.rv_exec.proofs.Runs.{ran_end, ran_then, ran_ask_then, ran_eq, ran_to}
+use Rattle.rv_exec.specs.World.{World}
+use Rattle.rv_exec.proofs.Runs.{ran_end, ran_then, ran_ask_then, ran_eq}
 use Rattle.rv_exec.proofs.Forms.{with_value, without_value}
 use Rattle.rv_exec.proofs.StatementForms.{goes_on_not}
 

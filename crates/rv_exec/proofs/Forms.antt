@@ -1,25 +1,21 @@
 -- One lemma for each way that a form goes.
-use Rattle.std.proofs.Common.{◌≡◌, ℕ, zero, suc, ◌+◌, ◌-◌, ◌<◌, ◌≤◌, ℤ, pos, List, [], ◌∷◌, ◌++◌, Bool, true, false, length, get_or, map, drop, refl, sym, ap, ◌∙◌, subst, arith, Option, Some, None, Result, Ok, Err, slice_index_or}
-use Rattle.rv_code.specs.declared.expression.Callee.{Callee}
+use Rattle.std.proofs.Common.{◌≡◌, ℕ, zero, suc, ◌+◌, ◌-◌, ◌<◌, ◌≤◌, ℤ, List, [], ◌∷◌, ◌++◌, Bool, true, false, length, get_or, drop, refl, ap, subst, arith, Some, None, Result, Ok, Err}
 use Rattle.rv_code.specs.declared.expression.Operator.{Operator}
-use Rattle.rv_code.specs.declared.statement.Target.{Target}
 use Rattle.rv_code.specs.declared.statement.Statement.{Statement as RustStatement}
 use Rattle.rv_code.specs.Expressions as code
-use Rattle.rv_code.specs.Statements as tree
 use Rattle.rv_code.specs.StatementView.{statement_view, statements_view}
 use Rattle.rv_exec.specs.declared.activation.Activation.{Activation}
 use Rattle.rv_exec.specs.declared.end.Cause.{Cause}
 use Rattle.rv_exec.specs.declared.end.Cause.TheVariants as cause
 use Rattle.rv_exec.specs.declared.end.End.{End}
 use Rattle.rv_exec.specs.declared.end.End.TheVariants as end
-use Rattle.rv_exec.specs.Asking.{Trace, Asking, ended, asking, and_then, Along, Ran}
-use Rattle.rv_exec.specs.Activations.{assigned, stepped, joined, put_slot, value_before}
+use Rattle.rv_exec.specs.Asking.{Trace, Asking, ended, and_then, Ran}
+use Rattle.rv_exec.specs.Activations.{stepped, joined, put_slot, value_before}
 use Rattle.rv_exec.specs.Operators.{decides, result_of, is_true}
-use Rattle.rv_exec.specs.Calls.{Outcome}
-use Rattle.rv_exec.specs.Expressions.{on_value, fails, value, linked, arguments, called, given, first_given}
+use Rattle.rv_exec.specs.Expressions.{on_value, fails, value, linked, arguments}
 use Rattle.rv_exec.specs.Statements.{step, on_step, go_on, again, turns, values_over, meaning, meanings, abandons}
 use Rattle.rv_exec.specs.World.{World, Run, Got, GotAll}
-use Rattle.rv_exec.proofs.Runs.{ran_end, ran_then, ran_eq, ran_to}
+use Rattle.rv_exec.proofs.Runs.{ran_end, ran_then, ran_eq}
 
 module _ {S : Type 0} (went : S → Trace → S → Type 0) (none : (s : S) → went s [] s) (both : (s t u : S) (a b : Trace) → went s a t → went t b u → went s (a ++ b) u) where
   -- a value, and what follows it

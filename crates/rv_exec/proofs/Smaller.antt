@@ -1,5 +1,5 @@
 -- What is run inside is smaller.
-use Rattle.std.proofs.Common.{◌≡◌, ℕ, zero, suc, ◌+◌, ◌-◌, ◌<◌, ◌≤◌, ℤ, List, [], ◌∷◌, Bool, true, false, cond, length, get_or, map, drop, refl, sym, ap, ◌∙◌, subst, arith, Option, Some, None, slice_get, nat_lt}
+use Rattle.std.proofs.Common.{◌≡◌, ℕ, zero, suc, ◌+◌, ◌-◌, ◌<◌, ◌≤◌, ℤ, List, [], ◌∷◌, Bool, true, false, cond, length, get_or, map, refl, ap, arith, Option, Some, None, slice_get, nat_lt}
 use Rattle.rv_event.specs.declared.entry.Exception.{Exception}
 use Rattle.rv_shape.specs.declared.kind.Range.{Range}
 use Rattle.rv_code.specs.declared.body.Declaration.{Declaration as RustDeclaration}
@@ -22,7 +22,7 @@ use Rattle.rv_exec.specs.Bodies.{numbered, among, flat, operation_of, task_of}
 use Rattle.rv_exec.specs.Choices.{covered, alternative_of, named, handler_of}
 use Rattle.rv_exec.proofs.ValueForms.{link_operand}
 use Rattle.rv_exec.proofs.StatementForms.{branch_condition, branch_statements}
-use Rattle.rv_exec.specs.Sizes.{operations_size, objects_size, maybe_size, tasks_size, most_size}
+use Rattle.rv_exec.specs.Sizes.{operations_size, objects_size, tasks_size, most_size}
 
 pub prefixed_smaller : (x : Expression) (op : Prefix) (e : Expression) → x ≡ code.prefixed op e → size e < size x
 unfolding size

@@ -1,5 +1,5 @@
 -- One lemma for each way that a statement goes.
-use Rattle.std.proofs.Common.{rules, ◌≡◌, ℕ, zero, suc, ◌+◌, ◌-◌, ◌<◌, ◌≤◌, ℤ, pos, int_lt, List, [], ◌∷◌, ◌++◌, Bool, true, false, cond, length, get_or, drop, map, refl, sym, ap, ◌∙◌, subst, arith, Option, Some, None, Result, Ok, Err}
+use Rattle.std.proofs.Common.{rules, ◌≡◌, ℕ, zero, suc, ◌+◌, ◌<◌, ◌≤◌, ℤ, int_lt, List, [], ◌∷◌, ◌++◌, Bool, true, false, cond, length, get_or, drop, refl, sym, ap, subst, arith, Option, Some, None, Ok, Err}
 use Rattle.rv_event.specs.declared.entry.Exception.{Exception}
 use Rattle.rv_event.specs.declared.entry.Exception.TheVariants.{ConstraintError}
 use Rattle.rv_shape.specs.declared.kind.Range.{Range}
@@ -11,21 +11,21 @@ use Rattle.rv_code.specs.Expressions.{Expression, Expressions}
 use Rattle.rv_code.specs.ExpressionView.{expression_view}
 use Rattle.rv_code.specs.Statements as tree
 use Rattle.rv_code.specs.Statements.{Statement, Statements, Branches, Alternatives, no_alternatives, and_alternative}
-use Rattle.rv_code.specs.StatementView.{statement_view, statements_view, branch_view, branches_view}
+use Rattle.rv_code.specs.StatementView.{statements_view, branch_view, branches_view}
 use Rattle.rv_exec.specs.declared.activation.Activation.{Activation}
 use Rattle.rv_exec.specs.declared.end.Cause.{Cause}
 use Rattle.rv_exec.specs.declared.end.Cause.TheVariants as cause
 use Rattle.rv_exec.specs.declared.end.End.{End}
 use Rattle.rv_exec.specs.declared.end.End.TheVariants as end
-use Rattle.rv_exec.specs.Asking.{Trace, Asking, ended, and_then, Ran}
-use Rattle.rv_exec.specs.Activations.{assigned, stepped, put_slot, copied_back, fits, span}
+use Rattle.rv_exec.specs.Asking.{Trace, ended, and_then, Ran}
+use Rattle.rv_exec.specs.Activations.{assigned, copied_back, fits, span}
 use Rattle.rv_exec.specs.Choices.{covered, alternative_of}
 use Rattle.rv_exec.specs.Operators.{is_true}
-use Rattle.rv_exec.specs.Expressions.{on_value, value, arguments, passing}
-use Rattle.rv_exec.specs.Statements.{abandons, go_on, again, turns, values_over, for_each, raised_again, exit_where, meaning, meanings, first_true, selected}
+use Rattle.rv_exec.specs.Expressions.{value, arguments, passing}
+use Rattle.rv_exec.specs.Statements.{abandons, go_on, again, values_over, for_each, raised_again, exit_where, meaning, meanings, first_true, selected}
 use Rattle.rv_exec.specs.World.{World, Run}
-use Rattle.rv_exec.proofs.Runs.{ran_end, ran_then, ran_eq, ran_to}
-use Rattle.rv_exec.proofs.Forms.{with_value, without_value, with_step}
+use Rattle.rv_exec.proofs.Runs.{ran_end, ran_then, ran_eq}
+use Rattle.rv_exec.proofs.Forms.{with_value, without_value}
 
 pub branch_condition : (x : RustBranch) → (branch_view x).condition ≡ expression_view x.condition
 branch_condition x = first_of (search (rules, the_lemmas), grind (arith, the_lemmas))

@@ -1,5 +1,5 @@
 -- Steps that are left, and the turns of `for`.
-use Rattle.std.proofs.Common.{◌≡◌, ℕ, zero, suc, ◌+◌, ◌-◌, ◌<◌, ◌≤◌, ℤ, pos, List, [], ◌∷◌, ◌++◌, Bool, refl, sym, ap, ◌∙◌, subst, arith, Option, Some, None, Result, Ok, Err, slice_index_or}
+use Rattle.std.proofs.Common.{◌≡◌, ℕ, zero, suc, ◌-◌, ◌<◌, ◌≤◌, ℤ, pos, List, [], ◌∷◌, ◌++◌, Bool, refl, ap, ◌∙◌, subst, arith, Some, None, Result, Ok, Err, slice_index_or}
 use Rattle.rv_code.specs.declared.statement.Place.{Place}
 use Rattle.rv_code.specs.declared.statement.Place.TheVariants as place
 use Rattle.rv_code.specs.declared.statement.Target.{Target}

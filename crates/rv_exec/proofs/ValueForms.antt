@@ -11,13 +11,12 @@ use Rattle.rv_code.specs.Expressions.{Expression, Expressions, Links}
 use Rattle.rv_code.specs.ExpressionView.{expression_view, expressions_view, link_view, links_view}
 use Rattle.rv_exec.specs.declared.activation.Activation.{Activation}
 use Rattle.rv_exec.specs.declared.end.Cause.{Cause}
-use Rattle.rv_exec.specs.Asking.{Trace, Asking, ended, and_then, Ran}
+use Rattle.rv_exec.specs.Asking.{Trace, Asking, ended, Ran}
 use Rattle.rv_exec.specs.Activations.{joined}
-use Rattle.rv_exec.specs.Calls.{Outcome}
 use Rattle.rv_exec.specs.Operators.{prefix_of, within, decides, result_of}
-use Rattle.rv_exec.specs.Expressions.{on_value, fails, value, linked, arguments, called, passing, given, first_given}
+use Rattle.rv_exec.specs.Expressions.{fails, value, linked, arguments, called, passing, given}
 use Rattle.rv_exec.specs.World.{World, Got, GotAll}
-use Rattle.rv_exec.proofs.Runs.{ran_end, ran_then, ran_eq, ran_to}
+use Rattle.rv_exec.proofs.Runs.{ran_end, ran_then, ran_eq}
 use Rattle.rv_exec.proofs.Forms.{with_value, without_value}
 
 pub link_operator : (x : RustLink) → (link_view x).operator ≡ x.operator

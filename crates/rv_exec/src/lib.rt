@@ -15,5 +15,3 @@ pub mod ranges;
 pub mod replay;
 mod run;
 pub mod setting;
-#[cfg(test)]
-mod tests;
