@@ -1,8 +1,6 @@
 -- One lemma for each way that a form goes.
-use Rattle.std.proofs.Common.{◌≡◌, ℕ, zero, suc, ◌+◌, ◌-◌, ◌<◌, ◌≤◌, ℤ, List, [], ◌∷◌, ◌++◌, Bool, true, false, length, get_or, drop, refl, ap, subst, arith, Some, None, Result, Ok, Err}
-use Rattle.rv_code.specs.declared.expression.Operator.{Operator}
+use Rattle.std.proofs.Common.{◌≡◌, ℕ, zero, suc, ◌+◌, ◌-◌, ◌<◌, ◌≤◌, ℤ, List, [], ◌∷◌, ◌++◌, true, false, length, get_or, drop, refl, ap, subst, arith, Some, None, Result, Ok, Err}
 use Rattle.rv_code.specs.declared.statement.Statement.{Statement as RustStatement}
-use Rattle.rv_code.specs.Expressions as code
 use Rattle.rv_code.specs.StatementView.{statement_view, statements_view}
 use Rattle.rv_exec.specs.declared.activation.Activation.{Activation}
 use Rattle.rv_exec.specs.declared.end.Cause.{Cause}
@@ -10,11 +8,11 @@ use Rattle.rv_exec.specs.declared.end.Cause.TheVariants as cause
 use Rattle.rv_exec.specs.declared.end.End.{End}
 use Rattle.rv_exec.specs.declared.end.End.TheVariants as end
 use Rattle.rv_exec.specs.Asking.{Trace, Asking, ended, and_then, Ran}
-use Rattle.rv_exec.specs.Activations.{stepped, joined, put_slot, value_before}
-use Rattle.rv_exec.specs.Operators.{decides, result_of, is_true}
-use Rattle.rv_exec.specs.Expressions.{on_value, fails, value, linked, arguments}
-use Rattle.rv_exec.specs.Statements.{step, on_step, go_on, again, turns, values_over, meaning, meanings, abandons}
-use Rattle.rv_exec.specs.World.{World, Run, Got, GotAll}
+use Rattle.rv_exec.specs.Activations.{stepped}
+use Rattle.rv_exec.specs.Operators.{is_true}
+use Rattle.rv_exec.specs.Expressions.{on_value}
+use Rattle.rv_exec.specs.Statements.{step, on_step, go_on, again, turns, meaning, meanings, abandons}
+use Rattle.rv_exec.specs.World.{World, Run, Got}
 use Rattle.rv_exec.proofs.Runs.{ran_end, ran_then, ran_eq}
 
 module _ {S : Type 0} (went : S → Trace → S → Type 0) (none : (s : S) → went s [] s) (both : (s t u : S) (a b : Trace) → went s a t → went t b u → went s (a ++ b) u) where
@@ -36,21 +34,6 @@ module _ {S : Type 0} (went : S → Trace → S → Type 0) (none : (s : S) → 
   without_step a go s is = ran_eq (ap (on_step a go) is) (ran_end went none s _ _ refl)
 
   module _ (w : World) where
-    -- a link whose operand is skipped
-    pub link_skipped : (op : Operator) (e : code.Expression) (more : code.Links) (v : ℤ) (a : Activation) (last : Got) (s t : S) → decides op v ≡ true → Ran went s (linked w more v a) t last → Ran went s (linked w (code.and_link op e more) v a) t last
-    unfolding value
-    link_skipped op e more v a last s t is h = rw is h
-
-    -- a link whose operand has a value
-    pub link_taken : (op : Operator) (e : code.Expression) (more : code.Links) (v u x : ℤ) (a b : Activation) (last : Got) (s t r : S) → decides op v ≡ false → Ran went s (value w e a) t (Ok u, b) → result_of op v u ≡ Ok x → Ran went t (linked w more x b) r last → Ran went s (linked w (code.and_link op e more) v a) r last
-    unfolding value
-    link_taken op e more v u x a b last s t r is h good g = rw is (with_value (value w e a) fails _ u b last s t r h (rw good g))
-
-    -- an argument, and those behind it
-    pub argument_taken : (e : code.Expression) (more : code.Expressions) (values : List ℤ) (v : ℤ) (a b : Activation) (last : GotAll) (s t u : S) → Ran went s (value w e a) t (Ok v, b) → Ran went t (arguments w more (joined values v) b) u last → Ran went s (arguments w (code.and_expression e more) values a) u last
-    unfolding value
-    argument_taken e more values v a b last s t u h g = with_value (value w e a) fails _ v b last s t u h g
-
     -- the rest of a list of statements
     pub rest_stops : (xs : List RustStatement) (i : ℕ) (a : Activation) (s : S) → i < length xs → stepped a ≡ None → Ran went s (meanings w (statements_view (drop i xs)) a) s (end.Abandoned cause.Overrun, a)
     unfolding meaning
@@ -105,8 +88,3 @@ module _ {S : Type 0} (went : S → Trace → S → Type 0) (none : (s : S) → 
   turns_overrun zero condition body a b v s t some h truth is = absurd (omega (arith, some))
   turns_overrun (suc n) condition body a b v s t some h truth is =
       with_value went none both (condition a) abandons _ v b _ s t t h (rw truth (without_step went none both b _ t is))
-
-  -- a turn of `for`, and what follows it
-  pub value_taken : (n : ℕ) (is_reverse : Bool) (low high : ℤ) (slot : ℕ) (body : Activation → Run) (a b : Activation) (last : End × Activation) (s t : S) → stepped a ≡ Some b → Ran went s (and_then (body (put_slot slot (value_before is_reverse low high n) b)) (again (values_over n is_reverse low high slot body))) t last → Ran went s (values_over (suc n) is_reverse low high slot body a) t last
-  unfolding values_over
-  value_taken n is_reverse low high slot body a b last s t is h = with_step went none both a b _ last s t is h

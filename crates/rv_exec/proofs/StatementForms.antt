@@ -56,10 +56,6 @@ again_not go (end.Return v) a h g = refl
 again_not go (end.Abandoned why) a h g = refl
 
 module _ {S : Type 0} (went : S → Trace → S → Type 0) (none : (s : S) → went s [] s) (both : (s t u : S) (a b : Trace) → went s a t → went t b u → went s (a ++ b) u) where
-  -- a part, and what follows its end
-  pub next_goes : (part : Run) (go : Activation → Run) (e : End) (a : Activation) (last : End × Activation) (s t u : S) → Ran went s part t (e, a) → e ≡ end.Next → Ran went t (go a) u last → Ran went s (and_then part (go_on go)) u last
-  next_goes part go e a last s t u h is g = ran_then went both s t u part (go_on go) (e, a) last h (rw is g)
-
   pub next_stops : (part : Run) (go : Activation → Run) (e : End) (a : Activation) (s t : S) → Ran went s part t (e, a) → (e ≡ end.Next → ⊥) → Ran went s (and_then part (go_on go)) t (e, a)
   next_stops part go e a s t h other = ran_then went both s t t part (go_on go) (e, a) _ h (ran_end went none t _ _ (goes_on_not go e a other))
 
