@@ -1,4 +1,8 @@
 //! Runs of bodies, of tasks and of lines, and what they ask next.
+//!
+//! A run recurses, and takes its memory from the stack alone. The deepest task (16 objects held, 64 internal calls
+//! nested in each, 64 statements and 64 parentheses open in each body) was measured to need between 96 and 128 MiB, so
+//! give a thread that runs bodies a stack of 256 MiB.
 
 ghost use Rattle.std.specs.Prelude.{◌≡◌, ◌<◌, Ok, Some};
 ghost use Rattle.rv_code.specs.BodyView.{body_view};
@@ -49,8 +53,8 @@ pub enum NextAsk {
 }
 
 impl Machine {
-    /// Takes all the memory that a run needs, which today is none: the activations of nested calls lie on the stack
-    /// (`docs/DECISIONS.md`). So it refuses nothing.
+    /// Takes all the memory that a run needs from an allocator, which today is none: the activations of nested calls
+    /// lie on the stack. So it refuses nothing.
     pub fn reserve(_alloc: Global, budget: u32) -> Result<Machine, AllocError>
         ensures { result ≡ Ok (record { budget = budget }) }
     {
