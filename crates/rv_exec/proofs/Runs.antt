@@ -47,10 +47,6 @@ falls k (suc n) most a b lt small =
     let e : suc n * most ≡ n * most + most = suc-mul n most in
     omega (arith, h, e, small)
 
--- less of the body is lower, where as many calls may nest
-pub lowers : (k most a b : ℕ) → a < b → k * most + a < k * most + b
-lowers k most a b lt = omega (arith, lt)
-
 -- a call that is past the objects that may be held
 pub reached_past : (held : ℕ) (c : Callee) (values : List ℤ) → is_past held c ≡ true → reached held c values ≡ ended (asked.Abandoned (cause.Raised ProgramError))
 unfolding reached

@@ -1,7 +1,15 @@
 -- What asks an outside, and goes on by its answers (own).
-use Rattle.std.specs.Prelude.{◌≡◌, List, [], ◌∷◌}
+use Rattle.std.specs.Prelude.{◌≡◌, Bool, true, false, List, [], ◌∷◌}
 use Rattle.rv_event.specs.declared.entry.Request.{Request}
 use Rattle.rv_event.specs.declared.entry.Answer.{Answer}
+use Rattle.rv_event.specs.declared.entry.Answer.TheVariants as answer
+
+-- whether the answer leaves its request standing, which is then asked again
+abbrev pub stands : Answer → Bool
+stands answer.Busy = true
+stands answer.Waiting = true
+stands answer.Misuse = true
+stands other = false
 
 abbrev pub Trace : Type 0
 Trace = List (Request × Answer)

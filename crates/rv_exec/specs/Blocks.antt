@@ -31,18 +31,22 @@ elaborated w (d ∷ more) a = and_then (value w d.initial a) (on_value abandons 
 abbrev pub in_handler : Exception → World → World
 in_handler exception w = record w { handling = Some exception }
 
-abbrev pub handling : World → Exception → Option Statements → Activation → Run
-handling w exception None a = ended (end.Abandoned (cause.Raised exception), a)
-handling w exception (Some ss) a = meanings (in_handler exception w) ss a
+-- the exception that it is abandoned by, if it is
+abbrev pub raised : End → Option Exception
+raised (end.Abandoned (cause.Raised exception)) = Some exception
+raised other = None
+
+abbrev pub handling : World → Exception → Option Statements → End × Activation → Run
+handling w exception None before = ended before
+handling w exception (Some ss) (e, a) = meanings (in_handler exception w) ss a
+
+abbrev pub handled_by : World → List Handler → Option Exception → End × Activation → Run
+handled_by w handlers None before = ended before
+handled_by w handlers (Some exception) before = handling w exception (handler_of handlers exception) before
 
 -- an exception of the statements is handled; one of a handler leaves the body (11.4)
 abbrev pub handled : World → List Handler → End × Activation → Run
-handled w handlers (end.Abandoned (cause.Raised exception), a) = handling w exception (handler_of handlers exception) a
-handled w handlers (end.Abandoned cause.Overrun, a) = ended (end.Abandoned cause.Overrun, a)
-handled w handlers (end.Abandoned (cause.Stopped is_idle), a) = ended (end.Abandoned (cause.Stopped is_idle), a)
-handled w handlers (end.Next, a) = ended (end.Next, a)
-handled w handlers (end.Exit, a) = ended (end.Exit, a)
-handled w handlers (end.Return v, a) = ended (end.Return v, a)
+handled w handlers (e, a) = handled_by w handlers (raised e) (e, a)
 
 -- declarations, whose exceptions the body's own handlers don't see, then the statements with the handlers (11.4)
 unfoldable pub block : World → Body → Activation → Run
@@ -95,10 +99,18 @@ outer_at bodies (suc held) callee values =
     and_then (reached (suc held) callee values) (performed (λ object operation is_function components.
     and_then (inner_at bodies object (outer_at bodies held) 65 operation values components 100000) (completes is_function)))
 
--- the body of an operation that has started, whose actor holds this object alone: how it exits, and the components then
+-- how a body exits, and the components then
+abbrev pub exits : Outcome × (List ℤ × ℕ) → Asking (Exit × List ℤ)
+exits (outcome, (components, steps)) = ended (exit_of outcome, components)
+
+-- the body of an operation that has started, whose actor holds this object alone
 abbrev pub operation_run : UnitBodies → ℕ → ℕ → List ℤ → List ℤ → Asking (Exit × List ℤ)
 operation_run bodies object operation values components =
-    and_then (inner_at bodies object (outer_at bodies 15) 65 operation values components 100000) (λ r. ended (exit_of r.0, r.1.0))
+    and_then (inner_at bodies object (outer_at bodies 15) 65 operation values components 100000) exits
+
+-- what its statements run in
+abbrev pub operation_setting : ℕ → Setting
+operation_setting object = record { object = object; held = 15; nested = 65; is_task = false; handling = None }
 
 -- what statements of this setting run in
 abbrev pub world : UnitBodies → Setting → World

@@ -1,5 +1,6 @@
 -- What is asked of the host, and what its answers come to (ISO/IEC 8652:2012, 9.5.1, 9.5.3, 9.6, D.8, D.10).
-use Rattle.std.specs.Prelude.{ℕ, zero, suc, ℤ, pos, List, [], ◌∷◌, Bool, true, false, if◌then◌else◌, Option, Some, None, Result, Ok, Err, slice_index_or}
+use Rattle.std.specs.Prelude.{ℕ, zero, suc, ℤ, pos, int_le, List, [], ◌∷◌, Bool, true, false, ◌&&◌, if◌then◌else◌, Option, Some, None, Result, Ok, Err, slice_index_or}
+use Rattle.rv_value.specs.Arithmetic.{is_zero}
 use Rattle.rv_event.specs.declared.entry.Answer.{Answer}
 use Rattle.rv_event.specs.declared.entry.Answer.TheVariants as answer
 use Rattle.rv_event.specs.declared.entry.Exception.{Exception}
@@ -79,19 +80,58 @@ abbrev pub delayed : Callee → Reply
 delayed callee.DelayUntil = reply.Waits
 delayed other = stops false
 
--- the answer Refused: Clock alone can't be refused
+-- whether it is an entry call (9.5.3)
+abbrev pub is_entry : Callee → Bool
+is_entry (callee.Entry object operation) = true
+is_entry other = false
+
+-- whether it is Suspend_Until_True (D.10)
+abbrev pub is_suspension : Callee → Bool
+is_suspension (callee.SuspendUntilTrue object) = true
+is_suspension other = false
+
+-- whether it may block: an entry call, a delay or Suspend_Until_True (9.5.1, D.10)
+abbrev pub may_block : Callee → Bool
+may_block (callee.Entry object operation) = true
+may_block (callee.SuspendUntilTrue object) = true
+may_block callee.DelayUntil = true
+may_block other = false
+
+-- whether the access list is asked: delays and Clock are no calls of an object (own)
+abbrev pub is_listed : Callee → Bool
+is_listed callee.DelayUntil = false
+is_listed callee.Clock = false
+is_listed other = true
+
+-- whether the host refuses such a request by that rule
+abbrev pub can_refuse : Callee → Rule → Bool
+can_refuse c rule.Grant = is_listed c
+can_refuse c rule.Blocking = may_block c
+can_refuse c rule.Reentry = is_protected c
+can_refuse c rule.Ceiling = is_protected c
+can_refuse c rule.Queue = is_entry c
+can_refuse c rule.Waiter = is_suspension c
+
+-- the answer Refused
 abbrev pub refused : Callee → Rule → Reply
-refused callee.Clock rule = stops true
-refused other rule = reply.Settled (asked.Abandoned (cause.Raised (refusal rule)))
+refused c rule = if can_refuse c rule then reply.Settled (asked.Abandoned (cause.Raised (refusal rule))) else stops true
+
+-- the answer Accepted, where it reads nothing
+abbrev pub done : ℤ → Reply
+done value = if is_zero value then gives [] else stops true
+
+-- the answer Accepted of Current_State, which reads 1 for True and 0 for False
+abbrev pub state : ℤ → Reply
+state value = if int_le (pos 0) value && int_le value (pos 1) then gives (value ∷ []) else stops true
 
 -- the answer Accepted, with the value read
 abbrev pub accepted : Callee → ℤ → Reply
 accepted callee.Clock value = gives (value ∷ [])
-accepted (callee.CurrentState object) value = gives (value ∷ [])
-accepted (callee.SetTrue object) value = gives []
-accepted (callee.SetFalse object) value = gives []
-accepted (callee.SuspendUntilTrue object) value = gives []
-accepted callee.DelayUntil value = gives []
+accepted (callee.CurrentState object) value = state value
+accepted (callee.SetTrue object) value = done value
+accepted (callee.SetFalse object) value = done value
+accepted (callee.SuspendUntilTrue object) value = done value
+accepted callee.DelayUntil value = done value
 accepted other value = stops true
 
 -- what the first answer comes to; from one that the host doesn't give to such a request nothing goes on (own)
@@ -111,10 +151,15 @@ woken (callee.SuspendUntilTrue object) None = asked.Given []
 woken callee.DelayUntil None = asked.Given []
 woken other values = asked.Abandoned (cause.Stopped false)
 
--- what the answer to a resume comes to: a queued call that was dropped raises its exception (own)
+-- what a resume's answer Refused comes to: a queued call that was dropped, by rule 1, raises its exception (own)
+abbrev pub dropped : Callee → Rule → Asked
+dropped (callee.Entry object operation) rule.Grant = asked.Abandoned (cause.Raised AccessDenied)
+dropped c other = asked.Abandoned (cause.Stopped false)
+
+-- what the answer to a resume comes to
 abbrev pub resumed : Callee → Answer → Asked
 resumed c (answer.Woken components) = woken c components
-resumed c (answer.Refused rule line version) = asked.Abandoned (cause.Raised (refusal rule))
+resumed c (answer.Refused rule line version) = dropped c rule
 resumed c other = asked.Abandoned (cause.Stopped false)
 
 abbrev pub settled : Callee → Reply → Asking Asked

@@ -40,6 +40,10 @@ called_by w None callee values a = asked_by w callee values a (spent w.is_task a
 unfoldable pub called : World → Callee → List ℤ → Activation → Asking GotAll
 called w callee values a = called_by w (internal callee) callee values a
 
+-- a call, behind its arguments (6.4.1)
+abbrev pub passing : World → Callee → Asking GotAll → Asking GotAll
+passing w callee given_values = and_then given_values (on_value fails (called w callee))
+
 -- the value that a call gives
 abbrev pub first_given : Activation → Outcome → Got
 first_given a (Ok values) = (Ok (slice_index_or values 0 (pos 0)), a)
@@ -57,7 +61,7 @@ unfoldable mutual
   value w (prefixed op e) a = and_then (value w e a) (on_value fails (λ v b. ended (prefix_of op v, b)))
   value w (chain e links) a = and_then (value w e a) (on_value fails (linked w links))
   value w (code.within range e) a = and_then (value w e a) (on_value fails (λ v b. ended (within range v, b)))
-  value w (call callee es) a = and_then (arguments w es [] a) (on_value fails (λ values b. and_then (called w callee values b) given))
+  value w (call callee es) a = and_then (passing w callee (arguments w es [] a)) given
 
   -- the value of a chain from a link on: an operand is skipped where the value so far decides (4.5.1)
   pub linked : World → Links → ℤ → Activation → Asking Got

@@ -1,15 +1,26 @@
 -- What is asked next, after the answers so far (own).
-use Rattle.std.specs.Prelude.{◌≡◌, List, [], ◌∷◌, ◌++◌, Option, Some, None}
+use Rattle.std.specs.Prelude.{◌≡◌, if◌then◌else◌, List, [], ◌∷◌, ◌++◌, Option, Some, None}
 use Rattle.std.proofs.Common.{sym, ap, ◌∙◌, subst}
 use Rattle.rv_event.specs.declared.entry.Request.{Request}
 use Rattle.rv_event.specs.declared.entry.Answer.{Answer}
-use Rattle.rv_exec.specs.Asking.{Trace, Asking, ended, asking, Along}
+use Rattle.rv_exec.specs.declared.machine.NextAsk.{NextAsk}
+use Rattle.rv_exec.specs.declared.machine.NextAsk.TheVariants as next_ask
+use Rattle.rv_exec.specs.Asking.{stands, Trace, Asking, ended, asking, Along}
+
+-- the answers that leave no request standing, in order
+abbrev pub settling : List Answer → List Answer
+settling [] = []
+settling (answer ∷ more) = if stands answer then settling more else answer ∷ settling more
 
 -- the request behind these answers, or none where it has ended
 abbrev pub next_of : {A : Type 0} → Asking A → List Answer → Option Request
 next_of (ended a) answers = None
 next_of (asking request next) [] = Some request
 next_of (asking request next) (answer ∷ answers) = next_of (next answer) answers
+
+abbrev pub told : Option Request → NextAsk
+told (Some request) = next_ask.Asks request
+told None = next_ask.Ended
 
 -- the answers that are left, and the first request without one
 abbrev pub Left : Type 0

@@ -13,7 +13,7 @@ use Rattle.rv_exec.specs.Asking.{Asking, ended, and_then}
 use Rattle.rv_exec.specs.Operators.{is_true}
 use Rattle.rv_exec.specs.Activations.{assigned, stepped, put_slot, steps_left, copied_back, fits, span, value_before}
 use Rattle.rv_exec.specs.Choices.{covered}
-use Rattle.rv_exec.specs.Expressions.{on_value, value, arguments, called}
+use Rattle.rv_exec.specs.Expressions.{on_value, value, arguments, passing}
 use Rattle.rv_exec.specs.World.{World, Run}
 
 abbrev pub abandons : Cause × Activation → Run
@@ -61,6 +61,10 @@ for_each is_reverse range slot body low high a =
     else (if fits range low high then values_over (span low high) is_reverse low high slot body a
     else ended (end.Abandoned (cause.Raised ConstraintError), a))
 
+-- `exit when` (5.7)
+abbrev pub exit_where : ℤ → End
+exit_where v = if is_true v then end.Exit else end.Next
+
 -- `raise;` (11.3)
 abbrev pub raised_again : Option Exception → Cause
 raised_again (Some exception) = cause.Raised exception
@@ -75,13 +79,13 @@ unfoldable mutual
   meaning w (while_loop e ss) a = turns (suc (steps_left a)) (value w e) (meanings w ss) a
   meaning w (for_loop slot is_reverse range low high ss) a =
       and_then (value w low a) (on_value abandons (λ v b. and_then (value w high b) (on_value abandons (for_each is_reverse range slot (meanings w ss) v))))
-  meaning w (exit_when e) a = and_then (value w e a) (on_value abandons (λ v b. ended (if is_true v then end.Exit else end.Next, b)))
+  meaning w (exit_when e) a = and_then (value w e a) (on_value abandons (λ v b. ended (exit_where v, b)))
   meaning w returns a = ended (end.Return None, a)
   meaning w (returns_value e) a = and_then (value w e a) (on_value abandons (λ v b. ended (end.Return (Some v), b)))
   meaning w (raises exception) a = ended (end.Abandoned (cause.Raised exception), a)
   meaning w reraises a = ended (end.Abandoned (raised_again w.handling), a)
   meaning w (calls callee es targets) a =
-      and_then (arguments w es [] a) (on_value abandons (λ values b. and_then (called w callee values b) (on_value abandons (λ given c. ended (copied_back targets 0 given c)))))
+      and_then (passing w callee (arguments w es [] a)) (on_value abandons (λ given b. ended (copied_back targets 0 given b)))
 
   -- statements in their order, each of which takes a step (5.1)
   pub meanings : World → Statements → Activation → Run

@@ -1,5 +1,5 @@
 -- What a task does (ISO/IEC 8652:2012, 9.2, 9.3; limits own).
-use Rattle.std.specs.Prelude.{ℕ, pos, true, false, [], Option, Some, None, Ok, Err, replicate}
+use Rattle.std.specs.Prelude.{ℕ, pos, Bool, true, false, if◌then◌else◌, [], Option, Some, None, Ok, Err, replicate}
 use Rattle.rv_event.specs.declared.entry.Answer.{Answer}
 use Rattle.rv_event.specs.declared.entry.Answer.TheVariants as answer
 use Rattle.rv_event.specs.declared.entry.Exit.{Exit}
@@ -19,13 +19,14 @@ use Rattle.rv_exec.specs.Calls.{Outcome, exit_of, completes}
 abbrev pub task_setting : Setting
 task_setting = record { object = 0; held = 16; nested = 65; is_task = true; handling = None }
 
+-- whether its actor is left waiting, or in a body
+abbrev pub is_stuck : Outcome → Bool
+is_stuck (Err (cause.Stopped false)) = true
+is_stuck other = false
+
 -- a task that is left waiting, or in a body, can't quit; each other one quits
 abbrev pub quits : Outcome → Asking Exit
-quits (Err (cause.Stopped false)) = ended (exit_of (Err (cause.Stopped false)))
-quits (Err (cause.Stopped true)) = asking request.Quit (λ reply. ended (exit_of (Err (cause.Stopped true))))
-quits (Err (cause.Raised exception)) = asking request.Quit (λ reply. ended (exit_of (Err (cause.Raised exception))))
-quits (Err cause.Overrun) = asking request.Quit (λ reply. ended (exit_of (Err cause.Overrun)))
-quits (Ok values) = asking request.Quit (λ reply. ended (exit_of (Ok values)))
+quits outcome = if is_stuck outcome then ended (exit_of outcome) else asking request.Quit (λ reply. ended (exit_of outcome))
 
 abbrev pub over : Body → End × Activation → Asking Exit
 over body (e, a) = quits (outcome_of body e a)

@@ -2,7 +2,7 @@
 
 ghost use Rattle.std.specs.Prelude.{◌≡◌, ℕ, [], ◌∷◌, Some, None};
 ghost use Rattle.rv_exec.specs.Asking.{Ran, asking, ended};
-ghost use Rattle.rv_exec.specs.Calls.{internal, is_protected, is_past, request_of, refusal, started, queued, suspended, delayed, refused, accepted, replied, woken, resumed, reached, exit_of, seen, completed, end_of, stops, gives};
+ghost use Rattle.rv_exec.specs.Calls.{internal, is_protected, is_past, request_of, refusal, started, queued, suspended, delayed, is_entry, is_suspension, may_block, is_listed, can_refuse, refused, done, state, accepted, replied, woken, dropped, resumed, reached, exit_of, seen, completed, end_of, stops, gives};
 
 use crate::activation::value_at;
 use crate::end::{Asked, Cause, Reply};
@@ -112,12 +112,62 @@ fn delayed(callee: Callee) -> Reply
     }
 }
 
+fn is_entry(callee: Callee) -> bool
+    ensures { result ≡ is_entry callee }
+{
+    match callee {
+        Callee::Entry(_, _) => true,
+        _ => false,
+    }
+}
+
+fn is_suspension(callee: Callee) -> bool
+    ensures { result ≡ is_suspension callee }
+{
+    match callee {
+        Callee::SuspendUntilTrue(_) => true,
+        _ => false,
+    }
+}
+
+fn may_block(callee: Callee) -> bool
+    ensures { result ≡ may_block callee }
+{
+    match callee {
+        Callee::Entry(_, _) | Callee::SuspendUntilTrue(_) | Callee::DelayUntil => true,
+        _ => false,
+    }
+}
+
+fn is_listed(callee: Callee) -> bool
+    ensures { result ≡ is_listed callee }
+{
+    match callee {
+        Callee::DelayUntil | Callee::Clock => false,
+        _ => true,
+    }
+}
+
+// Whether the host refuses such a request by that rule.
+fn can_refuse(callee: Callee, rule: Rule) -> bool
+    ensures { result ≡ can_refuse callee rule }
+{
+    match rule {
+        Rule::Grant => is_listed(callee),
+        Rule::Blocking => may_block(callee),
+        Rule::Reentry | Rule::Ceiling => is_protected(callee),
+        Rule::Queue => is_entry(callee),
+        Rule::Waiter => is_suspension(callee),
+    }
+}
+
 fn refused(callee: Callee, rule: Rule) -> Reply
     ensures { result ≡ refused callee rule }
 {
-    match callee {
-        Callee::Clock => stops(true),
-        _ => Reply::Settled(Asked::Abandoned(Cause::Raised(refusal(rule)))),
+    if can_refuse(callee, rule) {
+        Reply::Settled(Asked::Abandoned(Cause::Raised(refusal(rule))))
+    } else {
+        stops(true)
     }
 }
 
@@ -127,15 +177,36 @@ fn gives_one(value: i64) -> Reply
     Reply::Settled(Asked::Given(Args::from_slice(&[value])))
 }
 
+fn done(value: i64) -> Reply
+    ensures { result ≡ done value }
+{
+    if value == 0 {
+        Reply::Settled(Asked::Given(Args::new()))
+    } else {
+        stops(true)
+    }
+}
+
+fn state(value: i64) -> Reply
+    ensures { result ≡ state value }
+{
+    if 0 <= value && value <= 1 {
+        gives_one(value)
+    } else {
+        stops(true)
+    }
+}
+
 fn accepted(callee: Callee, value: i64) -> Reply
     ensures { result ≡ accepted callee value }
 {
     match callee {
-        Callee::Clock | Callee::CurrentState(_) => gives_one(value),
+        Callee::Clock => gives_one(value),
+        Callee::CurrentState(_) => state(value),
         Callee::SetTrue(_)
         | Callee::SetFalse(_)
         | Callee::SuspendUntilTrue(_)
-        | Callee::DelayUntil => Reply::Settled(Asked::Given(Args::new())),
+        | Callee::DelayUntil => done(value),
         _ => stops(true),
     }
 }
@@ -170,12 +241,24 @@ fn woken(callee: Callee, components: Option<Scalars>) -> Asked
     }
 }
 
+fn dropped(callee: Callee, rule: Rule) -> Asked
+    ensures { result ≡ dropped callee rule }
+{
+    match callee {
+        Callee::Entry(_, _) => match rule {
+            Rule::Grant => Asked::Abandoned(Cause::Raised(Exception::AccessDenied)),
+            _ => Asked::Abandoned(Cause::Stopped(false)),
+        },
+        _ => Asked::Abandoned(Cause::Stopped(false)),
+    }
+}
+
 fn resumed(callee: Callee, answer: Answer) -> Asked
     ensures { result ≡ resumed callee answer }
 {
     match answer {
         Answer::Woken(components) => woken(callee, components),
-        Answer::Refused(rule, _, _) => Asked::Abandoned(Cause::Raised(refusal(rule))),
+        Answer::Refused(rule, _, _) => dropped(callee, rule),
         _ => Asked::Abandoned(Cause::Stopped(false)),
     }
 }

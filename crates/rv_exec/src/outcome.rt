@@ -2,7 +2,7 @@
 
 ghost use Rattle.std.specs.Prelude.{◌≡◌};
 ghost use Rattle.rv_code.specs.BodyView.{body_view};
-ghost use Rattle.rv_exec.specs.Blocks.{outcome_of, function_outcome, procedure_outcome};
+ghost use Rattle.rv_exec.specs.Blocks.{outcome_of, function_outcome, procedure_outcome, raised};
 ghost use Rattle.rv_exec.specs.Statements.{raised_again};
 
 use crate::activation::Activation;
@@ -38,6 +38,16 @@ pub fn outcome_of(body: &Body, end: End, activation: &Activation) -> Result<Args
         function_outcome(end)
     } else {
         procedure_outcome(end, activation.given_back(&body.parameters))
+    }
+}
+
+/// The exception that it is abandoned by, if it is (11.4).
+pub fn raised(end: End) -> Option<Exception>
+    ensures { result ≡ raised end }
+{
+    match end {
+        End::Abandoned(Cause::Raised(exception)) => Some(exception),
+        _ => None,
     }
 }
 

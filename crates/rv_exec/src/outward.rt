@@ -1,8 +1,9 @@
 //! The outside of a run.
 
-ghost use Rattle.std.specs.Prelude.{[], ◌∷◌, ◌++◌, List};
+ghost use Rattle.std.specs.Prelude.{◌≡◌, [], ◌∷◌, ◌++◌, List, false};
 ghost use Rattle.rv_event.specs.declared.entry.Answer.{Answer};
 ghost use Rattle.rv_event.specs.declared.entry.Request.{Request};
+ghost use Rattle.rv_exec.specs.Asking.{stands};
 
 use rv_event::entry::{Answer, Request};
 
@@ -11,10 +12,10 @@ pub trait Outward<R> {
     /// The requests and answers of a trace, in order, lead from one state to the other.
     ghost went: { Self → List (Request × Answer) → Self → Type 0 };
 
-    /// Asks one request. Where the answer is `Busy`, `Waiting` or `Misuse`, the request stands: these are none of the
-    /// answers that come back.
+    /// Asks one request. At `Busy`, `Waiting` and `Misuse` the request stands: none of them comes back.
     fn ask(&mut self, runtime: &R, request: Request) -> Answer
-        ensures { went self.old ((request, result) ∷ []) self.new };
+        ensures asked { went self.old ((request, result) ∷ []) self.new }
+        ensures settled { stands result ≡ false };
 
     ghost none: { (s : Self) → went s [] s };
 

@@ -28,6 +28,16 @@ pub fn fits(range: Range, low: i64, high: i64) -> bool
     is_within(range, low, high) && is_integer(low) && is_integer(high)
 }
 
+/// What a `for` says besides its bounds (5.5).
+#[derive(Clone, Copy)]
+pub struct Scheme {
+    /// The slot of the loop parameter.
+    pub parameter: usize,
+    pub is_reverse: bool,
+    /// The range in which the bounds lie where the loop turns at all (3.5).
+    pub range: Range,
+}
+
 /// The values from one Integer to another that isn't less, and the slot that takes them.
 #[derive(Clone, Copy)]
 pub struct Values {

@@ -2,6 +2,9 @@
 
 use rv_event::entry::Exception;
 
+/// How many objects an actor may hold at once; the limit is our own.
+pub const MOST_HELD: u32 = 16;
+
 /// How many internal calls may nest in a body, and the body itself; the limit is our own.
 pub const MOST_NESTED: u32 = 65;
 

@@ -1,0 +1,243 @@
+//! Runs of bodies, of tasks and of lines, and what they ask next.
+//!
+//! A run recurses, and takes its memory from the stack alone. The deepest task (16 objects held, 64 internal calls
+//! nested in each, 64 statements and 64 parentheses open in each body) was measured to need between 96 and 128 MiB, so
+//! give a thread that runs bodies a stack of 256 MiB.
+
+ghost use Rattle.std.specs.Prelude.{◌≡◌, ◌<◌, Ok, Some};
+ghost use Rattle.rv_code.specs.BodyView.{body_view};
+ghost use Rattle.rv_exec.specs.Asking.{Ran};
+ghost use Rattle.rv_code.specs.Bodies.{body_size};
+ghost use Rattle.rv_exec.specs.Blocks.{operation_setting, operation_run};
+ghost use Rattle.rv_exec.specs.Bodies.{bodies_view};
+ghost use Rattle.rv_exec.specs.Next.{settling, next_of, told};
+ghost use Rattle.rv_exec.specs.Sizes.{most_size};
+ghost use Rattle.rv_exec.specs.Tasks.{task_setting, task_meaning, is_stuck, quits, task_run, line_run};
+
+use crate::activation::{Activation, MOST_STEPS};
+use crate::asks::{complete, end_of, exit_of};
+use crate::bodies::Bodies;
+use crate::end::Cause;
+use crate::outcome::outcome_of;
+use crate::outward::Outward;
+use crate::replay::Replay;
+use crate::run::block::run_block;
+use crate::run::call::perform;
+use crate::setting::{MOST_HELD, MOST_NESTED, Setting};
+use rv_code::{Body, MOST_SLOTS};
+use rv_event::entry::{Answer, Exit, Request};
+use rv_value::{Args, Scalars};
+use std::alloc::{AllocError, Global};
+
+/// What runs the bodies of an actor.
+#[derive(Drop)]
+pub struct Machine {
+    /// How many requests a task's own body may make, 1 to 1,000,000.
+    pub budget: u32,
+}
+
+/// How a body ended, with the object's components as it leaves them.
+#[derive(Clone, Copy)]
+pub struct Ended {
+    pub scalars: Scalars,
+    pub exit: Exit,
+}
+
+/// What an actor does behind the answers so far.
+#[derive(Clone, Copy, PartialEq, Eq, Drop)]
+pub enum NextAsk {
+    /// It asks this request.
+    Asks(Request),
+    /// It has ended.
+    Ended,
+}
+
+impl Machine {
+    /// Takes all the memory that a run needs from an allocator, which today is none: the activations of nested calls
+    /// lie on the stack. So it refuses nothing.
+    pub fn reserve(_alloc: Global, budget: u32) -> Result<Machine, AllocError>
+        ensures { result ≡ Ok (record { budget = budget }) }
+    {
+        Ok(Machine { budget })
+    }
+}
+
+// The statements of an operation's body, whose actor holds its object alone.
+fn of_operation(object: usize) -> Setting
+    ensures { result ≡ operation_setting object }
+{
+    Setting {
+        object,
+        held: MOST_HELD - 1,
+        nested: MOST_NESTED,
+        is_task: false,
+        handling: None,
+    }
+}
+
+/// Runs the body of an operation that has started, with these components and values of the call, by an actor that
+/// holds the object alone (9.5.1). It takes no memory. An operation without a body leaves the components and raises
+/// Program_Error.
+pub fn run_body<R, O: Outward<R>>(
+    runtime: &R,
+    bodies: &Bodies,
+    object: usize,
+    operation: usize,
+    scalars: Scalars,
+    values: Args,
+    outward: &mut O,
+) -> Ended
+    ensures { Ran O.went outward.old (operation_run (bodies_view bodies.now) object operation values scalars) outward.new (result.exit, result.scalars) }
+{
+    let setting = of_operation(object);
+    let (outcome, left, _) = perform(
+        runtime, bodies, setting, operation, values, scalars, MOST_STEPS, outward,
+    );
+    Ended {
+        scalars: left,
+        exit: exit_of(&outcome),
+    }
+}
+
+// Whether its actor is left waiting, or in a body.
+fn is_stuck(outcome: &Result<Args, Cause>) -> bool
+    ensures { result ≡ is_stuck outcome.now }
+{
+    match outcome {
+        Err(Cause::Stopped(is_idle)) => !*is_idle,
+        _ => false,
+    }
+}
+
+// The end of a task: it quits, where its mode allows (9.3).
+fn quit<R, O: Outward<R>>(runtime: &R, outcome: Result<Args, Cause>, outward: &mut O) -> Exit
+    ensures { Ran O.went outward.old (quits outcome) outward.new result }
+{
+    let exit = exit_of(&outcome);
+    if is_stuck(&outcome) {
+        return exit;
+    }
+    outward.ask(runtime, Request::Quit);
+    exit
+}
+
+// The statements of a task's own body.
+fn of_task() -> Setting
+    ensures { result ≡ task_setting }
+{
+    Setting {
+        object: 0,
+        held: MOST_HELD,
+        nested: MOST_NESTED,
+        is_task: true,
+        handling: None,
+    }
+}
+
+// The body of a task, and its end (9.2, 9.3).
+fn run_own<R, O: Outward<R>>(
+    budget: u32,
+    runtime: &R,
+    bodies: &Bodies,
+    body: &Body,
+    outward: &mut O,
+) -> Exit
+    requires { body_size (body_view body.now) < most_size (bodies_view bodies.now) }
+    ensures { Ran O.went outward.old (task_meaning (bodies_view bodies.now) (Some (body_view body.now)) budget) outward.new result }
+{
+    let mut activation = Activation {
+        slots: [0; MOST_SLOTS],
+        components: Scalars::new(),
+        steps: MOST_STEPS,
+        requests: budget,
+    };
+    let end = run_block(&mut activation, runtime, bodies, of_task(), body, outward);
+    quit(runtime, outcome_of(body, end, &activation), outward)
+}
+
+/// Runs the task of an actor to its end (9.2, 9.3): its own body, and each body that starts for it. Its last request is
+/// Quit, where its mode allows that. It takes no memory. A task without a body quits at once.
+pub fn run_task<R, O: Outward<R>>(
+    machine: &Machine,
+    runtime: &R,
+    bodies: &Bodies,
+    actor: usize,
+    outward: &mut O,
+) -> Exit
+    ensures { Ran O.went outward.old (task_run (bodies_view bodies.now) actor machine.now.budget) outward.new result }
+{
+    match bodies.task(actor) {
+        Some(body) => run_own(machine.budget, runtime, bodies, body, outward),
+        None => quit(runtime, Ok(Args::new()), outward),
+    }
+}
+
+/// Fires a line whose handler is this operation of this object: behind a start come the handler's body and its end
+/// (C.3). It takes no memory.
+pub fn run_line<R, O: Outward<R>>(
+    runtime: &R,
+    bodies: &Bodies,
+    object: usize,
+    operation: usize,
+    outward: &mut O,
+) -> Result<Args, Cause>
+    ensures { Ran O.went outward.old (line_run (bodies_view bodies.now) object operation) outward.new result }
+{
+    let answer = outward.ask(runtime, Request::Fire);
+    let Answer::Started(components) = answer else {
+        return Err(Cause::Stopped(true));
+    };
+    let setting = of_operation(object);
+    let (outcome, left, _) = perform(
+        runtime,
+        bodies,
+        setting,
+        operation,
+        Args::new(),
+        components,
+        MOST_STEPS,
+        outward,
+    );
+    let request = end_of(false, &outcome, left);
+    complete(runtime, request, outcome, outward)
+}
+
+fn told(asked: Option<Request>) -> NextAsk
+    ensures { result ≡ told asked }
+{
+    match asked {
+        Some(request) => NextAsk::Asks(request),
+        None => NextAsk::Ended,
+    }
+}
+
+/// What a task asks behind these answers to its requests. Answers that left their request standing, `Busy`, `Waiting`
+/// and `Misuse`, count for nothing. It takes no memory.
+pub fn next_ask(machine: &Machine, bodies: &Bodies, actor: usize, answers: &[Answer]) -> NextAsk
+    ensures { result ≡ told (next_of (task_run (bodies_view bodies.now) actor machine.now.budget) (settling answers.now)) }
+{
+    let mut replay = Replay {
+        answers,
+        asked: None,
+    };
+    run_task(machine, &(), bodies, actor, &mut replay);
+    told(replay.asked)
+}
+
+/// What a line asks behind these answers, the first of which is to its `Fire`, where this operation of this object is
+/// its handler. It takes no memory.
+pub fn next_line_ask(
+    bodies: &Bodies,
+    object: usize,
+    operation: usize,
+    answers: &[Answer],
+) -> NextAsk
+    ensures { result ≡ told (next_of (line_run (bodies_view bodies.now) object operation) (settling answers.now)) }
+{
+    let mut replay = Replay {
+        answers,
+        asked: None,
+    };
+    let _ = run_line(&(), bodies, object, operation, &mut replay);
+    told(replay.asked)
+}
