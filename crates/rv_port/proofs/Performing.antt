@@ -1,5 +1,5 @@
 -- What a call did, from its parts.
-use Rattle.std.proofs.Common.{◌≡◌, ◌⊎◌, ℕ, Bool, true, false, List, [], ◌∷◌, ◌++◌, Option, Some, None, refl, sym, ap, ◌∙◌, subst, inl, inr, ⊎_elim, append_assoc, append-nil}
+use Rattle.std.proofs.Common.{◌≡◌, ◌⊎◌, ℕ, Bool, true, false, List, [], ◌∷◌, ◌++◌, Option, Some, None, refl, sym, ap, ◌∙◌, subst, inl, inr, ⊎_elim, append_assoc, append-nil, arith}
 use Rattle.std.specs.Prelude.{ℤ}
 use Rattle.rv_event.specs.Recorded.{recorded}
 use Rattle.rv_event.specs.declared.entry.Request.{Request}
@@ -23,7 +23,8 @@ use Rattle.rv_port.proofs.Gets.{of_first, first_gets, of_end, end_gets, of_resum
 use Rattle.rv_port.specs.Actors.{HasHandler}
 use Rattle.rv_port.proofs.Actors.{handler_later}
 use Rattle.rv_port.specs.Reaching.{Performs, arguments_of, reads, reached_by, end_of, plain_of, waits_on, waited_for}
-use Rattle.rv_port.specs.Calls.{Wore, RanOn, Resumed, Waited, Followed, Performed, GrewBy, Back, Grown, StoppedBy, Tied}
+use Rattle.rv_port.specs.Calls.{Wore, RanOn, Resumed, Waited, Followed, Performed, GrewBy, Back, Grown, StoppedBy, Tied, Stays}
+use Rattle.rv_turn.specs.Prefixes.{starts_self, starts_both}
 use Rattle.rv_port.specs.declared.event.Begun.{Begun}
 
 pub plainly : (r : Answer) (b : Begun) (u : Passing) (q : Request) (reached : Reached) → ((s : List ℤ) → r ≡ Answers.Started s → ⊥) → waits_on r ≡ false → reached ≡ plain_of (reads q) r → Followed r b u q reached u
@@ -203,3 +204,83 @@ pub tied : (v w : Passing) (q : Request) (reached : Reached) → HasHandler (cat
 tied v w q reached has p t = ⊎_elim (λ wore. tied_wore v w reached wore)
     (λ x. tied_followed v x.1 w q x.0 (called (catalogue_of x.2.at) v.actor q) reached
     (ap of_first x.2.due_is ∙ first_gets (history_at (capacity_in v.about) x.2.at) v.actor q (handler_later v.seen x.2.at v.actor x.2.from has) p) x.3 x.2 x.4) t
+
+-- A port stays what it was
+
+stays_self : (v : Passing) → Stays v v
+stays_self v = record { turn = refl; actor = refl; later = starts_self v.seen; grown = ([], sym (append-nil v.own)); fewer = omega arith }
+
+stays_both : (v u w : Passing) → Stays v u → Stays u w → Stays v w
+stays_both v u w p q = record {
+  turn = q.turn ∙ p.turn;
+  actor = q.actor ∙ p.actor;
+  later = starts_both v.seen u.seen w.seen p.later q.later;
+  grown = more_after v u w p.grown q.grown;
+  fewer = let one = p.fewer in let two = q.fewer in omega (arith, one, two);
+}
+
+pub went_stays : (v w : Passing) (xs : Trace) → Went v xs w → Stays v w
+went_stays v w xs p = record {
+  turn = ap (λ (k : Passing). k.turn) p.same;
+  actor = ap (λ (k : Passing). k.actor) p.same;
+  later = p.later;
+  grown = (_, p.own);
+  fewer = let less = p.acts in omega (arith, less);
+}
+
+pub asked_stays : (v w : Passing) (q : Request) (r : Answer) → Asked v q r w → Stays v w
+asked_stays v w q r x = went_stays v w _ x.went
+
+ran_stays : (v w : Passing) (b : Begun) (scalars arguments : List ℤ) (reached : Reached) → RanOn v b scalars arguments reached w → Stays v w
+ran_stays v w b scalars arguments reached n =
+    stays_both v n.body w (went_stays v n.body n.trace n.went) (⊎_elim (λ wore. went_stays n.body w [] wore.0) (λ t. asked_stays n.body w _ t.0 t.1) n.end_is)
+
+flat_stays : (v u w : Passing) → Stays v u → w ≡ u → Stays v w
+flat_stays v u w s is = subst (λ (z : Passing). Stays v z) (sym is) s
+
+resumed_stays : (u w : Passing) (r : Answer) (q : Request) (reached : Reached) → Resumed r u q reached w → Stays u w
+resumed_stays u w (Answers.Woken (Some s)) q reached t = ran_stays u w (waited_for q) s (arguments_of q) reached t
+resumed_stays u w (Answers.Woken None) q reached t = flat_stays u u w (stays_self u) t.0
+resumed_stays u w (Answers.Refused rule line version) q reached t = flat_stays u u w (stays_self u) t.0
+resumed_stays u w Answers.Misuse q reached t = flat_stays u u w (stays_self u) t.0
+resumed_stays u w Answers.Halted q reached t = flat_stays u u w (stays_self u) t.0
+resumed_stays u w Answers.Full q reached t = flat_stays u u w (stays_self u) t.0
+resumed_stays u w Answers.Waiting q reached t = flat_stays u u w (stays_self u) t.0
+resumed_stays u w (Answers.Started s) q reached t = flat_stays u u w (stays_self u) t.0
+resumed_stays u w (Answers.Done d) q reached t = flat_stays u u w (stays_self u) t.0
+resumed_stays u w (Answers.Accepted value) q reached t = flat_stays u u w (stays_self u) t.0
+resumed_stays u w Answers.Queued q reached t = flat_stays u u w (stays_self u) t.0
+resumed_stays u w Answers.Suspended q reached t = flat_stays u u w (stays_self u) t.0
+resumed_stays u w Answers.Delayed q reached t = flat_stays u u w (stays_self u) t.0
+resumed_stays u w Answers.Busy q reached t = flat_stays u u w (stays_self u) t.0
+resumed_stays u w Answers.Unattached q reached t = flat_stays u u w (stays_self u) t.0
+resumed_stays u w Answers.BadLine q reached t = flat_stays u u w (stays_self u) t.0
+resumed_stays u w Answers.OutOfMemory q reached t = flat_stays u u w (stays_self u) t.0
+
+waited_stays : (v w : Passing) (q : Request) (reached : Reached) → Waited v q reached w → Stays v w
+waited_stays v w q reached t = ⊎_elim (λ wore. went_stays v w [] wore.0) (λ x. stays_both v x.1 w (asked_stays v x.1 Resume x.0 x.2) (resumed_stays x.1 w x.0 q reached x.4)) t
+
+followed_stays : (u w : Passing) (q : Request) (r : Answer) (b : Begun) (reached : Reached) → Followed r b u q reached w → Stays u w
+followed_stays u w q (Answers.Started s) b reached t = ran_stays u w b s (arguments_of q) reached t
+followed_stays u w q Answers.Queued b reached t = waited_stays u w q reached t
+followed_stays u w q Answers.Suspended b reached t = waited_stays u w q reached t
+followed_stays u w q Answers.Delayed b reached t = waited_stays u w q reached t
+followed_stays u w q (Answers.Refused rule line version) b reached t = flat_stays u u w (stays_self u) t.0
+followed_stays u w q (Answers.Accepted value) b reached t = flat_stays u u w (stays_self u) t.0
+followed_stays u w q Answers.Misuse b reached t = flat_stays u u w (stays_self u) t.0
+followed_stays u w q Answers.Halted b reached t = flat_stays u u w (stays_self u) t.0
+followed_stays u w q Answers.Full b reached t = flat_stays u u w (stays_self u) t.0
+followed_stays u w q Answers.Busy b reached t = flat_stays u u w (stays_self u) t.0
+followed_stays u w q (Answers.Woken s) b reached t = flat_stays u u w (stays_self u) t.0
+followed_stays u w q (Answers.Done d) b reached t = flat_stays u u w (stays_self u) t.0
+followed_stays u w q Answers.Waiting b reached t = flat_stays u u w (stays_self u) t.0
+followed_stays u w q Answers.Unattached b reached t = flat_stays u u w (stays_self u) t.0
+followed_stays u w q Answers.BadLine b reached t = flat_stays u u w (stays_self u) t.0
+followed_stays u w q Answers.OutOfMemory b reached t = flat_stays u u w (stays_self u) t.0
+
+pub performed_stays : (v w : Passing) (q : Request) (reached : Reached) → Performed v q reached w → Stays v w
+performed_stays v w q reached t = ⊎_elim (λ wore. went_stays v w [] wore.0)
+    (λ x. stays_both v x.1 w (asked_stays v x.1 q x.0 x.2) (followed_stays x.1 w q x.0 _ reached x.4)) t
+
+pub finished_stays : (v w : Passing) (q : Request) → Went v [] w ⊎ ((r : Answer) × Asked v q r w) → Stays v w
+finished_stays v w q t = ⊎_elim (λ p. went_stays v w [] p) (λ x. asked_stays v w q x.0 x.1) t

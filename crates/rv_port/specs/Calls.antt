@@ -1,5 +1,5 @@
 -- What a call on a port did. (own)
-use Rattle.std.specs.Prelude.{◌≡◌, ◌⊎◌, ℕ, ℤ, Bool, true, false, List, [], ◌∷◌, ◌++◌, Option, Some, None}
+use Rattle.std.specs.Prelude.{◌≡◌, ◌⊎◌, ℕ, ℤ, ◌≤◌, Bool, true, false, List, [], ◌∷◌, ◌++◌, Option, Some, None}
 use Rattle.rv_event.specs.declared.entry.Request.{Request}
 use Rattle.rv_event.specs.declared.entry.Request.TheVariants.{Complete, Resume}
 use Rattle.rv_event.specs.declared.entry.Exit.{Exit}
@@ -15,9 +15,22 @@ use Rattle.rv_port.specs.declared.event.Event.TheVariants.{Asks}
 use Rattle.rv_port.specs.declared.reached.Reached.{Reached}
 use Rattle.rv_port.specs.declared.reached.Reached.TheVariants as Reaches
 use Rattle.rv_port.specs.Events.{catalogue_of, called}
+use Rattle.rv_turn.specs.Histories.{StartsWith}
 use Rattle.rv_port.specs.Traces.{Passing, Trace, Went, Asked, asks_on}
 use Rattle.rv_port.specs.Bodies.{Runs}
 use Rattle.rv_port.specs.Reaching.{arguments_of, reads, values_of, plain_of, end_of, reached_by, waits_on, waited_for}
+
+-- the pass's own events have grown, if at all (own)
+abbrev pub Grown : Passing → Passing → Type 0
+Grown v w = (more : List Event) × (w.own ≡ v.own ++ more)
+
+-- A port stays what it was: of one control and one actor, it forgets nothing that it saw or did, and gains no act. (own)
+pub record Stays (v w : Passing) : Type 0 where
+  pub turn : w.turn ≡ v.turn
+  pub actor : w.actor ≡ v.actor
+  pub later : StartsWith w.seen v.seen
+  pub grown : Grown v w
+  pub fewer : w.left ≤ v.left
 
 -- no act was left, and nothing was recorded (own)
 abbrev pub Wore : Passing → Reached → Passing → Type 0
@@ -81,10 +94,6 @@ StoppedBy v w =
     (w.left ≡ 0)
     ⊎ (((u : Passing) × (q : Request) × (r : Answer) × Asked u q r w × (stops_at q r ≡ true))
     ⊎ ((scalars : List ℤ) × (next : Next) × GrewBy v (Asks v.actor (Complete scalars Exits.Stopped) (Words.Done next)) w))
-
--- the pass's own events have grown, if at all (own)
-abbrev pub Grown : Passing → Passing → Type 0
-Grown v w = (more : List Event) × (w.own ≡ v.own ++ more)
 
 -- What is reached, by the pass's own last event: a refusal is that very answer; values and exceptions are those of the end
 -- of a body, or of an answer that starts none. Misuse was the last answer; a stop has its reason. (own)

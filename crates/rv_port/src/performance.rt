@@ -1,7 +1,7 @@
 //! One performance of a request: its answer, and where a body starts, the body and its end.
 
 ghost use Rattle.std.specs.Prelude.{◌≡◌};
-ghost use Rattle.rv_port.specs.Calls.{RanOn, Waited, Performed, Tied};
+ghost use Rattle.rv_port.specs.Calls.{RanOn, Waited, Performed, Stays, Tied};
 ghost use Rattle.rv_port.specs.Reaching.{Performs};
 
 use crate::asker::Asker;
@@ -79,6 +79,7 @@ impl Asker {
         requires { Performs request.now }
         ensures performed { Performed self.old.pass request.now result self.new.pass }
         ensures tied { Tied self.old.pass result self.new.pass }
+        ensures stays { Stays self.old.pass self.new.pass }
     {
         self.go(rt, gate, request)
     }

@@ -8,7 +8,7 @@ ghost use Rattle.rv_event.specs.declared.entry.Request.TheVariants as asks;
 ghost use Rattle.rv_port.specs.Actors.{HasHandler};
 ghost use Rattle.rv_port.specs.Events.{by, catalogue_of};
 ghost use Rattle.rv_port.specs.Traces.{Went, Asked};
-ghost use Rattle.rv_port.specs.Calls.{Performed, Tied};
+ghost use Rattle.rv_port.specs.Calls.{Performed, Stays, Tied};
 
 use crate::asker::Asker;
 use crate::behind::Behind;
@@ -106,6 +106,7 @@ impl Port {
     pub fn call<R: Wait>(&mut self, rt: &R, object: usize, operation: usize, args: Args) -> Reached
         ensures performed { Performed self.old (asks.Call object operation args) result self.new }
         ensures tied { Tied self.old result self.new }
+        ensures stays { Stays self.old self.new }
     {
         self.call_gated(rt, object, operation, args, &Open)
     }
@@ -121,6 +122,7 @@ impl Port {
     ) -> Reached
         ensures performed { Performed self.old (asks.Call object operation args) result self.new }
         ensures tied { Tied self.old result self.new }
+        ensures stays { Stays self.old self.new }
     {
         self.asker
             .perform(rt, gate, &Request::Call(object, operation, args))
@@ -130,6 +132,7 @@ impl Port {
     pub fn set_true<R: Wait>(&mut self, rt: &R, object: usize) -> Reached
         ensures performed { Performed self.old (asks.Call object 1 []) result self.new }
         ensures tied { Tied self.old result self.new }
+        ensures stays { Stays self.old self.new }
     {
         self.call(rt, object, 1, Args::new())
     }
@@ -138,6 +141,7 @@ impl Port {
     pub fn set_false<R: Wait>(&mut self, rt: &R, object: usize) -> Reached
         ensures performed { Performed self.old (asks.Call object 2 []) result self.new }
         ensures tied { Tied self.old result self.new }
+        ensures stays { Stays self.old self.new }
     {
         self.call(rt, object, 2, Args::new())
     }
@@ -146,6 +150,7 @@ impl Port {
     pub fn state<R: Wait>(&mut self, rt: &R, object: usize) -> Reached
         ensures performed { Performed self.old (asks.Call object 3 []) result self.new }
         ensures tied { Tied self.old result self.new }
+        ensures stays { Stays self.old self.new }
     {
         self.call(rt, object, 3, Args::new())
     }
@@ -154,6 +159,7 @@ impl Port {
     pub fn suspend<R: Wait>(&mut self, rt: &R, object: usize) -> Reached
         ensures performed { Performed self.old (asks.Call object 4 []) result self.new }
         ensures tied { Tied self.old result self.new }
+        ensures stays { Stays self.old self.new }
     {
         self.call(rt, object, 4, Args::new())
     }
@@ -162,6 +168,7 @@ impl Port {
     pub fn delay_until<R: Wait>(&mut self, rt: &R, time: i64) -> Reached
         ensures performed { Performed self.old (asks.DelayUntil time) result self.new }
         ensures tied { Tied self.old result self.new }
+        ensures stays { Stays self.old self.new }
     {
         self.asker.perform(rt, &Open, &Request::DelayUntil(time))
     }
@@ -170,6 +177,7 @@ impl Port {
     pub fn clock<R: Wait>(&mut self, rt: &R) -> Reached
         ensures performed { Performed self.old asks.Clock result self.new }
         ensures tied { Tied self.old result self.new }
+        ensures stays { Stays self.old self.new }
     {
         self.asker.perform(rt, &Open, &Request::Clock)
     }
@@ -179,6 +187,7 @@ impl Port {
     pub fn fire<R: Wait>(&mut self, rt: &R) -> Reached
         ensures performed { Performed self.old asks.Fire result self.new }
         ensures tied { Tied self.old result self.new }
+        ensures stays { Stays self.old self.new }
     {
         self.asker.perform(rt, &Open, &Request::Fire)
     }
@@ -206,25 +215,35 @@ impl Port {
     /// Lets go of the port: a task quits, where it may; a line asks nothing. An answer Misuse, and
     /// want of an act, change nothing.
     pub fn finish<R: Wait>(self, rt: &R) -> Finished
-        ensures { Went self [] result ⊎ ((r : Answer) × Asked self asks.Quit r result) }
+        ensures quits { Went self [] result ⊎ ((r : Answer) × Asked self asks.Quit r result) }
+        ensures stays { Stays self result }
     {
         let Port { mut asker } = self;
-        if asker.pass.actor() >= FIRST_TASK as u64 {
-            quit(rt, &mut asker);
-        }
+        quit(rt, &mut asker);
         let Asker { pass, bell: _ } = asker;
         Finished { pass }
     }
 }
 
-// The end of a task, told to those who wait.
-fn quit<R: Wait>(rt: &R, asker: &mut Asker)
+// Asks for the end of a task, and tells those who wait.
+fn ask_quit<R: Wait>(rt: &R, asker: &mut Asker)
     ensures { Went asker.old.pass [] asker.new.pass ⊎ ((r : Answer) × Asked asker.old.pass asks.Quit r asker.new.pass) }
 {
+    if asker.pass.actor() < FIRST_TASK as u64 {
+        return;
+    }
     if let Some(given) = asker.try_ask(rt, &Request::Quit) {
         let (answer, _begun) = given;
         if answer.recorded().is_some() {
             asker.bell.ring(rt);
         }
     }
+}
+
+// The end of a task; a line has none.
+fn quit<R: Wait>(rt: &R, asker: &mut Asker)
+    ensures quits { Went asker.old.pass [] asker.new.pass ⊎ ((r : Answer) × Asked asker.old.pass asks.Quit r asker.new.pass) }
+    ensures stays { Stays asker.old.pass asker.new.pass }
+{
+    ask_quit(rt, asker);
 }
