@@ -1,9 +1,9 @@
 -- Who was given a port, and what a control begins with.
-use Rattle.std.proofs.Common.{◌≡◌, ℕ, zero, suc, ◌+◌, ◌<◌, Bool, true, false, eqb, List, [], ◌∷◌, ◌++◌, length, reverse, if◌then◌else◌, ap, sym, refl, ◌∙◌, eq-eqb, ⊎_elim, arith, subst}
+use Rattle.std.proofs.Common.{◌≡◌, ℕ, ◌<◌, Bool, true, false, eqb, List, [], ◌∷◌, ◌++◌, reverse, if◌then◌else◌, ap, sym, refl, ◌∙◌, eq-eqb, ⊎_elim, arith, subst}
 use Rattle.std.specs.Prelude.{◌||◌, ◌-◌, is_some, Option, Some, None, Result, Ok, Err, MatchResult}
 use Rattle.rv_turn.specs.declared.pass.Worn.{Worn}
 use Rattle.std.proofs.lemmas.Bool.{ne_eqb}
-use Rattle.std.proofs.lemmas.List.{reverse-append, append-nil, append_assoc}
+use Rattle.std.proofs.lemmas.List.{reverse-append, append-nil}
 use Rattle.atomic_table.specs.Seated.{TableId}
 use Rattle.rv_access.specs.Words.{Words}
 use Rattle.rv_shape.specs.Shape.{Shape}

@@ -1,5 +1,5 @@
 -- What the host's calls do to the history behind the turn.
-use Rattle.std.proofs.Common.{◌≡◌, ◌⊎◌, ℕ, Bool, true, false, if◌then◌else◌, List, [], ◌∷◌, ◌++◌, reverse, Option, Some, None, refl, sym, ap, ◌∙◌, eqb, inl, inr, subst}
+use Rattle.std.proofs.Common.{◌≡◌, ℕ, Bool, true, false, if◌then◌else◌, List, [], ◌∷◌, ◌++◌, reverse, Option, Some, None, refl, sym, ap, ◌∙◌, eqb, inl, inr, subst}
 use Rattle.std.specs.Prelude.{is_some}
 use Rattle.std.proofs.lemmas.Bool.{ne_eqb}
 use Rattle.std.proofs.lemmas.List.{reverse-append}
@@ -18,10 +18,10 @@ use Rattle.rv_history.specs.Due.{out, gate, within, nothing_more}
 use Rattle.rv_history.specs.Owed.{has_room}
 use Rattle.rv_history.specs.Legal as legal
 use Rattle.rv_history.specs.Legal.{Legal, out_load, after_load}
-use Rattle.rv_history.specs.Lists.{Change, Whole, Append, Remove, Replace, changed}
+use Rattle.rv_history.specs.Lists.{Change, changed}
 use Rattle.rv_history.specs.Steps.{MayLackMemory, due_change, after_change}
-use Rattle.rv_port.specs.Events.{events, back_of, log_of, history_at, catalogue_of, no_operation}
-use Rattle.rv_port.specs.Acting.{entered, loaded, listed, changed_to, Stepped, Loaded, Unloaded, Changed, IfOperator, Due, Does, limits_of, begun_by}
+use Rattle.rv_port.specs.Events.{events, back_of, log_of, history_at, catalogue_of}
+use Rattle.rv_port.specs.Acting.{entered, listed, changed_to, Loaded, Unloaded, Changed, IfOperator, Due, Does, limits_of, begun_by}
 use Rattle.rv_port.specs.declared.event.Begun.{Begun}
 use Rattle.rv_port.specs.declared.event.Ask.{Ask}
 use Rattle.rv_port.specs.declared.event.Ask.TheVariants as Wants

@@ -1,9 +1,9 @@
 -- Which answers can be due to a request at all.
-use Rattle.std.proofs.Common.{◌≡◌, ℕ, Bool, true, false, if◌then◌else◌, List, [], ◌∷◌, Option, Some, None, refl, sym, ap, ◌∙◌, eqb}
+use Rattle.std.proofs.Common.{◌≡◌, ℕ, Bool, true, false, if◌then◌else◌, List, Option, Some, None, refl, sym, ap, ◌∙◌, eqb}
 use Rattle.std.specs.Prelude.{ℤ, ◌&&◌, not, ◌-◌, nat_lt, is_some, slice_get}
 use Rattle.rv_event.specs.Recorded.{recorded}
 use Rattle.rv_event.specs.Past.{halted, innermost, stance, scalars, state, mode}
-use Rattle.rv_shape.specs.Catalogue.{OperationNumber, UnitTask, Who, Operator, Line, who, task_of, all_tasks, Target, Nowhere, OnProtected, OnSuspension, target, is_function, handler}
+use Rattle.rv_shape.specs.Catalogue.{OperationNumber, UnitTask, Operator, Line, who, task_of, all_tasks, Target, Nowhere, OnProtected, OnSuspension, target, is_function, handler}
 use Rattle.rv_event.specs.declared.entry.Body.{Body}
 use Rattle.rv_event.specs.declared.entry.Stance.{Stance}
 use Rattle.rv_event.specs.declared.entry.Stance.TheVariants.{Free, InQueue, HandedOver, DroppedBy, WaitsOn, WaitsUntil, Gone}
@@ -23,7 +23,7 @@ use Rattle.rv_history.specs.Fitting.{fits, idle_line}
 use Rattle.rv_history.specs.Owed.{actors}
 use Rattle.rv_event.specs.declared.entry.Mode.{Mode}
 use Rattle.rv_port.specs.Actors.{HasHandler}
-use Rattle.rv_history.specs.Due.{out, due, table, gate, within, enough, goes_on, judged, suspended, performed, due_call, due_fire, due_delay, due_end, end_of, due_resume, or_waiting, nothing_more}
+use Rattle.rv_history.specs.Due.{out, due, table, gate, within, enough, goes_on, judged, suspended, performed, due_call, due_fire, due_delay, due_end, end_of, due_resume, or_waiting}
 use Rattle.rv_port.specs.Reaching.{Performs}
 
 -- the answers that a request that performs something may get

@@ -5,3 +5,4 @@ pub mod Asking
 pub mod Gets
 pub mod Performing
 pub mod Controls
+pub mod Closings

@@ -1,12 +1,10 @@
 -- What a call did, from its parts.
-use Rattle.std.proofs.Common.{◌≡◌, ◌⊎◌, ℕ, Bool, true, false, List, [], ◌∷◌, ◌++◌, Option, Some, None, refl, sym, ap, ◌∙◌, subst, inl, inr, ⊎_elim, append_assoc, append-nil, arith}
+use Rattle.std.proofs.Common.{◌≡◌, ◌⊎◌, ℕ, true, false, List, [], ◌∷◌, ◌++◌, Some, None, refl, sym, ap, ◌∙◌, subst, inl, inr, ⊎_elim, append_assoc, append-nil, arith}
 use Rattle.std.specs.Prelude.{ℤ}
-use Rattle.rv_event.specs.Recorded.{recorded}
 use Rattle.rv_event.specs.declared.entry.Request.{Request}
 use Rattle.rv_event.specs.declared.entry.Request.TheVariants.{Complete, Resume}
 use Rattle.rv_event.specs.declared.entry.Exit.{Exit}
 use Rattle.rv_event.specs.declared.entry.Exit.TheVariants as Exits
-use Rattle.rv_event.specs.declared.entry.Exception.TheVariants.{ProgramError}
 use Rattle.rv_event.specs.declared.entry.Next.{Next}
 use Rattle.rv_event.specs.declared.entry.Answer.{Answer}
 use Rattle.rv_event.specs.declared.entry.Answer.TheVariants as Answers
@@ -17,7 +15,7 @@ use Rattle.rv_port.specs.declared.event.Event.TheVariants.{Asks}
 use Rattle.rv_port.specs.declared.reached.Reached.{Reached}
 use Rattle.rv_port.specs.declared.reached.Reached.TheVariants as Reaches
 use Rattle.rv_port.specs.Events.{history_at, catalogue_of, called}
-use Rattle.rv_port.specs.Traces.{Passing, capacity_in, Trace, Went, Asked, Replied, noted, asks_on}
+use Rattle.rv_port.specs.Traces.{Passing, capacity_in, Trace, Went, Asked, Replied, asks_on}
 use Rattle.rv_port.specs.Acting.{begun_by}
 use Rattle.rv_port.proofs.Gets.{of_first, first_gets, of_end, end_gets, of_resume, resume_gets}
 use Rattle.rv_port.specs.Actors.{HasHandler}

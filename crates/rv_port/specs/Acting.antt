@@ -1,5 +1,5 @@
 -- What an act of the host behind the turn may do. (own)
-use Rattle.std.specs.Prelude.{◌≡◌, ◌⊎◌, ℕ, Bool, true, false, ◌==◌, if◌then◌else◌, List, [], ◌∷◌, ◌++◌, Option, Some, None, is_some}
+use Rattle.std.specs.Prelude.{◌≡◌, ℕ, Bool, true, false, ◌==◌, if◌then◌else◌, List, [], ◌∷◌, ◌++◌, Option, Some, None, is_some}
 use Rattle.std.proofs.Common.{inl, inr, refl, sym, eqb}
 use Rattle.std.proofs.lemmas.Bool.{eqb-true}
 use Rattle.rv_access.specs.Words.{Words}

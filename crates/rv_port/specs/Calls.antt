@@ -1,5 +1,5 @@
 -- What a call on a port did. (own)
-use Rattle.std.specs.Prelude.{◌≡◌, ◌⊎◌, ℕ, ℤ, ◌≤◌, Bool, true, false, List, [], ◌∷◌, ◌++◌, Option, Some, None}
+use Rattle.std.specs.Prelude.{◌≡◌, ◌⊎◌, ℤ, ◌≤◌, Bool, true, false, List, [], ◌∷◌, ◌++◌, Some}
 use Rattle.rv_event.specs.declared.entry.Request.{Request}
 use Rattle.rv_event.specs.declared.entry.Request.TheVariants.{Complete, Resume}
 use Rattle.rv_event.specs.declared.entry.Exit.{Exit}
@@ -18,7 +18,7 @@ use Rattle.rv_port.specs.Events.{catalogue_of, called}
 use Rattle.rv_turn.specs.Histories.{StartsWith}
 use Rattle.rv_port.specs.Traces.{Passing, Trace, Went, Asked, asks_on}
 use Rattle.rv_port.specs.Bodies.{Runs}
-use Rattle.rv_port.specs.Reaching.{arguments_of, reads, values_of, plain_of, end_of, reached_by, waits_on, waited_for}
+use Rattle.rv_port.specs.Reaching.{arguments_of, reads, values_of, plain_of, end_of, reached_by, waited_for}
 
 -- the pass's own events have grown, if at all (own)
 abbrev pub Grown : Passing → Passing → Type 0

@@ -1,13 +1,13 @@
 -- Traces compose, and one act is a trace. (own)
-use Rattle.std.proofs.Common.{◌≡◌, ◌⊎◌, ℕ, ◌+◌, ◌≤◌, Bool, true, false, List, [], ◌∷◌, ◌++◌, length, Option, Some, None, refl, sym, ap, ◌∙◌, subst, inl, inr, ⊎_elim, arith, append_assoc, append-nil, length-append}
+use Rattle.std.proofs.Common.{◌≡◌, ℕ, ◌+◌, ◌≤◌, List, [], ◌∷◌, ◌++◌, length, Option, Some, None, refl, sym, ap, ◌∙◌, subst, inl, inr, ⊎_elim, arith, append_assoc, append-nil, length-append}
 use Rattle.rv_event.specs.Recorded.{recorded}
 use Rattle.rv_event.specs.declared.entry.Request.{Request}
 use Rattle.rv_event.specs.declared.entry.Answer.{Answer}
 use Rattle.rv_event.specs.declared.entry.Recorded.{Recorded}
-use Rattle.rv_turn.specs.Histories.{mine, StartsWith}
+use Rattle.rv_turn.specs.Histories.{StartsWith}
 use Rattle.rv_turn.specs.Prefixes.{starts_self, starts_both}
 use Rattle.rv_port.specs.Acting.{grown}
-use Rattle.rv_port.specs.Traces.{Passing, capacity_in, told, IsTold, Trace, noted, noted_if, IsAnswered, IsWorn, EachAnswered, Went, Asked}
+use Rattle.rv_port.specs.Traces.{Passing, capacity_in, Trace, noted, noted_if, IsAnswered, EachAnswered, Went}
 use Rattle.rv_port.specs.declared.event.Event.{Event}
 use Rattle.rv_port.specs.declared.event.Limits.{Limits}
 

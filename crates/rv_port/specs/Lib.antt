@@ -7,3 +7,4 @@ pub mod Reaching
 pub mod Bodies
 pub mod Calls
 pub mod Controls
+pub mod Closing

@@ -1,5 +1,5 @@
 -- What answers and exits come to for the caller. (own)
-use Rattle.std.specs.Prelude.{ℕ, ℤ, Bool, true, false, ◌==◌, List, [], ◌∷◌, Some, None}
+use Rattle.std.specs.Prelude.{ℤ, Bool, true, false, ◌==◌, List, [], ◌∷◌, None}
 use Rattle.rv_event.specs.declared.entry.Request.{Request}
 use Rattle.rv_event.specs.declared.entry.Request.TheVariants.{Call, DelayUntil, Clock, Fire}
 use Rattle.rv_event.specs.declared.entry.Exit.{Exit}

@@ -14,5 +14,3 @@ pub mod note;
 mod performance;
 pub mod port;
 pub mod reached;
-#[cfg(test)]
-mod tests;

@@ -1,4 +1,4 @@
-use Rattle.std.proofs.Common.{◌≡◌, []}
+use Rattle.std.proofs.Common.{[]}
 use Rattle.rv_port.specs.Traces.{Went}
 use Rattle.rv_port.proofs.asker.Asker.insist.Given as goal
 
