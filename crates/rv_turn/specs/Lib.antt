@@ -1,4 +1,5 @@
 pub mod Histories
+pub mod Prefixes
 pub mod Views
 pub mod Rules
 pub mod Acts

@@ -119,6 +119,13 @@ fn act_at<C: Counted, R: Wait>(
 }
 
 impl<C: Counted> Pass<C> {
+    /// Whose pass it is.
+    pub fn actor(&self) -> u64
+        ensures { result ≡ self.now.actor }
+    {
+        self.actor
+    }
+
     /// How many acts the pass may still make.
     pub fn left(&self) -> u64
         ensures { result ≡ self.now.left }

@@ -1,0 +1,46 @@
+-- Lists of ports that are done.
+use Rattle.std.proofs.Common.{◌≡◌, false, List, [], ◌∷◌, ◌++◌, reverse, sym, ap, ◌∙◌, subst, append_assoc}
+use Rattle.std.proofs.lemmas.List.{reverse-append, reverse-reverse}
+use Rattle.rv_history.specs.History.{History}
+use Rattle.rv_history.specs.Legal.{Legal}
+use Rattle.rv_turn.specs.Histories.{Each, NoStrangers}
+use Rattle.rv_turn.specs.Passes.{StandsIn}
+use Rattle.std.specs.Prelude.{Some}
+use Rattle.atomic_table.specs.Seated.{TableId}
+use Rattle.rv_port.specs.Events.{by, log_of}
+use Rattle.rv_port.specs.Acting.{limits_of}
+use Rattle.rv_port.specs.Traces.{Passing}
+use Rattle.rv_port.specs.Closing.{IsClosed}
+
+each_both : (P : Passing → Type 0) (xs ys : List Passing) → Each P xs → Each P ys → Each P (xs ++ ys)
+each_both P [] ys t u = u
+each_both P (x ∷ xs) ys t u = (t.0, each_both P xs ys t.1 u)
+
+pub each_back : (P : Passing → Type 0) (xs : List Passing) → Each P xs → Each P (reverse xs)
+each_back P [] t = tt
+each_back P (x ∷ xs) t = subst (λ (l : List Passing). Each P l) (sym (reverse-append (x ∷ []) xs)) (each_both P (reverse xs) (x ∷ []) (each_back P xs t.1) (t.0, tt))
+
+pub each_forth : (P : Passing → Type 0) (xs ys : List Passing) → ys ≡ reverse xs → Each P ys → Each P xs
+each_forth P xs ys is t = subst (λ (l : List Passing). Each P l) (reverse-reverse xs) (each_back P (reverse xs) (subst (λ (l : List Passing). Each P l) is t))
+
+pub each_more : (P : Passing → Type 0) (xs : List Passing) (x : Passing) → Each P xs → P x → Each P (xs ++ x ∷ [])
+each_more P xs x t p = each_both P xs (x ∷ []) t (p, tt)
+
+-- one more was taken over
+pub taken : (all left less passes : List Passing) (x : Passing) → all ≡ left ++ reverse passes → left ≡ less ++ x ∷ [] → all ≡ less ++ reverse (passes ++ x ∷ [])
+taken all left less passes x is e =
+    is ∙ (ap (λ (l : List Passing). l ++ reverse passes) e ∙ (append_assoc less (x ∷ []) (reverse passes) ∙ ap (λ (l : List Passing). less ++ l) (sym (reverse-append passes (x ∷ [])))))
+
+both_each : (turn : TableId) (xs : List Passing) → Each (λ p. p.first ≡ false) xs → Each (λ p. p.turn ≡ turn) xs → Each (λ p. (p.first ≡ false) × (p.turn ≡ turn)) xs
+both_each turn [] t u = tt
+both_each turn (x ∷ xs) t u = ((t.0, u.0), both_each turn xs t.1 u.1)
+
+-- the passes are of the turn, and none is the first
+pub others : (turn : TableId) (finished passes : List Passing) → passes ≡ reverse finished → Each (λ p. p.first ≡ false) passes → Each (λ p. p.turn ≡ turn) finished
+    → Each (λ p. (p.first ≡ false) × (p.turn ≡ turn)) passes
+others turn finished passes is t u = both_each turn passes t (subst (λ (l : List Passing). Each (λ p. p.turn ≡ turn) l) (sym is) (each_back (λ p. p.turn ≡ turn) finished u))
+
+pub closed : (control : Passing) (finished passes : List Passing) (h : History) → Legal h → passes ≡ reverse finished → StandsIn by (log_of h) control → Each (StandsIn by (log_of h)) passes
+    → NoStrangers by (log_of h) control.given → control.about ≡ Some (limits_of h) → IsClosed control finished h
+closed control finished passes h l is own stand none about =
+    record { legal = l; operator = own; ports_stand = each_forth (StandsIn by (log_of h)) finished passes is stand; strangers = none; limits = about }

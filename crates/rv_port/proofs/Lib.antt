@@ -1,0 +1,8 @@
+pub mod Zips
+pub mod Doing
+pub mod Actors
+pub mod Asking
+pub mod Gets
+pub mod Performing
+pub mod Controls
+pub mod Closings

@@ -1,0 +1,169 @@
+-- What an act of the host behind the turn may do. (own)
+use Rattle.std.specs.Prelude.{◌≡◌, ℕ, Bool, true, false, ◌==◌, if◌then◌else◌, List, [], ◌∷◌, ◌++◌, Option, Some, None, is_some}
+use Rattle.std.proofs.Common.{inl, inr, refl, sym, eqb}
+use Rattle.std.proofs.lemmas.Bool.{eqb-true}
+use Rattle.rv_access.specs.Words.{Words}
+use Rattle.rv_shape.specs.Shape.{Shape}
+use Rattle.rv_event.specs.Recorded.{recorded}
+use Rattle.rv_event.specs.declared.entry.Request.{Request}
+use Rattle.rv_event.specs.declared.entry.Answer.{Answer}
+use Rattle.rv_event.specs.declared.entry.Answer.TheVariants as Answers
+use Rattle.rv_event.specs.declared.entry.Recorded.{Recorded}
+use Rattle.rv_history.specs.History.{History, force}
+use Rattle.rv_history.specs.Due.{out}
+use Rattle.rv_history.specs.Legal.{Legal, out_load}
+use Rattle.rv_history.specs.Lists.{Change, Whole, Append, Remove, Replace, changed}
+use Rattle.rv_history.specs.Steps.{MayLackMemory, due_change}
+use Rattle.rv_host.specs.Pages.{page}
+use Rattle.rv_turn.specs.Histories.{Adds}
+use Rattle.rv_port.specs.Events.{by, history_at, catalogue_of, called, no_operation}
+use Rattle.rv_port.specs.declared.event.Begun.{Begun}
+use Rattle.rv_port.specs.declared.event.Event.{Event}
+use Rattle.rv_port.specs.declared.event.Event.TheVariants.{Asks, Loads, Lists}
+use Rattle.rv_port.specs.declared.event.Limits.{Limits}
+use Rattle.rv_port.specs.declared.event.Ask.{Ask}
+use Rattle.rv_port.specs.declared.event.Ask.TheVariants as Wants
+use Rattle.rv_port.specs.declared.event.Reply.{Reply}
+use Rattle.rv_port.specs.declared.event.Reply.TheVariants as Gives
+
+-- the history with the event of a recorded answer (own)
+abbrev pub entered : List Event → ℕ → Request → Option Recorded → List Event
+entered log actor request None = log
+entered log actor request (Some word) = log ++ Asks actor request word ∷ []
+
+-- a recorded answer adds its event, another adds none (own)
+abbrev pub grown : List Event → ℕ → Request → Answer → List Event
+grown log actor request answer = entered log actor request (recorded answer)
+
+abbrev pub loaded : List Event → Shape → Answer → List Event
+loaded log shape answer = if is_some (recorded answer) then log ++ Loads shape ∷ [] else log
+
+abbrev pub listed : List Event → Option (List Words) → List Event
+listed log None = log
+listed log (Some list) = log ++ Lists list ∷ []
+
+abbrev pub changed_to : List Event → Option (List Words) → Answer → List Event
+changed_to log list answer = if is_some (recorded answer) then listed log list else log
+
+-- the operation whose body an answer to a request starts (9.5.1, C.3)
+abbrev pub begun_by : List Shape → ℕ → Request → Answer → Begun
+begun_by shapes actor request (Answers.Started values) = called shapes actor request
+begun_by shapes actor request answer = no_operation
+
+-- the answer to a request, and the history after it (own)
+abbrev pub Stepped : ℕ → List Event → ℕ → Request → Answer → List Event → Type 0
+Stepped c log a q r after = (r ≡ out (history_at c log) a q) × (after ≡ grown log a q r)
+
+-- the answer to a load (own)
+abbrev pub Loaded : ℕ → List Event → Shape → Answer → List Event → Type 0
+Loaded c log shape r after = MayLackMemory (out_load (history_at c log) shape) r × (after ≡ loaded log shape r)
+
+-- the same, where it can't be accepted for want of memory (own)
+abbrev pub Unloaded : ℕ → List Event → Shape → Answer → List Event → Type 0
+Unloaded c log shape r after =
+    MayLackMemory (out_load (history_at c log) shape) r × (recorded r ≡ None) × (after ≡ log)
+
+-- the answer to a list change (own)
+abbrev pub Changed : ℕ → List Event → Change → Answer → List Event → Type 0
+Changed c log change r after =
+    MayLackMemory (due_change (history_at c log) change) r
+    × (after ≡ changed_to log (changed (force (history_at c log)) change) r)
+
+-- what only the operator may ask: to another it is Misuse, and changes nothing (own)
+abbrev pub IfOperator : Bool → Type 0 → Answer → List Event → List Event → Type 0
+IfOperator true does r log after = does
+IfOperator false does r log after = (r ≡ Answers.Misuse) × (after ≡ log)
+
+-- what is due to an ask, on a legal history (own)
+abbrev pub Due : ℕ → List Event → ℕ → Ask → Reply → List Event → Type 0
+Due c log a (Wants.Step q) (Gives.Answered r b) after =
+    Stepped c log a q r after × (b ≡ begun_by (catalogue_of log) a q r)
+Due c log a (Wants.Load shape) (Gives.Answered r b) after = IfOperator (a == 0) (Loaded c log shape r after) r log after
+Due c log a (Wants.LoadWithoutMemory shape) (Gives.Answered r b) after =
+    IfOperator (a == 0) (Unloaded c log shape r after) r log after
+Due c log a (Wants.SetList list) (Gives.Answered r b) after =
+    IfOperator (a == 0) (Changed c log (Whole list) r after) r log after
+Due c log a (Wants.AppendLine line) (Gives.Answered r b) after =
+    IfOperator (a == 0) (Changed c log (Append line) r after) r log after
+Due c log a (Wants.RemoveLine n) (Gives.Answered r b) after =
+    IfOperator (a == 0) (Changed c log (Remove n) r after) r log after
+Due c log a (Wants.ReplaceLine n line) (Gives.Answered r b) after =
+    IfOperator (a == 0) (Changed c log (Replace n line) r after) r log after
+Due c log a (Wants.Read from) (Gives.Read p) after = (p ≡ page (history_at c log) from) × (after ≡ log)
+Due c log a (Wants.Read from) Gives.Unread after = after ≡ log
+Due c log a ask reply after = ⊥
+
+-- what no act changes (own)
+abbrev pub limits_of : History → Limits
+limits_of h = record { capacity = h.capacity }
+
+-- an act of the host behind the turn (own)
+abbrev pub Does : Limits → List Event → ℕ → Ask → Reply → List Event → Type 0
+Does limits log a ask reply after = Legal (history_at limits.capacity log) × Due limits.capacity log a ask reply after
+
+-- The law: one event of the actor more, or none
+
+entered_adds : (word : Option Recorded) (log : List Event) (a : ℕ) (q : Request) (after : List Event) → after ≡ entered log a q word → Adds by log a after
+entered_adds None log a q after e = inl e
+entered_adds (Some word) log a q after e = inr (Asks a q word, e, refl)
+
+loaded_adds : (b : Bool) (log : List Event) (a : ℕ) (shape : Shape) (after : List Event) → 0 ≡ a
+    → after ≡ (if b then log ++ Loads shape ∷ [] else log) → Adds by log a after
+loaded_adds true log a shape after is e = inr (Loads shape, e, is)
+loaded_adds false log a shape after is e = inl e
+
+listed_adds : (list : Option (List Words)) (log : List Event) (a : ℕ) (after : List Event) → 0 ≡ a → after ≡ listed log list → Adds by log a after
+listed_adds None log a after is e = inl e
+listed_adds (Some list) log a after is e = inr (Lists list, e, is)
+
+changed_adds : (b : Bool) (list : Option (List Words)) (log : List Event) (a : ℕ) (after : List Event) → 0 ≡ a
+    → after ≡ (if b then listed log list else log) → Adds by log a after
+changed_adds true list log a after is e = listed_adds list log a after is e
+changed_adds false list log a after is e = inl e
+
+load_adds : (b : Bool) (c : ℕ) (log : List Event) (a : ℕ) (shape : Shape) (r : Answer) (after : List Event) → (b ≡ true → 0 ≡ a)
+    → IfOperator b (Loaded c log shape r after) r log after → Adds by log a after
+load_adds true c log a shape r after is d = loaded_adds (is_some (recorded r)) log a shape after (is refl) d.1
+load_adds false c log a shape r after is d = inl d.1
+
+unload_adds : (b : Bool) (c : ℕ) (log : List Event) (a : ℕ) (shape : Shape) (r : Answer) (after : List Event)
+    → IfOperator b (Unloaded c log shape r after) r log after → Adds by log a after
+unload_adds true c log a shape r after d = inl d.2
+unload_adds false c log a shape r after d = inl d.1
+
+change_adds : (b : Bool) (c : ℕ) (log : List Event) (a : ℕ) (change : Change) (r : Answer) (after : List Event) → (b ≡ true → 0 ≡ a)
+    → IfOperator b (Changed c log change r after) r log after → Adds by log a after
+change_adds true c log a change r after is d = changed_adds (is_some (recorded r)) (changed (force (history_at c log)) change) log a after (is refl) d.1
+change_adds false c log a change r after is d = inl d.1
+
+is_zero : (a : ℕ) → eqb a 0 ≡ true → 0 ≡ a
+is_zero a e = sym (eqb-true a 0 e)
+
+due_adds : (c : ℕ) (log : List Event) (a : ℕ) (ask : Ask) (reply : Reply) (after : List Event) → Due c log a ask reply after → Adds by log a after
+due_adds c log a (Wants.Step q) (Gives.Answered r b) after d = entered_adds (recorded r) log a q after d.0.1
+due_adds c log a (Wants.Load shape) (Gives.Answered r b) after d = load_adds (eqb a 0) c log a shape r after (is_zero a) d
+due_adds c log a (Wants.LoadWithoutMemory shape) (Gives.Answered r b) after d = unload_adds (eqb a 0) c log a shape r after d
+due_adds c log a (Wants.SetList list) (Gives.Answered r b) after d = change_adds (eqb a 0) c log a (Whole list) r after (is_zero a) d
+due_adds c log a (Wants.AppendLine line) (Gives.Answered r b) after d = change_adds (eqb a 0) c log a (Append line) r after (is_zero a) d
+due_adds c log a (Wants.RemoveLine n) (Gives.Answered r b) after d = change_adds (eqb a 0) c log a (Remove n) r after (is_zero a) d
+due_adds c log a (Wants.ReplaceLine n line) (Gives.Answered r b) after d = change_adds (eqb a 0) c log a (Replace n line) r after (is_zero a) d
+due_adds c log a (Wants.Read from) (Gives.Read p) after d = inl d.1
+due_adds c log a (Wants.Read from) Gives.Unread after d = inl d
+due_adds c log a (Wants.Read from) (Gives.Answered r b) after d = absurd d
+due_adds c log a (Wants.Step q) (Gives.Read p) after d = absurd d
+due_adds c log a (Wants.Step q) Gives.Unread after d = absurd d
+due_adds c log a (Wants.Load shape) (Gives.Read p) after d = absurd d
+due_adds c log a (Wants.Load shape) Gives.Unread after d = absurd d
+due_adds c log a (Wants.LoadWithoutMemory shape) (Gives.Read p) after d = absurd d
+due_adds c log a (Wants.LoadWithoutMemory shape) Gives.Unread after d = absurd d
+due_adds c log a (Wants.SetList list) (Gives.Read p) after d = absurd d
+due_adds c log a (Wants.SetList list) Gives.Unread after d = absurd d
+due_adds c log a (Wants.AppendLine line) (Gives.Read p) after d = absurd d
+due_adds c log a (Wants.AppendLine line) Gives.Unread after d = absurd d
+due_adds c log a (Wants.RemoveLine n) (Gives.Read p) after d = absurd d
+due_adds c log a (Wants.RemoveLine n) Gives.Unread after d = absurd d
+due_adds c log a (Wants.ReplaceLine n line) (Gives.Read p) after d = absurd d
+due_adds c log a (Wants.ReplaceLine n line) Gives.Unread after d = absurd d
+
+pub adds : (limits : Limits) (log : List Event) (a : ℕ) (ask : Ask) (reply : Reply) (after : List Event) → Does limits log a ask reply after → Adds by log a after
+adds limits log a ask reply after d = due_adds limits.capacity log a ask reply after d.1

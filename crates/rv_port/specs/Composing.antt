@@ -1,0 +1,68 @@
+-- Traces compose, and one act is a trace. (own)
+use Rattle.std.proofs.Common.{◌≡◌, ℕ, ◌+◌, ◌≤◌, List, [], ◌∷◌, ◌++◌, length, Option, Some, None, refl, sym, ap, ◌∙◌, subst, inl, inr, ⊎_elim, arith, append_assoc, append-nil, length-append}
+use Rattle.rv_event.specs.Recorded.{recorded}
+use Rattle.rv_event.specs.declared.entry.Request.{Request}
+use Rattle.rv_event.specs.declared.entry.Answer.{Answer}
+use Rattle.rv_event.specs.declared.entry.Recorded.{Recorded}
+use Rattle.rv_turn.specs.Histories.{StartsWith}
+use Rattle.rv_turn.specs.Prefixes.{starts_self, starts_both}
+use Rattle.rv_port.specs.Acting.{grown}
+use Rattle.rv_port.specs.Traces.{Passing, capacity_in, Trace, noted, noted_if, IsAnswered, EachAnswered, Went}
+use Rattle.rv_port.specs.declared.event.Event.{Event}
+use Rattle.rv_port.specs.declared.event.Limits.{Limits}
+
+noted_if-append : (b : Option Recorded) (a : ℕ) (q : Request) (es fs : List Event) → noted_if b a q (es ++ fs) ≡ noted_if b a q es ++ fs
+noted_if-append (Some w) a q es fs = refl
+noted_if-append None a q es fs = refl
+
+pub noted-append : (a : ℕ) (xs ys : Trace) → noted a (xs ++ ys) ≡ noted a xs ++ noted a ys
+noted-append a [] ys = refl
+noted-append a (x ∷ xs) ys = ap (noted_if (recorded x.1) a x.0) (noted-append a xs ys) ∙ noted_if-append (recorded x.1) a x.0 (noted a xs) (noted a ys)
+
+no_length : {A : Type 0} (xs : List A) → length xs ≡ 0 → xs ≡ []
+no_length [] e = refl
+no_length (x ∷ xs) e = absurd (omega (arith, e))
+
+-- a pair that was answered is answered still when more is seen later, and when less had been seen before
+pub answered_wider : (limit a : ℕ) (seen seen' own own' later later' : List Event) (q : Request) (r : Answer) → StartsWith seen seen' → StartsWith later' later → own ≡ own' → IsAnswered limit a seen own later q r → IsAnswered limit a seen' own' later' q r
+answered_wider limit a seen seen' own own' later later' q r before after is x =
+    record { at = x.at; from = starts_both seen' seen x.at before x.from; to = starts_both (grown x.at a q r) later later' x.to after; own_is = x.own_is ∙ is; legal = x.legal; due_is = x.due_is }
+
+-- a trace, and another one after it
+pub each_both : (limit a : ℕ) (seen mid later : List Event) (left₁ left₂ : ℕ) (own : List Event) (xs ys : Trace) → StartsWith mid seen → StartsWith later mid → left₂ + length (noted a ys) ≤ left₁
+    → EachAnswered limit a seen mid left₁ own xs → EachAnswered limit a mid later left₂ (own ++ noted a xs) ys → EachAnswered limit a seen later left₂ own (xs ++ ys)
+each_both limit a seen mid later l₁ l₂ own [] ys p q few x y = wider own (own ++ []) ys (append-nil own) y where
+  wider : (own own' : List Event) (ys : Trace) → own' ≡ own → EachAnswered limit a mid later l₂ own' ys → EachAnswered limit a seen later l₂ own ys
+  wider own own' [] is t = tt
+  wider own own' (y ∷ ys) is t = (
+    ⊎_elim (λ h. inl (answered_wider limit a mid seen own' own later later y.0 y.1 p (starts_self later) is h)) (λ h. inr h) t.0,
+    wider (own ++ noted a (y ∷ [])) (own' ++ noted a (y ∷ [])) ys (ap (λ (l : List Event). l ++ noted a (y ∷ [])) is) t.1,
+  )
+each_both limit a seen mid later l₁ l₂ own (x ∷ xs) ys p q few t u = (
+  ⊎_elim (λ h. inl (answered_wider limit a seen seen own own mid later x.0 x.1 (starts_self seen) q refl h))
+      (λ h. inr (h.0, omega (arith, h.1, few), noted-append a xs ys ∙ (ap (λ (l : List Event). l ++ noted a ys) h.2 ∙ no_length (noted a ys) (omega (arith, h.1, few)))))
+      t.0,
+  each_both limit a seen mid later l₁ l₂ (own ++ noted a (x ∷ [])) xs ys p q few t.1
+      (subst (λ (l : List Event). EachAnswered limit a mid later l₂ l ys) (ap (λ (l : List Event). own ++ l) (first_of_all x xs) ∙ sym (append_assoc own (noted a (x ∷ [])) (noted a xs))) u),
+) where
+  first_of_all : (x : Request × Answer) (xs : Trace) → noted a (x ∷ xs) ≡ noted a (x ∷ []) ++ noted a xs
+  first_of_all x xs = noted-append a (x ∷ []) xs
+
+pub went_none : (v : Passing) → Went v [] v
+went_none v = record { later = starts_self v.seen; own = sym (append-nil v.own); acts = omega arith; each = tt; same = refl }
+
+pub went_both : (v u w : Passing) (xs ys : Trace) → Went v xs u → Went u ys w → Went v (xs ++ ys) w
+went_both v u w xs ys p q = let sa : u.actor ≡ v.actor = ap (λ k. k.actor) p.same in let sb : u.base ≡ v.base = ap (λ k. k.base) p.same in let sl : u.about ≡ v.about = ap (λ k. k.about) p.same in
+    let own_u : u.own ≡ v.own ++ noted v.actor xs = p.own in
+    let own_w : w.own ≡ u.own ++ noted v.actor ys = subst (λ (n : ℕ). w.own ≡ u.own ++ noted n ys) sa q.own in
+    let acts_w : w.left + length (noted v.actor ys) ≤ u.left = subst (λ (n : ℕ). w.left + length (noted n ys) ≤ u.left) sa q.acts in
+    let both : noted v.actor (xs ++ ys) ≡ noted v.actor xs ++ noted v.actor ys = noted-append v.actor xs ys in
+    let owned : u.base ++ u.own ≡ (v.base ++ v.own) ++ noted v.actor xs = ap (λ (l : List Event). l ++ u.own) sb ∙ (ap (λ (l : List Event). v.base ++ l) own_u ∙ sym (append_assoc v.base v.own (noted v.actor xs))) in
+    let each_w : EachAnswered (capacity_in v.about) v.actor u.seen w.seen w.left ((v.base ++ v.own) ++ noted v.actor xs) ys
+    = subst (λ (z : Option Limits × ℕ × List Event). EachAnswered (capacity_in z.0) z.1 u.seen w.seen w.left z.2 ys) (λ i. (sl i, sa i, owned i)) q.each in record {
+      later = starts_both v.seen u.seen w.seen p.later q.later;
+      own = own_w ∙ (ap (λ (l : List Event). l ++ noted v.actor ys) own_u ∙ (append_assoc v.own (noted v.actor xs) (noted v.actor ys) ∙ ap (λ (l : List Event). v.own ++ l) (sym both)));
+      acts = let long = ap length both ∙ length-append (noted v.actor xs) (noted v.actor ys) in let fewer = p.acts in omega (arith, long, fewer, acts_w);
+      each = each_both (capacity_in v.about) v.actor v.seen u.seen w.seen u.left w.left (v.base ++ v.own) xs ys p.later q.later acts_w p.each each_w;
+      same = q.same ∙ ap (λ (k : Passing). record k { seen = w.seen; own = w.own; left = w.left }) p.same;
+    }

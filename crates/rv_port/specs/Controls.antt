@@ -1,0 +1,76 @@
+-- What the control of a host behind a turn gives out. (own)
+use Rattle.std.specs.Prelude.{◌≡◌, ℕ, ◌<◌, ◌≤◌, Bool, true, false, ◌==◌, ◌||◌, List, [], ◌∷◌, ◌++◌}
+use Rattle.atomic_table.specs.Seated.{TableId}
+use Rattle.rv_shape.specs.Shape.{Shape}
+use Rattle.rv_event.specs.declared.entry.Entry.{Entry}
+use Rattle.rv_event.specs.declared.entry.Entry.TheVariants.{Asked, Load, ListChange}
+use Rattle.rv_event.specs.declared.entry.Answer.{Answer}
+use Rattle.rv_event.specs.declared.entry.Answer.TheVariants.{Misuse}
+use Rattle.rv_turn.specs.Histories.{mine}
+use Rattle.rv_turn.specs.Passes.{Acted, Parted, IsWorn}
+use Rattle.rv_port.specs.Events.{by, catalogue_of}
+use Rattle.rv_port.specs.Acting.{Does}
+use Rattle.rv_port.specs.Actors.{is_performer}
+use Rattle.rv_port.specs.Traces.{Passing}
+use Rattle.rv_port.specs.declared.fault.PortFault.{PortFault}
+use Rattle.rv_port.specs.declared.fault.PortFault.TheVariants.{Taken, NoActor, NoMemory, Worn}
+use Rattle.rv_port.specs.declared.fault.PageFault.{PageFault}
+use Rattle.rv_port.specs.declared.fault.PageFault.TheVariants as PageFaults
+use Rattle.rv_port.specs.declared.event.Ask.{Ask}
+use Rattle.rv_port.specs.declared.event.Reply.{Reply}
+use Rattle.rv_port.specs.declared.event.Reply.TheVariants as Gives
+
+-- all entries are the operator's (own)
+abbrev pub OperatorAlone : List Entry → Type 0
+OperatorAlone [] = Unit {0}
+OperatorAlone (Asked actor request word ∷ past) = (actor ≡ 0) × OperatorAlone past
+OperatorAlone (Load ∷ past) = OperatorAlone past
+OperatorAlone (ListChange ∷ past) = OperatorAlone past
+
+-- a number stands in a list (own)
+abbrev pub listed : ℕ → List ℕ → Bool
+listed a [] = false
+listed a (x ∷ xs) = (x == a) || listed a xs
+
+-- how many acts a port may make: 2^50 (own)
+abbrev pub port_acts : ℕ
+port_acts = 1125899906842624
+
+-- Why no port is given: of several faults the first; what was given, and the catalogue and the acts of the control. (own)
+abbrev pub IsPortFault : ℕ → List ℕ → List Shape → ℕ → PortFault → Type 0
+IsPortFault actor given shapes left Taken = listed actor given ≡ true
+IsPortFault actor given shapes left NoActor = (listed actor given ≡ false) × (is_performer shapes actor ≡ false)
+IsPortFault actor given shapes left Worn =
+    (listed actor given ≡ false) × (is_performer shapes actor ≡ true) × (left < port_acts)
+IsPortFault actor given shapes left NoMemory =
+    (listed actor given ≡ false) × (is_performer shapes actor ≡ true) × (port_acts ≤ left)
+
+-- A port is given: to one who may have one, and had none. (own)
+pub record IsGiven (control : Passing) (actor : ℕ) (after port : Passing) : Type 0 where
+  pub new : listed actor control.given ≡ false
+  pub performer : is_performer (catalogue_of control.seen) actor ≡ true
+  pub parted : Parted by control actor port_acts after port
+
+-- the answer in a reply; only a page has none (own)
+abbrev pub answer_in : Reply → Answer
+answer_in (Gives.Answered answer begun) = answer
+answer_in (Gives.Read page) = Misuse
+answer_in Gives.Unread = Misuse
+
+-- An answer to an ask of the operator: it is due on a legal history that begins with all that was seen. (own)
+abbrev pub Told : Passing → Ask → Answer → Passing → Type 0
+Told v ask r w = (reply : Reply) × (r ≡ answer_in reply) × Acted by Does v ask reply w
+
+-- The pass of a control is the first of its turn; the control knows who was given a port, and the catalogue. (own)
+pub record IsControl (turn : TableId) (pass : Passing) (given : List ℕ) (catalogue : List Shape) : Type 0 where
+  pub here : pass.turn ≡ turn
+  pub first : pass.first ≡ true
+  pub operator : pass.actor ≡ 0
+  pub given_is : pass.given ≡ given
+  pub owns : mine by 0 pass.seen ≡ pass.base ++ pass.own
+  pub catalogue_is : catalogue ≡ catalogue_of pass.seen
+
+-- no page: there was no memory for it, or no act was left, and nothing changed (own)
+abbrev pub PageFailed : Passing → ℕ → PageFault → Passing → Type 0
+PageFailed v from PageFaults.NoMemory w = Acted by Does v (Ask.Read from) Gives.Unread w
+PageFailed v from PageFaults.Worn w = IsWorn v w

@@ -1,0 +1,10 @@
+pub mod Events
+pub mod Acting
+pub mod Actors
+pub mod Traces
+pub mod Composing
+pub mod Reaching
+pub mod Bodies
+pub mod Calls
+pub mod Controls
+pub mod Closing

@@ -1,0 +1,101 @@
+-- What a port's asks did: a trace of asks and replies, between two states of its pass. (own)
+use Rattle.std.specs.Prelude.{◌≡◌, ◌⊎◌, ℕ, ◌+◌, ◌≤◌, Bool, true, false, List, [], ◌∷◌, ◌++◌, length, Option, Some, None}
+use Rattle.rv_event.specs.Recorded.{recorded}
+use Rattle.rv_event.specs.declared.entry.Request.{Request}
+use Rattle.rv_event.specs.declared.entry.Answer.{Answer}
+use Rattle.rv_event.specs.declared.entry.Answer.TheVariants as Answers
+use Rattle.rv_event.specs.declared.entry.Recorded.{Recorded}
+use Rattle.rv_history.specs.Due.{out}
+use Rattle.rv_history.specs.Legal.{Legal}
+use Rattle.rv_turn.specs.Histories.{mine, StartsWith}
+use Rattle.rv_turn.specs.Passes.{Known}
+use Rattle.rv_port.specs.Events.{by, history_at, catalogue_of}
+use Rattle.rv_port.specs.Acting.{grown, begun_by}
+use Rattle.rv_port.specs.declared.event.Begun.{Begun}
+use Rattle.rv_port.specs.declared.event.Event.{Event}
+use Rattle.rv_port.specs.declared.event.Event.TheVariants.{Asks}
+use Rattle.rv_port.specs.declared.event.Limits.{Limits}
+
+-- what a port knows (own)
+abbrev pub Passing : Type 0
+Passing = Known Event Limits
+
+-- the capacity that a pass knows (own)
+abbrev pub capacity_in : Option Limits → ℕ
+capacity_in None = 0
+capacity_in (Some limits) = limits.capacity
+
+-- what a body is told of an answer: Full in place of Misuse (own)
+abbrev pub told : Answer → Answer
+told Answers.Misuse = Answers.Full
+told r = r
+
+-- the port makes the request again (own)
+abbrev pub asks_on : Answer → Bool
+asks_on Answers.Busy = true
+asks_on Answers.Waiting = true
+asks_on r = false
+
+-- a body is never told these (own)
+abbrev pub IsTold : Answer → Type 0
+IsTold Answers.Misuse = ⊥
+IsTold Answers.Busy = ⊥
+IsTold Answers.Waiting = ⊥
+IsTold r = Unit {0}
+
+abbrev pub Trace : Type 0
+Trace = List (Request × Answer)
+
+abbrev pub noted_if : Option Recorded → ℕ → Request → List Event → List Event
+noted_if None a q es = es
+noted_if (Some word) a q es = Asks a q word ∷ es
+
+-- the events of the recorded pairs (own)
+abbrev pub noted : ℕ → Trace → List Event
+noted a [] = []
+noted a (x ∷ xs) = noted_if (recorded x.1) a x.0 (noted a xs)
+
+-- The reply is due on a legal history, which begins with all that was seen, and has of the actor's events these alone.
+-- What is seen later begins with that history, and with the event where there is one. (own)
+pub record IsAnswered (limit a : ℕ) (seen own later : List Event) (q : Request) (r : Answer) : Type 0 where
+  pub at : List Event
+  pub from : StartsWith at seen
+  pub to : StartsWith later (grown at a q r)
+  pub own_is : mine by a at ≡ own
+  pub legal : Legal (history_at limit at)
+  pub due_is : r ≡ told (out (history_at limit at) a q)
+
+-- No act is left, and so no event follows. (own)
+abbrev pub IsWorn : ℕ → ℕ → Answer → Trace → Type 0
+IsWorn a left r rest = (r ≡ Answers.Full) × (left ≡ 0) × (noted a rest ≡ [])
+
+-- each pair of a trace, from a pass's events so far (own)
+abbrev pub EachAnswered : ℕ → ℕ → List Event → List Event → ℕ → List Event → Trace → Type 0
+EachAnswered limit a seen later left own [] = Unit {0}
+EachAnswered limit a seen later left own (x ∷ xs) =
+    (IsAnswered limit a seen own later x.0 x.1 ⊎ IsWorn a left x.1 xs) × EachAnswered limit a seen later left (own ++ noted a (x ∷ [])) xs
+
+-- The events of the recorded pairs are the growth of the pass's own, each takes an act, and acts left never grow. (own)
+pub record Went (v : Passing) (xs : Trace) (w : Passing) : Type 0 where
+  pub later : StartsWith w.seen v.seen
+  pub own : w.own ≡ v.own ++ noted v.actor xs
+  pub acts : w.left + length (noted v.actor xs) ≤ v.left
+  pub each : EachAnswered (capacity_in v.about) v.actor v.seen w.seen w.left (v.base ++ v.own) xs
+  pub same : w ≡ record v { seen = w.seen; own = w.own; left = w.left }
+
+-- one request, with the answer itself (own)
+pub record Asked (v : Passing) (q : Request) (r : Answer) (w : Passing) : Type 0 where
+  pub went : Went v ((q, told r) ∷ []) w
+  pub at : List Event
+  pub from : StartsWith at v.seen
+  pub seen_is : w.seen ≡ grown at v.actor q r
+  pub own_is : w.own ≡ v.own ++ noted v.actor ((q, r) ∷ [])
+  pub owned : mine by v.actor at ≡ v.base ++ v.own
+  pub owns : mine by w.actor w.seen ≡ w.base ++ w.own
+  pub legal : Legal (history_at (capacity_in v.about) at)
+  pub due_is : r ≡ out (history_at (capacity_in v.about) at) v.actor q
+
+-- one request, with the operation whose body the answer starts (own)
+pub record Replied (v : Passing) (q : Request) (r : Answer) (begun : Begun) (w : Passing) : Type 0 where
+  pub asked : Asked v q r w
+  pub begun_is : begun ≡ begun_by (catalogue_of asked.at) v.actor q r

@@ -1,0 +1,93 @@
+//! The asking part of a port.
+
+ghost use Rattle.std.specs.Prelude.{◌≡◌, ℕ, ◌++◌, ◌∷◌, [], IfSome, IfNone, false};
+ghost use Rattle.rv_turn.specs.Histories.{mine};
+ghost use Rattle.rv_port.specs.Actors.{HasHandler};
+ghost use Rattle.rv_port.specs.Events.{by, catalogue_of};
+ghost use Rattle.rv_port.specs.Traces.{Went, Asked, Replied, IsTold, told, asks_on};
+
+use crate::behind::Behind;
+use crate::bell::Bell;
+use crate::event::{Ask, Begun, Reply};
+use rv_event::entry::{Answer, Request};
+use rv_turn::Pass;
+use std::alloc::Global;
+use std::sync::{Arc, Wait};
+
+/// What a body asks of: a pass of one actor, and the bell. It stands inside a port, so that nobody
+/// else can ask the end of a body.
+#[derive(Drop)]
+pub(crate) struct Asker {
+    pub(crate) pass: Pass<Behind>,
+    pub(crate) bell: Arc<Bell, Global>,
+    pub(crate) ghost given: { pass.first ≡ false },
+    pub(crate) ghost handles: { HasHandler (catalogue_of pass.seen) pass.actor },
+    pub(crate) ghost owns: { mine by pass.actor pass.seen ≡ pass.base ++ pass.own },
+}
+
+// Whether the request is to be made again.
+fn must_wait(answer: &Answer) -> bool
+    ensures { result ≡ asks_on answer.now }
+{
+    matches!(answer, Answer::Busy | Answer::Waiting)
+}
+
+// What a body is told of an answer.
+fn told_of(answer: Answer) -> Answer
+    ensures { result ≡ told answer }
+{
+    match answer {
+        Answer::Misuse => Answer::Full,
+        other => other,
+    }
+}
+
+impl Asker {
+    /// Asks once. None where no act is left.
+    pub(crate) fn try_ask<R: Wait>(&mut self, rt: &R, request: &Request) -> Option<(Answer, Begun)>
+        ensures some { IfSome result (λ r. Replied self.old.pass request.now r.0 r.1 self.new.pass) }
+        ensures none { IfNone result ((self.new.pass ≡ self.old.pass) × (self.old.pass.left ≡ 0)) }
+    {
+        let Ok(reply) = self.pass.act(rt, Ask::Step(*request)) else {
+            return None;
+        };
+        match &reply {
+            Reply::Answered(answer, begun) => Some((*answer, *begun)),
+            _ => unreachable!(),
+        }
+    }
+
+    /// Asks, and again at each ring while the answer is Busy or Waiting. None where no act is left.
+    pub(crate) fn insist<R: Wait>(&mut self, rt: &R, request: &Request) -> Option<(Answer, Begun)>
+        ensures some { IfSome result (λ r. Replied self.old.pass request.now r.0 r.1 self.new.pass × (asks_on r.0 ≡ false)) }
+        ensures none { IfNone result (Went self.old.pass [] self.new.pass × (self.new.pass.left ≡ 0)) }
+    {
+        for _ in rt.forever() {
+            let rings = self.bell.rings(rt);
+            let Some((answer, begun)) = self.try_ask(rt, request) else {
+                return None;
+            };
+            if !must_wait(&answer) {
+                if answer.recorded().is_some() {
+                    self.bell.ring(rt);
+                }
+                return Some((answer, begun));
+            }
+            self.bell.wait_past(rt, rings);
+        }
+        unreachable!()
+    }
+
+    /// Asks for a body: Full in place of Misuse, and where no act is left.
+    #[tactic(auto, using(crate::proofs::Asking::worn_told))]
+    pub(crate) fn ask<R: Wait>(&mut self, rt: &R, request: &Request) -> Answer
+        ensures went { Went self.old.pass ((request.now, result) ∷ []) self.new.pass }
+        ensures told { IsTold result }
+    {
+        let Some(given) = self.insist(rt, request) else {
+            return Answer::Full;
+        };
+        let (answer, _begun) = given;
+        told_of(answer)
+    }
+}

@@ -1,0 +1,233 @@
+//! The host behind the turn.
+
+ghost use Rattle.std.specs.Prelude.{◌≡◌, ℕ, length};
+ghost use Rattle.rv_port.specs.Events.{log_of, called, begun_at};
+ghost use Rattle.rv_port.specs.Acting.{Does, Loaded, Unloaded, Changed, begun_by, limits_of};
+ghost use Rattle.rv_history.specs.Lists.{Whole, Append, Remove, Replace};
+
+use crate::event::{Ask, Begun, Event, Limits, Reply};
+use rv_access::{AccessList, Line};
+use rv_event::entry::{Answer, Request};
+use rv_host::host::Host;
+use rv_host::pages::Page;
+use rv_shape::actor::Callee;
+use rv_shape::catalogue::Catalogue;
+use rv_shape::shape::UnitShape;
+use rv_turn::Counted;
+use std::alloc::Global;
+
+/// The host, as what threads act on one at a time.
+#[derive(Drop)]
+pub struct Behind {
+    pub(crate) alloc: Global,
+    pub(crate) host: Host,
+}
+
+// No operation.
+const NONE: Begun = Begun {
+    object: 0,
+    operation: 0,
+    is_function: false,
+};
+
+// An operation by its numbers, and whether it is a function.
+fn begun_at(catalogue: &Catalogue, object: usize, operation: usize) -> Begun
+    ensures { result ≡ begun_at catalogue.now object operation }
+{
+    let is_function = match catalogue.callee(object, operation) {
+        Callee::Protected(_, _, called) => called.kind().is_function(),
+        _ => false,
+    };
+    Begun {
+        object,
+        operation,
+        is_function,
+    }
+}
+
+// The operation that a request calls: of a fired line its handler (C.3.1).
+fn called(catalogue: &Catalogue, actor: usize, request: &Request) -> Begun
+    ensures { result ≡ called catalogue.now actor request.now }
+{
+    match request {
+        Request::Call(object, operation, _) => begun_at(catalogue, *object, *operation),
+        Request::Fire => match catalogue.handler(actor.saturating_sub(1)) {
+            Some((object, operation)) => begun_at(catalogue, object, operation),
+            None => NONE,
+        },
+        _ => NONE,
+    }
+}
+
+// The operation whose body the answer starts.
+fn begun_by(catalogue: &Catalogue, actor: usize, request: &Request, answer: &Answer) -> Begun
+    ensures { result ≡ begun_by catalogue.now actor request.now answer.now }
+{
+    match answer {
+        Answer::Started(_) => called(catalogue, actor, request),
+        _ => NONE,
+    }
+}
+
+impl Behind {
+    // A request.
+    #[tactic(auto, using(crate::proofs::Doing::stepped))]
+    fn step(&mut self, actor: u64, request: Request) -> Reply
+        ensures does { Does (limits_of self.old.host) (log_of self.old.host) actor (Ask.Step request) result (log_of self.new.host) }
+        ensures about { self.new.host.capacity ≡ self.old.host.capacity }
+    {
+        self.host.replays();
+        let answer = self.host.step(actor as usize, request);
+        let begun = begun_by(self.host.catalogue(), actor as usize, &request, &answer);
+        Reply::Answered(answer, begun)
+    }
+
+    // A page.
+    fn read(&mut self, actor: u64, from: usize) -> Reply
+        ensures does { Does (limits_of self.old.host) (log_of self.old.host) actor (Ask.Read from) result (log_of self.new.host) }
+        ensures about { self.new.host.capacity ≡ self.old.host.capacity }
+    {
+        self.host.replays();
+        let mut page = Page::new(self.alloc);
+        match self.host.entries(self.alloc, from, &mut page) {
+            Ok(()) => Reply::Read(page),
+            Err(_) => Reply::Unread,
+        }
+    }
+
+    // A load by the operator.
+    fn load(&mut self, shape: &UnitShape) -> Answer
+        ensures does { Loaded self.old.host.capacity (log_of self.old.host) shape.now result (log_of self.new.host) }
+        ensures about { self.new.host.capacity ≡ self.old.host.capacity }
+    {
+        self.host.replays();
+        self.host.load(shape)
+    }
+
+    // A load by the operator, for which there is no memory.
+    fn load_without_memory(&mut self, shape: &UnitShape) -> Answer
+        ensures does { Unloaded self.old.host.capacity (log_of self.old.host) shape.now result (log_of self.new.host) }
+        ensures about { self.new.host.capacity ≡ self.old.host.capacity }
+    {
+        self.host.replays();
+        let due = self.host.due_load(shape);
+        if due.recorded().is_some() {
+            return Answer::OutOfMemory;
+        }
+        due
+    }
+
+    // A list change by the operator, whole.
+    fn set_list(&mut self, list: &AccessList) -> Answer
+        ensures does { Changed self.old.host.capacity (log_of self.old.host) (Whole list.now) result (log_of self.new.host) }
+        ensures about { self.new.host.capacity ≡ self.old.host.capacity }
+    {
+        self.host.replays();
+        self.host.set_list(list)
+    }
+
+    // A line more.
+    fn append_line(&mut self, line: &Line) -> Answer
+        ensures does { Changed self.old.host.capacity (log_of self.old.host) (Append line.now) result (log_of self.new.host) }
+        ensures about { self.new.host.capacity ≡ self.old.host.capacity }
+    {
+        self.host.replays();
+        self.host.append_line(line)
+    }
+
+    // A line less.
+    fn remove_line(&mut self, number: usize) -> Answer
+        ensures does { Changed self.old.host.capacity (log_of self.old.host) (Remove number) result (log_of self.new.host) }
+        ensures about { self.new.host.capacity ≡ self.old.host.capacity }
+    {
+        self.host.replays();
+        self.host.remove_line(number)
+    }
+
+    // Another line in the place of one.
+    fn replace_line(&mut self, number: usize, line: &Line) -> Answer
+        ensures does { Changed self.old.host.capacity (log_of self.old.host) (Replace number line.now) result (log_of self.new.host) }
+        ensures about { self.new.host.capacity ≡ self.old.host.capacity }
+    {
+        self.host.replays();
+        self.host.replace_line(number, line)
+    }
+
+    // What the operator asks.
+    fn operate(&mut self, ask: Ask) -> Reply
+        ensures does { Does (limits_of self.old.host) (log_of self.old.host) 0 ask result (log_of self.new.host) }
+        ensures about { self.new.host.capacity ≡ self.old.host.capacity }
+    {
+        self.host.replays();
+        match ask {
+            Ask::Step(request) => self.step(0, request),
+            Ask::Read(from) => self.read(0, from),
+            Ask::Load(shape) => Reply::Answered(self.load(&shape), NONE),
+            Ask::LoadWithoutMemory(shape) => {
+                Reply::Answered(self.load_without_memory(&shape), NONE)
+            }
+            Ask::SetList(list) => Reply::Answered(self.set_list(&list), NONE),
+            Ask::AppendLine(line) => Reply::Answered(self.append_line(&line), NONE),
+            Ask::RemoveLine(number) => Reply::Answered(self.remove_line(number), NONE),
+            Ask::ReplaceLine(number, line) => {
+                Reply::Answered(self.replace_line(number, &line), NONE)
+            }
+        }
+    }
+
+    // What another actor asks.
+    fn serve(&mut self, actor: u64, ask: Ask) -> Reply
+        requires { actor ≡ 0 → ⊥ }
+        ensures does { Does (limits_of self.old.host) (log_of self.old.host) actor ask result (log_of self.new.host) }
+        ensures about { self.new.host.capacity ≡ self.old.host.capacity }
+    {
+        self.host.replays();
+        match ask {
+            Ask::Step(request) => self.step(actor, request),
+            Ask::Read(from) => self.read(actor, from),
+            Ask::Load(_shape) => Reply::Answered(Answer::Misuse, NONE),
+            Ask::LoadWithoutMemory(_shape) => Reply::Answered(Answer::Misuse, NONE),
+            Ask::SetList(_list) => Reply::Answered(Answer::Misuse, NONE),
+            Ask::AppendLine(_line) => Reply::Answered(Answer::Misuse, NONE),
+            Ask::RemoveLine(_number) => Reply::Answered(Answer::Misuse, NONE),
+            Ask::ReplaceLine(_number, _line) => Reply::Answered(Answer::Misuse, NONE),
+        }
+    }
+}
+
+impl Counted for Behind {
+    ghost use Rattle.std.specs.Prelude.{ℕ};
+    ghost use Rattle.rv_port.specs.Events.{log_of, by};
+    ghost use Rattle.rv_port.specs.Acting.{Does, adds, limits_of};
+
+    type Ask = Ask;
+
+    type Reply = Reply;
+
+    type Entry = Event;
+
+    type About = Limits;
+
+    ghost history = { λ b. log_of b.host };
+
+    ghost about = { λ b. limits_of b.host };
+
+    ghost actor_of = { by };
+
+    ghost answers = { Does };
+
+    ghost adds = { adds };
+
+    fn act(&mut self, actor: u64, ask: Ask) -> Reply {
+        if actor == 0 {
+            self.operate(ask)
+        } else {
+            self.serve(actor, ask)
+        }
+    }
+
+    #[tactic(auto, using(crate::proofs::Zips::length_log))]
+    fn count(&self) -> u64 {
+        self.host.used() as u64
+    }
+}

@@ -1,0 +1,20 @@
+//! Notes: what one has seen, told to a port.
+
+use crate::behind::Behind;
+use std::marker::Model;
+
+/// What a control or a port had seen when it made the note. Contracts see whose turn it is of, and
+/// that history. It has no bytes but its type's.
+#[derive(Drop)]
+pub struct Note {
+    pub(crate) note: rv_turn::Note<Behind>,
+}
+
+impl Model for Note {
+    ghost use Rattle.rv_turn.specs.Passes.{Noted};
+    ghost use Rattle.rv_port.specs.declared.event.Event.{Event};
+
+    ghost Value = { Noted Event };
+
+    ghost view = { λ n. n.note };
+}

@@ -1,0 +1,86 @@
+//! One performance of a request: its answer, and where a body starts, the body and its end.
+
+ghost use Rattle.std.specs.Prelude.{◌≡◌};
+ghost use Rattle.rv_port.specs.Calls.{RanOn, Waited, Performed, Stays, Tied};
+ghost use Rattle.rv_port.specs.Reaching.{Performs};
+
+use crate::asker::Asker;
+use crate::body::run;
+use crate::event::Begun;
+use crate::gate::Gate;
+use crate::reached::{Reached, arguments_of, ended_as, is_wait, plain, reads, waited_for};
+use rv_event::entry::{Answer, Request};
+use rv_value::{Args, Scalars};
+use std::sync::Wait;
+
+impl Asker {
+    // Runs the body that was started, passes the gate, and ends the body.
+    fn run_on<R: Wait, G: Gate<R>>(
+        &mut self,
+        rt: &R,
+        gate: &G,
+        begun: &Begun,
+        scalars: &Scalars,
+        args: &Args,
+    ) -> Reached
+        ensures { RanOn self.old.pass begun.now scalars.now args.now result self.new.pass }
+    {
+        let ended = run::<R>(rt, self, begun, scalars, args);
+        gate.pass(rt);
+        let request = Request::Complete(ended.scalars, ended.exit);
+        let Some(given) = self.insist(rt, &request) else {
+            return Reached::Stopped;
+        };
+        let (answer, _begun) = given;
+        ended_as(&answer, &ended.exit)
+    }
+
+    // Waits for what a request came to.
+    fn resume<R: Wait, G: Gate<R>>(&mut self, rt: &R, gate: &G, request: &Request) -> Reached
+        ensures { Waited self.old.pass request.now result self.new.pass }
+    {
+        let Some(given) = self.insist(rt, &Request::Resume) else {
+            return Reached::Stopped;
+        };
+        let (answer, _begun) = given;
+        if let Answer::Woken(Some(scalars)) = answer {
+            let begun = waited_for(request);
+            let args = arguments_of(request);
+            return self.run_on(rt, gate, &begun, &scalars, &args);
+        }
+        plain(false, &answer)
+    }
+
+    // One performance, by its parts.
+    fn go<R: Wait, G: Gate<R>>(&mut self, rt: &R, gate: &G, request: &Request) -> Reached
+        ensures { Performed self.old.pass request.now result self.new.pass }
+    {
+        let Some(given) = self.insist(rt, request) else {
+            return Reached::Stopped;
+        };
+        let (answer, begun) = given;
+        if let Answer::Started(scalars) = answer {
+            let args = arguments_of(request);
+            return self.run_on(rt, gate, &begun, &scalars, &args);
+        }
+        if is_wait(&answer) {
+            return self.resume(rt, gate, request);
+        }
+        plain(reads(request), &answer)
+    }
+
+    /// One performance of a request.
+    pub(crate) fn perform<R: Wait, G: Gate<R>>(
+        &mut self,
+        rt: &R,
+        gate: &G,
+        request: &Request,
+    ) -> Reached
+        requires { Performs request.now }
+        ensures performed { Performed self.old.pass request.now result self.new.pass }
+        ensures tied { Tied self.old.pass result self.new.pass }
+        ensures stays { Stays self.old.pass self.new.pass }
+    {
+        self.go(rt, gate, request)
+    }
+}

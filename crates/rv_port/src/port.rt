@@ -1,0 +1,249 @@
+//! Ports.
+
+ghost use Rattle.std.specs.Prelude.{◌≡◌, ◌⊎◌, ◌++◌, [], false};
+ghost use Rattle.rv_turn.specs.Histories.{mine};
+ghost use Rattle.rv_turn.specs.Passes.{Meets};
+ghost use Rattle.rv_event.specs.declared.entry.Answer.{Answer};
+ghost use Rattle.rv_event.specs.declared.entry.Request.TheVariants as asks;
+ghost use Rattle.rv_port.specs.Actors.{HasHandler};
+ghost use Rattle.rv_port.specs.Events.{by, catalogue_of};
+ghost use Rattle.rv_port.specs.Traces.{Went, Asked};
+ghost use Rattle.rv_port.specs.Calls.{Performed, Stays, Tied};
+
+use crate::asker::Asker;
+use crate::behind::Behind;
+use crate::bell::Bell;
+use crate::gate::{Gate, Open};
+use crate::note::Note;
+use crate::reached::Reached;
+use rv_event::entry::Request;
+use rv_shape::actor::FIRST_TASK;
+use rv_turn::Pass;
+use rv_value::Args;
+use std::alloc::Global;
+use std::marker::Model;
+use std::sync::{Arc, Wait};
+
+/// The right to perform one actor's requests: calls of operations, waits, and, for a line, fires.
+/// It goes from thread to thread as a value, and can't be copied. Contracts see what its pass
+/// knows.
+#[derive(Drop)]
+pub struct Port {
+    pub(crate) asker: Asker,
+}
+
+impl Model for Port {
+    ghost use Rattle.std.specs.Prelude.{◌≡◌, []};
+    ghost use Rattle.rv_port.specs.Traces.{Passing};
+
+    ghost Value = { Passing };
+
+    ghost view = { λ p. p.asker.pass };
+
+    ghost invariant = { λ p. p.asker.pass.base ≡ [] };
+}
+
+/// A port that is done. Contracts see what its pass knows.
+#[derive(Drop)]
+pub struct Finished {
+    pub(crate) pass: Pass<Behind>,
+}
+
+impl Model for Finished {
+    ghost use Rattle.std.specs.Prelude.{◌≡◌, ◌++◌, [], false};
+    ghost use Rattle.rv_turn.specs.Histories.{mine};
+    ghost use Rattle.rv_port.specs.Events.{by};
+    ghost use Rattle.rv_port.specs.Traces.{Passing};
+
+    ghost Value = { Passing };
+
+    ghost view = { λ f. f.pass };
+
+    ghost invariant = { λ f. (f.pass.first ≡ false) × (f.pass.base ≡ []) × (mine by f.pass.actor f.pass.seen ≡ f.pass.own) };
+}
+
+impl Finished {
+    /// Whose port it was.
+    pub fn actor(&self) -> u64
+        ensures { result ≡ self.now.actor }
+    {
+        self.pass.actor()
+    }
+}
+
+impl Port {
+    // The port of a new pass.
+    pub(crate) fn new(pass: Pass<Behind>, bell: Arc<Bell, Global>) -> Port
+        requires given { pass.first ≡ false }
+        requires fresh { pass.base ≡ [] }
+        requires handles { HasHandler (catalogue_of pass.seen) pass.actor }
+        requires owns { mine by pass.actor pass.seen ≡ pass.base ++ pass.own }
+        ensures { result ≡ pass }
+    {
+        Port {
+            asker: Asker { pass, bell },
+        }
+    }
+
+    /// Whose port it is.
+    pub fn actor(&self) -> u64
+        ensures { result ≡ self.now.actor }
+    {
+        self.asker.pass.actor()
+    }
+
+    /// Does nothing. Its clause says what every port keeps: its own events are those of its actor
+    /// in all that it has seen, each once and in their order.
+    pub fn own_is_mine(&self)
+        ensures { mine by self.now.actor self.now.seen ≡ self.now.own }
+    {
+        let _ = &self.asker;
+    }
+
+    /// A call of an operation (9.5.1, 9.5.3, D.10): by the numbers of its object and of the
+    /// operation, each from 1, with the values of the `in` and `in out` parameters. It waits while
+    /// the object is held by others, and where the call is queued. The body runs outside the turn.
+    pub fn call<R: Wait>(&mut self, rt: &R, object: usize, operation: usize, args: Args) -> Reached
+        ensures performed { Performed self.old (asks.Call object operation args) result self.new }
+        ensures tied { Tied self.old result self.new }
+        ensures stays { Stays self.old self.new }
+    {
+        self.call_gated(rt, object, operation, args, &Open)
+    }
+
+    /// The same, with a gate between the body and its end.
+    pub fn call_gated<R: Wait, G: Gate<R>>(
+        &mut self,
+        rt: &R,
+        object: usize,
+        operation: usize,
+        args: Args,
+        gate: &G,
+    ) -> Reached
+        ensures performed { Performed self.old (asks.Call object operation args) result self.new }
+        ensures tied { Tied self.old result self.new }
+        ensures stays { Stays self.old self.new }
+    {
+        self.asker
+            .perform(rt, gate, &Request::Call(object, operation, args))
+    }
+
+    /// `Set_True` of a suspension object (D.10).
+    pub fn set_true<R: Wait>(&mut self, rt: &R, object: usize) -> Reached
+        ensures performed { Performed self.old (asks.Call object 1 []) result self.new }
+        ensures tied { Tied self.old result self.new }
+        ensures stays { Stays self.old self.new }
+    {
+        self.call(rt, object, 1, Args::new())
+    }
+
+    /// `Set_False` of a suspension object (D.10).
+    pub fn set_false<R: Wait>(&mut self, rt: &R, object: usize) -> Reached
+        ensures performed { Performed self.old (asks.Call object 2 []) result self.new }
+        ensures tied { Tied self.old result self.new }
+        ensures stays { Stays self.old self.new }
+    {
+        self.call(rt, object, 2, Args::new())
+    }
+
+    /// `Current_State` of a suspension object, returned as 1 for True and 0 for False (D.10).
+    pub fn state<R: Wait>(&mut self, rt: &R, object: usize) -> Reached
+        ensures performed { Performed self.old (asks.Call object 3 []) result self.new }
+        ensures tied { Tied self.old result self.new }
+        ensures stays { Stays self.old self.new }
+    {
+        self.call(rt, object, 3, Args::new())
+    }
+
+    /// `Suspend_Until_True` of a suspension object (D.10). It waits while that is False.
+    pub fn suspend<R: Wait>(&mut self, rt: &R, object: usize) -> Reached
+        ensures performed { Performed self.old (asks.Call object 4 []) result self.new }
+        ensures tied { Tied self.old result self.new }
+        ensures stays { Stays self.old self.new }
+    {
+        self.call(rt, object, 4, Args::new())
+    }
+
+    /// A delay until a time in ticks, -10^15 .. 10^15 (9.6, D.9). It waits until the clock is there.
+    pub fn delay_until<R: Wait>(&mut self, rt: &R, time: i64) -> Reached
+        ensures performed { Performed self.old (asks.DelayUntil time) result self.new }
+        ensures tied { Tied self.old result self.new }
+        ensures stays { Stays self.old self.new }
+    {
+        self.asker.perform(rt, &Open, &Request::DelayUntil(time))
+    }
+
+    /// The ticks so far, which are returned (D.8).
+    pub fn clock<R: Wait>(&mut self, rt: &R) -> Reached
+        ensures performed { Performed self.old asks.Clock result self.new }
+        ensures tied { Tied self.old result self.new }
+        ensures stays { Stays self.old self.new }
+    {
+        self.asker.perform(rt, &Open, &Request::Clock)
+    }
+
+    /// An interrupt of the port's line: a call of its handler (C.3). It waits while the handler's
+    /// object is held by others.
+    pub fn fire<R: Wait>(&mut self, rt: &R) -> Reached
+        ensures performed { Performed self.old asks.Fire result self.new }
+        ensures tied { Tied self.old result self.new }
+        ensures stays { Stays self.old self.new }
+    {
+        self.asker.perform(rt, &Open, &Request::Fire)
+    }
+
+    /// What this port has seen, to be told to another of the same control.
+    pub fn note(&mut self) -> Note
+        ensures note { (result.turn ≡ self.old.turn) × (result.seen ≡ self.old.seen) }
+        ensures same { self.new ≡ self.old }
+    {
+        Note {
+            note: self.asker.pass.note(),
+        }
+    }
+
+    /// From now on this port has seen all that the note's maker had seen then: it is judged by the
+    /// list in force there or by a later one. The note is of the same control.
+    pub fn told(&mut self, note: Note)
+        requires turn { note.turn ≡ self.old.turn }
+        ensures { Meets by self.old note.seen self.new }
+    {
+        let Note { note } = note;
+        self.asker.pass.meet(note);
+    }
+
+    /// Lets go of the port: a task quits, where it may; a line asks nothing. An answer Misuse, and
+    /// want of an act, change nothing.
+    pub fn finish<R: Wait>(self, rt: &R) -> Finished
+        ensures quits { Went self [] result ⊎ ((r : Answer) × Asked self asks.Quit r result) }
+        ensures stays { Stays self result }
+    {
+        let Port { mut asker } = self;
+        quit(rt, &mut asker);
+        let Asker { pass, bell: _ } = asker;
+        Finished { pass }
+    }
+}
+
+// Asks for the end of a task, and tells those who wait.
+fn ask_quit<R: Wait>(rt: &R, asker: &mut Asker)
+    ensures { Went asker.old.pass [] asker.new.pass ⊎ ((r : Answer) × Asked asker.old.pass asks.Quit r asker.new.pass) }
+{
+    if asker.pass.actor() < FIRST_TASK as u64 {
+        return;
+    }
+    if let Some(given) = asker.try_ask(rt, &Request::Quit) {
+        let (answer, _begun) = given;
+        if answer.recorded().is_some() {
+            asker.bell.ring(rt);
+        }
+    }
+}
+
+// The end of a task; a line has none.
+fn quit<R: Wait>(rt: &R, asker: &mut Asker)
+    ensures quits { Went asker.old.pass [] asker.new.pass ⊎ ((r : Answer) × Asked asker.old.pass asks.Quit r asker.new.pass) }
+    ensures stays { Stays asker.old.pass asker.new.pass }
+{
+    ask_quit(rt, asker);
+}
