@@ -8,12 +8,13 @@ use Rattle.rv_tree.specs.Statements.{Choice, others, value, between, LoopBounds,
 use Rattle.rv_tree.specs.Declarations.{PragmaArgument, Pragma, Aspect, Parameter, OperationDeclaration, a_pragma, a_function, a_procedure, an_entry, ProtectedElement, an_operation, a_component, ProtectedUnit, TaskItem, task_pragma, task_entry, TaskDefinition, TaskUnit, Declaration, package_pragma, a_subtype, a_protected_unit, a_task, a_variable, a_constant}
 use Rattle.rv_tree.specs.Bodies.{Local, an_object, local_pragma, local_protected_unit, local_task, Handler, Block, OperationBody, function_body, procedure_body, entry_body, ProtectedBody}
 use Rattle.rv_tree.specs.Units.{ContextItem, context_pragma, with_clause, use_clause, BodyItem, body_declaration, body_protected, body_task, UnitTree}
+use Rattle.rv_tree.specs.Places.{expression_place}
 use Rattle.rv_restrict.specs.declared.violation.Restriction.TheVariants.{NoAbortStatements, NoRequeueStatements, NoSelectStatements, NoRelativeDelay, NoLocalProtectedObjects, NoTaskHierarchy, MaxProtectedEntries, MaxTaskEntries, SimpleBarriers, NoDynamicPriorities, NoDependence}
 use Rattle.rv_restrict.specs.declared.violation.Restriction.{Restriction}
 use Rattle.rv_restrict.specs.declared.violation.Violation.{Violation}
 use Rattle.rv_restrict.specs.Found.{Note, ◌▷◌, nothing, broken, broken_unless, maybe_noted, each_noted, earlier, first_of}
 use Rattle.rv_restrict.specs.Scope.{elements_of, names_protected_type}
-use Rattle.rv_restrict.specs.Barriers.{is_simple_barrier, place_of}
+use Rattle.rv_restrict.specs.Barriers.{is_simple_barrier}
 use Rattle.rv_restrict.specs.Dependences.{is_excluded, is_dynamic_priorities}
 use Rattle.rv_restrict.specs.ExpressionWalk.{attribute_noted, expression_noted, expressions_noted, factors_noted, terms_noted, range_noted}
 use Rattle.rv_restrict.specs.StatementWalk.{choice_noted, bounds_noted, iteration_noted, guard_noted, delay_noted, statement_noted, statements_noted, elsif_parts_noted, alternatives_noted, selective_noted, selectives_noted}
@@ -219,7 +220,7 @@ block_keeps tree b =
     and statements_keeps b.statements and each_keeps (handler_noted earlier) (handler_noted all) handler_keeps b.handlers
 
 barrier_keeps : (tree : UnitTree) (unit : List ℕ) (parameters : List Parameter) (e : Expression) → Keeps (barrier_noted earlier tree unit parameters e) (barrier_noted all tree unit parameters e)
-barrier_keeps tree unit parameters e = kept_unless (is_simple_barrier tree unit parameters e) SimpleBarriers (place_of e) and expression_keeps e
+barrier_keeps tree unit parameters e = kept_unless (is_simple_barrier tree unit parameters e) SimpleBarriers (expression_place e) and expression_keeps e
 
 operation_body_keeps : (tree : UnitTree) (unit : List ℕ) (o : OperationBody) → Keeps (operation_body_noted earlier tree unit o) (operation_body_noted all tree unit o)
 operation_body_keeps tree unit (function_body at i parameters mark b) = block_keeps tree b
