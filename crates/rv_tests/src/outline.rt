@@ -1,14 +1,14 @@
 //! Outlines of unit texts: the shapes that declarations give, and what is wrong with their types, with its place.
 
 use rv_names::resolve::resolve;
-use rv_outline::{Known, ObjectType, Outline, Table, outline_of};
+use rv_outline::{Known, Outline, Table, outline_of};
 use rv_parse::parse;
 use rv_shape::catalogue::Catalogue;
-use rv_shape::kind::{Barrier, Kind, ParameterMode, ValueType};
-use rv_shape::object::{Object, ProtectedObject};
+use rv_shape::kind::{Barrier, Kind, Parameter, ParameterMode, Range};
+use rv_shape::object::{Object, Operation, ProtectedObject};
 use rv_static::{Faults, TypeFault};
 use std::alloc::Global;
-use std::process::Abort;
+use std::fmt::Write;
 use std::test::Fail;
 
 // A valve with a barrier that is a component.
@@ -51,132 +51,285 @@ fn told(alloc: Global, text: &str) -> Result<Option<TypeFault>, Fail> {
     Ok(found.1)
 }
 
-fn protected(object: &Object) -> Result<&ProtectedObject, Fail> {
-    match object {
-        Object::Protected(object) => Ok(object),
-        Object::Suspension(_) => Err(Fail::from("a suspension object")),
+// A range as it stands in a shape's text.
+fn put_range(text: &mut String, range: Range) -> Result<(), Fail> {
+    write!(text, " {} {}", range.low, range.high)?;
+    Ok(())
+}
+
+// Parameters as they stand there.
+fn put_parameters(text: &mut String, parameters: &[Parameter]) -> Result<(), Fail> {
+    for one in parameters {
+        match one.mode {
+            ParameterMode::In => text.push_str(" in")?,
+            ParameterMode::Out => text.push_str(" out")?,
+            ParameterMode::InOut => text.push_str(" inout")?,
+        }
+        put_range(text, one.range)?;
     }
+    Ok(())
+}
+
+fn put_barrier(text: &mut String, barrier: Barrier) -> Result<(), Fail> {
+    match barrier {
+        Barrier::AlwaysOpen => text.push_str(" open")?,
+        Barrier::AlwaysClosed => text.push_str(" closed")?,
+        Barrier::Component(number) => write!(text, " {number}")?,
+    }
+    Ok(())
+}
+
+fn put_kind(text: &mut String, operation: &Operation) -> Result<(), Fail> {
+    let name = operation.name();
+    match operation.kind() {
+        Kind::Function(range) => {
+            write!(text, "function {name}")?;
+            put_range(text, range)
+        }
+        Kind::Procedure => {
+            write!(text, "procedure {name}")?;
+            Ok(())
+        }
+        Kind::Entry(barrier) => {
+            write!(text, "entry {name}")?;
+            put_barrier(text, barrier)
+        }
+        Kind::Handler(line) => {
+            write!(text, "handler {name} {line}")?;
+            Ok(())
+        }
+    }
+}
+
+fn put_operation(text: &mut String, operation: &Operation) -> Result<(), Fail> {
+    put_kind(text, operation)?;
+    put_parameters(text, operation.parameters())?;
+    text.push_str(if operation.is_visible() {
+        "\n"
+    } else {
+        " private\n"
+    })?;
+    Ok(())
+}
+
+fn put_protected(text: &mut String, object: &ProtectedObject) -> Result<(), Fail> {
+    write!(text, "protected {} {}", object.name(), object.ceiling())?;
+    text.push_str(if object.is_visible() {
+        "\n"
+    } else {
+        " hidden\n"
+    })?;
+    for component in object.components() {
+        text.push_str("scalar")?;
+        put_range(text, component.range)?;
+        write!(text, " {}\n", component.start)?;
+    }
+    for operation in object.operations() {
+        put_operation(text, operation)?;
+    }
+    Ok(())
+}
+
+fn put_object(text: &mut String, object: &Object) -> Result<(), Fail> {
+    match object {
+        Object::Protected(object) => put_protected(text, object),
+        Object::Suspension(object) => {
+            write!(text, "suspension {}", object.name())?;
+            text.push_str(if object.is_visible() {
+                "\n"
+            } else {
+                " hidden\n"
+            })?;
+            Ok(())
+        }
+    }
+}
+
+// The shape of a text as a shape's text, with what other units don't see marked.
+fn shape_text(alloc: Global, text: &str) -> Result<String, Fail> {
+    let (outline, _) = read(alloc, text)?;
+    let mut shown = String::new(alloc);
+    for task in outline.shape().tasks() {
+        write!(shown, "task {} {}\n", task.name(), task.priority())?;
+    }
+    for object in outline.shape().objects() {
+        put_object(&mut shown, object)?;
+    }
+    Ok(shown)
 }
 
 #[test]
 fn plant_has_its_shape(rt: HostRuntime) -> Result<(), Fail> {
-    let (outline, fault) = read(rt.alloc(), PLANT)?;
-    assert!(rt; fault.is_none() && !outline.is_told());
-    let shape = outline.shape();
-    assert!(rt; shape.name() == "Plant" && shape.tasks().is_empty() && shape.objects().len() == 1);
-    let valve = protected(&shape.objects()[0])?;
-    assert!(rt; valve.name() == "Valve" && valve.is_visible() && valve.ceiling() == 20);
-    assert!(rt; valve.components().len() == 2 && valve.operations().len() == 3);
-    let ready = valve.components()[0];
-    assert!(rt; ready.range.of == ValueType::Boolean && ready.range.high == 1 && ready.start == 0);
-    let level = valve.components()[1];
-    assert!(rt; level.range.low == -2147483648 && level.range.high == 2147483647 && level.start == 0);
-    let get = &valve.operations()[0];
-    assert!(rt; get.name() == "Get" && get.kind().is_function() && get.is_visible());
-    let add = &valve.operations()[1];
-    assert!(rt; add.kind() == Kind::Procedure && add.parameters()[0].mode == ParameterMode::In);
-    let wait = &valve.operations()[2];
-    assert!(rt; wait.kind() == Kind::Entry(Barrier::Component(1)));
-    assert!(rt; wait.parameters()[0].mode == ParameterMode::Out);
+    let shape = shape_text(rt.alloc(), PLANT)?;
+    assert_eq!(rt;
+        shape.as_str(),
+        "protected Valve 20\nscalar 0 1 0\nscalar -2147483648 2147483647 0\n\
+        function Get -2147483648 2147483647\nprocedure Add in -2147483648 2147483647\n\
+        entry Wait 1 out -2147483648 2147483647\n"
+    );
     Ok(())
 }
 
 #[test]
 fn handlers_priorities_and_objects(rt: HostRuntime) -> Result<(), Fail> {
-    let (outline, fault) = read(rt.alloc(), LATCHES)?;
-    assert!(rt; fault.is_none());
-    let shape = outline.shape();
-    assert!(rt; shape.tasks().len() == 2 && shape.objects().len() == 3);
-    assert!(rt; shape.tasks()[0].priority() == 15 && shape.tasks()[1].priority() == 8);
-    let one = protected(&shape.objects()[0])?;
-    assert!(rt; one.name() == "One" && one.ceiling() == 40 && one.components().len() == 2);
-    assert!(rt; one.components()[1].range.high == 9 && one.components()[1].start == 2);
-    assert!(rt; one.operations()[0].kind() == Kind::Entry(Barrier::AlwaysOpen));
-    assert!(rt; one.operations()[1].kind() == Kind::Handler(4) && !one.operations()[1].is_visible());
-    assert!(rt; shape.objects()[1].name() == "Gate" && shape.objects()[1].is_visible());
-    assert!(rt; shape.objects()[2].name() == "Hidden" && !shape.objects()[2].is_visible());
-    assert!(rt; outline.units().len() == 1 && outline.units()[0].name() == "Latch");
-    assert!(rt; matches!(outline.objects(), [ObjectType::Protected(0), ObjectType::Suspension, ObjectType::Suspension]));
+    let shape = shape_text(rt.alloc(), LATCHES)?;
+    assert_eq!(rt;
+        shape.as_str(),
+        "task Pilot 15\ntask Aux 8\n\
+        protected One 40\nscalar 1 9 2\nscalar 1 9 2\nentry Wait open\nhandler Trip 4 private\n\
+        suspension Gate\nsuspension Hidden hidden\n"
+    );
     Ok(())
+}
+
+// What is known of the declaration at a place.
+fn known_in(alloc: Global, text: &str, at: usize) -> Result<Option<Known>, Fail> {
+    let (outline, _) = read(alloc, text)?;
+    Ok(outline.known().find(at))
+}
+
+// The value of a constant.
+fn value(known: Option<Known>) -> Option<i64> {
+    match known {
+        Some(Known::Constant(_, value)) => Some(value),
+        _ => None,
+    }
 }
 
 #[test]
 fn declarations_are_known_by_their_places(rt: HostRuntime) -> Result<(), Fail> {
     let text = "package P is C : constant Natural := 7; end P; package body P is end P;";
-    let (outline, _) = read(rt.alloc(), text)?;
-    let (shape, known) = outline.into_parts();
-    assert!(rt; shape.objects().is_empty());
-    assert!(rt; matches!(known.find(13), Some(Known::Constant(range, 7)) if range.low == 0));
-    assert!(rt; known.find(14).is_none());
-    let mut table = Table::new(rt.alloc());
-    table.note(5, Known::Object(3))?;
-    assert!(rt; matches!(table.find(5), Some(Known::Object(3))));
+    let found = known_in(rt.alloc(), text, 13)?;
+    assert!(rt; value(found) == Some(7));
+    let other = known_in(rt.alloc(), text, 14)?;
+    assert!(rt; other.is_none());
     Ok(())
 }
 
-// Tells of the fault of a text whose package has these declarations alone; they begin at 13.
+#[test]
+fn a_table_finds_what_was_noted(rt: HostRuntime) -> Result<(), Fail> {
+    let mut table = Table::new(rt.alloc());
+    table.note(5, Known::Object(3))?;
+    assert!(rt; table.find(5).is_some() && table.find(6).is_none());
+    Ok(())
+}
+
+// The fault of a text whose package has these declarations alone; they begin at 13.
 fn declared(alloc: Global, declarations: &str) -> Result<Option<TypeFault>, Fail> {
     let text = format!(in alloc; "package P is {declarations} end P; package body P is end P;")?;
     told(alloc, text.as_str())
 }
 
+// The fault of a function with this heading, which begins at 28.
+fn function(alloc: Global, heading: &str) -> Result<Option<TypeFault>, Fail> {
+    let text = format!(in alloc;
+        "package P is protected Q is {heading}; end Q; end P; \
+        package body P is protected body Q is {heading} is begin return 1; end F; end Q; end P;"
+    )?;
+    told(alloc, text.as_str())
+}
+
 #[test]
 fn types_that_do_not_fit(rt: HostRuntime) -> Result<(), Fail> {
-    let alloc = rt.alloc();
-    let found = declared(alloc, "C : constant Boolean := 3;")?;
+    let found = declared(rt.alloc(), "C : constant Boolean := 3;")?;
     assert!(rt; found == Some(TypeFault::Mismatch(37)));
-    let found = declared(alloc, "C : constant := True;")?;
+    Ok(())
+}
+
+#[test]
+fn a_named_number_is_whole(rt: HostRuntime) -> Result<(), Fail> {
+    let found = declared(rt.alloc(), "C : constant := True;")?;
     assert!(rt; found == Some(TypeFault::Mismatch(29)));
-    let found = declared(alloc, "subtype S is Boolean range 0 .. 1;")?;
+    Ok(())
+}
+
+#[test]
+fn bounds_are_of_the_subtype(rt: HostRuntime) -> Result<(), Fail> {
+    let found = declared(rt.alloc(), "subtype S is Boolean range 0 .. 1;")?;
     assert!(rt; found == Some(TypeFault::Mismatch(40)));
     Ok(())
 }
 
 #[test]
-fn values_that_are_too_large(rt: HostRuntime) -> Result<(), Fail> {
-    let alloc = rt.alloc();
-    let found = declared(alloc, "subtype S is Positive range 0 .. 5;")?;
+fn a_bound_outside_its_subtype(rt: HostRuntime) -> Result<(), Fail> {
+    let found = declared(rt.alloc(), "subtype S is Positive range 0 .. 5;")?;
     assert!(rt; found == Some(TypeFault::TooLarge(41)));
-    let found = declared(alloc, "C : constant Integer := 1 / 0;")?;
-    assert!(rt; found == Some(TypeFault::TooLarge(37)));
-    let found = declared(alloc, "C : constant Natural := 5 - 6;")?;
+    Ok(())
+}
+
+#[test]
+fn a_divisor_of_zero(rt: HostRuntime) -> Result<(), Fail> {
+    let found = declared(rt.alloc(), "C : constant Integer := 1 / 0;")?;
     assert!(rt; found == Some(TypeFault::TooLarge(37)));
     Ok(())
 }
 
 #[test]
-fn values_that_are_not_static(rt: HostRuntime) -> Result<(), Fail> {
-    let alloc = rt.alloc();
-    let clock = "with Ada.Real_Time; package P is C : constant Ada.Real_Time.Time := Ada.Real_Time.Clock; \
+fn a_value_outside_its_subtype(rt: HostRuntime) -> Result<(), Fail> {
+    let found = declared(rt.alloc(), "C : constant Natural := 5 - 6;")?;
+    assert!(rt; found == Some(TypeFault::TooLarge(37)));
+    Ok(())
+}
+
+#[test]
+fn the_clock_is_not_static(rt: HostRuntime) -> Result<(), Fail> {
+    let text =
+        "with Ada.Real_Time; package P is C : constant Ada.Real_Time.Time := Ada.Real_Time.Clock; \
         end P; package body P is end P;";
-    assert!(rt; told(alloc, clock)? == Some(TypeFault::NotStatic(68)));
-    let line = "with Ada.Interrupts.Names; package P is C : constant Integer := Ada.Interrupts.Names.Int_1; \
+    let found = told(rt.alloc(), text)?;
+    assert!(rt; found == Some(TypeFault::NotStatic(68)));
+    Ok(())
+}
+
+#[test]
+fn a_line_is_no_integer(rt: HostRuntime) -> Result<(), Fail> {
+    let text =
+        "with Ada.Interrupts.Names; package P is C : constant Integer := Ada.Interrupts.Names.Int_1; \
         end P; package body P is end P;";
-    assert!(rt; told(alloc, line)? == Some(TypeFault::NotStatic(64)));
-    let component = "package P is protected Q is private A : Integer; B : Integer := A; end Q; end P; \
+    let found = told(rt.alloc(), text)?;
+    assert!(rt; found == Some(TypeFault::NotStatic(64)));
+    Ok(())
+}
+
+#[test]
+fn a_component_is_not_static(rt: HostRuntime) -> Result<(), Fail> {
+    let text = "package P is protected Q is private A : Integer; B : Integer := A; end Q; end P; \
         package body P is protected body Q is end Q; end P;";
-    assert!(rt; told(alloc, component)? == Some(TypeFault::NotStatic(64)));
+    let found = told(rt.alloc(), text)?;
+    assert!(rt; found == Some(TypeFault::NotStatic(64)));
     Ok(())
 }
 
 #[test]
-fn parameters_of_functions_are_in(rt: HostRuntime) -> Result<(), Fail> {
-    let alloc = rt.alloc();
-    for (text, at) in [
-        ("function F (A : out Integer) return Integer", 40),
-        ("function F (A : in out Integer) return Integer", 40),
-        ("function F (A : Integer; B : out Integer) return Integer", 53),
-    ] {
-        let whole = format!(in alloc; "package P is protected Q is {text}; end Q; end P; \
-            package body P is protected body Q is {text} is begin return 1; end F; end Q; end P;")?;
-        assert!(rt; told(alloc, whole.as_str())? == Some(TypeFault::BadMode(at)));
-    }
+fn a_function_gives_nothing_back_by_a_parameter(rt: HostRuntime) -> Result<(), Fail> {
+    let found = function(rt.alloc(), "function F (A : out Integer) return Integer")?;
+    assert!(rt; found == Some(TypeFault::BadMode(40)));
+    Ok(())
+}
+
+#[test]
+fn a_function_changes_no_parameter(rt: HostRuntime) -> Result<(), Fail> {
+    let found = function(rt.alloc(), "function F (A : in out Integer) return Integer")?;
+    assert!(rt; found == Some(TypeFault::BadMode(40)));
+    Ok(())
+}
+
+#[test]
+fn a_later_parameter_of_a_function(rt: HostRuntime) -> Result<(), Fail> {
+    let found = function(
+        rt.alloc(),
+        "function F (A : Integer; B : out Integer) return Integer",
+    )?;
+    assert!(rt; found == Some(TypeFault::BadMode(53)));
     Ok(())
 }
 
 #[test]
 fn the_least_place_is_told(rt: HostRuntime) -> Result<(), Fail> {
-    let found = declared(rt.alloc(), "C : constant Boolean := 3; D : constant Natural := -1;")?;
+    let found = declared(
+        rt.alloc(),
+        "C : constant Boolean := 3; D : constant Natural := -1;",
+    )?;
     assert!(rt; found == Some(TypeFault::Mismatch(37)));
     Ok(())
 }
