@@ -52,10 +52,7 @@ fn runs_give_answers(rt: HostRuntime) -> Result<(), Fail> {
     ];
     let mut answers = Answers::new(alloc);
     host.run(&commands, &mut answers)?;
-    let due = [
-        Answer::Refused(Rule::Grant, 0, 0),
-        Answer::BadLine,
-    ];
+    let due = [Answer::Refused(Rule::Grant, 0, 0), Answer::BadLine];
     assert!(rt; answers.as_slice() == due.as_slice());
     Ok(())
 }

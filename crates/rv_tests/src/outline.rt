@@ -1,4 +1,4 @@
-//! Outlines of unit texts: the shapes that declarations give, and what is wrong with their types, with its place.
+//! Outlines of unit texts: the shapes that declarations give, and what is known of declarations.
 
 use rv_names::resolve::resolve;
 use rv_outline::{Known, Outline, Table, outline_of};
@@ -6,7 +6,7 @@ use rv_parse::parse;
 use rv_shape::catalogue::Catalogue;
 use rv_shape::kind::{Barrier, Kind, Parameter, ParameterMode, Range};
 use rv_shape::object::{Object, Operation, ProtectedObject};
-use rv_static::{Faults, TypeFault};
+use rv_static::Faults;
 use std::alloc::Global;
 use std::fmt::Write;
 use std::test::Fail;
@@ -35,20 +35,13 @@ const LATCHES: &str = "with Ada.Interrupts.Names; use Ada.Interrupts.Names;\n\
     Hidden : Suspension_Object;\n\
     task body Pilot is begin null; end Pilot; task body Aux is begin null; end Aux;\nend L;\n";
 
-// The outline of a text over no loaded units, and the fault of its declarations at the least place.
-fn read(alloc: Global, text: &str) -> Result<(Outline, Option<TypeFault>), Fail> {
+// The outline of a text over no loaded units.
+fn read(alloc: Global, text: &str) -> Result<Outline, Fail> {
     let catalogue = Catalogue::new(alloc);
     let tree = parse(alloc, text)?;
     let named = resolve(alloc, &tree, &catalogue)?;
     let mut faults = Faults::new();
-    let outline = outline_of(alloc, &named, &mut faults)?;
-    Ok((outline, faults.first()))
-}
-
-// The fault of a text.
-fn told(alloc: Global, text: &str) -> Result<Option<TypeFault>, Fail> {
-    let found = read(alloc, text)?;
-    Ok(found.1)
+    Ok(outline_of(alloc, &named, &mut faults)?)
 }
 
 // A range as it stands in a shape's text.
@@ -147,7 +140,7 @@ fn put_object(text: &mut String, object: &Object) -> Result<(), Fail> {
 
 // The shape of a text as a shape's text, with what other units don't see marked.
 fn shape_text(alloc: Global, text: &str) -> Result<String, Fail> {
-    let (outline, _) = read(alloc, text)?;
+    let outline = read(alloc, text)?;
     let mut shown = String::new(alloc);
     for task in outline.shape().tasks() {
         write!(shown, "task {} {}\n", task.name(), task.priority())?;
@@ -184,7 +177,7 @@ fn handlers_priorities_and_objects(rt: HostRuntime) -> Result<(), Fail> {
 
 // What is known of the declaration at a place.
 fn known_in(alloc: Global, text: &str, at: usize) -> Result<Option<Known>, Fail> {
-    let (outline, _) = read(alloc, text)?;
+    let outline = read(alloc, text)?;
     Ok(outline.known().find(at))
 }
 
@@ -211,125 +204,5 @@ fn a_table_finds_what_was_noted(rt: HostRuntime) -> Result<(), Fail> {
     let mut table = Table::new(rt.alloc());
     table.note(5, Known::Object(3))?;
     assert!(rt; table.find(5).is_some() && table.find(6).is_none());
-    Ok(())
-}
-
-// The fault of a text whose package has these declarations alone; they begin at 13.
-fn declared(alloc: Global, declarations: &str) -> Result<Option<TypeFault>, Fail> {
-    let text = format!(in alloc; "package P is {declarations} end P; package body P is end P;")?;
-    told(alloc, text.as_str())
-}
-
-// The fault of a function with this heading, which begins at 28.
-fn function(alloc: Global, heading: &str) -> Result<Option<TypeFault>, Fail> {
-    let text = format!(in alloc;
-        "package P is protected Q is {heading}; end Q; end P; \
-        package body P is protected body Q is {heading} is begin return 1; end F; end Q; end P;"
-    )?;
-    told(alloc, text.as_str())
-}
-
-#[test]
-fn types_that_do_not_fit(rt: HostRuntime) -> Result<(), Fail> {
-    let found = declared(rt.alloc(), "C : constant Boolean := 3;")?;
-    assert!(rt; found == Some(TypeFault::Mismatch(37)));
-    Ok(())
-}
-
-#[test]
-fn a_named_number_is_whole(rt: HostRuntime) -> Result<(), Fail> {
-    let found = declared(rt.alloc(), "C : constant := True;")?;
-    assert!(rt; found == Some(TypeFault::Mismatch(29)));
-    Ok(())
-}
-
-#[test]
-fn bounds_are_of_the_subtype(rt: HostRuntime) -> Result<(), Fail> {
-    let found = declared(rt.alloc(), "subtype S is Boolean range 0 .. 1;")?;
-    assert!(rt; found == Some(TypeFault::Mismatch(40)));
-    Ok(())
-}
-
-#[test]
-fn a_bound_outside_its_subtype(rt: HostRuntime) -> Result<(), Fail> {
-    let found = declared(rt.alloc(), "subtype S is Positive range 0 .. 5;")?;
-    assert!(rt; found == Some(TypeFault::TooLarge(41)));
-    Ok(())
-}
-
-#[test]
-fn a_divisor_of_zero(rt: HostRuntime) -> Result<(), Fail> {
-    let found = declared(rt.alloc(), "C : constant Integer := 1 / 0;")?;
-    assert!(rt; found == Some(TypeFault::TooLarge(37)));
-    Ok(())
-}
-
-#[test]
-fn a_value_outside_its_subtype(rt: HostRuntime) -> Result<(), Fail> {
-    let found = declared(rt.alloc(), "C : constant Natural := 5 - 6;")?;
-    assert!(rt; found == Some(TypeFault::TooLarge(37)));
-    Ok(())
-}
-
-#[test]
-fn the_clock_is_not_static(rt: HostRuntime) -> Result<(), Fail> {
-    let text =
-        "with Ada.Real_Time; package P is C : constant Ada.Real_Time.Time := Ada.Real_Time.Clock; \
-        end P; package body P is end P;";
-    let found = told(rt.alloc(), text)?;
-    assert!(rt; found == Some(TypeFault::NotStatic(68)));
-    Ok(())
-}
-
-#[test]
-fn a_line_is_no_integer(rt: HostRuntime) -> Result<(), Fail> {
-    let text =
-        "with Ada.Interrupts.Names; package P is C : constant Integer := Ada.Interrupts.Names.Int_1; \
-        end P; package body P is end P;";
-    let found = told(rt.alloc(), text)?;
-    assert!(rt; found == Some(TypeFault::NotStatic(64)));
-    Ok(())
-}
-
-#[test]
-fn a_component_is_not_static(rt: HostRuntime) -> Result<(), Fail> {
-    let text = "package P is protected Q is private A : Integer; B : Integer := A; end Q; end P; \
-        package body P is protected body Q is end Q; end P;";
-    let found = told(rt.alloc(), text)?;
-    assert!(rt; found == Some(TypeFault::NotStatic(64)));
-    Ok(())
-}
-
-#[test]
-fn a_function_gives_nothing_back_by_a_parameter(rt: HostRuntime) -> Result<(), Fail> {
-    let found = function(rt.alloc(), "function F (A : out Integer) return Integer")?;
-    assert!(rt; found == Some(TypeFault::BadMode(40)));
-    Ok(())
-}
-
-#[test]
-fn a_function_changes_no_parameter(rt: HostRuntime) -> Result<(), Fail> {
-    let found = function(rt.alloc(), "function F (A : in out Integer) return Integer")?;
-    assert!(rt; found == Some(TypeFault::BadMode(40)));
-    Ok(())
-}
-
-#[test]
-fn a_later_parameter_of_a_function(rt: HostRuntime) -> Result<(), Fail> {
-    let found = function(
-        rt.alloc(),
-        "function F (A : Integer; B : out Integer) return Integer",
-    )?;
-    assert!(rt; found == Some(TypeFault::BadMode(53)));
-    Ok(())
-}
-
-#[test]
-fn the_least_place_is_told(rt: HostRuntime) -> Result<(), Fail> {
-    let found = declared(
-        rt.alloc(),
-        "C : constant Boolean := 3; D : constant Natural := -1;",
-    )?;
-    assert!(rt; found == Some(TypeFault::Mismatch(37)));
     Ok(())
 }
