@@ -11,8 +11,6 @@ mod hosts;
 #[cfg(test)]
 mod lists;
 #[cfg(test)]
-mod outline;
-#[cfg(test)]
 mod parts;
 #[cfg(test)]
 mod scripts;
