@@ -4,7 +4,7 @@ use Rattle.rv_event.specs.declared.entry.Request.{Request}
 use Rattle.rv_event.specs.declared.entry.Answer.{Answer}
 use Rattle.rv_event.specs.declared.entry.Answer.TheVariants as answer
 
--- whether the answer leaves its request standing, which is then asked again
+-- whether the answer leaves its request standing, which is then asked again (own)
 abbrev pub stands : Answer → Bool
 stands answer.Busy = true
 stands answer.Waiting = true

@@ -31,7 +31,7 @@ elaborated w (d ∷ more) a = and_then (value w d.initial a) (on_value abandons 
 abbrev pub in_handler : Exception → World → World
 in_handler exception w = record w { handling = Some exception }
 
--- the exception that it is abandoned by, if it is
+-- the exception that it is abandoned by, if it is (11.4)
 abbrev pub raised : End → Option Exception
 raised (end.Abandoned (cause.Raised exception)) = Some exception
 raised other = None
@@ -99,7 +99,7 @@ outer_at bodies (suc held) callee values =
     and_then (reached (suc held) callee values) (performed (λ object operation is_function components.
     and_then (inner_at bodies object (outer_at bodies held) 65 operation values components 100000) (completes is_function)))
 
--- how a body exits, and the components then
+-- how a body exits, and the components then (own)
 abbrev pub exits : Outcome × (List ℤ × ℕ) → Asking (Exit × List ℤ)
 exits (outcome, (components, steps)) = ended (exit_of outcome, components)
 
@@ -108,7 +108,7 @@ abbrev pub operation_run : UnitBodies → ℕ → ℕ → List ℤ → List ℤ 
 operation_run bodies object operation values components =
     and_then (inner_at bodies object (outer_at bodies 15) 65 operation values components 100000) exits
 
--- what its statements run in
+-- what its statements run in (own)
 abbrev pub operation_setting : ℕ → Setting
 operation_setting object = record { object = object; held = 15; nested = 65; is_task = false; handling = None }
 

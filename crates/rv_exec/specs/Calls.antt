@@ -103,7 +103,7 @@ is_listed callee.DelayUntil = false
 is_listed callee.Clock = false
 is_listed other = true
 
--- whether the host refuses such a request by that rule
+-- whether the host refuses such a request by that rule (9.5.1, D.3, D.7, D.10; rule 1 own)
 abbrev pub can_refuse : Callee → Rule → Bool
 can_refuse c rule.Grant = is_listed c
 can_refuse c rule.Blocking = may_block c
@@ -116,11 +116,11 @@ can_refuse c rule.Waiter = is_suspension c
 abbrev pub refused : Callee → Rule → Reply
 refused c rule = if can_refuse c rule then reply.Settled (asked.Abandoned (cause.Raised (refusal rule))) else stops true
 
--- the answer Accepted, where it reads nothing
+-- the answer Accepted, where it reads nothing (own)
 abbrev pub done : ℤ → Reply
 done value = if is_zero value then gives [] else stops true
 
--- the answer Accepted of Current_State, which reads 1 for True and 0 for False
+-- the answer Accepted of Current_State, which reads 1 for True and 0 for False (D.10)
 abbrev pub state : ℤ → Reply
 state value = if int_le (pos 0) value && int_le value (pos 1) then gives (value ∷ []) else stops true
 
@@ -156,7 +156,7 @@ abbrev pub dropped : Callee → Rule → Asked
 dropped (callee.Entry object operation) rule.Grant = asked.Abandoned (cause.Raised AccessDenied)
 dropped c other = asked.Abandoned (cause.Stopped false)
 
--- what the answer to a resume comes to
+-- what the answer to a resume comes to (own)
 abbrev pub resumed : Callee → Answer → Asked
 resumed c (answer.Woken components) = woken c components
 resumed c (answer.Refused rule line version) = dropped c rule

@@ -19,7 +19,7 @@ use Rattle.rv_exec.specs.Calls.{Outcome, exit_of, completes}
 abbrev pub task_setting : Setting
 task_setting = record { object = 0; held = 16; nested = 65; is_task = true; handling = None }
 
--- whether its actor is left waiting, or in a body
+-- whether its actor is left waiting, or in a body (own)
 abbrev pub is_stuck : Outcome → Bool
 is_stuck (Err (cause.Stopped false)) = true
 is_stuck other = false

@@ -1,8 +1,8 @@
 //! Runs of bodies, of tasks and of lines, and what they ask next.
 //!
-//! A run recurses, and takes its memory from the stack alone. The deepest task (16 objects held, 64 internal calls
-//! nested in each, 64 statements and 64 parentheses open in each body) was measured to need between 96 and 128 MiB, so
-//! give a thread that runs bodies a stack of 256 MiB.
+//! A run recurses, and takes its memory from the stack alone. A task that goes to the limits at once (16 objects held,
+//! 64 internal calls nested in each, 64 statements and 64 parentheses open in each body) was measured to need between
+//! 96 and 128 MiB, so give a thread that runs bodies a stack of 256 MiB.
 
 ghost use Rattle.std.specs.Prelude.{◌≡◌, ◌<◌, Ok, Some};
 ghost use Rattle.rv_code.specs.BodyView.{body_view};
