@@ -1,0 +1,4 @@
+pub mod Points
+pub mod StaticForm
+pub mod Typed
+pub mod TypedView

@@ -1,0 +1,8 @@
+-- The typed expressions that values of the code stand for.
+use Rattle.std.specs.Prelude.{List, map}
+use Rattle.rv_code.specs.ExpressionView.{expression_view}
+use Rattle.rv_types.specs.Typed as t
+use Rattle.rv_types.specs.declared.typed.Typed.{Typed}
+
+abbrev pub typed_view : Typed → t.Typed
+typed_view v = record { of = v.of; code = expression_view v.code }

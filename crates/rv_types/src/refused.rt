@@ -1,0 +1,25 @@
+//! Why no code is made of a part of a text.
+
+use rv_static::TypeFault;
+use std::alloc::{AllocError, AllocFailed};
+
+// The fault that is told of it.
+#[derive(Clone, Copy, Drop)]
+pub(crate) struct Refused(pub TypeFault);
+
+impl From<AllocError> for Refused {
+    fn from(_: AllocError) -> Refused {
+        Refused(TypeFault::NoMemory)
+    }
+}
+
+impl<T: Drop> From<AllocFailed<T>> for Refused {
+    fn from(_: AllocFailed<T>) -> Refused {
+        Refused(TypeFault::NoMemory)
+    }
+}
+
+// A type, or a number of arguments, doesn't fit at this place.
+pub(crate) fn mismatch(at: usize) -> Refused {
+    Refused(TypeFault::Mismatch(at))
+}
