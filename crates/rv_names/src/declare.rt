@@ -43,7 +43,7 @@ pub(crate) fn hide_all(
 }
 
 /// Declares identifiers that were hidden in their declaration, and what each denotes.
-pub(crate) fn declare_all(
+pub fn declare_all(
     declared: &Vec<Identifier>,
     form: Form,
     scope: &mut Scope,
@@ -60,13 +60,18 @@ pub(crate) fn declare_all(
 
 /// What the identifiers of one declaration denote.
 #[derive(Clone, Copy, Drop)]
-pub(crate) enum Form {
+pub enum Form {
+    /// Constants and named numbers (3.3.1, 3.3.2).
     Constant,
+    /// Variables of a block (3.3.1).
     Variable,
+    /// Parameters (6.1).
     Parameter,
+    /// Components (9.4).
     Component,
     /// Objects of the protected type of this number.
     ProtectedObject(usize),
+    /// Suspension objects (D.10).
     Suspension,
 }
 

@@ -13,7 +13,7 @@
 mod body;
 mod context;
 mod declaration;
-mod declare;
+pub mod declare;
 pub mod declared;
 mod expression;
 pub mod fault;

@@ -5,7 +5,7 @@ ghost use Rattle.rv_tree.specs.NameView.{identifier_view, identifiers_view, name
 ghost use Rattle.rv_tree.specs.ExpressionView.{expression_view, range_view};
 ghost use Rattle.rv_tree.specs.DeclarationView.{maybe, aspect_view, parameter_view, operation_view, element_view, protected_unit_view};
 ghost use Rattle.rv_names.specs.Bound.{judged};
-ghost use Rattle.rv_names.specs.Scope.{OnlyDeclares, declaring_all, hiding_all, hiding, entered};
+ghost use Rattle.rv_names.specs.Scope.{OnlyDeclares, declaring, declaring_all, hiding_all, hiding, entered, showing};
 ghost use Rattle.rv_names.specs.ExpressionUses.{◌▷◌, value_uses, maybe_uses, range_uses};
 ghost use Rattle.rv_names.specs.DeclarationUses.{aspects_uses, parameters_uses, with_parameters, declaring_operation, operation_uses, with_operation, operations_uses, with_operations, element_uses, with_element, elements_uses, with_elements, private_uses, with_private, with_members, protected_unit_uses, protected_meaning as meaning_of_unit, with_shown, with_all_shown, declaring_protected_unit};
 
@@ -312,6 +312,18 @@ fn shown(alloc: Global, list: &Vec<OperationDeclaration>) -> Result<Region, Allo
     Ok(region)
 }
 
+// The identifier of a protected unit, behind its declaration, and its operations as others see them.
+fn declare_shown(unit: &ProtectedUnit, scope: &mut Scope) -> Result<(), AllocError>
+    ensures { OnOk result (scope.new
+        ≡ showing (with_all_shown (map operation_view unit.now.operations.items) [])
+        (declaring (meaning_of_unit unit.now.is_type (length scope.old.shown)) (identifier_view unit.now.name) scope.old)) }
+{
+    let meaning = unit_meaning(unit.is_type, scope.shown().len(), unit.name.at);
+    scope.declare(&unit.name, Some(meaning))?;
+    let operations = shown(scope.allocator(), &unit.operations)?;
+    scope.show(operations)
+}
+
 // What a protected unit declares, in a region of its own.
 fn parts(unit: &ProtectedUnit, scope: &mut Scope, faults: &mut Faults) -> Result<(), AllocError>
     ensures faults { OnOk result (faults.new
@@ -342,8 +354,15 @@ pub(crate) fn protected_unit<'a>(
     faults.set_unit(Some(unit));
     parts(unit, scope, faults)?;
     faults.set_unit(None);
-    let meaning = unit_meaning(unit.is_type, scope.shown().len(), unit.name.at);
-    scope.declare(&unit.name, Some(meaning))?;
-    let operations = shown(scope.allocator(), &unit.operations)?;
-    scope.show(operations)
+    declare_shown(unit, scope)
+}
+
+impl<'a> Scope<'a> {
+    /// A protected unit of the package is declared, with what others see of it: its operations before `private` (9.4).
+    pub fn declare_protected_unit(&mut self, unit: &ProtectedUnit) -> Result<(), AllocError>
+        ensures { OnOk result (self.new ≡ declaring_protected_unit (protected_unit_view unit.now) self.old) }
+    {
+        self.declare(&unit.name, None)?;
+        declare_shown(unit, self)
+    }
 }

@@ -91,7 +91,8 @@ impl<'a> Scope<'a> {
         &self.innermost
     }
 
-    pub(crate) fn current(&self) -> Option<usize>
+    /// The protected unit whose body the point is in, by the place of its identifier.
+    pub fn current(&self) -> Option<usize>
         ensures { result ≡ self.now.current }
     {
         self.current

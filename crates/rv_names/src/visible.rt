@@ -408,7 +408,7 @@ fn declared_in(region: &Region, name: &str) -> Option<Declared>
 
 impl<'a> Scope<'a> {
     /// What the name of a body denotes.
-    pub(crate) fn denoted_by_body(&self, wanted: Wanted, declared: &Identifier) -> Option<Declared>
+    pub fn denoted_by_body(&self, wanted: Wanted, declared: &Identifier) -> Option<Declared>
         requires { is_body wanted ≡ true }
         ensures { result ≡ denoted wanted self.now (simple_name (identifier_view declared.now)) }
     {

@@ -4,11 +4,10 @@
 mod arithmetic;
 pub mod fault;
 pub mod meaning;
-mod place;
 pub mod range;
 mod value;
 
 pub use fault::{Faults, TypeFault};
 pub use meaning::{Meaning, Meanings, Number, Static};
-pub use range::{narrowed, start, static_number, subtype};
+pub use range::{default_start, narrowed, start, static_number, subtype, value_in};
 pub use value::static_value;

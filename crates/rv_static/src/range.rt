@@ -5,14 +5,13 @@ ghost use Rattle.rv_tree.specs.NameView.{name_view};
 ghost use Rattle.rv_tree.specs.DeclarationView.{maybe};
 ghost use Rattle.rv_tree.specs.ExpressionView.{expression_view, range_view};
 ghost use Rattle.rv_static.specs.Meanings.{range_in, in_bounds};
-ghost use Rattle.rv_static.specs.Ranges.{static_number, bounded, narrowed, within, start_of};
+ghost use Rattle.rv_static.specs.Ranges.{static_number, bounded, is_discrete, constrained, narrowed, default_start, within, value_in, start_of};
 ghost use Rattle.rv_static.specs.Told.{told_unless};
 
 use crate::fault::{Faults, TypeFault};
 use crate::meaning::{Meaning, Meanings, Number};
-use crate::place::place_of;
 use crate::value::operand;
-use rv_shape::kind::Range;
+use rv_shape::kind::{Range, ValueType};
 use rv_tree::{Expression, Name, RangeConstraint};
 
 /// The range of the subtype that a mark names (3.2.2); or `None`, where a fault was told.
@@ -43,7 +42,7 @@ pub fn static_number<N: Meanings>(
     match operand(range.of, e, true, names, faults)? {
         Number::Known(number) => Some(number),
         Number::Skipped => {
-            faults.tell(TypeFault::NotStatic(place_of(e)));
+            faults.tell(TypeFault::NotStatic(e.place()));
             None
         }
     }
@@ -85,7 +84,33 @@ fn bounded(
     Some(found)
 }
 
-/// A subtype with a range constraint, if one is written (3.5); or `None`, where a fault was told.
+// Whether a range constraint applies to the type.
+fn is_discrete(of: ValueType) -> bool
+    ensures { result ≡ is_discrete of }
+{
+    match of {
+        ValueType::Integer | ValueType::Boolean => true,
+        ValueType::Time | ValueType::TimeSpan => false,
+    }
+}
+
+// The range between the bounds of a range constraint.
+fn constrained<N: Meanings>(
+    range: Range,
+    constraint: &RangeConstraint,
+    names: &N,
+    faults: &mut Faults,
+) -> Option<Range>
+    ensures value { result ≡ constrained (N.means names.now) range (range_view constraint.now) }
+    ensures told { faults.new ≡ told_unless result faults.old }
+{
+    let low = static_number(range, &constraint.low, names, faults)?;
+    let high = static_number(range, &constraint.high, names, faults)?;
+    let places = (constraint.low.place(), constraint.high.place());
+    bounded(range, low, high, places, faults)
+}
+
+/// A subtype with a range constraint, if one is written (3.2.2); or `None`, where a fault was told.
 pub fn narrowed<N: Meanings>(
     range: Range,
     constraint: &Option<RangeConstraint>,
@@ -98,15 +123,41 @@ pub fn narrowed<N: Meanings>(
     match constraint {
         None => Some(range),
         Some(constraint) => {
-            let low = static_number(range, &constraint.low, names, faults)?;
-            let high = static_number(range, &constraint.high, names, faults)?;
-            let places = (place_of(&constraint.low), place_of(&constraint.high));
-            bounded(range, low, high, places, faults)
+            if is_discrete(range.of) {
+                return constrained(range, constraint, names, faults);
+            }
+            faults.tell(TypeFault::Mismatch(constraint.low.place()));
+            None
         }
     }
 }
 
-/// What a component of a range starts at: its first value where none is given (own); or `None`, where a fault was told.
+/// What a value of a range starts at where none is given: the first one, and 0 for Time and Time_Span (own).
+pub fn default_start(range: Range) -> i64
+    ensures { result ≡ default_start range }
+{
+    if is_discrete(range.of) { range.low } else { 0 }
+}
+
+/// The value of a static expression, which is in the range; or `None`, where a fault was told.
+pub fn value_in<N: Meanings>(
+    range: Range,
+    e: &Expression,
+    names: &N,
+    faults: &mut Faults,
+) -> Option<i64>
+    ensures value { result ≡ value_in (N.means names.now) range (expression_view e.now) }
+    ensures told { faults.new ≡ told_unless result faults.old }
+{
+    let number = static_number(range, e, names, faults)?;
+    if in_bounds(range, number) {
+        return Some(number);
+    }
+    faults.tell(TypeFault::TooLarge(e.place()));
+    None
+}
+
+/// What a component of a range starts at; or `None`, where a fault was told.
 pub fn start<N: Meanings>(
     range: Range,
     given: &Option<Expression>,
@@ -117,14 +168,7 @@ pub fn start<N: Meanings>(
     ensures told { faults.new ≡ told_unless result faults.old }
 {
     match given {
-        None => Some(range.low),
-        Some(e) => {
-            let number = static_number(range, e, names, faults)?;
-            if in_bounds(range, number) {
-                return Some(number);
-            }
-            faults.tell(TypeFault::TooLarge(place_of(e)));
-            None
-        }
+        None => Some(default_start(range)),
+        Some(e) => value_in(range, e, names, faults),
     }
 }

@@ -14,7 +14,6 @@ use crate::arithmetic::{
 };
 use crate::fault::{Faults, TypeFault};
 use crate::meaning::{Meaning, Meanings, Number, Static};
-use crate::place::place_of;
 use rv_shape::kind::{Range, ValueType};
 use rv_text::is_same_name;
 use rv_tree::{
@@ -197,7 +196,7 @@ fn value<N: Meanings>(
             highest(*operator, operand, is_evaluated, *at, names, faults)
         }
         Expression::Product(first, more) => {
-            let at = place_of(first);
+            let at = first.place();
             let left = operand(ValueType::Integer, first, is_evaluated, names, faults)?;
             let product = factors(left, more, at, is_evaluated, names, faults)?;
             Some(integer(product))
@@ -208,7 +207,7 @@ fn value<N: Meanings>(
             Some(integer(number))
         }
         Expression::Sum(first, more) => {
-            let at = place_of(first);
+            let at = first.place();
             let left = operand(ValueType::Integer, first, is_evaluated, names, faults)?;
             let sum = terms(left, more, at, is_evaluated, names, faults)?;
             Some(integer(sum))
@@ -217,7 +216,7 @@ fn value<N: Meanings>(
             let first = compared(left, is_evaluated, names, faults)?;
             let second = value(right, is_evaluated, names, faults)?;
             if !same_type(second.of, first.of) {
-                faults.tell(TypeFault::Mismatch(place_of(right)));
+                faults.tell(TypeFault::Mismatch(right.place()));
                 return None;
             }
             Some(boolean(related(*operator, first.number, second.number)))
@@ -246,7 +245,7 @@ pub(crate) fn operand<N: Meanings>(
     if same_type(found.of, of) {
         return Some(found.number);
     }
-    faults.tell(TypeFault::Mismatch(place_of(e)));
+    faults.tell(TypeFault::Mismatch(e.place()));
     None
 }
 
@@ -360,7 +359,7 @@ fn compared<N: Meanings>(
     if is_compared(found.of) {
         return Some(found);
     }
-    faults.tell(TypeFault::Mismatch(place_of(e)));
+    faults.tell(TypeFault::Mismatch(e.place()));
     None
 }
 

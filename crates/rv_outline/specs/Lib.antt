@@ -1,0 +1,10 @@
+pub mod Known
+pub mod Drafts
+pub mod Subtypes
+pub mod Profiles
+pub mod Priorities
+pub mod Handlers
+pub mod Barriers
+pub mod ProtectedUnits
+pub mod Declarations
+pub mod Shapes

@@ -1,0 +1,93 @@
+-- The outline of a unit text, and the shape of its unit (ISO/IEC 8652:2012, 9.1, 9.4, C.3.1, D.3, D.10).
+use Rattle.std.specs.Prelude.{ℕ, Bool, if◌then◌else◌, List, [], ◌∷◌, ◌++◌, map, Option, Some, None, slice_get, option_or}
+use Rattle.std.specs.List.{list_any}
+use Rattle.rv_tree.specs.Units.{UnitTree}
+use Rattle.rv_shape.specs.declared.kind.Kind.{Kind}
+use Rattle.rv_shape.specs.declared.object.Object.{Object}
+use Rattle.rv_shape.specs.declared.object.Object.TheVariants as o
+use Rattle.rv_shape.specs.Kinds.{is_handler}
+use Rattle.rv_shape.specs.Limits.{last_priority}
+use Rattle.rv_shape.specs.Objects.{OperationShape, ProtectedShape}
+use Rattle.rv_shape.specs.Shape.{Shape}
+use Rattle.rv_outline.specs.declared.outline.ObjectType.{ObjectType}
+use Rattle.rv_outline.specs.declared.outline.ObjectType.TheVariants as sort
+use Rattle.rv_outline.specs.declared.draft.OperationDraft.{OperationDraft}
+use Rattle.rv_outline.specs.Known.{Table}
+use Rattle.rv_outline.specs.Drafts.{Kinds, kind_at, UnitDraft, ObjectDraft, Draft, priority_or}
+use Rattle.rv_outline.specs.Declarations.{drafted}
+
+-- the ceiling of a protected object that is given none (D.3), and of one with a handler (own)
+abbrev pub default_ceiling : Bool → ℕ
+default_ceiling has_handler = if has_handler then last_priority else 30
+
+-- the kind that was given to an operation, else that of its declaration
+abbrev pub kind_or : Kind → Option Kind → Kind
+kind_or kind None = kind
+kind_or kind (Some given) = given
+
+-- an operation with its kind
+abbrev pub operation_shape : Kinds → OperationDraft → OperationShape
+operation_shape kinds draft = record draft.operation { kind = kind_or draft.operation.kind (kind_at kinds draft.at) }
+
+abbrev pub operation_shapes : Kinds → List OperationDraft → List OperationShape
+operation_shapes kinds drafts = map (operation_shape kinds) drafts
+
+-- a protected unit with these operations
+abbrev pub unit_with : UnitDraft → List OperationShape → ProtectedShape
+unit_with unit operations = record {
+  name = unit.name;
+  is_visible = unit.is_visible;
+  ceiling = priority_or (default_ceiling (list_any (λ operation. is_handler operation.kind) operations)) unit.priority;
+  components = unit.components;
+  operations = operations;
+}
+
+-- a protected unit with its ceiling, components and operations
+abbrev pub unit_shape : Kinds → UnitDraft → ProtectedShape
+unit_shape kinds unit = unit_with unit (operation_shapes kinds unit.operations)
+
+-- an object of a protected unit: each has its own components and ceiling
+abbrev pub protected_object : ObjectDraft → ProtectedShape → Object
+protected_object object unit = o.Protected (record unit { name = object.name; is_visible = object.is_visible })
+
+abbrev pub suspension_object : ObjectDraft → Object
+suspension_object object = o.Suspension (record { name = object.name; is_visible = object.is_visible })
+
+-- an object behind those that are there; all protected units have a number
+abbrev pub with_protected : ObjectDraft → Option ProtectedShape → List Object → List Object
+with_protected object None done = done
+with_protected object (Some unit) done = done ++ protected_object object unit ∷ []
+
+abbrev pub with_object : List ProtectedShape → ObjectDraft → ObjectType → List Object → List Object
+with_object units object (sort.Protected number) done = with_protected object (slice_get units number) done
+with_object units object sort.Suspension done = done ++ suspension_object object ∷ []
+
+abbrev pub objects_onto : List ProtectedShape → List ObjectDraft → List Object → List Object
+objects_onto units [] done = done
+objects_onto units (object ∷ more) done = objects_onto units more (with_object units object object.of done)
+
+-- what the declarations of a text mean
+pub record OutlineView : Type 0 where
+  -- something is wrong with the type of a declaration, which is left out
+  pub told : Bool
+  pub known : Table
+  pub units : List ProtectedShape
+  pub objects : List ObjectType
+  pub shape : Shape
+
+abbrev pub outline_of : List ℕ → Draft → OutlineView
+outline_of name draft = record {
+  told = draft.told;
+  known = draft.known;
+  units = map (unit_shape draft.kinds) draft.units;
+  objects = map (λ object. object.of) draft.objects;
+  shape = record { name = name; tasks = draft.tasks; objects = objects_onto (map (unit_shape draft.kinds) draft.units) draft.objects [] };
+}
+
+-- the outline of a text over the loaded units
+abbrev pub outlined : List Shape → UnitTree → OutlineView
+outlined shapes tree = outline_of tree.specification.name.text (drafted shapes tree)
+
+-- the shape of a text's unit, unless something is wrong with the types of its declarations
+abbrev pub shape_of : List Shape → UnitTree → Option Shape
+shape_of shapes tree = if (outlined shapes tree).told then None else Some (outlined shapes tree).shape

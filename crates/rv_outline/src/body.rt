@@ -1,0 +1,209 @@
+//! What the package body adds to an outline: its declarations (7.2), and the barriers of entries (9.5.2).
+
+ghost use Rattle.std.specs.Prelude.{◌≡◌, OnOk, map, false};
+ghost use Rattle.rv_tree.specs.NameView.{identifier_view};
+ghost use Rattle.rv_tree.specs.ExpressionView.{expression_view};
+ghost use Rattle.rv_tree.specs.DeclarationView.{parameter_view, protected_unit_view};
+ghost use Rattle.rv_tree.specs.BodyView.{operation_body_view, protected_body_view};
+ghost use Rattle.rv_tree.specs.UnitView.{body_item_view};
+ghost use Rattle.rv_names.specs.Scope.{OnlyDeclares, entered};
+ghost use Rattle.rv_names.specs.ExpressionUses.{simple as simple_name};
+ghost use Rattle.rv_names.specs.Wanted.{denoted};
+ghost use Rattle.rv_names.specs.DeclarationUses.{with_parameters};
+ghost use Rattle.rv_names.specs.UnitUses.{in_protected_unit, unit_number as unit_number_of, protected_unit_of, with_body_item};
+ghost use Rattle.rv_static.specs.Told.{told_unless};
+ghost use Rattle.rv_outline.specs.Barriers.{barrier_of};
+ghost use Rattle.rv_outline.specs.Declarations.{entry_barred, operation_body_outlined, operation_bodies_outlined, bodies_outlined, body_item_outlined, body_items_outlined};
+
+use crate::barrier::barrier;
+use crate::declaration::declaration;
+use crate::draft::Draft;
+use crate::known::Table;
+use crate::scopes::{declare_parameters, enter_protected_unit};
+use rv_names::{Declared, OperationKind, Scope, Wanted};
+use rv_shape::kind::{Barrier, Kind};
+use rv_static::Faults;
+use rv_tree::{
+    BodyItem, Expression, Identifier, OperationBody, Parameter, ProtectedBody, ProtectedUnit,
+};
+use std::alloc::AllocError;
+
+// The barrier of an entry, over its parameters in the innermost region.
+fn barrier_inside(
+    parameters: &Vec<Parameter>,
+    condition: &Expression,
+    scope: &mut Scope,
+    known: &Table,
+    faults: &mut Faults,
+) -> Result<Option<Barrier>, AllocError>
+    ensures value { IfOk result (λ found. found
+        ≡ barrier_of (with_parameters (map parameter_view parameters.now.items) scope.old) known.now (expression_view condition.now)) }
+    ensures told { IfOk result (λ found. faults.new ≡ told_unless found faults.old) }
+    ensures only { OnOk result (OnlyDeclares scope.old scope.new) }
+{
+    declare_parameters(parameters, scope)?;
+    Ok(barrier(condition, scope, known, faults))
+}
+
+// The barrier of an entry; or `None`, where a fault was told.
+fn entry_barrier(
+    parameters: &Vec<Parameter>,
+    condition: &Expression,
+    scope: &mut Scope,
+    known: &Table,
+    faults: &mut Faults,
+) -> Result<Option<Barrier>, AllocError>
+    ensures value { IfOk result (λ found. found
+        ≡ barrier_of (with_parameters (map parameter_view parameters.now.items) (entered scope.old)) known.now (expression_view condition.now)) }
+    ensures told { IfOk result (λ found. faults.new ≡ told_unless found faults.old) }
+    ensures scope { OnOk result (scope.new ≡ scope.old) }
+{
+    scope.enter()?;
+    let found = barrier_inside(parameters, condition, scope, known, faults)?;
+    scope.leave();
+    Ok(found)
+}
+
+fn entry_body(
+    declared: &Identifier,
+    parameters: &Vec<Parameter>,
+    condition: &Expression,
+    scope: &mut Scope,
+    draft: &mut Draft,
+) -> Result<(), AllocError>
+    ensures draft { OnOk result (draft.new
+        ≡ entry_barred (denoted Wanted.EntryBody scope.old (simple_name (identifier_view declared.now)))
+        (barrier_of (with_parameters (map parameter_view parameters.now.items) (entered scope.old)) draft.old.known (expression_view condition.now))
+        draft.old) }
+    ensures scope { OnOk result (scope.new ≡ scope.old) }
+{
+    let denoted = scope.denoted_by_body(Wanted::EntryBody, declared);
+    let Some(Declared::Operation(at, OperationKind::Entry)) = denoted else {
+        return Ok(());
+    };
+    let known = &draft.known;
+    match entry_barrier(parameters, condition, scope, known, &mut draft.faults)? {
+        None => Ok(()),
+        Some(barrier) => draft.give_kind(at, Kind::Entry(barrier)),
+    }
+}
+
+fn operation_body(
+    body: &OperationBody,
+    scope: &mut Scope,
+    draft: &mut Draft,
+) -> Result<(), AllocError>
+    ensures draft { OnOk result (draft.new ≡ operation_body_outlined scope.old (operation_body_view body.now) draft.old) }
+    ensures scope { OnOk result (scope.new ≡ scope.old) }
+{
+    match body {
+        OperationBody::Function { .. } => Ok(()),
+        OperationBody::Procedure { .. } => Ok(()),
+        OperationBody::Entry {
+            at: _,
+            name,
+            parameters,
+            barrier: condition,
+            block: _,
+        } => entry_body(name, parameters, condition, scope, draft),
+    }
+}
+
+fn operation_bodies(
+    list: &Vec<OperationBody>,
+    scope: &mut Scope,
+    draft: &mut Draft,
+) -> Result<(), AllocError>
+    ensures draft { OnOk result (draft.new ≡ operation_bodies_outlined scope.old (map operation_body_view list.now.items) draft.old) }
+    ensures scope { OnOk result (scope.new ≡ scope.old) }
+{
+    for body in list {
+        operation_body(body, scope, draft)?;
+    }
+    Ok(())
+}
+
+// The bodies of the operations of a protected unit.
+fn in_unit(
+    unit: &ProtectedUnit,
+    body: &ProtectedBody,
+    scope: &mut Scope,
+    draft: &mut Draft,
+) -> Result<(), AllocError>
+    ensures draft { OnOk result (draft.new
+        ≡ operation_bodies_outlined (in_protected_unit (protected_unit_view unit.now) scope.old) (map operation_body_view body.now.operations.items) draft.old) }
+    ensures scope { OnOk result (scope.new ≡ scope.old) }
+{
+    let around = scope.current();
+    enter_protected_unit(unit, scope)?;
+    operation_bodies(&body.operations, scope, draft)?;
+    scope.leave();
+    scope.set_current(around);
+    Ok(())
+}
+
+// The number of the protected unit that is declared, if it is one.
+fn unit_number(found: Option<Declared>) -> Option<usize>
+    ensures { result ≡ unit_number_of found }
+{
+    match found {
+        Some(Declared::ProtectedType(_, number)) => Some(number),
+        Some(Declared::SingleProtected(_, number)) => Some(number),
+        _ => None,
+    }
+}
+
+fn protected_body(
+    body: &ProtectedBody,
+    units: &[&ProtectedUnit],
+    scope: &mut Scope,
+    draft: &mut Draft,
+) -> Result<(), AllocError>
+    ensures draft { OnOk result (draft.new
+        ≡ bodies_outlined scope.old (map operation_body_view body.now.operations.items)
+        (protected_unit_of (map (λ u. protected_unit_view u.now) units.now)
+        (unit_number_of (denoted Wanted.ProtectedBody scope.old (simple_name (identifier_view body.now.name))))) draft.old) }
+    ensures scope { OnOk result (scope.new ≡ scope.old) }
+{
+    let found = scope.denoted_by_body(Wanted::ProtectedBody, &body.name);
+    let Some(number) = unit_number(found) else {
+        return Ok(());
+    };
+    match units.get(number) {
+        Some(unit) => in_unit(unit, body, scope, draft),
+        None => Ok(()),
+    }
+}
+
+fn body_item(
+    item: &BodyItem,
+    units: &[&ProtectedUnit],
+    scope: &mut Scope,
+    draft: &mut Draft,
+) -> Result<(), AllocError>
+    ensures draft { OnOk result (draft.new
+        ≡ body_item_outlined (map (λ u. protected_unit_view u.now) units.now) scope.old (body_item_view item.now) draft.old) }
+    ensures scope { OnOk result (scope.new ≡ with_body_item (body_item_view item.now) scope.old) }
+{
+    match item {
+        BodyItem::Declaration(one) => declaration(one, false, scope, draft),
+        BodyItem::Protected(body) => protected_body(body, units, scope, draft),
+        BodyItem::Task(_) => Ok(()),
+    }
+}
+
+/// The items of the package body.
+pub(crate) fn body_items(
+    list: &Vec<BodyItem>,
+    units: &[&ProtectedUnit],
+    scope: &mut Scope,
+    draft: &mut Draft,
+) -> Result<(), AllocError>
+    ensures draft { OnOk result (draft.new
+        ≡ body_items_outlined (map (λ u. protected_unit_view u.now) units.now) scope.old (map body_item_view list.now.items) draft.old) }
+{
+    for item in list {
+        body_item(item, units, scope, draft)?;
+    }
+    Ok(())
+}

@@ -1,0 +1,148 @@
+//! The outline of a unit text: what its declarations mean, and the shape of its unit.
+
+ghost use Rattle.std.specs.Prelude.{◌≡◌, ◌≤◌, ◌||◌, IfOk, map, false, Some, true};
+ghost use Rattle.rv_tree.specs.UnitView.{unit_view};
+ghost use Rattle.rv_tree.specs.DeclarationView.{protected_unit_view};
+ghost use Rattle.rv_names.specs.UnitUses.{protected_units as all_protected_units};
+ghost use Rattle.rv_outline.specs.Declarations.{drafted};
+ghost use Rattle.rv_outline.specs.Shapes.{outline_of, outlined, shape_of};
+
+use crate::body::body_items;
+use crate::context::package_scope;
+use crate::declaration::declarations;
+use crate::draft::Draft;
+use crate::known::Table;
+use crate::shape::{objects, types, unit_shapes};
+use rv_names::resolve::{Named, protected_units};
+use rv_shape::object::ProtectedObject;
+use rv_shape::shape::UnitShape;
+use rv_static::Faults;
+use std::alloc::{AllocError, Global};
+use std::marker::Model;
+
+/// What an object of a text is an object of.
+#[derive(Clone, Copy)]
+pub enum ObjectType {
+    /// The protected unit of this number, from 0 (9.4).
+    Protected(usize),
+    /// `Ada.Synchronous_Task_Control.Suspension_Object` (D.10).
+    Suspension,
+}
+
+/// What the declarations of a unit text mean. A declaration that doesn't fit is left out, and a fault was told of it.
+#[derive(Drop)]
+pub struct Outline {
+    // Whether a fault was told.
+    told: bool,
+    known: Table,
+    units: Vec<ProtectedObject>,
+    objects: Vec<ObjectType>,
+    shape: UnitShape,
+}
+
+impl Model for Outline {
+    ghost use Rattle.rv_outline.specs.Shapes.{OutlineView};
+
+    ghost Value = { OutlineView };
+
+    ghost view = { λ o. record {
+      told = o.told;
+      known = o.known;
+      units = o.units.items;
+      objects = o.objects.items;
+      shape = o.shape;
+    } };
+}
+
+impl Outline {
+    /// Whether a fault was told of a declaration.
+    pub fn is_told(&self) -> bool
+        ensures { result ≡ self.now.told }
+    {
+        self.told
+    }
+
+    /// What is known of the declarations of the package, its protected units and their members, by the places of their
+    /// identifiers.
+    pub fn known(&self) -> &Table
+        ensures { result.now ≡ self.now.known }
+    {
+        &self.known
+    }
+
+    /// The protected units in the order of their numbers, protected types too, with the ceiling, components and operations
+    /// of each (9.4).
+    pub fn units(&self) -> &[ProtectedObject]
+        ensures { result.now ≡ self.now.units }
+    {
+        self.units.as_slice()
+    }
+
+    /// What the objects of the text are, in the order of their numbers, which follow those of the catalogue.
+    pub fn objects(&self) -> &[ObjectType]
+        ensures { result.now ≡ self.now.objects }
+    {
+        self.objects.as_slice()
+    }
+
+    /// The shape of the unit.
+    pub fn shape(&self) -> &UnitShape
+        ensures { result.now ≡ self.now.shape }
+    {
+        &self.shape
+    }
+
+    /// The shape of the unit, and what is known.
+    pub fn into_parts(self) -> (UnitShape, Table)
+        ensures shape { result.0 ≡ self.shape }
+        ensures known { result.1 ≡ self.known }
+    {
+        (self.shape, self.known)
+    }
+}
+
+// All that a text declares, over the loaded units.
+fn draft(alloc: Global, named: &Named) -> Result<Draft, AllocError>
+    ensures { IfOk result (λ draft. draft ≡ drafted named.now.catalogue.now (unit_view named.now.tree.now)) }
+{
+    let tree = named.tree;
+    let units = protected_units(alloc, tree)?;
+    let mut scope = package_scope(alloc, named)?;
+    let mut draft = Draft::new(alloc, named.catalogue.objects());
+    declarations(&tree.specification.declarations, &mut scope, &mut draft)?;
+    body_items(&tree.body.items, units.as_slice(), &mut scope, &mut draft)?;
+    Ok(draft)
+}
+
+// The outline of a unit of this name.
+fn outline_named(alloc: Global, name: &str, draft: Draft) -> Result<Outline, AllocError>
+    ensures { IfOk result (λ outline. outline ≡ outline_of name.now draft) }
+{
+    let units = unit_shapes(alloc, &draft)?;
+    let all = objects(alloc, &draft.objects, units.as_slice())?;
+    let objects = types(alloc, &draft.objects)?;
+    let name = String::from_str(alloc, name)?;
+    let told = draft.faults.first().is_some();
+    Ok(Outline {
+        told,
+        known: draft.known,
+        units,
+        objects,
+        shape: UnitShape::new(name, draft.tasks, all),
+    })
+}
+
+/// The outline of a text whose names are bound. What is wrong with the types of its declarations is told, the fault at the
+/// least place.
+pub fn outline(alloc: Global, named: &Named, faults: &mut Faults) -> Result<Outline, AllocError>
+    ensures value { IfOk result (λ outline. outline ≡ outlined named.now.catalogue.now (unit_view named.now.tree.now)) }
+    ensures told { IfOk result (λ outline. faults.new ≡ (outline.told || faults.old)) }
+    ensures shape { IfOk result (λ outline. faults.new ≡ false
+        → shape_of named.now.catalogue.now (unit_view named.now.tree.now) ≡ Some outline.shape) }
+{
+    let draft = draft(alloc, named)?;
+    if let Some(fault) = draft.faults.first() {
+        faults.tell(fault);
+    }
+    outline_named(alloc, named.tree.specification.name.text.as_str(), draft)
+}
