@@ -195,6 +195,17 @@ joined_value op (Some z) (Some u) = if decides op (Known z) then Some z else Som
 abbrev pub chained : ValueType → code.Expression → List code.Link → Option Typed
 chained t first links = Some (value_of t (code.chain first (code.links_of links)))
 
+-- terms behind a first one, and the type of the sum
+pub record Sum : Type 0 where
+  pub of : ValueType
+  pub links : List code.Link
+
+abbrev pub sum_with : ValueType → List code.Link → Sum
+sum_with t links = record { of = t; links = links }
+
+abbrev pub summed : code.Expression → Sum → Option Typed
+summed first s = chained s.of first s.links
+
 -- Expressions
 
 abbrev mutual
@@ -211,7 +222,8 @@ abbrev mutual
       unless_static p ev e (computed p ev e) >>= of_type Integer >>= λ c. factors_onto p ev fs [] >>= chained Integer c
   computed p ev (signed at op e) =
       unless_static p ev e (computed p ev e) >>= of_type Integer >>= λ c. Some (value_of Integer (signed_code op c))
-  computed p ev (sum e ts) = unless_static p ev e (computed p ev e) >>= λ first. terms_onto p ev first.code first.of ts []
+  computed p ev (sum e ts) = unless_static p ev e (computed p ev e) >>= λ first.
+      terms_onto p ev first.of ts [] >>= summed first.code
   computed p ev (relation e op f) =
       unless_static p ev e (computed p ev e) >>= λ left.
       unless_static p ev f (computed p ev f) >>= relation_code (shows_times p) op left
@@ -237,12 +249,12 @@ abbrev mutual
   factors_onto p ev (and_factor op e fs) done =
       unless_static p ev e (computed p ev e) >>= of_type Integer >>= λ c. factors_onto p ev fs (done ++ link (multiplying_operator op) c ∷ [])
 
-  -- terms behind a first one and others, of which the sum has a type
-  pub terms_onto : PointView → Bool → code.Expression → ValueType → Terms → List code.Link → Option Typed
-  terms_onto p ev first t no_terms done = chained t first done
-  terms_onto p ev first t (and_term op e ts) done =
-      unless_static p ev e (computed p ev e) >>= λ right. adds (shows_times p) t op right.of >>= λ sum.
-      terms_onto p ev first sum.of ts (done ++ link sum.operator right.code ∷ [])
+  -- terms behind others, of which the sum has a type
+  pub terms_onto : PointView → Bool → ValueType → Terms → List code.Link → Option Sum
+  terms_onto p ev t no_terms done = Some (sum_with t done)
+  terms_onto p ev t (and_term op e ts) done =
+      unless_static p ev e (computed p ev e) >>= λ right. adds (shows_times p) t op right.of >>= λ adder.
+      terms_onto p ev adder.of ts (done ++ link adder.operator right.code ∷ [])
 
   -- relations behind others, of which the value is known where they are static
   pub logic_onto : PointView → Bool → LogicalOperator → Option ℤ → Expressions → List code.Link → Option (List code.Link)
@@ -258,6 +270,9 @@ typed p ev e = unless_static p ev e (computed p ev e)
 -- what stands behind a first operand
 abbrev pub product_of : PointView → Bool → code.Expression → Factors → Option Typed
 product_of p ev first fs = factors_onto p ev fs [] >>= chained Integer first
+
+abbrev pub sum_of : PointView → Bool → ValueType → code.Expression → Terms → Option Typed
+sum_of p ev t first ts = terms_onto p ev t ts [] >>= summed first
 
 abbrev pub relation_of : PointView → Bool → RelationalOperator → Typed → Expression → Option Typed
 relation_of p ev op left e = typed p ev e >>= relation_code (shows_times p) op left

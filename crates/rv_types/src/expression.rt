@@ -8,8 +8,8 @@ ghost use Rattle.rv_static.specs.Static.{static_of};
 ghost use Rattle.rv_code.specs.Expressions.{call as call_code, expressions_of as code_expressions_of};
 ghost use Rattle.rv_code.specs.ExpressionView.{expression_view as code_view, link_view};
 ghost use Rattle.rv_types.specs.Points.{static_meaning, denotes, profile, shows_times};
-ghost use Rattle.rv_types.specs.Typed.{adds as adds_by_types, value_of, static_typed, named as value_named, conversion as conversion_of, function_call as call_of_function, call_of, suspension_in, suspension_named, suspension_of, argument_for, alone, highest_code, computed as computed_of, first_of, arguments_onto, factors_onto, terms_onto, logic_onto, typed, operand_of, product_of, relation_of, logic_of, only_integer, typed_as as code_typed_as};
-ghost use Rattle.rv_types.specs.TypedView.{typed_view};
+ghost use Rattle.rv_types.specs.Typed.{adds as adds_by_types, value_of, static_typed, named as value_named, conversion as conversion_of, function_call as call_of_function, call_of, suspension_in, suspension_named, suspension_of, argument_for, alone, highest_code, computed as computed_of, first_of, arguments_onto, factors_onto, terms_onto, logic_onto, typed, operand_of, product_of, sum_of, relation_of, logic_of, only_integer, typed_as as code_typed_as};
+ghost use Rattle.rv_types.specs.TypedView.{typed_view, sum_view};
 
 use crate::denoted::Denoted;
 use crate::operators::{
@@ -19,7 +19,7 @@ use crate::operators::{
 use crate::point::Point;
 use crate::refused::{Refused, mismatch};
 use crate::static_form::is_static;
-use crate::typed::{Typed, literal_in, same_type, static_value_code};
+use crate::typed::{Sum, Typed, literal_in, same_type, static_value_code};
 use rv_code::{Callee, Expression as Code, Link, Prefix};
 use rv_shape::kind::{Parameter, Range, ValueType};
 use rv_static::{Faults, Meaning, Meanings, Static, TypeFault, static_value};
@@ -132,8 +132,8 @@ pub(crate) fn expression(
 }
 
 // The type of a sum of two operands, of which the left one may stand before the operator.
-fn sum_of_types(times: bool, left: ValueType, term: &Term, right: ValueType) -> Result<Adder, Refused>
-    ensures { IfOk result (λ sum. adds_by_types times left term.now.operator right ≡ Some sum) }
+fn adder_for(times: bool, left: ValueType, term: &Term, right: ValueType) -> Result<Adder, Refused>
+    ensures { IfOk result (λ adder. adds_by_types times left term.now.operator right ≡ Some adder) }
 {
     match adder_of(times, left, term.operator, right) {
         Some(sum) => Ok(sum),
@@ -266,7 +266,23 @@ fn terms(
     is_evaluated: bool,
     point: &Point,
 ) -> Result<Typed, Refused>
-    ensures { IfOk result (λ t. terms_onto point.now is_evaluated (code_view first) of (terms_of (terms_view more.now.items)) [] ≡ Some (typed_view t)) }
+    ensures { IfOk result (λ t. sum_of point.now is_evaluated of (code_view first) (terms_of (terms_view more.now.items)) ≡ Some (typed_view t)) }
+{
+    let Sum { of, links } = term_links(alloc, more, of, at, is_evaluated, point)?;
+    chain_of(alloc, of, first, links)
+}
+
+// The terms behind a first one, of this type and at a place.
+#[cycle(expression)]
+fn term_links(
+    alloc: Global,
+    more: &Vec<Term>,
+    of: ValueType,
+    at: usize,
+    is_evaluated: bool,
+    point: &Point,
+) -> Result<Sum, Refused>
+    ensures { IfOk result (λ s. terms_onto point.now is_evaluated of (terms_of (terms_view more.now.items)) [] ≡ Some (sum_view s)) }
 {
     let times = point.shows_times();
     let mut total = of;
@@ -276,12 +292,11 @@ fn terms(
             return Err(mismatch(at));
         }
         let right = expression(alloc, &term.operand, is_evaluated, point)?;
-        let sum = sum_of_types(times, total, term, right.of)?;
-        push_link(&mut links, sum.operator, right.into_code())?;
-        total = sum.of;
+        let adder = adder_for(times, total, term, right.of)?;
+        push_link(&mut links, adder.operator, right.into_code())?;
+        total = adder.of;
     }
-    let sum = chain_of(alloc, total, first, links)?;
-    Ok(sum)
+    Ok(Sum { of: total, links })
 }
 
 // A relation, behind its left operand, which stands at a place.

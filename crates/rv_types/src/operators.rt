@@ -3,7 +3,7 @@
 ghost use Rattle.std.specs.Prelude.{◌≡◌, ◌++◌, ◌∷◌, [], IfOk, OnOk, Some, List, map};
 ghost use Rattle.rv_code.specs.Expressions.{chain, and_link, no_links, within, prefixed, links_of};
 ghost use Rattle.rv_code.specs.ExpressionView.{expression_view as code_view, link_view};
-ghost use Rattle.rv_types.specs.Typed.{adds as adds_by_types, is_related as related, value_of, signed_code as code_signed, multiplying_operator as operator_of_factor, relational_operator as operator_of_relation, logical_code as operator_of_logic, link as link_to, is_decided as is_decided_by, joined_value as value_joined};
+ghost use Rattle.rv_types.specs.Typed.{adds as adds_by_types, is_related as related, value_of, chained, signed_code as code_signed, multiplying_operator as operator_of_factor, relational_operator as operator_of_relation, logical_code as operator_of_logic, link as link_to, is_decided as is_decided_by, joined_value as value_joined};
 ghost use Rattle.rv_types.specs.TypedView.{typed_view};
 
 use crate::refused::Refused;
@@ -162,7 +162,7 @@ pub(crate) fn chain_of(
     first: Code,
     links: Vec<Link>,
 ) -> Result<Typed, Refused>
-    ensures { IfOk result (λ t. typed_view t ≡ value_of of (chain (code_view first) (links_of (map link_view links.items)))) }
+    ensures { IfOk result (λ t. chained of (code_view first) (map link_view links.items) ≡ Some (typed_view t)) }
 {
     let first = Box::new(alloc, first)?;
     Ok(Typed {
@@ -178,7 +178,7 @@ pub(crate) fn pair_of(
     operator: Operator,
     second: Code,
 ) -> Result<Typed, Refused>
-    ensures { IfOk result (λ t. typed_view t ≡ value_of ValueType.Boolean (chain (code_view first) (and_link operator (code_view second) no_links))) }
+    ensures { IfOk result (λ t. value_of ValueType.Boolean (chain (code_view first) (and_link operator (code_view second) no_links)) ≡ typed_view t) }
 {
     let mut links = Vec::new(alloc);
     push_link(&mut links, operator, second)?;

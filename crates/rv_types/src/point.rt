@@ -1,56 +1,219 @@
-//! A point of a body: what is declared there.
+//! A point of a body: what is declared there, and what names denote.
 
-ghost use Rattle.std.specs.Prelude.{◌≡◌};
-ghost use Rattle.rv_tree.specs.NameView.{name_view};
-ghost use Rattle.rv_types.specs.Points.{static_meaning, denotes, profile, shows_times};
+ghost use Rattle.std.specs.Prelude.{◌≡◌, OnOk, ℕ};
+ghost use Rattle.rv_tree.specs.NameView.{identifier_view, name_view};
+ghost use Rattle.rv_tree.specs.Names.{Identifier as IdentifierView};
+ghost use Rattle.rv_names.specs.Visible.{visible};
+ghost use Rattle.rv_types.specs.Points.{PointView, static_meaning, point_meaning, denotes, denoted_by, profile, profile_of, shows_times, local_at, known_in, noting, taking_slot, in_bounds as inside_bounds, with_loop_parameter};
 
 use crate::denoted::Denoted;
-use rv_shape::kind::Parameter;
-use rv_static::{Meaning, Meanings};
-use rv_tree::Name;
+use crate::names::{known_meaning, denoted_by as denoted_declaration, profile_of as profile_of_declaration};
+use crate::refused::Refused;
+use rv_code::MOST_SLOTS;
+use rv_names::{Declared, Scope};
+use rv_outline::known::Known;
+use rv_outline::outline::Outline;
+use rv_outline::point::meaning;
+use rv_shape::catalogue::Catalogue;
+use rv_shape::kind::{Parameter, Range};
+use rv_static::{Meaning, Meanings, TypeFault};
+use rv_tree::{Identifier, Name};
 use std::marker::Model;
 
-#[derive(Drop)]
-pub struct Point {
-    slots: usize,
+/// What is known of a declaration of a body, by the place of its identifier.
+#[derive(Clone, Copy)]
+pub struct Local {
+    pub at: usize,
+    pub known: Known,
 }
 
-impl Model for Point {
+/// A point of a body: what is declared there.
+#[derive(Drop)]
+pub struct Point<'a> {
+    pub scope: Scope<'a>,
+    catalogue: &'a Catalogue,
+    outline: &'a Outline,
+    locals: Vec<Local>,
+    // Whether the operators of Ada.Real_Time are visible.
+    times: bool,
+    // The number of the protected object whose body it is in.
+    object: usize,
+    // The next slot.
+    slots: usize,
+    // The range of the result, in the body of a function.
+    result_range: Option<Range>,
+}
+
+impl<'a> Model for Point<'a> {
     ghost use Rattle.rv_types.specs.Points.{PointView};
 
     ghost Value = { PointView };
 
-    ghost view = { λ p. record { slots = p.slots } };
+    ghost view = { λ p. record {
+      scope = p.scope;
+      known = p.outline.now.known;
+      locals = p.locals.items;
+      units = p.outline.now.units;
+      shapes = p.catalogue.now;
+      times = p.times;
+      object = p.object;
+      slots = p.slots;
+      result = p.result_range;
+    } };
 }
 
-impl Meanings for Point {
+impl<'a> Meanings for Point<'a> {
     ghost means = { λ p. static_meaning p };
 
     #[tactic(auto, unfolding(crate::specs::Points::static_meaning))]
-    fn meaning(&self, _name: &Name) -> Meaning {
-        Meaning::NotStatic
+    fn meaning(&self, name: &Name) -> Meaning {
+        let found = self.scope.visible(name);
+        self.meaning_of(found)
     }
 }
 
-impl Point {
+impl<'a> Point<'a> {
+    // What is known of a declaration of the body.
+    fn local(&self, at: usize) -> Option<Known>
+        ensures { result ≡ local_at at self.now.locals }
+    {
+        for one in &self.locals {
+            if one.at == at {
+                return Some(one.known);
+            }
+        }
+        None
+    }
+
+    /// What is known of a declaration, of the package or of the body.
+    pub(crate) fn known(&self, at: usize) -> Option<Known>
+        ensures { result ≡ known_in self.now at }
+    {
+        if let Some(known) = self.outline.known().find(at) {
+            return Some(known);
+        }
+        self.local(at)
+    }
+
+    // What a declaration means in a static expression.
+    fn meaning_of(&self, found: Option<Declared>) -> Meaning
+        ensures { result ≡ point_meaning self.now found }
+    {
+        if let Some(Declared::Constant(at)) = found {
+            return known_meaning(self.known(at));
+        }
+        meaning(self.outline.known(), found)
+    }
+
+    /// What a name denotes.
     #[tactic(auto, unfolding(crate::specs::Points::denotes))]
-    pub fn denoted(&self, _name: &Name) -> Denoted
-        ensures { result ≡ denotes self.now (name_view _name.now) }
+    pub(crate) fn denoted(&self, name: &Name) -> Denoted
+        ensures { result ≡ denotes self.now (name_view name.now) }
     {
-        Denoted::Other
+        let found = self.scope.visible(name);
+        denoted_declaration(self, found)
     }
 
+    /// The parameters of the operation that a name denotes.
     #[tactic(auto, unfolding(crate::specs::Points::profile))]
-    pub fn parameters(&self, _name: &Name) -> &[Parameter]
-        ensures { result.now ≡ profile self.now (name_view _name.now) }
+    pub(crate) fn parameters(&self, name: &Name) -> &[Parameter]
+        ensures { result.now ≡ profile self.now (name_view name.now) }
     {
-        &[]
+        let found = self.scope.visible(name);
+        profile_of_declaration(self, found)
     }
 
+    /// Whether the operators of Ada.Real_Time are visible.
     #[tactic(auto, unfolding(crate::specs::Points::shows_times))]
-    pub fn shows_times(&self) -> bool
+    pub(crate) fn shows_times(&self) -> bool
         ensures { result ≡ shows_times self.now }
     {
-        true
+        self.times
+    }
+
+    pub(crate) fn outline(&self) -> &Outline
+        ensures known { result.now.known ≡ self.now.known }
+        ensures units { result.now.units ≡ self.now.units }
+    {
+        self.outline
+    }
+
+    pub(crate) fn catalogue(&self) -> &Catalogue
+        ensures { result.now ≡ self.now.shapes }
+    {
+        self.catalogue
+    }
+
+    pub(crate) fn object(&self) -> usize
+        ensures { result ≡ self.now.object }
+    {
+        self.object
+    }
+
+    pub(crate) fn slots(&self) -> usize
+        ensures { result ≡ self.now.slots }
+    {
+        self.slots
+    }
+
+    pub(crate) fn result_range(&self) -> Option<Range>
+        ensures { result ≡ self.now.result }
+    {
+        self.result_range
+    }
+
+    /// Notes what is known of a declaration of the body.
+    pub(crate) fn note(&mut self, at: usize, known: Known) -> Result<(), Refused>
+        ensures { OnOk result (self.new ≡ noting at known self.old) }
+    {
+        self.locals.push(Local { at, known })?;
+        Ok(())
+    }
+
+    /// Gives the next slot to an object of the body; there are at most `MOST_SLOTS`.
+    pub(crate) fn take_slot(
+        &mut self,
+        at: usize,
+        range: Range,
+        is_written: bool,
+    ) -> Result<(), Refused>
+        ensures { OnOk result (self.new ≡ taking_slot at range is_written self.old) }
+    {
+        if self.slots >= MOST_SLOTS {
+            return Err(Refused(TypeFault::TooLarge(at)));
+        }
+        self.note(at, Known::Variable(self.slots, range, is_written))?;
+        self.slots += 1;
+        Ok(())
+    }
+
+    /// Begins a loop, in whose bounds its parameter denotes nothing.
+    pub(crate) fn begin_bounds(&mut self, parameter: &Identifier) -> Result<(), Refused>
+        ensures { OnOk result (self.new ≡ inside_bounds (identifier_view parameter.now) self.old) }
+    {
+        self.scope.enter()?;
+        self.scope.declare(parameter, None)?;
+        Ok(())
+    }
+
+    /// Begins the statements of a loop.
+    pub(crate) fn begin_loop(&mut self, parameter: &Identifier, range: Range) -> Result<(), Refused>
+        ensures { OnOk result (self.new ≡ with_loop_parameter (identifier_view parameter.now) range self.old) }
+    {
+        self.scope
+            .declare(parameter, Some(Declared::LoopParameter(parameter.at)))?;
+        self.take_slot(parameter.at, range, false)
+    }
+
+    /// Ends a loop.
+    pub(crate) fn end_loop(&mut self)
+        ensures { (p : PointView) (i : IdentifierView) (range : Range) →
+            self.old ≡ with_loop_parameter i range (inside_bounds i p) → self.new ≡ p }
+    {
+        self.scope.leave();
+        if self.slots > 0 {
+            self.slots -= 1;
+        }
+        let _last = self.locals.pop();
     }
 }

@@ -8,7 +8,7 @@ ghost use Rattle.rv_types.specs.Typed.{of_type as code_of_type, value_of, static
 ghost use Rattle.rv_types.specs.TypedView.{typed_view};
 
 use crate::refused::{Refused, mismatch};
-use rv_code::{Callee, Expression as Code};
+use rv_code::{Expression as Code, Link};
 use rv_shape::kind::ValueType;
 use rv_static::{Number, Static};
 use rv_tree::LogicalOperator;
@@ -18,6 +18,13 @@ use rv_tree::LogicalOperator;
 pub struct Typed {
     pub of: ValueType,
     pub code: Code,
+}
+
+/// The type of a sum, and its terms behind the first one.
+#[derive(Drop)]
+pub struct Sum {
+    pub of: ValueType,
+    pub links: Vec<Link>,
 }
 
 pub(crate) fn same_type(left: ValueType, right: ValueType) -> bool

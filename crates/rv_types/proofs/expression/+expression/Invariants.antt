@@ -10,10 +10,10 @@ invariant-factor_links-loop-factor l =
     factors_onto l.point l.is_evaluated (factors_of (factors_view (drop l.factor-index l.factor-items))) (map link_view l.links.items)
     ≡ factors_onto l.point l.is_evaluated (factors_of (factors_view l.factor-items)) (map link_view l.initial.links.items)
 
-abbrev pub invariant-terms-loop-term : goal.invariant-terms-loop-term
-invariant-terms-loop-term l =
-    terms_onto l.point l.is_evaluated (expression_view l.first) l.total (terms_of (terms_view (drop l.term-index l.term-items))) (map link_view l.links.items)
-    ≡ terms_onto l.point l.is_evaluated (expression_view l.first) l.initial.total (terms_of (terms_view l.term-items)) (map link_view l.initial.links.items)
+abbrev pub invariant-term_links-loop-term : goal.invariant-term_links-loop-term
+invariant-term_links-loop-term l =
+    terms_onto l.point l.is_evaluated l.total (terms_of (terms_view (drop l.term-index l.term-items))) (map link_view l.links.items)
+    ≡ terms_onto l.point l.is_evaluated l.initial.total (terms_of (terms_view l.term-items)) (map link_view l.initial.links.items)
 
 abbrev pub invariant-logic_links-loop-e : goal.invariant-logic_links-loop-e
 invariant-logic_links-loop-e l =
