@@ -2,12 +2,15 @@
 #![tactic(auto)]
 
 mod bounds;
+mod choice;
+mod coverage;
 mod denoted;
 mod expression;
 mod names;
 mod operators;
 mod point;
 mod refused;
+mod statement;
 mod static_form;
 mod target;
 mod typed;

@@ -211,9 +211,7 @@ impl<'a> Point<'a> {
             self.old ≡ with_loop_parameter i range (inside_bounds i p) → self.new ≡ p }
     {
         self.scope.leave();
-        if self.slots > 0 {
-            self.slots -= 1;
-        }
         let _last = self.locals.pop();
+        self.slots = self.slots.saturating_sub(1);
     }
 }

@@ -1,0 +1,16 @@
+-- A loop that was begun ends where it began.
+use Rattle.std.proofs.Common.{◌≡◌, ◌∙◌, ap, ℕ, List}
+use Rattle.rv_tree.specs.Names.{Identifier}
+use Rattle.rv_shape.specs.declared.kind.Range.{Range}
+use Rattle.rv_names.specs.Scope.{ScopeView}
+use Rattle.rv_types.specs.declared.point.Local.{Local}
+use Rattle.rv_types.specs.Points.{PointView, in_bounds, with_loop_parameter}
+
+pub loop_ended : (q p : PointView) (i : Identifier) (r : Range) (s : ScopeView) (ls : List Local) (n : ℕ) →
+    q ≡ with_loop_parameter i r (in_bounds i p) → s ≡ p.scope → ls ≡ p.locals → n ≡ p.slots →
+    record q { scope = s; locals = ls; slots = n } ≡ p
+loop_ended q p i r s ls n h es el en =
+    ap (λ (x : ScopeView). record q { scope = x; locals = ls; slots = n }) es
+    ∙ ap (λ (x : List Local). record q { scope = p.scope; locals = x; slots = n }) el
+    ∙ ap (λ (x : ℕ). record q { scope = p.scope; locals = p.locals; slots = x }) en
+    ∙ ap (λ (x : PointView). record x { scope = p.scope; locals = p.locals; slots = p.slots }) h
