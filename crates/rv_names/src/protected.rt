@@ -312,16 +312,19 @@ fn shown(alloc: Global, list: &Vec<OperationDeclaration>) -> Result<Region, Allo
     Ok(region)
 }
 
-// The identifier of a protected unit, behind its declaration, and its operations as others see them.
-fn declare_shown(unit: &ProtectedUnit, scope: &mut Scope) -> Result<(), AllocError>
-    ensures { OnOk result (scope.new
-        ≡ showing (with_all_shown (map operation_view unit.now.operations.items) [])
-        (declaring (meaning_of_unit unit.now.is_type (length scope.old.shown)) (identifier_view unit.now.name) scope.old)) }
-{
-    let meaning = unit_meaning(unit.is_type, scope.shown().len(), unit.name.at);
-    scope.declare(&unit.name, Some(meaning))?;
-    let operations = shown(scope.allocator(), &unit.operations)?;
-    scope.show(operations)
+impl<'a> Scope<'a> {
+    /// The identifier of a protected unit is declared behind its declaration, and with it what others see of the unit: its
+    /// operations before `private` (9.4).
+    pub fn declare_protected_unit(&mut self, unit: &ProtectedUnit) -> Result<(), AllocError>
+        ensures { OnOk result (self.new
+            ≡ showing (with_all_shown (map operation_view unit.now.operations.items) [])
+            (declaring (meaning_of_unit unit.now.is_type (length self.old.shown)) (identifier_view unit.now.name) self.old)) }
+    {
+        let meaning = unit_meaning(unit.is_type, self.shown().len(), unit.name.at);
+        self.declare(&unit.name, Some(meaning))?;
+        let operations = shown(self.allocator(), &unit.operations)?;
+        self.show(operations)
+    }
 }
 
 // What a protected unit declares, in a region of its own.
@@ -354,15 +357,5 @@ pub(crate) fn protected_unit<'a>(
     faults.set_unit(Some(unit));
     parts(unit, scope, faults)?;
     faults.set_unit(None);
-    declare_shown(unit, scope)
-}
-
-impl<'a> Scope<'a> {
-    /// A protected unit of the package is declared, with what others see of it: its operations before `private` (9.4).
-    pub fn declare_protected_unit(&mut self, unit: &ProtectedUnit) -> Result<(), AllocError>
-        ensures { OnOk result (self.new ≡ declaring_protected_unit (protected_unit_view unit.now) self.old) }
-    {
-        self.declare(&unit.name, None)?;
-        declare_shown(unit, self)
-    }
+    scope.declare_protected_unit(unit)
 }

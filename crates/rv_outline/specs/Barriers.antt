@@ -2,7 +2,6 @@
 use Rattle.std.specs.Prelude.{ℕ, ◌+◌, ℤ, ◌&&◌, nat_lt, if◌then◌else◌, Option, Some, None}
 use Rattle.rv_tree.specs.Expressions.{Expression, name}
 use Rattle.rv_shape.specs.declared.kind.ValueType.TheVariants.{Boolean}
-use Rattle.rv_shape.specs.declared.kind.Range.{Range}
 use Rattle.rv_shape.specs.declared.kind.Barrier.{Barrier}
 use Rattle.rv_shape.specs.declared.kind.Barrier.TheVariants.{AlwaysOpen, AlwaysClosed, Component}
 use Rattle.rv_names.specs.declared.declared.Declared.{Declared}

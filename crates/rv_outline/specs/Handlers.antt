@@ -1,6 +1,5 @@
 -- The lines that handlers are attached to (ISO/IEC 8652:2012, C.3.1, C.3.2).
-use Rattle.std.specs.Prelude.{ℕ, Bool, true, false, ◌&&◌, not, is_some, if◌then◌else◌, List, [], ◌∷◌, Option, Some, None, slice_get}
-use Rattle.rv_tree.specs.Names.{Name}
+use Rattle.std.specs.Prelude.{ℕ, ◌&&◌, not, is_some, if◌then◌else◌, List, [], ◌∷◌, Option, Some, None, slice_get}
 use Rattle.rv_tree.specs.Expressions.{Expression, name, parenthesized}
 use Rattle.rv_tree.specs.Declarations.{PragmaArgument}
 use Rattle.rv_shape.specs.Forms.{are_none}

@@ -1,5 +1,5 @@
 -- What is known of the declarations of a text, and what names mean by it (ISO/IEC 8652:2012, 3.2, 3.3, 4.9).
-use Rattle.std.specs.Prelude.{ℕ, ℤ, pos, nat_eq, List, [], ◌∷◌, Option, Some, None}
+use Rattle.std.specs.Prelude.{ℕ, ℤ, pos, nat_eq, List, Option, Some}
 use Rattle.std.specs.Map.{lookup}
 use Rattle.indexmap.specs.IndexMap.{insert_entry}
 use Rattle.rv_tree.specs.Names.{Name}
@@ -7,7 +7,6 @@ use Rattle.rv_shape.specs.declared.kind.ValueType.{ValueType}
 use Rattle.rv_shape.specs.declared.kind.ValueType.TheVariants.{Integer, Boolean, Time, TimeSpan}
 use Rattle.rv_shape.specs.declared.kind.Range.{Range}
 use Rattle.rv_shape.specs.Fits.{lowest, highest}
-use Rattle.rv_shape.specs.Limits.{first_line_priority, last_priority}
 use Rattle.rv_names.specs.declared.declared.Declared.{Declared}
 use Rattle.rv_names.specs.declared.declared.Declared.TheVariants as d
 use Rattle.rv_names.specs.declared.predefined.Predefined.{Predefined}

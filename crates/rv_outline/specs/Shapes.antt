@@ -1,5 +1,5 @@
 -- The outline of a unit text, and the shape of its unit (ISO/IEC 8652:2012, 9.1, 9.4, C.3.1, D.3, D.10).
-use Rattle.std.specs.Prelude.{ℕ, Bool, if◌then◌else◌, List, [], ◌∷◌, ◌++◌, map, Option, Some, None, slice_get, option_or}
+use Rattle.std.specs.Prelude.{ℕ, Bool, if◌then◌else◌, List, [], ◌∷◌, ◌++◌, map, Option, Some, None, slice_get}
 use Rattle.std.specs.List.{list_any}
 use Rattle.rv_tree.specs.Units.{UnitTree}
 use Rattle.rv_shape.specs.declared.kind.Kind.{Kind}

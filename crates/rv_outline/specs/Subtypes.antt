@@ -1,5 +1,5 @@
 -- What subtypes, constants and components mean (ISO/IEC 8652:2012, 3.2.2, 3.3.1, 3.3.2, 9.4).
-use Rattle.std.specs.Prelude.{ℤ, Option, Some, None}
+use Rattle.std.specs.Prelude.{Option, Some, None}
 use Rattle.rv_tree.specs.Names.{Name}
 use Rattle.rv_tree.specs.Expressions.{Expression, RangeConstraint}
 use Rattle.rv_shape.specs.declared.kind.ValueType.TheVariants.{Integer}

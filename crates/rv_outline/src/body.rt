@@ -1,12 +1,12 @@
 //! What the package body adds to an outline: its declarations (7.2), and the barriers of entries (9.5.2).
 
-ghost use Rattle.std.specs.Prelude.{◌≡◌, OnOk, map, false};
+ghost use Rattle.std.specs.Prelude.{◌≡◌, OnOk, IfOk, map, false};
 ghost use Rattle.rv_tree.specs.NameView.{identifier_view};
 ghost use Rattle.rv_tree.specs.ExpressionView.{expression_view};
 ghost use Rattle.rv_tree.specs.DeclarationView.{parameter_view, protected_unit_view};
 ghost use Rattle.rv_tree.specs.BodyView.{operation_body_view, protected_body_view};
 ghost use Rattle.rv_tree.specs.UnitView.{body_item_view};
-ghost use Rattle.rv_names.specs.Scope.{OnlyDeclares, entered};
+ghost use Rattle.rv_names.specs.Scope.{OnlyDeclares, entered, in_body_of};
 ghost use Rattle.rv_names.specs.ExpressionUses.{simple as simple_name};
 ghost use Rattle.rv_names.specs.Wanted.{denoted};
 ghost use Rattle.rv_names.specs.DeclarationUses.{with_parameters};
@@ -19,7 +19,7 @@ use crate::barrier::barrier;
 use crate::declaration::declaration;
 use crate::draft::Draft;
 use crate::known::Table;
-use crate::scopes::{declare_parameters, enter_protected_unit};
+use crate::scopes::{declare_parameters, enter_members};
 use rv_names::{Declared, OperationKind, Scope, Wanted};
 use rv_shape::kind::{Barrier, Kind};
 use rv_static::Faults;
@@ -123,6 +123,24 @@ fn operation_bodies(
     Ok(())
 }
 
+// The bodies of the operations of the protected unit around the point.
+fn current_bodies(
+    unit: &ProtectedUnit,
+    body: &ProtectedBody,
+    scope: &mut Scope,
+    draft: &mut Draft,
+) -> Result<(), AllocError>
+    ensures draft { OnOk result (draft.new
+        ≡ operation_bodies_outlined (in_body_of unit.now.name.at scope.old) (map operation_body_view body.now.operations.items) draft.old) }
+    ensures scope { OnOk result (scope.new ≡ scope.old) }
+{
+    let around = scope.current();
+    scope.set_current(Some(unit.name.at));
+    operation_bodies(&body.operations, scope, draft)?;
+    scope.set_current(around);
+    Ok(())
+}
+
 // The bodies of the operations of a protected unit.
 fn in_unit(
     unit: &ProtectedUnit,
@@ -134,11 +152,9 @@ fn in_unit(
         ≡ operation_bodies_outlined (in_protected_unit (protected_unit_view unit.now) scope.old) (map operation_body_view body.now.operations.items) draft.old) }
     ensures scope { OnOk result (scope.new ≡ scope.old) }
 {
-    let around = scope.current();
-    enter_protected_unit(unit, scope)?;
-    operation_bodies(&body.operations, scope, draft)?;
+    enter_members(unit, scope)?;
+    current_bodies(unit, body, scope, draft)?;
     scope.leave();
-    scope.set_current(around);
     Ok(())
 }
 

@@ -51,22 +51,34 @@ fn add_used(found: Option<Declared>, scope: &mut Scope) -> Result<(), AllocError
     }
 }
 
+fn with_name(one: &Name, scope: &mut Scope) -> Result<(), AllocError>
+    ensures { OnOk result (scope.new ≡ scope_withed (denoted Wanted.With scope.old (name_view one.now)) scope.old) }
+{
+    let found = scope.denoted(Wanted::With, one);
+    add_withed(found, scope)
+}
+
 fn with_names(list: &Vec<Name>, scope: &mut Scope) -> Result<(), AllocError>
     ensures { OnOk result (scope.new ≡ scope_with_names (names_view list.now.items) scope.old) }
 {
     for one in list {
-        let found = scope.denoted(Wanted::With, one);
-        add_withed(found, scope)?;
+        with_name(one, scope)?;
     }
     Ok(())
+}
+
+fn use_name(one: &Name, scope: &mut Scope) -> Result<(), AllocError>
+    ensures { OnOk result (scope.new ≡ scope_used_by (denoted Wanted.Use scope.old (name_view one.now)) scope.old) }
+{
+    let found = scope.denoted(Wanted::Use, one);
+    add_used(found, scope)
 }
 
 fn use_names(list: &Vec<Name>, scope: &mut Scope) -> Result<(), AllocError>
     ensures { OnOk result (scope.new ≡ scope_use_names (names_view list.now.items) scope.old) }
 {
     for one in list {
-        let found = scope.denoted(Wanted::Use, one);
-        add_used(found, scope)?;
+        use_name(one, scope)?;
     }
     Ok(())
 }

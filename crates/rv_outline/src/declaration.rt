@@ -113,7 +113,8 @@ fn objects(
     let of = object_type(found);
     let form = object_form(found);
     draft.add_objects(is_visible, of, names)?;
-    declare_all(names, form, scope)
+    declare_all(names, form, scope)?;
+    Ok(())
 }
 
 /// A declaration of the package.

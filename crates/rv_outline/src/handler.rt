@@ -129,7 +129,7 @@ fn handler(e: &Expression, scope: &Scope, draft: &mut Draft) -> Option<usize>
 }
 
 /// What `Attach_Handler (Procedure, Line)` attaches; or `None`, where a fault was told.
-pub(crate) fn attachment(pragma: &Pragma, scope: &Scope, draft: &mut Draft) -> Option<Attachment>
+pub(crate) fn attached_by(pragma: &Pragma, scope: &Scope, draft: &mut Draft) -> Option<Attachment>
     ensures value { result ≡ attachment_of scope.now draft.old (map pragma_argument_view pragma.now.arguments.items) }
     ensures told { draft.new ≡ record draft.old { told = told_unless result draft.old.told } }
 {

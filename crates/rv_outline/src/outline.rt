@@ -5,7 +5,7 @@ ghost use Rattle.rv_tree.specs.UnitView.{unit_view};
 ghost use Rattle.rv_tree.specs.DeclarationView.{protected_unit_view};
 ghost use Rattle.rv_names.specs.UnitUses.{protected_units as all_protected_units};
 ghost use Rattle.rv_outline.specs.Declarations.{drafted};
-ghost use Rattle.rv_outline.specs.Shapes.{outline_of, outlined, shape_of};
+ghost use Rattle.rv_outline.specs.Shapes.{outline_of as outline_of_draft, outlined, shape_of};
 
 use crate::body::body_items;
 use crate::context::package_scope;
@@ -116,7 +116,7 @@ fn draft(alloc: Global, named: &Named) -> Result<Draft, AllocError>
 
 // The outline of a unit of this name.
 fn outline_named(alloc: Global, name: &str, draft: Draft) -> Result<Outline, AllocError>
-    ensures { IfOk result (λ outline. outline ≡ outline_of name.now draft) }
+    ensures { IfOk result (λ outline. outline ≡ outline_of_draft name.now draft) }
 {
     let units = unit_shapes(alloc, &draft)?;
     let all = objects(alloc, &draft.objects, units.as_slice())?;
@@ -134,7 +134,7 @@ fn outline_named(alloc: Global, name: &str, draft: Draft) -> Result<Outline, All
 
 /// The outline of a text whose names are bound. What is wrong with the types of its declarations is told, the fault at the
 /// least place.
-pub fn outline(alloc: Global, named: &Named, faults: &mut Faults) -> Result<Outline, AllocError>
+pub fn outline_of(alloc: Global, named: &Named, faults: &mut Faults) -> Result<Outline, AllocError>
     ensures value { IfOk result (λ outline. outline ≡ outlined named.now.catalogue.now (unit_view named.now.tree.now)) }
     ensures told { IfOk result (λ outline. faults.new ≡ (outline.told || faults.old)) }
     ensures shape { IfOk result (λ outline. faults.new ≡ false

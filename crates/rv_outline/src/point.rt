@@ -13,6 +13,7 @@ use rv_tree::Name;
 pub const DEFAULT_PRIORITY: i64 = 15;
 
 /// A point of a text: what is declared there, and what is known of it.
+#[derive(Clone, Copy)]
 pub struct Point<'p, 's> {
     pub scope: &'p Scope<'s>,
     pub known: &'p Table,

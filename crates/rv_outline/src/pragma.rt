@@ -8,7 +8,7 @@ ghost use Rattle.rv_outline.specs.Drafts.{noted, giving_priority};
 ghost use Rattle.rv_outline.specs.ProtectedUnits.{aspect_outlined, aspects_outlined, handling, procedure_aspect_outlined, procedure_aspects_outlined, priority_pragma_outlined, attachment_outlined, pragma_outlined};
 
 use crate::draft::Draft;
-use crate::handler::{aspect_line, attachment};
+use crate::handler::{aspect_line, attached_by};
 use crate::point::Point;
 use crate::priority::{aspect_priority, pragma_priority};
 use rv_names::Scope;
@@ -110,7 +110,7 @@ fn priority_pragma(one: &Pragma, scope: &Scope, draft: &mut Draft)
 fn attaching_pragma(one: &Pragma, scope: &Scope, draft: &mut Draft) -> Result<(), AllocError>
     ensures { OnOk result (draft.new ≡ attachment_outlined scope.now (pragma_view one.now) draft.old) }
 {
-    match attachment(one, scope, draft) {
+    match attached_by(one, scope, draft) {
         None => Ok(()),
         Some(found) => draft.give_kind(found.at, Kind::Handler(found.line)),
     }

@@ -127,6 +127,7 @@ fn operation(
 }
 
 /// What the identifier of an operation declares, and where it stands.
+#[derive(Clone, Copy)]
 pub(crate) struct Heading<'h> {
     pub(crate) declared: &'h Identifier,
     pub(crate) parameters: &'h Vec<rv_tree::Parameter>,

@@ -5,7 +5,6 @@ ghost use Rattle.rv_tree.specs.NameView.{identifier_view, identifiers_view};
 ghost use Rattle.rv_tree.specs.DeclarationView.{parameter_view, operation_view, element_view, protected_unit_view};
 ghost use Rattle.rv_names.specs.Scope.{hiding, hiding_all, declaring_all, OnlyDeclares, entered};
 ghost use Rattle.rv_names.specs.DeclarationUses.{declaring_operation, with_parameters, with_operation, with_operations, with_element, with_elements, with_members};
-ghost use Rattle.rv_names.specs.UnitUses.{in_protected_unit};
 
 use rv_names::declare::{Form, declare_all};
 use rv_names::{Declared, OperationKind, Scope};
@@ -134,8 +133,8 @@ fn elements(list: &Vec<ProtectedElement>, scope: &mut Scope) -> Result<(), Alloc
     Ok(())
 }
 
-// All operations and components of a protected unit, in a region of their own.
-fn members(unit: &ProtectedUnit, scope: &mut Scope) -> Result<(), AllocError>
+/// A region begins in which all operations and components of a protected unit are declared, as in its body (9.4).
+pub fn enter_members(unit: &ProtectedUnit, scope: &mut Scope) -> Result<(), AllocError>
     ensures scope { OnOk result (scope.new ≡ with_members (protected_unit_view unit.now) scope.old) }
     ensures only { OnOk result (OnlyDeclares (entered scope.old) scope.new) }
 {
@@ -145,13 +144,4 @@ fn members(unit: &ProtectedUnit, scope: &mut Scope) -> Result<(), AllocError>
         None => Ok(()),
         Some(list) => elements(list, scope),
     }
-}
-
-/// The body of a protected unit begins: all its operations and components are declared, and it is the current one (9.4).
-pub fn enter_protected_unit(unit: &ProtectedUnit, scope: &mut Scope) -> Result<(), AllocError>
-    ensures { OnOk result (scope.new ≡ in_protected_unit (protected_unit_view unit.now) scope.old) }
-{
-    members(unit, scope)?;
-    scope.set_current(Some(unit.name.at));
-    Ok(())
 }

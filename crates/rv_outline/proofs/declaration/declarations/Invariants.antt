@@ -1,0 +1,12 @@
+use Rattle.std.proofs.Common.{◌≡◌, drop, map}
+use Rattle.rv_tree.specs.DeclarationView.{declaration_view}
+use Rattle.rv_names.specs.DeclarationUses.{with_declarations}
+use Rattle.rv_outline.specs.Declarations.{declarations_outlined}
+use Rattle.rv_outline.proofs.declaration.declarations.Given as goal
+
+abbrev pub invariant-loop-one : goal.invariant-loop-one
+invariant-loop-one l = record {
+  draft : declarations_outlined l.scope (map declaration_view (drop l.one-index l.one-items)) l.draft
+      ≡ declarations_outlined l.initial.scope (map declaration_view l.one-items) l.initial.draft;
+  scope : with_declarations (map declaration_view (drop l.one-index l.one-items)) l.scope ≡ with_declarations (map declaration_view l.one-items) l.initial.scope;
+}

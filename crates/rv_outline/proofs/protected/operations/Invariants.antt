@@ -1,0 +1,14 @@
+use Rattle.std.proofs.Common.{◌≡◌, drop, map}
+use Rattle.rv_tree.specs.DeclarationView.{operation_view}
+use Rattle.rv_names.specs.Scope.{OnlyDeclares}
+use Rattle.rv_names.specs.DeclarationUses.{with_operations}
+use Rattle.rv_outline.specs.ProtectedUnits.{operations_outlined}
+use Rattle.rv_outline.proofs.protected.operations.Given as goal
+
+abbrev pub invariant-loop-one : goal.invariant-loop-one
+invariant-loop-one l = record {
+  draft : operations_outlined l.scope (map operation_view (drop l.one-index l.one-items)) l.draft
+      ≡ operations_outlined l.initial.scope (map operation_view l.one-items) l.initial.draft;
+  scope : with_operations (map operation_view (drop l.one-index l.one-items)) l.scope ≡ with_operations (map operation_view l.one-items) l.initial.scope;
+  only : OnlyDeclares l.initial.scope l.scope;
+}
