@@ -1,5 +1,7 @@
 -- A loop that was begun ends where it began.
-use Rattle.std.proofs.Common.{◌≡◌, ◌∙◌, ap, ℕ, List}
+use Rattle.std.proofs.Common.{◌≡◌, ◌∙◌, ap, ℕ, ◌-◌, List, [], ◌∷◌, ◌++◌, length, take, arith}
+use Rattle.std.proofs.lemmas.List.{length-append}
+use Rattle.std.proofs.Math.Seq.{take-append_seam}
 use Rattle.rv_tree.specs.Names.{Identifier}
 use Rattle.rv_shape.specs.declared.kind.Range.{Range}
 use Rattle.rv_names.specs.Scope.{ScopeView}
@@ -14,3 +16,11 @@ loop_ended q p i r s ls n h es el en =
     ∙ ap (λ (x : List Local). record q { scope = p.scope; locals = x; slots = n }) el
     ∙ ap (λ (x : ℕ). record q { scope = p.scope; locals = p.locals; slots = x }) en
     ∙ ap (λ (x : PointView). record x { scope = p.scope; locals = p.locals; slots = p.slots }) h
+
+-- what stands before the last of a list of so many
+pub before_last : (ls : List Local) (x : Local) (xs rest : List Local) (n : ℕ) →
+    xs ≡ ls ++ x ∷ [] → n ≡ length xs → rest ≡ take (n - 1) xs → rest ≡ ls
+before_last ls x xs rest n h long r =
+    let m : n - 1 ≡ length ls = omega (arith, long, ap (λ (ys : List Local). length ys) h, length-append ls (x ∷ [])) in
+    r ∙ ap (λ (ys : List Local). take (n - 1) ys) h
+    ∙ ap (λ (k : ℕ). take k (ls ++ x ∷ [])) m ∙ take-append_seam ls (x ∷ [])

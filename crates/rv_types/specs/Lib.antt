@@ -6,3 +6,4 @@ pub mod Targets
 pub mod Loops
 pub mod LoopView
 pub mod StatementCode
+pub mod Blocks

@@ -1,19 +1,22 @@
 //! A point of a body: what is declared there, and what names denote.
 
 ghost use Rattle.std.specs.Prelude.{◌≡◌, OnOk, ℕ};
-ghost use Rattle.rv_tree.specs.NameView.{identifier_view, name_view};
+ghost use Rattle.rv_tree.specs.NameView.{identifier_view, identifiers_view, name_view};
 ghost use Rattle.rv_tree.specs.Names.{Identifier as IdentifierView};
 ghost use Rattle.rv_names.specs.Visible.{visible};
+ghost use Rattle.rv_types.specs.Blocks.{hidden, revealed};
 ghost use Rattle.rv_types.specs.Points.{PointView, static_meaning, point_meaning, denotes, denoted_by, profile, profile_of, shows_times, local_at, known_in, noting, taking_slot, in_bounds as inside_bounds, with_loop_parameter};
 
 use crate::denoted::Denoted;
 use crate::names::{known_meaning, denoted_by as denoted_declaration, profile_of as profile_of_declaration};
 use crate::refused::Refused;
 use rv_code::MOST_SLOTS;
+use rv_names::declare::{Form, declare_all};
 use rv_names::{Declared, Scope};
 use rv_outline::known::Known;
 use rv_outline::outline::Outline;
 use rv_outline::point::meaning;
+use rv_outline::scopes::hide_all;
 use rv_shape::catalogue::Catalogue;
 use rv_shape::kind::{Parameter, Range};
 use rv_static::{Meaning, Meanings, TypeFault};
@@ -184,6 +187,31 @@ impl<'a> Point<'a> {
         }
         self.note(at, Known::Variable(self.slots, range, is_written))?;
         self.slots += 1;
+        Ok(())
+    }
+
+    /// Identifiers inside their own declaration.
+    pub(crate) fn hide(&mut self, names: &Vec<Identifier>) -> Result<(), Refused>
+        ensures { OnOk result (self.new ≡ hidden (identifiers_view names.now.items) self.old) }
+    {
+        hide_all(names, &mut self.scope)?;
+        Ok(())
+    }
+
+    /// Identifiers behind their declaration in a block.
+    pub(crate) fn reveal(
+        &mut self,
+        is_constant: bool,
+        names: &Vec<Identifier>,
+    ) -> Result<(), Refused>
+        ensures { OnOk result (self.new ≡ revealed is_constant (identifiers_view names.now.items) self.old) }
+    {
+        let form = if is_constant {
+            Form::Constant
+        } else {
+            Form::Variable
+        };
+        declare_all(names, form, &mut self.scope)?;
         Ok(())
     }
 
