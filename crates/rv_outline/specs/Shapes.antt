@@ -1,12 +1,12 @@
 -- The outline of a unit text, and the shape of its unit (ISO/IEC 8652:2012, 9.1, 9.4, C.3.1, D.3, D.10).
-use Rattle.std.specs.Prelude.{ℕ, Bool, if◌then◌else◌, List, [], ◌∷◌, ◌++◌, map, Option, Some, None, slice_get}
+use Rattle.std.specs.Prelude.{ℕ, ◌+◌, Bool, if◌then◌else◌, List, [], ◌∷◌, ◌++◌, map, Option, Some, None, slice_get, take}
 use Rattle.std.specs.List.{list_any}
 use Rattle.rv_tree.specs.Units.{UnitTree}
 use Rattle.rv_shape.specs.declared.kind.Kind.{Kind}
 use Rattle.rv_shape.specs.declared.object.Object.{Object}
 use Rattle.rv_shape.specs.declared.object.Object.TheVariants as o
 use Rattle.rv_shape.specs.Kinds.{is_handler}
-use Rattle.rv_shape.specs.Limits.{last_priority}
+use Rattle.rv_shape.specs.Limits.{last_priority, most_objects, most_operations, most_components, most_parameters}
 use Rattle.rv_shape.specs.Objects.{OperationShape, ProtectedShape}
 use Rattle.rv_shape.specs.Shape.{Shape}
 use Rattle.rv_outline.specs.declared.outline.ObjectType.{ObjectType}
@@ -46,9 +46,20 @@ unit_with unit operations = record {
 abbrev pub unit_shape : Kinds → UnitDraft → ProtectedShape
 unit_shape kinds unit = unit_with unit (operation_shapes kinds unit.operations)
 
+-- What is past the limits of a catalogue is cut behind the first that is too many: such a shape fits none.
+
+abbrev pub cut_operation : OperationShape → OperationShape
+cut_operation operation = record operation { parameters = take (most_parameters + 1) operation.parameters }
+
 -- an object of a protected unit: each has its own components and ceiling
 abbrev pub protected_object : ObjectDraft → ProtectedShape → Object
-protected_object object unit = o.Protected (record unit { name = object.name; is_visible = object.is_visible })
+protected_object object unit = o.Protected (record {
+  name = object.name;
+  is_visible = object.is_visible;
+  ceiling = unit.ceiling;
+  components = take (most_components + 1) unit.components;
+  operations = map cut_operation (take (most_operations + 1) unit.operations);
+})
 
 abbrev pub suspension_object : ObjectDraft → Object
 suspension_object object = o.Suspension (record { name = object.name; is_visible = object.is_visible })
@@ -81,7 +92,7 @@ outline_of name draft = record {
   known = draft.known;
   units = map (unit_shape draft.kinds) draft.units;
   objects = map (λ object. object.of) draft.objects;
-  shape = record { name = name; tasks = draft.tasks; objects = objects_onto (map (unit_shape draft.kinds) draft.units) draft.objects [] };
+  shape = record { name = name; tasks = draft.tasks; objects = objects_onto (map (unit_shape draft.kinds) draft.units) (take (most_objects + 1) draft.objects) [] };
 }
 
 -- the outline of a text over the loaded units

@@ -119,7 +119,7 @@ fn outline_named(alloc: Global, name: &str, draft: Draft) -> Result<Outline, All
     ensures { IfOk result (λ outline. outline ≡ outline_of_draft name.now draft) }
 {
     let units = unit_shapes(alloc, &draft)?;
-    let all = objects(alloc, &draft.objects, units.as_slice())?;
+    let all = objects(alloc, draft.objects.as_slice(), units.as_slice())?;
     let objects = types(alloc, &draft.objects)?;
     let name = String::from_str(alloc, name)?;
     let told = draft.faults.first().is_some();

@@ -1,10 +1,11 @@
 //! The shape of a unit from what its declarations mean (9.1, 9.4, C.3.1, D.3, D.10).
 
-ghost use Rattle.std.specs.Prelude.{◌≡◌, OnOk, IfOk, map, string_bytes, []};
+ghost use Rattle.std.specs.Prelude.{◌≡◌, OnOk, IfOk, ◌+◌, map, take, string_bytes, []};
 ghost use Rattle.std.specs.List.{list_any};
 ghost use Rattle.rv_shape.specs.Kinds.{is_handler};
+ghost use Rattle.rv_shape.specs.Limits.{most_objects, most_operations, most_components, most_parameters};
 ghost use Rattle.rv_outline.specs.Drafts.{kind_at};
-ghost use Rattle.rv_outline.specs.Shapes.{default_ceiling as ceiling_by_default, kind_or, operation_shape as shape_of_operation, operation_shapes as shapes_of_operations, unit_with, unit_shape as shape_of_unit, protected_object as object_of_unit, suspension_object as suspension_of, with_object, objects_onto};
+ghost use Rattle.rv_outline.specs.Shapes.{default_ceiling as ceiling_by_default, kind_or, operation_shape as shape_of_operation, operation_shapes as shapes_of_operations, unit_with, unit_shape as shape_of_unit, cut_operation as operation_cut, protected_object as object_of_unit, suspension_object as suspension_of, with_object, objects_onto};
 
 use crate::draft::{Draft, Kinds, ObjectDraft, OperationDraft, UnitDraft};
 use crate::outline::ObjectType;
@@ -115,23 +116,48 @@ pub(crate) fn unit_shapes(alloc: Global, draft: &Draft) -> Result<Vec<ProtectedO
     Ok(done)
 }
 
-fn copied_operation(alloc: Global, one: &Operation) -> Result<Operation, AllocError>
-    ensures { IfOk result (λ o. o ≡ one.now) }
+// The first of these parameters, and one more than an operation may have.
+fn cut_parameters(alloc: Global, list: &[Parameter]) -> Result<Vec<Parameter>, AllocError>
+    ensures { IfOk result (λ v. v.items ≡ take (most_parameters + 1) list.now) }
+{
+    list.iter().take(5).copied().collect(alloc)
+}
+
+// The first of these components, and one more than an object may have.
+fn cut_components(alloc: Global, list: &[Component]) -> Result<Vec<Component>, AllocError>
+    ensures { IfOk result (λ v. v.items ≡ take (most_components + 1) list.now) }
+{
+    list.iter().take(33).copied().collect(alloc)
+}
+
+// A copy of an operation, cut behind the first parameter that is too many.
+fn cut_operation(alloc: Global, one: &Operation) -> Result<Operation, AllocError>
+    ensures { IfOk result (λ o. o ≡ operation_cut one.now) }
 {
     let name = String::from_str(alloc, one.name())?;
-    let parameters = copied_parameters(alloc, one.parameters())?;
+    let parameters = cut_parameters(alloc, one.parameters())?;
     Ok(Operation::new(name, one.kind(), parameters, one.is_visible()))
 }
 
-fn copied_operations(alloc: Global, list: &[Operation]) -> Result<Vec<Operation>, AllocError>
-    ensures { IfOk result (λ v. v.items ≡ list.now) }
+fn cut_each(alloc: Global, list: &[Operation]) -> Result<Vec<Operation>, AllocError>
+    ensures { IfOk result (λ v. v.items ≡ map operation_cut list.now) }
 {
     let mut done = Vec::new(alloc);
     for one in list {
-        let copy = copied_operation(alloc, one)?;
+        let copy = cut_operation(alloc, one)?;
         done.push(copy)?;
     }
     Ok(done)
+}
+
+// The first of these operations, and one more than an object may have.
+fn cut_operations(alloc: Global, list: &[Operation]) -> Result<Vec<Operation>, AllocError>
+    ensures { IfOk result (λ v. v.items ≡ map operation_cut (take (most_operations + 1) list.now)) }
+{
+    if list.len() <= 17 {
+        return cut_each(alloc, list);
+    }
+    cut_each(alloc, &list[..17])
 }
 
 // An object of a protected unit.
@@ -143,8 +169,8 @@ fn protected_object(
     ensures { IfOk result (λ o. o ≡ object_of_unit object.now unit.now) }
 {
     let name = String::from_str(alloc, object.name.as_str())?;
-    let components = copied_components(alloc, unit.components())?;
-    let operations = copied_operations(alloc, unit.operations())?;
+    let components = cut_components(alloc, unit.components())?;
+    let operations = cut_operations(alloc, unit.operations())?;
     Ok(Object::Protected(ProtectedObject::new(
         name,
         object.is_visible,
@@ -187,19 +213,40 @@ fn push_object(
     }
 }
 
-/// The objects of the unit.
-pub(crate) fn objects(
+// The objects of these drafts.
+fn each_object(
     alloc: Global,
-    list: &Vec<ObjectDraft>,
+    list: &[ObjectDraft],
     units: &[ProtectedObject],
 ) -> Result<Vec<Object>, AllocError>
-    ensures { IfOk result (λ v. v.items ≡ objects_onto units.now list.now.items []) }
+    ensures { IfOk result (λ v. v.items ≡ objects_onto units.now list.now []) }
 {
     let mut done = Vec::new(alloc);
     for object in list {
         push_object(alloc, object, units, &mut done)?;
     }
     Ok(done)
+}
+
+// The first of these, so many at most.
+fn first_of(list: &[ObjectDraft], most: usize) -> &[ObjectDraft]
+    ensures { result.now ≡ take most list.now }
+{
+    if list.len() <= most {
+        return list;
+    }
+    &list[..most]
+}
+
+/// The objects of the unit, cut behind the first that is too many.
+pub(crate) fn objects(
+    alloc: Global,
+    list: &[ObjectDraft],
+    units: &[ProtectedObject],
+) -> Result<Vec<Object>, AllocError>
+    ensures { IfOk result (λ v. v.items ≡ objects_onto units.now (take (most_objects + 1) list.now) []) }
+{
+    each_object(alloc, first_of(list, 257), units)
 }
 
 /// What each object is an object of.
