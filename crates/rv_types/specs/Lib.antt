@@ -7,3 +7,4 @@ pub mod Loops
 pub mod LoopView
 pub mod StatementCode
 pub mod Blocks
+pub mod BodiesOf

@@ -5,11 +5,13 @@ ghost use Rattle.rv_tree.specs.NameView.{identifier_view, identifiers_view, name
 ghost use Rattle.rv_tree.specs.Names.{Identifier as IdentifierView};
 ghost use Rattle.rv_names.specs.Visible.{visible};
 ghost use Rattle.rv_types.specs.Blocks.{hidden, revealed};
+ghost use Rattle.rv_types.specs.BodiesOf.{point_in};
 ghost use Rattle.rv_types.specs.Points.{PointView, static_meaning, point_meaning, denotes, denoted_by, profile, profile_of, shows_times, local_at, known_in, noting, taking_slot, in_bounds as inside_bounds, with_loop_parameter};
 
 use crate::denoted::Denoted;
 use crate::names::{known_meaning, denoted_by as denoted_declaration, profile_of as profile_of_declaration};
 use crate::refused::Refused;
+use crate::setting::Setting;
 use rv_code::MOST_SLOTS;
 use rv_names::declare::{Form, declare_all};
 use rv_names::{Declared, Scope};
@@ -21,6 +23,7 @@ use rv_shape::catalogue::Catalogue;
 use rv_shape::kind::{Parameter, Range};
 use rv_static::{Meaning, Meanings, TypeFault};
 use rv_tree::{Identifier, Name};
+use std::alloc::Global;
 use std::marker::Model;
 
 /// What is known of a declaration of a body, by the place of its identifier.
@@ -76,6 +79,35 @@ impl<'a> Meanings for Point<'a> {
 }
 
 impl<'a> Point<'a> {
+    /// The beginning of a body of this object, and the range of its result if it is a function's.
+    pub(crate) fn new(
+        alloc: Global,
+        setting: &Setting<'a>,
+        scope: Scope<'a>,
+        object: usize,
+        result_range: Option<Range>,
+    ) -> Point<'a>
+        ensures { result ≡ point_in setting.now scope.entry object result_range }
+    {
+        Point {
+            scope,
+            catalogue: setting.catalogue,
+            outline: setting.outline,
+            locals: Vec::new(alloc),
+            times: setting.times,
+            object,
+            slots: 0,
+            result_range,
+        }
+    }
+
+    /// What is declared there.
+    pub(crate) fn into_scope(self) -> Scope<'a>
+        ensures { result ≡ self.entry.scope }
+    {
+        self.scope
+    }
+
     // What is known of a declaration of the body.
     fn local(&self, at: usize) -> Option<Known>
         ensures { result ≡ local_at at self.now.locals }
