@@ -1,10 +1,10 @@
 -- The bodies of a unit (ISO/IEC 8652:2012, 6.1, 6.3, 7.2, 9.1, 9.4, 9.5.2).
-use Rattle.std.specs.Prelude.{ℕ, zero, suc, ◌+◌, ◌==◌, Bool, true, false, is_some, if◌then◌else◌, List, [], ◌∷◌, ◌++◌, map, length, Option, Some, None, slice_get, slice_set}
+use Rattle.std.specs.Prelude.{ℕ, zero, suc, ◌+◌, ◌==◌, Bool, true, false, is_some, nat_lt, ◌||◌, if◌then◌else◌, List, [], ◌∷◌, ◌++◌, map, length, Option, Some, None, slice_get, slice_set}
 use Rattle.rv_text.specs.Names.{is_same_name}
-use Rattle.rv_tree.specs.Names.{Identifier}
+use Rattle.rv_tree.specs.Names.{Identifier, Name}
 use Rattle.rv_tree.specs.Declarations.{Parameter, ProtectedUnit}
 use Rattle.rv_tree.specs.Bodies.{Block, OperationBody, function_body, procedure_body, entry_body, ProtectedBody, TaskBody}
-use Rattle.rv_tree.specs.Units.{BodyItem, body_declaration, body_protected, body_task, UnitTree}
+use Rattle.rv_tree.specs.Units.{ContextItem, context_pragma, with_clause, use_clause, BodyItem, body_declaration, body_protected, body_task, UnitTree}
 use Rattle.rv_shape.specs.declared.kind.Range.{Range}
 use Rattle.rv_shape.specs.declared.kind.Parameter as shape
 use Rattle.rv_shape.specs.declared.kind.Kind.{Kind}
@@ -15,7 +15,8 @@ use Rattle.rv_shape.specs.Objects.{OperationShape, ProtectedShape, TaskShape}
 use Rattle.rv_shape.specs.Catalogue.{all_objects}
 use Rattle.rv_names.specs.declared.predefined.Library.TheVariants.{RealTime}
 use Rattle.rv_names.specs.declared.wanted.Wanted.TheVariants as w
-use Rattle.rv_names.specs.Predefined.{is_among}
+use Rattle.rv_names.specs.declared.declared.Declared.{Declared}
+use Rattle.rv_names.specs.declared.declared.Declared.TheVariants as d
 use Rattle.rv_names.specs.Scope.{ScopeView, entered}
 use Rattle.rv_names.specs.Visible.{index_from}
 use Rattle.rv_names.specs.Wanted.{denoted}
@@ -121,21 +122,29 @@ object_bodies s scope object number bodies =
 
 -- the bodies of the object of an index are these
 abbrev pub with_object_bodies : ℕ → UnitBodies → List Body → Option UnitBodies
-with_object_bodies index u bodies = Some (record u { objects = slice_set u.objects index bodies })
+with_object_bodies index u bodies =
+    if nat_lt index (length u.objects) then Some (record u { objects = slice_set u.objects index bodies }) else None
 
--- the bodies of an object, where it is one of the protected unit of this number
-abbrev pub object_compiled : Setting → ScopeView → ℕ → List OperationBody → ℕ → ObjectType → UnitBodies → Option UnitBodies
-object_compiled s scope number bodies index sort.Suspension u = Some u
-object_compiled s scope number bodies index (sort.Protected other) u =
-    if other == number then (object_bodies s scope (first_object s + index) number bodies >>= with_object_bodies index u) else Some u
+-- an object of a protected unit has the bodies of its operations; its number follows those before it
+abbrev pub object_compiled : Setting → ScopeView → ℕ → List OperationBody → ℕ → UnitBodies → Option UnitBodies
+object_compiled s scope number bodies index u =
+    object_bodies s scope (first_object s + index) number bodies >>= with_object_bodies index u
 
--- each object of a protected unit has the bodies of its operations
+-- the same of an object that may be another's
+abbrev pub perhaps_compiled : Setting → ScopeView → ℕ → List OperationBody → ℕ → ObjectType → UnitBodies → Option UnitBodies
+perhaps_compiled s scope number bodies index sort.Suspension u = Some u
+perhaps_compiled s scope number bodies index (sort.Protected unit) u =
+    if unit == number then object_compiled s scope number bodies index u else Some u
+
+-- each object of a protected unit, from an index on; no unit has so many (own)
 abbrev pub objects_compiled : Setting → ScopeView → ℕ → List OperationBody → ℕ → List ObjectType → UnitBodies → Option UnitBodies
 objects_compiled s scope number bodies index [] u = Some u
 objects_compiled s scope number bodies index (object ∷ more) u =
-    object_compiled s scope number bodies index object u >>= objects_compiled s scope number bodies (index + 1) more
+    if nat_lt index 4294967296 then
+    (perhaps_compiled s scope number bodies index object u >>= objects_compiled s scope number bodies (index + 1) more)
+    else None
 
--- the protected unit of a number, with its number
+-- the bodies of the protected unit of a number
 abbrev pub unit_compiled : Setting → List ProtectedUnit → ScopeView → List OperationBody → UnitBodies → ℕ → Option UnitBodies
 unit_compiled s units scope bodies u number =
     slice_get units number >>= λ unit. objects_compiled s (in_protected_unit unit scope) number bodies 0 s.outline.objects u
@@ -146,18 +155,20 @@ protected_body_compiled s units scope body u =
 
 -- Task bodies (9.1)
 
-abbrev pub task_index : Setting → List ℕ → Option ℕ
-task_index s name = index_from (λ task. task.name) name 0 s.outline.shape.tasks
-
-abbrev pub with_task_body : UnitBodies → ℕ → Body → Option UnitBodies
-with_task_body u index body = Some (record u { tasks = slice_set u.tasks index (Some body) })
-
 abbrev pub task_code : Setting → ScopeView → TaskBody → Option Body
 task_code s scope body = block_of [] false (point_in s (entered scope) 0 None) body.block
 
+-- the index of the task of a name
+abbrev pub task_index : List ℕ → ℕ → List TaskShape → Option ℕ
+task_index name index tasks = index_from (λ task. task.name) name index tasks
+
+abbrev pub with_task_body : UnitBodies → ℕ → Body → Option UnitBodies
+with_task_body u index body =
+    if nat_lt index (length u.tasks) then Some (record u { tasks = slice_set u.tasks index (Some body) }) else None
+
 abbrev pub task_body_compiled : Setting → ScopeView → TaskBody → UnitBodies → Option UnitBodies
 task_body_compiled s scope body u =
-    task_index s body.name.text >>= λ index. task_code s scope body >>= with_task_body u index
+    task_index body.name.text 0 s.outline.shape.tasks >>= λ index. task_code s scope body >>= with_task_body u index
 
 -- The package body (7.2)
 
@@ -172,15 +183,41 @@ items_compiled s units scope (one ∷ more) u =
     item_compiled s units scope one u >>= items_compiled s units (with_body_item one scope) more
 
 -- no bodies yet: a suspension object has none
+abbrev pub no_objects_onto : List ObjectType → List (List Body) → List (List Body)
+no_objects_onto [] done = done
+no_objects_onto (object ∷ more) done = no_objects_onto more (done ++ [] ∷ [])
+
+abbrev pub no_tasks_onto : List TaskShape → List (Option Body) → List (Option Body)
+no_tasks_onto [] done = done
+no_tasks_onto (task ∷ more) done = no_tasks_onto more (done ++ None ∷ [])
+
 abbrev pub no_bodies : OutlineView → UnitBodies
-no_bodies outline = record { objects = map (λ object. []) outline.objects; tasks = map (λ task. None) outline.shape.tasks }
+no_bodies outline = record { objects = no_objects_onto outline.objects []; tasks = no_tasks_onto outline.shape.tasks [] }
+
+-- a `with` names Ada.Real_Time (D.8)
+abbrev pub is_real_time : Option Declared → Bool
+is_real_time (Some (d.LibraryPackage RealTime)) = true
+is_real_time found = false
+
+abbrev pub names_times : ScopeView → List Name → Bool
+names_times scope [] = false
+names_times scope (n ∷ more) = is_real_time (denoted w.With scope n) || names_times scope more
+
+abbrev pub item_times : ScopeView → ContextItem → Bool
+item_times scope (with_clause at names) = names_times scope names
+item_times scope (context_pragma pragma) = false
+item_times scope (use_clause at is_type names) = false
+
+abbrev pub context_times : ScopeView → List ContextItem → Bool
+context_times scope [] = false
+context_times scope (item ∷ more) = item_times scope item || context_times scope more
 
 -- what is known of a text over the loaded units
 abbrev pub setting_of : List Shape → UnitTree → Setting
 setting_of shapes tree = record {
   outline = outlined shapes tree;
   shapes = shapes;
-  times = is_among RealTime (package_scope shapes tree).libraries;
+  times = context_times (package_scope shapes tree) tree.context;
 }
 
 -- what is declared where the package body begins

@@ -10,6 +10,7 @@ ghost use Rattle.rv_outline.specs.Subtypes.{subtype_of as subtype_of_mark};
 ghost use Rattle.rv_code.specs.ExpressionView.{expression_view as code_view};
 ghost use Rattle.rv_code.specs.BodyView.{declaration_view, handler_view, body_view};
 ghost use Rattle.rv_code.specs.StatementView.{statement_view as action_view};
+ghost use Rattle.rv_names.specs.Scope.{OnlyDeclares};
 ghost use Rattle.rv_types.specs.Points.{static_meaning};
 ghost use Rattle.rv_types.specs.Blocks.{initial_of, opened_with, objects_onto, noting_all, constants_onto, declared_onto, object_onto as object_declared_onto, hiding_names, local_onto, locals_onto, exception_of, exceptions_onto, handler_with, handlers_onto, declaration_of, block_of};
 
@@ -71,8 +72,9 @@ fn objects(
     point: &mut Point,
     done: &mut Vec<Declaration>,
 ) -> Result<(), Refused>
-    ensures { OnOk result (objects_onto range is_written (maybe expression_view given.now) (identifiers_view names.now.items)
+    ensures code { OnOk result (objects_onto range is_written (maybe expression_view given.now) (identifiers_view names.now.items)
         (opened_with point.old (map declaration_view done.old.items)) ≡ Some (opened_with point.new (map declaration_view done.new.items))) }
+    ensures scope { OnOk result (point.new.scope ≡ point.old.scope) }
 {
     for name in names {
         let value = initial(alloc, range, given, point)?;
@@ -103,7 +105,8 @@ fn note_constants(
     names: &Vec<Identifier>,
     point: &mut Point,
 ) -> Result<(), Refused>
-    ensures { OnOk result (point.new ≡ noting_all range value (identifiers_view names.now.items) point.old) }
+    ensures code { OnOk result (point.new ≡ noting_all range value (identifiers_view names.now.items) point.old) }
+    ensures scope { OnOk result (point.new.scope ≡ point.old.scope) }
 {
     for name in names {
         point.note(name.at, Known::Constant(range, value))?;
@@ -122,8 +125,9 @@ fn constants(
     done: &mut Vec<Declaration>,
 ) -> Result<(), Refused>
     requires { maybe expression_view given.now ≡ Some (expression_view e.now) }
-    ensures { OnOk result (constants_onto range (expression_view e.now) (identifiers_view names.now.items)
+    ensures code { OnOk result (constants_onto range (expression_view e.now) (identifiers_view names.now.items)
         (opened_with point.old (map declaration_view done.old.items)) ≡ Some (opened_with point.new (map declaration_view done.new.items))) }
+    ensures scope { OnOk result (point.new.scope ≡ point.old.scope) }
 {
     if is_static(e, true, point) {
         let value = static_in(range, e, point)?;
@@ -142,8 +146,9 @@ fn declared(
     point: &mut Point,
     done: &mut Vec<Declaration>,
 ) -> Result<(), Refused>
-    ensures { OnOk result (declared_onto is_constant range (maybe expression_view given.now) (identifiers_view names.now.items)
+    ensures code { OnOk result (declared_onto is_constant range (maybe expression_view given.now) (identifiers_view names.now.items)
         (opened_with point.old (map declaration_view done.old.items)) ≡ Some (opened_with point.new (map declaration_view done.new.items))) }
+    ensures scope { OnOk result (point.new.scope ≡ point.old.scope) }
 {
     if !is_constant {
         return objects(alloc, range, true, given, names, point, done);
@@ -181,6 +186,7 @@ fn subtype(
 }
 
 // Objects, whose identifiers are hidden in their declaration.
+#[tactic(auto, using(crate::proofs::Ended::declares_from))]
 fn object(
     alloc: Global,
     names: &Vec<Identifier>,
@@ -191,23 +197,26 @@ fn object(
     point: &mut Point,
     done: &mut Vec<Declaration>,
 ) -> Result<(), Refused>
-    ensures { OnOk result (object_declared_onto (identifiers_view names.now.items) is_constant (name_view mark.now) (maybe range_view constraint.now)
+    ensures code { OnOk result (object_declared_onto (identifiers_view names.now.items) is_constant (name_view mark.now) (maybe range_view constraint.now)
         (maybe expression_view given.now) (opened_with point.old (map declaration_view done.old.items))
         ≡ Some (opened_with point.new (map declaration_view done.new.items))) }
+    ensures only { OnOk result (OnlyDeclares point.old.scope point.new.scope) }
 {
     let range = subtype(mark, constraint, point)?;
     declared(alloc, range, is_constant, given, names, point, done)?;
     point.reveal(is_constant, names)
 }
 
+#[tactic(auto, using(crate::proofs::Ended::declares_on))]
 fn local(
     alloc: Global,
     one: &Local,
     point: &mut Point,
     done: &mut Vec<Declaration>,
 ) -> Result<(), Refused>
-    ensures { OnOk result (local_onto (local_view one.now) (opened_with point.old (map declaration_view done.old.items))
+    ensures code { OnOk result (local_onto (local_view one.now) (opened_with point.old (map declaration_view done.old.items))
         ≡ Some (opened_with point.new (map declaration_view done.new.items))) }
+    ensures only { OnOk result (OnlyDeclares point.old.scope point.new.scope) }
 {
     match one {
         Local::Object {
@@ -226,14 +235,16 @@ fn local(
     }
 }
 
+#[tactic(auto, using(crate::proofs::Ended::declares_on))]
 fn locals(
     alloc: Global,
     list: &Vec<Local>,
     point: &mut Point,
     done: &mut Vec<Declaration>,
 ) -> Result<(), Refused>
-    ensures { OnOk result (locals_onto (map local_view list.now.items) (opened_with point.old (map declaration_view done.old.items))
+    ensures code { OnOk result (locals_onto (map local_view list.now.items) (opened_with point.old (map declaration_view done.old.items))
         ≡ Some (opened_with point.new (map declaration_view done.new.items))) }
+    ensures only { OnOk result (OnlyDeclares point.old.scope point.new.scope) }
 {
     for one in list {
         local(alloc, one, point, done)?;
@@ -307,7 +318,8 @@ pub(crate) fn block(
     part: &Block,
     point: &mut Point,
 ) -> Result<Body, Refused>
-    ensures { IfOk result (λ b. block_of parameters.items is_function point.old (block_view part.now) ≡ Some (body_view b)) }
+    ensures code { IfOk result (λ b. block_of parameters.items is_function point.old (block_view part.now) ≡ Some (body_view b)) }
+    ensures only { OnOk result (OnlyDeclares point.old.scope point.new.scope) }
 {
     let mut declarations = Vec::new(alloc);
     locals(alloc, &part.locals, point, &mut declarations)?;

@@ -29,7 +29,8 @@ fn take_name(
     name: &Identifier,
     point: &mut Point,
 ) -> Result<(), Refused>
-    ensures { OnOk result (name_taken parameters.now (identifier_view name.now) point.old ≡ Some point.new) }
+    ensures code { OnOk result (name_taken parameters.now (identifier_view name.now) point.old ≡ Some point.new) }
+    ensures scope { OnOk result (point.new.scope ≡ point.old.scope) }
 {
     match parameters.get(point.slots()) {
         Some(parameter) => point.take_slot(name.at, parameter.range, parameter.mode.goes_out()),
@@ -42,7 +43,8 @@ fn take_names(
     names: &Vec<Identifier>,
     point: &mut Point,
 ) -> Result<(), Refused>
-    ensures { OnOk result (names_taken parameters.now (identifiers_view names.now.items) point.old ≡ Some point.new) }
+    ensures code { OnOk result (names_taken parameters.now (identifiers_view names.now.items) point.old ≡ Some point.new) }
+    ensures scope { OnOk result (point.new.scope ≡ point.old.scope) }
 {
     for name in names {
         take_name(parameters, name, point)?;
@@ -55,7 +57,8 @@ fn take_parameters(
     list: &Vec<Specification>,
     point: &mut Point,
 ) -> Result<(), Refused>
-    ensures { OnOk result (parameters_taken parameters.now (map parameter_view list.now.items) point.old ≡ Some point.new) }
+    ensures code { OnOk result (parameters_taken parameters.now (map parameter_view list.now.items) point.old ≡ Some point.new) }
+    ensures scope { OnOk result (point.new.scope ≡ point.old.scope) }
 {
     for one in list {
         take_names(parameters, &one.names, point)?;

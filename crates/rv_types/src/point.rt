@@ -3,6 +3,7 @@
 ghost use Rattle.std.specs.Prelude.{◌≡◌, OnOk, ℕ};
 ghost use Rattle.rv_tree.specs.NameView.{identifier_view, identifiers_view, name_view};
 ghost use Rattle.rv_tree.specs.Names.{Identifier as IdentifierView};
+ghost use Rattle.rv_names.specs.Scope.{OnlyDeclares};
 ghost use Rattle.rv_names.specs.Visible.{visible};
 ghost use Rattle.rv_types.specs.Blocks.{hidden, revealed};
 ghost use Rattle.rv_types.specs.BodiesOf.{point_in};
@@ -224,7 +225,8 @@ impl<'a> Point<'a> {
 
     /// Identifiers inside their own declaration.
     pub(crate) fn hide(&mut self, names: &Vec<Identifier>) -> Result<(), Refused>
-        ensures { OnOk result (self.new ≡ hidden (identifiers_view names.now.items) self.old) }
+        ensures point { OnOk result (self.new ≡ hidden (identifiers_view names.now.items) self.old) }
+        ensures only { OnOk result (OnlyDeclares self.old.scope self.new.scope) }
     {
         hide_all(names, &mut self.scope)?;
         Ok(())
@@ -236,7 +238,8 @@ impl<'a> Point<'a> {
         is_constant: bool,
         names: &Vec<Identifier>,
     ) -> Result<(), Refused>
-        ensures { OnOk result (self.new ≡ revealed is_constant (identifiers_view names.now.items) self.old) }
+        ensures point { OnOk result (self.new ≡ revealed is_constant (identifiers_view names.now.items) self.old) }
+        ensures only { OnOk result (OnlyDeclares self.old.scope self.new.scope) }
     {
         let form = if is_constant {
             Form::Constant
