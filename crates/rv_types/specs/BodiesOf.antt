@@ -22,7 +22,7 @@ use Rattle.rv_names.specs.Visible.{index_from}
 use Rattle.rv_names.specs.Wanted.{denoted}
 use Rattle.rv_names.specs.ExpressionUses.{simple}
 use Rattle.rv_names.specs.DeclarationUses.{with_parameters, with_declarations}
-use Rattle.rv_names.specs.UnitUses.{in_protected_unit, unit_number, with_body_item, package_scope, protected_units}
+use Rattle.rv_names.specs.UnitUses.{in_protected_unit, protected_unit_of, unit_number, with_body_item, package_scope, protected_units}
 use Rattle.rv_static.specs.Static.{◌>>=◌}
 use Rattle.rv_outline.specs.declared.outline.ObjectType.{ObjectType}
 use Rattle.rv_outline.specs.declared.outline.ObjectType.TheVariants as sort
@@ -122,8 +122,7 @@ object_bodies s scope object number bodies =
 
 -- the bodies of the object of an index are these
 abbrev pub with_object_bodies : ℕ → UnitBodies → List Body → Option UnitBodies
-with_object_bodies index u bodies =
-    if nat_lt index (length u.objects) then Some (record u { objects = slice_set u.objects index bodies }) else None
+with_object_bodies index u bodies = Some (record u { objects = slice_set u.objects index bodies })
 
 -- an object of a protected unit has the bodies of its operations; its number follows those before it
 abbrev pub object_compiled : Setting → ScopeView → ℕ → List OperationBody → ℕ → UnitBodies → Option UnitBodies
@@ -144,14 +143,20 @@ objects_compiled s scope number bodies index (object ∷ more) u =
     (perhaps_compiled s scope number bodies index object u >>= objects_compiled s scope number bodies (index + 1) more)
     else None
 
--- the bodies of the protected unit of a number
-abbrev pub unit_compiled : Setting → List ProtectedUnit → ScopeView → List OperationBody → UnitBodies → ℕ → Option UnitBodies
-unit_compiled s units scope bodies u number =
-    slice_get units number >>= λ unit. objects_compiled s (in_protected_unit unit scope) number bodies 0 s.outline.objects u
+-- the bodies of a protected unit, with its number
+abbrev pub unit_compiled : Setting → ScopeView → List OperationBody → UnitBodies → Option ℕ → Option ProtectedUnit → Option UnitBodies
+unit_compiled s scope bodies u None unit = None
+unit_compiled s scope bodies u (Some number) None = None
+unit_compiled s scope bodies u (Some number) (Some unit) =
+    objects_compiled s (in_protected_unit unit scope) number bodies 0 s.outline.objects u
+
+-- the number of the protected unit that a body is of
+abbrev pub number_of : ScopeView → ProtectedBody → Option ℕ
+number_of scope body = unit_number (denoted w.ProtectedBody scope (simple body.name))
 
 abbrev pub protected_body_compiled : Setting → List ProtectedUnit → ScopeView → ProtectedBody → UnitBodies → Option UnitBodies
 protected_body_compiled s units scope body u =
-    unit_number (denoted w.ProtectedBody scope (simple body.name)) >>= unit_compiled s units scope body.operations u
+    unit_compiled s scope body.operations u (number_of scope body) (protected_unit_of units (number_of scope body))
 
 -- Task bodies (9.1)
 
@@ -163,8 +168,7 @@ abbrev pub task_index : List ℕ → ℕ → List TaskShape → Option ℕ
 task_index name index tasks = index_from (λ task. task.name) name index tasks
 
 abbrev pub with_task_body : UnitBodies → ℕ → Body → Option UnitBodies
-with_task_body u index body =
-    if nat_lt index (length u.tasks) then Some (record u { tasks = slice_set u.tasks index (Some body) }) else None
+with_task_body u index body = Some (record u { tasks = slice_set u.tasks index (Some body) })
 
 abbrev pub task_body_compiled : Setting → ScopeView → TaskBody → UnitBodies → Option UnitBodies
 task_body_compiled s scope body u =

@@ -7,8 +7,8 @@ ghost use Rattle.rv_tree.specs.BodyView.{operation_body_view, protected_body_vie
 ghost use Rattle.rv_tree.specs.UnitView.{body_item_view};
 ghost use Rattle.rv_names.specs.Scope.{declaring_all, hiding, hiding_all, with_meaning};
 ghost use Rattle.rv_names.specs.Visible.{visible};
-ghost use Rattle.rv_names.specs.DeclarationUses.{object_form, with_declaration, with_declarations};
-ghost use Rattle.rv_names.specs.UnitUses.{unit_number as unit_number_of, with_body_item};
+ghost use Rattle.rv_names.specs.DeclarationUses.{declaring_protected_unit, object_form, with_declaration, with_declarations};
+ghost use Rattle.rv_names.specs.UnitUses.{in_protected_unit, unit_number as unit_number_of, with_body_item};
 ghost use Rattle.rv_code.specs.BodyView.{body_view, maybe_body_view, object_view, unit_view};
 ghost use Rattle.rv_types.specs.BodiesOf.{with_object_bodies, object_compiled, perhaps_compiled, objects_compiled, protected_body_compiled, task_index as index_of_task, with_task_body, task_body_compiled, item_compiled, items_compiled, no_objects_onto, no_tasks_onto, no_bodies as no_bodies_of};
 
@@ -40,7 +40,6 @@ fn unit_number(found: Option<Declared>) -> Option<usize>
 }
 
 // Puts the bodies of an object in their place.
-#[tactic(auto, using(crate::proofs::Pushed::put_bodies))]
 fn put_object(
     compiled: &mut UnitBodies,
     index: usize,
@@ -57,7 +56,6 @@ fn put_object(
 }
 
 // Puts the body of a task in its place.
-#[tactic(auto, using(crate::proofs::Pushed::put_task))]
 fn put_task(
     compiled: &mut UnitBodies,
     index: usize,
@@ -156,6 +154,29 @@ fn all_object_bodies<'a>(
     Ok(scope)
 }
 
+// The body of a protected unit of a number.
+fn in_unit<'a>(
+    alloc: Global,
+    setting: &Setting<'a>,
+    unit: &ProtectedUnit,
+    number: usize,
+    body: &ProtectedBody,
+    compiled: &mut UnitBodies,
+    around: Scope<'a>,
+) -> Result<Scope<'a>, Refused>
+    ensures code { IfOk result (λ _. objects_compiled setting.now (in_protected_unit (protected_unit_view unit.now) around.entry) number (map operation_body_view body.now.operations.items) 0 setting.now.outline.objects (unit_view compiled.old) ≡ Some (unit_view compiled.new)) }
+    ensures scope { IfOk result (λ s. s ≡ around.entry) }
+{
+    let mut scope = around;
+    let current = scope.current();
+    enter_members(unit, &mut scope)?;
+    scope.set_current(Some(unit.name.at));
+    let mut left = all_object_bodies(alloc, setting, number, body, compiled, scope)?;
+    left.leave();
+    left.set_current(current);
+    Ok(left)
+}
+
 // A protected body.
 fn protected_body<'a>(
     alloc: Global,
@@ -168,22 +189,14 @@ fn protected_body<'a>(
     ensures code { IfOk result (λ _. protected_body_compiled setting.now (map (λ u. protected_unit_view u.now) units.now) around.entry (protected_body_view body.now) (unit_view compiled.old) ≡ Some (unit_view compiled.new)) }
     ensures scope { IfOk result (λ s. s ≡ around.entry) }
 {
-    let at = body.name.at;
     let found = around.denoted_by_body(Wanted::ProtectedBody, &body.name);
     let Some(number) = unit_number(found) else {
-        return Err(mismatch(at));
+        return Err(mismatch(body.name.at));
     };
-    let Some(unit) = units.get(number) else {
-        return Err(mismatch(at));
-    };
-    let mut scope = around;
-    let current = scope.current();
-    enter_members(unit, &mut scope)?;
-    scope.set_current(Some(unit.name.at));
-    let mut left = all_object_bodies(alloc, setting, number, body, compiled, scope)?;
-    left.leave();
-    left.set_current(current);
-    Ok(left)
+    match units.get(number) {
+        Some(unit) => in_unit(alloc, setting, unit, number, body, compiled, around),
+        None => Err(mismatch(body.name.at)),
+    }
 }
 
 // The index of the task of a name.
@@ -218,17 +231,25 @@ fn task_part<'a>(
     Ok(left)
 }
 
+// What the objects of a mark denote: objects of a protected type, else suspension objects.
+fn form_of(found: Option<Declared>) -> Form
+    ensures { result ≡ object_form found }
+{
+    match found {
+        Some(Declared::ProtectedType(_, number)) => Form::ProtectedObject(number),
+        _ => Form::Suspension,
+    }
+}
+
 // The objects of the package that a variable declares (3.3.1).
 fn variable(names: &Vec<Identifier>, mark: &Name, scope: &mut Scope) -> Result<(), AllocError>
     ensures { OnOk result (scope.new ≡ declaring_all (object_form (visible (hiding_all (identifiers_view names.now.items) scope.old) (name_view mark.now)))
         (identifiers_view names.now.items) (hiding_all (identifiers_view names.now.items) scope.old)) }
 {
     hide_all(names, scope)?;
-    let form = match scope.visible(mark) {
-        Some(Declared::ProtectedType(_, number)) => Form::ProtectedObject(number),
-        _ => Form::Suspension,
-    };
-    declare_all(names, form, scope)
+    let form = form_of(scope.visible(mark));
+    declare_all(names, form, scope)?;
+    Ok(())
 }
 
 // Constants.
@@ -247,6 +268,14 @@ fn identifier(declared: &Identifier, meaning: Declared, scope: &mut Scope) -> Re
     scope.declare(declared, Some(meaning))
 }
 
+// A protected unit, with what others see of it.
+fn protected_unit(unit: &ProtectedUnit, scope: &mut Scope) -> Result<(), AllocError>
+    ensures { OnOk result (scope.new ≡ declaring_protected_unit (protected_unit_view unit.now) scope.old) }
+{
+    hide(&unit.name, scope)?;
+    scope.declare_protected_unit(unit)
+}
+
 /// A declaration of the package.
 pub(crate) fn declare(one: &Declaration, scope: &mut Scope) -> Result<(), AllocError>
     ensures { OnOk result (scope.new ≡ with_declaration (declaration_view one.now) scope.old) }
@@ -259,7 +288,7 @@ pub(crate) fn declare(one: &Declaration, scope: &mut Scope) -> Result<(), AllocE
             mark: _,
             range: _,
         } => identifier(name, Declared::Subtype(name.at), scope),
-        Declaration::Protected(unit) => scope.declare_protected_unit(unit),
+        Declaration::Protected(unit) => protected_unit(unit, scope),
         Declaration::Task(task) => identifier(&task.name, Declared::Task(task.name.at), scope),
         Declaration::Variable { names, mark } => variable(names, mark, scope),
         Declaration::Constant {

@@ -3,5 +3,5 @@ use Rattle.rv_code.specs.BodyView.{object_view}
 use Rattle.rv_types.specs.BodiesOf.{no_objects_onto}
 use Rattle.rv_types.proofs.unit.no_objects.Given as goal
 
-abbrev pub invariant-loop-_object : goal.invariant-loop-_object
-invariant-loop-_object l = no_objects_onto (drop l._object-index l.list) (map object_view l.done.items) ≡ no_objects_onto l.list []
+abbrev pub invariant-loop-object : goal.invariant-loop-object
+invariant-loop-object l = no_objects_onto (drop l._object-index l.list) (map object_view l.done.items) ≡ no_objects_onto l.list []
