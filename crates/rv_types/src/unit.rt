@@ -357,6 +357,14 @@ fn push_object(done: &mut Vec<ObjectBodies>, operations: Vec<Body>) -> Result<()
     Ok(())
 }
 
+// No bodies, behind those of other objects.
+fn push_nothing(alloc: Global, done: &mut Vec<ObjectBodies>) -> Result<(), AllocError>
+    ensures { OnOk result (map object_view done.new.items ≡ map object_view done.old.items ++ [] ∷ []) }
+{
+    push_object(done, Vec::new(alloc))?;
+    Ok(())
+}
+
 fn push_task(done: &mut Vec<Option<Body>>) -> Result<(), AllocError>
     ensures { OnOk result (map maybe_body_view done.new.items ≡ map maybe_body_view done.old.items ++ None ∷ []) }
 {
@@ -369,7 +377,7 @@ fn no_objects(alloc: Global, list: &[ObjectType]) -> Result<Vec<ObjectBodies>, A
 {
     let mut done = Vec::new(alloc);
     for _object in list {
-        push_object(&mut done, Vec::new(alloc))?;
+        push_nothing(alloc, &mut done)?;
     }
     Ok(done)
 }
