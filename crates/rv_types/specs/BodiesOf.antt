@@ -1,5 +1,5 @@
 -- The bodies of a unit (ISO/IEC 8652:2012, 6.1, 6.3, 7.2, 9.1, 9.4, 9.5.2).
-use Rattle.std.specs.Prelude.{ℕ, zero, suc, ◌+◌, ◌==◌, Bool, true, false, is_some, nat_lt, ◌||◌, if◌then◌else◌, List, [], ◌∷◌, ◌++◌, map, length, Option, Some, None, slice_get, slice_set}
+use Rattle.std.specs.Prelude.{ℕ, ◌+◌, ◌==◌, Bool, true, false, is_some, nat_lt, ◌||◌, if◌then◌else◌, List, [], ◌∷◌, ◌++◌, length, Option, Some, None, slice_get, slice_set}
 use Rattle.rv_text.specs.Names.{is_same_name}
 use Rattle.rv_tree.specs.Names.{Identifier, Name}
 use Rattle.rv_tree.specs.Declarations.{Parameter, ProtectedUnit}
@@ -11,7 +11,7 @@ use Rattle.rv_shape.specs.declared.kind.Kind.{Kind}
 use Rattle.rv_shape.specs.declared.kind.Kind.TheVariants as kind
 use Rattle.rv_shape.specs.Kinds.{goes_out}
 use Rattle.rv_shape.specs.Shape.{Shape}
-use Rattle.rv_shape.specs.Objects.{OperationShape, ProtectedShape, TaskShape}
+use Rattle.rv_shape.specs.Objects.{OperationShape, TaskShape}
 use Rattle.rv_shape.specs.Catalogue.{all_objects}
 use Rattle.rv_names.specs.declared.predefined.Library.TheVariants.{RealTime}
 use Rattle.rv_names.specs.declared.wanted.Wanted.TheVariants as w
@@ -26,7 +26,6 @@ use Rattle.rv_names.specs.UnitUses.{in_protected_unit, protected_unit_of, unit_n
 use Rattle.rv_static.specs.Static.{◌>>=◌}
 use Rattle.rv_outline.specs.declared.outline.ObjectType.{ObjectType}
 use Rattle.rv_outline.specs.declared.outline.ObjectType.TheVariants as sort
-use Rattle.rv_outline.specs.Known.{Table}
 use Rattle.rv_outline.specs.Shapes.{OutlineView, outlined}
 use Rattle.rv_code.specs.Bodies.{Body, UnitBodies}
 use Rattle.rv_types.specs.Points.{PointView, taking_slot}

@@ -1,5 +1,5 @@
 -- What loops go over, and what choices cover (ISO/IEC 8652:2012, 3.6.1, 5.4, 5.5).
-use Rattle.std.specs.Prelude.{ℤ, Bool, true, false, if◌then◌else◌, List, [], ◌∷◌, ◌++◌, Option, Some, None}
+use Rattle.std.specs.Prelude.{ℤ, true, if◌then◌else◌, List, [], ◌∷◌, ◌++◌, Option, Some, None}
 use Rattle.rv_tree.specs.Names.{Name}
 use Rattle.rv_tree.specs.Expressions.{Expression, name, RangeConstraint}
 use Rattle.rv_tree.specs.Statements.{LoopBounds, whole_bounds, two_bounds, constrained_bounds}
@@ -13,7 +13,7 @@ use Rattle.rv_code.specs.Expressions as code
 use Rattle.rv_code.specs.declared.statement.Choice.{Choice}
 use Rattle.rv_code.specs.declared.statement.Choice.TheVariants as choice
 use Rattle.rv_types.specs.Points.{PointView, static_meaning}
-use Rattle.rv_types.specs.Typed.{Typed, typed, typed_as, literal_in}
+use Rattle.rv_types.specs.Typed.{typed, typed_as, literal_in}
 
 -- what a loop goes over: two bounds that lie in a range, and the subtype of its parameter
 pub record Bounds : Type 0 where

@@ -1,5 +1,5 @@
 -- What names denote at a point of a body (ISO/IEC 8652:2012, 4.1, 8.6, 9.4, 9.5).
-use Rattle.std.specs.Prelude.{ℕ, zero, suc, ◌+◌, ◌==◌, nat_lt, if◌then◌else◌, Bool, true, false, List, [], ◌∷◌, ◌++◌, Option, Some, None, slice_get, length}
+use Rattle.std.specs.Prelude.{ℕ, zero, suc, ◌+◌, ◌==◌, nat_lt, if◌then◌else◌, Bool, false, List, [], ◌∷◌, ◌++◌, Option, Some, None, slice_get, length}
 use Rattle.rv_tree.specs.Names.{Identifier, Name}
 use Rattle.rv_event.specs.declared.entry.Exception.TheVariants as exception
 use Rattle.rv_shape.specs.declared.kind.Range.{Range}

@@ -3,7 +3,6 @@
 use Rattle.std.specs.Prelude.{ℕ, List, [], ◌∷◌, ◌++◌, if◌then◌else◌, Option, Some, None}
 use Rattle.rv_tree.specs.Names.{Name}
 use Rattle.rv_tree.specs.Expressions.{Expression, name, Expressions, no_expressions, and_expression}
-use Rattle.rv_shape.specs.declared.kind.Range.{Range}
 use Rattle.rv_shape.specs.declared.kind.Parameter.{Parameter}
 use Rattle.rv_shape.specs.declared.kind.ParameterMode.{ParameterMode}
 use Rattle.rv_shape.specs.declared.kind.ParameterMode.TheVariants as mode

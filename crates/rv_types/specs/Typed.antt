@@ -1,7 +1,6 @@
 -- The type of an expression and the code that gives its value (ISO/IEC 8652:2012, 4.4, 4.5, 4.6, 6.4, D.8, D.10). There is
 -- none where a type, a number of arguments or a static value doesn't fit.
 use Rattle.std.specs.Prelude.{ℕ, ℤ, pos, Bool, true, false, ◌&&◌, not, if◌then◌else◌, List, [], ◌∷◌, ◌++◌, Option, Some, None}
-use Rattle.rv_tree.specs.Names.{Name}
 use Rattle.rv_tree.specs.Expressions.{Expression, literal, name, attribute, call, parenthesized, highest, product, signed, sum, relation, logical, Expressions, no_expressions, and_expression, Factors, no_factors, and_factor, Terms, no_terms, and_term}
 use Rattle.rv_tree.specs.declared.expression.HighestOperator.{HighestOperator}
 use Rattle.rv_tree.specs.declared.expression.HighestOperator.TheVariants as highest_operator

@@ -1,5 +1,5 @@
 -- The typed expressions that values of the code stand for.
-use Rattle.std.specs.Prelude.{List, map}
+use Rattle.std.specs.Prelude.{map}
 use Rattle.rv_code.specs.ExpressionView.{expression_view, link_view}
 use Rattle.rv_types.specs.Typed as t
 use Rattle.rv_types.specs.declared.typed.Typed.{Typed}

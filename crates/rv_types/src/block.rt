@@ -21,14 +21,16 @@ use crate::refused::{Refused, mismatch};
 use crate::statement::statements;
 use crate::static_form::is_static;
 use rv_code::{
-    Body, Declaration, ExceptionChoice as Caught, Expression as Code, Handler as CodeHandler, Place,
-    Statement as Action, Target,
+    Body, Declaration, ExceptionChoice as Caught, Expression as Code, Handler as CodeHandler,
+    Place, Statement as Action, Target,
 };
 use rv_outline::known::Known;
 use rv_outline::subtype::constrained_subtype;
 use rv_shape::kind::{Parameter, Range};
 use rv_static::{Faults, TypeFault, default_start, value_in};
-use rv_tree::{Block, ExceptionChoice, Expression, Handler, Identifier, Local, Name, RangeConstraint};
+use rv_tree::{
+    Block, ExceptionChoice, Expression, Handler, Identifier, Local, Name, RangeConstraint,
+};
 use std::alloc::Global;
 
 // What a variable starts at.

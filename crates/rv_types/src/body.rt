@@ -24,11 +24,7 @@ use rv_tree::name::Identifier;
 use std::alloc::Global;
 
 // A parameter takes the next slot.
-fn take_name(
-    parameters: &[Parameter],
-    name: &Identifier,
-    point: &mut Point,
-) -> Result<(), Refused>
+fn take_name(parameters: &[Parameter], name: &Identifier, point: &mut Point) -> Result<(), Refused>
     ensures code { OnOk result (name_taken parameters.now (identifier_view name.now) point.old ≡ Some point.new) }
     ensures scope { OnOk result (point.new.scope ≡ point.old.scope) }
 {
@@ -141,20 +137,26 @@ fn operation_body<'a>(
             parameters,
             mark: _,
             block,
-        } => block_body(alloc, setting, object, operation, parameters, block, name.at, scope),
+        } => block_body(
+            alloc, setting, object, operation, parameters, block, name.at, scope,
+        ),
         OperationBody::Procedure {
             at: _,
             name,
             parameters,
             block,
-        } => block_body(alloc, setting, object, operation, parameters, block, name.at, scope),
+        } => block_body(
+            alloc, setting, object, operation, parameters, block, name.at, scope,
+        ),
         OperationBody::Entry {
             at: _,
             name,
             parameters,
             barrier: _,
             block,
-        } => block_body(alloc, setting, object, operation, parameters, block, name.at, scope),
+        } => block_body(
+            alloc, setting, object, operation, parameters, block, name.at, scope,
+        ),
     }
 }
 

@@ -92,12 +92,7 @@ fn parameter_range(
 }
 
 // Two bounds in a range of a discrete type.
-fn between(
-    range: Range,
-    low: Code,
-    high: Code,
-    places: (usize, usize),
-) -> Result<Bounds, Refused>
+fn between(range: Range, low: Code, high: Code, places: (usize, usize)) -> Result<Bounds, Refused>
     ensures { IfOk result (λ b. bounds_of_codes range (code_view low) (code_view high) ≡ Some (bounds_view b)) }
 {
     let parameter = parameter_range(range, literal_in(&low), literal_in(&high), places)?;

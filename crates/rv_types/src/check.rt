@@ -77,8 +77,7 @@ fn context_times(context: &Vec<ContextItem>, scope: &Scope) -> bool
 }
 
 // The compiled bodies of a text.
-fn bodies(alloc: Global, named: &Named, outline: &Outline) -> Result<UnitBodies, Refused>
-{
+fn bodies(alloc: Global, named: &Named, outline: &Outline) -> Result<UnitBodies, Refused> {
     let tree = named.tree;
     let units = protected_units(alloc, tree)?;
     let mut scope = package_scope(alloc, named)?;
@@ -90,7 +89,14 @@ fn bodies(alloc: Global, named: &Named, outline: &Outline) -> Result<UnitBodies,
     };
     declare_all_of(&tree.specification.declarations, &mut scope)?;
     let mut compiled = no_bodies(alloc, outline)?;
-    items(alloc, &setting, units.as_slice(), &tree.body.items, &mut compiled, scope)?;
+    items(
+        alloc,
+        &setting,
+        units.as_slice(),
+        &tree.body.items,
+        &mut compiled,
+        scope,
+    )?;
     Ok(compiled)
 }
 

@@ -201,7 +201,14 @@ pub(crate) fn uncovered(
     let mut left = list.len();
     for alternative in list {
         left = left.saturating_sub(1);
-        gather_all(alternative, left == 0, range, point, &mut gathered, &mut faults)?;
+        gather_all(
+            alternative,
+            left == 0,
+            range,
+            point,
+            &mut gathered,
+            &mut faults,
+        )?;
     }
     tell_coverage(range, selector.place(), gathered, &mut faults)?;
     match faults.first() {

@@ -13,8 +13,9 @@ ghost use Rattle.rv_types.specs.TypedView.{typed_view, sum_view};
 
 use crate::denoted::Denoted;
 use crate::operators::{
-    Adder, adder_of, chain_of, is_decided, is_related, joined_value, logical_operator, multiplying_operator,
-    pair_of, prefixed_by, push_link, relational_operator, signed_by, takes_left, within_range,
+    Adder, adder_of, chain_of, is_decided, is_related, joined_value, logical_operator,
+    multiplying_operator, pair_of, prefixed_by, push_link, relational_operator, signed_by,
+    takes_left, within_range,
 };
 use crate::point::Point;
 use crate::refused::{Refused, mismatch};
@@ -24,8 +25,8 @@ use rv_code::{Callee, Expression as Code, Link, Prefix};
 use rv_shape::kind::{Parameter, Range, ValueType};
 use rv_static::{Faults, Meaning, Meanings, Static, TypeFault, static_value};
 use rv_tree::{
-    AddingOperator, Expression, Factor, HighestOperator, LogicalOperator, Name,
-    RelationalOperator, Term,
+    AddingOperator, Expression, Factor, HighestOperator, LogicalOperator, Name, RelationalOperator,
+    Term,
 };
 use std::alloc::Global;
 
@@ -249,7 +250,13 @@ fn factor_links(
 {
     let mut links = Vec::new(alloc);
     for factor in more {
-        let right = operand(alloc, ValueType::Integer, &factor.operand, is_evaluated, point)?;
+        let right = operand(
+            alloc,
+            ValueType::Integer,
+            &factor.operand,
+            is_evaluated,
+            point,
+        )?;
         push_link(&mut links, multiplying_operator(factor.operator), right)?;
     }
     Ok(links)
@@ -316,7 +323,12 @@ fn relation(
         return Err(mismatch(at));
     }
     let second = operand(alloc, left.of, right, is_evaluated, point)?;
-    pair_of(alloc, left.into_code(), relational_operator(operator), second)
+    pair_of(
+        alloc,
+        left.into_code(),
+        relational_operator(operator),
+        second,
+    )
 }
 
 // Relations that one operator joins, behind the first of them.
@@ -331,7 +343,14 @@ fn logic(
 ) -> Result<Typed, Refused>
     ensures { IfOk result (λ t. logic_of point.now is_evaluated operator (code_view first) (expressions_of (expressions_view more.now.items)) ≡ Some (typed_view t)) }
 {
-    let links = logic_links(alloc, operator, literal_in(&first), more, is_evaluated, point)?;
+    let links = logic_links(
+        alloc,
+        operator,
+        literal_in(&first),
+        more,
+        is_evaluated,
+        point,
+    )?;
     chain_of(alloc, ValueType::Boolean, first, links)
 }
 

@@ -184,7 +184,9 @@ fn known_value(known: Option<Known>) -> Denoted
     ensures { result ≡ value_known known }
 {
     match known {
-        Some(Known::Variable(slot, range, is_written)) => Denoted::Variable(slot, range, is_written),
+        Some(Known::Variable(slot, range, is_written)) => Denoted::Variable(
+            slot, range, is_written,
+        ),
         Some(Known::Component(index, range)) => Denoted::Component(index, range),
         _ => Denoted::Other,
     }

@@ -202,7 +202,11 @@ pub(crate) fn prefixed_by(
 }
 
 /// A sign before its operand.
-pub(crate) fn signed_by(alloc: Global, sign: AddingOperator, operand: Code) -> Result<Typed, Refused>
+pub(crate) fn signed_by(
+    alloc: Global,
+    sign: AddingOperator,
+    operand: Code,
+) -> Result<Typed, Refused>
     ensures { IfOk result (λ t. typed_view t ≡ value_of ValueType.Integer (code_signed sign (code_view operand))) }
 {
     match sign {

@@ -10,7 +10,9 @@ ghost use Rattle.rv_types.specs.BodiesOf.{point_in};
 ghost use Rattle.rv_types.specs.Points.{PointView, static_meaning, point_meaning, denotes, denoted_by, profile, profile_of, shows_times, local_at, known_in, noting, taking_slot, in_bounds as inside_bounds, with_loop_parameter};
 
 use crate::denoted::Denoted;
-use crate::names::{known_meaning, denoted_by as denoted_declaration, profile_of as profile_of_declaration};
+use crate::names::{
+    denoted_by as denoted_declaration, known_meaning, profile_of as profile_of_declaration,
+};
 use crate::refused::Refused;
 use crate::setting::Setting;
 use rv_code::MOST_SLOTS;

@@ -108,12 +108,7 @@ fn read_from(place: Place) -> Code
 }
 
 // Why an argument can't take a value: it is no variable, or may not be written.
-fn refused_target(
-    alloc: Global,
-    parameter: Parameter,
-    e: &Expression,
-    point: &Point,
-) -> Refused {
+fn refused_target(alloc: Global, parameter: Parameter, e: &Expression, point: &Point) -> Refused {
     let bad_mode = Refused(TypeFault::BadMode(e.place()));
     match expression(alloc, e, true, point) {
         Ok(found) => {
@@ -308,8 +303,13 @@ pub(crate) fn call_statement(
     match point.denoted(name) {
         Denoted::Procedure(callee) => {
             may_call(callee, at, point)?;
-            let Passed { arguments, targets } =
-                pass_all(alloc, point.parameters(name), list, at, point)?;
+            let Passed { arguments, targets } = pass_all(
+                alloc,
+                point.parameters(name),
+                list,
+                at,
+                point,
+            )?;
             Ok(Action::Call(callee, arguments, targets))
         }
         Denoted::Setter(operation) => {

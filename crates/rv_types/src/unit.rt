@@ -56,12 +56,7 @@ fn put_object(
 }
 
 // Puts the body of a task in its place.
-fn put_task(
-    compiled: &mut UnitBodies,
-    index: usize,
-    body: Body,
-    at: usize,
-) -> Result<(), Refused>
+fn put_task(compiled: &mut UnitBodies, index: usize, body: Body, at: usize) -> Result<(), Refused>
     ensures { OnOk result (with_task_body (unit_view compiled.old) index (body_view body) ≡ Some (unit_view compiled.new)) }
 {
     if index < compiled.tasks.len() {
@@ -148,7 +143,9 @@ fn all_object_bodies<'a>(
         if index >= 4294967296 {
             return Err(mismatch(body.name.at));
         }
-        scope = perhaps_bodies(alloc, setting, number, body, index, *object, compiled, scope)?;
+        scope = perhaps_bodies(
+            alloc, setting, number, body, index, *object, compiled, scope,
+        )?;
         index += 1;
     }
     Ok(scope)
@@ -338,8 +335,7 @@ pub(crate) fn items<'a>(
     list: &Vec<BodyItem>,
     compiled: &mut UnitBodies,
     around: Scope<'a>,
-) -> Result<(), Refused>
-{
+) -> Result<(), Refused> {
     let mut scope = around;
     for one in list {
         scope = item(alloc, setting, units, one, compiled, scope)?;
@@ -369,8 +365,7 @@ fn push_task(done: &mut Vec<Option<Body>>) -> Result<(), AllocError>
     Ok(())
 }
 
-fn no_objects(alloc: Global, list: &[ObjectType]) -> Result<Vec<ObjectBodies>, AllocError>
-{
+fn no_objects(alloc: Global, list: &[ObjectType]) -> Result<Vec<ObjectBodies>, AllocError> {
     let mut done = Vec::new(alloc);
     for _object in list {
         push_nothing(alloc, &mut done)?;
@@ -389,8 +384,7 @@ fn no_tasks(alloc: Global, list: &[Task]) -> Result<Vec<Option<Body>>, AllocErro
 }
 
 /// No bodies yet.
-pub(crate) fn no_bodies(alloc: Global, outline: &Outline) -> Result<UnitBodies, AllocError>
-{
+pub(crate) fn no_bodies(alloc: Global, outline: &Outline) -> Result<UnitBodies, AllocError> {
     let objects = no_objects(alloc, outline.objects())?;
     let tasks = no_tasks(alloc, outline.shape().tasks())?;
     Ok(UnitBodies { objects, tasks })

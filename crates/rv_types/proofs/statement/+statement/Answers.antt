@@ -1,4 +1,4 @@
-use Rattle.std.proofs.Common.{◌≡◌, ◌∙◌, ap}
+use Rattle.std.proofs.Common.{◌∙◌, ap}
 use Rattle.rv_tree.specs.NameView.{identifier_view}
 use Rattle.rv_types.specs.Points.{PointView, with_loop_parameter}
 use Rattle.rv_types.proofs.statement.+statement.Goals as goal

@@ -1,4 +1,4 @@
-use Rattle.std.proofs.Common.{◌∙◌, ap, ℕ, Option, Some}
+use Rattle.std.proofs.Common.{◌∙◌, ap, ℕ, Option}
 use Rattle.rv_types.proofs.Ended.{unit_left}
 use Rattle.rv_types.proofs.unit.in_unit.Goals as goal
 

@@ -1,5 +1,4 @@
-use Rattle.std.proofs.Common.{◌≡◌, ◌∙◌, ap, sym, ℕ, ◌-◌, List, arith, false}
-use Rattle.rv_names.specs.Scope.{ScopeView}
+use Rattle.std.proofs.Common.{◌∙◌, ap, arith, false}
 use Rattle.rv_outline.specs.declared.known.Known.TheVariants as k
 use Rattle.rv_types.specs.Points.{PointView, in_bounds, with_loop_parameter}
 use Rattle.rv_types.proofs.Ended.{loop_ended, before_last}
