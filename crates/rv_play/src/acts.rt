@@ -21,7 +21,7 @@ use rv_shape::shape::UnitShape;
 use rv_step::lookup::{actor_of, request_of};
 use rv_step::reading::{StepError, step_of};
 use rv_step::step::{Asked, Step};
-use rv_unit::{UnitFault, compile};
+use rv_unit::{Unit, UnitFault, compile};
 use std::alloc::{AllocError, Global};
 
 // A deed that was made, unless memory was refused.
@@ -63,7 +63,7 @@ fn text_deed(
         return Err(refused(line, What::TooLong));
     }
     match compile(alloc, text, catalogue) {
-        Ok(unit) => made(Deed::load(alloc, unit.shape)),
+        Ok(Unit { shape, bodies: _ }) => made(Deed::load(alloc, shape)),
         Err(UnitFault::NoMemory) => Err(Failure::Memory),
         Err(fault) => Err(refused(line, What::Unit(fault))),
     }

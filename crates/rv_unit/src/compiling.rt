@@ -10,13 +10,12 @@ use crate::fault::UnitFault;
 use crate::unit::Unit;
 use rv_names::NameFault;
 use rv_names::resolve::{Named, resolve};
-use rv_outline::outline_of;
 use rv_parse::{ParseFault, parse};
 use rv_restrict::first_violation;
 use rv_shape::catalogue::Catalogue;
-use rv_shape::shape::UnitShape;
-use rv_static::{Faults, TypeFault};
+use rv_static::TypeFault;
 use rv_tree::UnitTree;
+use rv_types::{Checked, check_types};
 use std::alloc::Global;
 
 // The tree of a text.
@@ -32,20 +31,17 @@ fn tree_of(alloc: Global, text: &str) -> Result<UnitTree, UnitFault>
     }
 }
 
-// The shape of a text whose names are bound.
-fn shape_of(alloc: Global, named: &Named) -> Result<UnitShape, UnitFault>
-    ensures shape { IfOk result (λ shape. shape_of_tree named.now.catalogue.now (unit_view named.now.tree.now) ≡ Some shape) }
+// The shape and the bodies of a text whose names are bound.
+fn checked(alloc: Global, named: &Named) -> Result<Checked, UnitFault>
+    ensures shape { IfOk result (λ checked.
+        shape_of_tree named.now.catalogue.now (unit_view named.now.tree.now) ≡ Some checked.shape) }
     ensures fault { IfErr result (λ fault. IsBound named.now.catalogue.now (unit_view named.now.tree.now)
         → IsOfTree named.now.catalogue.now (unit_view named.now.tree.now) fault) }
 {
-    let mut faults = Faults::new();
-    let Ok(outline) = outline_of(alloc, named, &mut faults) else {
-        return Err(UnitFault::NoMemory);
-    };
-    match faults.first() {
-        None => Ok(outline.into_parts().0),
-        Some(TypeFault::NoMemory) => Err(UnitFault::NoMemory),
-        Some(fault) => Err(UnitFault::Types(fault)),
+    match check_types(alloc, named) {
+        Ok(checked) => Ok(checked),
+        Err(TypeFault::NoMemory) => Err(UnitFault::NoMemory),
+        Err(fault) => Err(UnitFault::Types(fault)),
     }
 }
 
@@ -62,9 +58,9 @@ fn unit_of(alloc: Global, tree: &UnitTree, catalogue: &Catalogue) -> Result<Unit
         Err(NameFault::NoMemory) => return Err(UnitFault::NoMemory),
         Err(fault) => return Err(UnitFault::Names(fault)),
     };
-    let shape = shape_of(alloc, &named)?;
+    let Checked { shape, bodies } = checked(alloc, &named)?;
     match catalogue.shape_fits(&shape) {
-        None => Ok(Unit { shape }),
+        None => Ok(Unit { shape, bodies }),
         Some(fault) => Err(UnitFault::Shape(fault)),
     }
 }

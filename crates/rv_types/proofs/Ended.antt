@@ -1,0 +1,56 @@
+-- A loop that was begun ends where it began.
+use Rattle.std.proofs.Common.{◌≡◌, ◌∙◌, ap, sym, subst, Option, ℕ, ◌-◌, List, [], ◌∷◌, ◌++◌, length, take, arith}
+use Rattle.std.proofs.lemmas.List.{length-append}
+use Rattle.std.proofs.Math.Seq.{take-append_seam}
+use Rattle.rv_tree.specs.Names.{Identifier}
+use Rattle.rv_shape.specs.declared.kind.Range.{Range}
+use Rattle.rv_names.specs.Scope.{ScopeView, Region, OnlyDeclares, entered}
+use Rattle.rv_types.specs.declared.point.Local.{Local}
+use Rattle.rv_types.specs.Points.{PointView, in_bounds, with_loop_parameter}
+
+pub loop_ended : (q p : PointView) (i : Identifier) (r : Range) (s : ScopeView) (ls : List Local) (n : ℕ) →
+    q ≡ with_loop_parameter i r (in_bounds i p) → s ≡ p.scope → ls ≡ p.locals → n ≡ p.slots →
+    record q { scope = s; locals = ls; slots = n } ≡ p
+loop_ended q p i r s ls n h es el en =
+    ap (λ (x : ScopeView). record q { scope = x; locals = ls; slots = n }) es
+    ∙ ap (λ (x : List Local). record q { scope = p.scope; locals = x; slots = n }) el
+    ∙ ap (λ (x : ℕ). record q { scope = p.scope; locals = p.locals; slots = x }) en
+    ∙ ap (λ (x : PointView). record x { scope = p.scope; locals = p.locals; slots = p.slots }) h
+
+-- what stands before the last of a list of so many
+pub before_last : (ls : List Local) (x : Local) (xs rest : List Local) (n : ℕ) →
+    xs ≡ ls ++ x ∷ [] → n ≡ length xs → rest ≡ take (n - 1) xs → rest ≡ ls
+before_last ls x xs rest n h long r =
+    let m : n - 1 ≡ length ls = omega (arith, long, ap (λ (ys : List Local). length ys) h, length-append ls (x ∷ [])) in
+    r ∙ ap (λ (ys : List Local). take (n - 1) ys) h
+    ∙ ap (λ (k : ℕ). take k (ls ++ x ∷ [])) m ∙ take-append_seam ls (x ∷ [])
+
+-- one after another, declarations in the innermost region change it alone
+pub declares_on : (a b c : ScopeView) → OnlyDeclares a b → OnlyDeclares b c → OnlyDeclares a c
+declares_on a b c first second = second ∙ ap (λ (x : ScopeView). record x { innermost = c.innermost }) first
+
+pub declares_from : (a b c : ScopeView) → b ≡ a → OnlyDeclares b c → OnlyDeclares a c
+declares_from a b c same second = second ∙ ap (λ (x : ScopeView). record x { innermost = c.innermost }) same
+
+-- a region that was begun ends where it began, whatever was declared in it
+pub left : (s0 e s new : ScopeView) → ((scope : ScopeView) (region : Region) → s ≡ record (entered scope) { innermost = region } → new ≡ scope) →
+    e ≡ entered s0 → OnlyDeclares e s → new ≡ s0
+left s0 e s new leave entering only =
+    leave s0 s.innermost (only ∙ ap (λ (x : ScopeView). record x { innermost = s.innermost }) entering)
+
+-- a body ends where it began: at its start parameters were declared, and then what its block declares
+pub body_left : (s0 e e2 s new : ScopeView) (p q : PointView) →
+    ((scope : ScopeView) (region : Region) → s ≡ record (entered scope) { innermost = region } → new ≡ scope) →
+    e ≡ entered s0 → OnlyDeclares e e2 → p.scope ≡ e2 → OnlyDeclares p.scope q.scope → s ≡ q.scope → new ≡ s0
+body_left s0 e e2 s new p q leave entering first begins only ends =
+    let P : ScopeView → Type 0 = λ x. OnlyDeclares e x in
+    let Q : ScopeView → Type 0 = λ x. OnlyDeclares x q.scope in
+    left s0 e s new leave entering (subst P (sym ends) (declares_on e e2 q.scope first (subst Q begins only)))
+
+-- the body of a protected unit ends where it began
+pub unit_left : (s0 s1 s3 s4 s5 : ScopeView) (at : Option ℕ) →
+    ((scope : ScopeView) (region : Region) → s3 ≡ record (entered scope) { innermost = region } → s4 ≡ scope) →
+    OnlyDeclares (entered s0) s1 → s3 ≡ record s1 { current = at } → s5 ≡ record s4 { current = s0.current } → s5 ≡ s0
+unit_left s0 s1 s3 s4 s5 at leave only inside ends =
+    ends ∙ ap (λ (x : ScopeView). record x { current = s0.current })
+    (leave (record s0 { current = at }) s1.innermost (inside ∙ ap (λ (x : ScopeView). record x { current = at }) only))

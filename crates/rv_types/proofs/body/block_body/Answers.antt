@@ -1,0 +1,11 @@
+use Rattle.std.proofs.Common.{◌∙◌, ap}
+use Rattle.rv_types.specs.Points.{PointView}
+use Rattle.rv_types.proofs.Ended.{body_left}
+use Rattle.rv_types.proofs.body.block_body.Goals as goal
+
+pub returns-clause-scope : goal.returns-clause-scope
+returns-clause-scope c =
+    body_left c.args.around c.enter.new.self c.declare_parameters.new.scope c.into_scope-scope.result c.leave.new.self c.take_parameters.new.point c.block.new.point
+    c.leave.ensures c.in_ok-enter.ensures c.in_ok-declare_parameters.ensures.only
+    (c.in_ok-take_parameters.ensures.scope ∙ ap (λ (x : PointView). x.scope) c.new-point.ensures)
+    c.in_ok-body.ensures.only c.into_scope-scope.ensures

@@ -1,0 +1,233 @@
+-- The bodies of a unit (ISO/IEC 8652:2012, 6.1, 6.3, 7.2, 9.1, 9.4, 9.5.2).
+use Rattle.std.specs.Prelude.{ℕ, ◌+◌, ◌==◌, Bool, true, false, is_some, nat_lt, ◌||◌, if◌then◌else◌, List, [], ◌∷◌, ◌++◌, length, Option, Some, None, slice_get, slice_set}
+use Rattle.rv_text.specs.Names.{is_same_name}
+use Rattle.rv_tree.specs.Names.{Identifier, Name}
+use Rattle.rv_tree.specs.Declarations.{Parameter, ProtectedUnit}
+use Rattle.rv_tree.specs.Bodies.{Block, OperationBody, function_body, procedure_body, entry_body, ProtectedBody, TaskBody}
+use Rattle.rv_tree.specs.Units.{ContextItem, context_pragma, with_clause, use_clause, BodyItem, body_declaration, body_protected, body_task, UnitTree}
+use Rattle.rv_shape.specs.declared.kind.Range.{Range}
+use Rattle.rv_shape.specs.declared.kind.Parameter as shape
+use Rattle.rv_shape.specs.declared.kind.Kind.{Kind}
+use Rattle.rv_shape.specs.declared.kind.Kind.TheVariants as kind
+use Rattle.rv_shape.specs.Kinds.{goes_out}
+use Rattle.rv_shape.specs.Shape.{Shape}
+use Rattle.rv_shape.specs.Objects.{OperationShape, TaskShape}
+use Rattle.rv_shape.specs.Catalogue.{all_objects}
+use Rattle.rv_names.specs.declared.predefined.Library.TheVariants.{RealTime}
+use Rattle.rv_names.specs.declared.wanted.Wanted.TheVariants as w
+use Rattle.rv_names.specs.declared.declared.Declared.{Declared}
+use Rattle.rv_names.specs.declared.declared.Declared.TheVariants as d
+use Rattle.rv_names.specs.Scope.{ScopeView, entered}
+use Rattle.rv_names.specs.Visible.{index_from}
+use Rattle.rv_names.specs.Wanted.{denoted}
+use Rattle.rv_names.specs.ExpressionUses.{simple}
+use Rattle.rv_names.specs.DeclarationUses.{with_parameters, with_declarations}
+use Rattle.rv_names.specs.UnitUses.{in_protected_unit, protected_unit_of, unit_number, with_body_item, package_scope, protected_units}
+use Rattle.rv_static.specs.Static.{◌>>=◌}
+use Rattle.rv_outline.specs.declared.outline.ObjectType.{ObjectType}
+use Rattle.rv_outline.specs.declared.outline.ObjectType.TheVariants as sort
+use Rattle.rv_outline.specs.Shapes.{OutlineView, outlined}
+use Rattle.rv_code.specs.Bodies.{Body, UnitBodies}
+use Rattle.rv_types.specs.Points.{PointView, taking_slot}
+use Rattle.rv_types.specs.Blocks.{block_of}
+
+-- what is known of a text before its bodies
+pub record Setting : Type 0 where
+  -- what its declarations mean
+  pub outline : OutlineView
+  -- the loaded units
+  pub shapes : List Shape
+  -- the operators of Ada.Real_Time are visible
+  pub times : Bool
+
+-- the number of the first object of the text
+abbrev pub first_object : Setting → ℕ
+first_object s = length (all_objects s.shapes) + 1
+
+-- a point of a body as it begins, in the body of this object
+abbrev pub point_in : Setting → ScopeView → ℕ → Option Range → PointView
+point_in s scope object result = record {
+  scope = scope;
+  known = s.outline.known;
+  locals = [];
+  units = s.outline.units;
+  shapes = s.shapes;
+  times = s.times;
+  object = object;
+  slots = 0;
+  result = result;
+}
+
+-- Parameters take the first slots, in their order (6.1)
+
+-- a parameter is the next one of the operation; one that goes out may be written
+abbrev pub name_taken : List shape.Parameter → Identifier → PointView → Option PointView
+name_taken parameters i p = slice_get parameters p.slots >>= λ q. Some (taking_slot i.at q.range (goes_out q.mode) p)
+
+abbrev pub names_taken : List shape.Parameter → List Identifier → PointView → Option PointView
+names_taken parameters [] p = Some p
+names_taken parameters (i ∷ more) p = name_taken parameters i p >>= names_taken parameters more
+
+abbrev pub parameters_taken : List shape.Parameter → List Parameter → PointView → Option PointView
+parameters_taken parameters [] p = Some p
+parameters_taken parameters (one ∷ more) p = names_taken parameters one.names p >>= parameters_taken parameters more
+
+-- the operation has no other ones
+abbrev pub all_taken : List shape.Parameter → PointView → Option PointView
+all_taken parameters p = if p.slots == length parameters then Some p else None
+
+-- Bodies of operations (6.3, 9.5.2)
+
+-- the range of the result of a function
+abbrev pub result_of : Kind → Option Range
+result_of (kind.Function r) = Some r
+result_of other = None
+
+-- a block with these parameters as the body of an operation
+abbrev pub body_of : Setting → ScopeView → ℕ → OperationShape → List Parameter → Block → Option Body
+body_of s scope object operation parameters block =
+    parameters_taken operation.parameters parameters
+    (point_in s (with_parameters parameters (entered scope)) object (result_of operation.kind))
+    >>= all_taken operation.parameters
+    >>= λ p. block_of operation.parameters (is_some (result_of operation.kind)) p block
+
+abbrev pub operation_code : Setting → ScopeView → ℕ → OperationShape → OperationBody → Option Body
+operation_code s scope object operation (function_body at i parameters mark block) = body_of s scope object operation parameters block
+operation_code s scope object operation (procedure_body at i parameters block) = body_of s scope object operation parameters block
+operation_code s scope object operation (entry_body at i parameters barrier block) = body_of s scope object operation parameters block
+
+abbrev pub body_name : OperationBody → List ℕ
+body_name (function_body at i parameters mark block) = i.text
+body_name (procedure_body at i parameters block) = i.text
+body_name (entry_body at i parameters barrier block) = i.text
+
+-- the body of this name
+abbrev pub body_named : List ℕ → List OperationBody → Option OperationBody
+body_named name [] = None
+body_named name (body ∷ more) = if is_same_name name (body_name body) then Some body else body_named name more
+
+-- the bodies of operations, in the order of their numbers
+abbrev pub operations_onto : Setting → ScopeView → ℕ → List OperationBody → List OperationShape → List Body → Option (List Body)
+operations_onto s scope object bodies [] done = Some done
+operations_onto s scope object bodies (operation ∷ more) done =
+    body_named operation.name bodies >>= operation_code s scope object operation >>= λ body.
+    operations_onto s scope object bodies more (done ++ body ∷ [])
+
+-- Protected bodies (9.4)
+
+abbrev pub object_bodies : Setting → ScopeView → ℕ → ℕ → List OperationBody → Option (List Body)
+object_bodies s scope object number bodies =
+    slice_get s.outline.units number >>= λ unit. operations_onto s scope object bodies unit.operations []
+
+-- the bodies of the object of an index are these
+abbrev pub with_object_bodies : ℕ → UnitBodies → List Body → Option UnitBodies
+with_object_bodies index u bodies = Some (record u { objects = slice_set u.objects index bodies })
+
+-- an object of a protected unit has the bodies of its operations; its number follows those before it
+abbrev pub object_compiled : Setting → ScopeView → ℕ → List OperationBody → ℕ → UnitBodies → Option UnitBodies
+object_compiled s scope number bodies index u =
+    object_bodies s scope (first_object s + index) number bodies >>= with_object_bodies index u
+
+-- the same of an object that may be another's
+abbrev pub perhaps_compiled : Setting → ScopeView → ℕ → List OperationBody → ℕ → ObjectType → UnitBodies → Option UnitBodies
+perhaps_compiled s scope number bodies index sort.Suspension u = Some u
+perhaps_compiled s scope number bodies index (sort.Protected unit) u =
+    if unit == number then object_compiled s scope number bodies index u else Some u
+
+-- each object of a protected unit, from an index on; no unit has so many (own)
+abbrev pub objects_compiled : Setting → ScopeView → ℕ → List OperationBody → ℕ → List ObjectType → UnitBodies → Option UnitBodies
+objects_compiled s scope number bodies index [] u = Some u
+objects_compiled s scope number bodies index (object ∷ more) u =
+    if nat_lt index 4294967296 then
+    (perhaps_compiled s scope number bodies index object u >>= objects_compiled s scope number bodies (index + 1) more)
+    else None
+
+-- the bodies of a protected unit, with its number
+abbrev pub unit_compiled : Setting → ScopeView → List OperationBody → UnitBodies → Option ℕ → Option ProtectedUnit → Option UnitBodies
+unit_compiled s scope bodies u None unit = None
+unit_compiled s scope bodies u (Some number) None = None
+unit_compiled s scope bodies u (Some number) (Some unit) =
+    objects_compiled s (in_protected_unit unit scope) number bodies 0 s.outline.objects u
+
+-- the number of the protected unit that a body is of
+abbrev pub number_of : ScopeView → ProtectedBody → Option ℕ
+number_of scope body = unit_number (denoted w.ProtectedBody scope (simple body.name))
+
+abbrev pub protected_body_compiled : Setting → List ProtectedUnit → ScopeView → ProtectedBody → UnitBodies → Option UnitBodies
+protected_body_compiled s units scope body u =
+    unit_compiled s scope body.operations u (number_of scope body) (protected_unit_of units (number_of scope body))
+
+-- Task bodies (9.1)
+
+abbrev pub task_code : Setting → ScopeView → TaskBody → Option Body
+task_code s scope body = block_of [] false (point_in s (entered scope) 0 None) body.block
+
+-- the index of the task of a name
+abbrev pub task_index : List ℕ → ℕ → List TaskShape → Option ℕ
+task_index name index tasks = index_from (λ task. task.name) name index tasks
+
+abbrev pub with_task_body : UnitBodies → ℕ → Body → Option UnitBodies
+with_task_body u index body = Some (record u { tasks = slice_set u.tasks index (Some body) })
+
+abbrev pub task_body_compiled : Setting → ScopeView → TaskBody → UnitBodies → Option UnitBodies
+task_body_compiled s scope body u =
+    task_index body.name.text 0 s.outline.shape.tasks >>= λ index. task_code s scope body >>= with_task_body u index
+
+-- The package body (7.2)
+
+abbrev pub item_compiled : Setting → List ProtectedUnit → ScopeView → BodyItem → UnitBodies → Option UnitBodies
+item_compiled s units scope (body_declaration one) u = Some u
+item_compiled s units scope (body_protected body) u = protected_body_compiled s units scope body u
+item_compiled s units scope (body_task body) u = task_body_compiled s scope body u
+
+abbrev pub items_compiled : Setting → List ProtectedUnit → ScopeView → List BodyItem → UnitBodies → Option UnitBodies
+items_compiled s units scope [] u = Some u
+items_compiled s units scope (one ∷ more) u =
+    item_compiled s units scope one u >>= items_compiled s units (with_body_item one scope) more
+
+-- no bodies yet: a suspension object has none
+abbrev pub no_objects_onto : List ObjectType → List (List Body) → List (List Body)
+no_objects_onto [] done = done
+no_objects_onto (object ∷ more) done = no_objects_onto more (done ++ [] ∷ [])
+
+abbrev pub no_tasks_onto : List TaskShape → List (Option Body) → List (Option Body)
+no_tasks_onto [] done = done
+no_tasks_onto (task ∷ more) done = no_tasks_onto more (done ++ None ∷ [])
+
+abbrev pub no_bodies : OutlineView → UnitBodies
+no_bodies outline = record { objects = no_objects_onto outline.objects []; tasks = no_tasks_onto outline.shape.tasks [] }
+
+-- a `with` names Ada.Real_Time (D.8)
+abbrev pub is_real_time : Option Declared → Bool
+is_real_time (Some (d.LibraryPackage RealTime)) = true
+is_real_time found = false
+
+abbrev pub names_times : ScopeView → List Name → Bool
+names_times scope [] = false
+names_times scope (n ∷ more) = is_real_time (denoted w.With scope n) || names_times scope more
+
+abbrev pub item_times : ScopeView → ContextItem → Bool
+item_times scope (with_clause at names) = names_times scope names
+item_times scope (context_pragma pragma) = false
+item_times scope (use_clause at is_type names) = false
+
+abbrev pub context_times : ScopeView → List ContextItem → Bool
+context_times scope [] = false
+context_times scope (item ∷ more) = item_times scope item || context_times scope more
+
+-- what is known of a text over the loaded units
+abbrev pub setting_of : List Shape → UnitTree → Setting
+setting_of shapes tree = record {
+  outline = outlined shapes tree;
+  shapes = shapes;
+  times = context_times (package_scope shapes tree) tree.context;
+}
+
+-- what is declared where the package body begins
+abbrev pub body_scope : List Shape → UnitTree → ScopeView
+body_scope shapes tree = with_declarations tree.specification.declarations (package_scope shapes tree)
+
+-- the compiled bodies of a text's unit, over the loaded units
+abbrev pub bodies_of : List Shape → UnitTree → Option UnitBodies
+bodies_of shapes tree =
+    items_compiled (setting_of shapes tree) (protected_units tree) (body_scope shapes tree) tree.body.items (no_bodies (outlined shapes tree))

@@ -1,0 +1,10 @@
+pub mod Points
+pub mod StaticForm
+pub mod Typed
+pub mod TypedView
+pub mod Targets
+pub mod Loops
+pub mod LoopView
+pub mod StatementCode
+pub mod Blocks
+pub mod BodiesOf

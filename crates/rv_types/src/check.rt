@@ -1,0 +1,134 @@
+//! Checks the types of a unit text whose names are bound, and compiles its bodies.
+
+ghost use Rattle.std.specs.Prelude.{◌≡◌, IfOk, Some, map};
+ghost use Rattle.rv_tree.specs.NameView.{names_view};
+ghost use Rattle.rv_tree.specs.UnitView.{context_item_view, unit_view as tree_view};
+ghost use Rattle.rv_outline.specs.Shapes.{shape_of};
+ghost use Rattle.rv_types.specs.BodiesOf.{is_real_time as is_times, names_times as names_are_times, item_times as item_is_times, context_times as context_is_times};
+
+use crate::refused::Refused;
+use crate::setting::Setting;
+use crate::unit::{declare_all_of, items, no_bodies};
+use rv_code::UnitBodies;
+use rv_names::resolve::{Named, protected_units};
+use rv_names::{Declared, Library, Scope, Wanted};
+use rv_outline::context::package_scope;
+use rv_outline::outline::{Outline, outline_of};
+use rv_shape::shape::UnitShape;
+use rv_static::{Faults, TypeFault};
+use rv_tree::name::Name;
+use rv_tree::unit::ContextItem;
+use std::alloc::Global;
+
+/// What a unit text is: the shape of its unit, and the compiled bodies of its objects and tasks, in the order of their
+/// numbers.
+#[derive(Drop)]
+pub struct Checked {
+    pub shape: UnitShape,
+    pub bodies: UnitBodies,
+}
+
+// Whether it is Ada.Real_Time.
+fn is_real_time(found: Option<Declared>) -> bool
+    ensures { result ≡ is_times found }
+{
+    match found {
+        Some(Declared::LibraryPackage(Library::RealTime)) => true,
+        _ => false,
+    }
+}
+
+// Whether one of these names Ada.Real_Time.
+fn names_times(names: &Vec<Name>, scope: &Scope) -> bool
+    ensures { result ≡ names_are_times scope.now (names_view names.now.items) }
+{
+    for name in names {
+        if is_real_time(scope.denoted(Wanted::With, name)) {
+            return true;
+        }
+    }
+    false
+}
+
+fn item_times(item: &ContextItem, scope: &Scope) -> bool
+    ensures { result ≡ item_is_times scope.now (context_item_view item.now) }
+{
+    match item {
+        ContextItem::With(_, names) => names_times(names, scope),
+        ContextItem::Pragma(_) => false,
+        ContextItem::Use {
+            at: _,
+            is_type: _,
+            names: _,
+        } => false,
+    }
+}
+
+// Whether a `with` names Ada.Real_Time.
+fn context_times(context: &Vec<ContextItem>, scope: &Scope) -> bool
+    ensures { result ≡ context_is_times scope.now (map context_item_view context.now.items) }
+{
+    for item in context {
+        if item_times(item, scope) {
+            return true;
+        }
+    }
+    false
+}
+
+// The compiled bodies of a text.
+fn bodies(alloc: Global, named: &Named, outline: &Outline) -> Result<UnitBodies, Refused> {
+    let tree = named.tree;
+    let units = protected_units(alloc, tree)?;
+    let mut scope = package_scope(alloc, named)?;
+    let times = context_times(&tree.context, &scope);
+    let setting = Setting {
+        outline,
+        catalogue: named.catalogue,
+        times,
+    };
+    declare_all_of(&tree.specification.declarations, &mut scope)?;
+    let mut compiled = no_bodies(alloc, outline)?;
+    items(
+        alloc,
+        &setting,
+        units.as_slice(),
+        &tree.body.items,
+        &mut compiled,
+        scope,
+    )?;
+    Ok(compiled)
+}
+
+/// Checks the types of a text whose names are bound, and compiles its bodies.
+///
+/// # Errors
+/// The fault at the least place: at one place the first in the order of `TypeFault`. `NoMemory` where memory was refused.
+pub fn check_types(alloc: Global, named: &Named) -> Result<Checked, TypeFault>
+    ensures { IfOk result (λ c. shape_of named.now.catalogue.now (tree_view named.now.tree.now) ≡ Some c.shape) }
+{
+    let mut faults = Faults::new();
+    let Ok(outline) = outline_of(alloc, named, &mut faults) else {
+        return Err(TypeFault::NoMemory);
+    };
+    match bodies(alloc, named, &outline) {
+        Err(Refused(fault)) => Err(first_of(faults, fault)),
+        Ok(bodies) => {
+            if let Some(fault) = faults.first() {
+                return Err(fault);
+            }
+            let (shape, _known) = outline.into_parts();
+            Ok(Checked { shape, bodies })
+        }
+    }
+}
+
+// The first fault, of those of declarations and this one.
+fn first_of(declarations: Faults, fault: TypeFault) -> TypeFault {
+    let mut faults = declarations;
+    faults.tell(fault);
+    match faults.first() {
+        Some(first) => first,
+        None => fault,
+    }
+}

@@ -1,0 +1,218 @@
+//! Whether each value of a case selector's subtype stands in exactly one choice (5.4). What is told here only refuses.
+
+use crate::choice::choice;
+use crate::denoted::Denoted;
+use crate::point::Point;
+use crate::refused::Refused;
+use rv_code::Choice as Covered;
+use rv_shape::kind::Range;
+use rv_static::{Faults, Meaning, Meanings, TypeFault};
+use rv_tree::{CaseAlternative, Choice, Expression, Name};
+use std::alloc::Global;
+
+// Values that a choice covers, from the low one to the high one, and its place.
+type Span = (i64, i64, usize);
+
+// What the choices of a case statement cover.
+#[derive(Drop)]
+struct Gathered {
+    spans: Vec<Span>,
+    // Whether one of them is `others`.
+    has_others: bool,
+    // Whether one of them isn't static, or of another type, so that nothing is known of what is missing.
+    is_unknown: bool,
+}
+
+// The subtype of what a name denotes.
+fn named_subtype(name: &Name, point: &Point) -> Option<Range> {
+    match point.denoted(name) {
+        Denoted::Variable(_, range, _) => Some(range),
+        Denoted::Component(_, range) => Some(range),
+        Denoted::Function(_, range) => Some(range),
+        _ => None,
+    }
+}
+
+// The subtype of a selector: its own where it is a name, a conversion or a function call, else all values of its type.
+fn selector_subtype(whole: Range, selector: &Expression, point: &Point) -> Range {
+    let found = match selector {
+        Expression::Name(name) => named_subtype(name, point),
+        Expression::Call(name, _) => match point.meaning(name) {
+            Meaning::Subtype(range) => Some(range),
+            _ => named_subtype(name, point),
+        },
+        _ => None,
+    };
+    match found {
+        Some(range) => range,
+        None => whole,
+    }
+}
+
+// The place of a choice.
+fn choice_place(one: &Choice) -> usize {
+    match one {
+        Choice::Others(at) => *at,
+        Choice::Value(e) => e.place(),
+        Choice::Range(low, _) => low.place(),
+    }
+}
+
+// `others` stands alone, in the last alternative.
+fn others(at: usize, is_last: bool, gathered: &mut Gathered, faults: &mut Faults) {
+    if !is_last || gathered.has_others {
+        faults.tell(TypeFault::BadChoice(at));
+    }
+    gathered.has_others = true;
+}
+
+// A choice of an alternative.
+fn gather(
+    one: &Choice,
+    is_last: bool,
+    range: Range,
+    point: &Point,
+    gathered: &mut Gathered,
+    faults: &mut Faults,
+) -> Result<(), Refused> {
+    let at = choice_place(one);
+    match choice(range, one, point) {
+        Ok(Covered::Others) => others(at, is_last, gathered, faults),
+        Ok(Covered::Values(low, high)) => {
+            if low <= high {
+                if low < range.low || range.high < high {
+                    faults.tell(TypeFault::TooLarge(at));
+                }
+                gathered.spans.push((low, high, at))?;
+            }
+        }
+        Err(_) => gathered.is_unknown = true,
+    }
+    Ok(())
+}
+
+// The choices of an alternative.
+fn gather_all(
+    alternative: &CaseAlternative,
+    is_last: bool,
+    range: Range,
+    point: &Point,
+    gathered: &mut Gathered,
+    faults: &mut Faults,
+) -> Result<(), Refused> {
+    let is_alone = alternative.choices.len() == 1;
+    for one in &alternative.choices {
+        gather(one, is_last && is_alone, range, point, gathered, faults)?;
+    }
+    Ok(())
+}
+
+// Whether two of these cover a value, where they stand in the order of their low values.
+fn has_overlap(sorted: &[Span]) -> bool {
+    let mut last: Option<i64> = None;
+    for (low, high, _) in sorted {
+        if let Some(before) = last {
+            if *low <= before {
+                return true;
+            }
+        }
+        last = Some(*high);
+    }
+    false
+}
+
+// Whether a value of the range is in none of these.
+fn has_gap(range: Range, sorted: &[Span]) -> bool {
+    let mut next = range.low;
+    for (low, high, _) in sorted {
+        if next > range.high {
+            return false;
+        }
+        if *low > next {
+            return true;
+        }
+        if *high >= next {
+            next = high.saturating_add(1);
+        }
+    }
+    next <= range.high
+}
+
+// Whether one of these covers a value of a span.
+fn meets(before: &[Span], low: i64, high: i64) -> bool {
+    for (other_low, other_high, _) in before {
+        if *other_low <= high && low <= *other_high {
+            return true;
+        }
+    }
+    false
+}
+
+// Tells of the choices that cover a value which one before them covers.
+fn tell_overlaps(spans: &[Span], faults: &mut Faults) {
+    for (index, span) in spans.iter().enumerate() {
+        let (low, high, at) = *span;
+        if meets(&spans[..index], low, high) {
+            faults.tell(TypeFault::BadChoice(at));
+        }
+    }
+}
+
+// Tells what is wrong with what the choices cover, of all values of a range.
+fn tell_coverage(
+    range: Range,
+    at: usize,
+    gathered: Gathered,
+    faults: &mut Faults,
+) -> Result<(), Refused> {
+    let Gathered {
+        spans,
+        has_others,
+        is_unknown,
+    } = gathered;
+    let mut sorted = spans.clone()?;
+    sorted.sort()?;
+    if has_overlap(&sorted) {
+        tell_overlaps(&spans, faults);
+    }
+    if !has_others && !is_unknown && has_gap(range, &sorted) {
+        faults.tell(TypeFault::BadChoice(at));
+    }
+    Ok(())
+}
+
+/// What is wrong with the choices of a case statement: values outside the selector's subtype, a value in two choices,
+/// `others` that isn't last, or a value in no choice, which is told at the selector. A choice that isn't static is told
+/// elsewhere.
+pub(crate) fn uncovered(
+    alloc: Global,
+    whole: Range,
+    selector: &Expression,
+    list: &Vec<CaseAlternative>,
+    point: &Point,
+) -> Result<Option<Refused>, Refused> {
+    let range = selector_subtype(whole, selector, point);
+    let mut faults = Faults::new();
+    let mut gathered = Gathered {
+        spans: Vec::new(alloc),
+        has_others: false,
+        is_unknown: false,
+    };
+    let mut left = list.len();
+    for alternative in list {
+        left = left.saturating_sub(1);
+        gather_all(
+            alternative,
+            left == 0,
+            range,
+            point,
+            &mut gathered,
+            &mut faults,
+        )?;
+    }
+    tell_coverage(range, selector.place(), gathered, &mut faults)?;
+    match faults.first() {
+        Some(fault) => Ok(Some(Refused(fault))),
+        None => Ok(None),
+    }
+}

@@ -1,0 +1,522 @@
+//! Expressions: their types, and the code that gives their values.
+
+ghost use Rattle.std.specs.Prelude.{◌≡◌, ◌++◌, ◌∷◌, [], IfOk, Some, map, true};
+ghost use Rattle.rv_tree.specs.NameView.{name_view};
+ghost use Rattle.rv_tree.specs.Expressions.{expressions_of, factors_of, terms_of, call as call_of_name};
+ghost use Rattle.rv_tree.specs.ExpressionView.{expression_view, expressions_view, factors_view, terms_view};
+ghost use Rattle.rv_static.specs.Static.{static_of};
+ghost use Rattle.rv_code.specs.Expressions.{call as call_code, expressions_of as code_expressions_of};
+ghost use Rattle.rv_code.specs.ExpressionView.{expression_view as code_view, link_view};
+ghost use Rattle.rv_types.specs.Points.{static_meaning, denotes, profile, shows_times};
+ghost use Rattle.rv_types.specs.Typed.{adds as adds_by_types, value_of, static_typed, named as value_named, conversion as conversion_of, function_call as call_of_function, call_of, suspension_in, suspension_named, suspension_of, argument_for, alone, highest_code, computed as computed_of, first_of, arguments_onto, factors_onto, terms_onto, logic_onto, typed, operand_of, product_of, sum_of, relation_of, logic_of, only_integer, typed_as as code_typed_as};
+ghost use Rattle.rv_types.specs.TypedView.{typed_view, sum_view};
+
+use crate::denoted::Denoted;
+use crate::operators::{
+    Adder, adder_of, chain_of, is_decided, is_related, joined_value, logical_operator,
+    multiplying_operator, pair_of, prefixed_by, push_link, relational_operator, signed_by,
+    takes_left, within_range,
+};
+use crate::point::Point;
+use crate::refused::{Refused, mismatch};
+use crate::static_form::is_static;
+use crate::typed::{Sum, Typed, literal_in, same_type, static_value_code};
+use rv_code::{Callee, Expression as Code, Link, Prefix};
+use rv_shape::kind::{Parameter, Range, ValueType};
+use rv_static::{Faults, Meaning, Meanings, Static, TypeFault, static_value};
+use rv_tree::{
+    AddingOperator, Expression, Factor, HighestOperator, LogicalOperator, Name, RelationalOperator,
+    Term,
+};
+use std::alloc::Global;
+
+// The value of a static expression.
+fn static_result(e: &Expression, is_evaluated: bool, point: &Point) -> Result<Static, Refused>
+    ensures { IfOk result (λ v. static_of (static_meaning point.now) is_evaluated (expression_view e.now) ≡ Some v) }
+{
+    let mut faults = Faults::new();
+    if let Some(value) = static_value(e, is_evaluated, point, &mut faults) {
+        return Ok(value);
+    }
+    match faults.first() {
+        Some(fault) => Err(Refused(fault)),
+        None => unreachable!(),
+    }
+}
+
+// A static expression.
+fn static_expression(e: &Expression, is_evaluated: bool, point: &Point) -> Result<Typed, Refused>
+    ensures { IfOk result (λ t. static_typed (static_of (static_meaning point.now) is_evaluated (expression_view e.now)) ≡ Some (typed_view t)) }
+{
+    let value = static_result(e, is_evaluated, point)?;
+    Ok(static_value_code(value))
+}
+
+// What a call gives.
+fn call_of_callee(callee: Callee, of: ValueType, arguments: Vec<Code>) -> Typed
+    ensures { typed_view result ≡ value_of of (call_code callee (code_expressions_of (map code_view arguments.items))) }
+{
+    Typed {
+        of,
+        code: Code::Call(callee, arguments),
+    }
+}
+
+// An object, or a call of a function without parameters.
+fn named(alloc: Global, name: &Name, point: &Point) -> Result<Typed, Refused>
+    ensures { IfOk result (λ t. value_named (denotes point.now (name_view name.now)) (profile point.now (name_view name.now)) ≡ Some (typed_view t)) }
+{
+    match point.denoted(name) {
+        Denoted::Variable(slot, range, _) => Ok(Typed {
+            of: range.of,
+            code: Code::Variable(slot),
+        }),
+        Denoted::Component(index, range) => Ok(Typed {
+            of: range.of,
+            code: Code::Component(index),
+        }),
+        Denoted::Function(callee, range) => {
+            if point.parameters(name).is_empty() {
+                return Ok(call_of_callee(callee, range.of, Vec::new(alloc)));
+            }
+            Err(mismatch(name.first.at))
+        }
+        Denoted::Clock => Ok(call_of_callee(Callee::Clock, ValueType::Time, Vec::new(alloc))),
+        _ => Err(mismatch(name.first.at)),
+    }
+}
+
+// The suspension object that an argument names.
+fn suspension_named_by(e: &Expression, point: &Point) -> Result<usize, Refused>
+    ensures { IfOk result (λ k. suspension_named point.now (expression_view e.now) ≡ Some k) }
+{
+    if let Expression::Name(name) = e {
+        if let Denoted::Suspension(number) = point.denoted(name) {
+            return Ok(number);
+        }
+    }
+    Err(mismatch(e.place()))
+}
+
+/// The suspension object that is the one argument of a call at a place.
+pub(crate) fn suspension_argument(
+    arguments: &Vec<Expression>,
+    at: usize,
+    point: &Point,
+) -> Result<usize, Refused>
+    ensures { IfOk result (λ k. suspension_of point.now (expressions_of (expressions_view arguments.now.items)) ≡ Some k) }
+{
+    match arguments.as_slice() {
+        [] => Err(mismatch(at)),
+        [one, others @ ..] => match others {
+            [] => suspension_named_by(one, point),
+            [_other, _more @ ..] => Err(mismatch(at)),
+        },
+    }
+}
+
+/// The type of an expression and the code that gives its value; whether it is evaluated at all.
+#[tactic(auto, unfolding(crate::specs::Typed::unless_static))]
+#[cycle(expression)]
+pub(crate) fn expression(
+    alloc: Global,
+    e: &Expression,
+    is_evaluated: bool,
+    point: &Point,
+) -> Result<Typed, Refused>
+    ensures { IfOk result (λ t. typed point.now is_evaluated (expression_view e.now) ≡ Some (typed_view t)) }
+{
+    if is_static(e, true, point) {
+        return static_expression(e, is_evaluated, point);
+    }
+    computed(alloc, e, is_evaluated, point)
+}
+
+// The type of a sum of two operands, of which the left one may stand before the operator.
+fn adder_for(times: bool, left: ValueType, term: &Term, right: ValueType) -> Result<Adder, Refused>
+    ensures { IfOk result (λ adder. adds_by_types times left term.now.operator right ≡ Some adder) }
+{
+    match adder_of(times, left, term.operator, right) {
+        Some(sum) => Ok(sum),
+        None => Err(mismatch(term.operand.place())),
+    }
+}
+
+// An expression that has to be of a type.
+#[cycle(expression)]
+fn operand(
+    alloc: Global,
+    of: ValueType,
+    e: &Expression,
+    is_evaluated: bool,
+    point: &Point,
+) -> Result<Code, Refused>
+    ensures { IfOk result (λ c. operand_of point.now is_evaluated of (expression_view e.now) ≡ Some (code_view c)) }
+{
+    let found = expression(alloc, e, is_evaluated, point)?;
+    found.of_type(of, e.place())
+}
+
+// An expression that isn't static.
+#[cycle(expression)]
+fn computed(
+    alloc: Global,
+    e: &Expression,
+    is_evaluated: bool,
+    point: &Point,
+) -> Result<Typed, Refused>
+    ensures { IfOk result (λ t. computed_of point.now is_evaluated (expression_view e.now) ≡ Some (typed_view t)) }
+{
+    match e {
+        Expression::Name(name) => named(alloc, name, point),
+        Expression::Call(name, arguments) => call(alloc, name, arguments, is_evaluated, point),
+        Expression::Parenthesized(_, inner) => expression(alloc, inner, is_evaluated, point),
+        Expression::Highest(_, operator, operand) => {
+            highest_operand(alloc, *operator, operand, is_evaluated, point)
+        }
+        Expression::Product(first, more) => {
+            let left = operand(alloc, ValueType::Integer, first, is_evaluated, point)?;
+            factors(alloc, more, left, is_evaluated, point)
+        }
+        Expression::Signed(_, sign, term) => {
+            let term = operand(alloc, ValueType::Integer, term, is_evaluated, point)?;
+            signed_by(alloc, *sign, term)
+        }
+        Expression::Sum(first, more) => {
+            let at = first.place();
+            let Typed { of, code } = expression(alloc, first, is_evaluated, point)?;
+            terms(alloc, more, of, code, at, is_evaluated, point)
+        }
+        Expression::Relation(left, operator, right) => {
+            let at = left.place();
+            let first = expression(alloc, left, is_evaluated, point)?;
+            relation(alloc, right, *operator, first, at, is_evaluated, point)
+        }
+        Expression::Logical(operator, first, more) => {
+            let left = operand(alloc, ValueType::Boolean, first, is_evaluated, point)?;
+            logic(alloc, *operator, more, left, is_evaluated, point)
+        }
+        Expression::Literal(at, _) => Err(mismatch(*at)),
+        Expression::Attribute(prefix, _) => Err(mismatch(prefix.first.at)),
+    }
+}
+
+// `abs` or `not`.
+#[cycle(expression)]
+fn highest_operand(
+    alloc: Global,
+    operator: HighestOperator,
+    e: &Expression,
+    is_evaluated: bool,
+    point: &Point,
+) -> Result<Typed, Refused>
+    ensures { IfOk result (λ t. highest_code operator (typed point.now is_evaluated (expression_view e.now)) ≡ Some (typed_view t)) }
+{
+    match operator {
+        HighestOperator::Abs => {
+            let inner = operand(alloc, ValueType::Integer, e, is_evaluated, point)?;
+            prefixed_by(alloc, ValueType::Integer, Prefix::Absolute, inner)
+        }
+        HighestOperator::Not => {
+            let inner = operand(alloc, ValueType::Boolean, e, is_evaluated, point)?;
+            prefixed_by(alloc, ValueType::Boolean, Prefix::Not, inner)
+        }
+    }
+}
+
+// A product, behind its first operand.
+#[cycle(expression)]
+fn factors(
+    alloc: Global,
+    more: &Vec<Factor>,
+    first: Code,
+    is_evaluated: bool,
+    point: &Point,
+) -> Result<Typed, Refused>
+    ensures { IfOk result (λ t. product_of point.now is_evaluated (code_view first) (factors_of (factors_view more.now.items)) ≡ Some (typed_view t)) }
+{
+    let links = factor_links(alloc, more, is_evaluated, point)?;
+    chain_of(alloc, ValueType::Integer, first, links)
+}
+
+#[cycle(expression)]
+fn factor_links(
+    alloc: Global,
+    more: &Vec<Factor>,
+    is_evaluated: bool,
+    point: &Point,
+) -> Result<Vec<Link>, Refused>
+    ensures { IfOk result (λ links. factors_onto point.now is_evaluated (factors_of (factors_view more.now.items)) [] ≡ Some (map link_view links.items)) }
+{
+    let mut links = Vec::new(alloc);
+    for factor in more {
+        let right = operand(
+            alloc,
+            ValueType::Integer,
+            &factor.operand,
+            is_evaluated,
+            point,
+        )?;
+        push_link(&mut links, multiplying_operator(factor.operator), right)?;
+    }
+    Ok(links)
+}
+
+// A sum behind its first operand, which stands at a place.
+#[cycle(expression)]
+fn terms(
+    alloc: Global,
+    more: &Vec<Term>,
+    of: ValueType,
+    first: Code,
+    at: usize,
+    is_evaluated: bool,
+    point: &Point,
+) -> Result<Typed, Refused>
+    ensures { IfOk result (λ t. sum_of point.now is_evaluated of (code_view first) (terms_of (terms_view more.now.items)) ≡ Some (typed_view t)) }
+{
+    let Sum { of, links } = term_links(alloc, more, of, at, is_evaluated, point)?;
+    chain_of(alloc, of, first, links)
+}
+
+// The terms behind a first one, of this type and at a place.
+#[cycle(expression)]
+fn term_links(
+    alloc: Global,
+    more: &Vec<Term>,
+    of: ValueType,
+    at: usize,
+    is_evaluated: bool,
+    point: &Point,
+) -> Result<Sum, Refused>
+    ensures { IfOk result (λ s. terms_onto point.now is_evaluated of (terms_of (terms_view more.now.items)) [] ≡ Some (sum_view s)) }
+{
+    let times = point.shows_times();
+    let mut total = of;
+    let mut links = Vec::new(alloc);
+    for term in more {
+        if !takes_left(times, total, term.operator) {
+            return Err(mismatch(at));
+        }
+        let right = expression(alloc, &term.operand, is_evaluated, point)?;
+        let adder = adder_for(times, total, term, right.of)?;
+        push_link(&mut links, adder.operator, right.into_code())?;
+        total = adder.of;
+    }
+    Ok(Sum { of: total, links })
+}
+
+// A relation, behind its left operand, which stands at a place.
+#[cycle(expression)]
+fn relation(
+    alloc: Global,
+    right: &Expression,
+    operator: RelationalOperator,
+    left: Typed,
+    at: usize,
+    is_evaluated: bool,
+    point: &Point,
+) -> Result<Typed, Refused>
+    ensures { IfOk result (λ t. relation_of point.now is_evaluated operator (typed_view left) (expression_view right.now) ≡ Some (typed_view t)) }
+{
+    if !is_related(point.shows_times(), left.of) {
+        return Err(mismatch(at));
+    }
+    let second = operand(alloc, left.of, right, is_evaluated, point)?;
+    pair_of(
+        alloc,
+        left.into_code(),
+        relational_operator(operator),
+        second,
+    )
+}
+
+// Relations that one operator joins, behind the first of them.
+#[cycle(expression)]
+fn logic(
+    alloc: Global,
+    operator: LogicalOperator,
+    more: &Vec<Expression>,
+    first: Code,
+    is_evaluated: bool,
+    point: &Point,
+) -> Result<Typed, Refused>
+    ensures { IfOk result (λ t. logic_of point.now is_evaluated operator (code_view first) (expressions_of (expressions_view more.now.items)) ≡ Some (typed_view t)) }
+{
+    let links = logic_links(
+        alloc,
+        operator,
+        literal_in(&first),
+        more,
+        is_evaluated,
+        point,
+    )?;
+    chain_of(alloc, ValueType::Boolean, first, links)
+}
+
+// Relations behind others, whose value is known where they are static.
+#[cycle(expression)]
+fn logic_links(
+    alloc: Global,
+    operator: LogicalOperator,
+    first: Option<i64>,
+    more: &Vec<Expression>,
+    is_evaluated: bool,
+    point: &Point,
+) -> Result<Vec<Link>, Refused>
+    ensures { IfOk result (λ links. logic_onto point.now is_evaluated operator first (expressions_of (expressions_view more.now.items)) [] ≡ Some (map link_view links.items)) }
+{
+    let mut before = first;
+    let mut links = Vec::new(alloc);
+    for e in more {
+        let is_asked = is_evaluated && !is_decided(operator, before);
+        let right = operand(alloc, ValueType::Boolean, e, is_asked, point)?;
+        before = joined_value(operator, before, literal_in(&right));
+        push_link(&mut links, logical_operator(operator), right)?;
+    }
+    Ok(links)
+}
+
+// A conversion, `Milliseconds`, or a call with arguments.
+#[cycle(expression)]
+fn call(
+    alloc: Global,
+    name: &Name,
+    list: &Vec<Expression>,
+    is_evaluated: bool,
+    point: &Point,
+) -> Result<Typed, Refused>
+    ensures { IfOk result (λ t. computed_of point.now is_evaluated (call_of_name (name_view name.now) (expressions_of (expressions_view list.now.items))) ≡ Some (typed_view t)) }
+{
+    match point.meaning(name) {
+        Meaning::Subtype(range) => conversion(alloc, range, name, list, is_evaluated, point),
+        Meaning::Milliseconds => {
+            let code = only_argument(alloc, name, list, is_evaluated, point)?;
+            Ok(Typed {
+                of: ValueType::TimeSpan,
+                code,
+            })
+        }
+        Meaning::Constant(_, _) => Err(mismatch(name.first.at)),
+        Meaning::NotStatic => function_call(alloc, name, list, is_evaluated, point),
+    }
+}
+
+// A conversion to a subtype.
+#[cycle(expression)]
+fn conversion(
+    alloc: Global,
+    range: Range,
+    name: &Name,
+    list: &Vec<Expression>,
+    is_evaluated: bool,
+    point: &Point,
+) -> Result<Typed, Refused>
+    ensures { IfOk result (λ t. conversion_of range (first_of point.now is_evaluated (expressions_of (expressions_view list.now.items))) ≡ Some (typed_view t)) }
+{
+    if !same_type(range.of, ValueType::Integer) {
+        return Err(mismatch(name.first.at));
+    }
+    let value = only_argument(alloc, name, list, is_evaluated, point)?;
+    let code = within_range(alloc, range, value)?;
+    Ok(Typed {
+        of: ValueType::Integer,
+        code,
+    })
+}
+
+// The one argument, an Integer.
+#[cycle(expression)]
+fn only_argument(
+    alloc: Global,
+    name: &Name,
+    list: &Vec<Expression>,
+    is_evaluated: bool,
+    point: &Point,
+) -> Result<Code, Refused>
+    ensures { IfOk result (λ c. only_integer point.now is_evaluated (expressions_of (expressions_view list.now.items)) ≡ Some (code_view c)) }
+{
+    match list.as_slice() {
+        [] => Err(mismatch(name.first.at)),
+        [one, others @ ..] => match others {
+            [] => operand(alloc, ValueType::Integer, one, is_evaluated, point),
+            [_other, _more @ ..] => Err(mismatch(name.first.at)),
+        },
+    }
+}
+
+// A call of a function.
+#[cycle(expression)]
+fn function_call(
+    alloc: Global,
+    name: &Name,
+    list: &Vec<Expression>,
+    is_evaluated: bool,
+    point: &Point,
+) -> Result<Typed, Refused>
+    ensures { IfOk result (λ t. call_of_function (denotes point.now (name_view name.now))
+        (arguments_onto point.now is_evaluated (profile point.now (name_view name.now)) (expressions_of (expressions_view list.now.items)) [])
+        (suspension_of point.now (expressions_of (expressions_view list.now.items))) ≡ Some (typed_view t)) }
+{
+    match point.denoted(name) {
+        Denoted::Function(callee, range) => {
+            let parameters = point.parameters(name);
+            if parameters.len() != list.len() {
+                return Err(mismatch(name.first.at));
+            }
+            let given = arguments(alloc, parameters, list, name.first.at, is_evaluated, point)?;
+            Ok(call_of_callee(callee, range.of, given))
+        }
+        Denoted::CurrentState => {
+            let object = suspension_argument(list, name.first.at, point)?;
+            Ok(call_of_callee(
+                Callee::CurrentState(object),
+                ValueType::Boolean,
+                Vec::new(alloc),
+            ))
+        }
+        _ => Err(mismatch(name.first.at)),
+    }
+}
+
+// The arguments for parameters, of which there are as many.
+#[cycle(expression)]
+fn arguments(
+    alloc: Global,
+    parameters: &[Parameter],
+    list: &Vec<Expression>,
+    at: usize,
+    is_evaluated: bool,
+    point: &Point,
+) -> Result<Vec<Code>, Refused>
+    ensures { IfOk result (λ given. arguments_onto point.now is_evaluated parameters.now (expressions_of (expressions_view list.now.items)) [] ≡ Some (map code_view given.items)) }
+{
+    let mut given = Vec::new(alloc);
+    let mut left = parameters;
+    for e in list {
+        let [parameter, others @ ..] = left else {
+            return Err(mismatch(at));
+        };
+        let value = operand(alloc, parameter.range.of, e, is_evaluated, point)?;
+        let value = within_range(alloc, parameter.range, value)?;
+        given.push(value)?;
+        left = others;
+    }
+    match left {
+        [] => Ok(given),
+        [_parameter, _others @ ..] => Err(mismatch(at)),
+    }
+}
+
+/// The code of an expression that has to be of a type.
+#[tactic(auto, unfolding(crate::specs::Typed::typed_as))]
+pub(crate) fn expression_as(
+    alloc: Global,
+    of: ValueType,
+    e: &Expression,
+    point: &Point,
+) -> Result<Code, Refused>
+    ensures { IfOk result (λ c. code_typed_as point.now of (expression_view e.now) ≡ Some (code_view c)) }
+{
+    operand(alloc, of, e, true, point)
+}

@@ -1,0 +1,282 @@
+//! A point of a body: what is declared there, and what names denote.
+
+ghost use Rattle.std.specs.Prelude.{◌≡◌, OnOk, ℕ};
+ghost use Rattle.rv_tree.specs.NameView.{identifier_view, identifiers_view, name_view};
+ghost use Rattle.rv_tree.specs.Names.{Identifier as IdentifierView};
+ghost use Rattle.rv_names.specs.Scope.{OnlyDeclares};
+ghost use Rattle.rv_names.specs.Visible.{visible};
+ghost use Rattle.rv_types.specs.Blocks.{hidden, revealed};
+ghost use Rattle.rv_types.specs.BodiesOf.{point_in};
+ghost use Rattle.rv_types.specs.Points.{PointView, static_meaning, point_meaning, denotes, denoted_by, profile, profile_of, shows_times, local_at, known_in, noting, taking_slot, in_bounds as inside_bounds, with_loop_parameter};
+
+use crate::denoted::Denoted;
+use crate::names::{
+    denoted_by as denoted_declaration, known_meaning, profile_of as profile_of_declaration,
+};
+use crate::refused::Refused;
+use crate::setting::Setting;
+use rv_code::MOST_SLOTS;
+use rv_names::declare::{Form, declare_all};
+use rv_names::{Declared, Scope};
+use rv_outline::known::Known;
+use rv_outline::outline::Outline;
+use rv_outline::point::meaning;
+use rv_outline::scopes::hide_all;
+use rv_shape::catalogue::Catalogue;
+use rv_shape::kind::{Parameter, Range};
+use rv_static::{Meaning, Meanings, TypeFault};
+use rv_tree::{Identifier, Name};
+use std::alloc::Global;
+use std::marker::Model;
+
+/// What is known of a declaration of a body, by the place of its identifier.
+#[derive(Clone, Copy)]
+pub struct Local {
+    pub at: usize,
+    pub known: Known,
+}
+
+/// A point of a body: what is declared there.
+#[derive(Drop)]
+pub struct Point<'a> {
+    pub scope: Scope<'a>,
+    catalogue: &'a Catalogue,
+    outline: &'a Outline,
+    locals: Vec<Local>,
+    // Whether the operators of Ada.Real_Time are visible.
+    times: bool,
+    // The number of the protected object whose body it is in.
+    object: usize,
+    // The next slot.
+    slots: usize,
+    // The range of the result, in the body of a function.
+    result_range: Option<Range>,
+}
+
+impl<'a> Model for Point<'a> {
+    ghost use Rattle.rv_types.specs.Points.{PointView};
+
+    ghost Value = { PointView };
+
+    ghost view = { λ p. record {
+      scope = p.scope;
+      known = p.outline.now.known;
+      locals = p.locals.items;
+      units = p.outline.now.units;
+      shapes = p.catalogue.now;
+      times = p.times;
+      object = p.object;
+      slots = p.slots;
+      result = p.result_range;
+    } };
+}
+
+impl<'a> Meanings for Point<'a> {
+    ghost means = { λ p. static_meaning p };
+
+    #[tactic(auto, unfolding(crate::specs::Points::static_meaning))]
+    fn meaning(&self, name: &Name) -> Meaning {
+        let found = self.scope.visible(name);
+        self.meaning_of(found)
+    }
+}
+
+impl<'a> Point<'a> {
+    /// The beginning of a body of this object, and the range of its result if it is a function's.
+    pub(crate) fn new(
+        alloc: Global,
+        setting: &Setting<'a>,
+        scope: Scope<'a>,
+        object: usize,
+        result_range: Option<Range>,
+    ) -> Point<'a>
+        ensures { result ≡ point_in setting.now scope.entry object result_range }
+    {
+        Point {
+            scope,
+            catalogue: setting.catalogue,
+            outline: setting.outline,
+            locals: Vec::new(alloc),
+            times: setting.times,
+            object,
+            slots: 0,
+            result_range,
+        }
+    }
+
+    /// What is declared there.
+    pub(crate) fn into_scope(self) -> Scope<'a>
+        ensures { result ≡ self.entry.scope }
+    {
+        self.scope
+    }
+
+    // What is known of a declaration of the body.
+    fn local(&self, at: usize) -> Option<Known>
+        ensures { result ≡ local_at at self.now.locals }
+    {
+        for one in &self.locals {
+            if one.at == at {
+                return Some(one.known);
+            }
+        }
+        None
+    }
+
+    /// What is known of a declaration, of the package or of the body.
+    pub(crate) fn known(&self, at: usize) -> Option<Known>
+        ensures { result ≡ known_in self.now at }
+    {
+        if let Some(known) = self.outline.known().find(at) {
+            return Some(known);
+        }
+        self.local(at)
+    }
+
+    // What a declaration means in a static expression.
+    fn meaning_of(&self, found: Option<Declared>) -> Meaning
+        ensures { result ≡ point_meaning self.now found }
+    {
+        if let Some(Declared::Constant(at)) = found {
+            return known_meaning(self.known(at));
+        }
+        meaning(self.outline.known(), found)
+    }
+
+    /// What a name denotes.
+    #[tactic(auto, unfolding(crate::specs::Points::denotes))]
+    pub(crate) fn denoted(&self, name: &Name) -> Denoted
+        ensures { result ≡ denotes self.now (name_view name.now) }
+    {
+        let found = self.scope.visible(name);
+        denoted_declaration(self, found)
+    }
+
+    /// The parameters of the operation that a name denotes.
+    #[tactic(auto, unfolding(crate::specs::Points::profile))]
+    pub(crate) fn parameters(&self, name: &Name) -> &[Parameter]
+        ensures { result.now ≡ profile self.now (name_view name.now) }
+    {
+        let found = self.scope.visible(name);
+        profile_of_declaration(self, found)
+    }
+
+    /// Whether the operators of Ada.Real_Time are visible.
+    #[tactic(auto, unfolding(crate::specs::Points::shows_times))]
+    pub(crate) fn shows_times(&self) -> bool
+        ensures { result ≡ shows_times self.now }
+    {
+        self.times
+    }
+
+    pub(crate) fn outline(&self) -> &Outline
+        ensures known { result.now.known ≡ self.now.known }
+        ensures units { result.now.units ≡ self.now.units }
+    {
+        self.outline
+    }
+
+    pub(crate) fn catalogue(&self) -> &Catalogue
+        ensures { result.now ≡ self.now.shapes }
+    {
+        self.catalogue
+    }
+
+    pub(crate) fn object(&self) -> usize
+        ensures { result ≡ self.now.object }
+    {
+        self.object
+    }
+
+    pub(crate) fn slots(&self) -> usize
+        ensures { result ≡ self.now.slots }
+    {
+        self.slots
+    }
+
+    pub(crate) fn result_range(&self) -> Option<Range>
+        ensures { result ≡ self.now.result }
+    {
+        self.result_range
+    }
+
+    /// Notes what is known of a declaration of the body.
+    pub(crate) fn note(&mut self, at: usize, known: Known) -> Result<(), Refused>
+        ensures { OnOk result (self.new ≡ noting at known self.old) }
+    {
+        self.locals.push(Local { at, known })?;
+        Ok(())
+    }
+
+    /// Gives the next slot to an object of the body; there are at most `MOST_SLOTS`.
+    pub(crate) fn take_slot(
+        &mut self,
+        at: usize,
+        range: Range,
+        is_written: bool,
+    ) -> Result<(), Refused>
+        ensures { OnOk result (self.new ≡ taking_slot at range is_written self.old) }
+    {
+        if self.slots >= MOST_SLOTS {
+            return Err(Refused(TypeFault::TooLarge(at)));
+        }
+        self.note(at, Known::Variable(self.slots, range, is_written))?;
+        self.slots += 1;
+        Ok(())
+    }
+
+    /// Identifiers inside their own declaration.
+    pub(crate) fn hide(&mut self, names: &Vec<Identifier>) -> Result<(), Refused>
+        ensures point { OnOk result (self.new ≡ hidden (identifiers_view names.now.items) self.old) }
+        ensures only { OnOk result (OnlyDeclares self.old.scope self.new.scope) }
+    {
+        hide_all(names, &mut self.scope)?;
+        Ok(())
+    }
+
+    /// Identifiers behind their declaration in a block.
+    pub(crate) fn reveal(
+        &mut self,
+        is_constant: bool,
+        names: &Vec<Identifier>,
+    ) -> Result<(), Refused>
+        ensures point { OnOk result (self.new ≡ revealed is_constant (identifiers_view names.now.items) self.old) }
+        ensures only { OnOk result (OnlyDeclares self.old.scope self.new.scope) }
+    {
+        let form = if is_constant {
+            Form::Constant
+        } else {
+            Form::Variable
+        };
+        declare_all(names, form, &mut self.scope)?;
+        Ok(())
+    }
+
+    /// Begins a loop, in whose bounds its parameter denotes nothing.
+    pub(crate) fn begin_bounds(&mut self, parameter: &Identifier) -> Result<(), Refused>
+        ensures { OnOk result (self.new ≡ inside_bounds (identifier_view parameter.now) self.old) }
+    {
+        self.scope.enter()?;
+        self.scope.declare(parameter, None)?;
+        Ok(())
+    }
+
+    /// Begins the statements of a loop.
+    pub(crate) fn begin_loop(&mut self, parameter: &Identifier, range: Range) -> Result<(), Refused>
+        ensures { OnOk result (self.new ≡ with_loop_parameter (identifier_view parameter.now) range self.old) }
+    {
+        self.scope
+            .declare(parameter, Some(Declared::LoopParameter(parameter.at)))?;
+        self.take_slot(parameter.at, range, false)
+    }
+
+    /// Ends a loop.
+    pub(crate) fn end_loop(&mut self)
+        ensures { (p : PointView) (i : IdentifierView) (range : Range) →
+            self.old ≡ with_loop_parameter i range (inside_bounds i p) → self.new ≡ p }
+    {
+        self.scope.leave();
+        let _last = self.locals.pop();
+        self.slots = self.slots.saturating_sub(1);
+    }
+}
