@@ -51,12 +51,7 @@ fn load_deed(
 }
 
 // What a unit text comes to that has no carriage return before a line feed.
-fn text_deed(
-    alloc: Global,
-    catalogue: &Catalogue,
-    line: usize,
-    text: &str,
-) -> Result<Deed, Failure>
+fn text_deed(alloc: Global, catalogue: &Catalogue, line: usize, text: &str) -> Result<Deed, Failure>
     ensures { Comes line (compiles catalogue.now text.now) result }
 {
     if text.len() > MOST_UNIT_BYTES {
