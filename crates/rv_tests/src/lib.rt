@@ -7,11 +7,11 @@ mod entries;
 #[cfg(test)]
 mod fits;
 #[cfg(test)]
+mod hosts;
+#[cfg(test)]
 mod lists;
 #[cfg(test)]
 mod parts;
-#[cfg(test)]
-mod rooms;
 #[cfg(test)]
 mod scripts;
 #[cfg(test)]
