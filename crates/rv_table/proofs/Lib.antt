@@ -1,0 +1,4 @@
+mod Marks
+mod Firsts
+mod Zips
+mod Looks

@@ -1,0 +1,178 @@
+-- What the rows of a table decide.
+use Rattle.std.proofs.Common.{refl, sym, ap, subst, ◌≡◌, ◌∙◌, ℕ, zero, suc, ◌+◌, ◌-◌, ◌≤◌, List, [], ◌∷◌, map, length, Bool, true, false, Some, None, Option, arith}
+use Rattle.std.specs.Prelude.{slice_get, if◌then◌else◌, ◌==◌, nat_lt}
+use Rattle.std.specs.Option.{option_map}
+use Rattle.std.specs.List.{AllZip}
+use Rattle.std.proofs.lemmas.Option.{slice_get-map}
+use Rattle.rv_access.specs.Words.{Words}
+use Rattle.rv_access.specs.Lines.{decides, grants, matches}
+use Rattle.rv_shape.specs.Catalogue.{Target, Nowhere, OnProtected, OnSuspension, UnitObject, all_objects, at_object, at_operation, at_suspension, at_unit_object, dotted, numbered, place, suspension_operation_name, suspension_operations, target}
+use Rattle.rv_shape.specs.Objects.{OperationShape}
+use Rattle.rv_shape.specs.Shape.{Shape}
+use Rattle.rv_shape.specs.declared.object.Object.{Object}
+use Rattle.rv_shape.specs.declared.object.Object.TheVariants.{Protected, Suspension}
+use Rattle.rv_shape.specs.declared.suspension.SuspensionOperation.{SuspensionOperation}
+use Rattle.rv_table.specs.Rows.{IsRow, of_caller, of_site}
+use Rattle.rv_table.specs.Tables.{AreSites, IsCaller, IsSite, IsTable, Marks, callers, decided, decided_at, granted, granted_at, name_of, operation_names, row_in, row_of}
+
+-- both are there, and R holds of them, or neither is
+abbrev pub Both : {A B : Type 0} → (A → B → Type 0) → Option A → Option B → Type 0
+Both R None None = Unit {0}
+Both R None (Some y) = ⊥
+Both R (Some x) None = ⊥
+Both R (Some x) (Some y) = R x y
+
+pub get_both : {A B : Type 0} (R : A → B → Type 0) (xs : List A) (ys : List B) (k : ℕ) → AllZip R xs ys → Both R (slice_get xs k) (slice_get ys k)
+get_both R [] [] k all = tt {0}
+get_both R [] (y ∷ ys) k all = absurd all
+get_both R (x ∷ xs) [] k all = absurd all
+get_both R (x ∷ xs) (y ∷ ys) zero all = all.0
+get_both R (x ∷ xs) (y ∷ ys) (suc k) all = get_both R xs ys k all.1
+
+pub numbered_both : {A B : Type 0} (R : A → B → Type 0) (xs : List A) (ys : List B) (n : ℕ) → AllZip R xs ys → Both R (numbered xs n) (numbered ys n)
+numbered_both R xs ys n all = by_test (nat_lt n 1)
+  where
+    by_test : (b : Bool) → Both R (if b then None else slice_get xs (n - 1)) (if b then None else slice_get ys (n - 1))
+    by_test true = tt {0}
+    by_test false = get_both R xs ys (n - 1) all
+
+numbered_map : {A B : Type 0} (f : A → B) (xs : List A) (n : ℕ) → numbered (map f xs) n ≡ option_map f (numbered xs n)
+numbered_map f xs n = by_test (nat_lt n 1)
+  where
+    by_test : (b : Bool) → (if b then None else slice_get (map f xs) (n - 1)) ≡ option_map f (if b then None else slice_get xs (n - 1))
+    by_test true = refl
+    by_test false = slice_get-map f xs (n - 1)
+
+-- what is said of a call by its names
+abbrev by_name : {X : Type 0} → X → (List ℕ → X) → Option (List ℕ) → X
+by_name none says None = none
+by_name none says (Some name) = says name
+
+abbrev judged : {X : Type 0} → X → (List ℕ → List ℕ → X) → Target → X
+judged none says Nowhere = none
+judged none says (OnProtected site) = says (dotted site.unit site.object.name) site.operation.name
+judged none says (OnSuspension unit object wanted) = says (dotted unit object) (suspension_operation_name wanted)
+
+decided_is : (list : List Words) (unit : List ℕ) (called : Target) → decided_at list (Some unit) called ≡ judged 0 (decides list unit) called
+decided_is list unit Nowhere = refl
+decided_is list unit (OnProtected site) = refl
+decided_is list unit (OnSuspension of_unit object wanted) = refl
+
+granted_is : (list : List Words) (unit : List ℕ) (called : Target) → granted_at list (Some unit) called ≡ judged false (grants list unit) called
+granted_is list unit Nowhere = refl
+granted_is list unit (OnProtected site) = refl
+granted_is list unit (OnSuspension of_unit object wanted) = refl
+
+at_names : {X : Type 0} (none : X) (says : List ℕ → List ℕ → X) (unit : List ℕ) (object : Object) (operation : ℕ) → judged none says (at_object operation unit object) ≡ by_name none (says (dotted unit (name_of object))) (numbered (operation_names object) operation)
+at_names none says unit (Protected p) operation =
+    of_operation (numbered p.operations operation)
+    ∙ ap (by_name none (says (dotted unit p.name))) (sym (numbered_map (λ (o : OperationShape). o.name) p.operations operation))
+  where
+    of_operation : (o : Option OperationShape) → judged none says (at_operation unit p o) ≡ by_name none (says (dotted unit p.name)) (option_map (λ (o : OperationShape). o.name) o)
+    of_operation None = refl
+    of_operation (Some o) = refl
+at_names none says unit (Suspension s) operation =
+    of_operation (numbered suspension_operations operation)
+    ∙ ap (by_name none (says (dotted unit s.name))) (sym (numbered_map suspension_operation_name suspension_operations operation))
+  where
+    of_operation : (o : Option SuspensionOperation) → judged none says (at_suspension unit s.name o) ≡ by_name none (says (dotted unit s.name)) (option_map suspension_operation_name o)
+    of_operation None = refl
+    of_operation (Some o) = refl
+
+-- where the row of an operation is there, its names are those of the call
+pub record Found (list : List Words) (called : Target) (row : List ℕ) : Type 0 where
+  pub site : List ℕ
+  pub name : List ℕ
+  pub is_row : IsRow (of_site site name) list row
+  pub line : (unit : List ℕ) → decided_at list (Some unit) called ≡ decides list unit site name
+  pub grant : (unit : List ℕ) → granted_at list (Some unit) called ≡ grants list unit site name
+
+-- a call is of the operation of a row, or of nothing where there is none
+abbrev Seen : List Words → Target → Option (List ℕ) → Type 0
+Seen list called None = ((unit : List ℕ) → decided_at list (Some unit) called ≡ 0) × ((unit : List ℕ) → granted_at list (Some unit) called ≡ false)
+Seen list called (Some row) = Found list called row
+
+of_names : (list : List Words) (unit : List ℕ) (object : Object) (operation : ℕ) (name row : Option (List ℕ)) → numbered (operation_names object) operation ≡ name → Both (IsSite list (dotted unit (name_of object))) name row → Seen list (at_object operation unit object) row
+of_names list unit object operation None None is both = (
+  (λ caller. decided_is list caller (at_object operation unit object) ∙ at_names 0 (decides list caller) unit object operation ∙ ap (by_name 0 (decides list caller (dotted unit (name_of object)))) is),
+  (λ caller. granted_is list caller (at_object operation unit object) ∙ at_names false (grants list caller) unit object operation ∙ ap (by_name false (grants list caller (dotted unit (name_of object)))) is),
+)
+of_names list unit object operation None (Some row) is both = absurd both
+of_names list unit object operation (Some name) None is both = absurd both
+of_names list unit object operation (Some name) (Some row) is both = record {
+  site = dotted unit (name_of object);
+  name = name;
+  is_row = both;
+  line = λ caller. decided_is list caller (at_object operation unit object) ∙ at_names 0 (decides list caller) unit object operation ∙ ap (by_name 0 (decides list caller (dotted unit (name_of object)))) is;
+  grant = λ caller. granted_is list caller (at_object operation unit object) ∙ at_names false (grants list caller) unit object operation ∙ ap (by_name false (grants list caller (dotted unit (name_of object)))) is;
+}
+
+of_place : (list : List Words) (operation : ℕ) (at : Option UnitObject) (rows : Option (List (List ℕ))) → Both (AreSites list) at rows → Seen list (at_unit_object operation at) (row_in rows operation)
+of_place list operation None None both = ((λ unit. refl), (λ unit. refl))
+of_place list operation None (Some rows) both = absurd both
+of_place list operation (Some at) None both = absurd both
+of_place list operation (Some at) (Some rows) both =
+    of_names list at.unit at.object operation (numbered (operation_names at.object) operation) (numbered rows operation) refl (numbered_both (IsSite list (dotted at.unit (name_of at.object))) (operation_names at.object) rows operation both)
+
+pub seen : (list : List Words) (shapes : List Shape) (t : Marks) (object operation : ℕ) → IsTable list shapes t → Seen list (target shapes object operation) (row_of t.objects object operation)
+seen list shapes t object operation is =
+    of_place list operation (place shapes object) (numbered t.objects object) (numbered_both (AreSites list) (all_objects shapes) t.objects object is.objects)
+
+-- what is looked up: the caller of the row of a caller, and the names of the row of an operation
+pub record Looked (list : List Words) (shapes : List Shape) (unit object operation : ℕ) (ours theirs : List ℕ) : Type 0 where
+  pub caller : List ℕ
+  pub site : List ℕ
+  pub name : List ℕ
+  pub mine : IsRow (of_caller caller) list ours
+  pub yours : IsRow (of_site site name) list theirs
+  pub line : decided list shapes unit object operation ≡ decides list caller site name
+  pub grant : granted list shapes unit object operation ≡ grants list caller site name
+
+looked_by : (list : List Words) (shapes : List Shape) (unit object operation : ℕ) (ours theirs : List ℕ) (caller : Option (List ℕ)) (row row' : Option (List ℕ)) → slice_get (callers shapes) unit ≡ caller → row ≡ Some ours → row' ≡ Some theirs
+    → Both (IsCaller list) caller row → Seen list (target shapes object operation) row' → Looked list shapes unit object operation ours theirs
+looked_by list shapes unit object operation ours theirs None None row' is here there both seen = absurd (differ here)
+  where
+    differ : None ≡ Some ours → ⊥
+    differ e = subst is_none e (tt {0})
+      where
+        is_none : Option (List ℕ) → Type 0
+        is_none None = Unit {0}
+        is_none (Some x) = ⊥
+looked_by list shapes unit object operation ours theirs None (Some row) row' is here there both seen = absurd both
+looked_by list shapes unit object operation ours theirs (Some caller) row row' is here there both seen =
+    let mine : IsRow (of_caller caller) list ours = subst (λ (r : Option (List ℕ)). Both (IsCaller list) (Some caller) r) here both in
+    let found : Found list (target shapes object operation) theirs = subst (λ (r : Option (List ℕ)). Seen list (target shapes object operation) r) there seen in
+    record {
+      caller = caller;
+      site = found.site;
+      name = found.name;
+      mine = mine;
+      yours = found.is_row;
+      line = ap (λ (c : Option (List ℕ)). decided_at list c (target shapes object operation)) is ∙ found.line caller;
+      grant = ap (λ (c : Option (List ℕ)). granted_at list c (target shapes object operation)) is ∙ found.grant caller;
+    }
+
+pub looked : (list : List Words) (shapes : List Shape) (t : Marks) (unit object operation : ℕ) (ours theirs : List ℕ) → IsTable list shapes t → slice_get t.callers unit ≡ Some ours → row_of t.objects object operation ≡ Some theirs → Looked list shapes unit object operation ours theirs
+looked list shapes t unit object operation ours theirs is here there =
+    looked_by list shapes unit object operation ours theirs (slice_get (callers shapes) unit) (slice_get t.callers unit) (row_of t.objects object operation) refl here there (get_both (IsCaller list) (callers shapes) t.callers unit is.callers) (seen list shapes t object operation is)
+
+-- where the row of an operation isn't there, nothing is called
+pub unseen : (list : List Words) (shapes : List Shape) (t : Marks) (unit object operation : ℕ) → IsTable list shapes t → row_of t.objects object operation ≡ None → (decided list shapes unit object operation ≡ 0) × (granted list shapes unit object operation ≡ false)
+unseen list shapes t unit object operation is none =
+    let found : Seen list (target shapes object operation) None = subst (λ (r : Option (List ℕ)). Seen list (target shapes object operation) r) none (seen list shapes t object operation is) in
+    by_caller (slice_get (callers shapes) unit) found
+  where
+    by_caller : (c : Option (List ℕ)) → Seen list (target shapes object operation) None → (decided_at list c (target shapes object operation) ≡ 0) × (granted_at list c (target shapes object operation) ≡ false)
+    by_caller None found = (refl, refl)
+    by_caller (Some caller) found = (found.0 caller, found.1 caller)
+
+-- a line that decides is one of the list
+pub decides_few : (list : List Words) (unit object operation : List ℕ) → decides list unit object operation ≤ length list
+decides_few [] unit object operation = omega arith
+decides_few (line ∷ list) unit object operation =
+    by_test (decides_few list unit object operation) (decides list unit object operation == 0) (matches line unit object operation)
+  where
+    by_test : decides list unit object operation ≤ length list → (none fits : Bool) → (if none then (if fits then 1 else 0) else decides list unit object operation + 1) ≤ suc (length list)
+    by_test few true true = omega arith
+    by_test few true false = omega arith
+    by_test few false fits = omega (arith, few)

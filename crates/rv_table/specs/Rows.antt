@@ -1,0 +1,38 @@
+-- Rows of marks: a bit for each line of a list, the last line first (own).
+use Rattle.std.specs.Prelude.{ℕ, ◌≡◌, ◌<◌, ◌≤◌, ◌-◌, Bool, true, false, ◌&&◌, length, List, ◌/◌, ◌%◌, slice_index_or, bit_and}
+use Rattle.std.specs.Int.{bit_at}
+use Rattle.rv_access.specs.Words.{Words}
+use Rattle.rv_access.specs.Lines.{fits}
+
+-- 1 where a place is marked, else 0
+abbrev pub has : List ℕ → ℕ → ℕ
+has words place = bit_at (slice_index_or words (place / 64) 0) (place % 64)
+
+-- the lowest place that is marked in both words
+pub record Lowest (ours theirs place : ℕ) : Type 0 where
+  pub small : place < 64
+  pub mine : bit_at ours place ≡ 1
+  pub yours : bit_at theirs place ≡ 1
+  pub none : (lower : ℕ) → lower < place → bit_at (bit_and ours theirs) lower ≡ 0
+
+-- a mark for a line that passes
+abbrev pub one : Bool → ℕ
+one true = 1
+one false = 0
+
+-- the marks of the lines that pass a test, the last line first
+pub record IsRow (passes : Words → Bool) (list : List Words) (words : List ℕ) : Type 0 where
+  pub lines : (d : Words) (i : ℕ) → i < length list → has words (length list - 1 - i) ≡ one (passes (slice_index_or list i d))
+  pub behind : (j : ℕ) → length list ≤ j → has words j ≡ 0
+
+-- a line is of a caller
+abbrev pub of_caller : List ℕ → Words → Bool
+of_caller unit line = fits line.unit unit
+
+-- a line is of an operation of an object
+abbrev pub of_site : List ℕ → List ℕ → Words → Bool
+of_site object operation line = fits line.object object && fits line.operation operation
+
+-- a line allows
+abbrev pub is_allowing : Words → Bool
+is_allowing line = line.allow

@@ -1,0 +1,87 @@
+-- The table that an access list is compiled to, over the units that are loaded (own).
+use Rattle.std.specs.Prelude.{ℕ, ◌≡◌, ◌≤◌, Bool, false, ◌==◌, ◌-◌, if◌then◌else◌, length, List, ◌∷◌, map, codes, slice_get, Some, None, Option}
+use Rattle.std.specs.List.{AllZip}
+use Rattle.rv_access.specs.Limits.{most_lines}
+use Rattle.rv_access.specs.Words.{Words}
+use Rattle.rv_access.specs.Lines.{decides, grants, allows}
+use Rattle.rv_shape.specs.Catalogue.{UnitObject, Target, numbered, Nowhere, OnProtected, OnSuspension, all_objects, target, dotted}
+use Rattle.rv_shape.specs.Catalogue.{suspension_operations, suspension_operation_name}
+use Rattle.rv_shape.specs.Shape.{Shape}
+use Rattle.rv_shape.specs.declared.object.Object.{Object}
+use Rattle.rv_shape.specs.declared.object.Object.TheVariants.{Protected, Suspension}
+use Rattle.rv_table.specs.Rows.{IsRow, of_caller, of_site, is_allowing}
+
+-- who may call, by number: 0 is the home of the lines, and the units follow in the order of load
+abbrev pub callers : List Shape → List (List ℕ)
+callers shapes = codes "Interrupts" ∷ map (λ shape. shape.name) shapes
+
+-- the line that decides a call by this caller, 0 where none does
+abbrev pub decided_at : List Words → Option (List ℕ) → Target → ℕ
+decided_at list None called = 0
+decided_at list (Some unit) Nowhere = 0
+decided_at list (Some unit) (OnProtected site) = decides list unit (dotted site.unit site.object.name) site.operation.name
+decided_at list (Some unit) (OnSuspension of_unit object wanted) = decides list unit (dotted of_unit object) (suspension_operation_name wanted)
+
+-- whether the list grants a call by this caller
+abbrev pub granted_at : List Words → Option (List ℕ) → Target → Bool
+granted_at list None called = false
+granted_at list (Some unit) Nowhere = false
+granted_at list (Some unit) (OnProtected site) = grants list unit (dotted site.unit site.object.name) site.operation.name
+granted_at list (Some unit) (OnSuspension of_unit object wanted) = grants list unit (dotted of_unit object) (suspension_operation_name wanted)
+
+-- the line that decides a call by the caller of a number, of the operation of these numbers
+abbrev pub decided : List Words → List Shape → ℕ → ℕ → ℕ → ℕ
+decided list shapes unit object operation = decided_at list (slice_get (callers shapes) unit) (target shapes object operation)
+
+-- whether the list grants that call
+abbrev pub granted : List Words → List Shape → ℕ → ℕ → ℕ → Bool
+granted list shapes unit object operation = granted_at list (slice_get (callers shapes) unit) (target shapes object operation)
+
+-- what contracts see of a table: the rows of each caller, of each operation of each object, and of the lines that
+-- allow; and how many lines there are
+pub record Marks : Type 0 where
+  pub callers : List (List ℕ)
+  pub objects : List (List (List ℕ))
+  pub allowing : List ℕ
+  pub lines : ℕ
+
+-- the names of the operations of an object, in order
+abbrev pub operation_names : Object → List (List ℕ)
+operation_names (Protected object) = map (λ operation. operation.name) object.operations
+operation_names (Suspension object) = map suspension_operation_name suspension_operations
+
+abbrev pub name_of : Object → List ℕ
+name_of (Protected object) = object.name
+name_of (Suspension object) = object.name
+
+-- the row of a caller
+abbrev pub IsCaller : List Words → List ℕ → List ℕ → Type 0
+IsCaller list unit row = IsRow (of_caller unit) list row
+
+-- the row of an operation of the object of a name
+abbrev pub IsSite : List Words → List ℕ → List ℕ → List ℕ → Type 0
+IsSite list object operation row = IsRow (of_site object operation) list row
+
+-- the rows of the operations of an object
+abbrev pub AreSites : List Words → UnitObject → List (List ℕ) → Type 0
+AreSites list at rows = AllZip (IsSite list (dotted at.unit (name_of at.object))) (operation_names at.object) rows
+
+-- the row of the operation of these numbers, each from 1, if there is one
+abbrev pub row_in : Option (List (List ℕ)) → ℕ → Option (List ℕ)
+row_in None operation = None
+row_in (Some rows) operation = numbered rows operation
+
+abbrev pub row_of : List (List (List ℕ)) → ℕ → ℕ → Option (List ℕ)
+row_of objects object operation = row_in (numbered objects object) operation
+
+-- whether the line of a number allows; 0 is of none
+abbrev pub allowed : List Words → ℕ → Bool
+allowed list number = if number == 0 then false else allows (slice_get list (number - 1))
+
+-- the table of a list over the units that are loaded
+pub record IsTable (list : List Words) (shapes : List Shape) (t : Marks) : Type 0 where
+  pub few : length list ≤ most_lines
+  pub count : t.lines ≡ length list
+  pub callers : AllZip (IsCaller list) (callers shapes) t.callers
+  pub objects : AllZip (AreSites list) (all_objects shapes) t.objects
+  pub allowing : IsRow is_allowing list t.allowing

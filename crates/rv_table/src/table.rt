@@ -1,0 +1,100 @@
+//! The table of a list over the units that are loaded.
+
+ghost use Rattle.std.specs.Prelude.{◌≡◌, ◌≤◌, ◌<◌, List, length, IfOk, slice_get};
+ghost use Rattle.std.specs.Option.{option_copied};
+ghost use Rattle.rv_access.specs.Limits.{most_lines};
+ghost use Rattle.rv_access.specs.Words.{Words};
+ghost use Rattle.rv_shape.specs.Shape.{Shape};
+ghost use Rattle.rv_table.specs.Tables.{IsTable, allowed, decided, granted, row_of};
+
+use crate::row::{Row, allowing_row, deciding, is_marked};
+use crate::rows::{ObjectRows, caller_rows, object_rows};
+use rv_access::{AccessList, MOST_LINES};
+use rv_shape::catalogue::Catalogue;
+use std::alloc::{AllocError, Global};
+use std::marker::Model;
+
+/// An access list compiled over the units that are loaded: a row of marks for each unit that may call and for each
+/// operation of each object. It takes 64 bytes a row: 270 kB at most.
+///
+/// Contracts see its marks, and `IsTable` says of which list and which units they are.
+#[derive(Drop)]
+pub struct Table {
+    callers: Vec<Row>,
+    objects: Vec<ObjectRows>,
+    allowing: Row,
+    lines: usize,
+}
+
+impl Model for Table {
+    ghost use Rattle.rv_table.specs.Tables.{Marks};
+
+    ghost Value = { Marks };
+
+    ghost view = { λ t. record { callers = t.callers.items; objects = t.objects.items; allowing = t.allowing; lines = t.lines } };
+}
+
+impl Table {
+    /// The table of a list of at most 512 lines. Err where memory was refused.
+    pub fn build(
+        alloc: Global,
+        list: &AccessList,
+        catalogue: &Catalogue,
+    ) -> Result<Table, AllocError>
+        requires { length list.now ≤ most_lines }
+        ensures { IfOk result (λ t. IsTable list.now catalogue.now t) }
+    {
+        let shapes = catalogue.shapes();
+        Ok(Table {
+            callers: caller_rows(alloc, list, shapes)?,
+            objects: object_rows(alloc, list, shapes)?,
+            allowing: allowing_row(list),
+            lines: list.len(),
+        })
+    }
+
+    // The row of a unit, or of `Interrupts`.
+    fn caller(&self, unit: usize) -> Option<&Row>
+        ensures { option_copied result ≡ slice_get self.now.callers unit }
+    {
+        self.callers.get(unit)
+    }
+
+    // The row of an operation, by the numbers of its object and its own, each from 1.
+    fn site(&self, object: usize, operation: usize) -> Option<&Row>
+        ensures { option_copied result ≡ row_of self.now.objects object operation }
+    {
+        if object < 1 {
+            return None;
+        }
+        self.objects.get(object - 1)?.row(operation)
+    }
+
+    /// Whether the list grants a unit, by its number from 1 (0 being `Interrupts`), a call of an operation, by the
+    /// numbers of its object and its own, each from 1; and the number of the line that decides, the last that matches.
+    /// Where none does, or one of them is not there, the call is denied with line 0.
+    pub fn look(&self, unit: usize, object: usize, operation: usize) -> (bool, usize)
+        ensures line { (list : List Words) (shapes : List Shape) → IsTable list shapes self.now
+            → result.1 ≡ decided list shapes unit object operation }
+        ensures granted { (list : List Words) (shapes : List Shape) → IsTable list shapes self.now
+            → result.0 ≡ granted list shapes unit object operation }
+    {
+        let Some(ours) = self.caller(unit) else {
+            return (false, 0);
+        };
+        let Some(theirs) = self.site(object, operation) else {
+            return (false, 0);
+        };
+        let number = deciding(ours, theirs, self.lines);
+        (self.allows(number), number)
+    }
+
+    // Whether the line of a number allows; 0 is of none.
+    fn allows(&self, number: usize) -> bool
+        ensures { (list : List Words) (shapes : List Shape) → IsTable list shapes self.now → number ≤ length list
+            → result ≡ allowed list number }
+    {
+        let place = self.lines.saturating_sub(number);
+        number > 0 && place < MOST_LINES && is_marked(&self.allowing, place)
+    }
+}
