@@ -70,7 +70,10 @@ fn hosts_have_16_to_2_20_entries(rt: HostRuntime) {
 fn runs_give_an_answer_a_command(rt: HostRuntime) -> Result<(), Fail> {
     let alloc = rt.alloc();
     let mut host = plant(alloc)?;
-    let commands = [Command::Ask(PILOT, Request::Call(1, 1, Args::new())), Command::RemoveLine(9)];
+    let commands = [
+        Command::Ask(PILOT, Request::Call(1, 1, Args::new())),
+        Command::RemoveLine(9),
+    ];
     let mut answers = Answers::new(alloc);
     host.run(&commands, &mut answers)?;
     assert!(rt; answers.as_slice().len() == 2);
