@@ -7,11 +7,11 @@ mod entries;
 #[cfg(test)]
 mod fits;
 #[cfg(test)]
+mod hosts;
+#[cfg(test)]
 mod lists;
 #[cfg(test)]
 mod parts;
-#[cfg(test)]
-mod rooms;
 #[cfg(test)]
 mod scripts;
 #[cfg(test)]
@@ -20,6 +20,8 @@ mod settings;
 mod shapes;
 #[cfg(test)]
 mod steps;
+#[cfg(test)]
+mod tables;
 #[cfg(test)]
 mod texts;
 #[cfg(test)]
