@@ -14,7 +14,7 @@ fn table(alloc: Global) -> Result<Table, Fail> {
     };
     let Ok(plant) = read_shape(
         alloc,
-        "unit Plant\nprotected Valve 20\nfunction Get 0\nprocedure Set\n",
+        "unit Plant\nprotected Valve 20\nfunction Get 0 1\nprocedure Set\n",
     ) else {
         return Err("plant".into());
     };
