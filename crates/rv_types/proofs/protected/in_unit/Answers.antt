@@ -1,6 +1,6 @@
 use Rattle.std.proofs.Common.{◌∙◌, ap, ℕ, Option}
 use Rattle.rv_types.proofs.Ended.{unit_left}
-use Rattle.rv_types.proofs.unit.in_unit.Goals as goal
+use Rattle.rv_types.proofs.protected.in_unit.Goals as goal
 
 pub returns-clause-scope : goal.returns-clause-scope
 returns-clause-scope c =

@@ -4,7 +4,7 @@ use Rattle.rv_names.specs.declared.declare.Form.{Form}
 use Rattle.rv_names.specs.Scope.{ScopeView, declaring_all}
 use Rattle.rv_names.specs.Visible.{visible}
 use Rattle.rv_names.specs.DeclarationUses.{object_form}
-use Rattle.rv_types.proofs.unit.variable.Goals as goal
+use Rattle.rv_types.proofs.declarations.variable.Goals as goal
 
 pub returns : goal.returns
 returns c =

@@ -2,7 +2,7 @@ use Rattle.std.proofs.Common.{◌≡◌, drop, map}
 use Rattle.rv_tree.specs.BodyView.{operation_body_view}
 use Rattle.rv_code.specs.BodyView.{unit_view}
 use Rattle.rv_types.specs.BodiesOf.{objects_compiled}
-use Rattle.rv_types.proofs.unit.all_object_bodies.Given as goal
+use Rattle.rv_types.proofs.protected.all_object_bodies.Given as goal
 
 abbrev pub invariant-loop-object : goal.invariant-loop-object
 invariant-loop-object l = record {
