@@ -1,6 +1,6 @@
 //! Statements.
 
-ghost use Rattle.std.specs.Prelude.{◌≡◌, ◌++◌, ◌∷◌, [], IfOk, OnOk, Some, map};
+ghost use Rattle.std.specs.Prelude.{◌≡◌, ◌++◌, ◌∷◌, [], IfOk, OnOk, Some, map, true};
 ghost use Rattle.rv_tree.specs.NameView.{identifier_view, name_view};
 ghost use Rattle.rv_tree.specs.DeclarationView.{maybe};
 ghost use Rattle.rv_tree.specs.ExpressionView.{expression_view};
