@@ -142,12 +142,31 @@ objects_compiled s scope number bodies index (object ∷ more) u =
     (perhaps_compiled s scope number bodies index object u >>= objects_compiled s scope number bodies (index + 1) more)
     else None
 
+-- an object is of the protected unit of this number
+abbrev pub is_object_of : ℕ → ObjectType → Bool
+is_object_of number sort.Suspension = false
+is_object_of number (sort.Protected unit) = unit == number
+
+abbrev pub has_object : ℕ → List ObjectType → Bool
+has_object number [] = false
+has_object number (object ∷ more) = is_object_of number object || has_object number more
+
+-- the operations of a protected type without objects have bodies too, of which none is kept
+abbrev pub without_object : Setting → ScopeView → ℕ → List OperationBody → UnitBodies → Option UnitBodies
+without_object s scope number bodies u = object_bodies s scope 0 number bodies >>= λ unused. Some u
+
+-- the bodies of the protected unit of this number, for each of its objects
+abbrev pub unit_bodies : Setting → ScopeView → ℕ → List OperationBody → UnitBodies → Option UnitBodies
+unit_bodies s scope number bodies u =
+    if has_object number s.outline.objects then objects_compiled s scope number bodies 0 s.outline.objects u
+    else without_object s scope number bodies u
+
 -- the bodies of a protected unit, with its number
 abbrev pub unit_compiled : Setting → ScopeView → List OperationBody → UnitBodies → Option ℕ → Option ProtectedUnit → Option UnitBodies
 unit_compiled s scope bodies u None unit = None
 unit_compiled s scope bodies u (Some number) None = None
 unit_compiled s scope bodies u (Some number) (Some unit) =
-    objects_compiled s (in_protected_unit unit scope) number bodies 0 s.outline.objects u
+    unit_bodies s (in_protected_unit unit scope) number bodies u
 
 -- the number of the protected unit that a body is of
 abbrev pub number_of : ScopeView → ProtectedBody → Option ℕ

@@ -1,8 +1,8 @@
--- What is written by a statement, and what calls are given (ISO/IEC 8652:2012, 5.2, 6.4.1, 9.5.3, D.10). Whether it may be
--- written is told by faults alone.
-use Rattle.std.specs.Prelude.{ℕ, List, [], ◌∷◌, ◌++◌, if◌then◌else◌, Option, Some, None}
+-- What is written by a statement, and what calls are given (ISO/IEC 8652:2012, 3.3, 5.2, 6.4.1, 9.5.1, 9.5.3, D.10).
+use Rattle.std.specs.Prelude.{ℕ, Bool, true, false, is_some, not, List, [], ◌∷◌, ◌++◌, if◌then◌else◌, Option, Some, None}
 use Rattle.rv_tree.specs.Names.{Name}
 use Rattle.rv_tree.specs.Expressions.{Expression, name, Expressions, no_expressions, and_expression}
+use Rattle.rv_shape.specs.declared.kind.Range.{Range}
 use Rattle.rv_shape.specs.declared.kind.Parameter.{Parameter}
 use Rattle.rv_shape.specs.declared.kind.ParameterMode.{ParameterMode}
 use Rattle.rv_shape.specs.declared.kind.ParameterMode.TheVariants as mode
@@ -28,8 +28,16 @@ target_in (d.Variable slot r is_written) = Some (record { place = place.Variable
 target_in (d.Component index r) = Some (record { place = place.Component index; range = r })
 target_in found = None
 
+-- what may be written: no constant, `in` parameter or loop parameter (3.3), and in a function, which has a result, no
+-- component (9.5.1)
+abbrev pub may_write : Option Range → Denoted → Bool
+may_write result (d.Variable slot r is_written) = is_written
+may_write result (d.Component index r) = not (is_some result)
+may_write result found = false
+
+-- the object that an assignment names
 unfoldable pub target_of : PointView → Name → Option Target
-target_of p n = target_in (denotes p n)
+target_of p n = if may_write p.result (denotes p n) then target_in (denotes p n) else None
 
 -- an assignment (5.2)
 abbrev pub assigned : PointView → Expression → Target → Option Statement
@@ -63,13 +71,18 @@ read_from (place.Component index) = code.component index
 abbrev pub fitting : Parameter → Target → Option Target
 fitting q target = if same_type target.range.of q.range.of then Some target else None
 
--- the object that an argument names
-abbrev pub target_named : PointView → Expression → Option Target
-target_named p (name n) = target_of p n
-target_named p other = None
+-- the object that an argument names, and whether it may be written
+abbrev pub object_named : PointView → Expression → Option Target
+object_named p (name n) = target_in (denotes p n)
+object_named p other = None
 
+abbrev pub is_writable : PointView → Expression → Bool
+is_writable p (name n) = may_write p.result (denotes p n)
+is_writable p other = false
+
+-- an object of the parameter's type that may be written
 abbrev pub target_for : PointView → Parameter → Expression → Option Target
-target_for p q e = target_named p e >>= fitting q
+target_for p q e = object_named p e >>= fitting q >>= λ target. if is_writable p e then Some target else None
 
 -- an argument for a parameter, by its mode (6.4.1)
 abbrev pub passing : PointView → Parameter → Expression → ParameterMode → Passed → Option Passed
@@ -90,13 +103,19 @@ setter suspension.SetTrue object = callee.SetTrue object
 setter suspension.SetFalse object = callee.SetFalse object
 setter suspension.SuspendUntilTrue object = callee.SuspendUntilTrue object
 
+-- a function, which has a result, calls no internal procedure (9.5.1)
+abbrev pub may_call : Option Range → Callee → Bool
+may_call None callee = true
+may_call (Some r) (callee.Internal operation) = false
+may_call (Some r) other = true
+
 -- a call with what it is given, or of an operation of this suspension object
-abbrev pub call_by : Denoted → Option Passed → Option ℕ → Option Statement
-call_by (d.Procedure callee) passed object =
-    passed >>= λ given. Some (calls callee (code.expressions_of given.arguments) given.targets)
-call_by (d.Setter operation) passed object = object >>= λ k. Some (calls (setter operation k) code.no_expressions [])
-call_by found passed object = None
+abbrev pub call_by : Option Range → Denoted → Option Passed → Option ℕ → Option Statement
+call_by result (d.Procedure callee) passed object =
+    if may_call result callee then (passed >>= λ given. Some (calls callee (code.expressions_of given.arguments) given.targets)) else None
+call_by result (d.Setter operation) passed object = object >>= λ k. Some (calls (setter operation k) code.no_expressions [])
+call_by result found passed object = None
 
 -- a call as a statement (6.4, 9.5.3, D.10)
 unfoldable pub called : PointView → Name → Expressions → Option Statement
-called p n es = call_by (denotes p n) (passed_onto p (profile p n) es nothing_passed) (suspension_of p es)
+called p n es = call_by p.result (denotes p n) (passed_onto p (profile p n) es nothing_passed) (suspension_of p es)

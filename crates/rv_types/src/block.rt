@@ -17,7 +17,7 @@ ghost use Rattle.rv_types.specs.Blocks.{initial_of, opened_with, objects_onto, n
 use crate::denoted::Denoted;
 use crate::expression::expression_as;
 use crate::point::Point;
-use crate::refused::{Refused, mismatch};
+use crate::refused::{Refused, least, mismatch};
 use crate::statement::statements;
 use crate::static_form::is_static;
 use rv_code::{
@@ -204,9 +204,28 @@ fn object(
         ≡ Some (opened_with point.new (map declaration_view done.new.items))) }
     ensures only { OnOk result (OnlyDeclares point.old.scope point.new.scope) }
 {
+    if is_constant && given.is_none() {
+        return Err(mismatch(first_place(names)));
+    }
     let range = subtype(mark, constraint, point)?;
     declared(alloc, range, is_constant, given, names, point, done)?;
     point.reveal(is_constant, names)
+}
+
+// Whether objects take slots: all but constants whose value is static.
+fn takes_slots(is_constant: bool, given: &Option<Expression>, point: &Point) -> bool {
+    match given {
+        Some(e) => !is_constant || !is_static(e, true, point),
+        None => !is_constant,
+    }
+}
+
+// The fault of a declaration for which so many slots are left: the identifier behind the last of these stands first.
+fn too_many(fault: Refused, names: &Vec<Identifier>, left: usize) -> Refused {
+    match names.get(left) {
+        Some(name) => least(fault, Refused(TypeFault::TooLarge(name.at))),
+        None => fault,
+    }
 }
 
 #[tactic(auto, using(crate::proofs::Ended::declares_on))]
@@ -228,8 +247,17 @@ fn local(
             range,
             value,
         } => {
+            let left = point.slots_left();
             point.hide(names)?;
-            object(alloc, names, *is_constant, mark, range, value, point, done)
+            match object(alloc, names, *is_constant, mark, range, value, point, done) {
+                Ok(()) => Ok(()),
+                Err(fault) => {
+                    if takes_slots(*is_constant, value, point) {
+                        return Err(too_many(fault, names, left));
+                    }
+                    Err(fault)
+                }
+            }
         }
         Local::Pragma(_) => Ok(()),
         Local::Protected(unit) => Err(mismatch(unit.at)),
@@ -323,6 +351,7 @@ pub(crate) fn block(
     ensures code { IfOk result (λ b. block_of parameters.items is_function point.old (block_view part.now) ≡ Some (body_view b)) }
     ensures only { OnOk result (OnlyDeclares point.old.scope point.new.scope) }
 {
+    point.begin_block();
     let mut declarations = Vec::new(alloc);
     locals(alloc, &part.locals, point, &mut declarations)?;
     let statements = statements(alloc, &part.statements, point)?;

@@ -118,8 +118,8 @@ fn block_body<'a>(
     Ok((body, scope))
 }
 
-// The body of an operation of an object.
-fn operation_body<'a>(
+/// The body of an operation of an object.
+pub(crate) fn operation_body<'a>(
     alloc: Global,
     setting: &Setting<'a>,
     object: usize,
@@ -160,7 +160,8 @@ fn operation_body<'a>(
     }
 }
 
-fn name_of(body: &OperationBody) -> &str
+/// The name of the operation that a body is of.
+pub(crate) fn name_of(body: &OperationBody) -> &str
     ensures { result.now ≡ name_of_body (operation_body_view body.now) }
 {
     match body {

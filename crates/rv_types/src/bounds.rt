@@ -1,6 +1,6 @@
 //! What loops go over.
 
-ghost use Rattle.std.specs.Prelude.{◌≡◌, IfOk, Some};
+ghost use Rattle.std.specs.Prelude.{◌≡◌, IfOk, Some, true};
 ghost use Rattle.rv_tree.specs.NameView.{name_view};
 ghost use Rattle.rv_tree.specs.ExpressionView.{expression_view, range_view};
 ghost use Rattle.rv_tree.specs.StatementView.{bounds_view as tree_bounds_view};
@@ -8,14 +8,15 @@ ghost use Rattle.rv_static.specs.Meanings.{range_in};
 ghost use Rattle.rv_static.specs.Ranges.{is_discrete as type_is_discrete, bounded as bounded_range};
 ghost use Rattle.rv_code.specs.ExpressionView.{expression_view as code_view};
 ghost use Rattle.rv_types.specs.Points.{static_meaning};
-ghost use Rattle.rv_types.specs.Typed.{literal_in as literal_of};
+ghost use Rattle.rv_types.specs.Typed.{literal_in as literal_of, typed};
 ghost use Rattle.rv_types.specs.Loops.{parameter_range as range_of_parameter, between as bounds_of_codes, discrete as discrete_range, subtype_named as subtype_of_expression, all_values as values_of_subtype, bounds_between as bounds_in_range, bounds_of, two_bounds_of, constrained_bounds_of, whole_bounds_of};
 ghost use Rattle.rv_types.specs.LoopView.{bounds_view};
+ghost use Rattle.rv_types.specs.TypedView.{typed_view};
 
 use crate::expression::{expression, expression_as};
 use crate::point::Point;
-use crate::refused::{Refused, mismatch};
-use crate::typed::literal_in;
+use crate::refused::{Refused, least, mismatch};
+use crate::typed::{Typed, literal_in};
 use rv_code::Expression as Code;
 use rv_outline::point::whole_range;
 use rv_shape::kind::{Range, ValueType};
@@ -140,6 +141,22 @@ fn whole_bounds(e: &Expression, point: &Point) -> Result<Bounds, Refused>
     })
 }
 
+// The first of two bounds. Where its value is too large, its type may be the fault that stands before.
+fn first_bound(alloc: Global, low: &Expression, point: &Point) -> Result<Typed, Refused>
+    ensures { IfOk result (λ t. typed point.now true (expression_view low.now) ≡ Some (typed_view t)) }
+{
+    match expression(alloc, low, true, point) {
+        Ok(first) => Ok(first),
+        Err(fault) => match expression(alloc, low, false, point) {
+            Ok(found) => match discrete(whole_range(found.of), low.place()) {
+                Ok(_) => Err(fault),
+                Err(other) => Err(least(fault, other)),
+            },
+            Err(other) => Err(least(fault, other)),
+        },
+    }
+}
+
 // Two bounds of one type.
 fn two_bounds(
     alloc: Global,
@@ -149,7 +166,7 @@ fn two_bounds(
 ) -> Result<Bounds, Refused>
     ensures { IfOk result (λ b. two_bounds_of point.now (expression_view low.now) (expression_view high.now) ≡ Some (bounds_view b)) }
 {
-    let first = expression(alloc, low, true, point)?;
+    let first = first_bound(alloc, low, point)?;
     let range = discrete(whole_range(first.of), low.place())?;
     let last = expression_as(alloc, range.of, high, point)?;
     between(range, first.into_code(), last, (low.place(), high.place()))

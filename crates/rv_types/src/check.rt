@@ -3,12 +3,15 @@
 ghost use Rattle.std.specs.Prelude.{◌≡◌, IfOk, Some, map};
 ghost use Rattle.rv_tree.specs.NameView.{names_view};
 ghost use Rattle.rv_tree.specs.UnitView.{context_item_view, unit_view as tree_view};
-ghost use Rattle.rv_outline.specs.Shapes.{shape_of};
-ghost use Rattle.rv_types.specs.BodiesOf.{is_real_time as is_times, names_times as names_are_times, item_times as item_is_times, context_times as context_is_times};
+ghost use Rattle.rv_outline.specs.Shapes.{shape_of, outlined};
+ghost use Rattle.rv_code.specs.BodyView.{unit_view};
+ghost use Rattle.rv_types.specs.BodiesOf.{is_real_time as is_times, names_times as names_are_times, item_times as item_is_times, context_times as context_is_times, setting_of, body_scope, bodies_of};
 
+use crate::declarations::declare_all_of;
 use crate::refused::Refused;
 use crate::setting::Setting;
-use crate::unit::{declare_all_of, items, no_bodies};
+use crate::text_order::look_in_order;
+use crate::unit::{items, no_bodies};
 use rv_code::UnitBodies;
 use rv_names::resolve::{Named, protected_units};
 use rv_names::{Declared, Library, Scope, Wanted};
@@ -76,18 +79,35 @@ fn context_times(context: &Vec<ContextItem>, scope: &Scope) -> bool
     false
 }
 
-// The compiled bodies of a text.
-fn bodies(alloc: Global, named: &Named, outline: &Outline) -> Result<UnitBodies, Refused> {
-    let tree = named.tree;
-    let units = protected_units(alloc, tree)?;
+// What is known of a text before its bodies, and what is declared where the package body begins.
+fn start<'a>(
+    alloc: Global,
+    named: &Named<'a>,
+    outline: &'a Outline,
+) -> Result<(Setting<'a>, Scope<'a>), Refused>
+    requires { outline.now ≡ outlined named.now.catalogue.now (tree_view named.now.tree.now) }
+    ensures setting { IfOk result (λ r. r.0 ≡ setting_of named.now.catalogue.now (tree_view named.now.tree.now)) }
+    ensures scope { IfOk result (λ r. r.1 ≡ body_scope named.now.catalogue.now (tree_view named.now.tree.now)) }
+{
     let mut scope = package_scope(alloc, named)?;
-    let times = context_times(&tree.context, &scope);
+    let times = context_times(&named.tree.context, &scope);
     let setting = Setting {
         outline,
         catalogue: named.catalogue,
         times,
     };
-    declare_all_of(&tree.specification.declarations, &mut scope)?;
+    declare_all_of(&named.tree.specification.declarations, &mut scope)?;
+    Ok((setting, scope))
+}
+
+// The compiled bodies of a text.
+fn bodies(alloc: Global, named: &Named, outline: &Outline) -> Result<UnitBodies, Refused>
+    requires { outline.now ≡ outlined named.now.catalogue.now (tree_view named.now.tree.now) }
+    ensures { IfOk result (λ u. bodies_of named.now.catalogue.now (tree_view named.now.tree.now) ≡ Some (unit_view u)) }
+{
+    let tree = named.tree;
+    let units = protected_units(alloc, tree)?;
+    let (setting, scope) = start(alloc, named, outline)?;
     let mut compiled = no_bodies(alloc, outline)?;
     items(
         alloc,
@@ -100,19 +120,47 @@ fn bodies(alloc: Global, named: &Named, outline: &Outline) -> Result<UnitBodies,
     Ok(compiled)
 }
 
+// The fault of the bodies that stands first in the text, where this one was met.
+fn first_of_bodies(alloc: Global, named: &Named, outline: &Outline, met: Refused) -> Refused
+    requires { outline.now ≡ outlined named.now.catalogue.now (tree_view named.now.tree.now) }
+{
+    match look(alloc, named, outline) {
+        Ok(()) => met,
+        Err(first) => first,
+    }
+}
+
+fn look(alloc: Global, named: &Named, outline: &Outline) -> Result<(), Refused>
+    requires { outline.now ≡ outlined named.now.catalogue.now (tree_view named.now.tree.now) }
+{
+    let units = protected_units(alloc, named.tree)?;
+    let (setting, scope) = start(alloc, named, outline)?;
+    look_in_order(
+        alloc,
+        &setting,
+        units.as_slice(),
+        &named.tree.body.items,
+        scope,
+    )
+}
+
 /// Checks the types of a text whose names are bound, and compiles its bodies.
 ///
 /// # Errors
 /// The fault at the least place: at one place the first in the order of `TypeFault`. `NoMemory` where memory was refused.
 pub fn check_types(alloc: Global, named: &Named) -> Result<Checked, TypeFault>
-    ensures { IfOk result (λ c. shape_of named.now.catalogue.now (tree_view named.now.tree.now) ≡ Some c.shape) }
+    ensures shape { IfOk result (λ c. shape_of named.now.catalogue.now (tree_view named.now.tree.now) ≡ Some c.shape) }
+    ensures bodies { IfOk result (λ c. bodies_of named.now.catalogue.now (tree_view named.now.tree.now) ≡ Some (unit_view c.bodies)) }
 {
     let mut faults = Faults::new();
     let Ok(outline) = outline_of(alloc, named, &mut faults) else {
         return Err(TypeFault::NoMemory);
     };
     match bodies(alloc, named, &outline) {
-        Err(Refused(fault)) => Err(first_of(faults, fault)),
+        Err(met) => {
+            let Refused(fault) = first_of_bodies(alloc, named, &outline, met);
+            Err(first_of(faults, fault))
+        }
         Ok(bodies) => {
             if let Some(fault) = faults.first() {
                 return Err(fault);

@@ -1,33 +1,31 @@
 //! Expressions: their types, and the code that gives their values.
 
-ghost use Rattle.std.specs.Prelude.{◌≡◌, ◌++◌, ◌∷◌, [], IfOk, Some, map, true};
-ghost use Rattle.rv_tree.specs.NameView.{name_view};
-ghost use Rattle.rv_tree.specs.Expressions.{expressions_of, factors_of, terms_of, call as call_of_name};
+ghost use Rattle.std.specs.Prelude.{◌≡◌, [], IfOk, Some, map};
+ghost use Rattle.rv_tree.specs.Expressions.{expressions_of, factors_of, terms_of};
 ghost use Rattle.rv_tree.specs.ExpressionView.{expression_view, expressions_view, factors_view, terms_view};
 ghost use Rattle.rv_static.specs.Static.{static_of};
-ghost use Rattle.rv_code.specs.Expressions.{call as call_code, expressions_of as code_expressions_of};
 ghost use Rattle.rv_code.specs.ExpressionView.{expression_view as code_view, link_view};
-ghost use Rattle.rv_types.specs.Points.{static_meaning, denotes, profile, shows_times};
-ghost use Rattle.rv_types.specs.Typed.{adds as adds_by_types, value_of, static_typed, named as value_named, conversion as conversion_of, function_call as call_of_function, call_of, suspension_in, suspension_named, suspension_of, argument_for, alone, highest_code, computed as computed_of, first_of, arguments_onto, factors_onto, terms_onto, logic_onto, typed, operand_of, product_of, sum_of, relation_of, logic_of, only_integer, typed_as as code_typed_as};
+ghost use Rattle.rv_types.specs.Points.{static_meaning};
+ghost use Rattle.rv_types.specs.Typed.{adds as adds_by_types, static_typed, highest_code, computed as computed_of, factors_onto, terms_onto, logic_onto, typed, operand_of, product_of, sum_of, relation_of, logic_of, typed_as as code_typed_as};
 ghost use Rattle.rv_types.specs.TypedView.{typed_view, sum_view};
 
-use crate::denoted::Denoted;
+mod call;
+
+use crate::expression::call::{call, named};
 use crate::operators::{
     Adder, adder_of, chain_of, is_decided, is_related, joined_value, logical_operator,
     multiplying_operator, pair_of, prefixed_by, push_link, relational_operator, signed_by,
-    takes_left, within_range,
+    takes_left,
 };
 use crate::point::Point;
-use crate::refused::{Refused, mismatch};
+use crate::refused::{Refused, least, mismatch};
 use crate::static_form::is_static;
-use crate::typed::{Sum, Typed, literal_in, same_type, static_value_code};
-use rv_code::{Callee, Expression as Code, Link, Prefix};
-use rv_shape::kind::{Parameter, Range, ValueType};
-use rv_static::{Faults, Meaning, Meanings, Static, TypeFault, static_value};
-use rv_tree::{
-    AddingOperator, Expression, Factor, HighestOperator, LogicalOperator, Name, RelationalOperator,
-    Term,
-};
+use crate::typed::{Sum, Typed, literal_in, static_value_code};
+pub(crate) use call::suspension_argument;
+use rv_code::{Expression as Code, Link, Prefix};
+use rv_shape::kind::ValueType;
+use rv_static::{Faults, Static, static_value};
+use rv_tree::{Expression, Factor, HighestOperator, LogicalOperator, RelationalOperator, Term};
 use std::alloc::Global;
 
 // The value of a static expression.
@@ -50,69 +48,6 @@ fn static_expression(e: &Expression, is_evaluated: bool, point: &Point) -> Resul
 {
     let value = static_result(e, is_evaluated, point)?;
     Ok(static_value_code(value))
-}
-
-// What a call gives.
-fn call_of_callee(callee: Callee, of: ValueType, arguments: Vec<Code>) -> Typed
-    ensures { typed_view result ≡ value_of of (call_code callee (code_expressions_of (map code_view arguments.items))) }
-{
-    Typed {
-        of,
-        code: Code::Call(callee, arguments),
-    }
-}
-
-// An object, or a call of a function without parameters.
-fn named(alloc: Global, name: &Name, point: &Point) -> Result<Typed, Refused>
-    ensures { IfOk result (λ t. value_named (denotes point.now (name_view name.now)) (profile point.now (name_view name.now)) ≡ Some (typed_view t)) }
-{
-    match point.denoted(name) {
-        Denoted::Variable(slot, range, _) => Ok(Typed {
-            of: range.of,
-            code: Code::Variable(slot),
-        }),
-        Denoted::Component(index, range) => Ok(Typed {
-            of: range.of,
-            code: Code::Component(index),
-        }),
-        Denoted::Function(callee, range) => {
-            if point.parameters(name).is_empty() {
-                return Ok(call_of_callee(callee, range.of, Vec::new(alloc)));
-            }
-            Err(mismatch(name.first.at))
-        }
-        Denoted::Clock => Ok(call_of_callee(Callee::Clock, ValueType::Time, Vec::new(alloc))),
-        _ => Err(mismatch(name.first.at)),
-    }
-}
-
-// The suspension object that an argument names.
-fn suspension_named_by(e: &Expression, point: &Point) -> Result<usize, Refused>
-    ensures { IfOk result (λ k. suspension_named point.now (expression_view e.now) ≡ Some k) }
-{
-    if let Expression::Name(name) = e {
-        if let Denoted::Suspension(number) = point.denoted(name) {
-            return Ok(number);
-        }
-    }
-    Err(mismatch(e.place()))
-}
-
-/// The suspension object that is the one argument of a call at a place.
-pub(crate) fn suspension_argument(
-    arguments: &Vec<Expression>,
-    at: usize,
-    point: &Point,
-) -> Result<usize, Refused>
-    ensures { IfOk result (λ k. suspension_of point.now (expressions_of (expressions_view arguments.now.items)) ≡ Some k) }
-{
-    match arguments.as_slice() {
-        [] => Err(mismatch(at)),
-        [one, others @ ..] => match others {
-            [] => suspension_named_by(one, point),
-            [_other, _more @ ..] => Err(mismatch(at)),
-        },
-    }
 }
 
 /// The type of an expression and the code that gives its value; whether it is evaluated at all.
@@ -142,9 +77,9 @@ fn adder_for(times: bool, left: ValueType, term: &Term, right: ValueType) -> Res
     }
 }
 
-// An expression that has to be of a type.
+/// An expression that has to be of a type.
 #[cycle(expression)]
-fn operand(
+pub(crate) fn operand(
     alloc: Global,
     of: ValueType,
     e: &Expression,
@@ -377,138 +312,7 @@ fn logic_links(
     Ok(links)
 }
 
-// A conversion, `Milliseconds`, or a call with arguments.
-#[cycle(expression)]
-fn call(
-    alloc: Global,
-    name: &Name,
-    list: &Vec<Expression>,
-    is_evaluated: bool,
-    point: &Point,
-) -> Result<Typed, Refused>
-    ensures { IfOk result (λ t. computed_of point.now is_evaluated (call_of_name (name_view name.now) (expressions_of (expressions_view list.now.items))) ≡ Some (typed_view t)) }
-{
-    match point.meaning(name) {
-        Meaning::Subtype(range) => conversion(alloc, range, name, list, is_evaluated, point),
-        Meaning::Milliseconds => {
-            let code = only_argument(alloc, name, list, is_evaluated, point)?;
-            Ok(Typed {
-                of: ValueType::TimeSpan,
-                code,
-            })
-        }
-        Meaning::Constant(_, _) => Err(mismatch(name.first.at)),
-        Meaning::NotStatic => function_call(alloc, name, list, is_evaluated, point),
-    }
-}
-
-// A conversion to a subtype.
-#[cycle(expression)]
-fn conversion(
-    alloc: Global,
-    range: Range,
-    name: &Name,
-    list: &Vec<Expression>,
-    is_evaluated: bool,
-    point: &Point,
-) -> Result<Typed, Refused>
-    ensures { IfOk result (λ t. conversion_of range (first_of point.now is_evaluated (expressions_of (expressions_view list.now.items))) ≡ Some (typed_view t)) }
-{
-    if !same_type(range.of, ValueType::Integer) {
-        return Err(mismatch(name.first.at));
-    }
-    let value = only_argument(alloc, name, list, is_evaluated, point)?;
-    let code = within_range(alloc, range, value)?;
-    Ok(Typed {
-        of: ValueType::Integer,
-        code,
-    })
-}
-
-// The one argument, an Integer.
-#[cycle(expression)]
-fn only_argument(
-    alloc: Global,
-    name: &Name,
-    list: &Vec<Expression>,
-    is_evaluated: bool,
-    point: &Point,
-) -> Result<Code, Refused>
-    ensures { IfOk result (λ c. only_integer point.now is_evaluated (expressions_of (expressions_view list.now.items)) ≡ Some (code_view c)) }
-{
-    match list.as_slice() {
-        [] => Err(mismatch(name.first.at)),
-        [one, others @ ..] => match others {
-            [] => operand(alloc, ValueType::Integer, one, is_evaluated, point),
-            [_other, _more @ ..] => Err(mismatch(name.first.at)),
-        },
-    }
-}
-
-// A call of a function.
-#[cycle(expression)]
-fn function_call(
-    alloc: Global,
-    name: &Name,
-    list: &Vec<Expression>,
-    is_evaluated: bool,
-    point: &Point,
-) -> Result<Typed, Refused>
-    ensures { IfOk result (λ t. call_of_function (denotes point.now (name_view name.now))
-        (arguments_onto point.now is_evaluated (profile point.now (name_view name.now)) (expressions_of (expressions_view list.now.items)) [])
-        (suspension_of point.now (expressions_of (expressions_view list.now.items))) ≡ Some (typed_view t)) }
-{
-    match point.denoted(name) {
-        Denoted::Function(callee, range) => {
-            let parameters = point.parameters(name);
-            if parameters.len() != list.len() {
-                return Err(mismatch(name.first.at));
-            }
-            let given = arguments(alloc, parameters, list, name.first.at, is_evaluated, point)?;
-            Ok(call_of_callee(callee, range.of, given))
-        }
-        Denoted::CurrentState => {
-            let object = suspension_argument(list, name.first.at, point)?;
-            Ok(call_of_callee(
-                Callee::CurrentState(object),
-                ValueType::Boolean,
-                Vec::new(alloc),
-            ))
-        }
-        _ => Err(mismatch(name.first.at)),
-    }
-}
-
-// The arguments for parameters, of which there are as many.
-#[cycle(expression)]
-fn arguments(
-    alloc: Global,
-    parameters: &[Parameter],
-    list: &Vec<Expression>,
-    at: usize,
-    is_evaluated: bool,
-    point: &Point,
-) -> Result<Vec<Code>, Refused>
-    ensures { IfOk result (λ given. arguments_onto point.now is_evaluated parameters.now (expressions_of (expressions_view list.now.items)) [] ≡ Some (map code_view given.items)) }
-{
-    let mut given = Vec::new(alloc);
-    let mut left = parameters;
-    for e in list {
-        let [parameter, others @ ..] = left else {
-            return Err(mismatch(at));
-        };
-        let value = operand(alloc, parameter.range.of, e, is_evaluated, point)?;
-        let value = within_range(alloc, parameter.range, value)?;
-        given.push(value)?;
-        left = others;
-    }
-    match left {
-        [] => Ok(given),
-        [_parameter, _others @ ..] => Err(mismatch(at)),
-    }
-}
-
-/// The code of an expression that has to be of a type.
+/// The code of an expression that has to be of a type. Where a value is too large, a type that doesn't fit may stand before.
 #[tactic(auto, unfolding(crate::specs::Typed::typed_as))]
 pub(crate) fn expression_as(
     alloc: Global,
@@ -518,5 +322,11 @@ pub(crate) fn expression_as(
 ) -> Result<Code, Refused>
     ensures { IfOk result (λ c. code_typed_as point.now of (expression_view e.now) ≡ Some (code_view c)) }
 {
-    operand(alloc, of, e, true, point)
+    match operand(alloc, of, e, true, point) {
+        Ok(code) => Ok(code),
+        Err(fault) => match operand(alloc, of, e, false, point) {
+            Ok(_) => Err(fault),
+            Err(other) => Err(least(fault, other)),
+        },
+    }
 }

@@ -15,7 +15,6 @@ use crate::names::{
 };
 use crate::refused::Refused;
 use crate::setting::Setting;
-use rv_code::MOST_SLOTS;
 use rv_names::declare::{Form, declare_all};
 use rv_names::{Declared, Scope};
 use rv_outline::known::Known;
@@ -28,6 +27,9 @@ use rv_static::{Meaning, Meanings, TypeFault};
 use rv_tree::{Identifier, Name};
 use std::alloc::Global;
 use std::marker::Model;
+
+// How many variables and loop parameters are open in a body (own).
+const MOST_VARIABLES: usize = 64;
 
 /// What is known of a declaration of a body, by the place of its identifier.
 #[derive(Clone, Copy)]
@@ -47,8 +49,9 @@ pub struct Point<'a> {
     times: bool,
     // The number of the protected object whose body it is in.
     object: usize,
-    // The next slot.
+    // The next slot, and the first one that there isn't.
     slots: usize,
+    slots_end: usize,
     // The range of the result, in the body of a function.
     result_range: Option<Range>,
 }
@@ -100,6 +103,7 @@ impl<'a> Point<'a> {
             times: setting.times,
             object,
             slots: 0,
+            slots_end: usize::MAX,
             result_range,
         }
     }
@@ -208,7 +212,19 @@ impl<'a> Point<'a> {
         Ok(())
     }
 
-    /// Gives the next slot to an object of the body; there are at most `MOST_SLOTS`.
+    /// The parameters have their slots: as many more are left as variables may be open.
+    pub(crate) fn begin_block(&mut self)
+        ensures { self.new ≡ self.old }
+    {
+        self.slots_end = self.slots.saturating_add(MOST_VARIABLES);
+    }
+
+    /// How many slots are left.
+    pub(crate) fn slots_left(&self) -> usize {
+        self.slots_end.saturating_sub(self.slots)
+    }
+
+    /// Gives the next slot to an object of the body, if one is left.
     pub(crate) fn take_slot(
         &mut self,
         at: usize,
@@ -217,7 +233,7 @@ impl<'a> Point<'a> {
     ) -> Result<(), Refused>
         ensures { OnOk result (self.new ≡ taking_slot at range is_written self.old) }
     {
-        if self.slots >= MOST_SLOTS {
+        if self.slots >= self.slots_end {
             return Err(Refused(TypeFault::TooLarge(at)));
         }
         self.note(at, Known::Variable(self.slots, range, is_written))?;
@@ -252,10 +268,13 @@ impl<'a> Point<'a> {
         Ok(())
     }
 
-    /// Begins a loop, in whose bounds its parameter denotes nothing.
+    /// Begins a loop, in whose bounds its parameter denotes nothing; a slot must be left for it.
     pub(crate) fn begin_bounds(&mut self, parameter: &Identifier) -> Result<(), Refused>
         ensures { OnOk result (self.new ≡ inside_bounds (identifier_view parameter.now) self.old) }
     {
+        if self.slots >= self.slots_end {
+            return Err(Refused(TypeFault::TooLarge(parameter.at)));
+        }
         self.scope.enter()?;
         self.scope.declare(parameter, None)?;
         Ok(())

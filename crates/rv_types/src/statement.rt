@@ -1,6 +1,6 @@
 //! Statements.
 
-ghost use Rattle.std.specs.Prelude.{◌≡◌, ◌++◌, ◌∷◌, [], IfOk, OnOk, Some, map};
+ghost use Rattle.std.specs.Prelude.{◌≡◌, ◌++◌, ◌∷◌, [], IfOk, OnOk, Some, map, true};
 ghost use Rattle.rv_tree.specs.NameView.{identifier_view, name_view};
 ghost use Rattle.rv_tree.specs.DeclarationView.{maybe};
 ghost use Rattle.rv_tree.specs.ExpressionView.{expression_view};
@@ -8,6 +8,8 @@ ghost use Rattle.rv_tree.specs.Statements.{statements_of, elsif_parts_of, altern
 ghost use Rattle.rv_tree.specs.StatementView.{statement_view, statements_view, elsif_parts_view, alternatives_view, iteration_view, bounds_view as tree_bounds_view};
 ghost use Rattle.rv_code.specs.ExpressionView.{expression_view as code_view};
 ghost use Rattle.rv_code.specs.StatementView.{statement_view as action_view, branch_view, alternative_view};
+ghost use Rattle.rv_types.specs.Typed.{typed};
+ghost use Rattle.rv_types.specs.TypedView.{typed_view};
 ghost use Rattle.rv_types.specs.StatementCode.{exit_of, return_of, raise_of, delay_of, branch_with, alternative_with, for_loop_of, statement_of, statements_onto, branches_onto, alternatives_onto};
 
 use crate::bounds::{Bounds, discrete, loop_bounds};
@@ -19,6 +21,7 @@ use crate::operators::within_range;
 use crate::point::Point;
 use crate::refused::{Refused, least, mismatch};
 use crate::target::{assignment, call_statement};
+use crate::typed::Typed;
 use rv_code::{
     Alternative, Branch, Callee, Choice as Covered, Expression as Code, Statement as Action,
 };
@@ -144,6 +147,37 @@ fn push_alternative(
     Ok(())
 }
 
+// The selector of a case statement.
+fn selected(
+    alloc: Global,
+    selector: &Expression,
+    list: &Vec<CaseAlternative>,
+    point: &Point,
+) -> Result<Typed, Refused>
+    ensures { IfOk result (λ t. typed point.now true (expression_view selector.now) ≡ Some (typed_view t)) }
+{
+    match expression(alloc, selector, true, point) {
+        Ok(value) => Ok(value),
+        Err(fault) => match wrong_choices(alloc, selector, list, point) {
+            Ok(None) => Err(fault),
+            Ok(Some(other)) => Err(least(fault, other)),
+            Err(other) => Err(least(fault, other)),
+        },
+    }
+}
+
+// What is wrong with a selector and what its choices cover, whatever its value.
+fn wrong_choices(
+    alloc: Global,
+    selector: &Expression,
+    list: &Vec<CaseAlternative>,
+    point: &Point,
+) -> Result<Option<Refused>, Refused> {
+    let value = expression(alloc, selector, false, point)?;
+    let range = discrete(whole_range(value.of), selector.place())?;
+    uncovered(alloc, range, selector, list, point)
+}
+
 #[cycle(statement)]
 fn statement(alloc: Global, one: &Statement, point: &mut Point) -> Result<Action, Refused>
     ensures code { IfOk result (λ s. statement_of point.old (statement_view one.now) ≡ Some (action_view s)) }
@@ -171,7 +205,7 @@ fn statement(alloc: Global, one: &Statement, point: &mut Point) -> Result<Action
             selector,
             alternatives: list,
         } => {
-            let value = expression(alloc, selector, true, point)?;
+            let value = selected(alloc, selector, list, point)?;
             let range = discrete(whole_range(value.of), selector.place())?;
             let missing = uncovered(alloc, range, selector, list, point)?;
             let alternatives = covering(alloc, range, list, missing, point)?;

@@ -1,6 +1,6 @@
 //! What statements write, and what calls are given.
 
-ghost use Rattle.std.specs.Prelude.{◌≡◌, ◌++◌, ◌∷◌, [], IfOk, OnOk, Some, map};
+ghost use Rattle.std.specs.Prelude.{◌≡◌, ◌++◌, ◌∷◌, [], IfOk, OnOk, Some, map, true};
 ghost use Rattle.rv_tree.specs.NameView.{name_view};
 ghost use Rattle.rv_tree.specs.Expressions.{expressions_of};
 ghost use Rattle.rv_tree.specs.ExpressionView.{expression_view, expressions_view};
@@ -8,7 +8,7 @@ ghost use Rattle.rv_code.specs.ExpressionView.{expression_view as code_view};
 ghost use Rattle.rv_code.specs.StatementView.{statement_view};
 ghost use Rattle.rv_types.specs.Points.{denotes, profile};
 ghost use Rattle.rv_types.specs.Typed.{argument_for, suspension_of};
-ghost use Rattle.rv_types.specs.Targets.{target_in as target_of_denoted, target_of as target_of_name, assigned as assigned_target, assignment_code, with_argument, with_target, read_from as code_of_place, target_named as target_of_expression, target_for as target_of_parameter, passing, passed_onto, nothing_passed, setter as setter_of, called as called_statement, call_by};
+ghost use Rattle.rv_types.specs.Targets.{target_in as target_of_denoted, may_write as may_be_written, target_of as target_of_name, assigned as assigned_target, assignment_code, with_argument, with_target, read_from as code_of_place, fitting as fitting_target, object_named as object_of_expression, is_writable as is_object_writable, target_for as target_of_parameter, passing, passed_onto, nothing_passed, setter as setter_of, called as called_statement, may_call as may_be_called};
 ghost use Rattle.rv_types.specs.LoopView.{passed_view};
 
 use crate::denoted::{Denoted, SuspensionOperation};
@@ -48,14 +48,15 @@ fn target_in(denoted: Denoted, at: usize) -> Result<Target, Refused>
     }
 }
 
-// Whether an assignment may write what a name denotes: no constant, `in` parameter or loop parameter (3.3), and in a
-// function no component (9.5.1).
-fn may_assign(denoted: Denoted, point: &Point) -> bool {
+// Whether what a name denotes may be written: no constant, `in` parameter or loop parameter (3.3), and in a function no
+// component (9.5.1).
+fn may_write(denoted: Denoted, point: &Point) -> bool
+    ensures { result ≡ may_be_written point.now.result denoted }
+{
     match denoted {
         Denoted::Variable(_, _, is_written) => is_written,
         Denoted::Component(_, _) => point.result_range().is_none(),
-        Denoted::Other => false,
-        _ => true,
+        _ => false,
     }
 }
 
@@ -65,7 +66,7 @@ fn assigned_object(name: &Name, point: &Point) -> Result<Target, Refused>
     ensures { IfOk result (λ t. target_of_name point.now (name_view name.now) ≡ Some t) }
 {
     let denoted = point.denoted(name);
-    if !may_assign(denoted, point) {
+    if !may_write(denoted, point) {
         return Err(Refused(TypeFault::ConstantWritten(name.first.at)));
     }
     target_in(denoted, name.first.at)
@@ -110,7 +111,7 @@ fn read_from(place: Place) -> Code
 // Why an argument can't take a value: it is no variable, or may not be written.
 fn refused_target(alloc: Global, parameter: Parameter, e: &Expression, point: &Point) -> Refused {
     let bad_mode = Refused(TypeFault::BadMode(e.place()));
-    match expression(alloc, e, true, point) {
+    match expression(alloc, e, false, point) {
         Ok(found) => {
             if same_type(found.of, parameter.range.of) {
                 bad_mode
@@ -122,29 +123,48 @@ fn refused_target(alloc: Global, parameter: Parameter, e: &Expression, point: &P
     }
 }
 
-// Whether an argument may take a value.
-fn may_take(denoted: Denoted, at: usize, point: &Point) -> Result<(), Refused> {
+// An object of the parameter's type.
+fn fitting(parameter: Parameter, target: Target, at: usize) -> Result<Target, Refused>
+    ensures { IfOk result (λ t. fitting_target parameter target ≡ Some t) }
+{
+    if same_type(target.range.of, parameter.range.of) {
+        Ok(target)
+    } else {
+        Err(mismatch(at))
+    }
+}
+
+// Why an object that an argument names may not be written.
+fn refused_object(denoted: Denoted, at: usize) -> Refused {
     match denoted {
-        Denoted::Variable(_, _, false) => Err(Refused(TypeFault::BadMode(at))),
-        Denoted::Component(_, _) => {
-            if point.result_range().is_some() {
-                return Err(Refused(TypeFault::ConstantWritten(at)));
-            }
-            Ok(())
-        }
-        _ => Ok(()),
+        Denoted::Component(_, _) => Refused(TypeFault::ConstantWritten(at)),
+        _ => Refused(TypeFault::BadMode(at)),
+    }
+}
+
+// The object that an argument names may be written.
+fn writable(e: &Expression, point: &Point) -> Result<(), Refused>
+    ensures { OnOk result (is_object_writable point.now (expression_view e.now) ≡ true) }
+{
+    let Expression::Name(name) = e else {
+        return Err(Refused(TypeFault::BadMode(e.place())));
+    };
+    let denoted = point.denoted(name);
+    if may_write(denoted, point) {
+        Ok(())
+    } else {
+        Err(refused_object(denoted, name.first.at))
     }
 }
 
 // The object that an argument names.
-#[tactic(auto, unfolding(crate::specs::Targets::target_of))]
-fn target_named(
+fn object_named(
     alloc: Global,
     parameter: Parameter,
     e: &Expression,
     point: &Point,
 ) -> Result<Target, Refused>
-    ensures { IfOk result (λ t. target_of_expression point.now (expression_view e.now) ≡ Some t) }
+    ensures { IfOk result (λ t. object_of_expression point.now (expression_view e.now) ≡ Some t) }
 {
     if let Expression::Name(name) = e {
         if let Ok(target) = target_in(point.denoted(name), name.first.at) {
@@ -163,13 +183,9 @@ fn target_for(
 ) -> Result<Target, Refused>
     ensures { IfOk result (λ t. target_of_parameter point.now parameter (expression_view e.now) ≡ Some t) }
 {
-    let target = target_named(alloc, parameter, e, point)?;
-    if !same_type(target.range.of, parameter.range.of) {
-        return Err(mismatch(e.place()));
-    }
-    if let Expression::Name(name) = e {
-        may_take(point.denoted(name), name.first.at, point)?;
-    }
+    let target = object_named(alloc, parameter, e, point)?;
+    let target = fitting(parameter, target, e.place())?;
+    writable(e, point)?;
     Ok(target)
 }
 
@@ -238,7 +254,7 @@ fn pass(
     }
 }
 
-// The arguments of a call at a place, for its parameters.
+// The arguments of a call at a place, for its parameters, of which there are as many.
 fn pass_all(
     alloc: Global,
     parameters: &[Parameter],
@@ -248,9 +264,6 @@ fn pass_all(
 ) -> Result<Passed, Refused>
     ensures { IfOk result (λ passed. passed_onto point.now parameters.now (expressions_of (expressions_view list.now.items)) nothing_passed ≡ Some (passed_view passed)) }
 {
-    if parameters.len() != list.len() {
-        return Err(mismatch(at));
-    }
     let mut passed = Passed {
         arguments: Vec::new(alloc),
         targets: Vec::new(alloc),
@@ -279,14 +292,17 @@ fn setter(operation: SuspensionOperation, object: usize) -> Callee
     }
 }
 
-// In a function an internal procedure may not be called (9.5.1).
-fn may_call(callee: Callee, at: usize, point: &Point) -> Result<(), Refused> {
-    if let Callee::Internal(_) = callee {
-        if point.result_range().is_some() {
-            return Err(Refused(TypeFault::ConstantWritten(at)));
-        }
+// A function calls no internal procedure (9.5.1).
+fn may_call(callee: Callee, at: usize, point: &Point) -> Result<(), Refused>
+    ensures { OnOk result (may_be_called point.now.result callee ≡ true) }
+{
+    let Callee::Internal(_) = callee else {
+        return Ok(());
+    };
+    match point.result_range() {
+        Some(_) => Err(Refused(TypeFault::ConstantWritten(at))),
+        None => Ok(()),
     }
-    Ok(())
 }
 
 /// A call as a statement.
@@ -302,14 +318,12 @@ pub(crate) fn call_statement(
     let at = name.first.at;
     match point.denoted(name) {
         Denoted::Procedure(callee) => {
+            let parameters = point.parameters(name);
+            if parameters.len() != list.len() {
+                return Err(mismatch(at));
+            }
             may_call(callee, at, point)?;
-            let Passed { arguments, targets } = pass_all(
-                alloc,
-                point.parameters(name),
-                list,
-                at,
-                point,
-            )?;
+            let Passed { arguments, targets } = pass_all(alloc, parameters, list, at, point)?;
             Ok(Action::Call(callee, arguments, targets))
         }
         Denoted::Setter(operation) => {

@@ -11,6 +11,8 @@ use Rattle.rv_parse.specs.declared.fault.ParseFault.TheVariants as Parses
 use Rattle.rv_restrict.specs.Conforms.{Conforms, IsFirst, violations}
 use Rattle.rv_names.specs.Bound.{AllBound, uses}
 use Rattle.rv_outline.specs.Shapes.{shape_of}
+use Rattle.rv_code.specs.Bodies.{UnitBodies}
+use Rattle.rv_types.specs.BodiesOf.{bodies_of}
 use Rattle.rv_unit.specs.declared.fault.UnitFault.{UnitFault}
 use Rattle.rv_unit.specs.declared.fault.UnitFault.TheVariants.{Lex, Parse, Restriction, Names, Types, Shape as Fits, NoMemory}
 
@@ -34,6 +36,13 @@ pub record IsUnit (shapes : List Shape) (text : List ℕ) (shape : Shape) : Type
   pub tree : UnitTree
   pub derives : Derives text tree
   pub gives : GivesUnit shapes tree shape
+
+-- a text is a unit of this shape, and its bodies are compiled to this code
+pub record IsCompiled (shapes : List Shape) (text : List ℕ) (shape : Shape) (code : UnitBodies) : Type 0 where
+  pub tree : UnitTree
+  pub derives : Derives text tree
+  pub gives : GivesUnit shapes tree shape
+  pub bodies : bodies_of shapes tree ≡ Some code
 
 -- a fault of the grammar
 abbrev pub IsOfGrammar : ParseFault → Type 0

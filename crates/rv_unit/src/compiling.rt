@@ -3,8 +3,10 @@
 ghost use Rattle.std.specs.Prelude.{◌≡◌, Some, IfOk, IfErr};
 ghost use Rattle.rv_tree.specs.UnitView.{unit_view};
 ghost use Rattle.rv_tree.specs.Derives.{Derives};
+ghost use Rattle.rv_code.specs.BodyView.{unit_view as code_view};
 ghost use Rattle.rv_outline.specs.Shapes.{shape_of as shape_of_tree};
-ghost use Rattle.rv_unit.specs.Compiles.{IsBound, IsOfText, IsOfTree, GivesUnit, IsUnit, IsRefused};
+ghost use Rattle.rv_types.specs.BodiesOf.{bodies_of as code_of_tree};
+ghost use Rattle.rv_unit.specs.Compiles.{IsBound, IsOfText, IsOfTree, GivesUnit, IsUnit, IsCompiled, IsRefused};
 
 use crate::fault::UnitFault;
 use crate::unit::Unit;
@@ -35,6 +37,8 @@ fn tree_of(alloc: Global, text: &str) -> Result<UnitTree, UnitFault>
 fn checked(alloc: Global, named: &Named) -> Result<Checked, UnitFault>
     ensures shape { IfOk result (λ checked.
         shape_of_tree named.now.catalogue.now (unit_view named.now.tree.now) ≡ Some checked.shape) }
+    ensures bodies { IfOk result (λ checked.
+        code_of_tree named.now.catalogue.now (unit_view named.now.tree.now) ≡ Some (code_view checked.bodies)) }
     ensures fault { IfErr result (λ fault. IsBound named.now.catalogue.now (unit_view named.now.tree.now)
         → IsOfTree named.now.catalogue.now (unit_view named.now.tree.now) fault) }
 {
@@ -48,6 +52,7 @@ fn checked(alloc: Global, named: &Named) -> Result<Checked, UnitFault>
 // The unit of a tree.
 fn unit_of(alloc: Global, tree: &UnitTree, catalogue: &Catalogue) -> Result<Unit, UnitFault>
     ensures unit { IfOk result (λ unit. GivesUnit catalogue.now (unit_view tree.now) unit.shape) }
+    ensures bodies { IfOk result (λ unit. code_of_tree catalogue.now (unit_view tree.now) ≡ Some (code_view unit.bodies)) }
     ensures fault { IfErr result (λ fault. IsOfTree catalogue.now (unit_view tree.now) fault) }
 {
     if let Some(violation) = first_violation(tree) {
@@ -72,6 +77,7 @@ fn unit_of(alloc: Global, tree: &UnitTree, catalogue: &Catalogue) -> Result<Unit
 /// names, and of those of types, the one at the least place. `NoMemory` where memory was refused.
 pub fn compile(alloc: Global, text: &str, catalogue: &Catalogue) -> Result<Unit, UnitFault>
     ensures unit { IfOk result (λ unit. IsUnit catalogue.now text.now unit.shape) }
+    ensures bodies { IfOk result (λ unit. IsCompiled catalogue.now text.now unit.shape (code_view unit.bodies)) }
     ensures fault { IfErr result (λ fault. IsRefused catalogue.now text.now fault) }
 {
     let tree = tree_of(alloc, text)?;

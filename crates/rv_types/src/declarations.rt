@@ -1,0 +1,93 @@
+//! What the declarations of the package declare, as far as its bodies see it.
+
+ghost use Rattle.std.specs.Prelude.{◌≡◌, OnOk, Some, map};
+ghost use Rattle.rv_tree.specs.NameView.{identifier_view, identifiers_view, name_view};
+ghost use Rattle.rv_tree.specs.DeclarationView.{declaration_view, protected_unit_view};
+ghost use Rattle.rv_names.specs.Scope.{declaring_all, hiding, hiding_all, with_meaning};
+ghost use Rattle.rv_names.specs.Visible.{visible};
+ghost use Rattle.rv_names.specs.DeclarationUses.{declaring_protected_unit, object_form, with_declaration, with_declarations};
+
+use rv_names::declare::{Form, declare_all};
+use rv_names::{Declared, Scope};
+use rv_outline::scopes::{hide, hide_all};
+use rv_tree::declaration::{Declaration, ProtectedUnit};
+use rv_tree::name::{Identifier, Name};
+use std::alloc::AllocError;
+
+// What the objects of a mark denote: objects of a protected type, else suspension objects.
+fn form_of(found: Option<Declared>) -> Form
+    ensures { result ≡ object_form found }
+{
+    match found {
+        Some(Declared::ProtectedType(_, number)) => Form::ProtectedObject(number),
+        _ => Form::Suspension,
+    }
+}
+
+// The objects of the package that a variable declares (3.3.1).
+fn variable(names: &Vec<Identifier>, mark: &Name, scope: &mut Scope) -> Result<(), AllocError>
+    ensures { OnOk result (scope.new ≡ declaring_all (object_form (visible (hiding_all (identifiers_view names.now.items) scope.old) (name_view mark.now)))
+        (identifiers_view names.now.items) (hiding_all (identifiers_view names.now.items) scope.old)) }
+{
+    hide_all(names, scope)?;
+    let form = form_of(scope.visible(mark));
+    declare_all(names, form, scope)?;
+    Ok(())
+}
+
+// Constants.
+fn constants(names: &Vec<Identifier>, scope: &mut Scope) -> Result<(), AllocError>
+    ensures { OnOk result (scope.new ≡ declaring_all Form.Constant (identifiers_view names.now.items) (hiding_all (identifiers_view names.now.items) scope.old)) }
+{
+    hide_all(names, scope)?;
+    declare_all(names, Form::Constant, scope)
+}
+
+// An identifier, and what it denotes behind its declaration.
+fn identifier(declared: &Identifier, meaning: Declared, scope: &mut Scope) -> Result<(), AllocError>
+    ensures { OnOk result (scope.new ≡ with_meaning (identifier_view declared.now) (Some meaning) (hiding (identifier_view declared.now) scope.old)) }
+{
+    hide(declared, scope)?;
+    scope.declare(declared, Some(meaning))
+}
+
+// A protected unit, with what others see of it.
+fn protected_unit(unit: &ProtectedUnit, scope: &mut Scope) -> Result<(), AllocError>
+    ensures { OnOk result (scope.new ≡ declaring_protected_unit (protected_unit_view unit.now) scope.old) }
+{
+    hide(&unit.name, scope)?;
+    scope.declare_protected_unit(unit)
+}
+
+/// A declaration of the package.
+pub(crate) fn declare(one: &Declaration, scope: &mut Scope) -> Result<(), AllocError>
+    ensures { OnOk result (scope.new ≡ with_declaration (declaration_view one.now) scope.old) }
+{
+    match one {
+        Declaration::Pragma(_) => Ok(()),
+        Declaration::Subtype {
+            at: _,
+            name,
+            mark: _,
+            range: _,
+        } => identifier(name, Declared::Subtype(name.at), scope),
+        Declaration::Protected(unit) => protected_unit(unit, scope),
+        Declaration::Task(task) => identifier(&task.name, Declared::Task(task.name.at), scope),
+        Declaration::Variable { names, mark } => variable(names, mark, scope),
+        Declaration::Constant {
+            names,
+            mark: _,
+            value: _,
+        } => constants(names, scope),
+    }
+}
+
+/// The declarations of the package's specification.
+pub(crate) fn declare_all_of(list: &Vec<Declaration>, scope: &mut Scope) -> Result<(), AllocError>
+    ensures { OnOk result (scope.new ≡ with_declarations (map declaration_view list.now.items) scope.old) }
+{
+    for one in list {
+        declare(one, scope)?;
+    }
+    Ok(())
+}

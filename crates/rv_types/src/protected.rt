@@ -1,0 +1,243 @@
+//! Bodies of protected units.
+
+ghost use Rattle.std.specs.Prelude.{◌≡◌, ◌<◌, IfOk, OnOk, Some, map};
+ghost use Rattle.rv_tree.specs.DeclarationView.{protected_unit_view};
+ghost use Rattle.rv_tree.specs.BodyView.{operation_body_view, protected_body_view};
+ghost use Rattle.rv_names.specs.UnitUses.{in_protected_unit, unit_number as unit_number_of};
+ghost use Rattle.rv_code.specs.Bodies.{UnitBodies as UnitBodiesView};
+ghost use Rattle.rv_code.specs.BodyView.{body_view, unit_view};
+ghost use Rattle.rv_types.specs.BodiesOf.{with_object_bodies, object_compiled, perhaps_compiled, objects_compiled, is_object_of as is_of_unit, has_object as unit_has_object, without_object as compiled_without_object, unit_bodies as unit_bodies_compiled, protected_body_compiled};
+
+use crate::body::operation_bodies;
+use crate::refused::{Refused, mismatch};
+use crate::setting::Setting;
+use rv_code::{Body, ObjectBodies, UnitBodies};
+use rv_names::{Declared, Scope, Wanted};
+use rv_outline::outline::ObjectType;
+use rv_outline::scopes::enter_members;
+use rv_tree::body::ProtectedBody;
+use rv_tree::declaration::ProtectedUnit;
+use std::alloc::Global;
+
+/// The number of the protected unit that is declared, if it is one.
+pub(crate) fn unit_number(found: Option<Declared>) -> Option<usize>
+    ensures { result ≡ unit_number_of found }
+{
+    match found {
+        Some(Declared::ProtectedType(_, number)) => Some(number),
+        Some(Declared::SingleProtected(_, number)) => Some(number),
+        _ => None,
+    }
+}
+
+// Puts the bodies of an object in their place.
+fn put_object(
+    compiled: &mut UnitBodies,
+    index: usize,
+    operations: Vec<Body>,
+    at: usize,
+) -> Result<(), Refused>
+    ensures { OnOk result (with_object_bodies index (unit_view compiled.old) (map body_view operations.items) ≡ Some (unit_view compiled.new)) }
+{
+    if index < compiled.objects.len() {
+        compiled.objects[index] = ObjectBodies { operations };
+        return Ok(());
+    }
+    Err(mismatch(at))
+}
+
+// The bodies of an object of an index, of the protected unit of a number.
+fn object_bodies<'a>(
+    alloc: Global,
+    setting: &Setting<'a>,
+    number: usize,
+    body: &ProtectedBody,
+    index: usize,
+    compiled: &mut UnitBodies,
+    scope: Scope<'a>,
+) -> Result<Scope<'a>, Refused>
+    requires { index < 4294967296 }
+    ensures code { IfOk result (λ _. object_compiled setting.now scope.entry number (map operation_body_view body.now.operations.items) index (unit_view compiled.old) ≡ Some (unit_view compiled.new)) }
+    ensures scope { IfOk result (λ s. s ≡ scope.entry) }
+{
+    let at = body.name.at;
+    let Some(unit) = setting.outline.units().get(number) else {
+        return Err(mismatch(at));
+    };
+    let object = setting.catalogue.objects() + 1 + index;
+    let (bodies, left) = operation_bodies(
+        alloc,
+        setting,
+        object,
+        unit.operations(),
+        &body.operations,
+        at,
+        scope,
+    )?;
+    put_object(compiled, index, bodies, at)?;
+    Ok(left)
+}
+
+// The same of an object that may be another's.
+fn perhaps_bodies<'a>(
+    alloc: Global,
+    setting: &Setting<'a>,
+    number: usize,
+    body: &ProtectedBody,
+    index: usize,
+    object: ObjectType,
+    compiled: &mut UnitBodies,
+    scope: Scope<'a>,
+) -> Result<Scope<'a>, Refused>
+    requires { index < 4294967296 }
+    ensures code { IfOk result (λ _. perhaps_compiled setting.now scope.entry number (map operation_body_view body.now.operations.items) index object (unit_view compiled.old) ≡ Some (unit_view compiled.new)) }
+    ensures scope { IfOk result (λ s. s ≡ scope.entry) }
+{
+    match object {
+        ObjectType::Suspension => Ok(scope),
+        ObjectType::Protected(unit) => {
+            if unit == number {
+                object_bodies(alloc, setting, number, body, index, compiled, scope)
+            } else {
+                Ok(scope)
+            }
+        }
+    }
+}
+
+// Each object of a protected unit has the bodies of its operations.
+fn all_object_bodies<'a>(
+    alloc: Global,
+    setting: &Setting<'a>,
+    number: usize,
+    body: &ProtectedBody,
+    compiled: &mut UnitBodies,
+    around: Scope<'a>,
+) -> Result<Scope<'a>, Refused>
+    ensures code { IfOk result (λ _. objects_compiled setting.now around.entry number (map operation_body_view body.now.operations.items) 0 setting.now.outline.objects (unit_view compiled.old) ≡ Some (unit_view compiled.new)) }
+    ensures scope { IfOk result (λ s. s ≡ around.entry) }
+{
+    let mut scope = around;
+    let mut index: usize = 0;
+    for object in setting.outline.objects() {
+        if index >= 4294967296 {
+            return Err(mismatch(body.name.at));
+        }
+        scope = perhaps_bodies(
+            alloc, setting, number, body, index, *object, compiled, scope,
+        )?;
+        index += 1;
+    }
+    Ok(scope)
+}
+
+// Whether an object is of the protected unit of a number.
+fn is_object_of(number: usize, object: ObjectType) -> bool
+    ensures { result ≡ is_of_unit number object }
+{
+    match object {
+        ObjectType::Suspension => false,
+        ObjectType::Protected(unit) => unit == number,
+    }
+}
+
+fn has_object(number: usize, objects: &[ObjectType]) -> bool
+    ensures { result ≡ unit_has_object number objects.now }
+{
+    for object in objects {
+        if is_object_of(number, *object) {
+            return true;
+        }
+    }
+    false
+}
+
+// The operations of a protected type without objects have bodies too, of which none is kept.
+fn without_object<'a>(
+    alloc: Global,
+    setting: &Setting<'a>,
+    number: usize,
+    body: &ProtectedBody,
+    scope: Scope<'a>,
+) -> Result<Scope<'a>, Refused>
+    ensures code { IfOk result (λ _. (u : UnitBodiesView) → compiled_without_object setting.now scope.entry number (map operation_body_view body.now.operations.items) u ≡ Some u) }
+    ensures scope { IfOk result (λ s. s ≡ scope.entry) }
+{
+    let at = body.name.at;
+    let Some(unit) = setting.outline.units().get(number) else {
+        return Err(mismatch(at));
+    };
+    let (_, left) = operation_bodies(
+        alloc,
+        setting,
+        0,
+        unit.operations(),
+        &body.operations,
+        at,
+        scope,
+    )?;
+    Ok(left)
+}
+
+// The bodies of a protected unit of a number, for each of its objects.
+fn unit_bodies<'a>(
+    alloc: Global,
+    setting: &Setting<'a>,
+    number: usize,
+    body: &ProtectedBody,
+    compiled: &mut UnitBodies,
+    scope: Scope<'a>,
+) -> Result<Scope<'a>, Refused>
+    ensures code { IfOk result (λ _. unit_bodies_compiled setting.now scope.entry number (map operation_body_view body.now.operations.items) (unit_view compiled.old) ≡ Some (unit_view compiled.new)) }
+    ensures scope { IfOk result (λ s. s ≡ scope.entry) }
+{
+    if has_object(number, setting.outline.objects()) {
+        return all_object_bodies(alloc, setting, number, body, compiled, scope);
+    }
+    without_object(alloc, setting, number, body, scope)
+}
+
+// The body of a protected unit of a number.
+fn in_unit<'a>(
+    alloc: Global,
+    setting: &Setting<'a>,
+    unit: &ProtectedUnit,
+    number: usize,
+    body: &ProtectedBody,
+    compiled: &mut UnitBodies,
+    around: Scope<'a>,
+) -> Result<Scope<'a>, Refused>
+    ensures code { IfOk result (λ _. unit_bodies_compiled setting.now (in_protected_unit (protected_unit_view unit.now) around.entry) number (map operation_body_view body.now.operations.items) (unit_view compiled.old) ≡ Some (unit_view compiled.new)) }
+    ensures scope { IfOk result (λ s. s ≡ around.entry) }
+{
+    let mut scope = around;
+    let current = scope.current();
+    enter_members(unit, &mut scope)?;
+    scope.set_current(Some(unit.name.at));
+    let mut left = unit_bodies(alloc, setting, number, body, compiled, scope)?;
+    left.leave();
+    left.set_current(current);
+    Ok(left)
+}
+
+/// A protected body.
+pub(crate) fn protected_body<'a>(
+    alloc: Global,
+    setting: &Setting<'a>,
+    units: &[&ProtectedUnit],
+    body: &ProtectedBody,
+    compiled: &mut UnitBodies,
+    around: Scope<'a>,
+) -> Result<Scope<'a>, Refused>
+    ensures code { IfOk result (λ _. protected_body_compiled setting.now (map (λ u. protected_unit_view u.now) units.now) around.entry (protected_body_view body.now) (unit_view compiled.old) ≡ Some (unit_view compiled.new)) }
+    ensures scope { IfOk result (λ s. s ≡ around.entry) }
+{
+    let found = around.denoted_by_body(Wanted::ProtectedBody, &body.name);
+    let Some(number) = unit_number(found) else {
+        return Err(mismatch(body.name.at));
+    };
+    match units.get(number) {
+        Some(unit) => in_unit(alloc, setting, unit, number, body, compiled, around),
+        None => Err(mismatch(body.name.at)),
+    }
+}

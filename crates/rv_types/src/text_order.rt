@@ -1,0 +1,112 @@
+//! Which fault of the bodies stands first in the text.
+//!
+//! Operations are compiled in the order of their declarations, and their bodies may stand in another order.
+
+use crate::body::{name_of, operation_body, task_body};
+use crate::declarations::declare;
+use crate::protected::unit_number;
+use crate::refused::{Refused, mismatch};
+use crate::setting::Setting;
+use rv_names::{Scope, Wanted};
+use rv_outline::scopes::enter_members;
+use rv_shape::object::Operation;
+use rv_text::is_same_name;
+use rv_tree::body::{OperationBody, ProtectedBody};
+use rv_tree::declaration::ProtectedUnit;
+use rv_tree::unit::BodyItem;
+use std::alloc::Global;
+
+// The operation that a body is of.
+fn operation_of<'o>(body: &OperationBody, operations: &'o [Operation]) -> Option<&'o Operation> {
+    let name = name_of(body);
+    for operation in operations {
+        if is_same_name(name, operation.name()) {
+            return Some(operation);
+        }
+    }
+    None
+}
+
+// The bodies of operations of the protected unit of a number.
+fn operations<'a>(
+    alloc: Global,
+    setting: &Setting<'a>,
+    number: usize,
+    body: &ProtectedBody,
+    around: Scope<'a>,
+) -> Result<Scope<'a>, Refused> {
+    let Some(unit) = setting.outline.units().get(number) else {
+        return Err(mismatch(body.name.at));
+    };
+    let mut scope = around;
+    for one in &body.operations {
+        let Some(operation) = operation_of(one, unit.operations()) else {
+            return Err(mismatch(body.name.at));
+        };
+        let (_, left) = operation_body(alloc, setting, 0, operation, one, scope)?;
+        scope = left;
+    }
+    Ok(scope)
+}
+
+// A protected body.
+fn protected<'a>(
+    alloc: Global,
+    setting: &Setting<'a>,
+    units: &[&ProtectedUnit],
+    body: &ProtectedBody,
+    around: Scope<'a>,
+) -> Result<Scope<'a>, Refused> {
+    let found = around.denoted_by_body(Wanted::ProtectedBody, &body.name);
+    let Some(number) = unit_number(found) else {
+        return Err(mismatch(body.name.at));
+    };
+    let Some(unit) = units.get(number) else {
+        return Err(mismatch(body.name.at));
+    };
+    let mut scope = around;
+    let current = scope.current();
+    enter_members(unit, &mut scope)?;
+    scope.set_current(Some(unit.name.at));
+    let mut left = operations(alloc, setting, number, body, scope)?;
+    left.leave();
+    left.set_current(current);
+    Ok(left)
+}
+
+// An item of the package body.
+fn item<'a>(
+    alloc: Global,
+    setting: &Setting<'a>,
+    units: &[&ProtectedUnit],
+    one: &BodyItem,
+    around: Scope<'a>,
+) -> Result<Scope<'a>, Refused> {
+    match one {
+        BodyItem::Declaration(declaration) => {
+            let mut scope = around;
+            declare(declaration, &mut scope)?;
+            Ok(scope)
+        }
+        BodyItem::Protected(body) => protected(alloc, setting, units, body, around),
+        BodyItem::Task(body) => {
+            let (_, left) = task_body(alloc, setting, body, around)?;
+            Ok(left)
+        }
+    }
+}
+
+/// Looks for the fault of the package body's items that stands first in the text.
+pub(crate) fn look_in_order<'a>(
+    alloc: Global,
+    setting: &Setting<'a>,
+    units: &[&ProtectedUnit],
+    list: &Vec<BodyItem>,
+    around: Scope<'a>,
+) -> Result<(), Refused> {
+    let mut scope = around;
+    for one in list {
+        scope = item(alloc, setting, units, one, scope)?;
+    }
+    Ok(())
+}
