@@ -26,7 +26,7 @@ use Rattle.rv_names.specs.declared.predefined.Library.TheVariants as l
 use Rattle.rv_names.specs.Wanted.{denoted, is_found, suits, sort}
 use Rattle.rv_names.specs.StatementUses.{statements_uses, choice_uses, choices_uses, bounds_uses, iteration_uses, statement_uses, elsif_parts_uses, alternatives_uses, in_loop}
 use Rattle.rv_names.specs.DeclarationUses.{parameters_uses, with_parameters, with_members, declaration_uses, with_declaration, declarations_uses, with_declarations, arguments_uses, pragma_uses, aspects_uses, operation_uses, operations_uses, element_uses, elements_uses, private_uses, protected_unit_uses, task_item_uses, task_items_uses, definition_uses, task_uses, is_priority, is_attachment, with_operation, with_operations, with_element, with_elements, with_private}
-use Rattle.rv_names.specs.UnitUses.{unit_uses, local_uses, locals_uses, exception_uses, exceptions_uses, handlers_uses, block_uses, operation_body_uses, operation_bodies_uses, bodies_of_unit, protected_body_uses, task_body_uses, body_item_uses, body_items_uses, with_names_uses, use_names_uses, use_type_uses, context_item_uses, context_uses, in_protected_unit, unit_number, protected_unit_of, with_body_item, withed, with_names, used_by, use_names, with_context_item, with_context, package_scope, protected_units, with_local, with_locals}
+use Rattle.rv_names.specs.UnitUses.{unit_uses, local_uses, locals_uses, exception_uses, exceptions_uses, handlers_uses, block_uses, operation_body_uses, operation_bodies_uses, bodies_of_unit, protected_body_uses, task_body_uses, body_item_uses, body_items_uses, with_names_uses, use_names_uses, context_item_uses, context_uses, in_protected_unit, unit_number, protected_unit_of, with_body_item, withed, with_names, used_by, use_names, with_context_item, with_context, package_scope, protected_units, with_local, with_locals}
 use Rattle.rv_names.specs.Bound.{judged, Used, listed, uses, IsBound, AllBound}
 
 -- where the one finds all bound, all that the other lists is bound
@@ -133,7 +133,7 @@ mutual
   statement_shown scope (delay_statement at is_until e) = value_shown scope e
   statement_shown scope (abort_statement at names) = refused_shown scope at
   statement_shown scope (requeue_statement at target with_abort) = refused_shown scope at
-  statement_shown scope (accept_statement at entry parameters ss end_name) = refused_shown scope at
+  statement_shown scope (accept_statement at entry parameters ss end_name) = use_shown scope w.Nothing (simple entry)
   statement_shown scope (select_statement at alternatives otherwise aborted) = refused_shown scope at
 
   statements_shown : (x0 : ScopeView) (x1 : Statements) → Shows (statements_uses judged x0 x1) (statements_uses listed x0 x1)
@@ -276,14 +276,10 @@ use_names_shown : (x0 : ScopeView) (x1 : List Name) → Shows (use_names_uses ju
 use_names_shown scope [] = none_shown
 use_names_shown scope (n ∷ more) = use_shown scope w.Use n and use_names_shown (used_by (denoted w.Use scope n) scope) more
 
-use_type_shown : (x0 : ScopeView) (x1 : List Name) → Shows (use_type_uses judged x0 x1) (use_type_uses listed x0 x1)
-use_type_shown scope [] = none_shown
-use_type_shown scope (n ∷ more) = use_shown scope w.Subtype n and use_type_shown scope more
-
 context_item_shown : (x0 : ScopeView) (x1 : ContextItem) → Shows (context_item_uses judged x0 x1) (context_item_uses listed x0 x1)
 context_item_shown scope (context_pragma pragma) = none_shown
 context_item_shown scope (with_clause at names) = with_names_shown scope names
-context_item_shown scope (use_clause at true names) = use_type_shown scope names
+context_item_shown scope (use_clause at true names) = none_shown
 context_item_shown scope (use_clause at false names) = use_names_shown scope names
 
 context_shown : (x0 : ScopeView) (x1 : List ContextItem) → Shows (context_uses judged x0 x1) (context_uses listed x0 x1)

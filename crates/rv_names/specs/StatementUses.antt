@@ -7,7 +7,7 @@ use Rattle.rv_names.specs.declared.declared.Declared.TheVariants as d
 use Rattle.rv_names.specs.declared.wanted.Wanted.{Wanted}
 use Rattle.rv_names.specs.declared.wanted.Wanted.TheVariants as w
 use Rattle.rv_names.specs.Scope.{ScopeView, declaring, hiding, entered}
-use Rattle.rv_names.specs.ExpressionUses.{Use, ◌▷◌, nothing, refused, expression_uses, value_uses, expressions_uses, maybe_uses, each_uses, range_uses}
+use Rattle.rv_names.specs.ExpressionUses.{Use, ◌▷◌, nothing, simple, refused, expression_uses, value_uses, expressions_uses, maybe_uses, each_uses, range_uses}
 
 -- a choice is a value, a subtype or a range (5.4)
 abbrev pub choice_uses : {A : Type 0} → Use A → ScopeView → Choice → A → A
@@ -37,6 +37,7 @@ in_loop forever scope = scope
 in_loop (while_true condition) scope = scope
 in_loop (for_each i is_reverse bounds) scope = declaring d.LoopParameter i (hiding i (entered scope))
 
+-- the entry that an `accept` names is never bound, since the profile has no entries of tasks (9.5.2, D.7)
 abbrev mutual
   pub statement_uses : {A : Type 0} → Use A → ScopeView → Statement → A → A
   statement_uses at_use scope (null_statement at) = nothing
@@ -54,7 +55,7 @@ abbrev mutual
   statement_uses at_use scope (delay_statement at is_until e) = value_uses at_use scope e
   statement_uses at_use scope (abort_statement at names) = refused at_use scope at
   statement_uses at_use scope (requeue_statement at target with_abort) = refused at_use scope at
-  statement_uses at_use scope (accept_statement at entry parameters ss end_name) = refused at_use scope at
+  statement_uses at_use scope (accept_statement at entry parameters ss end_name) = at_use scope w.Nothing (simple entry)
   statement_uses at_use scope (select_statement at alternatives otherwise aborted) = refused at_use scope at
 
   pub statements_uses : {A : Type 0} → Use A → ScopeView → Statements → A → A

@@ -182,15 +182,11 @@ abbrev pub use_names : List Name → ScopeView → ScopeView
 use_names [] scope = scope
 use_names (name ∷ more) scope = use_names more (used_by (denoted w.Use scope name) scope)
 
--- a `use type` makes nothing visible (own)
-abbrev pub use_type_uses : {A : Type 0} → Use A → ScopeView → List Name → A → A
-use_type_uses at_use scope [] = nothing
-use_type_uses at_use scope (name ∷ more) = at_use scope w.Subtype name ▷ use_type_uses at_use scope more
-
+-- a `use type` is read and has no effect: its names are not looked up (own)
 abbrev pub context_item_uses : {A : Type 0} → Use A → ScopeView → ContextItem → A → A
 context_item_uses at_use scope (context_pragma pragma) = nothing
 context_item_uses at_use scope (with_clause at names) = with_names_uses at_use scope names
-context_item_uses at_use scope (use_clause at true names) = use_type_uses at_use scope names
+context_item_uses at_use scope (use_clause at true names) = nothing
 context_item_uses at_use scope (use_clause at false names) = use_names_uses at_use scope names
 
 abbrev pub with_context_item : ContextItem → ScopeView → ScopeView

@@ -13,6 +13,7 @@ ghost use Rattle.rv_names.specs.UnitUses.{local_form as form_of_local, local_use
 use crate::declare::{Form, declare_all, hide_all};
 use crate::expression::{maybe_range, maybe_value, name, refuse};
 use crate::fault::Faults;
+use crate::pragma::stray_pragma;
 use crate::scope::Scope;
 use crate::statement::statements;
 use crate::wanted::Wanted;
@@ -68,7 +69,10 @@ fn local(one: &Local, scope: &mut Scope, faults: &mut Faults) -> Result<(), Allo
             range: part,
             value: initial,
         } => objects(names, *is_constant, mark, part, initial, scope, faults),
-        Local::Pragma(_) => Ok(()),
+        Local::Pragma(pragma) => {
+            stray_pragma(pragma, faults);
+            Ok(())
+        }
         Local::Protected(unit) => {
             refuse(unit.at, scope, faults);
             Ok(())

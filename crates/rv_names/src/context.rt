@@ -5,7 +5,7 @@ ghost use Rattle.rv_tree.specs.NameView.{name_view, names_view};
 ghost use Rattle.rv_tree.specs.UnitView.{context_item_view};
 ghost use Rattle.rv_names.specs.Bound.{judged};
 ghost use Rattle.rv_names.specs.Wanted.{denoted};
-ghost use Rattle.rv_names.specs.UnitUses.{with_parents, withed as scope_withed, used_by as scope_used_by, with_names_uses, with_names as scope_with_names, use_names_uses, use_names as scope_use_names, use_type_uses, context_item_uses, with_context_item, context_uses, with_context};
+ghost use Rattle.rv_names.specs.UnitUses.{with_parents, withed as scope_withed, used_by as scope_used_by, with_names_uses, with_names as scope_with_names, use_names_uses, use_names as scope_use_names, context_item_uses, with_context_item, context_uses, with_context};
 
 use crate::declared::Declared;
 use crate::expression::name;
@@ -98,14 +98,6 @@ fn use_names(list: &Vec<Name>, scope: &mut Scope, faults: &mut Faults) -> Result
     Ok(())
 }
 
-fn use_types(list: &Vec<Name>, scope: &Scope, faults: &mut Faults)
-    ensures { faults.new ≡ use_type_uses judged scope.now (names_view list.now.items) faults.old }
-{
-    for one in list {
-        name(one, Wanted::Subtype, scope, faults);
-    }
-}
-
 fn context_item(
     item: &ContextItem,
     scope: &mut Scope,
@@ -126,7 +118,6 @@ fn context_item(
             names,
         } => {
             if *is_type {
-                use_types(names, scope, faults);
                 return Ok(());
             }
             use_names(names, scope, faults)

@@ -6,7 +6,7 @@ ghost use Rattle.rv_tree.specs.DeclarationView.{maybe};
 ghost use Rattle.rv_tree.specs.Expressions.{expressions_of, factors_of, terms_of};
 ghost use Rattle.rv_tree.specs.ExpressionView.{expression_view, expressions_view, factors_view, terms_view, range_view};
 ghost use Rattle.rv_names.specs.Bound.{judged};
-ghost use Rattle.rv_names.specs.ExpressionUses.{refused, expression_uses, expressions_uses, factors_uses, terms_uses, value_uses, maybe_uses, range_uses};
+ghost use Rattle.rv_names.specs.ExpressionUses.{◌▷◌, refused, expression_uses, expressions_uses, factors_uses, terms_uses, value_uses, maybe_uses, range_uses};
 
 use crate::fault::{Faults, NameFault};
 use crate::scope::Scope;
@@ -136,12 +136,25 @@ pub(crate) fn maybe_value(e: &Option<Expression>, scope: &Scope, faults: &mut Fa
     }
 }
 
+/// Two expressions that give values.
+pub(crate) fn two_values(
+    left: &Expression,
+    right: &Expression,
+    scope: &Scope,
+    faults: &mut Faults,
+)
+    ensures { faults.new
+        ≡ (value_uses judged scope.now (expression_view left.now) ▷ value_uses judged scope.now (expression_view right.now)) faults.old }
+{
+    value(left, scope, faults);
+    value(right, scope, faults);
+}
+
 /// The two bounds of a range.
 pub(crate) fn range(range: &RangeConstraint, scope: &Scope, faults: &mut Faults)
     ensures { faults.new ≡ range_uses judged scope.now (range_view range.now) faults.old }
 {
-    value(&range.low, scope, faults);
-    value(&range.high, scope, faults);
+    two_values(&range.low, &range.high, scope, faults);
 }
 
 /// A range that may not be there.

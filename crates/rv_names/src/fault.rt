@@ -1,14 +1,16 @@
 //! Faults of names.
 
-ghost use Rattle.std.specs.Prelude.{◌≡◌, Bool, true, false, None};
+ghost use Rattle.std.specs.Prelude.{◌≡◌, Bool, true, false, None, OnOk};
 ghost use Rattle.rv_names.specs.declared.fault.NameFault.TheVariants.{NoMemory};
 
+use crate::marks::Marks;
 use crate::missing::Around;
+use crate::scope::Scope;
 use rv_text::is_same_name;
 use rv_tree::body::Block;
 use rv_tree::declaration::ProtectedUnit;
-use rv_tree::name::Identifier;
-use std::alloc::{AllocError, AllocFailed};
+use rv_tree::name::{Identifier, Name};
+use std::alloc::{AllocError, AllocFailed, Global};
 use std::marker::Model;
 use thiserror::Error;
 
@@ -94,6 +96,8 @@ pub(crate) struct Faults<'a> {
     are_bound: bool,
     /// What is declared around the point, wherever it stands.
     pub(crate) around: Around<'a>,
+    /// What the marks of the profiles so far denote.
+    pub(crate) marks: Marks,
     // How many loops the point is in.
     loops: usize,
     // Whether the point is in an exception handler.
@@ -112,13 +116,14 @@ impl<'a> Model for Faults<'a> {
 
 impl<'a> Faults<'a> {
     /// Nothing so far.
-    pub(crate) fn new(around: Around<'a>) -> Faults<'a>
+    pub(crate) fn new(alloc: Global, around: Around<'a>) -> Faults<'a>
         ensures { result ≡ true }
     {
         Faults {
             least: None,
             are_bound: true,
             around,
+            marks: Marks::new(alloc),
             loops: 0,
             is_handling: false,
         }
@@ -162,6 +167,13 @@ impl<'a> Faults<'a> {
             self.least = Some(fault);
         }
         self.are_bound = false;
+    }
+
+    /// Keeps what the mark of a profile denotes at the point. Err where memory was refused.
+    pub(crate) fn note_mark(&mut self, mark: &Name, scope: &Scope) -> Result<(), AllocError>
+        ensures { OnOk result (self.new ≡ self.old) }
+    {
+        self.marks.note(mark, scope)
     }
 
     /// The name after `end` must be the opening one (7.1, 9.4, 9.1, 6.3).

@@ -18,6 +18,7 @@ pub mod declared;
 mod expression;
 pub mod fault;
 mod find;
+mod marks;
 mod members;
 mod missing;
 mod operation_body;

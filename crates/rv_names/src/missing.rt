@@ -156,13 +156,13 @@ fn block_declares(block: &Block, name: &str) -> bool {
     false
 }
 
-// Whether a library package declares a name.
+// Whether a library package has a name, or declares it.
 fn library_declares(name: &str) -> bool {
     if Library::root(name).is_some() {
         return true;
     }
     for library in &LIBRARIES {
-        if library.declaration(name).is_some() {
+        if library.declaration(name).is_some() || library.child(name).is_some() {
             return true;
         }
     }
@@ -244,6 +244,26 @@ impl<'a> Around<'a> {
             | Wanted::EntryBody => NameFault::Unknown(name.first.at),
             _ => self.invisible(scope, name),
         }
+    }
+
+    /// The fault of the entry that an `accept` names: the profile has no entries of tasks (D.7, 9.5.2).
+    pub(crate) fn accepted(&self, scope: &Scope, entry: &Identifier) -> NameFault {
+        let name = entry.text.as_str();
+        match scope.direct(name) {
+            Some(_) => NameFault::WrongKind(entry.at),
+            None => unseen(entry.at, self.knows(scope, name)),
+        }
+    }
+
+    /// The fault of a body that no declaration stands before: one may stand behind it (3.11.1, 8.3).
+    pub(crate) fn undeclared(&self, wanted: Wanted, body: &Identifier) -> NameFault {
+        let is_later = match wanted {
+            Wanted::ProtectedBody | Wanted::TaskBody => {
+                package_declares(self.tree, body.text.as_str())
+            }
+            _ => false,
+        };
+        unseen(body.at, is_later)
     }
 }
 

@@ -13,9 +13,9 @@ ghost use Rattle.rv_names.specs.DeclarationUses.{parameters_uses, with_parameter
 ghost use Rattle.rv_names.specs.UnitUses.{block_uses, operation_body_uses, operation_bodies_uses};
 
 use crate::body::block;
-use crate::expression::{name, value};
+use crate::expression::value;
 use crate::fault::{Faults, NameFault};
-use crate::protected::parameters;
+use crate::protected::{parameters, profile_mark};
 use crate::scope::Scope;
 use crate::wanted::Wanted;
 use rv_tree::body::{Block, OperationBody};
@@ -36,7 +36,19 @@ pub(crate) fn body_name(declared: &Identifier, wanted: Wanted, scope: &Scope, fa
                 faults.tell_unbound(NameFault::WrongKind(declared.at));
             }
         }
-        None => faults.tell_unbound(NameFault::Unknown(declared.at)),
+        None => {
+            let fault = undeclared(declared, wanted, faults);
+            faults.tell_unbound(fault);
+        }
+    }
+}
+
+// The fault of a body that no declaration stands before. It is only looked for where it could be the first.
+fn undeclared(declared: &Identifier, wanted: Wanted, faults: &Faults) -> NameFault {
+    if faults.matters(declared.at) {
+        faults.around.undeclared(wanted, declared)
+    } else {
+        NameFault::Unknown(declared.at)
     }
 }
 
@@ -58,7 +70,7 @@ fn function_body<'a>(
     body_name(declared, Wanted::FunctionBody, scope, faults);
     scope.enter()?;
     parameters(list, scope, faults)?;
-    name(mark, Wanted::Subtype, scope, faults);
+    profile_mark(mark, scope, faults)?;
     block(declared, part, scope, faults)?;
     scope.leave();
     Ok(())

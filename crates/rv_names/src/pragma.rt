@@ -21,7 +21,10 @@ use rv_tree::name::Identifier;
 fn is_priority(name: &str) -> bool
     ensures { result ≡ is_priority_name name.now }
 {
-    is_same_name(name, "Priority") || is_same_name(name, "Interrupt_Priority")
+    if is_same_name(name, "Priority") {
+        return true;
+    }
+    is_same_name(name, "Interrupt_Priority")
 }
 
 // Whether it attaches a procedure to a line (C.3.1).

@@ -100,12 +100,13 @@ fn least_fault(
     ensures { IfOk result (λ fault. fault ≡ None → AreBound catalogue.now (unit_view tree.now)) }
 {
     let units = protected_units(alloc, tree)?;
-    let mut faults = Faults::new(Around {
+    let around = Around {
         tree,
         units: units.as_slice(),
         unit: None,
         block: None,
-    });
+    };
+    let mut faults = Faults::new(alloc, around);
     walk(alloc, tree, units.as_slice(), catalogue, &mut faults)?;
     Ok(faults.least())
 }

@@ -3,6 +3,7 @@
 ghost use Rattle.std.specs.Prelude.{◌≡◌, OnOk};
 
 use crate::fault::{Faults, NameFault};
+use crate::marks::Marks;
 use crate::region::Region;
 use crate::scope::Scope;
 use rv_text::is_same_name;
@@ -149,7 +150,7 @@ pub(crate) fn unit_bodies(
     let mut bodies = Region::new(alloc);
     for one in &body.operations {
         note(alloc, body_name(one), &mut bodies, faults)?;
-        conforms(alloc, unit, one, scope, faults)?;
+        conforms(alloc, unit, one, faults)?;
     }
     for operation in &unit.operations {
         operation_has_body(operation, &bodies, faults);
@@ -269,7 +270,6 @@ fn conforms(
     alloc: Global,
     unit: &ProtectedUnit,
     body: &OperationBody,
-    scope: &Scope,
     faults: &mut Faults,
 ) -> Result<(), AllocError>
     ensures { OnOk result (faults.new ≡ faults.old) }
@@ -279,8 +279,8 @@ fn conforms(
         return Ok(());
     };
     let given = body_profile(body);
-    if !have_same_formals(alloc, &declared, &given, scope)?
-        || !is_same_result(declared.mark, given.mark, scope)
+    if !have_same_formals(alloc, &declared, &given, &faults.marks)?
+        || !is_same_result(declared.mark, given.mark, &faults.marks)
     {
         faults.tell(NameFault::WrongKind(name.at));
     }
@@ -317,7 +317,7 @@ fn have_same_formals(
     alloc: Global,
     declared: &Profile,
     given: &Profile,
-    scope: &Scope,
+    marks: &Marks,
 ) -> Result<bool, AllocError> {
     let declared = formals(alloc, declared.parameters)?;
     let given = formals(alloc, given.parameters)?;
@@ -325,17 +325,17 @@ fn have_same_formals(
         return Ok(false);
     }
     for (one, other) in declared.iter().zip(given.iter()) {
-        if !is_same_formal(one, other, scope) {
+        if !is_same_formal(one, other, marks) {
             return Ok(false);
         }
     }
     Ok(true)
 }
 
-fn is_same_formal(one: &Formal, other: &Formal, scope: &Scope) -> bool {
+fn is_same_formal(one: &Formal, other: &Formal, marks: &Marks) -> bool {
     is_same_name(one.name, other.name)
         && is_same_mode(one.mode, other.mode)
-        && is_same_mark(one.mark, other.mark, scope)
+        && marks.are_same(one.mark, other.mark)
 }
 
 // A mode that is not written is `in`.
@@ -347,14 +347,10 @@ fn is_same_mode(one: Mode, other: Mode) -> bool {
     }
 }
 
-fn is_same_mark(one: &Name, other: &Name, scope: &Scope) -> bool {
-    scope.visible(one) == scope.visible(other)
-}
-
-fn is_same_result(one: Option<&Name>, other: Option<&Name>, scope: &Scope) -> bool {
+fn is_same_result(one: Option<&Name>, other: Option<&Name>, marks: &Marks) -> bool {
     match one {
         Some(one) => match other {
-            Some(other) => is_same_mark(one, other, scope),
+            Some(other) => marks.are_same(one, other),
             None => false,
         },
         None => other.is_none(),

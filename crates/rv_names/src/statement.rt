@@ -1,25 +1,25 @@
 //! The names that statements use.
 
 ghost use Rattle.std.specs.Prelude.{◌≡◌, OnOk, IfOk, map};
-ghost use Rattle.rv_tree.specs.NameView.{name_view};
+ghost use Rattle.rv_tree.specs.NameView.{identifier_view, name_view};
 ghost use Rattle.rv_tree.specs.DeclarationView.{maybe};
 ghost use Rattle.rv_tree.specs.ExpressionView.{expression_view};
 ghost use Rattle.rv_tree.specs.Statements.{statements_of, elsif_parts_of, alternatives_of};
 ghost use Rattle.rv_tree.specs.StatementView.{statement_view, statements_view, elsif_parts_view, alternatives_view, choice_view, bounds_view, iteration_view};
 ghost use Rattle.rv_names.specs.Bound.{judged};
-ghost use Rattle.rv_names.specs.ExpressionUses.{◌▷◌, value_uses, maybe_uses};
+ghost use Rattle.rv_names.specs.ExpressionUses.{◌▷◌, simple as simple_name, value_uses, maybe_uses};
 ghost use Rattle.rv_names.specs.StatementUses.{choice_uses, choices_uses, bounds_uses, statement_uses, iteration_uses, in_loop, statements_uses, elsif_parts_uses, alternatives_uses};
 
 use crate::declare::hide;
 use crate::declared::Declared;
 use crate::expression::{
-    expression, expressions, maybe_name, maybe_value, name, range, refuse, value,
+    expression, expressions, maybe_name, maybe_value, name, range, refuse, two_values, value,
 };
-use crate::fault::Faults;
+use crate::fault::{Faults, NameFault};
 use crate::scope::Scope;
 use crate::wanted::Wanted;
 use rv_tree::expression::Expression;
-use rv_tree::name::Name;
+use rv_tree::name::{Identifier, Name};
 use rv_tree::statement::{CaseAlternative, Choice, ElsifPart, Iteration, LoopBounds, Statement};
 use std::alloc::AllocError;
 
@@ -29,10 +29,7 @@ fn choice(choice: &Choice, scope: &Scope, faults: &mut Faults)
     match choice {
         Choice::Others(_) => {}
         Choice::Value(e) => expression(e, Wanted::Choice, scope, faults),
-        Choice::Range(low, high) => {
-            value(low, scope, faults);
-            value(high, scope, faults);
-        }
+        Choice::Range(low, high) => two_values(low, high, scope, faults),
     }
 }
 
@@ -50,10 +47,7 @@ fn bounds(bounds: &LoopBounds, scope: &Scope, faults: &mut Faults)
 {
     match bounds {
         LoopBounds::Whole(e) => expression(e, Wanted::Subtype, scope, faults),
-        LoopBounds::Between(low, high) => {
-            value(low, scope, faults);
-            value(high, scope, faults);
-        }
+        LoopBounds::Between(low, high) => two_values(low, high, scope, faults),
         LoopBounds::Constrained(mark, part) => {
             name(mark, Wanted::Subtype, scope, faults);
             range(part, scope, faults);
@@ -77,6 +71,24 @@ fn raise(at: usize, exception: &Option<Name>, scope: &Scope, faults: &mut Faults
         faults.raise_again(at);
     }
     maybe_name(exception, Wanted::Exception, scope, faults);
+}
+
+// `accept`, which names an entry of a task, of which the profile has none (9.5.2, D.7).
+#[tactic(auto, unfolding(crate::specs::Bound::judged))]
+fn accept(entry: &Identifier, scope: &Scope, faults: &mut Faults)
+    ensures { faults.new ≡ judged scope.now Wanted.Nothing (simple_name (identifier_view entry.now)) faults.old }
+{
+    let fault = accepted(entry, scope, faults);
+    faults.tell_unbound(fault);
+}
+
+// The fault of an `accept`. It is only looked for where it could be the first.
+fn accepted(entry: &Identifier, scope: &Scope, faults: &Faults) -> NameFault {
+    if faults.matters(entry.at) {
+        faults.around.accepted(scope, entry)
+    } else {
+        NameFault::Unknown(entry.at)
+    }
 }
 
 #[cycle(statement)]
@@ -139,12 +151,12 @@ fn statement(
             with_abort: _,
         } => refuse(*at, scope, faults),
         Statement::Accept {
-            at,
-            entry: _,
+            at: _,
+            entry,
             parameters: _,
             statements: _,
             end_name: _,
-        } => refuse(*at, scope, faults),
+        } => accept(entry, scope, faults),
         Statement::Select {
             at,
             alternatives: _,
