@@ -15,8 +15,8 @@ use std::alloc::{AllocError, Global};
 pub enum Choice {
     /// Carry out a script; where the flag is set, unrecorded answers are printed too.
     Play(bool),
-    /// Look at the sections of a script.
-    Check,
+    /// Look at the sections of a script; where the flag is set, its fault is explained.
+    Check(bool),
 }
 
 /// Why the words of a command line choose nothing.
@@ -44,9 +44,13 @@ fn command<'a>(alloc: Global) -> Result<Command<'a>, AllocError>
     let play = Command::new(alloc, "play")
         .about("Carry out a script from standard input, and print its journal")
         .arg(all)?;
-    let check = Command::new(alloc, "check").about(
-        "Say of each section of a script from standard input whether it is well formed",
-    );
+    let explain = Arg::new(alloc, "explain")
+        .long("explain")
+        .help("Show the line of a fault, and say what it means")
+        .action(ArgAction::SetTrue);
+    let check = Command::new(alloc, "check")
+        .about("Say of each section of a script from standard input whether it is well formed")
+        .arg(explain)?;
     Command::new(alloc, "ravenhost")
         .about("Protected objects of several units under an access list, in the profile Ravenscar")
         .version(VERSION)
@@ -67,7 +71,7 @@ fn choice_of(matches: &ArgMatches<'_>) -> Option<Choice>
         return Some(Choice::Play(words.get_flag("all")));
     }
     if name == "check" {
-        return Some(Choice::Check);
+        return Some(Choice::Check(words.get_flag("explain")));
     }
     None
 }

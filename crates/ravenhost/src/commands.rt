@@ -35,3 +35,15 @@ pub fn check<R: Read, W: Write>(
 {
     rv_check::check::check(alloc, reader, writer)
 }
+
+/// Does what `check` does, and gives the script back that was looked at.
+pub fn check_kept<R: Read, W: Write>(
+    alloc: Global,
+    reader: &mut R,
+    writer: &mut W,
+) -> (Vec<u8>, Result<(), Failure>)
+    ensures { IfSome (R.remaining reader.old) (λ script.
+        WritesScript (W.contents writer.old) (W.contents writer.new) checked script result.1) }
+{
+    rv_check::check::check_kept(alloc, reader, writer)
+}

@@ -54,9 +54,29 @@ fn check_bytes<W: Write>(alloc: Global, writer: &mut W, bytes: &[u8]) -> Result<
     }
 }
 
-/// Looks at the sections of the script that a reader gives, in order, and writes a line for each that
-/// is well formed, but none for settings. It stops at the first fault. A unit text is well formed so
-/// far where it derives a tree; the shapes must fit one another.
+/// Does what `check` does, and gives the script back that was looked at, of which nothing was kept but its first
+/// `MOST_BYTES` + 1 bytes: its fault can be explained then.
+pub fn check_kept<R: Read, W: Write>(
+    alloc: Global,
+    reader: &mut R,
+    writer: &mut W,
+) -> (Vec<u8>, Result<(), Failure>)
+    ensures { IfSome (R.remaining reader.old) (λ script.
+        WritesScript (W.contents writer.old) (W.contents writer.new) outcome_of script result.1) }
+{
+    match read_script(alloc, reader) {
+        Ok(bytes) => {
+            let done = check_bytes(alloc, writer, bytes.as_slice());
+            (bytes, done)
+        }
+        Err(ReadError::Memory) => (Vec::new(alloc), Err(Failure::Memory)),
+        Err(ReadError::Io(e)) => (Vec::new(alloc), Err(Failure::Io(e))),
+    }
+}
+
+/// Looks at the sections of the script that a reader gives, in order, and writes a line for each that is well formed, but
+/// none for settings. It stops at the first fault. A shape, and the unit that a unit text gives, must fit those of the
+/// sections before.
 pub fn check<R: Read, W: Write>(
     alloc: Global,
     reader: &mut R,
@@ -65,9 +85,6 @@ pub fn check<R: Read, W: Write>(
     ensures { IfSome (R.remaining reader.old) (λ script.
         WritesScript (W.contents writer.old) (W.contents writer.new) outcome_of script result) }
 {
-    match read_script(alloc, reader) {
-        Ok(bytes) => check_bytes(alloc, writer, bytes.as_slice()),
-        Err(ReadError::Memory) => Err(Failure::Memory),
-        Err(ReadError::Io(e)) => Err(Failure::Io(e)),
-    }
+    let (_, done) = check_kept(alloc, reader, writer);
+    done
 }

@@ -3,7 +3,7 @@ use Rattle.std.proofs.lemmas.Result.{IfOk-weaker}
 use Rattle.clap.specs.declared.builder.command.Command.TheViews.{out-Command}
 use Rattle.clap.specs.Words.{App, app_of, new_app, rule_of, with_rule, with_subcommand}
 use Rattle.clap.specs.Simple.{app_of_fields, on_top}
-use Rattle.ravenhost.specs.Choices.{all_flag, versioned, alone}
+use Rattle.ravenhost.specs.Choices.{all_flag, explain_flag, versioned, alone}
 use Rattle.ravenhost.proofs.chosen.command.Goals as goal
 
 pub returns : goal.returns
