@@ -10,12 +10,12 @@ use Rattle.ravenhost.specs.declared.chosen.Choice.TheVariants.{Play, Check}
 use Rattle.ravenhost.specs.declared.chosen.Unchosen.{Unchosen}
 use Rattle.ravenhost.specs.declared.chosen.Unchosen.TheVariants.{Usage, Unknown, NoMemory}
 
--- the flags `--all` and `--explain`
-abbrev pub all_flag : Rule
-all_flag = record (new_rule (codes "all")) { long = Some (codes "all"); action = Some SetTrue }
+-- a flag, and a subcommand that may be given it
+abbrev pub flag_rule : Text → Rule
+flag_rule name = record (new_rule name) { long = Some name; action = Some SetTrue }
 
-abbrev pub explain_flag : Rule
-explain_flag = record (new_rule (codes "explain")) { long = Some (codes "explain"); action = Some SetTrue }
+abbrev pub flagged : Text → Text → App
+flagged name flag = with_rule (new_app name) (flag_rule flag)
 
 -- the program, of which one subcommand must be named
 abbrev pub versioned : App
@@ -25,8 +25,8 @@ abbrev pub alone : App
 alone = on_top (λ s. record s { subcommand_required = true }) versioned
 
 abbrev pub program : App
-program = with_subcommand (with_subcommand alone (with_rule (new_app (codes "play")) all_flag).top)
-    (with_rule (new_app (codes "check")) explain_flag).top
+program = with_subcommand (with_subcommand alone (flagged (codes "play") (codes "all")).top)
+    (flagged (codes "check") (codes "explain")).top
 
 -- the text of a flag, as a flag
 abbrev pub IsFlag : Option Text → Bool → Type 0
