@@ -37,7 +37,17 @@ class Reason(NamedTuple):
     text: str = ""  # a pattern of the text
 
 
-REASONS: tuple[Reason, ...] = ()
+# The first that fits is told.
+REASONS = (
+    Reason("pragma Profile behind a with clause: Ada wants configuration pragmas first, ours is read and ignored", ": ok$",
+           "incorrect placement for configuration pragma"),
+    Reason("arguments of a pragma that is read and ignored here: GNAT judges them", ": ok$", 'pragma ".*" does not permit identifier'),
+    Reason("a priority outside 1 .. 40 is refused (own): this machine has 0 .. 98", "^types TooLarge", "", r"priority\s*=>\s*(0|41)\b"),
+    Reason("a static value outside its subtype is refused (own): Ada raises Constraint_Error, of which GNAT warns", "^types TooLarge", ""),
+    Reason("use of a unit is refused (own)", "^names WrongKind", "", r"\buse\s+Plant\b"),
+    Reason("a barrier in parentheses is no component's name (own)", "^restriction Simple_Barriers", "", r"\bwhen\s*\(\s*Ready\s*\)"),
+    Reason("an aspect that isn't known is refused (own): GNAT warns", "^names Unknown", "", r"\bwith\s+Foo\b"),
+)
 
 
 class Outcome(NamedTuple):
@@ -46,9 +56,14 @@ class Outcome(NamedTuple):
     errors: list[str]
 
 
+def without_comments(text: str) -> str:
+    """The text without comments: Ada's end at other separators than a line feed too (2.2)."""
+    return re.sub(r"--[^\n]*", "", text)
+
+
 def files_of(text: str) -> dict[str, str]:
     """The specification and the body of a unit text, by the names of GNAT's files."""
-    text = re.sub(r"--[^\n]*", "", text)  # Ada's comments end at other separators than a line feed too (2.2)
+    text = without_comments(text)
     found = re.search(r"(?i)\bpackage\s+body\b", text)
     name = re.search(r"(?i)\bpackage\s+(\w+)", text)[1].lower()
     spec, body = text[:found.start()], text[found.start():]
@@ -84,7 +99,7 @@ def reason_of(outcome: Outcome) -> str | None:
     first = re.sub(r"^[\w-]+\.ad[sb]:\d+:\d+: ", "", outcome.errors[0]) if outcome.errors else ""
     for reason in REASONS:
         if re.search(reason.due, outcome.verdict) and re.search(reason.gnat, first) and bool(first) == bool(reason.gnat) \
-                and re.search(reason.text, outcome.case.text, re.I | re.S):
+                and re.search(reason.text, without_comments(outcome.case.text), re.I):
             return reason.words
     return None
 
