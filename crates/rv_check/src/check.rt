@@ -1,8 +1,8 @@
 //! Looks at the sections of a script, one by one, and says of each that it is well formed.
 
-ghost use Rattle.std.specs.Prelude.{◌≡◌, [], IfSome};
+ghost use Rattle.std.specs.Prelude.{◌≡◌, [], IfErr, IfSome};
 ghost use Rattle.rv_fault.specs.Written.{Writes, WritesScript};
-ghost use Rattle.rv_check.specs.Checks.{TellsAll, outcome_of};
+ghost use Rattle.rv_check.specs.Checks.{KeepsRefused, TellsAll, outcome_of};
 
 use crate::sections::{check_section, check_settings};
 use rv_fault::{Failure, What, refused};
@@ -54,15 +54,16 @@ fn check_bytes<W: Write>(alloc: Global, writer: &mut W, bytes: &[u8]) -> Result<
     }
 }
 
-/// Does what `check` does, and gives the script back that was looked at, of which nothing was kept but its first
-/// `MOST_BYTES` + 1 bytes: its fault can be explained then.
+/// Does what `check` does, and gives back what was read of the script, at most its first `MOST_BYTES` + 1 bytes, so that
+/// a fault can be explained.
 pub fn check_kept<R: Read, W: Write>(
     alloc: Global,
     reader: &mut R,
     writer: &mut W,
 ) -> (Vec<u8>, Result<(), Failure>)
-    ensures { IfSome (R.remaining reader.old) (λ script.
+    ensures told { IfSome (R.remaining reader.old) (λ script.
         WritesScript (W.contents writer.old) (W.contents writer.new) outcome_of script result.1) }
+    ensures kept { IfErr result.1 (λ failure. KeepsRefused (R.remaining reader.old) result.0.items failure) }
 {
     match read_script(alloc, reader) {
         Ok(bytes) => {

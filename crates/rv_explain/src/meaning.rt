@@ -16,33 +16,34 @@ use std::fmt;
 #[derive(Clone, Copy)]
 pub struct Meaning {
     sentence: &'static str,
-    // The sections of ISO/IEC 8652:2012 that have the rule; none where a page of docs has it.
-    sections: &'static str,
+    // The sections of ISO/IEC 8652:2012 that have the rule; none where docs/SCRIPTS.md has it.
+    sections: Option<&'static str>,
 }
-
-const SCRIPTS: &str = "";
 
 // A rule of the standard.
 fn standard(sentence: &'static str, sections: &'static str) -> Meaning {
-    Meaning { sentence, sections }
+    Meaning {
+        sentence,
+        sections: Some(sections),
+    }
 }
 
 // A rule of scripts, which docs/SCRIPTS.md has.
 fn scripts(sentence: &'static str) -> Meaning {
     Meaning {
         sentence,
-        sections: SCRIPTS,
+        sections: None,
     }
 }
 
 impl fmt::Display for Meaning {
     fn fmt<W: fmt::Write>(&self, f: &mut fmt::Formatter<W>) -> fmt::Result {
         f.write_str(self.sentence)?;
-        if self.sections == SCRIPTS {
+        let Some(sections) = self.sections else {
             return f.write_str(" (docs/SCRIPTS.md)");
-        }
+        };
         f.write_str(" (ISO/IEC 8652:2012, ")?;
-        f.write_str(self.sections)?;
+        f.write_str(sections)?;
         f.write_str(")")
     }
 }
