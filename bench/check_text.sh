@@ -1,6 +1,7 @@
 #!/usr/bin/env bash
-# Measures how long the built program checks a unit text of 250,000 bytes and one of 25,000, over its start-up, and in
-# how much memory. Fails where the larger takes 1 second or more, over 15 times the smaller, or 256 MiB or more. It needs
+# Measures how long the built program takes to compile a unit text of 250,000 bytes and one of 25,000 (`check`), over its
+# start-up, and in how much memory. Fails where the larger takes over 0.1 seconds, over 1.5 times as long a byte as the
+# smaller, or 256 MiB or more. It needs
 # awk, GNU date (for %N) and GNU time (the program, for %M).
 set -eu
 
@@ -16,23 +17,27 @@ cd "$(dirname "$(readlink -f "$0")")/.."
 folder=$(mktemp -d)
 trap 'rm -rf "$folder"' EXIT
 
-# A script of one unit text of about that many bytes: procedures that hold statements and expressions of each level.
+# A script of one unit text of nearly that many bytes: protected objects, each with ten procedures that hold statements and
+# expressions of each level.
 script() {
     awk -v bytes="$1" 'BEGIN {
-        print "@unit"
-        text = "package Plant is protected Valve is private Level : Integer := 0; end Valve; end Plant;\n"
-        text = text "package body Plant is\n   protected body Valve is\n"
-        printf "%s", text
-        size = length(text)
-        for (n = 1; size + 450 < bytes; n++) {
-            text = "      procedure Add_" n " (N : in out Integer) is\n         Old : constant Integer := Level;\n      begin\n"
-            text = text "         if N > 5 and then not (Level * 2 - 1 = Old) then\n            Level := Level + N * (Old - 3) mod 7;\n"
-            text = text "         elsif Old = 0 then Other.Object.Call (N, Level + 1);\n         else\n"
-            text = text "            for I in reverse 1 .. 10 loop exit when I > N; end loop; -- a comment\n         end if;\n      end Add_" n ";\n"
-            printf "%s", text
-            size += length(text)
+        for (n = 1; size < bytes; n++) {
+            spec = spec part
+            bodies = bodies body
+            part = "   protected Valve_" n " is\n"
+            body = "   protected body Valve_" n " is\n"
+            for (i = 1; i <= 10; i++) {
+                part = part "      procedure Add_" i " (N : in out Integer);\n"
+                body = body "      procedure Add_" i " (N : in out Integer) is\n         Old : constant Integer := Level;\n      begin\n"
+                body = body "         if N > 5 and then not (Level * 2 - 1 = Old) then\n            Level := Level + N * (Old - 3) mod 7;\n"
+                body = body "         elsif Old = 0 then Valve_1.Add_1 (N);\n         else\n"
+                body = body "            for I in reverse 1 .. 10 loop exit when I > N; end loop; -- a comment\n         end if;\n      end Add_" i ";\n"
+            }
+            part = part "   private\n      Level : Integer := 0;\n   end Valve_" n ";\n"
+            body = body "   end Valve_" n ";\n"
+            size = length(spec) + length(bodies) + length(part) + length(body) + 60
         }
-        print "   end Valve;\nend Plant;"
+        printf "@unit\npackage Plant is\n%send Plant;\npackage body Plant is\n%send Plant;\n", spec, bodies
     }'
 }
 
@@ -61,6 +66,7 @@ memory=$({ command time -f %M "$program" check <"$folder/large" >/dev/null; } 2>
     echo "bench/check_text.sh: $memory" >&2
     exit 1
 }
-echo "start-up $start us, $(wc -c <"$folder/large") bytes in $large us, $(wc -c <"$folder/small") bytes in $small us"
-echo "ratio $((large * 10 / small)) tenths, memory $memory KiB"
-[ "$large" -lt 1000000 ] && [ "$large" -le $((15 * small)) ] && [ "$memory" -lt 262144 ]
+bytes=$(wc -c <"$folder/large") fewer=$(wc -c <"$folder/small")
+echo "start-up $start us, $bytes bytes in $large us, $fewer bytes in $small us"
+echo "time a byte: $((large * fewer * 10 / small / bytes)) tenths of that of the smaller; memory $memory KiB"
+[ "$large" -le 100000 ] && [ $((large * fewer * 2)) -le $((small * bytes * 3)) ] && [ "$memory" -lt 262144 ]

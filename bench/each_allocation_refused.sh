@@ -1,7 +1,9 @@
 #!/usr/bin/env bash
-# Refuses each allocation of `ravenhost check` in turn, on a script with two unit texts, a shape and a list. Each run must
-# end with status 3, want of memory, and must have written a front of the whole output. It needs a C compiler, for a
-# library of a few lines that stands before malloc.
+# Refuses each allocation of `ravenhost check --explain` in turn, on examples/checked.raven and on unit texts of rv_rows: those
+# that are taken, and for each fault of names and types one that is refused. Each run must end with status 3, want of memory,
+# and must have written a front of the whole output; or with the whole output and the status that it has with memory, where
+# the allocation was a reservation that `collect` of the kit does without. Scripts may be given instead. It needs a C compiler, for a library of
+# a few lines that stands before malloc.
 set -eu
 command -v cc >/dev/null || {
     echo "bench/each_allocation_refused.sh: cc is missing" >&2
@@ -58,23 +60,46 @@ __attribute__((destructor)) static void end(void) {
 C
 cc -O1 -shared -fPIC -o "$folder/refuse.so" "$folder/refuse.c" -ldl
 
-./ravenhost check <examples/checked.raven >"$folder/whole"
-program=$PWD/crates/ravenhost/out/ravenhost
-number=0
-while true; do
-    number=$((number + 1))
+# Refuses each allocation over one script in turn.
+refuse_each() {
+    local script=$1 number=0 status
     status=0
-    REFUSED=$number LD_PRELOAD=$folder/refuse.so "$program" check <examples/checked.raven \
-        >"$folder/written" 2>"$folder/error" 9>"$folder/none" || status=$?
-    if [ -s "$folder/none" ]; then break; fi
-    if [ "$status" -ne 3 ]; then
-        echo "allocation $number refused: status $status"
-        exit 1
-    fi
-    if ! cmp -s -n "$(stat -c %s "$folder/written")" "$folder/written" "$folder/whole"; then
-        echo "allocation $number refused: other output"
-        exit 1
-    fi
-done
-cmp "$folder/written" "$folder/whole"
-echo "each of $((number - 1)) allocations refused: status 3 and a front of the output"
+    "$program" check --explain <"$script" >"$folder/whole" 2>/dev/null || status=$?
+    local due=$status
+    while true; do
+        number=$((number + 1)) status=0
+        REFUSED=$number LD_PRELOAD=$folder/refuse.so "$program" check --explain <"$script" \
+            >"$folder/written" 2>"$folder/error" 9>"$folder/none" || status=$?
+        if [ -s "$folder/none" ]; then break; fi
+        if [ "$status" -eq "$due" ] && cmp -s "$folder/written" "$folder/whole"; then
+            spared=$((spared + 1))
+            continue
+        fi
+        if [ "$status" -ne 3 ]; then
+            echo "$script: allocation $number refused: status $status"
+            exit 1
+        fi
+        if ! cmp -s -n "$(stat -c %s "$folder/written")" "$folder/written" "$folder/whole"; then
+            echo "$script: allocation $number refused: other output"
+            exit 1
+        fi
+    done
+    cmp "$folder/written" "$folder/whole"
+    [ "$status" -eq "$due" ]
+    all=$((all + number - 1))
+}
+
+./ravenhost check <examples/checked.raven >/dev/null
+program=$PWD/crates/ravenhost/out/ravenhost
+if [ $# -eq 0 ]; then
+    data=crates/rv_rows/data
+    set -- examples/checked.raven "$data"/names_ok_*.raven "$data"/types_accepted_*.raven
+    for fault in "names "{Unknown,Duplicate,NotVisible,WrongKind,EndName} \
+        "types "{Mismatch,NotStatic,ConstantWritten,BadMode,TooLarge,BadChoice}; do
+        first=$(grep -l ": $fault at" "$data"/*.fault | head -1)
+        set -- "$@" "${first%.fault}.raven"
+    done
+fi
+all=0 spared=0
+for script in "$@"; do refuse_each "$script"; done
+echo "$# scripts, $all allocations, each refused: $spared were done without, else status 3 and a front of the output"

@@ -73,12 +73,12 @@ procedure: if Plant.Valve.Get > 3 then null; end if;"""
 
 WRONG = {
     "names WrongKind": "context: use ^Plant;\nstatements: ^Plant;\nstatements: ^Plant.Flag;",
-    "names NotVisible": """statements: A := ^Plant.Valve.Level;
-statements: ^Plant.Valve.Level := 1;
-statements: ^Plant.Valve.Hidden;
+    "names NotVisible": """statements: ^Plant.Valve.Hidden;
 statements: ^Plant.Inside.Turn;
 procedure: ^Plant.Valve.Hidden;""",
-    "names Unknown": """statements: ^Plant.Nothing;
+    "names Unknown": """statements: A := ^Plant.Valve.Level;
+statements: ^Plant.Valve.Level := 1;
+statements: ^Plant.Nothing;
 statements: ^Plant.Valve.Nothing;
 statements: A := ^Plant.Nothing.Get;
 procedure: ^Plant.Nothing.Bump;""",

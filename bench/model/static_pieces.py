@@ -52,7 +52,7 @@ package body $N is
 end $N;
 """
 BEFORE = ""  # a unit that the text speaks of
-NAMES = ("Plant", "Nav", "U_1", "Engine_Room", "x")
+NAMES = ("Plant", "Nav", "U_1", "Engine_Room", "i_7")
 CONTEXT = ("with Ada.Real_Time;", "with Ada.Synchronous_Task_Control;")
 DEFAULTS = {"barrier": "Ready", "pilot_end": "Pilot"}  # of slots that can't be empty
 

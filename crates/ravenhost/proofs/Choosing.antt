@@ -6,7 +6,7 @@ use Rattle.clap.specs.Walk.{Row, Text, one_of}
 use Rattle.clap.proofs.OnLiterals.{clap_on_literals}
 use Rattle.ravenhost.specs.declared.chosen.Choice.{Choice}
 use Rattle.ravenhost.specs.declared.chosen.Choice.TheVariants.{Play, Check}
-use Rattle.ravenhost.specs.Choices.{Names, line_of, program}
+use Rattle.ravenhost.specs.Choices.{IsFlag, Names, line_of, program}
 
 -- The subcommand that was found, from its name and its rows.
 
@@ -28,19 +28,24 @@ pub taken : (name : Text) (choice : Choice) → takes program (name ∷ line_of 
 unfolding clap_on_literals
 taken name (Play false) = refl
 taken name (Play true) = refl
-taken name Check = refl
+taken name (Check false) = refl
+taken name (Check true) = refl
 
--- the name of a subcommand that was found, and its flag
+-- the name of a subcommand that was found, and its flag, which is that of the choice
 abbrev name_in : Option (Text × List Row) → Option Text
 name_in = option_map (λ (p : Text × List Row). p.0)
 
-abbrev flag_in : Option (Text × List Row) → Option (Option Text)
-flag_in = option_map (λ (p : Text × List Row). one_of (codes "all") p.1)
+abbrev flag_name : Choice → Text
+flag_name (Play all) = codes "all"
+flag_name (Check explain) = codes "explain"
+
+abbrev flag_in : Choice → Option (Text × List Row) → Option (Option Text)
+flag_in choice = option_map (λ (p : Text × List Row). one_of (flag_name choice) p.1)
 
 -- what they are of a plain line
 abbrev word_of : Choice → Text
 word_of (Play all) = codes "play"
-word_of Check = codes "check"
+word_of (Check explain) = codes "check"
 
 abbrev flag_text : Bool → Text
 flag_text true = codes "true"
@@ -50,30 +55,41 @@ name_is : (name : Text) (choice : Choice) → name_in (subcommand_of program (na
 unfolding clap_on_literals
 name_is name (Play false) = refl
 name_is name (Play true) = refl
-name_is name Check = refl
+name_is name (Check false) = refl
+name_is name (Check true) = refl
 
-flag_is : (name : Text) (all : Bool) → flag_in (subcommand_of program (name ∷ line_of (Play all))) ≡ Some (Some (flag_text all))
+abbrev flag_of : Choice → Bool
+flag_of (Play all) = all
+flag_of (Check explain) = explain
+
+flag_is : (name : Text) (choice : Choice) → flag_in choice (subcommand_of program (name ∷ line_of choice)) ≡ Some (Some (flag_text (flag_of choice)))
 unfolding clap_on_literals
-flag_is name true = refl
-flag_is name false = refl
+flag_is name (Play true) = refl
+flag_is name (Play false) = refl
+flag_is name (Check true) = refl
+flag_is name (Check false) = refl
+
+-- a flag that has this text is it
+by_flag : (one other : Bool) (text : Option Text) → text ≡ Some (flag_text one) → IsFlag text other → other ≡ one
+by_flag true other text f n = n.0 f
+by_flag false other text f n = n.1 f
+
+flag_found : (name : Text) (choice : Choice) (found : Text × List Row) → subcommand_of program (name ∷ line_of choice) ≡ Some found → one_of (flag_name choice) found.1 ≡ Some (flag_text (flag_of choice))
+flag_found name choice found e =
+    ap (λ (o : Option (Option Text)). unwrap_or o None) (sym (ap (flag_in choice) e) ∙ flag_is name choice)
 
 no_check : codes "play" ≡ codes "check" → ⊥
 no_check e = true≢false (ap (λ (t : Text). slice_index t 0 == 112) e)
 
 -- a choice that a plain line names is its own
 names_it : (name : Text) (choice other : Choice) (found : Text × List Row) → subcommand_of program (name ∷ line_of choice) ≡ Some found → Names found other → other ≡ choice
-names_it name (Play all) (Play other) found e n =
-    let flag : one_of (codes "all") found.1 ≡ Some (flag_text all) = ap (λ (o : Option (Option Text)). unwrap_or o None) (sym (ap flag_in e) ∙ flag_is name all) in
-    ap Play (by_flag all flag)
-  where
-    by_flag : (all : Bool) → one_of (codes "all") found.1 ≡ Some (flag_text all) → other ≡ all
-    by_flag true f = n.1.0 f
-    by_flag false f = n.1.1 f
-names_it name (Play all) Check found e n =
-    absurd (no_check (sym (ap (λ (o : Option Text). unwrap_or o found.0) (sym (ap name_in e) ∙ name_is name (Play all))) ∙ n))
-names_it name Check (Play other) found e n =
-    absurd (no_check (sym n.0 ∙ ap (λ (o : Option Text). unwrap_or o found.0) (sym (ap name_in e) ∙ name_is name Check)))
-names_it name Check Check found e n = refl
+names_it name (Play all) (Play other) found e n = ap Play (by_flag all other _ (flag_found name (Play all) found e) n.1)
+names_it name (Play all) (Check other) found e n =
+    absurd (no_check (sym (ap (λ (o : Option Text). unwrap_or o found.0) (sym (ap name_in e) ∙ name_is name (Play all))) ∙ n.0))
+names_it name (Check explain) (Play other) found e n =
+    absurd (no_check (sym n.0 ∙ ap (λ (o : Option Text). unwrap_or o found.0) (sym (ap name_in e) ∙ name_is name (Check explain))))
+names_it name (Check explain) (Check other) found e n =
+    ap Check (by_flag explain other _ (flag_found name (Check explain) found e) n.1)
 
 -- it names one
 pub line_chosen : (name : Text) (choice : Choice) (q : Option Choice) (m : Option (Text × List Row)) → m ≡ subcommand_of program (name ∷ line_of choice) →
@@ -84,7 +100,7 @@ line_chosen name choice None m e some none = by_found m refl (ap name_in e ∙ n
   where
     by_choice : (choice : Choice) (found : Text × List Row) → m ≡ Some found → found.0 ≡ word_of choice → None ≡ Some choice
     by_choice (Play all) found is e = absurd ((none found is).0 e)
-    by_choice Check found is e = absurd ((none found is).1 e)
+    by_choice (Check explain) found is e = absurd ((none found is).1 e)
 
     by_found : (o : Option (Text × List Row)) → m ≡ o → name_in o ≡ Some (word_of choice) → None ≡ Some choice
     by_found None is f = absurd (cc)

@@ -1,8 +1,8 @@
--- The command line (own): `play`, which may be given `--all`, and `check`. What words come to is
+-- The command line (own): `play`, which may be given `--all`, and `check`, which may be given `--explain`. What words come to is
 -- what `clap` says of this command.
 use Rattle.std.specs.Prelude.{◌≡◌, Bool, true, false, List, [], ◌∷◌, Option, Some, codes}
 use Rattle.clap.specs.Words.{App, Row, Rule, new_app, new_rule, subcommand_of, with_rule, with_subcommand}
-use Rattle.clap.specs.Simple.{new_shape, on_top}
+use Rattle.clap.specs.Simple.{on_top}
 use Rattle.clap.specs.Walk.{Text, one_of}
 use Rattle.clap.specs.declared.builder.action.ArgAction.TheVariants.{SetTrue}
 use Rattle.ravenhost.specs.declared.chosen.Choice.{Choice}
@@ -10,9 +10,12 @@ use Rattle.ravenhost.specs.declared.chosen.Choice.TheVariants.{Play, Check}
 use Rattle.ravenhost.specs.declared.chosen.Unchosen.{Unchosen}
 use Rattle.ravenhost.specs.declared.chosen.Unchosen.TheVariants.{Usage, Unknown, NoMemory}
 
--- the flag `--all`
-abbrev pub all_flag : Rule
-all_flag = record (new_rule (codes "all")) { long = Some (codes "all"); action = Some SetTrue }
+-- a flag, and a subcommand that may be given it
+abbrev pub flag_rule : Text → Rule
+flag_rule name = record (new_rule name) { long = Some name; action = Some SetTrue }
+
+abbrev pub flagged : Text → Text → App
+flagged name flag = with_rule (new_app name) (flag_rule flag)
 
 -- the program, of which one subcommand must be named
 abbrev pub versioned : App
@@ -22,8 +25,8 @@ abbrev pub alone : App
 alone = on_top (λ s. record s { subcommand_required = true }) versioned
 
 abbrev pub program : App
-program = with_subcommand (with_subcommand alone (with_rule (new_app (codes "play")) all_flag).top)
-    (new_shape (codes "check"))
+program = with_subcommand (with_subcommand alone (flagged (codes "play") (codes "all")).top)
+    (flagged (codes "check") (codes "explain")).top
 
 -- the text of a flag, as a flag
 abbrev pub IsFlag : Option Text → Bool → Type 0
@@ -33,7 +36,7 @@ IsFlag text flag = (text ≡ Some (codes "true") → flag ≡ true)
 -- a subcommand with what it was given is a choice
 abbrev pub Names : Text × List Row → Choice → Type 0
 Names found (Play all) = (found.0 ≡ codes "play") × IsFlag (one_of (codes "all") found.1) all
-Names found Check = found.0 ≡ codes "check"
+Names found (Check explain) = (found.0 ≡ codes "check") × IsFlag (one_of (codes "explain") found.1) explain
 
 -- the words name a choice
 abbrev pub Chooses : List Text → Choice → Type 0
@@ -51,4 +54,5 @@ Lacks words (Usage error) = ⊥
 abbrev pub line_of : Choice → List Text
 line_of (Play false) = codes "play" ∷ []
 line_of (Play true) = codes "play" ∷ codes "--all" ∷ []
-line_of Check = codes "check" ∷ []
+line_of (Check false) = codes "check" ∷ []
+line_of (Check true) = codes "check" ∷ codes "--explain" ∷ []

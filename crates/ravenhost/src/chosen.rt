@@ -1,10 +1,11 @@
 //! The command line: what the program is to do.
 
-ghost use Rattle.std.specs.Prelude.{◌≡◌, ◌∷◌, List, true, Some, IfSome, IfNone, IfOk, IfErr, codes, map};
-ghost use Rattle.clap.specs.Words.{app_of, subcommand_rows_of, takes};
+ghost use Rattle.std.specs.Prelude.{◌≡◌, ◌∷◌, List, true, false, Some, IfSome, IfNone, IfOk, IfErr, codes, map};
+ghost use Rattle.clap.specs.Words.{app_of, new_app, rule_of, subcommand_rows_of, takes, with_rule};
 ghost use Rattle.clap.specs.Walk.{Row, Text};
+ghost use Rattle.clap.specs.declared.builder.command.Command.TheViews.{out-Command as fields_of};
 ghost use Rattle.ravenhost.specs.declared.chosen.Unchosen.TheVariants as Unchosen;
-ghost use Rattle.ravenhost.specs.Choices.{Chooses, Lacks, Names, line_of, program};
+ghost use Rattle.ravenhost.specs.Choices.{Chooses, Lacks, Names, flag_rule, line_of, program};
 
 use clap::error::ErrorKind;
 use clap::{Arg, ArgAction, ArgMatches, Command, Error};
@@ -15,8 +16,8 @@ use std::alloc::{AllocError, Global};
 pub enum Choice {
     /// Carry out a script; where the flag is set, unrecorded answers are printed too.
     Play(bool),
-    /// Look at the sections of a script.
-    Check,
+    /// Look at the sections of a script; where the flag is set, its fault is explained.
+    Check(bool),
 }
 
 /// Why the words of a command line choose nothing.
@@ -33,20 +34,57 @@ pub enum Unchosen {
 /// The version of the program, and the kit that proves and builds it.
 pub const VERSION: &str = "1.0.0 (rattle-kit-13b logic dac8208d650f15bf)";
 
+// A flag.
+fn flag<'a>(alloc: Global, name: &'a str, help: &'a str) -> Arg<'a>
+    ensures rule { rule_of result ≡ flag_rule name.now }
+    ensures local { result.global ≡ false }
+{
+    Arg::new(alloc, name)
+        .long(name)
+        .help(help)
+        .action(ArgAction::SetTrue)
+}
+
+// A subcommand with a flag.
+fn subcommand<'a>(
+    alloc: Global,
+    name: &'a str,
+    about: &'a str,
+    flag: Arg<'a>,
+) -> Result<Command<'a>, AllocError>
+    requires { flag.global ≡ false }
+    ensures app { IfOk result (λ c. app_of c ≡ with_rule (new_app name.now) (rule_of flag.entry)) }
+    ensures local { IfOk result (λ c. (fields_of c).has_globals ≡ false) }
+{
+    Command::new(alloc, name).about(about).arg(flag)
+}
+
 // The command line that the program takes.
 fn command<'a>(alloc: Global) -> Result<Command<'a>, AllocError>
     ensures { IfOk result (λ c. app_of c ≡ program) }
 {
-    let all = Arg::new(alloc, "all")
-        .long("all")
-        .help("Print unrecorded answers too, as lines that begin with -")
-        .action(ArgAction::SetTrue);
-    let play = Command::new(alloc, "play")
-        .about("Carry out a script from standard input, and print its journal")
-        .arg(all)?;
-    let check = Command::new(alloc, "check").about(
-        "Say of each section of a script from standard input whether it is well formed",
+    let all = flag(
+        alloc,
+        "all",
+        "Print unrecorded answers too, as lines that begin with -",
     );
+    let explain = flag(
+        alloc,
+        "explain",
+        "Below a fault, show the line with its place, and say what the fault means",
+    );
+    let play = subcommand(
+        alloc,
+        "play",
+        "Carry out a script from standard input, and print its journal",
+        all,
+    )?;
+    let check = subcommand(
+        alloc,
+        "check",
+        "Say of each section of a script from standard input whether it is well formed",
+        explain,
+    )?;
     Command::new(alloc, "ravenhost")
         .about("Protected objects of several units under an access list, in the profile Ravenscar")
         .version(VERSION)
@@ -67,7 +105,7 @@ fn choice_of(matches: &ArgMatches<'_>) -> Option<Choice>
         return Some(Choice::Play(words.get_flag("all")));
     }
     if name == "check" {
-        return Some(Choice::Check);
+        return Some(Choice::Check(words.get_flag("explain")));
     }
     None
 }

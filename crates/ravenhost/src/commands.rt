@@ -1,9 +1,9 @@
 //! The subcommands, over any reader and any writer.
 
-ghost use Rattle.std.specs.Prelude.{IfSome};
+ghost use Rattle.std.specs.Prelude.{IfErr, IfSome};
 ghost use Rattle.rv_fault.specs.Written.{WritesScript};
 ghost use Rattle.rv_play.specs.Scripted.{outcome_of};
-ghost use Rattle.rv_check.specs.Checks.{outcome_of as checked};
+ghost use Rattle.rv_check.specs.Checks.{KeepsRefused, outcome_of as checked};
 
 use rv_fault::Failure;
 use std::alloc::Global;
@@ -34,4 +34,17 @@ pub fn check<R: Read, W: Write>(
         WritesScript (W.contents writer.old) (W.contents writer.new) checked script result) }
 {
     rv_check::check::check(alloc, reader, writer)
+}
+
+/// Does what `check` does, and gives back what was read of the script.
+pub fn check_kept<R: Read, W: Write>(
+    alloc: Global,
+    reader: &mut R,
+    writer: &mut W,
+) -> (Vec<u8>, Result<(), Failure>)
+    ensures told { IfSome (R.remaining reader.old) (λ script.
+        WritesScript (W.contents writer.old) (W.contents writer.new) checked script result.1) }
+    ensures kept { IfErr result.1 (λ failure. KeepsRefused (R.remaining reader.old) result.0.items failure) }
+{
+    rv_check::check::check_kept(alloc, reader, writer)
 }

@@ -14,6 +14,8 @@ pub enum Stop {
     Told,
     /// The run over the script failed.
     Failed(Failure),
+    /// The script was refused, and its fault was explained.
+    Explained,
 }
 
 /// The status of the program: 0 done, 1 a refused script, 2 usage or help, 3 want of memory, 4 a
@@ -23,7 +25,7 @@ pub fn status_of(outcome: &Result<(), Stop>) -> u8
 {
     match outcome {
         Ok(()) | Err(Stop::Told) => 0,
-        Err(Stop::Failed(Failure::Refused(_))) => 1,
+        Err(Stop::Failed(Failure::Refused(_)) | Stop::Explained) => 1,
         Err(Stop::Usage) => 2,
         Err(Stop::Failed(Failure::Memory)) => 3,
         Err(Stop::Failed(Failure::Io(_))) => 4,

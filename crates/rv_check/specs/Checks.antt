@@ -1,5 +1,5 @@
 -- The sections of a script that is checked: what is said of each, or what stands against it (own).
-use Rattle.std.specs.Prelude.{◌≡◌, ◌⊎◌, ◌<◌, ◌≤◌, ℕ, List, [], ◌∷◌, ◌++◌, length, codes, Option, Some, None, Result, Ok, Err}
+use Rattle.std.specs.Prelude.{◌≡◌, ◌⊎◌, ◌<◌, ◌≤◌, ℕ, List, [], ◌∷◌, ◌++◌, ◌+◌, length, take, codes, Option, Some, None, IfSome, Result, Ok, Err}
 use Rattle.std.specs.Fmt.{decimal}
 use Rattle.std.specs.Io.KnownBytes.{Appends}
 use Rattle.rv_text.specs.Sections.{SectionText}
@@ -18,6 +18,7 @@ use Rattle.rv_unit.specs.declared.fault.UnitFault.{UnitFault}
 use Rattle.rv_unit.specs.declared.fault.UnitFault.TheVariants as Units
 use Rattle.rv_script.specs.Openings.{OpenedText, opened, opening_of}
 use Rattle.rv_script.specs.Prefixes.{WritesPrefix}
+use Rattle.rv_script.specs.Whole.{most_bytes}
 use Rattle.rv_script.specs.UnitTexts.{most_unit_bytes, without_returns}
 use Rattle.rv_script.specs.declared.opening.Opening.{Opening}
 use Rattle.rv_script.specs.declared.opening.Opening.TheVariants as Openings
@@ -163,3 +164,9 @@ outcome_of script = record {
   Is = λ said told. ChecksOpened (opened script) said told;
   Begins = λ said. (said ≡ []) ⊎ BeginsOpened (opened script) said;
 }
+
+-- of a script that was refused this was read: its bytes, up to one past the greatest length
+abbrev pub KeepsRefused : Option (List ℕ) → List ℕ → Failure → Type 0
+KeepsRefused script read (Refused told) = IfSome script (λ bytes. read ≡ take (most_bytes + 1) bytes)
+KeepsRefused script read Memory = Unit {0}
+KeepsRefused script read (Io error) = Unit {0}

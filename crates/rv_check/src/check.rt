@@ -1,8 +1,8 @@
 //! Looks at the sections of a script, one by one, and says of each that it is well formed.
 
-ghost use Rattle.std.specs.Prelude.{◌≡◌, [], IfSome};
+ghost use Rattle.std.specs.Prelude.{◌≡◌, [], IfErr, IfSome};
 ghost use Rattle.rv_fault.specs.Written.{Writes, WritesScript};
-ghost use Rattle.rv_check.specs.Checks.{TellsAll, outcome_of};
+ghost use Rattle.rv_check.specs.Checks.{KeepsRefused, TellsAll, outcome_of};
 
 use crate::sections::{check_section, check_settings};
 use rv_fault::{Failure, What, refused};
@@ -54,9 +54,30 @@ fn check_bytes<W: Write>(alloc: Global, writer: &mut W, bytes: &[u8]) -> Result<
     }
 }
 
-/// Looks at the sections of the script that a reader gives, in order, and writes a line for each that
-/// is well formed, but none for settings. It stops at the first fault. A unit text is well formed so
-/// far where it derives a tree; the shapes must fit one another.
+/// Does what `check` does, and gives back what was read of the script, at most its first `MOST_BYTES` + 1 bytes, so that
+/// a fault can be explained.
+pub fn check_kept<R: Read, W: Write>(
+    alloc: Global,
+    reader: &mut R,
+    writer: &mut W,
+) -> (Vec<u8>, Result<(), Failure>)
+    ensures told { IfSome (R.remaining reader.old) (λ script.
+        WritesScript (W.contents writer.old) (W.contents writer.new) outcome_of script result.1) }
+    ensures kept { IfErr result.1 (λ failure. KeepsRefused (R.remaining reader.old) result.0.items failure) }
+{
+    match read_script(alloc, reader) {
+        Ok(bytes) => {
+            let done = check_bytes(alloc, writer, bytes.as_slice());
+            (bytes, done)
+        }
+        Err(ReadError::Memory) => (Vec::new(alloc), Err(Failure::Memory)),
+        Err(ReadError::Io(e)) => (Vec::new(alloc), Err(Failure::Io(e))),
+    }
+}
+
+/// Looks at the sections of the script that a reader gives, in order, and writes a line for each that is well formed, but
+/// none for settings. It stops at the first fault. A shape, and the unit that a unit text gives, must fit those of the
+/// sections before.
 pub fn check<R: Read, W: Write>(
     alloc: Global,
     reader: &mut R,
@@ -65,9 +86,6 @@ pub fn check<R: Read, W: Write>(
     ensures { IfSome (R.remaining reader.old) (λ script.
         WritesScript (W.contents writer.old) (W.contents writer.new) outcome_of script result) }
 {
-    match read_script(alloc, reader) {
-        Ok(bytes) => check_bytes(alloc, writer, bytes.as_slice()),
-        Err(ReadError::Memory) => Err(Failure::Memory),
-        Err(ReadError::Io(e)) => Err(Failure::Io(e)),
-    }
+    let (_, done) = check_kept(alloc, reader, writer);
+    done
 }

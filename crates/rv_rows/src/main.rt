@@ -3,17 +3,29 @@
 //!
 //! `NAME.raven` is a script. Where there is a `NAME.said` it is checked, and that is what has to be said;
 //! else it is played, with answers that aren't recorded, and `NAME.journal` is what has to be written.
-//! `NAME.fault` is the fault that has to be told, where there is one.
+//! `NAME.fault` is the fault that has to be told, where there is one, and `NAME.explained` what has to be said below it.
+//!
+//! With a word on its command line it cuts and damages each script instead, and says how many runs came to which end
+//! (`bench/cut_texts.sh`).
 #![tactic(auto)]
 
+mod cut;
+
+use cut::Ends;
 use rv_check::check::check;
+use rv_explain::explain;
 use rv_fault::Failure;
 use rv_play::play::play;
 use std::alloc::Global;
-use std::{fs, io};
+use std::{env, fs, io};
 
-/// What is written for a script, and behind it the line of its fault.
-fn given(alloc: Global, script: &[u8], is_checked: bool) -> io::Result<Vec<u8>> {
+/// What is written for a script, and behind it the line of its fault, explained where that is asked for.
+fn given(
+    alloc: Global,
+    script: &[u8],
+    is_checked: bool,
+    is_explained: bool,
+) -> io::Result<Vec<u8>> {
     let mut reader = script;
     let mut written = Vec::new(alloc);
     let outcome = if is_checked {
@@ -26,6 +38,10 @@ fn given(alloc: Global, script: &[u8], is_checked: bool) -> io::Result<Vec<u8>> 
         Err(Failure::Refused(fault)) => {
             let line = format!(in alloc; "{fault}\n")?;
             written.extend_from_slice(line.as_bytes())?;
+            if is_explained {
+                let text = explain(script, fault).to_string(alloc)?;
+                written.extend_from_slice(text.as_bytes())?;
+            }
         }
         Err(Failure::Memory) => return Err(io::Error::from(io::ErrorKind::OutOfMemory)),
         Err(Failure::Io(e)) => return Err(e),
@@ -70,7 +86,12 @@ fn told(rt: &HostRuntime, name: &str) -> io::Result<String> {
     if let Some(fault) = bytes_of(rt, name, "fault")? {
         wanted.extend_from_slice(fault.as_slice())?;
     }
-    let given = given(alloc, script.as_slice(), is_checked)?;
+    let explained = bytes_of(rt, name, "explained")?;
+    let is_explained = explained.is_some();
+    if let Some(explained) = explained {
+        wanted.extend_from_slice(explained.as_slice())?;
+    }
+    let given = given(alloc, script.as_slice(), is_checked, is_explained)?;
     if given.as_slice() == wanted.as_slice() {
         return Ok(format!(in alloc; "{name}: ok")?);
     }
@@ -92,7 +113,32 @@ fn names_of(rt: &HostRuntime) -> io::Result<Vec<String>> {
     Ok(names)
 }
 
+/// Runs each script cut before each of its bytes, and with each of its bytes replaced.
+fn cut_all(rt: &HostRuntime) -> io::Result<()> {
+    let alloc = rt.alloc();
+    let mut cut = Ends::new();
+    let mut damaged = Ends::new();
+    for name in names_of(rt)? {
+        let script = bytes_of(rt, name.as_str(), "raven")?.unwrap_or(Vec::new(alloc));
+        cut.run_cut(alloc, script.as_slice());
+        damaged.run_damaged(alloc, script.as_slice())?;
+    }
+    println!(rt;
+        "cut: {} done, {} refused, {} failed",
+        cut.done, cut.refused, cut.failed
+    )?;
+    println!(rt;
+        "damaged: {} done, {} refused, {} failed",
+        damaged.done, damaged.refused, damaged.failed
+    )
+}
+
 fn main(rt: HostRuntime) -> io::Result<()> {
+    let mut words = env::args(&rt)?;
+    let _name = words.next();
+    if words.next().is_some() {
+        return cut_all(&rt);
+    }
     for name in names_of(&rt)? {
         let line = told(&rt, name.as_str())?;
         println!(rt; "{line}")?;

@@ -2,14 +2,14 @@ use Rattle.std.proofs.Common.{◌≡◌, ℕ, List, take, sym, subst}
 use Rattle.std.specs.Prelude.{IfSome}
 use Rattle.rv_fault.proofs.Scripts.{script_read}
 use Rattle.rv_check.proofs.Checked.{failed_unread}
-use Rattle.rv_check.proofs.check.check.Goals as goal
+use Rattle.rv_check.proofs.check.check_kept.Goals as goal
 
-pub returns-in-Ok : goal.returns-in-Ok
-returns-in-Ok g c =
+pub returns-in-Ok-clause-told : goal.returns-in-Ok-clause-told
+returns-in-Ok-clause-told g c =
     let known = g.R.Read.remaining c.args.reader.now in
     let read : IfSome known (λ input. c.as_slice.result.now ≡ take 16777217 input) =
     subst (λ (bytes : List ℕ). IfSome known (λ input. bytes ≡ take 16777217 input)) (sym c.as_slice.ensures.value) c.in-Ok.ensures.bytes in
-    script_read _ _ known _ c.as_slice.result.now _ read c.check_bytes.ensures
+    script_read _ _ known _ c.as_slice.result.now _ read c.check_bytes-done.ensures
 
-pub returns-in-Err-Io : goal.returns-in-Err-Io
-returns-in-Err-Io g c = failed_unread _ _ _
+pub returns-in-Err-Io-clause-told : goal.returns-in-Err-Io-clause-told
+returns-in-Err-Io-clause-told g c = failed_unread _ _ _
