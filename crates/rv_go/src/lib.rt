@@ -1,0 +1,10 @@
+//! What `go` asks for the actors of a script: the bodies of the loaded units, what their actors were answered, and the
+//! request that an actor's text makes next.
+#![tactic(auto)]
+
+mod asking;
+mod brought;
+mod texts;
+
+pub use brought::BroughtBodies;
+pub use texts::Texts;

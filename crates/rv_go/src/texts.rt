@@ -1,0 +1,147 @@
+//! The texts of actors: the bodies of the loaded units, and what actors were answered since their texts began.
+
+ghost use Rattle.std.specs.Prelude.{◌≡◌, ◌∷◌, IfOk, OnOk, reverse};
+ghost use Rattle.rv_exec.specs.Asking.{stands};
+ghost use Rattle.rv_go.specs.Texts.{no_texts, with_brought, is_start, is_heard, hears, with_answer, answers_to};
+
+use crate::brought::BroughtBodies;
+use rv_event::entry::{Answer, Request};
+use rv_exec::bodies::Bodies;
+use rv_exec::machine::Machine;
+use std::alloc::{AllocError, Global};
+use std::marker::Model;
+
+/// An answer that an actor's text goes on by.
+#[derive(Clone, Copy, Drop)]
+pub struct Heard {
+    /// The number of the actor.
+    pub actor: usize,
+    /// Whether it starts the body of a line's handler, so that its text begins (C.3).
+    pub starts: bool,
+    /// The answer.
+    pub answer: Answer,
+}
+
+/// The texts of actors: the bodies of the loaded units, and what actors were answered since their texts began.
+#[derive(Drop)]
+pub struct Texts {
+    pub(crate) bodies: Bodies,
+    // The answers, the oldest first.
+    heard: Vec<Heard>,
+    // How many requests a task's own body may make.
+    pub(crate) machine: Machine,
+}
+
+impl Model for Texts {
+    ghost use Rattle.std.specs.Prelude.{reverse};
+    ghost use Rattle.rv_exec.specs.Bodies.{bodies_view};
+    ghost use Rattle.rv_go.specs.Texts.{TextsView};
+
+    ghost Value = { TextsView };
+
+    ghost view = { λ t. record { bodies = bodies_view t.bodies; heard = reverse t.heard.items; budget = t.machine.budget } };
+}
+
+// Whether the request stands behind such an answer, and is asked again.
+fn stands(answer: &Answer) -> bool
+    ensures { result ≡ stands answer.now }
+{
+    match answer {
+        Answer::Busy | Answer::Waiting | Answer::Misuse => true,
+        _ => false,
+    }
+}
+
+// Whether a line's fire is answered Started (C.3).
+fn is_start(request: &Request, answer: &Answer) -> bool
+    ensures { result ≡ is_start request.now answer.now }
+{
+    match request {
+        Request::Fire => match answer {
+            Answer::Started(_) => true,
+            _ => false,
+        },
+        _ => false,
+    }
+}
+
+// Whether an answer is kept.
+fn is_heard(goes: bool, request: &Request, answer: &Answer) -> bool
+    ensures { result ≡ is_heard goes request.now answer.now }
+{
+    if is_start(request, answer) {
+        return true;
+    }
+    goes && !stands(answer)
+}
+
+// An actor's answers with one more.
+fn add_answer(answers: &mut Vec<Answer>, actor: usize, heard: &Heard) -> Result<(), AllocError>
+    ensures { OnOk result (answers.new.items ≡ with_answer actor heard.now answers.old.items) }
+{
+    if heard.actor != actor {
+        return Ok(());
+    }
+    if heard.starts {
+        answers.clear();
+    }
+    answers.push(heard.answer)
+}
+
+impl Texts {
+    /// No texts, before the first load; a task's own body may make so many requests, 1 .. 1,000,000.
+    pub fn new(alloc: Global, budget: u32) -> Texts
+        ensures { result ≡ no_texts budget }
+    {
+        Texts {
+            bodies: Bodies::new(alloc),
+            heard: Vec::new(alloc),
+            machine: Machine { budget },
+        }
+    }
+
+    /// Adds the bodies of the next unit that is loaded.
+    pub fn load(&mut self, brought: BroughtBodies) -> Result<(), AllocError>
+        ensures { OnOk result (self.new ≡ with_brought brought self.old) }
+    {
+        self.bodies.add(brought.into_bodies())
+    }
+
+    /// Keeps the answer to a request of an actor, where its text goes on by it: `goes` says whether the request was a
+    /// `go`.
+    pub fn hear(
+        &mut self,
+        actor: usize,
+        goes: bool,
+        request: &Request,
+        answer: &Answer,
+    ) -> Result<(), AllocError>
+        ensures { OnOk result (self.new ≡ hears self.old actor goes request.now answer.now) }
+    {
+        if !is_heard(goes, request, answer) {
+            return Ok(());
+        }
+        let starts = is_start(request, answer);
+        let answer = *answer;
+        self.heard.push(Heard {
+            actor,
+            starts,
+            answer,
+        })
+    }
+
+    // What an actor was answered since its text began, in order.
+    pub(crate) fn answers_to(
+        &self,
+        alloc: Global,
+        actor: usize,
+    ) -> Result<Vec<Answer>, AllocError>
+        ensures { IfOk result (λ answers. answers.items ≡ answers_to actor self.now.heard) }
+    {
+        let mut answers = Vec::new(alloc);
+        for heard in &self.heard {
+            add_answer(&mut answers, actor, heard)?;
+        }
+        Ok(answers)
+    }
+}
