@@ -85,7 +85,8 @@ fn add_answer(answers: &mut Vec<Answer>, actor: usize, heard: &Heard) -> Result<
     if heard.starts {
         answers.clear();
     }
-    answers.push(heard.answer)
+    answers.push(heard.answer)?;
+    Ok(())
 }
 
 impl Texts {
@@ -127,7 +128,8 @@ impl Texts {
             actor,
             starts,
             answer,
-        })
+        })?;
+        Ok(())
     }
 
     // What an actor was answered since its text began, in order.

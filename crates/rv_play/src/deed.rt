@@ -1,11 +1,12 @@
 //! Deeds: what a script asks of the host.
 
 ghost use Rattle.std.specs.Prelude.{◌≡◌, IfOk, IfErr, Some, string_bytes};
-ghost use Rattle.rv_play.specs.Deeds.{line_number, load, set, ask, append, remove, replace};
+ghost use Rattle.rv_play.specs.Deeds.{line_number, plain, load, set, ask, go, append, remove, replace};
 
 use rv_access::{AccessList, Line};
 use rv_event::entry::Request;
 use rv_event::text::text_of_request;
+use rv_go::BroughtBodies;
 use rv_history::command::Command;
 use rv_shape::catalogue::Catalogue;
 use rv_shape::shape::UnitShape;
@@ -22,6 +23,10 @@ pub struct Deed {
     pub command: Option<Command>,
     /// The words of the request, as an answer that isn't recorded is told.
     pub words: String,
+    /// Whether it is a `go`, so that the actor's text goes on by the answer.
+    pub goes: bool,
+    /// The bodies of the unit that it loads; none where it loads none.
+    pub bodies: BroughtBodies,
 }
 
 impl Model for Deed {
@@ -30,13 +35,26 @@ impl Model for Deed {
 
     ghost Value = { DeedText };
 
-    ghost view = { λ d. record { actor = d.actor; command = d.command; words = string_bytes d.words } };
+    ghost view = { λ d. record { actor = d.actor; command = d.command; words = string_bytes d.words; goes = d.goes; bodies = d.bodies } };
 }
 
 impl Deed {
-    /// A unit, loaded by the operator.
-    pub fn load(alloc: Global, shape: UnitShape) -> Result<Deed, AllocError>
-        ensures { IfOk result (λ d. d ≡ load shape) }
+    // A command that is no `go` and loads nothing.
+    fn plain(alloc: Global, actor: usize, command: Command, words: String) -> Deed
+        ensures { result ≡ plain actor command (string_bytes words) }
+    {
+        Deed {
+            actor,
+            command: Some(command),
+            words,
+            goes: false,
+            bodies: BroughtBodies::none(alloc),
+        }
+    }
+
+    /// A unit with its bodies, loaded by the operator.
+    pub fn load(alloc: Global, shape: UnitShape, bodies: BroughtBodies) -> Result<Deed, AllocError>
+        ensures { IfOk result (λ d. d ≡ load shape bodies) }
     {
         let name = shape.name();
         let words = format!(in alloc; "load {name}")?;
@@ -44,6 +62,8 @@ impl Deed {
             actor: OPERATOR,
             command: Some(Command::Load(shape)),
             words,
+            goes: false,
+            bodies,
         })
     }
 
@@ -54,11 +74,7 @@ impl Deed {
         let text = list.text(alloc)?;
         let text = text.as_str();
         let words = format!(in alloc; "list [{text}]")?;
-        Ok(Deed {
-            actor: OPERATOR,
-            command: Some(Command::SetList(list)),
-            words,
-        })
+        Ok(Deed::plain(alloc, OPERATOR, Command::SetList(list), words))
     }
 
     /// A request.
@@ -71,10 +87,31 @@ impl Deed {
         ensures { IfOk result (λ d. d ≡ ask catalogue.now actor request) }
     {
         let words = text_of_request(alloc, catalogue, &request)?;
+        Ok(Deed::plain(alloc, actor, Command::Ask(actor, request), words))
+    }
+
+    /// A request of an actor's text, or none where it has nothing to ask.
+    pub fn go(
+        alloc: Global,
+        catalogue: &Catalogue,
+        actor: usize,
+        request: Option<Request>,
+    ) -> Result<Deed, AllocError>
+        ensures { IfOk result (λ d. d ≡ go catalogue.now actor request) }
+    {
+        let (command, words) = match request {
+            Some(request) => {
+                let words = text_of_request(alloc, catalogue, &request)?;
+                (Some(Command::Ask(actor, request)), words)
+            }
+            None => (None, String::from_str(alloc, "go")?),
+        };
         Ok(Deed {
             actor,
-            command: Some(Command::Ask(actor, request)),
+            command,
             words,
+            goes: true,
+            bodies: BroughtBodies::none(alloc),
         })
     }
 
@@ -85,11 +122,7 @@ impl Deed {
         let text = line.text(alloc)?;
         let text = text.as_str();
         let words = format!(in alloc; "append {text}")?;
-        Ok(Deed {
-            actor,
-            command: Some(Command::AppendLine(line)),
-            words,
-        })
+        Ok(Deed::plain(alloc, actor, Command::AppendLine(line), words))
     }
 
     /// The list without the line of a number.
@@ -97,11 +130,8 @@ impl Deed {
         ensures { IfOk result (λ d. d ≡ remove actor number) }
     {
         let words = format!(in alloc; "remove {number}")?;
-        Ok(Deed {
-            actor,
-            command: Some(Command::RemoveLine(line_number(number))),
-            words,
-        })
+        let command = Command::RemoveLine(line_number(number));
+        Ok(Deed::plain(alloc, actor, command, words))
     }
 
     /// Another line in place of that of a number.
@@ -111,11 +141,8 @@ impl Deed {
         let text = line.text(alloc)?;
         let text = text.as_str();
         let words = format!(in alloc; "replace {number} {text}")?;
-        Ok(Deed {
-            actor,
-            command: Some(Command::ReplaceLine(line_number(number), line)),
-            words,
-        })
+        let command = Command::ReplaceLine(line_number(number), line);
+        Ok(Deed::plain(alloc, actor, command, words))
     }
 }
 
