@@ -1,5 +1,5 @@
 -- The texts of actors: the bodies of the loaded units, and what actors were answered since their texts began (own).
-use Rattle.std.specs.Prelude.{ℕ, Bool, true, false, ◌==◌, not, ◌&&◌, ◌||◌, if◌then◌else◌, List, [], ◌∷◌, ◌++◌, length, replicate, None}
+use Rattle.std.specs.Prelude.{ℕ, Bool, true, false, ◌==◌, not, ◌&&◌, ◌||◌, if◌then◌else◌, List, [], ◌∷◌, ◌++◌, length, replicate, reverse, None}
 use Rattle.rv_shape.specs.Shape.{Shape}
 use Rattle.rv_event.specs.declared.entry.Request.{Request}
 use Rattle.rv_event.specs.declared.entry.Request.TheVariants.{Fire}
@@ -8,7 +8,9 @@ use Rattle.rv_event.specs.declared.entry.Answer.TheVariants.{Started}
 use Rattle.rv_code.specs.Bodies.{UnitBodies}
 use Rattle.rv_exec.specs.Asking.{stands}
 use Rattle.rv_exec.specs.Bodies.{no_bodies, with_unit}
+use Rattle.rv_exec.specs.Bodies.{bodies_view}
 use Rattle.rv_go.specs.declared.texts.Heard.{Heard}
+use Rattle.rv_go.specs.declared.texts.Texts.{Texts}
 
 -- the bodies of the units that are loaded, the answers that texts go on by, the newest first, and how many requests a task's
 -- own body may make
@@ -16,6 +18,9 @@ pub record TextsView : Type 0 where
   pub bodies : UnitBodies
   pub heard : List Heard
   pub budget : ℕ
+
+abbrev pub texts_view : Texts → TextsView
+texts_view texts = record { bodies = bodies_view texts.bodies; heard = reverse texts.heard.items; budget = texts.machine.budget }
 
 -- before the first load
 abbrev pub no_texts : ℕ → TextsView
@@ -26,8 +31,8 @@ abbrev pub without_text : Shape → UnitBodies
 without_text shape = record { objects = replicate (length shape.objects) []; tasks = replicate (length shape.tasks) None }
 
 -- with the bodies of the next unit that is loaded
-abbrev pub with_brought : UnitBodies → TextsView → TextsView
-with_brought brought texts = record texts { bodies = with_unit brought texts.bodies }
+abbrev pub with_bodies : UnitBodies → TextsView → TextsView
+with_bodies unit texts = record texts { bodies = with_unit unit texts.bodies }
 
 -- whether a line's fire is answered Started: the text of its handler begins (C.3)
 abbrev pub is_started : Answer → Bool
