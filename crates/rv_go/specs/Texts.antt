@@ -34,23 +34,26 @@ without_text shape = record { objects = replicate (length shape.objects) []; tas
 abbrev pub with_bodies : UnitBodies → TextsView → TextsView
 with_bodies unit texts = record texts { bodies = with_unit unit texts.bodies }
 
--- whether a line's fire is answered Started: the text of its handler begins (C.3)
+-- whether a body has started
 abbrev pub is_started : Answer → Bool
 is_started (Started scalars) = true
 is_started answer = false
 
-abbrev pub is_start : Request → Answer → Bool
-is_start Fire answer = is_started answer
-is_start request answer = false
+-- whether it is the `fire` of a line
+abbrev pub is_fire : Request → Bool
+is_fire Fire = true
+is_fire request = false
 
--- whether a text goes on by the answer to a request: to a `go`, and not one that leaves the request standing; or a start
+-- whether a text goes on by the answer to a request: that of a handler begins where its line's `fire` is answered Started (C.3);
+-- else the request is a `go`, and the answer doesn't leave it standing
 abbrev pub is_heard : Bool → Request → Answer → Bool
-is_heard goes request answer = if is_start request answer then true else goes && not (stands answer)
+is_heard goes request answer = if is_fire request then is_started answer else goes && not (stands answer)
 
+-- the texts behind such an answer
 abbrev pub hears : TextsView → ℕ → Bool → Request → Answer → TextsView
 hears texts actor goes request answer =
     if is_heard goes request answer
-    then record texts { heard = record { actor = actor; starts = is_start request answer; answer = answer } ∷ texts.heard }
+    then record texts { heard = record { actor = actor; starts = is_fire request; answer = answer } ∷ texts.heard }
     else texts
 
 -- an actor's answers with one more, behind which there are none before a start

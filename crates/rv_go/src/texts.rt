@@ -3,7 +3,7 @@
 ghost use Rattle.std.specs.Prelude.{◌≡◌, [], ◌∷◌, ◌++◌, IfOk, OnOk};
 ghost use Rattle.rv_code.specs.BodyView.{unit_view};
 ghost use Rattle.rv_exec.specs.Asking.{stands};
-ghost use Rattle.rv_go.specs.Texts.{texts_view, no_texts, with_bodies, is_start, is_heard, hears, with_answer, answers_to};
+ghost use Rattle.rv_go.specs.Texts.{texts_view, no_texts, with_bodies, is_started, is_fire, is_heard, hears, with_answer, answers_to};
 
 use rv_code::UnitBodies;
 use rv_event::entry::{Answer, Next, Request, Rule};
@@ -43,25 +43,32 @@ fn stands(answer: &Answer) -> bool
     }
 }
 
-// Whether a line's fire is answered Started (C.3).
-fn is_start(request: &Request, answer: &Answer) -> bool
-    ensures { result ≡ is_start request.now answer.now }
+// Whether a body has started.
+fn is_started(answer: &Answer) -> bool
+    ensures { result ≡ is_started answer.now }
 {
-    match request {
-        Request::Fire => match answer {
-            Answer::Started(_) => true,
-            _ => false,
-        },
+    match answer {
+        Answer::Started(_) => true,
         _ => false,
     }
 }
 
-// Whether an answer is kept.
+// Whether it is the fire of a line (C.3).
+fn is_fire(request: &Request) -> bool
+    ensures { result ≡ is_fire request.now }
+{
+    match request {
+        Request::Fire => true,
+        _ => false,
+    }
+}
+
+// Whether a text goes on by the answer to a request.
 fn is_heard(goes: bool, request: &Request, answer: &Answer) -> bool
     ensures { result ≡ is_heard goes request.now answer.now }
 {
-    if is_start(request, answer) {
-        return true;
+    if is_fire(request) {
+        return is_started(answer);
     }
     goes && !stands(answer)
 }
@@ -130,7 +137,7 @@ impl Texts {
         if !is_heard(goes, request, answer) {
             return Ok(());
         }
-        let starts = is_start(request, answer);
+        let starts = is_fire(request);
         let answer = *answer;
         let heard = Heard {
             actor,
