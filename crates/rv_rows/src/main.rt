@@ -17,7 +17,10 @@ use rv_explain::explain;
 use rv_fault::Failure;
 use rv_play::play::play;
 use std::alloc::Global;
-use std::{env, fs, io};
+use std::{env, fs, io, thread};
+
+// The stack of the thread that plays the scripts: the deepest bodies were measured to need 128 MiB.
+const STACK_BYTES: usize = 256 * 1024 * 1024;
 
 /// What is written for a script, and behind it the line of its fault, explained where that is asked for.
 fn given(
@@ -133,15 +136,30 @@ fn cut_all(rt: &HostRuntime) -> io::Result<()> {
     )
 }
 
-fn main(rt: HostRuntime) -> io::Result<()> {
+/// Says of each script whether it gave what stands beside it.
+fn tell_all(rt: &HostRuntime) -> io::Result<()> {
+    for name in names_of(rt)? {
+        let line = told(rt, name.as_str())?;
+        println!(rt; "{line}")?;
+    }
+    Ok(())
+}
+
+/// Does what the command line asks: any word runs the scripts cut and damaged.
+fn run(rt: HostRuntime) -> io::Result<()> {
     let mut words = env::args(&rt)?;
     let _name = words.next();
     if words.next().is_some() {
         return cut_all(&rt);
     }
-    for name in names_of(&rt)? {
-        let line = told(&rt, name.as_str())?;
-        println!(rt; "{line}")?;
+    tell_all(&rt)
+}
+
+// The bodies of a script run on a thread whose stack holds the deepest of them.
+fn main(rt: HostRuntime) -> io::Result<()> {
+    let wide = thread::Builder::new().stack_size(STACK_BYTES);
+    match wide.spawn(&rt, move || run(rt)) {
+        Ok(thread) => thread.join(&rt),
+        Err(_) => Err(io::Error::from(io::ErrorKind::OutOfMemory)),
     }
-    Ok(())
 }
