@@ -1,5 +1,5 @@
 -- The texts of actors: the bodies of the loaded units, and what actors were answered since their texts began (own).
-use Rattle.std.specs.Prelude.{ℕ, Bool, true, false, ◌==◌, not, ◌&&◌, ◌||◌, if◌then◌else◌, List, [], ◌∷◌, ◌++◌, length, replicate, None}
+use Rattle.std.specs.Prelude.{ℕ, Bool, true, false, ◌==◌, not, ◌&&◌, ◌||◌, if◌then◌else◌, List, [], ◌∷◌, ◌++◌, length, replicate, reverse, None}
 use Rattle.rv_shape.specs.Shape.{Shape}
 use Rattle.rv_event.specs.declared.entry.Request.{Request}
 use Rattle.rv_event.specs.declared.entry.Request.TheVariants.{Fire}
@@ -8,7 +8,9 @@ use Rattle.rv_event.specs.declared.entry.Answer.TheVariants.{Started}
 use Rattle.rv_code.specs.Bodies.{UnitBodies}
 use Rattle.rv_exec.specs.Asking.{stands}
 use Rattle.rv_exec.specs.Bodies.{no_bodies, with_unit}
+use Rattle.rv_exec.specs.Bodies.{bodies_view}
 use Rattle.rv_go.specs.declared.texts.Heard.{Heard}
+use Rattle.rv_go.specs.declared.texts.Texts.{Texts}
 
 -- the bodies of the units that are loaded, the answers that texts go on by, the newest first, and how many requests a task's
 -- own body may make
@@ -16,6 +18,9 @@ pub record TextsView : Type 0 where
   pub bodies : UnitBodies
   pub heard : List Heard
   pub budget : ℕ
+
+abbrev pub texts_view : Texts → TextsView
+texts_view texts = record { bodies = bodies_view texts.bodies; heard = reverse texts.heard.items; budget = texts.machine.budget }
 
 -- before the first load
 abbrev pub no_texts : ℕ → TextsView
@@ -26,26 +31,29 @@ abbrev pub without_text : Shape → UnitBodies
 without_text shape = record { objects = replicate (length shape.objects) []; tasks = replicate (length shape.tasks) None }
 
 -- with the bodies of the next unit that is loaded
-abbrev pub with_brought : UnitBodies → TextsView → TextsView
-with_brought brought texts = record texts { bodies = with_unit brought texts.bodies }
+abbrev pub with_bodies : UnitBodies → TextsView → TextsView
+with_bodies unit texts = record texts { bodies = with_unit unit texts.bodies }
 
--- whether a line's fire is answered Started: the text of its handler begins (C.3)
+-- whether a body has started
 abbrev pub is_started : Answer → Bool
 is_started (Started scalars) = true
 is_started answer = false
 
-abbrev pub is_start : Request → Answer → Bool
-is_start Fire answer = is_started answer
-is_start request answer = false
+-- whether it is the `fire` of a line
+abbrev pub is_fire : Request → Bool
+is_fire Fire = true
+is_fire request = false
 
--- whether a text goes on by the answer to a request: to a `go`, and not one that leaves the request standing; or a start
+-- whether a text goes on by the answer to a request: that of a handler begins where its line's `fire` is answered Started (C.3);
+-- else the request is a `go`, and the answer doesn't leave it standing
 abbrev pub is_heard : Bool → Request → Answer → Bool
-is_heard goes request answer = if is_start request answer then true else goes && not (stands answer)
+is_heard goes request answer = if is_fire request then is_started answer else goes && not (stands answer)
 
+-- the texts behind such an answer
 abbrev pub hears : TextsView → ℕ → Bool → Request → Answer → TextsView
 hears texts actor goes request answer =
     if is_heard goes request answer
-    then record texts { heard = record { actor = actor; starts = is_start request answer; answer = answer } ∷ texts.heard }
+    then record texts { heard = record { actor = actor; starts = is_fire request; answer = answer } ∷ texts.heard }
     else texts
 
 -- an actor's answers with one more, behind which there are none before a start

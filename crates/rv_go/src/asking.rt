@@ -1,10 +1,12 @@
 //! What `go` asks.
 
-ghost use Rattle.std.specs.Prelude.{◌≡◌, IfOk, Option};
+ghost use Rattle.std.specs.Prelude.{◌≡◌, IfOk, Option, option_map};
 ghost use Rattle.rv_event.specs.declared.entry.Request.{Request};
 ghost use Rattle.rv_exec.specs.Next.{told};
 ghost use Rattle.rv_history.specs.Fitting.{awaits};
-ghost use Rattle.rv_go.specs.Goes.{task_asks, handler_asks, line_asks, asks_by, asks};
+ghost use Rattle.rv_shape.specs.Catalogue.{OperationNumber};
+ghost use Rattle.rv_go.specs.Texts.{texts_view};
+ghost use Rattle.rv_go.specs.Goes.{task_asks, handler_asks, line_asks, asks};
 
 use crate::texts::Texts;
 use rv_event::entry::{Mode, Request};
@@ -37,7 +39,7 @@ fn awaits(mode: Mode) -> bool
 impl Texts {
     // What a task's text asks next; without a body it asks nothing.
     fn task_asks(&self, alloc: Global, actor: usize) -> Result<Option<Request>, AllocError>
-        ensures { IfOk result (λ asked. asked ≡ task_asks self.now actor) }
+        ensures { IfOk result (λ asked. asked ≡ task_asks (texts_view self.now) actor) }
     {
         if self.bodies.task(actor).is_none() {
             return Ok(None);
@@ -54,6 +56,8 @@ impl Texts {
         actor: usize,
         handler: Option<(usize, usize)>,
     ) -> Result<Option<Request>, AllocError>
+        ensures { IfOk result (λ asked. asked ≡ handler_asks (texts_view self.now) actor
+            (option_map (λ p. record { object = p.0; operation = p.1 }) handler)) }
     {
         let Some((object, operation)) = handler else {
             return Ok(None);
@@ -75,7 +79,7 @@ impl Texts {
         line: usize,
         mode: Mode,
     ) -> Result<Option<Request>, AllocError>
-        ensures { IfOk result (λ asked. asked ≡ line_asks self.now catalogue.now actor line mode) }
+        ensures { IfOk result (λ asked. asked ≡ line_asks (texts_view self.now) catalogue.now actor line mode) }
     {
         match mode {
             Mode::Idle => Ok(Some(Request::Fire)),
@@ -91,7 +95,7 @@ impl Texts {
         host: &Host,
         actor: usize,
     ) -> Result<Option<Request>, AllocError>
-        ensures { IfOk result (λ asked. asked ≡ asks self.now host.now actor) }
+        ensures { IfOk result (λ asked. asked ≡ asks (texts_view self.now) host.now actor) }
     {
         let Some(mode) = host.mode(actor) else {
             return Ok(None);

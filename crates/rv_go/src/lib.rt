@@ -3,8 +3,7 @@
 #![tactic(auto)]
 
 mod asking;
-mod brought;
-mod texts;
+pub mod texts;
+mod shapes;
 
-pub use brought::BroughtBodies;
-pub use texts::Texts;
+pub use shapes::without_text;

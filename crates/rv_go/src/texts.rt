@@ -1,15 +1,16 @@
 //! The texts of actors: the bodies of the loaded units, and what actors were answered since their texts began.
 
-ghost use Rattle.std.specs.Prelude.{◌≡◌, ◌∷◌, IfOk, OnOk, reverse};
+ghost use Rattle.std.specs.Prelude.{◌≡◌, [], ◌∷◌, ◌++◌, IfOk, OnOk};
+ghost use Rattle.rv_code.specs.BodyView.{unit_view};
 ghost use Rattle.rv_exec.specs.Asking.{stands};
-ghost use Rattle.rv_go.specs.Texts.{no_texts, with_brought, is_start, is_heard, hears, with_answer, answers_to};
+ghost use Rattle.rv_go.specs.Texts.{texts_view, no_texts, with_bodies, is_started, is_fire, is_heard, hears, with_answer, answers_to};
 
-use crate::brought::BroughtBodies;
-use rv_event::entry::{Answer, Request};
+use rv_code::UnitBodies;
+use rv_event::entry::{Answer, Next, Request, Rule};
 use rv_exec::bodies::Bodies;
 use rv_exec::machine::Machine;
+use rv_value::Scalars;
 use std::alloc::{AllocError, Global};
-use std::marker::Model;
 
 /// An answer that an actor's text goes on by.
 #[derive(Clone, Copy, Drop)]
@@ -25,21 +26,11 @@ pub struct Heard {
 /// The texts of actors: the bodies of the loaded units, and what actors were answered since their texts began.
 #[derive(Drop)]
 pub struct Texts {
-    pub(crate) bodies: Bodies,
-    // The answers, the oldest first.
-    heard: Vec<Heard>,
-    // How many requests a task's own body may make.
-    pub(crate) machine: Machine,
-}
-
-impl Model for Texts {
-    ghost use Rattle.std.specs.Prelude.{reverse};
-    ghost use Rattle.rv_exec.specs.Bodies.{bodies_view};
-    ghost use Rattle.rv_go.specs.Texts.{TextsView};
-
-    ghost Value = { TextsView };
-
-    ghost view = { λ t. record { bodies = bodies_view t.bodies; heard = reverse t.heard.items; budget = t.machine.budget } };
+    pub bodies: Bodies,
+    /// The answers, the oldest first.
+    pub heard: Vec<Heard>,
+    /// Has the requests that a task's own body may make.
+    pub machine: Machine,
 }
 
 // Whether the request stands behind such an answer, and is asked again.
@@ -52,47 +43,67 @@ fn stands(answer: &Answer) -> bool
     }
 }
 
-// Whether a line's fire is answered Started (C.3).
-fn is_start(request: &Request, answer: &Answer) -> bool
-    ensures { result ≡ is_start request.now answer.now }
+// Whether a body has started.
+fn is_started(answer: &Answer) -> bool
+    ensures { result ≡ is_started answer.now }
 {
-    match request {
-        Request::Fire => match answer {
-            Answer::Started(_) => true,
-            _ => false,
-        },
+    match answer {
+        Answer::Started(_) => true,
         _ => false,
     }
 }
 
-// Whether an answer is kept.
+// Whether it is the fire of a line (C.3).
+fn is_fire(request: &Request) -> bool
+    ensures { result ≡ is_fire request.now }
+{
+    match request {
+        Request::Fire => true,
+        _ => false,
+    }
+}
+
+// Whether a text goes on by the answer to a request.
 fn is_heard(goes: bool, request: &Request, answer: &Answer) -> bool
     ensures { result ≡ is_heard goes request.now answer.now }
 {
-    if is_start(request, answer) {
-        return true;
+    if is_fire(request) {
+        return is_started(answer);
     }
     goes && !stands(answer)
+}
+
+// Adds an item.
+fn add<T: Drop>(items: &mut Vec<T>, item: T) -> Result<(), AllocError>
+    ensures { OnOk result (items.new.items ≡ items.old.items ++ item ∷ []) }
+{
+    match items.push(item) {
+        Ok(()) => Ok(()),
+        Err(_) => Err(AllocError),
+    }
 }
 
 // An actor's answers with one more.
 fn add_answer(answers: &mut Vec<Answer>, actor: usize, heard: &Heard) -> Result<(), AllocError>
     ensures { OnOk result (answers.new.items ≡ with_answer actor heard.now answers.old.items) }
 {
+    // The check is told of these types only where they are named.
+    let _scalars: Option<Scalars> = None;
+    let _rule: Option<Rule> = None;
+    let _next: Option<Next> = None;
     if heard.actor != actor {
         return Ok(());
     }
     if heard.starts {
         answers.clear();
     }
-    answers.push(heard.answer)?;
-    Ok(())
+    add(answers, heard.answer)
 }
 
 impl Texts {
     /// No texts, before the first load; a task's own body may make so many requests, 1 .. 1,000,000.
     pub fn new(alloc: Global, budget: u32) -> Texts
-        ensures { result ≡ no_texts budget }
+        ensures { texts_view result ≡ no_texts budget }
     {
         Texts {
             bodies: Bodies::new(alloc),
@@ -102,10 +113,10 @@ impl Texts {
     }
 
     /// Adds the bodies of the next unit that is loaded.
-    pub fn load(&mut self, brought: BroughtBodies) -> Result<(), AllocError>
-        ensures { OnOk result (self.new ≡ with_brought brought self.old) }
+    pub fn load(&mut self, bodies: UnitBodies) -> Result<(), AllocError>
+        ensures { OnOk result (texts_view self.new ≡ with_bodies (unit_view bodies) (texts_view self.old)) }
     {
-        self.bodies.add(brought.into_bodies())
+        self.bodies.add(bodies)
     }
 
     /// Keeps the answer to a request of an actor, where its text goes on by it: `goes` says whether the request was a
@@ -117,19 +128,23 @@ impl Texts {
         request: &Request,
         answer: &Answer,
     ) -> Result<(), AllocError>
-        ensures { OnOk result (self.new ≡ hears self.old actor goes request.now answer.now) }
+        ensures { OnOk result (texts_view self.new ≡ hears (texts_view self.old) actor goes request.now answer.now) }
     {
+        // The check is told of these types only where they are named.
+        let _scalars: Option<Scalars> = None;
+        let _rule: Option<Rule> = None;
+        let _next: Option<Next> = None;
         if !is_heard(goes, request, answer) {
             return Ok(());
         }
-        let starts = is_start(request, answer);
+        let starts = is_fire(request);
         let answer = *answer;
-        self.heard.push(Heard {
+        let heard = Heard {
             actor,
             starts,
             answer,
-        })?;
-        Ok(())
+        };
+        add(&mut self.heard, heard)
     }
 
     // What an actor was answered since its text began, in order.
@@ -138,7 +153,7 @@ impl Texts {
         alloc: Global,
         actor: usize,
     ) -> Result<Vec<Answer>, AllocError>
-        ensures { IfOk result (λ answers. answers.items ≡ answers_to actor self.now.heard) }
+        ensures { IfOk result (λ answers. answers.items ≡ answers_to actor (texts_view self.now).heard) }
     {
         let mut answers = Vec::new(alloc);
         for heard in &self.heard {

@@ -29,7 +29,8 @@ use Rattle.rv_go.specs.Texts.{without_text}
 use Rattle.rv_go.specs.Goes as going
 use Rattle.rv_step.specs.declared.step.Asker.{Asker}
 use Rattle.rv_play.specs.Acts.{Act, Loads, Compiles, Sets, Steps, Goes, Stops}
-use Rattle.rv_play.specs.Stages.{DeedText, Stage}
+use Rattle.rv_play.specs.declared.deed.Deed.{Deed}
+use Rattle.rv_play.specs.Stages.{DeedText, deed_text, Stage}
 
 -- the line of a list that a number counts, from 1; below zero it counts none, as 0 does
 abbrev pub line_number : ℤ → ℕ
@@ -151,8 +152,8 @@ ComesToDeed stage (Goes line asker) found = just (go_deed stage asker) found
 ComesToDeed stage (Stops line what) found = just (Err what) found
 
 -- a call gives what is found, a fault with its line, unless memory ran out
-abbrev pub Comes : ℕ → (Result DeedText What → Type 0) → Result DeedText Failure → Type 0
-Comes line finds (Ok deed) = finds (Ok deed)
+abbrev pub Comes : ℕ → (Result DeedText What → Type 0) → Result Deed Failure → Type 0
+Comes line finds (Ok deed) = finds (Ok (deed_text deed))
 Comes line finds (Err (Refused told)) = (what : What) × finds (Err what) × (told ≡ record { line = line; what = what })
 Comes line finds (Err Memory) = Unit {0}
 Comes line finds (Err (Io error)) = ⊥

@@ -24,7 +24,9 @@ use Rattle.rv_fault.specs.declared.fault.What.TheVariants as Whats
 use Rattle.rv_fault.specs.declared.fault.ScriptFault.{ScriptFault}
 use Rattle.rv_fault.specs.Written.{Known, Ended, Outcome, Puts}
 use Rattle.rv_play.specs.Acts.{Act, acts_from, line_of}
+use Rattle.rv_go.specs.Texts.{texts_view}
 use Rattle.rv_play.specs.declared.player.Limits.{Limits}
+use Rattle.rv_play.specs.declared.player.Player.{Player}
 use Rattle.rv_play.specs.Stages.{DeedText, Stage, start, due_answer, after_deed}
 use Rattle.rv_play.specs.Deeds.{ComesToDeed}
 use Rattle.rv_history.specs.Journal.{journal_text, newest_line}
@@ -140,6 +142,9 @@ outcome_of all script = record {
 pub record Playing : Type 0 where
   pub all : Bool
   pub stage : Stage
+
+abbrev pub playing : Player → Playing
+playing player = record { all = player.all; stage = record { history = player.host; texts = texts_view player.texts } }
 
 -- the line of the newest entry, which this command led to
 abbrev pub command_line : History → Command → Recorded → List ℕ

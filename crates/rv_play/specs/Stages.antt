@@ -1,5 +1,5 @@
 -- Where a script stands, and where an answer leads it (own).
-use Rattle.std.specs.Prelude.{ℕ, List, Bool, if◌then◌else◌, is_some, Option, Some, None}
+use Rattle.std.specs.Prelude.{ℕ, List, Bool, if◌then◌else◌, is_some, string_bytes, Option, Some, None}
 use Rattle.rv_event.specs.Recorded.{recorded}
 use Rattle.rv_event.specs.declared.entry.Answer.{Answer}
 use Rattle.rv_event.specs.declared.entry.Answer.TheVariants.{Misuse}
@@ -9,7 +9,9 @@ use Rattle.rv_history.specs.History.{History}
 use Rattle.rv_history.specs.Legal.{empty}
 use Rattle.rv_history.specs.Steps.{due_command, after_command}
 use Rattle.rv_code.specs.Bodies.{UnitBodies}
-use Rattle.rv_go.specs.Texts.{TextsView, no_texts, with_brought, hears}
+use Rattle.rv_go.specs.Texts.{TextsView, no_texts, with_bodies, hears}
+use Rattle.rv_code.specs.BodyView.{unit_view}
+use Rattle.rv_play.specs.declared.deed.Deed.{Deed}
 use Rattle.rv_play.specs.declared.player.Limits.{Limits}
 
 -- what is asked of the host: by which actor, which command (none where the actor has nothing to ask), and in which words; whether
@@ -20,6 +22,15 @@ pub record DeedText : Type 0 where
   pub words : List ℕ
   pub goes : Bool
   pub bodies : UnitBodies
+
+abbrev pub deed_text : Deed → DeedText
+deed_text deed = record {
+  actor = deed.actor;
+  command = deed.command;
+  words = string_bytes deed.words;
+  goes = deed.goes;
+  bodies = unit_view deed.bodies;
+}
 
 -- where a script stands: the history so far, and the texts of actors
 pub record Stage : Type 0 where
@@ -43,7 +54,7 @@ history_after h (Some command) answer = after_command h command answer
 -- the texts after an answer: a unit that is loaded brings its bodies, and texts go on by answers
 abbrev pub texts_after : TextsView → DeedText → Option Command → Answer → TextsView
 texts_after texts deed (Some (Ask actor request)) answer = hears texts actor deed.goes request answer
-texts_after texts deed (Some (Load shape)) answer = if is_some (recorded answer) then with_brought deed.bodies texts else texts
+texts_after texts deed (Some (Load shape)) answer = if is_some (recorded answer) then with_bodies deed.bodies texts else texts
 texts_after texts deed command answer = texts
 
 -- the stage after an answer to a deed

@@ -6,13 +6,15 @@ ghost use Rattle.rv_shape.specs.Fits.{fault};
 ghost use Rattle.rv_shape.specs.ShapeText.{shape_of};
 ghost use Rattle.rv_script.specs.UnitTexts.{without_returns};
 ghost use Rattle.rv_play.specs.Acts.{Compiles, Goes, Steps, load_act, set_act};
+ghost use Rattle.rv_play.specs.Stages.{deed_text};
+ghost use Rattle.rv_play.specs.Scripted.{playing};
 ghost use Rattle.rv_play.specs.Deeds.{Comes, ComesToDeed, compiles, goes, just, if_fits, requests, asks, appends, replaces};
 
 use crate::deed::Deed;
 use crate::player::Player;
 use rv_access::{Line, ListFault, read_list};
 use rv_fault::{Failure, What, refused};
-use rv_go::BroughtBodies;
+use rv_go::without_text;
 use rv_script::unit_text::{MOST_UNIT_BYTES, unit_text};
 use rv_shape::catalogue::Catalogue;
 use rv_shape::fault::ShapeFault;
@@ -46,7 +48,7 @@ fn load_deed(
     if let Some(fault) = catalogue.shape_fits(&shape) {
         return Err(refused(line, What::Shape(fault)));
     }
-    match BroughtBodies::of_shape(alloc, &shape) {
+    match without_text(alloc, &shape) {
         Ok(bodies) => made(Deed::load(alloc, shape, bodies)),
         Err(_) => Err(Failure::Memory),
     }
@@ -60,9 +62,7 @@ fn text_deed(alloc: Global, catalogue: &Catalogue, line: usize, text: &str) -> R
         return Err(refused(line, What::TooLong));
     }
     match compile(alloc, text, catalogue) {
-        Ok(Unit { shape, bodies }) => {
-            made(Deed::load(alloc, shape, BroughtBodies::of_text(bodies)))
-        }
+        Ok(Unit { shape, bodies }) => made(Deed::load(alloc, shape, bodies)),
         Err(UnitFault::NoMemory) => Err(Failure::Memory),
         Err(fault) => Err(refused(line, What::Unit(fault))),
     }
@@ -70,7 +70,7 @@ fn text_deed(alloc: Global, catalogue: &Catalogue, line: usize, text: &str) -> R
 
 /// What the unit text of a section comes to, which opens at a line.
 pub fn unit_deed(alloc: Global, player: &Player, line: usize, text: &str) -> Result<Deed, Failure>
-    ensures { Comes line (ComesToDeed player.now.stage (Compiles line (without_returns text.now))) result }
+    ensures { Comes line (ComesToDeed (playing player.now).stage (Compiles line (without_returns text.now))) result }
 {
     match unit_text(alloc, text) {
         Ok(text) => text_deed(alloc, player.catalogue(), line, text.as_str()),
@@ -80,7 +80,7 @@ pub fn unit_deed(alloc: Global, player: &Player, line: usize, text: &str) -> Res
 
 /// What the shape of a section comes to, which opens at a line.
 pub fn shape_deed(alloc: Global, player: &Player, line: usize, text: &str) -> Result<Deed, Failure>
-    ensures { Comes line (ComesToDeed player.now.stage (load_act line (shape_of text.now))) result }
+    ensures { Comes line (ComesToDeed (playing player.now).stage (load_act line (shape_of text.now))) result }
 {
     match read_shape(alloc, text) {
         Ok(shape) => load_deed(alloc, player.catalogue(), line, shape),
@@ -91,7 +91,7 @@ pub fn shape_deed(alloc: Global, player: &Player, line: usize, text: &str) -> Re
 
 /// What the list of a section comes to, which opens at a line.
 pub fn list_deed(alloc: Global, player: &Player, line: usize, text: &str) -> Result<Deed, Failure>
-    ensures { Comes line (ComesToDeed player.now.stage (set_act line (list_of text.now))) result }
+    ensures { Comes line (ComesToDeed (playing player.now).stage (set_act line (list_of text.now))) result }
 {
     match read_list(alloc, text) {
         Ok(list) => made(Deed::set(alloc, list)),
@@ -174,7 +174,7 @@ pub fn step_deed(
     asker: &Asker,
     asked: Asked,
 ) -> Result<Deed, Failure>
-    ensures { Comes line (ComesToDeed player.now.stage
+    ensures { Comes line (ComesToDeed (playing player.now).stage
         (Steps line (record { asker = asker.now; asked = asked }))) result }
 {
     let catalogue = player.catalogue();
@@ -187,7 +187,7 @@ pub fn step_deed(
 
 // What a `go` of this actor comes to.
 fn asking_deed(alloc: Global, player: &Player, actor: usize) -> Result<Deed, Failure>
-    ensures ok { IfOk result (λ d. d ≡ goes player.now.stage actor) }
+    ensures ok { IfOk result (λ d. deed_text d ≡ goes (playing player.now).stage actor) }
     ensures err { IfErr result (λ failure. failure ≡ Failure.Memory) }
 {
     match player.asks(actor) {
@@ -198,7 +198,7 @@ fn asking_deed(alloc: Global, player: &Player, actor: usize) -> Result<Deed, Fai
 
 /// What one `go` comes to.
 pub fn go_deed(alloc: Global, player: &Player, line: usize, asker: &Asker) -> Result<Deed, Failure>
-    ensures { Comes line (ComesToDeed player.now.stage (Goes line asker.now)) result }
+    ensures { Comes line (ComesToDeed (playing player.now).stage (Goes line asker.now)) result }
 {
     match actor_of(alloc, player.catalogue(), asker) {
         Ok(Some(actor)) => asking_deed(alloc, player, actor),

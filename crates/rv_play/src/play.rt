@@ -8,7 +8,7 @@ ghost use Rattle.rv_fault.specs.Written.{Writes, WritesScript};
 ghost use Rattle.rv_play.specs.Acts.{Act, Goes, line_of, asked_acts, line_acts, step_acts, section_acts, acts_from};
 ghost use Rattle.rv_play.specs.Deeds.{Comes, ComesToDeed};
 ghost use Rattle.rv_play.specs.Carried.{Carries};
-ghost use Rattle.rv_play.specs.Scripted.{ReadsLimits, outcome_of};
+ghost use Rattle.rv_play.specs.Scripted.{playing, ReadsLimits, outcome_of};
 
 use crate::acts::{go_deed, list_deed, shape_deed, step_deed, unit_deed};
 use crate::deed::Deed;
@@ -29,8 +29,8 @@ fn perform<W: Write>(
     writer: &mut W,
     deed: Result<Deed, Failure>,
 ) -> Result<(), Failure>
-    ensures { (act : Act) → Comes (line_of act) (ComesToDeed player.old.stage act) deed
-        → Carries (W.contents writer.old) (W.contents writer.new) player.old player.new (act ∷ []) result }
+    ensures { (act : Act) → Comes (line_of act) (ComesToDeed (playing player.old).stage act) deed
+        → Carries (W.contents writer.old) (W.contents writer.new) (playing player.old) (playing player.new) (act ∷ []) result }
 {
     match deed {
         Ok(deed) => player.tell(writer, deed),
@@ -47,7 +47,7 @@ fn perform_goes<W: Write>(
     asker: &Asker,
     count: usize,
 ) -> Result<(), Failure>
-    ensures { Carries (W.contents writer.old) (W.contents writer.new) player.old player.new
+    ensures { Carries (W.contents writer.old) (W.contents writer.new) (playing player.old) (playing player.new)
         (replicate count (Goes line asker.now)) result }
 {
     for _ in 0..count {
@@ -69,7 +69,7 @@ fn perform_step<W: Write>(
     asker: &Asker,
     asked: Asked,
 ) -> Result<(), Failure>
-    ensures { Carries (W.contents writer.old) (W.contents writer.new) player.old player.new
+    ensures { Carries (W.contents writer.old) (W.contents writer.new) (playing player.old) (playing player.new)
         (asked_acts line asker.now asked) result }
 {
     match asked {
@@ -89,7 +89,7 @@ fn perform_line<W: Write>(
     line: usize,
     text: &str,
 ) -> Result<(), Failure>
-    ensures { Carries (W.contents writer.old) (W.contents writer.new) player.old player.new
+    ensures { Carries (W.contents writer.old) (W.contents writer.new) (playing player.old) (playing player.new)
         (line_acts line (words text.now)) result }
 {
     if !has_words(text) {
@@ -110,7 +110,7 @@ fn perform_all<W: Write>(
     section: &Section,
 ) -> Result<(), Failure>
     requires { section.now.line + length section.now.text.now ≤ 2 ^ 63 }
-    ensures { Carries (W.contents writer.old) (W.contents writer.new) player.old player.new
+    ensures { Carries (W.contents writer.old) (W.contents writer.new) (playing player.old) (playing player.new)
         (step_acts (section.now.line + 1) (lines section.now.text.now)) result }
 {
     let mut rest = section.text;
@@ -134,7 +134,7 @@ fn carry_out<W: Write>(
     section: &Section,
 ) -> Result<(), Failure>
     requires { section.now.line + length section.now.text.now ≤ 2 ^ 63 }
-    ensures { Carries (W.contents writer.old) (W.contents writer.new) player.old player.new
+    ensures { Carries (W.contents writer.old) (W.contents writer.new) (playing player.old) (playing player.new)
         (section_acts (record {
           line = section.now.line;
           opening = section.now.opening.now;
@@ -171,7 +171,7 @@ fn carry_out_all<W: Write>(
     mut sections: Sections<'_>,
 ) -> Result<(), Failure>
     requires { AreNumbered sections }
-    ensures { Carries (W.contents writer.old) (W.contents writer.new) player.old player.new
+    ensures { Carries (W.contents writer.old) (W.contents writer.new) (playing player.old) (playing player.new)
         (acts_from sections.entry) result }
 {
     'each: while let Some(section) = sections.next_section() {
