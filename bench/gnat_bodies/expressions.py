@@ -121,6 +121,9 @@ class Expressions:
             return SUM, f"{self.draw.choice('--+')} {self._held(self._whole(scope, depth - 1), PRODUCT)}"
         symbol = self.draw.choice(("*", "/", "mod", "rem"))
         left, right = self._operands(scope, depth - 1, 0.8 if case >= 0.75 and symbol != "*" else 0.35)
+        if symbol in ("mod", "rem") and right[1] in ("1", "(-1)"):
+            # GNAT knows that this is 0, and refuses it as a divisor.
+            right = PRIMARY, "2"
         if case < 0.75:
             return SUM, f"{self._held(left, SUM)} {self.draw.choice('+-')} {self._held(right, PRODUCT)}"
         return PRODUCT, f"{self._held(left, PRODUCT)} {symbol} {self._held(right, FACTOR)}"
