@@ -1,15 +1,33 @@
 -- The bodies of all units loaded (own): operations and tasks by the catalogue's numbers.
-use Rattle.std.specs.Prelude.{ℕ, ◌-◌, nat_lt, if◌then◌else◌, List, [], ◌++◌, Option, Some, None, slice_get, map}
+use Rattle.std.specs.Prelude.{ℕ, ◌-◌, nat_lt, if◌then◌else◌, List, [], ◌∷◌, ◌++◌, Option, Some, None, slice_get, map, replicate}
+use Rattle.std.specs.Arc.{arc_value}
 use Rattle.rv_code.specs.Bodies.{Body, UnitBodies}
-use Rattle.rv_code.specs.BodyView.{object_view, maybe_body_view}
+use Rattle.rv_code.specs.BodyView.{unit_view}
 use Rattle.rv_exec.specs.declared.bodies.Bodies.{Bodies}
-
--- the bodies that a value of the code stands for: those of one unit that has all their objects and tasks
-abbrev pub bodies_view : Bodies → UnitBodies
-bodies_view bodies = record { objects = map object_view bodies.objects.items; tasks = map maybe_body_view bodies.tasks.items }
+use Rattle.rv_exec.specs.declared.bodies.SharedUnit.{SharedUnit}
 
 abbrev pub no_bodies : UnitBodies
 no_bodies = record { objects = []; tasks = [] }
+
+-- the bodies of units as those of one unit that has all their objects and tasks, in order
+abbrev pub all_of : List UnitBodies → UnitBodies
+all_of [] = no_bodies
+all_of (u ∷ us) = record { objects = u.objects ++ (all_of us).objects; tasks = u.tasks ++ (all_of us).tasks }
+
+-- the bodies of a unit that is shared
+abbrev pub shared_view : SharedUnit → UnitBodies
+shared_view shared = unit_view (arc_value shared.unit)
+
+-- unit by unit, and as those of one unit: the bodies that a value of the code stands for
+abbrev pub units_view : Bodies → List UnitBodies
+units_view bodies = map shared_view bodies.units.items
+
+abbrev pub bodies_view : Bodies → UnitBodies
+bodies_view bodies = all_of (units_view bodies)
+
+-- a unit without a text: of its objects and tasks, so many, none has a body
+abbrev pub unit_without_bodies : (objects tasks : ℕ) → UnitBodies
+unit_without_bodies objects tasks = record { objects = replicate objects []; tasks = replicate tasks None }
 
 -- the bodies with those of one more unit
 abbrev pub with_unit : UnitBodies → UnitBodies → UnitBodies
