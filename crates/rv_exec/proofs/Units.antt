@@ -2,7 +2,7 @@
 use Rattle.std.proofs.Common.{◌≡◌, ℕ, zero, suc, ◌-◌, ◌≤◌, List, [], ◌∷◌, ◌++◌, length, map, Some, refl, sym, ap, ◌∙◌, arith, append_assoc, append-nil}
 use Rattle.std.specs.Prelude.{slice_get}
 use Rattle.rv_code.specs.Bodies.{UnitBodies}
-use Rattle.rv_exec.specs.Bodies.{no_bodies, all_of, with_unit, shared_view}
+use Rattle.rv_exec.specs.Bodies.{all_of, with_unit, shared_view}
 use Rattle.rv_exec.specs.declared.bodies.SharedUnit.{SharedUnit}
 
 -- one unit more

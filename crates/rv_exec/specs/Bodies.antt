@@ -3,6 +3,7 @@ use Rattle.std.specs.Prelude.{ℕ, ◌-◌, nat_lt, if◌then◌else◌, List, [
 use Rattle.std.specs.Arc.{arc_value}
 use Rattle.rv_code.specs.Bodies.{Body, UnitBodies}
 use Rattle.rv_code.specs.BodyView.{unit_view}
+use Rattle.rv_code.specs.declared.body.UnitBodies as Held
 use Rattle.rv_exec.specs.declared.bodies.Bodies.{Bodies}
 use Rattle.rv_exec.specs.declared.bodies.SharedUnit.{SharedUnit}
 
@@ -15,15 +16,18 @@ all_of [] = no_bodies
 all_of (u ∷ us) = record { objects = u.objects ++ (all_of us).objects; tasks = u.tasks ++ (all_of us).tasks }
 
 -- the bodies of a unit that is shared
-abbrev pub shared_view : SharedUnit → UnitBodies
-shared_view shared = unit_view (arc_value shared.unit)
+abbrev pub held : SharedUnit → Held.UnitBodies
+held shared = arc_value shared.unit
 
--- unit by unit, and as those of one unit: the bodies that a value of the code stands for
-abbrev pub units_view : Bodies → List UnitBodies
-units_view bodies = map shared_view bodies.units.items
+abbrev pub shared_view : SharedUnit → UnitBodies
+shared_view shared = unit_view (held shared)
+
+-- the bodies of each unit, and the bodies that a value of the code stands for
+abbrev pub units_of : Bodies → List Held.UnitBodies
+units_of bodies = map held bodies.units.items
 
 abbrev pub bodies_view : Bodies → UnitBodies
-bodies_view bodies = all_of (units_view bodies)
+bodies_view bodies = all_of (map shared_view bodies.units.items)
 
 -- a unit without a text: of its objects and tasks, so many, none has a body
 abbrev pub unit_without_bodies : (objects tasks : ℕ) → UnitBodies

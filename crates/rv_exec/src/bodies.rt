@@ -2,7 +2,7 @@
 
 ghost use Rattle.std.specs.Prelude.{◌≡◌, ◌++◌, ◌∷◌, [], IfOk, IfSome, IsNone, OnOk, OnErr, Some, None, slice_get, map, replicate};
 ghost use Rattle.rv_code.specs.BodyView.{body_view, object_view, unit_view, maybe_body_view};
-ghost use Rattle.rv_exec.specs.Bodies.{operation_of, task_of, bodies_view, no_bodies, numbered, with_unit, all_of, shared_view, units_view, unit_without_bodies};
+ghost use Rattle.rv_exec.specs.Bodies.{operation_of, task_of, bodies_view, no_bodies, numbered, with_unit, all_of, shared_view, units_of, held, unit_without_bodies};
 
 use rv_code::{Body, ObjectBodies, UnitBodies};
 use std::alloc::{AllocError, Global};
@@ -20,7 +20,7 @@ pub struct SharedUnit {
 impl SharedUnit {
     /// The bodies of a unit, as a text gives them. Err where memory was refused.
     pub fn new(alloc: Global, unit: UnitBodies) -> Result<SharedUnit, AllocError>
-        ensures { IfOk result (λ u. shared_view u ≡ unit_view unit) }
+        ensures { IfOk result (λ u. held u ≡ unit) }
     {
         match Arc::new(alloc, unit) {
             Ok(unit) => Ok(SharedUnit { unit }),
@@ -43,7 +43,7 @@ impl SharedUnit {
 
     /// One more holder of the bodies. Err where there are too many.
     pub fn share(&self) -> Result<SharedUnit, AllocError>
-        ensures { IfOk result (λ u. shared_view u ≡ shared_view self.now) }
+        ensures { IfOk result (λ u. held u ≡ held self.now) }
     {
         match Arc::try_clone(&self.unit) {
             Ok(unit) => Ok(SharedUnit { unit }),
@@ -88,7 +88,7 @@ impl Bodies {
     /// No bodies: nothing is loaded.
     pub fn new(alloc: Global) -> Bodies
         ensures view { bodies_view result ≡ no_bodies }
-        ensures units { units_view result ≡ [] }
+        ensures units { units_of result ≡ [] }
     {
         Bodies {
             alloc,
@@ -108,7 +108,7 @@ impl Bodies {
 
     /// These bodies, and those of the next unit that is loaded. Err where memory was refused.
     pub fn with(&self, unit: SharedUnit) -> Result<Bodies, AllocError>
-        ensures { IfOk result (λ b. units_view b ≡ units_view self.now ++ shared_view unit ∷ []) }
+        ensures { IfOk result (λ b. units_of b ≡ units_of self.now ++ held unit ∷ []) }
     {
         let mut units = Vec::new(self.alloc);
         for held in &self.units {
