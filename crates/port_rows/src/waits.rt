@@ -12,7 +12,9 @@ use std::thread::Threads;
 // Whether the first job reached this in its one call.
 fn first_reached(ended: &[Option<Ended>], wanted: Reached) -> bool {
     match ended.first() {
-        Some(Some(first)) => !first.is_refused && first.reached.as_slice() == [wanted],
+        Some(Some(first)) => {
+            !first.is_refused && first.reached.len() == 1 && first.reached[0] == wanted
+        }
         _ => false,
     }
 }
