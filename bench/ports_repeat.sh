@@ -1,18 +1,18 @@
 #!/usr/bin/env bash
-# Plays short games between ports in threads again and again while all processors are busy, and says how many ended within a
-# minute each: four ports that call one function, and two that wake each other by suspension objects. How often may be given
-# (200). It proves nothing; a game that stalls is one whose port was not woken. It needs rt, nproc, seq and timeout.
+# Plays the games of crates/port_rows, ports in threads, again and again while all processors are busy, and says how many rounds
+# ended within a minute each with each game as due. How often may be given (200). It proves nothing; a round that stalls has
+# a port that was not woken. The first time it takes some minutes to prove and build. It needs rt, nproc, seq, cmp and timeout.
 set -eu
 
 missing() {
     echo "bench/ports_repeat.sh: $1 is missing" >&2
     exit 127
 }
-for tool in rt nproc seq timeout; do
+for tool in rt nproc seq cmp timeout; do
     command -v "$tool" >/dev/null || missing "$tool"
 done
 
-cd "$(dirname "$(readlink -f "$0")")/../crates/port_bench"
+cd "$(dirname "$(readlink -f "$0")")/../crates/port_rows"
 log=$(mktemp)
 busy=()
 stop() {
@@ -22,7 +22,7 @@ stop() {
     done
 }
 trap stop EXIT
-if ! rt run -- 0 >"$log" 2>&1 </dev/null; then
+if ! rt run >"$log" 2>&1 </dev/null; then
     cat "$log" >&2
     exit 1
 fi
@@ -33,7 +33,7 @@ done
 wanted=${1:-200}
 ended=0
 for _ in $(seq "$wanted"); do
-    if timeout 60 out/port_bench 2 >/dev/null 2>&1; then
+    if timeout 60 out/port_rows >"$log" 2>&1 && cmp -s "$log" stdout; then
         ended=$((ended + 1))
     fi
 done

@@ -29,7 +29,7 @@ pub fn control<R: Wait>(rt: &R, alloc: Global, capacity: u64) -> Option<Control>
     let host = Host::new(alloc, capacity as usize).ok()?;
     let mut control = Control::make(alloc, host).ok()?;
     for text in [PLANT, NAV] {
-        let _ = control.load(rt, read_shape(alloc, text).ok()?);
+        let _ = control.load_shape(rt, read_shape(alloc, text).ok()?);
     }
     let _ = control.set_list(rt, read_list(alloc, "allow * * *\n").ok()?);
     Some(control)

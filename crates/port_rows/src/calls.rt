@@ -21,7 +21,8 @@ pub fn nested<R: Wait>(rt: &R, alloc: Global) -> Option<bool> {
     let got = port.call(rt, 1, 1, Args::new());
     let well = poked == Reached::Returned(Args::new())
         && got == Reached::Returned(Args::from_slice(&[3]));
-    Some(well && !port.finish(rt).is_refused())
+    let finished = port.finish(rt);
+    Some(well && !finished.is_refused())
 }
 
 /// The body of a unit that was loaded as a shape alone raises Program_Error.
@@ -33,7 +34,8 @@ pub fn shape_alone<R: Wait>(rt: &R, alloc: Global) -> Option<bool> {
     }
     let mut port = control.port(11).ok()?;
     let shut = port.call(rt, 2, 1, Args::new());
-    Some(shut == Reached::Raised(Exception::ProgramError) && !port.finish(rt).is_refused())
+    let finished = port.finish(rt);
+    Some(shut == Reached::Raised(Exception::ProgramError) && !finished.is_refused())
 }
 
 /// A line fires: its handler, of a unit without bodies, raises Program_Error.
@@ -44,7 +46,8 @@ pub fn fired_line<R: Wait>(rt: &R, alloc: Global) -> Option<bool> {
     }
     let mut line = control.port(5).ok()?;
     let fired = line.fire(rt) == Reached::Raised(Exception::ProgramError);
-    Some(fired && line.finish(rt).actor() == 5)
+    let finished = line.finish(rt);
+    Some(fired && finished.actor() == 5)
 }
 
 /// Why no port is given to these actors, of whom the first has one.
@@ -64,7 +67,8 @@ pub fn halted_host<R: Wait>(rt: &R, alloc: Global) -> Option<bool> {
     let mut port = control.port(11).ok()?;
     let halted = is_accepted(control.halt(rt));
     let stopped = port.call(rt, 1, 1, Args::new()) == Reached::Stopped;
-    Some(halted && stopped && port.fire(rt) == Reached::Misuse)
+    let misused = port.fire(rt) == Reached::Misuse;
+    Some(halted && stopped && misused)
 }
 
 // So many ticks of the operator, the first of which is misuse.
@@ -95,5 +99,6 @@ pub fn as_the_host<R: Wait>(rt: &R, alloc: Global) -> Option<bool> {
     let mut answers = Answers::new(alloc);
     let commands = ticks(alloc, 1000)?;
     host.run(&commands, &mut answers).ok()?;
-    Some(answers.len() == 1000 && is_answered(rt, &mut control, answers.as_slice()))
+    let same = is_answered(rt, &mut control, answers.as_slice());
+    Some(same && answers.len() == 1000)
 }

@@ -38,7 +38,9 @@ fn game<R: Threads + Wait + Sync>(
     };
     jobs.push(second).ok()?;
     let ended = run_all(rt, alloc, jobs)?;
-    Some(all_reached(&ended, wanted) && late.load(Ordering::SeqCst) == 0)
+    let well = all_reached(&ended, &wanted);
+    let is_late = late.load(Ordering::SeqCst) != 0;
+    Some(well && !is_late)
 }
 
 /// The first reader's body is held open until the second reader was answered.
@@ -47,7 +49,13 @@ pub fn two_readers<R: Threads + Wait + Sync>(rt: &R, alloc: Global) -> Option<bo
         number: 1,
         args: Args::new(),
     };
-    game(rt, alloc, get, false, Reached::Returned(Args::from_slice(&[0])))
+    game(
+        rt,
+        alloc,
+        get,
+        false,
+        Reached::Returned(Args::from_slice(&[0])),
+    )
 }
 
 /// The second caller of a procedure is Busy until the first body ends, and is woken then.
@@ -92,7 +100,8 @@ pub fn four_ports<R: Threads + Wait + Sync>(rt: &R, alloc: Global) -> Option<boo
     };
     let mut jobs = Vec::new(alloc);
     for actor in 11..15u64 {
-        jobs.push(Job::Calls(control.port(actor).ok()?, next, 200)).ok()?;
+        jobs.push(Job::Calls(control.port(actor).ok()?, next, 200))
+            .ok()?;
     }
     let ended = run_all(rt, alloc, jobs)?;
     are_told(rt, alloc, &mut control, &ended, 200)

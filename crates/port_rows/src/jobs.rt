@@ -176,21 +176,24 @@ pub fn run_all<R: Threads + Wait + Sync>(
 }
 
 /// Whether each job that calls reached just this, with no bodies refused.
-pub fn all_reached(ended: &[Option<Ended>], wanted: Reached) -> bool {
+pub fn all_reached(ended: &[Option<Ended>], wanted: &Reached) -> bool {
     for one in ended {
         let Some(one) = one else {
             return false;
         };
-        if one.is_refused || !is_all(&one.reached, wanted) {
+        if one.is_refused {
+            return false;
+        }
+        if !is_all(&one.reached, wanted) {
             return false;
         }
     }
     true
 }
 
-fn is_all(reached: &[Reached], wanted: Reached) -> bool {
+fn is_all(reached: &[Reached], wanted: &Reached) -> bool {
     for one in reached {
-        if *one != wanted {
+        if one != wanted {
             return false;
         }
     }

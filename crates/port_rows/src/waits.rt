@@ -10,10 +10,10 @@ use std::sync::Wait;
 use std::thread::Threads;
 
 // Whether the first job reached this in its one call.
-fn first_reached(ended: &[Option<Ended>], wanted: Reached) -> bool {
+fn first_reached(ended: &[Option<Ended>], wanted: &Reached) -> bool {
     match ended.first() {
         Some(Some(first)) => {
-            !first.is_refused && first.reached.len() == 1 && first.reached[0] == wanted
+            !first.is_refused && first.reached.len() == 1 && first.reached[0] == *wanted
         }
         _ => false,
     }
@@ -34,7 +34,7 @@ pub fn queued<R: Threads + Wait + Sync>(rt: &R, alloc: Global) -> Option<bool> {
     jobs.push(Job::Calls(control.port(11).ok()?, wait, 1)).ok()?;
     jobs.push(Job::Calls(control.port(12).ok()?, add, 2)).ok()?;
     let ended = run_all(rt, alloc, jobs)?;
-    Some(first_reached(&ended, Reached::Returned(Args::from_slice(&[8]))))
+    Some(first_reached(&ended, &Reached::Returned(Args::from_slice(&[8]))))
 }
 
 // A host with a suspension object.
@@ -53,7 +53,7 @@ pub fn suspended<R: Threads + Wait + Sync>(rt: &R, alloc: Global) -> Option<bool
     jobs.push(Job::Suspends(control.port(11).ok()?)).ok()?;
     jobs.push(Job::Sets(control.port(12).ok()?)).ok()?;
     let ended = run_all(rt, alloc, jobs)?;
-    Some(first_reached(&ended, Reached::Returned(Args::new())))
+    Some(first_reached(&ended, &Reached::Returned(Args::new())))
 }
 
 /// A task that waits for a time goes on once the clock is there.
@@ -63,5 +63,5 @@ pub fn delayed<R: Threads + Wait + Sync>(rt: &R, alloc: Global) -> Option<bool> 
     jobs.push(Job::Delays(control.port(11).ok()?, 5)).ok()?;
     jobs.push(Job::Ticks(control, 10)).ok()?;
     let ended = run_all(rt, alloc, jobs)?;
-    Some(first_reached(&ended, Reached::Returned(Args::new())))
+    Some(first_reached(&ended, &Reached::Returned(Args::new())))
 }
