@@ -1,4 +1,5 @@
 pub mod Lists
+pub mod Units
 pub mod Runs
 pub mod Forms
 pub mod ValueForms

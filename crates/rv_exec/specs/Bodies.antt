@@ -1,15 +1,37 @@
 -- The bodies of all units loaded (own): operations and tasks by the catalogue's numbers.
-use Rattle.std.specs.Prelude.{ℕ, ◌-◌, nat_lt, if◌then◌else◌, List, [], ◌++◌, Option, Some, None, slice_get, map}
+use Rattle.std.specs.Prelude.{ℕ, ◌-◌, nat_lt, if◌then◌else◌, List, [], ◌∷◌, ◌++◌, Option, Some, None, slice_get, map, replicate}
+use Rattle.std.specs.Arc.{arc_value}
 use Rattle.rv_code.specs.Bodies.{Body, UnitBodies}
-use Rattle.rv_code.specs.BodyView.{object_view, maybe_body_view}
+use Rattle.rv_code.specs.BodyView.{unit_view}
+use Rattle.rv_code.specs.declared.body.UnitBodies as Held
 use Rattle.rv_exec.specs.declared.bodies.Bodies.{Bodies}
-
--- the bodies that a value of the code stands for: those of one unit that has all their objects and tasks
-abbrev pub bodies_view : Bodies → UnitBodies
-bodies_view bodies = record { objects = map object_view bodies.objects.items; tasks = map maybe_body_view bodies.tasks.items }
+use Rattle.rv_exec.specs.declared.bodies.SharedUnit.{SharedUnit}
 
 abbrev pub no_bodies : UnitBodies
 no_bodies = record { objects = []; tasks = [] }
+
+-- the bodies of units as those of one unit that has all their objects and tasks, in order
+abbrev pub all_of : List UnitBodies → UnitBodies
+all_of [] = no_bodies
+all_of (u ∷ us) = record { objects = u.objects ++ (all_of us).objects; tasks = u.tasks ++ (all_of us).tasks }
+
+-- the bodies of a unit that is shared
+abbrev pub held : SharedUnit → Held.UnitBodies
+held shared = arc_value shared.unit
+
+abbrev pub shared_view : SharedUnit → UnitBodies
+shared_view shared = unit_view (held shared)
+
+-- the bodies of each unit, and the bodies that a value of the code stands for
+abbrev pub units_of : Bodies → List Held.UnitBodies
+units_of bodies = map held bodies.units.items
+
+abbrev pub bodies_view : Bodies → UnitBodies
+bodies_view bodies = all_of (map shared_view bodies.units.items)
+
+-- a unit without a text: of its objects and tasks, so many, none has a body
+abbrev pub unit_without_bodies : (objects tasks : ℕ) → UnitBodies
+unit_without_bodies objects tasks = record { objects = replicate objects []; tasks = replicate tasks None }
 
 -- the bodies with those of one more unit
 abbrev pub with_unit : UnitBodies → UnitBodies → UnitBodies

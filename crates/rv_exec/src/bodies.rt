@@ -1,31 +1,98 @@
 //! The bodies of all units loaded.
 
-ghost use Rattle.std.specs.Prelude.{◌≡◌, ◌++◌, IfSome, IsNone, OnOk, OnErr, Some, None};
-ghost use Rattle.rv_code.specs.BodyView.{body_view, object_view, unit_view};
-ghost use Rattle.rv_exec.specs.Bodies.{operation_of, task_of, bodies_view, no_bodies, numbered, with_unit};
+ghost use Rattle.std.specs.Prelude.{◌≡◌, ◌++◌, ◌∷◌, [], IfOk, IfSome, IsNone, OnOk, OnErr, Some, None, slice_get, map, replicate};
+ghost use Rattle.rv_code.specs.BodyView.{body_view, object_view, unit_view, maybe_body_view};
+ghost use Rattle.rv_exec.specs.Bodies.{operation_of, task_of, bodies_view, no_bodies, numbered, with_unit, all_of, shared_view, units_of, held, unit_without_bodies};
 
 use rv_code::{Body, ObjectBodies, UnitBodies};
 use std::alloc::{AllocError, Global};
+use std::sync::Arc;
 
 /// The number of the first actor that is a task; the lower ones are the operator and the lines.
 const FIRST_TASK: usize = 11;
+
+/// The bodies of one unit, which any number of `Bodies` may hold at a time.
+#[derive(Drop)]
+pub struct SharedUnit {
+    unit: Arc<UnitBodies, Global>,
+}
+
+impl SharedUnit {
+    /// The bodies of a unit, as a text gives them. Err where memory was refused.
+    pub fn new(alloc: Global, unit: UnitBodies) -> Result<SharedUnit, AllocError>
+        ensures { IfOk result (λ u. held u ≡ unit) }
+    {
+        match Arc::new(alloc, unit) {
+            Ok(unit) => Ok(SharedUnit { unit }),
+            Err(_) => Err(AllocError),
+        }
+    }
+
+    /// The bodies of a unit without a text: of so many objects and tasks none has a body. Err where memory was refused.
+    pub fn without_bodies(
+        alloc: Global,
+        objects: usize,
+        tasks: usize,
+    ) -> Result<SharedUnit, AllocError>
+        ensures { IfOk result (λ u. shared_view u ≡ unit_without_bodies objects tasks) }
+    {
+        let objects = no_operations(alloc, objects)?;
+        let tasks = no_tasks(alloc, tasks)?;
+        SharedUnit::new(alloc, UnitBodies { objects, tasks })
+    }
+
+    /// One more holder of the bodies. Err where there are too many.
+    pub fn share(&self) -> Result<SharedUnit, AllocError>
+        ensures { IfOk result (λ u. held u ≡ held self.now) }
+    {
+        match Arc::try_clone(&self.unit) {
+            Ok(unit) => Ok(SharedUnit { unit }),
+            Err(_) => Err(AllocError),
+        }
+    }
+}
+
+// So many objects without operations.
+fn no_operations(alloc: Global, count: usize) -> Result<Vec<ObjectBodies>, AllocError>
+    ensures { IfOk result (λ v. map object_view v.items ≡ replicate count []) }
+{
+    let mut objects = Vec::new(alloc);
+    for _ in 0..count {
+        objects.push(ObjectBodies {
+            operations: Vec::new(alloc),
+        })?;
+    }
+    Ok(objects)
+}
+
+// So many tasks without bodies.
+fn no_tasks(alloc: Global, count: usize) -> Result<Vec<Option<Body>>, AllocError>
+    ensures { IfOk result (λ v. map maybe_body_view v.items ≡ replicate count None) }
+{
+    let mut tasks = Vec::new(alloc);
+    for _ in 0..count {
+        tasks.push(None)?;
+    }
+    Ok(tasks)
+}
 
 /// The bodies of the units in the order of their loads, so that objects and tasks have the numbers that the catalogue
 /// gives them.
 #[derive(Drop)]
 pub struct Bodies {
-    pub objects: Vec<ObjectBodies>,
-    pub tasks: Vec<Option<Body>>,
+    alloc: Global,
+    units: Vec<SharedUnit>,
 }
 
 impl Bodies {
     /// No bodies: nothing is loaded.
     pub fn new(alloc: Global) -> Bodies
-        ensures { bodies_view result ≡ no_bodies }
+        ensures view { bodies_view result ≡ no_bodies }
+        ensures units { units_of result ≡ [] }
     {
         Bodies {
-            objects: Vec::new(alloc),
-            tasks: Vec::new(alloc),
+            alloc,
+            units: Vec::new(alloc),
         }
     }
 
@@ -34,19 +101,24 @@ impl Bodies {
         ensures ok { OnOk result (bodies_view self.new ≡ with_unit (unit_view unit) (bodies_view self.old)) }
         ensures err { OnErr result (bodies_view self.new ≡ bodies_view self.old) }
     {
-        let UnitBodies {
-            mut objects,
-            mut tasks,
-        } = unit;
-        let before = self.objects.len();
-        self.objects.append(&mut objects)?;
-        match self.tasks.append(&mut tasks) {
-            Ok(()) => Ok(()),
-            Err(refused) => {
-                self.objects.truncate(before);
-                Err(refused)
-            }
+        let unit = SharedUnit::new(self.alloc, unit)?;
+        self.units.push(unit)?;
+        Ok(())
+    }
+
+    /// These bodies, and those of the next unit that is loaded. Err where memory was refused.
+    pub fn with(&self, unit: SharedUnit) -> Result<Bodies, AllocError>
+        ensures { IfOk result (λ b. units_of b ≡ units_of self.now ++ held unit ∷ []) }
+    {
+        let mut units = Vec::new(self.alloc);
+        for held in &self.units {
+            units.push(held.share()?)?;
         }
+        units.push(unit)?;
+        Ok(Bodies {
+            alloc: self.alloc,
+            units,
+        })
     }
 
     // The bodies of an object's operations.
@@ -57,7 +129,7 @@ impl Bodies {
         if number < 1 {
             return None;
         }
-        self.objects.get(number - 1)
+        object_among(self.units.as_slice(), number - 1)
     }
 
     /// The body of an operation, by the numbers of its object and of the operation, or `None` where it has none.
@@ -79,11 +151,39 @@ impl Bodies {
         if actor < FIRST_TASK {
             return None;
         }
-        match self.tasks.get(actor - FIRST_TASK) {
+        match task_among(self.units.as_slice(), actor - FIRST_TASK) {
             Some(body) => body.as_ref(),
             None => None,
         }
     }
+}
+
+// The object at an index, among those of all units.
+#[tactic(auto, using(crate::proofs::Units::front, crate::proofs::Units::behind))]
+fn object_among(units: &[SharedUnit], index: usize) -> Option<&ObjectBodies>
+    ensures found { IfSome result (λ object. slice_get (all_of (map shared_view units.now)).objects index ≡ Some (object_view object.now)) }
+    ensures none { IsNone result → slice_get (all_of (map shared_view units.now)).objects index ≡ None }
+{
+    let (first, rest) = units.split_first()?;
+    let objects = &first.unit.objects;
+    if index < objects.len() {
+        return objects.get(index);
+    }
+    object_among(rest, index - objects.len())
+}
+
+// The task at an index, among those of all units.
+#[tactic(auto, using(crate::proofs::Units::front, crate::proofs::Units::behind))]
+fn task_among(units: &[SharedUnit], index: usize) -> Option<&Option<Body>>
+    ensures found { IfSome result (λ task. slice_get (all_of (map shared_view units.now)).tasks index ≡ Some (maybe_body_view task.now)) }
+    ensures none { IsNone result → slice_get (all_of (map shared_view units.now)).tasks index ≡ None }
+{
+    let (first, rest) = units.split_first()?;
+    let tasks = &first.unit.tasks;
+    if index < tasks.len() {
+        return tasks.get(index);
+    }
+    task_among(rest, index - tasks.len())
 }
 
 fn operation_at(object: &ObjectBodies, operation: usize) -> Option<&Body>

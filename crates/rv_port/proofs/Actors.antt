@@ -21,7 +21,7 @@ use Rattle.rv_port.specs.declared.event.Event.TheVariants.{Asks, Loads, Lists}
 pub shapes-append : (xs ys : List Event) → shapes_of (xs ++ ys) ≡ shapes_of ys ++ shapes_of xs
 shapes-append [] ys = sym (append-nil (shapes_of ys))
 shapes-append (Asks a q w ∷ xs) ys = shapes-append xs ys
-shapes-append (Loads s ∷ xs) ys = ap (λ (z : List Shape). z ++ s ∷ []) (shapes-append xs ys) ∙ append_assoc (shapes_of ys) (shapes_of xs) (s ∷ [])
+shapes-append (Loads s u ∷ xs) ys = ap (λ (z : List Shape). z ++ s ∷ []) (shapes-append xs ys) ∙ append_assoc (shapes_of ys) (shapes_of xs) (s ∷ [])
 shapes-append (Lists l ∷ xs) ys = shapes-append xs ys
 
 -- the catalogue of a longer history has that of a shorter one in front

@@ -12,9 +12,11 @@ use Rattle.rv_turn.specs.Passes.{Acted}
 use Rattle.rv_port.specs.Events.{by, history_at, catalogue_of}
 use Rattle.rv_port.specs.Acting.{entered, grown, Does, begun_by}
 use Rattle.rv_port.specs.Traces.{Passing, capacity_in, told, IsTold, asks_on, noted, noted_if, Went, Asked, Replied}
+use Rattle.rv_exec.specs.Asking.{stands}
 use Rattle.rv_turn.specs.Prefixes.{starts_self, starts_both}
 use Rattle.rv_port.specs.Composing.{went_both}
 use Rattle.rv_port.specs.declared.event.Begun.{Begun}
+use Rattle.rv_port.specs.declared.event.Lent.{Lent}
 use Rattle.rv_port.specs.declared.event.Event.{Event}
 use Rattle.rv_port.specs.declared.event.Event.TheVariants.{Asks, Lists}
 use Rattle.rv_port.specs.declared.event.Limits.{Limits}
@@ -152,6 +154,25 @@ is_told Answers.Unattached e = tt
 is_told Answers.BadLine e = tt
 is_told Answers.OutOfMemory e = tt
 
+-- what a body is told doesn't leave its request standing
+pub told_stands : (r : Answer) → IsTold r → stands r ≡ false
+told_stands (Answers.Started s) t = refl
+told_stands Answers.Queued t = refl
+told_stands (Answers.Refused rule line version) t = refl
+told_stands (Answers.Done n) t = refl
+told_stands Answers.Suspended t = refl
+told_stands Answers.Delayed t = refl
+told_stands (Answers.Woken s) t = refl
+told_stands (Answers.Accepted n) t = refl
+told_stands Answers.Misuse t = absurd t
+told_stands Answers.Halted t = refl
+told_stands Answers.Full t = refl
+told_stands Answers.Busy t = absurd t
+told_stands Answers.Waiting t = absurd t
+told_stands Answers.Unattached t = refl
+told_stands Answers.BadLine t = refl
+told_stands Answers.OutOfMemory t = refl
+
 pub not_kept : (r : Answer) → asks_on r ≡ true → recorded r ≡ None
 not_kept Answers.Busy e = refl
 not_kept Answers.Waiting e = refl
@@ -176,24 +197,26 @@ worn_told v w q p none = record { later = p.later; own = p.own; acts = p.acts; e
 
 -- a step's reply
 abbrev pub IsReplied : Passing → Request → Reply → Passing → Type 0
-IsReplied v q (Gives.Answered r b) w = Replied v q r b w
+IsReplied v q (Gives.Answered r b lent) w = Replied v q r b lent w
 IsReplied v q (Gives.Read p) w = ⊥
 IsReplied v q Gives.Unread w = ⊥
 
 -- one act by a step
 pub replied_step : (v w : Passing) (q : Request) (reply : Reply) → Acted by Does v (Wants.Step q) reply w → IsReplied v q reply w
 unfolding asked_act
-replied_step v w q (Gives.Answered r b) a = record {
+replied_step v w q (Gives.Answered r b lent) a = record {
   asked = asked_act v w q r a.at a.about a.about_is a.later a.owned a.answer.0 a.answer.1.0.0 a.answer.1.0.1 a.entry a.owns a.some_left a.same;
   begun_is = a.answer.1.1;
+  lent_is = a.answer.1.2;
 }
 replied_step v w q (Gives.Read p) a = absurd a.answer.1
 replied_step v w q Gives.Unread a = absurd a.answer.1
 
 -- after asks that are left out
-pub replied_after : (v u w : Passing) (q : Request) (r : Answer) (b : Begun) → Went v [] u → Replied u q r b w → Replied v q r b w
+pub replied_after : (v u w : Passing) (q : Request) (r : Answer) (b : Begun) (lent : Option Lent) → Went v [] u → Replied u q r b lent w → Replied v q r b lent w
 unfolding asked_after
-replied_after v u w q r b p x = record {
+replied_after v u w q r b lent p x = record {
   asked = asked_after v u w q r p x.asked;
+  lent_is = x.lent_is;
   begun_is = x.begun_is ∙ ap (λ (n : ℕ). begun_by (catalogue_of x.asked.at) n q r) (ap (λ (k : Passing). k.actor) p.same);
 }

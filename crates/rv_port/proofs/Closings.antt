@@ -1,6 +1,7 @@
 -- Lists of ports that are done.
 use Rattle.std.proofs.Common.{◌≡◌, false, List, [], ◌∷◌, ◌++◌, reverse, sym, ap, ◌∙◌, subst, append_assoc}
 use Rattle.std.proofs.lemmas.List.{reverse-append, reverse-reverse}
+use Rattle.rv_code.specs.declared.body.UnitBodies.{UnitBodies}
 use Rattle.rv_history.specs.History.{History}
 use Rattle.rv_history.specs.Legal.{Legal}
 use Rattle.rv_turn.specs.Histories.{Each, NoStrangers}
@@ -40,7 +41,7 @@ pub others : (turn : TableId) (finished passes : List Passing) → passes ≡ re
     → Each (λ p. (p.first ≡ false) × (p.turn ≡ turn)) passes
 others turn finished passes is t u = both_each turn passes t (subst (λ (l : List Passing). Each (λ p. p.turn ≡ turn) l) (sym is) (each_back (λ p. p.turn ≡ turn) finished u))
 
-pub closed : (control : Passing) (finished passes : List Passing) (h : History) → Legal h → passes ≡ reverse finished → StandsIn by (log_of h) control → Each (StandsIn by (log_of h)) passes
-    → NoStrangers by (log_of h) control.given → control.about ≡ Some (limits_of h) → IsClosed control finished h
-closed control finished passes h l is own stand none about =
-    record { legal = l; operator = own; ports_stand = each_forth (StandsIn by (log_of h)) finished passes is stand; strangers = none; limits = about }
+pub closed : (control : Passing) (finished passes : List Passing) (h : History) (us : List UnitBodies) → Legal h → passes ≡ reverse finished → StandsIn by (log_of h us) control
+    → Each (StandsIn by (log_of h us)) passes → NoStrangers by (log_of h us) control.given → control.about ≡ Some (limits_of h) → IsClosed control finished h
+closed control finished passes h us l is own stand none about =
+    record { legal = l; units = us; operator = own; ports_stand = each_forth (StandsIn by (log_of h us)) finished passes is stand; strangers = none; limits = about }

@@ -1,5 +1,5 @@
 -- Who was given a port, and what a control begins with.
-use Rattle.std.proofs.Common.{◌≡◌, ℕ, ◌<◌, Bool, true, false, eqb, List, [], ◌∷◌, ◌++◌, reverse, if◌then◌else◌, ap, sym, refl, ◌∙◌, eq-eqb, ⊎_elim, arith, subst}
+use Rattle.std.proofs.Common.{◌≡◌, ℕ, ◌<◌, Bool, true, false, eqb, List, [], ◌∷◌, ◌++◌, reverse, if◌then◌else◌, ap, sym, refl, ◌∙◌, eq-eqb, ⊎_elim, inl, inr, map, length, arith, subst}
 use Rattle.std.specs.Prelude.{◌||◌, ◌-◌, is_some, Option, Some, None, Result, Ok, Err, MatchResult}
 use Rattle.rv_turn.specs.declared.pass.Worn.{Worn}
 use Rattle.std.proofs.lemmas.Bool.{ne_eqb}
@@ -20,10 +20,14 @@ use Rattle.rv_event.specs.declared.entry.Answer.{Answer}
 use Rattle.rv_event.specs.declared.entry.Recorded.{Recorded}
 use Rattle.rv_history.specs.History.{force}
 use Rattle.rv_history.specs.Lists.{Change, Whole, Append, Remove, Replace, changed}
-use Rattle.rv_port.specs.Events.{by, events, log_of, history_at, first_or, rest_of, no_shape, shapes_of, with_shape, catalogue_of}
+use Rattle.rv_code.specs.BodyView.{unit_view}
+use Rattle.rv_code.specs.declared.body.UnitBodies.{UnitBodies}
+use Rattle.rv_exec.specs.Bodies.{held}
+use Rattle.rv_exec.specs.declared.bodies.SharedUnit.{SharedUnit}
+use Rattle.rv_port.specs.Events.{by, events, log_of, history_at, first_or, first_of, rest_of, no_shape, shapes_of, with_shape, catalogue_of}
 use Rattle.rv_port.specs.Acting.{limits_of, entered, listed as listed_to, Does, Due, Loaded, Unloaded, Changed, IfOperator}
 use Rattle.rv_port.specs.Traces.{Passing}
-use Rattle.rv_port.specs.Controls.{listed, OperatorAlone, IsControl, Told, answer_in}
+use Rattle.rv_port.specs.Controls.{listed, OperatorAlone, IsControl, Told, LoadTold, BeginsWith, no_bodies_of, answer_in}
 use Rattle.rv_port.specs.declared.event.Ask.{Ask}
 use Rattle.rv_port.specs.declared.event.Ask.TheVariants as Wants
 use Rattle.rv_port.specs.declared.event.Reply.{Reply}
@@ -55,14 +59,15 @@ one_back a e es h some is =
     let no : eqb (by e) a ≡ false = ne_eqb (by e) a (λ same. absurd (omega (arith, same, is, some))) in
     ap (mine by a) (reverse-append (e ∷ []) es) ∙ (mine-append by a (reverse es) (e ∷ []) ∙ (λ i. h i ++ if_not (eqb (by e) a) e no i))
 
-pub alone_back : (past : List Entry) (ss : List Shape) (ls : List (List Words)) (a : ℕ) → 0 < a → OperatorAlone past → mine by a (reverse (events past ss ls)) ≡ []
-alone_back [] ss ls a some t = refl
-alone_back (Asked b q w ∷ past) ss ls a some t = one_back a (Asks b q w) (events past ss ls) (alone_back past ss ls a some t.1) some t.0
-alone_back (Load ∷ past) ss ls a some t = one_back a (Loads (first_or no_shape ss)) (events past (rest_of ss) ls) (alone_back past (rest_of ss) ls a some t) some refl
-alone_back (ListChange ∷ past) ss ls a some t = one_back a (Lists (first_or [] ls)) (events past ss (rest_of ls)) (alone_back past ss (rest_of ls) a some t) some refl
+pub alone_back : (past : List Entry) (ss : List Shape) (us : List UnitBodies) (ls : List (List Words)) (a : ℕ) → 0 < a → OperatorAlone past → mine by a (reverse (events past ss us ls)) ≡ []
+alone_back [] ss us ls a some t = refl
+alone_back (Asked b q w ∷ past) ss us ls a some t = one_back a (Asks b q w) (events past ss us ls) (alone_back past ss us ls a some t.1) some t.0
+alone_back (Load ∷ past) ss us ls a some t =
+    one_back a (Loads (first_or no_shape ss) (first_of us)) (events past (rest_of ss) (rest_of us) ls) (alone_back past (rest_of ss) (rest_of us) ls a some t) some refl
+alone_back (ListChange ∷ past) ss us ls a some t = one_back a (Lists (first_or [] ls)) (events past ss us (rest_of ls)) (alone_back past ss us (rest_of ls) a some t) some refl
 
-pub alone_mine : (h : History) → OperatorAlone h.past → (a : ℕ) → 0 < a → mine by a (log_of h) ≡ []
-alone_mine h t a some = alone_back h.past (reverse h.shapes) (reverse h.lists) a some t
+pub alone_mine : (h : History) (us : List UnitBodies) → OperatorAlone h.past → (a : ℕ) → 0 < a → mine by a (log_of h us) ≡ []
+alone_mine h us t a some = alone_back h.past (reverse h.shapes) (reverse us) (reverse h.lists) a some t
 
 -- the catalogue is that of the operator's own events
 
@@ -76,7 +81,7 @@ shapes_if false e es ss none same = same ∙ ap (λ (z : List Shape). z ++ ss) (
 
 none_here : (e : Event) → eqb (by e) 0 ≡ false → with_shape e [] ≡ []
 none_here (Asks a q w) h = refl
-none_here (Loads s) h = absurd (cc h)
+none_here (Loads s u) h = absurd (cc h)
 none_here (Lists l) h = refl
 
 pub catalogue_mine : (log : List Event) → catalogue_of (mine by 0 log) ≡ catalogue_of log
@@ -88,19 +93,19 @@ pub same_catalogue : (one two : List Event) → mine by 0 one ≡ mine by 0 two 
 same_catalogue one two e = sym (catalogue_mine one) ∙ (ap catalogue_of e ∙ catalogue_mine two)
 
 -- a new control
-pub opened : (turn : TableId) (h : History) → Legal h → IsControl turn (opening_of turn (limits_of h) by (log_of h)) [] h.shapes
-opened turn h l = record {
+pub opened : (turn : TableId) (h : History) (us : List UnitBodies) → Legal h → IsControl turn (opening_of turn (limits_of h) by (log_of h us)) [] h.shapes
+opened turn h us l = record {
   here = refl;
   first = refl;
   operator = refl;
   given_is = refl;
-  owns = sym (append-nil (mine by 0 (log_of h)));
-  catalogue_is = sym (catalogue_log h l);
+  owns = sym (append-nil (mine by 0 (log_of h us)));
+  catalogue_is = sym (catalogue_log h us l);
 }
 
 -- an ask that loads nothing leaves the catalogue
 abbrev pub LoadsNothing : Ask → Type 0
-LoadsNothing (Wants.Load shape) = ⊥
+LoadsNothing (Wants.Load shape unit) = ⊥
 LoadsNothing ask = Unit {0}
 
 with_event : (log : List Event) (e : Event) → catalogue_of (log ++ e ∷ []) ≡ catalogue_of log ++ catalogue_of (e ∷ [])
@@ -130,20 +135,20 @@ unload_catalogue true c log shape r after d = ap catalogue_of d.2
 unload_catalogue false c log shape r after d = ap catalogue_of d.1
 
 due_catalogue : (c : ℕ) (log : List Event) (a : ℕ) (ask : Ask) (reply : Reply) (after : List Event) → LoadsNothing ask → Due c log a ask reply after → catalogue_of after ≡ catalogue_of log
-due_catalogue c log a (Wants.Step q) (Gives.Answered r b) after n d = entered_catalogue (recorded r) log a q after d.0.1
-due_catalogue c log a (Wants.Load shape) (Gives.Answered r b) after n d = absurd n
-due_catalogue c log a (Wants.LoadWithoutMemory shape) (Gives.Answered r b) after n d = unload_catalogue (eqb a 0) c log shape r after d
-due_catalogue c log a (Wants.SetList list) (Gives.Answered r b) after n d = change_catalogue (eqb a 0) c log (Whole list) r after d
-due_catalogue c log a (Wants.AppendLine line) (Gives.Answered r b) after n d = change_catalogue (eqb a 0) c log (Append line) r after d
-due_catalogue c log a (Wants.RemoveLine k) (Gives.Answered r b) after n d = change_catalogue (eqb a 0) c log (Remove k) r after d
-due_catalogue c log a (Wants.ReplaceLine k line) (Gives.Answered r b) after n d = change_catalogue (eqb a 0) c log (Replace k line) r after d
+due_catalogue c log a (Wants.Step q) (Gives.Answered r b lent) after n d = entered_catalogue (recorded r) log a q after d.0.1
+due_catalogue c log a (Wants.Load shape unit) (Gives.Answered r b lent) after n d = absurd n
+due_catalogue c log a (Wants.LoadWithoutMemory shape) (Gives.Answered r b lent) after n d = unload_catalogue (eqb a 0) c log shape r after d
+due_catalogue c log a (Wants.SetList list) (Gives.Answered r b lent) after n d = change_catalogue (eqb a 0) c log (Whole list) r after d
+due_catalogue c log a (Wants.AppendLine line) (Gives.Answered r b lent) after n d = change_catalogue (eqb a 0) c log (Append line) r after d
+due_catalogue c log a (Wants.RemoveLine k) (Gives.Answered r b lent) after n d = change_catalogue (eqb a 0) c log (Remove k) r after d
+due_catalogue c log a (Wants.ReplaceLine k line) (Gives.Answered r b lent) after n d = change_catalogue (eqb a 0) c log (Replace k line) r after d
 due_catalogue c log a (Wants.Read from) (Gives.Read p) after n d = ap catalogue_of d.1
 due_catalogue c log a (Wants.Read from) Gives.Unread after n d = ap catalogue_of d
-due_catalogue c log a (Wants.Read from) (Gives.Answered r b) after n d = absurd d
+due_catalogue c log a (Wants.Read from) (Gives.Answered r b lent) after n d = absurd d
 due_catalogue c log a (Wants.Step q) (Gives.Read p) after n d = absurd d
 due_catalogue c log a (Wants.Step q) Gives.Unread after n d = absurd d
-due_catalogue c log a (Wants.Load shape) (Gives.Read p) after n d = absurd d
-due_catalogue c log a (Wants.Load shape) Gives.Unread after n d = absurd d
+due_catalogue c log a (Wants.Load shape unit) (Gives.Read p) after n d = absurd d
+due_catalogue c log a (Wants.Load shape unit) Gives.Unread after n d = absurd d
 due_catalogue c log a (Wants.LoadWithoutMemory shape) (Gives.Read p) after n d = absurd d
 due_catalogue c log a (Wants.LoadWithoutMemory shape) Gives.Unread after n d = absurd d
 due_catalogue c log a (Wants.SetList list) (Gives.Read p) after n d = absurd d
@@ -185,53 +190,42 @@ pub worn_kept : (turn : TableId) (v w : Passing) (given : List ℕ) (catalogue :
 worn_kept turn v w given catalogue k t = subst (λ (z : Passing). IsControl turn z given catalogue) (sym t.1) k
 
 -- a load
-loaded_catalogue : (b : Bool) (log after : List Event) (shape : Shape) → after ≡ (if b then log ++ Loads shape ∷ [] else log) → catalogue_of after ≡ (if b then catalogue_of log ++ shape ∷ [] else catalogue_of log)
-loaded_catalogue true log after shape e = ap catalogue_of e ∙ with_event log (Loads shape)
-loaded_catalogue false log after shape e = ap catalogue_of e
+loaded_catalogue : (b : Bool) (log after : List Event) (shape : Shape) (unit : UnitBodies) → after ≡ (if b then log ++ Loads shape (Some unit) ∷ [] else log)
+    → catalogue_of after ≡ (if b then catalogue_of log ++ shape ∷ [] else catalogue_of log)
+loaded_catalogue true log after shape unit e = ap catalogue_of e ∙ with_event log (Loads shape (Some unit))
+loaded_catalogue false log after shape unit e = ap catalogue_of e
 
 abbrev pub with_loaded : Bool → List Shape → Shape → List Shape
 with_loaded b catalogue shape = if b then catalogue ++ shape ∷ [] else catalogue
 
-load_due : (c : ℕ) (log : List Event) (a : ℕ) (shape : Shape) (reply : Reply) (after : List Event) → a ≡ 0 → Due c log a (Wants.Load shape) reply after → catalogue_of after ≡ with_loaded (is_some (recorded (answer_in reply))) (catalogue_of log) shape
-load_due c log a shape (Gives.Answered r b) after none d =
-    loaded_catalogue (is_some (recorded r)) log after shape (subst (λ (n : ℕ). IfOperator (eqb n 0) (Loaded c log shape r after) r log after) none d).1
-load_due c log a shape (Gives.Read p) after none d = absurd d
-load_due c log a shape Gives.Unread after none d = absurd d
+load_due : (c : ℕ) (log : List Event) (a : ℕ) (shape : Shape) (unit : SharedUnit) (reply : Reply) (after : List Event) → a ≡ 0 → Due c log a (Wants.Load shape unit) reply after
+    → catalogue_of after ≡ with_loaded (is_some (recorded (answer_in reply))) (catalogue_of log) shape
+load_due c log a shape unit (Gives.Answered r b lent) after none d =
+    loaded_catalogue (is_some (recorded r)) log after shape (held unit) (subst (λ (n : ℕ). IfOperator (eqb n 0) (Loaded c log shape (held unit) r after) r log after) none d).1
+load_due c log a shape unit (Gives.Read p) after none d = absurd d
+load_due c log a shape unit Gives.Unread after none d = absurd d
 
-pub load_told : (turn : TableId) (v w : Passing) (given : List ℕ) (catalogue : List Shape) (shape : Shape) (r : Answer) → IsControl turn v given catalogue → Told v (Wants.Load shape) r w
+pub load_told : (turn : TableId) (v w : Passing) (given : List ℕ) (catalogue : List Shape) (shape : Shape) (unit : SharedUnit) (r : Answer) → IsControl turn v given catalogue → Told v (Wants.Load shape unit) r w
     → IsControl turn w given (with_loaded (is_some (recorded r)) catalogue shape)
-load_told turn v w given catalogue shape r k t = let a = t.2 in
+load_told turn v w given catalogue shape unit r k t = let a = t.2 in
     acted_control turn v w given catalogue (with_loaded (is_some (recorded r)) catalogue shape) k a.same a.owns
     ((λ i. with_loaded (is_some (recorded (t.1 i))) (at_catalogue turn v given catalogue a.at k a.owned i) shape)
-    ∙ sym (load_due a.about.capacity a.at v.actor shape t.0 w.seen k.operator a.answer.1))
+    ∙ sym (load_due a.about.capacity a.at v.actor shape unit t.0 w.seen k.operator a.answer.1))
 
--- a load that there was no memory for is a load
-unload_is : (c : ℕ) (log : List Event) (a : ℕ) (b : Bool) (shape : Shape) (r : Answer) (after : List Event) → IfOperator b (Unloaded c log shape r after) r log after → IfOperator b (Loaded c log shape r after) r log after
-unload_is c log a true shape r after d = (d.0, d.2 ∙ ap (λ (z : Option Recorded). if is_some z then log ++ Loads shape ∷ [] else log) (sym d.1))
-unload_is c log a false shape r after d = d
+-- the bodies of a load, told otherwise
+pub load_such : (v w : Passing) (shape : Shape) (P Q : UnitBodies → Type 0) (r : Answer) → ((u : UnitBodies) → P u → Q u) → LoadTold v shape P r w → LoadTold v shape Q r w
+load_such v w shape P Q r such t = ⊎_elim (λ x. inl (x.0, such (held x.0) x.1, x.2)) (λ none. inr none) t
 
-unload_due : (c : ℕ) (log : List Event) (a : ℕ) (shape : Shape) (reply : Reply) (after : List Event) → Due c log a (Wants.LoadWithoutMemory shape) reply after → Due c log a (Wants.Load shape) reply after
-unload_due c log a shape (Gives.Answered r b) after d = unload_is c log a (eqb a 0) shape r after d
-unload_due c log a shape (Gives.Read p) after d = absurd d
-unload_due c log a shape Gives.Unread after d = absurd d
+pub such_or_worn : (v w : Passing) (shape : Shape) (P Q : UnitBodies → Type 0) (answer : Result Answer Worn) → ((u : UnitBodies) → P u → Q u)
+    → MatchResult answer (λ r. LoadTold v shape P r w) (λ _. IsWorn v w) → MatchResult answer (λ r. LoadTold v shape Q r w) (λ _. IsWorn v w)
+such_or_worn v w shape P Q (Ok r) such t = load_such v w shape P Q r such t
+such_or_worn v w shape P Q (Err e) such t = t
 
-pub unload_told : (v w : Passing) (shape : Shape) (r : Answer) → Told v (Wants.LoadWithoutMemory shape) r w → Told v (Wants.Load shape) r w
-unload_told v w shape r t = let a = t.2 in (
-  t.0,
-  t.1,
-  record {
-    at = a.at;
-    later = a.later;
-    owned = a.owned;
-    about = a.about;
-    about_is = a.about_is;
-    answer = (a.answer.0, unload_due a.about.capacity a.at v.actor shape t.0 w.seen a.answer.1);
-    entry = a.entry;
-    owns = a.owns;
-    some_left = a.some_left;
-    same = a.same;
-  },
-)
+-- a load that there is no memory for
+pub none_or_worn : (v w : Passing) (shape : Shape) (P : UnitBodies → Type 0) (answer : Result Answer Worn)
+    → MatchResult answer (λ r. Told v (Wants.LoadWithoutMemory shape) r w) (λ _. IsWorn v w) → MatchResult answer (λ r. LoadTold v shape P r w) (λ _. IsWorn v w)
+none_or_worn v w shape P (Ok r) t = inr t
+none_or_worn v w shape P (Err e) t = t
 
 -- a port is given
 pub port_kept : (turn : TableId) (v w p : Passing) (given : List ℕ) (catalogue : List Shape) (actor acts : ℕ) → IsControl turn v given catalogue → Parted by v actor acts w p → IsControl turn w (actor ∷ given) catalogue
@@ -258,19 +252,33 @@ pub act_or_worn : (turn : TableId) (v w : Passing) (given : List ℕ) (catalogue
 act_or_worn turn v w given catalogue ask (Ok r) k n t = act_kept turn v w given catalogue ask r k n t
 act_or_worn turn v w given catalogue ask (Err e) k n t = worn_kept turn v w given catalogue k t
 
-pub opened_by : (turn : TableId) (pass : Passing) (given : List ℕ) (catalogue : List Shape) (h : History) → Legal h → pass ≡ opening_of turn (limits_of h) by (log_of h) → given ≡ [] → catalogue ≡ h.shapes
+pub opened_by : (turn : TableId) (pass : Passing) (given : List ℕ) (catalogue : List Shape) (h : History) (us : List UnitBodies) → Legal h → pass ≡ opening_of turn (limits_of h) by (log_of h us) → given ≡ [] → catalogue ≡ h.shapes
     → IsControl turn pass given catalogue
-opened_by turn pass given catalogue h l is none same = subst (λ (z : Passing × List ℕ × List Shape). IsControl turn z.0 z.1 z.2) (λ i. (sym is i, sym none i, sym same i)) (opened turn h l)
+opened_by turn pass given catalogue h us l is none same =
+    subst (λ (z : Passing × List ℕ × List Shape). IsControl turn z.0 z.1 z.2) (λ i. (sym is i, sym none i, sym same i)) (opened turn h us l)
 
-pub load_more : (turn : TableId) (v w : Passing) (given : List ℕ) (catalogue more : List Shape) (shape : Shape) (r : Answer) → IsControl turn v given catalogue → Told v (Wants.Load shape) r w
+-- what a control begins with
+pub begins : (turn : TableId) (pass : Passing) (h : History) (us : List UnitBodies) → map unit_view us ≡ map no_bodies_of h.shapes → pass ≡ opening_of turn (limits_of h) by (log_of h us)
+    → BeginsWith h pass.seen × (pass ≡ opening_of pass.turn (limits_of h) by pass.seen)
+begins turn pass h us none is = let seen : pass.seen ≡ log_of h us = ap (λ (z : Passing). z.seen) is in let here : pass.turn ≡ turn = ap (λ (z : Passing). z.turn) is in
+    ((us, none, seen), is ∙ (λ i. opening_of (sym here i) (limits_of h) by (sym seen i)))
+
+-- as many bodies of units as shapes
+pub as_many : (us : List UnitBodies) (shapes : List Shape) → map unit_view us ≡ map no_bodies_of shapes → length us ≡ length shapes
+as_many [] [] e = refl
+as_many [] (s ∷ ss) e = absurd (omega (arith, ap length e))
+as_many (u ∷ us) [] e = absurd (omega (arith, ap length e))
+as_many (u ∷ us) (s ∷ ss) e = let more = as_many us ss (ap rest_of e) in omega (arith, more)
+
+pub load_more : (turn : TableId) (v w : Passing) (given : List ℕ) (catalogue more : List Shape) (shape : Shape) (unit : SharedUnit) (r : Answer) → IsControl turn v given catalogue → Told v (Wants.Load shape unit) r w
     → is_some (recorded r) ≡ true → more ≡ catalogue ++ shape ∷ [] → IsControl turn w given more
-load_more turn v w given catalogue more shape r k t e is =
-    subst (λ (z : List Shape). IsControl turn w given z) (ap (λ (b : Bool). with_loaded b catalogue shape) e ∙ sym is) (load_told turn v w given catalogue shape r k t)
+load_more turn v w given catalogue more shape unit r k t e is =
+    subst (λ (z : List Shape). IsControl turn w given z) (ap (λ (b : Bool). with_loaded b catalogue shape) e ∙ sym is) (load_told turn v w given catalogue shape unit r k t)
 
-pub load_same : (turn : TableId) (v w : Passing) (given : List ℕ) (catalogue : List Shape) (shape : Shape) (r : Answer) → IsControl turn v given catalogue → Told v (Wants.Load shape) r w
+pub load_same : (turn : TableId) (v w : Passing) (given : List ℕ) (catalogue : List Shape) (shape : Shape) (unit : SharedUnit) (r : Answer) → IsControl turn v given catalogue → Told v (Wants.Load shape unit) r w
     → is_some (recorded r) ≡ false → IsControl turn w given catalogue
-load_same turn v w given catalogue shape r k t e =
-    subst (λ (z : List Shape). IsControl turn w given z) (ap (λ (b : Bool). with_loaded b catalogue shape) e) (load_told turn v w given catalogue shape r k t)
+load_same turn v w given catalogue shape unit r k t e =
+    subst (λ (z : List Shape). IsControl turn w given z) (ap (λ (b : Bool). with_loaded b catalogue shape) e) (load_told turn v w given catalogue shape unit r k t)
 
 pub port_handles : (turn : TableId) (v w p : Passing) (given : List ℕ) (catalogue : List Shape) (actor acts : ℕ) → IsControl turn v given catalogue → Parted by v actor acts w p → is_performer catalogue actor ≡ true
     → HasHandler (catalogue_of p.seen) p.actor

@@ -1,5 +1,5 @@
 -- What a call did, from its parts.
-use Rattle.std.proofs.Common.{◌≡◌, ◌⊎◌, ℕ, true, false, List, [], ◌∷◌, ◌++◌, Some, None, refl, sym, ap, ◌∙◌, subst, inl, inr, ⊎_elim, append_assoc, append-nil, arith}
+use Rattle.std.proofs.Common.{◌≡◌, ◌⊎◌, ℕ, true, false, List, [], ◌∷◌, ◌++◌, Option, Some, None, refl, sym, ap, ◌∙◌, subst, inl, inr, ⊎_elim, append_assoc, append-nil, arith}
 use Rattle.std.specs.Prelude.{ℤ}
 use Rattle.rv_event.specs.declared.entry.Request.{Request}
 use Rattle.rv_event.specs.declared.entry.Request.TheVariants.{Complete, Resume}
@@ -16,7 +16,9 @@ use Rattle.rv_port.specs.declared.reached.Reached.{Reached}
 use Rattle.rv_port.specs.declared.reached.Reached.TheVariants as Reaches
 use Rattle.rv_port.specs.Events.{history_at, catalogue_of, called}
 use Rattle.rv_port.specs.Traces.{Passing, capacity_in, Trace, Went, Asked, Replied, asks_on}
-use Rattle.rv_port.specs.Acting.{begun_by}
+use Rattle.rv_port.specs.Acting.{begun_by, lent_view}
+use Rattle.rv_code.specs.Bodies.{UnitBodies}
+use Rattle.rv_port.specs.declared.event.Lent.{Lent}
 use Rattle.rv_port.proofs.Gets.{of_first, first_gets, of_end, end_gets, of_resume, resume_gets}
 use Rattle.rv_port.specs.Actors.{HasHandler}
 use Rattle.rv_port.proofs.Actors.{handler_later}
@@ -25,35 +27,53 @@ use Rattle.rv_port.specs.Calls.{Wore, RanOn, Resumed, Waited, Followed, Performe
 use Rattle.rv_turn.specs.Prefixes.{starts_self, starts_both}
 use Rattle.rv_port.specs.declared.event.Begun.{Begun}
 
-pub plainly : (r : Answer) (b : Begun) (u : Passing) (q : Request) (reached : Reached) → ((s : List ℤ) → r ≡ Answers.Started s → ⊥) → waits_on r ≡ false → reached ≡ plain_of (reads q) r → Followed r b u q reached u
-plainly (Answers.Started s) b u q reached never e p = absurd (never s refl)
-plainly Answers.Queued b u q reached never e p = absurd (cc e)
-plainly Answers.Suspended b u q reached never e p = absurd (cc e)
-plainly (Answers.Refused rule line version) b u q reached never e p = (refl, p)
-plainly (Answers.Done n) b u q reached never e p = (refl, p)
-plainly Answers.Delayed b u q reached never e p = absurd (cc e)
-plainly (Answers.Woken s) b u q reached never e p = (refl, p)
-plainly (Answers.Accepted n) b u q reached never e p = (refl, p)
-plainly Answers.Misuse b u q reached never e p = (refl, p)
-plainly Answers.Halted b u q reached never e p = (refl, p)
-plainly Answers.Full b u q reached never e p = (refl, p)
-plainly Answers.Busy b u q reached never e p = (refl, p)
-plainly Answers.Waiting b u q reached never e p = (refl, p)
-plainly Answers.Unattached b u q reached never e p = (refl, p)
-plainly Answers.BadLine b u q reached never e p = (refl, p)
-plainly Answers.OutOfMemory b u q reached never e p = (refl, p)
+pub plainly : (r : Answer) (log : List Event) (b : Begun) (u : Passing) (q : Request) (reached : Reached) → ((s : List ℤ) → r ≡ Answers.Started s → ⊥) → waits_on r ≡ false → reached ≡ plain_of (reads q) r → Followed r log b u q reached u
+plainly (Answers.Started s) log b u q reached never e p = absurd (never s refl)
+plainly Answers.Queued log b u q reached never e p = absurd (cc e)
+plainly Answers.Suspended log b u q reached never e p = absurd (cc e)
+plainly (Answers.Refused rule line version) log b u q reached never e p = (refl, p)
+plainly (Answers.Done n) log b u q reached never e p = (refl, p)
+plainly Answers.Delayed log b u q reached never e p = absurd (cc e)
+plainly (Answers.Woken s) log b u q reached never e p = (refl, p)
+plainly (Answers.Accepted n) log b u q reached never e p = (refl, p)
+plainly Answers.Misuse log b u q reached never e p = (refl, p)
+plainly Answers.Halted log b u q reached never e p = (refl, p)
+plainly Answers.Full log b u q reached never e p = (refl, p)
+plainly Answers.Busy log b u q reached never e p = (refl, p)
+plainly Answers.Waiting log b u q reached never e p = (refl, p)
+plainly Answers.Unattached log b u q reached never e p = (refl, p)
+plainly Answers.BadLine log b u q reached never e p = (refl, p)
+plainly Answers.OutOfMemory log b u q reached never e p = (refl, p)
 
 -- a body was started
-pub started : (v u w : Passing) (q : Request) (r : Answer) (b : Begun) (scalars arguments : List ℤ) (reached : Reached) → Replied v q r b u → asks_on r ≡ false → r ≡ Answers.Started scalars
-    → arguments ≡ arguments_of q → RanOn u b scalars arguments reached w → Performed v q reached w
-started v u w q r b scalars arguments reached x n is same ran = inr (
+pub started : (v u w : Passing) (q : Request) (r : Answer) (b : Begun) (lent : Option Lent) (scalars arguments : List ℤ) (reached : Reached) → Replied v q r b lent u → asks_on r ≡ false → r ≡ Answers.Started scalars
+    → arguments ≡ arguments_of q → RanOn (lent_view lent) u b scalars arguments reached w → Performed v q reached w
+started v u w q r b lent scalars arguments reached x n is same ran = inr (
   r,
   u,
   x.asked,
   n,
-  subst (λ (z : Answer). Followed z (called (catalogue_of x.asked.at) v.actor q) u q reached w) (sym is)
-      (subst (λ (z : Begun × List ℤ). RanOn u z.0 scalars z.1 reached w)
-      (λ i. ((x.begun_is ∙ ap (begun_by (catalogue_of x.asked.at) v.actor q) is) i, same i)) ran),
+  subst (λ (z : Answer). Followed z x.asked.at (called (catalogue_of x.asked.at) v.actor q) u q reached w) (sym is) (
+    lent_view lent,
+    x.lent_is,
+    subst (λ (z : Begun × List ℤ). RanOn (lent_view lent) u z.0 scalars z.1 reached w)
+        (λ i. ((x.begun_is ∙ ap (begun_by (catalogue_of x.asked.at) v.actor q) is) i, same i)) ran,
+  ),
+)
+
+-- a caller that waited was handed the object over
+pub woken : (v u w : Passing) (q : Request) (r : Answer) (b : Begun) (lent : Option Lent) (scalars arguments : List ℤ) (begun : Begun) (reached : Reached) → Replied v Resume r b lent u → asks_on r ≡ false
+    → r ≡ Answers.Woken (Some scalars) → begun ≡ waited_for q → arguments ≡ arguments_of q → RanOn (lent_view lent) u begun scalars arguments reached w → Waited v q reached w
+woken v u w q r b lent scalars arguments begun reached x n is at same ran = inr (
+  r,
+  u,
+  x.asked,
+  n,
+  subst (λ (z : Answer). Resumed z x.asked.at u q reached w) (sym is) (
+    lent_view lent,
+    x.lent_is,
+    subst (λ (z : Begun × List ℤ). RanOn (lent_view lent) u z.0 scalars z.1 reached w) (λ i. (at i, same i)) ran,
+  ),
 )
 
 -- a part that comes after others
@@ -147,8 +167,8 @@ tied_wore v w reached t = subst (λ (z : Reached). Tied v z w) (sym t.2) ((_, t.
 ended_so : (v w : Passing) (scalars : List ℤ) (exit : Exit) (d : Answer) → Asked v (Complete scalars exit) d w → of_end d ≡ true
 ended_so v w scalars exit d x = ap of_end x.due_is ∙ end_gets (history_at (capacity_in v.about) x.at) v.actor scalars exit
 
-tied_ran : (v w : Passing) (b : Begun) (scalars arguments : List ℤ) (reached : Reached) → RanOn v b scalars arguments reached w → Tied v reached w
-tied_ran v w b scalars arguments reached n =
+tied_ran : (v w : Passing) (bodies : Option UnitBodies) (b : Begun) (scalars arguments : List ℤ) (reached : Reached) → RanOn bodies v b scalars arguments reached w → Tied v reached w
+tied_ran v w bodies b scalars arguments reached n =
     tied_after v n.body w reached (same_actor v n.body n.trace n.went) (_, n.went.own)
     (⊎_elim (λ wore. tied_wore n.body w reached wore)
     (λ t. subst (λ (z : Reached). Tied n.body z w) (sym t.3) (tied_end n.body w n.ended.scalars n.ended.exit t.0 t.1 (ended_so n.body w n.ended.scalars n.ended.exit t.0 t.1))) n.end_is)
@@ -156,51 +176,51 @@ tied_ran v w b scalars arguments reached n =
 flat : (v u w : Passing) (q : Request) (r : Answer) (reached : Reached) → Asked v q r u → Plain q r → (w ≡ u) × (reached ≡ plain_of (reads q) r) → Tied v reached w
 flat v u w q r reached x n t = subst (λ (z : Reached × Passing). Tied v z.0 z.1) (λ i. (sym t.1 i, sym t.0 i)) (tied_plain v u q r x n)
 
-tied_resumed : (v u w : Passing) (r : Answer) (q : Request) (reached : Reached) → Asked v Resume r u → of_resume r ≡ true → asks_on r ≡ false → Resumed r u q reached w → Tied v reached w
-tied_resumed v u w (Answers.Woken (Some s)) q reached x e n t = tied_after v u w reached (asked_actor v u Resume _ x) (_, x.own_is) (tied_ran u w (waited_for q) s (arguments_of q) reached t)
-tied_resumed v u w (Answers.Woken None) q reached x e n t = flat v u w Resume (Answers.Woken None) reached x refl t
-tied_resumed v u w (Answers.Refused rule line version) q reached x e n t = flat v u w Resume (Answers.Refused rule line version) reached x tt t
-tied_resumed v u w Answers.Misuse q reached x e n t = flat v u w Resume Answers.Misuse reached x tt t
-tied_resumed v u w Answers.Halted q reached x e n t = flat v u w Resume Answers.Halted reached x tt t
-tied_resumed v u w Answers.Full q reached x e n t = flat v u w Resume Answers.Full reached x tt t
-tied_resumed v u w Answers.Waiting q reached x e n t = absurd (cc n)
-tied_resumed v u w (Answers.Started s) q reached x e n t = absurd (cc e)
-tied_resumed v u w (Answers.Done d) q reached x e n t = absurd (cc e)
-tied_resumed v u w (Answers.Accepted value) q reached x e n t = absurd (cc e)
-tied_resumed v u w Answers.Queued q reached x e n t = absurd (cc e)
-tied_resumed v u w Answers.Suspended q reached x e n t = absurd (cc e)
-tied_resumed v u w Answers.Delayed q reached x e n t = absurd (cc e)
-tied_resumed v u w Answers.Busy q reached x e n t = absurd (cc e)
-tied_resumed v u w Answers.Unattached q reached x e n t = absurd (cc e)
-tied_resumed v u w Answers.BadLine q reached x e n t = absurd (cc e)
-tied_resumed v u w Answers.OutOfMemory q reached x e n t = absurd (cc e)
+tied_resumed : (v u w : Passing) (r : Answer) (log : List Event) (q : Request) (reached : Reached) → Asked v Resume r u → of_resume r ≡ true → asks_on r ≡ false → Resumed r log u q reached w → Tied v reached w
+tied_resumed v u w (Answers.Woken (Some s)) log q reached x e n t = tied_after v u w reached (asked_actor v u Resume _ x) (_, x.own_is) (tied_ran u w t.0 (waited_for q) s (arguments_of q) reached t.2)
+tied_resumed v u w (Answers.Woken None) log q reached x e n t = flat v u w Resume (Answers.Woken None) reached x refl t
+tied_resumed v u w (Answers.Refused rule line version) log q reached x e n t = flat v u w Resume (Answers.Refused rule line version) reached x tt t
+tied_resumed v u w Answers.Misuse log q reached x e n t = flat v u w Resume Answers.Misuse reached x tt t
+tied_resumed v u w Answers.Halted log q reached x e n t = flat v u w Resume Answers.Halted reached x tt t
+tied_resumed v u w Answers.Full log q reached x e n t = flat v u w Resume Answers.Full reached x tt t
+tied_resumed v u w Answers.Waiting log q reached x e n t = absurd (cc n)
+tied_resumed v u w (Answers.Started s) log q reached x e n t = absurd (cc e)
+tied_resumed v u w (Answers.Done d) log q reached x e n t = absurd (cc e)
+tied_resumed v u w (Answers.Accepted value) log q reached x e n t = absurd (cc e)
+tied_resumed v u w Answers.Queued log q reached x e n t = absurd (cc e)
+tied_resumed v u w Answers.Suspended log q reached x e n t = absurd (cc e)
+tied_resumed v u w Answers.Delayed log q reached x e n t = absurd (cc e)
+tied_resumed v u w Answers.Busy log q reached x e n t = absurd (cc e)
+tied_resumed v u w Answers.Unattached log q reached x e n t = absurd (cc e)
+tied_resumed v u w Answers.BadLine log q reached x e n t = absurd (cc e)
+tied_resumed v u w Answers.OutOfMemory log q reached x e n t = absurd (cc e)
 
 tied_waited : (v w : Passing) (q : Request) (reached : Reached) → Waited v q reached w → Tied v reached w
 tied_waited v w q reached t = ⊎_elim (λ wore. tied_wore v w reached wore)
-    (λ x. tied_resumed v x.1 w x.0 q reached x.2 (ap of_resume x.2.due_is ∙ resume_gets (history_at (capacity_in v.about) x.2.at) v.actor) x.3 x.4) t
+    (λ x. tied_resumed v x.1 w x.0 x.2.at q reached x.2 (ap of_resume x.2.due_is ∙ resume_gets (history_at (capacity_in v.about) x.2.at) v.actor) x.3 x.4) t
 
-tied_followed : (v u w : Passing) (q : Request) (r : Answer) (b : Begun) (reached : Reached) → of_first r ≡ true → asks_on r ≡ false → Asked v q r u → Followed r b u q reached w → Tied v reached w
-tied_followed v u w q (Answers.Started s) b reached e n x t = tied_after v u w reached (asked_actor v u q _ x) (_, x.own_is) (tied_ran u w b s (arguments_of q) reached t)
-tied_followed v u w q Answers.Queued b reached e n x t = tied_after v u w reached (asked_actor v u q _ x) (_, x.own_is) (tied_waited u w q reached t)
-tied_followed v u w q Answers.Suspended b reached e n x t = tied_after v u w reached (asked_actor v u q _ x) (_, x.own_is) (tied_waited u w q reached t)
-tied_followed v u w q Answers.Delayed b reached e n x t = tied_after v u w reached (asked_actor v u q _ x) (_, x.own_is) (tied_waited u w q reached t)
-tied_followed v u w q (Answers.Refused rule line version) b reached e n x t = flat v u w q (Answers.Refused rule line version) reached x tt t
-tied_followed v u w q (Answers.Accepted value) b reached e n x t = flat v u w q (Answers.Accepted value) reached x tt t
-tied_followed v u w q Answers.Misuse b reached e n x t = flat v u w q Answers.Misuse reached x tt t
-tied_followed v u w q Answers.Halted b reached e n x t = flat v u w q Answers.Halted reached x tt t
-tied_followed v u w q Answers.Full b reached e n x t = flat v u w q Answers.Full reached x tt t
-tied_followed v u w q Answers.Busy b reached e n x t = absurd (cc n)
-tied_followed v u w q (Answers.Woken s) b reached e n x t = absurd (cc e)
-tied_followed v u w q (Answers.Done d) b reached e n x t = absurd (cc e)
-tied_followed v u w q Answers.Waiting b reached e n x t = absurd (cc e)
-tied_followed v u w q Answers.Unattached b reached e n x t = absurd (cc e)
-tied_followed v u w q Answers.BadLine b reached e n x t = absurd (cc e)
-tied_followed v u w q Answers.OutOfMemory b reached e n x t = absurd (cc e)
+tied_followed : (v u w : Passing) (q : Request) (r : Answer) (log : List Event) (b : Begun) (reached : Reached) → of_first r ≡ true → asks_on r ≡ false → Asked v q r u → Followed r log b u q reached w → Tied v reached w
+tied_followed v u w q (Answers.Started s) log b reached e n x t = tied_after v u w reached (asked_actor v u q _ x) (_, x.own_is) (tied_ran u w t.0 b s (arguments_of q) reached t.2)
+tied_followed v u w q Answers.Queued log b reached e n x t = tied_after v u w reached (asked_actor v u q _ x) (_, x.own_is) (tied_waited u w q reached t)
+tied_followed v u w q Answers.Suspended log b reached e n x t = tied_after v u w reached (asked_actor v u q _ x) (_, x.own_is) (tied_waited u w q reached t)
+tied_followed v u w q Answers.Delayed log b reached e n x t = tied_after v u w reached (asked_actor v u q _ x) (_, x.own_is) (tied_waited u w q reached t)
+tied_followed v u w q (Answers.Refused rule line version) log b reached e n x t = flat v u w q (Answers.Refused rule line version) reached x tt t
+tied_followed v u w q (Answers.Accepted value) log b reached e n x t = flat v u w q (Answers.Accepted value) reached x tt t
+tied_followed v u w q Answers.Misuse log b reached e n x t = flat v u w q Answers.Misuse reached x tt t
+tied_followed v u w q Answers.Halted log b reached e n x t = flat v u w q Answers.Halted reached x tt t
+tied_followed v u w q Answers.Full log b reached e n x t = flat v u w q Answers.Full reached x tt t
+tied_followed v u w q Answers.Busy log b reached e n x t = absurd (cc n)
+tied_followed v u w q (Answers.Woken s) log b reached e n x t = absurd (cc e)
+tied_followed v u w q (Answers.Done d) log b reached e n x t = absurd (cc e)
+tied_followed v u w q Answers.Waiting log b reached e n x t = absurd (cc e)
+tied_followed v u w q Answers.Unattached log b reached e n x t = absurd (cc e)
+tied_followed v u w q Answers.BadLine log b reached e n x t = absurd (cc e)
+tied_followed v u w q Answers.OutOfMemory log b reached e n x t = absurd (cc e)
 
 -- one performance, by a line that has its handler or by a task
 pub tied : (v w : Passing) (q : Request) (reached : Reached) → HasHandler (catalogue_of v.seen) v.actor → Performs q → Performed v q reached w → Tied v reached w
 tied v w q reached has p t = ⊎_elim (λ wore. tied_wore v w reached wore)
-    (λ x. tied_followed v x.1 w q x.0 (called (catalogue_of x.2.at) v.actor q) reached
+    (λ x. tied_followed v x.1 w q x.0 x.2.at (called (catalogue_of x.2.at) v.actor q) reached
     (ap of_first x.2.due_is ∙ first_gets (history_at (capacity_in v.about) x.2.at) v.actor q (handler_later v.seen x.2.at v.actor x.2.from has) p) x.3 x.2 x.4) t
 
 -- A port stays what it was
@@ -229,56 +249,56 @@ went_stays v w xs p = record {
 pub asked_stays : (v w : Passing) (q : Request) (r : Answer) → Asked v q r w → Stays v w
 asked_stays v w q r x = went_stays v w _ x.went
 
-ran_stays : (v w : Passing) (b : Begun) (scalars arguments : List ℤ) (reached : Reached) → RanOn v b scalars arguments reached w → Stays v w
-ran_stays v w b scalars arguments reached n =
+ran_stays : (v w : Passing) (bodies : Option UnitBodies) (b : Begun) (scalars arguments : List ℤ) (reached : Reached) → RanOn bodies v b scalars arguments reached w → Stays v w
+ran_stays v w bodies b scalars arguments reached n =
     stays_both v n.body w (went_stays v n.body n.trace n.went) (⊎_elim (λ wore. went_stays n.body w [] wore.0) (λ t. asked_stays n.body w _ t.0 t.1) n.end_is)
 
 flat_stays : (v u w : Passing) → Stays v u → w ≡ u → Stays v w
 flat_stays v u w s is = subst (λ (z : Passing). Stays v z) (sym is) s
 
-resumed_stays : (u w : Passing) (r : Answer) (q : Request) (reached : Reached) → Resumed r u q reached w → Stays u w
-resumed_stays u w (Answers.Woken (Some s)) q reached t = ran_stays u w (waited_for q) s (arguments_of q) reached t
-resumed_stays u w (Answers.Woken None) q reached t = flat_stays u u w (stays_self u) t.0
-resumed_stays u w (Answers.Refused rule line version) q reached t = flat_stays u u w (stays_self u) t.0
-resumed_stays u w Answers.Misuse q reached t = flat_stays u u w (stays_self u) t.0
-resumed_stays u w Answers.Halted q reached t = flat_stays u u w (stays_self u) t.0
-resumed_stays u w Answers.Full q reached t = flat_stays u u w (stays_self u) t.0
-resumed_stays u w Answers.Waiting q reached t = flat_stays u u w (stays_self u) t.0
-resumed_stays u w (Answers.Started s) q reached t = flat_stays u u w (stays_self u) t.0
-resumed_stays u w (Answers.Done d) q reached t = flat_stays u u w (stays_self u) t.0
-resumed_stays u w (Answers.Accepted value) q reached t = flat_stays u u w (stays_self u) t.0
-resumed_stays u w Answers.Queued q reached t = flat_stays u u w (stays_self u) t.0
-resumed_stays u w Answers.Suspended q reached t = flat_stays u u w (stays_self u) t.0
-resumed_stays u w Answers.Delayed q reached t = flat_stays u u w (stays_self u) t.0
-resumed_stays u w Answers.Busy q reached t = flat_stays u u w (stays_self u) t.0
-resumed_stays u w Answers.Unattached q reached t = flat_stays u u w (stays_self u) t.0
-resumed_stays u w Answers.BadLine q reached t = flat_stays u u w (stays_self u) t.0
-resumed_stays u w Answers.OutOfMemory q reached t = flat_stays u u w (stays_self u) t.0
+resumed_stays : (u w : Passing) (r : Answer) (log : List Event) (q : Request) (reached : Reached) → Resumed r log u q reached w → Stays u w
+resumed_stays u w (Answers.Woken (Some s)) log q reached t = ran_stays u w t.0 (waited_for q) s (arguments_of q) reached t.2
+resumed_stays u w (Answers.Woken None) log q reached t = flat_stays u u w (stays_self u) t.0
+resumed_stays u w (Answers.Refused rule line version) log q reached t = flat_stays u u w (stays_self u) t.0
+resumed_stays u w Answers.Misuse log q reached t = flat_stays u u w (stays_self u) t.0
+resumed_stays u w Answers.Halted log q reached t = flat_stays u u w (stays_self u) t.0
+resumed_stays u w Answers.Full log q reached t = flat_stays u u w (stays_self u) t.0
+resumed_stays u w Answers.Waiting log q reached t = flat_stays u u w (stays_self u) t.0
+resumed_stays u w (Answers.Started s) log q reached t = flat_stays u u w (stays_self u) t.0
+resumed_stays u w (Answers.Done d) log q reached t = flat_stays u u w (stays_self u) t.0
+resumed_stays u w (Answers.Accepted value) log q reached t = flat_stays u u w (stays_self u) t.0
+resumed_stays u w Answers.Queued log q reached t = flat_stays u u w (stays_self u) t.0
+resumed_stays u w Answers.Suspended log q reached t = flat_stays u u w (stays_self u) t.0
+resumed_stays u w Answers.Delayed log q reached t = flat_stays u u w (stays_self u) t.0
+resumed_stays u w Answers.Busy log q reached t = flat_stays u u w (stays_self u) t.0
+resumed_stays u w Answers.Unattached log q reached t = flat_stays u u w (stays_self u) t.0
+resumed_stays u w Answers.BadLine log q reached t = flat_stays u u w (stays_self u) t.0
+resumed_stays u w Answers.OutOfMemory log q reached t = flat_stays u u w (stays_self u) t.0
 
 waited_stays : (v w : Passing) (q : Request) (reached : Reached) → Waited v q reached w → Stays v w
-waited_stays v w q reached t = ⊎_elim (λ wore. went_stays v w [] wore.0) (λ x. stays_both v x.1 w (asked_stays v x.1 Resume x.0 x.2) (resumed_stays x.1 w x.0 q reached x.4)) t
+waited_stays v w q reached t = ⊎_elim (λ wore. went_stays v w [] wore.0) (λ x. stays_both v x.1 w (asked_stays v x.1 Resume x.0 x.2) (resumed_stays x.1 w x.0 x.2.at q reached x.4)) t
 
-followed_stays : (u w : Passing) (q : Request) (r : Answer) (b : Begun) (reached : Reached) → Followed r b u q reached w → Stays u w
-followed_stays u w q (Answers.Started s) b reached t = ran_stays u w b s (arguments_of q) reached t
-followed_stays u w q Answers.Queued b reached t = waited_stays u w q reached t
-followed_stays u w q Answers.Suspended b reached t = waited_stays u w q reached t
-followed_stays u w q Answers.Delayed b reached t = waited_stays u w q reached t
-followed_stays u w q (Answers.Refused rule line version) b reached t = flat_stays u u w (stays_self u) t.0
-followed_stays u w q (Answers.Accepted value) b reached t = flat_stays u u w (stays_self u) t.0
-followed_stays u w q Answers.Misuse b reached t = flat_stays u u w (stays_self u) t.0
-followed_stays u w q Answers.Halted b reached t = flat_stays u u w (stays_self u) t.0
-followed_stays u w q Answers.Full b reached t = flat_stays u u w (stays_self u) t.0
-followed_stays u w q Answers.Busy b reached t = flat_stays u u w (stays_self u) t.0
-followed_stays u w q (Answers.Woken s) b reached t = flat_stays u u w (stays_self u) t.0
-followed_stays u w q (Answers.Done d) b reached t = flat_stays u u w (stays_self u) t.0
-followed_stays u w q Answers.Waiting b reached t = flat_stays u u w (stays_self u) t.0
-followed_stays u w q Answers.Unattached b reached t = flat_stays u u w (stays_self u) t.0
-followed_stays u w q Answers.BadLine b reached t = flat_stays u u w (stays_self u) t.0
-followed_stays u w q Answers.OutOfMemory b reached t = flat_stays u u w (stays_self u) t.0
+followed_stays : (u w : Passing) (q : Request) (r : Answer) (log : List Event) (b : Begun) (reached : Reached) → Followed r log b u q reached w → Stays u w
+followed_stays u w q (Answers.Started s) log b reached t = ran_stays u w t.0 b s (arguments_of q) reached t.2
+followed_stays u w q Answers.Queued log b reached t = waited_stays u w q reached t
+followed_stays u w q Answers.Suspended log b reached t = waited_stays u w q reached t
+followed_stays u w q Answers.Delayed log b reached t = waited_stays u w q reached t
+followed_stays u w q (Answers.Refused rule line version) log b reached t = flat_stays u u w (stays_self u) t.0
+followed_stays u w q (Answers.Accepted value) log b reached t = flat_stays u u w (stays_self u) t.0
+followed_stays u w q Answers.Misuse log b reached t = flat_stays u u w (stays_self u) t.0
+followed_stays u w q Answers.Halted log b reached t = flat_stays u u w (stays_self u) t.0
+followed_stays u w q Answers.Full log b reached t = flat_stays u u w (stays_self u) t.0
+followed_stays u w q Answers.Busy log b reached t = flat_stays u u w (stays_self u) t.0
+followed_stays u w q (Answers.Woken s) log b reached t = flat_stays u u w (stays_self u) t.0
+followed_stays u w q (Answers.Done d) log b reached t = flat_stays u u w (stays_self u) t.0
+followed_stays u w q Answers.Waiting log b reached t = flat_stays u u w (stays_self u) t.0
+followed_stays u w q Answers.Unattached log b reached t = flat_stays u u w (stays_self u) t.0
+followed_stays u w q Answers.BadLine log b reached t = flat_stays u u w (stays_self u) t.0
+followed_stays u w q Answers.OutOfMemory log b reached t = flat_stays u u w (stays_self u) t.0
 
 pub performed_stays : (v w : Passing) (q : Request) (reached : Reached) → Performed v q reached w → Stays v w
 performed_stays v w q reached t = ⊎_elim (λ wore. went_stays v w [] wore.0)
-    (λ x. stays_both v x.1 w (asked_stays v x.1 q x.0 x.2) (followed_stays x.1 w q x.0 _ reached x.4)) t
+    (λ x. stays_both v x.1 w (asked_stays v x.1 q x.0 x.2) (followed_stays x.1 w q x.0 x.2.at _ reached x.4)) t
 
 pub finished_stays : (v w : Passing) (q : Request) → Went v [] w ⊎ ((r : Answer) × Asked v q r w) → Stays v w
 finished_stays v w q t = ⊎_elim (λ p. went_stays v w [] p) (λ x. asked_stays v w q x.0 x.1) t

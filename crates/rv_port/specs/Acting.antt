@@ -16,7 +16,12 @@ use Rattle.rv_history.specs.Lists.{Change, Whole, Append, Remove, Replace, chang
 use Rattle.rv_history.specs.Steps.{MayLackMemory, due_change}
 use Rattle.rv_host.specs.Pages.{page}
 use Rattle.rv_turn.specs.Histories.{Adds}
-use Rattle.rv_port.specs.Events.{by, history_at, catalogue_of, called, no_operation}
+use Rattle.std.specs.Arc.{arc_value}
+use Rattle.rv_code.specs.Bodies as Code
+use Rattle.rv_code.specs.declared.body.UnitBodies.{UnitBodies}
+use Rattle.rv_exec.specs.Bodies.{bodies_view, held}
+use Rattle.rv_port.specs.Events.{by, history_at, catalogue_of, bodies_at, called, no_operation}
+use Rattle.rv_port.specs.declared.event.Lent.{Lent}
 use Rattle.rv_port.specs.declared.event.Begun.{Begun}
 use Rattle.rv_port.specs.declared.event.Event.{Event}
 use Rattle.rv_port.specs.declared.event.Event.TheVariants.{Asks, Loads, Lists}
@@ -35,8 +40,8 @@ entered log actor request (Some word) = log ++ Asks actor request word ∷ []
 abbrev pub grown : List Event → ℕ → Request → Answer → List Event
 grown log actor request answer = entered log actor request (recorded answer)
 
-abbrev pub loaded : List Event → Shape → Answer → List Event
-loaded log shape answer = if is_some (recorded answer) then log ++ Loads shape ∷ [] else log
+abbrev pub loaded : List Event → Shape → UnitBodies → Answer → List Event
+loaded log shape unit answer = if is_some (recorded answer) then log ++ Loads shape (Some unit) ∷ [] else log
 
 abbrev pub listed : List Event → Option (List Words) → List Event
 listed log None = log
@@ -55,8 +60,8 @@ abbrev pub Stepped : ℕ → List Event → ℕ → Request → Answer → List 
 Stepped c log a q r after = (r ≡ out (history_at c log) a q) × (after ≡ grown log a q r)
 
 -- the answer to a load (own)
-abbrev pub Loaded : ℕ → List Event → Shape → Answer → List Event → Type 0
-Loaded c log shape r after = MayLackMemory (out_load (history_at c log) shape) r × (after ≡ loaded log shape r)
+abbrev pub Loaded : ℕ → List Event → Shape → UnitBodies → Answer → List Event → Type 0
+Loaded c log shape unit r after = MayLackMemory (out_load (history_at c log) shape) r × (after ≡ loaded log shape unit r)
 
 -- the same, where it can't be accepted for want of memory (own)
 abbrev pub Unloaded : ℕ → List Event → Shape → Answer → List Event → Type 0
@@ -74,20 +79,31 @@ abbrev pub IfOperator : Bool → Type 0 → Answer → List Event → List Event
 IfOperator true does r log after = does
 IfOperator false does r log after = (r ≡ Answers.Misuse) × (after ≡ log)
 
+-- The bodies that a port is lent are those of all units loaded then; none where there were too many holders of them. (own)
+abbrev pub IsLent : List Event → Option Code.UnitBodies → Type 0
+IsLent log None = Unit {0}
+IsLent log (Some bodies) = bodies ≡ bodies_at log
+
+-- the bodies that an answer brings, if it does (own)
+abbrev pub lent_view : Option Lent → Option Code.UnitBodies
+lent_view None = None
+lent_view (Some lent) = Some (bodies_view (arc_value lent.bodies))
+
 -- what is due to an ask, on a legal history (own)
 abbrev pub Due : ℕ → List Event → ℕ → Ask → Reply → List Event → Type 0
-Due c log a (Wants.Step q) (Gives.Answered r b) after =
-    Stepped c log a q r after × (b ≡ begun_by (catalogue_of log) a q r)
-Due c log a (Wants.Load shape) (Gives.Answered r b) after = IfOperator (a == 0) (Loaded c log shape r after) r log after
-Due c log a (Wants.LoadWithoutMemory shape) (Gives.Answered r b) after =
+Due c log a (Wants.Step q) (Gives.Answered r b lent) after =
+    Stepped c log a q r after × (b ≡ begun_by (catalogue_of log) a q r) × IsLent log (lent_view lent)
+Due c log a (Wants.Load shape unit) (Gives.Answered r b lent) after =
+    IfOperator (a == 0) (Loaded c log shape (held unit) r after) r log after
+Due c log a (Wants.LoadWithoutMemory shape) (Gives.Answered r b lent) after =
     IfOperator (a == 0) (Unloaded c log shape r after) r log after
-Due c log a (Wants.SetList list) (Gives.Answered r b) after =
+Due c log a (Wants.SetList list) (Gives.Answered r b lent) after =
     IfOperator (a == 0) (Changed c log (Whole list) r after) r log after
-Due c log a (Wants.AppendLine line) (Gives.Answered r b) after =
+Due c log a (Wants.AppendLine line) (Gives.Answered r b lent) after =
     IfOperator (a == 0) (Changed c log (Append line) r after) r log after
-Due c log a (Wants.RemoveLine n) (Gives.Answered r b) after =
+Due c log a (Wants.RemoveLine n) (Gives.Answered r b lent) after =
     IfOperator (a == 0) (Changed c log (Remove n) r after) r log after
-Due c log a (Wants.ReplaceLine n line) (Gives.Answered r b) after =
+Due c log a (Wants.ReplaceLine n line) (Gives.Answered r b lent) after =
     IfOperator (a == 0) (Changed c log (Replace n line) r after) r log after
 Due c log a (Wants.Read from) (Gives.Read p) after = (p ≡ page (history_at c log) from) × (after ≡ log)
 Due c log a (Wants.Read from) Gives.Unread after = after ≡ log
@@ -107,10 +123,10 @@ entered_adds : (word : Option Recorded) (log : List Event) (a : ℕ) (q : Reques
 entered_adds None log a q after e = inl e
 entered_adds (Some word) log a q after e = inr (Asks a q word, e, refl)
 
-loaded_adds : (b : Bool) (log : List Event) (a : ℕ) (shape : Shape) (after : List Event) → 0 ≡ a
-    → after ≡ (if b then log ++ Loads shape ∷ [] else log) → Adds by log a after
-loaded_adds true log a shape after is e = inr (Loads shape, e, is)
-loaded_adds false log a shape after is e = inl e
+loaded_adds : (b : Bool) (log : List Event) (a : ℕ) (shape : Shape) (unit : UnitBodies) (after : List Event) → 0 ≡ a
+    → after ≡ (if b then log ++ Loads shape (Some unit) ∷ [] else log) → Adds by log a after
+loaded_adds true log a shape unit after is e = inr (Loads shape (Some unit), e, is)
+loaded_adds false log a shape unit after is e = inl e
 
 listed_adds : (list : Option (List Words)) (log : List Event) (a : ℕ) (after : List Event) → 0 ≡ a → after ≡ listed log list → Adds by log a after
 listed_adds None log a after is e = inl e
@@ -121,10 +137,10 @@ changed_adds : (b : Bool) (list : Option (List Words)) (log : List Event) (a : �
 changed_adds true list log a after is e = listed_adds list log a after is e
 changed_adds false list log a after is e = inl e
 
-load_adds : (b : Bool) (c : ℕ) (log : List Event) (a : ℕ) (shape : Shape) (r : Answer) (after : List Event) → (b ≡ true → 0 ≡ a)
-    → IfOperator b (Loaded c log shape r after) r log after → Adds by log a after
-load_adds true c log a shape r after is d = loaded_adds (is_some (recorded r)) log a shape after (is refl) d.1
-load_adds false c log a shape r after is d = inl d.1
+load_adds : (b : Bool) (c : ℕ) (log : List Event) (a : ℕ) (shape : Shape) (unit : UnitBodies) (r : Answer) (after : List Event) → (b ≡ true → 0 ≡ a)
+    → IfOperator b (Loaded c log shape unit r after) r log after → Adds by log a after
+load_adds true c log a shape unit r after is d = loaded_adds (is_some (recorded r)) log a shape unit after (is refl) d.1
+load_adds false c log a shape unit r after is d = inl d.1
 
 unload_adds : (b : Bool) (c : ℕ) (log : List Event) (a : ℕ) (shape : Shape) (r : Answer) (after : List Event)
     → IfOperator b (Unloaded c log shape r after) r log after → Adds by log a after
@@ -140,20 +156,20 @@ is_zero : (a : ℕ) → eqb a 0 ≡ true → 0 ≡ a
 is_zero a e = sym (eqb-true a 0 e)
 
 due_adds : (c : ℕ) (log : List Event) (a : ℕ) (ask : Ask) (reply : Reply) (after : List Event) → Due c log a ask reply after → Adds by log a after
-due_adds c log a (Wants.Step q) (Gives.Answered r b) after d = entered_adds (recorded r) log a q after d.0.1
-due_adds c log a (Wants.Load shape) (Gives.Answered r b) after d = load_adds (eqb a 0) c log a shape r after (is_zero a) d
-due_adds c log a (Wants.LoadWithoutMemory shape) (Gives.Answered r b) after d = unload_adds (eqb a 0) c log a shape r after d
-due_adds c log a (Wants.SetList list) (Gives.Answered r b) after d = change_adds (eqb a 0) c log a (Whole list) r after (is_zero a) d
-due_adds c log a (Wants.AppendLine line) (Gives.Answered r b) after d = change_adds (eqb a 0) c log a (Append line) r after (is_zero a) d
-due_adds c log a (Wants.RemoveLine n) (Gives.Answered r b) after d = change_adds (eqb a 0) c log a (Remove n) r after (is_zero a) d
-due_adds c log a (Wants.ReplaceLine n line) (Gives.Answered r b) after d = change_adds (eqb a 0) c log a (Replace n line) r after (is_zero a) d
+due_adds c log a (Wants.Step q) (Gives.Answered r b lent) after d = entered_adds (recorded r) log a q after d.0.1
+due_adds c log a (Wants.Load shape unit) (Gives.Answered r b lent) after d = load_adds (eqb a 0) c log a shape (held unit) r after (is_zero a) d
+due_adds c log a (Wants.LoadWithoutMemory shape) (Gives.Answered r b lent) after d = unload_adds (eqb a 0) c log a shape r after d
+due_adds c log a (Wants.SetList list) (Gives.Answered r b lent) after d = change_adds (eqb a 0) c log a (Whole list) r after (is_zero a) d
+due_adds c log a (Wants.AppendLine line) (Gives.Answered r b lent) after d = change_adds (eqb a 0) c log a (Append line) r after (is_zero a) d
+due_adds c log a (Wants.RemoveLine n) (Gives.Answered r b lent) after d = change_adds (eqb a 0) c log a (Remove n) r after (is_zero a) d
+due_adds c log a (Wants.ReplaceLine n line) (Gives.Answered r b lent) after d = change_adds (eqb a 0) c log a (Replace n line) r after (is_zero a) d
 due_adds c log a (Wants.Read from) (Gives.Read p) after d = inl d.1
 due_adds c log a (Wants.Read from) Gives.Unread after d = inl d
-due_adds c log a (Wants.Read from) (Gives.Answered r b) after d = absurd d
+due_adds c log a (Wants.Read from) (Gives.Answered r b lent) after d = absurd d
 due_adds c log a (Wants.Step q) (Gives.Read p) after d = absurd d
 due_adds c log a (Wants.Step q) Gives.Unread after d = absurd d
-due_adds c log a (Wants.Load shape) (Gives.Read p) after d = absurd d
-due_adds c log a (Wants.Load shape) Gives.Unread after d = absurd d
+due_adds c log a (Wants.Load shape unit) (Gives.Read p) after d = absurd d
+due_adds c log a (Wants.Load shape unit) Gives.Unread after d = absurd d
 due_adds c log a (Wants.LoadWithoutMemory shape) (Gives.Read p) after d = absurd d
 due_adds c log a (Wants.LoadWithoutMemory shape) Gives.Unread after d = absurd d
 due_adds c log a (Wants.SetList list) (Gives.Read p) after d = absurd d

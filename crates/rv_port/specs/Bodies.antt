@@ -1,17 +1,26 @@
 -- What runs between a start and its end. (own)
-use Rattle.std.specs.Prelude.{◌≡◌, ℤ, List, [], if◌then◌else◌}
+use Rattle.std.specs.Prelude.{◌≡◌, ℤ, List, [], if◌then◌else◌, Option, Some, None}
 use Rattle.rv_event.specs.declared.entry.Exit.TheVariants.{Raise}
 use Rattle.rv_event.specs.declared.entry.Exception.TheVariants.{ProgramError}
+use Rattle.rv_code.specs.Bodies.{UnitBodies}
+use Rattle.rv_exec.specs.Asking.{Along}
+use Rattle.rv_exec.specs.Blocks.{operation_run}
 use Rattle.rv_port.specs.declared.body.Ended.{Ended}
 use Rattle.rv_port.specs.declared.event.Begun.{Begun}
 use Rattle.rv_port.specs.Traces.{Trace}
 
--- the body of a unit that was loaded as a shape alone leaves the scalars, of which a function's end gives none, and exits
--- by `raise Program_Error` (own)
-abbrev pub left_alone : Begun → List ℤ → Ended
-left_alone begun scalars = record { scalars = if begun.is_function then [] else scalars; exit = Raise ProgramError }
+-- the scalars that an end gives: a function's gives none (9.5.1)
+abbrev pub given_by : Begun → List ℤ → List ℤ
+given_by begun scalars = if begun.is_function then [] else scalars
 
--- the body of this operation, called with these values on these scalars, asks this and ends so; all units are loaded as
--- shapes alone, and such a body asks nothing (own)
-abbrev pub Runs : Begun → List ℤ → List ℤ → Trace → Ended → Type 0
-Runs begun scalars arguments trace ended = (trace ≡ []) × (ended ≡ left_alone begun scalars)
+-- where the bodies couldn't be had the body leaves the scalars and exits by `raise Program_Error` (own)
+abbrev pub left_alone : Begun → List ℤ → Ended
+left_alone begun scalars = record { scalars = given_by begun scalars; exit = Raise ProgramError }
+
+-- Of these bodies that of this operation, called with these values on these scalars, asks this and ends so, by what bodies
+-- mean; an operation without a body leaves the scalars and exits by `raise Program_Error`. (own)
+abbrev pub Runs : Option UnitBodies → Begun → List ℤ → List ℤ → Trace → Ended → Type 0
+Runs None begun scalars arguments trace ended = (trace ≡ []) × (ended ≡ left_alone begun scalars)
+Runs (Some bodies) begun scalars arguments trace ended =
+    (left : List ℤ) × Along (operation_run bodies begun.object begun.operation arguments scalars) trace (ended.exit, left)
+    × (ended.scalars ≡ given_by begun left)

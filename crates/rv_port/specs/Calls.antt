@@ -1,5 +1,6 @@
 -- What a call on a port did. (own)
-use Rattle.std.specs.Prelude.{◌≡◌, ◌⊎◌, ℤ, ◌≤◌, Bool, true, false, List, [], ◌∷◌, ◌++◌, Some}
+use Rattle.std.specs.Prelude.{◌≡◌, ◌⊎◌, ℤ, ◌≤◌, Bool, true, false, List, [], ◌∷◌, ◌++◌, Option, Some}
+use Rattle.rv_code.specs.Bodies.{UnitBodies}
 use Rattle.rv_event.specs.declared.entry.Request.{Request}
 use Rattle.rv_event.specs.declared.entry.Request.TheVariants.{Complete, Resume}
 use Rattle.rv_event.specs.declared.entry.Exit.{Exit}
@@ -17,6 +18,7 @@ use Rattle.rv_port.specs.declared.reached.Reached.TheVariants as Reaches
 use Rattle.rv_port.specs.Events.{catalogue_of, called}
 use Rattle.rv_turn.specs.Histories.{StartsWith}
 use Rattle.rv_port.specs.Traces.{Passing, Trace, Went, Asked, asks_on}
+use Rattle.rv_port.specs.Acting.{IsLent}
 use Rattle.rv_port.specs.Bodies.{Runs}
 use Rattle.rv_port.specs.Reaching.{arguments_of, reads, values_of, plain_of, end_of, reached_by, waited_for}
 
@@ -36,32 +38,38 @@ pub record Stays (v w : Passing) : Type 0 where
 abbrev pub Wore : Passing → Reached → Passing → Type 0
 Wore v reached w = Went v [] w × (w.left ≡ 0) × (reached ≡ Reaches.Stopped)
 
--- A body that started asked what it asks, and ended, where an act was left. (own)
-pub record RanOn (started : Passing) (begun : Begun) (scalars arguments : List ℤ) (reached : Reached) (w : Passing) : Type 0 where
+-- A body that started asked what it asks by these bodies, and ended, where an act was left. (own)
+pub record RanOn (bodies : Option UnitBodies) (started : Passing) (begun : Begun) (scalars arguments : List ℤ) (reached : Reached) (w : Passing) : Type 0 where
   pub trace : Trace
   pub ended : Ended
-  pub runs : Runs begun scalars arguments trace ended
+  pub runs : Runs bodies begun scalars arguments trace ended
   pub body : Passing
   pub went : Went started trace body
   pub end_is : Wore body reached w
       ⊎ ((d : Answer) × Asked body (Complete ended.scalars ended.exit) d w × (asks_on d ≡ false) × (reached ≡ end_of d ended.exit))
 
--- what followed an answer to a resume (own)
-abbrev pub Resumed : Answer → Passing → Request → Reached → Passing → Type 0
-Resumed (Answers.Woken (Some scalars)) u q reached w = RanOn u (waited_for q) scalars (arguments_of q) reached w
-Resumed r u q reached w = (w ≡ u) × (reached ≡ plain_of false r)
+-- The same by the bodies of all units that this history loads, or without, where a port can't hold them. (own)
+abbrev pub Ran : List Event → Passing → Begun → List ℤ → List ℤ → Reached → Passing → Type 0
+Ran log started begun scalars arguments reached w =
+    (bodies : Option UnitBodies) × IsLent log bodies × RanOn bodies started begun scalars arguments reached w
+
+-- what followed an answer to a resume, on this history (own)
+abbrev pub Resumed : Answer → List Event → Passing → Request → Reached → Passing → Type 0
+Resumed (Answers.Woken (Some scalars)) log u q reached w = Ran log u (waited_for q) scalars (arguments_of q) reached w
+Resumed r log u q reached w = (w ≡ u) × (reached ≡ plain_of false r)
 
 -- the wait of a request: its resume, and what followed it (own)
 abbrev pub Waited : Passing → Request → Reached → Passing → Type 0
-Waited v q reached w = Wore v reached w ⊎ ((r : Answer) × (u : Passing) × Asked v Resume r u × (asks_on r ≡ false) × Resumed r u q reached w)
+Waited v q reached w =
+    Wore v reached w ⊎ ((r : Answer) × (u : Passing) × (x : Asked v Resume r u) × (asks_on r ≡ false) × Resumed r x.at u q reached w)
 
--- what followed an answer to a request, where a start is of this operation (own)
-abbrev pub Followed : Answer → Begun → Passing → Request → Reached → Passing → Type 0
-Followed (Answers.Started scalars) begun u q reached w = RanOn u begun scalars (arguments_of q) reached w
-Followed Answers.Queued begun u q reached w = Waited u q reached w
-Followed Answers.Suspended begun u q reached w = Waited u q reached w
-Followed Answers.Delayed begun u q reached w = Waited u q reached w
-Followed r begun u q reached w = (w ≡ u) × (reached ≡ plain_of (reads q) r)
+-- what followed an answer to a request on this history, where a start is of this operation (own)
+abbrev pub Followed : Answer → List Event → Begun → Passing → Request → Reached → Passing → Type 0
+Followed (Answers.Started scalars) log begun u q reached w = Ran log u begun scalars (arguments_of q) reached w
+Followed Answers.Queued log begun u q reached w = Waited u q reached w
+Followed Answers.Suspended log begun u q reached w = Waited u q reached w
+Followed Answers.Delayed log begun u q reached w = Waited u q reached w
+Followed r log begun u q reached w = (w ≡ u) × (reached ≡ plain_of (reads q) r)
 
 -- One performance of a request: its answer, which is due on a legal history that begins with all that was seen, and what
 -- followed: a body and its end, a wait, or nothing. Or no act was left. (own)
@@ -69,7 +77,7 @@ abbrev pub Performed : Passing → Request → Reached → Passing → Type 0
 Performed v q reached w =
     Wore v reached w
     ⊎ ((r : Answer) × (u : Passing) × (x : Asked v q r u) × (asks_on r ≡ false)
-    × Followed r (called (catalogue_of x.at) v.actor q) u q reached w)
+    × Followed r x.at (called (catalogue_of x.at) v.actor q) u q reached w)
 
 -- The pass's own events have grown, and this is the last. (own)
 abbrev pub GrewBy : Passing → Event → Passing → Type 0

@@ -1,5 +1,6 @@
 -- What a host is at the close. (own)
 use Rattle.std.specs.Prelude.{◌≡◌, List, Some}
+use Rattle.rv_code.specs.declared.body.UnitBodies.{UnitBodies}
 use Rattle.rv_history.specs.History.{History}
 use Rattle.rv_history.specs.Legal.{Legal}
 use Rattle.rv_turn.specs.Histories.{Each, NoStrangers}
@@ -10,10 +11,11 @@ use Rattle.rv_port.specs.Traces.{Passing}
 
 -- The host's journal is legal; it begins with all that the control and each port had seen, and has of the operator and of
 -- each port's actor the entries that they made, behind those that were there at first. An actor that was given no port has
--- no entry. (own)
+-- no entry. The journal has no bodies; these were kept behind it. (own)
 pub record IsClosed (control : Passing) (ports : List Passing) (h : History) : Type 0 where
   pub legal : Legal h
-  pub operator : StandsIn by (log_of h) control
-  pub ports_stand : Each (StandsIn by (log_of h)) ports
-  pub strangers : NoStrangers by (log_of h) control.given
+  pub units : List UnitBodies
+  pub operator : StandsIn by (log_of h units) control
+  pub ports_stand : Each (StandsIn by (log_of h units)) ports
+  pub strangers : NoStrangers by (log_of h units) control.given
   pub limits : control.about ≡ Some (limits_of h)

@@ -1,5 +1,5 @@
 -- What the control of a host behind a turn gives out. (own)
-use Rattle.std.specs.Prelude.{◌≡◌, ℕ, ◌<◌, ◌≤◌, Bool, true, false, ◌==◌, ◌||◌, List, [], ◌∷◌, ◌++◌}
+use Rattle.std.specs.Prelude.{◌≡◌, ◌⊎◌, ℕ, length, map, ◌<◌, ◌≤◌, Bool, true, false, ◌==◌, ◌||◌, List, [], ◌∷◌, ◌++◌}
 use Rattle.atomic_table.specs.Seated.{TableId}
 use Rattle.rv_shape.specs.Shape.{Shape}
 use Rattle.rv_event.specs.declared.entry.Entry.{Entry}
@@ -8,7 +8,14 @@ use Rattle.rv_event.specs.declared.entry.Answer.{Answer}
 use Rattle.rv_event.specs.declared.entry.Answer.TheVariants.{Misuse}
 use Rattle.rv_turn.specs.Histories.{mine}
 use Rattle.rv_turn.specs.Passes.{Acted, Parted, IsWorn}
-use Rattle.rv_port.specs.Events.{by, catalogue_of}
+use Rattle.rv_code.specs.Bodies as Code
+use Rattle.rv_code.specs.BodyView.{unit_view}
+use Rattle.rv_code.specs.declared.body.UnitBodies.{UnitBodies}
+use Rattle.rv_exec.specs.Bodies.{held, unit_without_bodies}
+use Rattle.rv_exec.specs.declared.bodies.SharedUnit.{SharedUnit}
+use Rattle.rv_history.specs.History.{History}
+use Rattle.rv_port.specs.Events.{by, log_of, catalogue_of}
+use Rattle.rv_port.specs.declared.event.Event.{Event}
 use Rattle.rv_port.specs.Acting.{Does}
 use Rattle.rv_port.specs.Actors.{is_performer}
 use Rattle.rv_port.specs.Traces.{Passing}
@@ -53,13 +60,26 @@ pub record IsGiven (control : Passing) (actor : ℕ) (after port : Passing) : Ty
 
 -- the answer in a reply; only a page has none (own)
 abbrev pub answer_in : Reply → Answer
-answer_in (Gives.Answered answer begun) = answer
+answer_in (Gives.Answered answer begun lent) = answer
 answer_in (Gives.Read page) = Misuse
 answer_in Gives.Unread = Misuse
 
 -- An answer to an ask of the operator: it is due on a legal history that begins with all that was seen. (own)
 abbrev pub Told : Passing → Ask → Answer → Passing → Type 0
 Told v ask r w = (reply : Reply) × (r ≡ answer_in reply) × Acted by Does v ask reply w
+
+-- A load is answered: of the unit with such bodies, or as one that there is no memory for, which is never accepted. (own)
+abbrev pub LoadTold : Passing → Shape → (UnitBodies → Type 0) → Answer → Passing → Type 0
+LoadTold v shape Such r w =
+    ((unit : SharedUnit) × Such (held unit) × Told v (Ask.Load shape unit) r w) ⊎ Told v (Ask.LoadWithoutMemory shape) r w
+
+-- the bodies of a unit that was loaded as a shape alone: none (own)
+abbrev pub no_bodies_of : Shape → Code.UnitBodies
+no_bodies_of shape = unit_without_bodies (length shape.objects) (length shape.tasks)
+
+-- The history that a control begins with is that of the host, whose units have no bodies. (own)
+abbrev pub BeginsWith : History → List Event → Type 0
+BeginsWith h log = (units : List UnitBodies) × (map unit_view units ≡ map no_bodies_of h.shapes) × (log ≡ log_of h units)
 
 -- The pass of a control is the first of its turn; the control knows who was given a port, and the catalogue. (own)
 pub record IsControl (turn : TableId) (pass : Passing) (given : List ℕ) (catalogue : List Shape) : Type 0 where

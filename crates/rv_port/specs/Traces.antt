@@ -10,7 +10,8 @@ use Rattle.rv_history.specs.Legal.{Legal}
 use Rattle.rv_turn.specs.Histories.{mine, StartsWith}
 use Rattle.rv_turn.specs.Passes.{Known}
 use Rattle.rv_port.specs.Events.{by, history_at, catalogue_of}
-use Rattle.rv_port.specs.Acting.{grown, begun_by}
+use Rattle.rv_port.specs.Acting.{grown, begun_by, IsLent, lent_view}
+use Rattle.rv_port.specs.declared.event.Lent.{Lent}
 use Rattle.rv_port.specs.declared.event.Begun.{Begun}
 use Rattle.rv_port.specs.declared.event.Event.{Event}
 use Rattle.rv_port.specs.declared.event.Event.TheVariants.{Asks}
@@ -95,7 +96,8 @@ pub record Asked (v : Passing) (q : Request) (r : Answer) (w : Passing) : Type 0
   pub legal : Legal (history_at (capacity_in v.about) at)
   pub due_is : r ≡ out (history_at (capacity_in v.about) at) v.actor q
 
--- one request, with the operation whose body the answer starts (own)
-pub record Replied (v : Passing) (q : Request) (r : Answer) (begun : Begun) (w : Passing) : Type 0 where
+-- one request, with the operation whose body the answer starts, and the bodies that it brings (own)
+pub record Replied (v : Passing) (q : Request) (r : Answer) (begun : Begun) (lent : Option Lent) (w : Passing) : Type 0 where
   pub asked : Asked v q r w
+  pub lent_is : IsLent asked.at (lent_view lent)
   pub begun_is : begun ≡ begun_by (catalogue_of asked.at) v.actor q r

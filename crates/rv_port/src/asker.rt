@@ -8,8 +8,9 @@ ghost use Rattle.rv_port.specs.Traces.{Went, Asked, Replied, IsTold, told, asks_
 
 use crate::behind::Behind;
 use crate::bell::Bell;
-use crate::event::{Ask, Begun, Reply};
+use crate::event::{Ask, Begun, Lent, Reply};
 use rv_event::entry::{Answer, Request};
+use rv_exec::outward::Outward;
 use rv_turn::Pass;
 use std::alloc::Global;
 use std::sync::{Arc, Wait};
@@ -20,6 +21,8 @@ use std::sync::{Arc, Wait};
 pub(crate) struct Asker {
     pub(crate) pass: Pass<Behind>,
     pub(crate) bell: Arc<Bell, Global>,
+    // Whether bodies that were wanted couldn't be had.
+    pub(crate) is_refused: bool,
     pub(crate) ghost given: { pass.first ≡ false },
     pub(crate) ghost handles: { HasHandler (catalogue_of pass.seen) pass.actor },
     pub(crate) ghost owns: { mine by pass.actor pass.seen ≡ pass.base ++ pass.own },
@@ -44,50 +47,74 @@ fn told_of(answer: Answer) -> Answer
 
 impl Asker {
     /// Asks once. None where no act is left.
-    pub(crate) fn try_ask<R: Wait>(&mut self, rt: &R, request: &Request) -> Option<(Answer, Begun)>
-        ensures some { IfSome result (λ r. Replied self.old.pass request.now r.0 r.1 self.new.pass) }
+    pub(crate) fn try_ask<R: Wait>(
+        &mut self,
+        rt: &R,
+        request: &Request,
+    ) -> Option<(Answer, Begun, Option<Lent>)>
+        ensures some { IfSome result (λ r. Replied self.old.pass request.now r.0 r.1 r.2 self.new.pass) }
         ensures none { IfNone result ((self.new.pass ≡ self.old.pass) × (self.old.pass.left ≡ 0)) }
     {
         let Ok(reply) = self.pass.act(rt, Ask::Step(*request)) else {
             return None;
         };
-        match &reply {
-            Reply::Answered(answer, begun) => Some((*answer, *begun)),
+        match reply {
+            Reply::Answered(answer, begun, lent) => Some((answer, begun, lent)),
             _ => unreachable!(),
         }
     }
 
     /// Asks, and again at each ring while the answer is Busy or Waiting. None where no act is left.
-    pub(crate) fn insist<R: Wait>(&mut self, rt: &R, request: &Request) -> Option<(Answer, Begun)>
-        ensures some { IfSome result (λ r. Replied self.old.pass request.now r.0 r.1 self.new.pass × (asks_on r.0 ≡ false)) }
+    pub(crate) fn insist<R: Wait>(
+        &mut self,
+        rt: &R,
+        request: &Request,
+    ) -> Option<(Answer, Begun, Option<Lent>)>
+        ensures some { IfSome result (λ r. Replied self.old.pass request.now r.0 r.1 r.2 self.new.pass × (asks_on r.0 ≡ false)) }
         ensures none { IfNone result (Went self.old.pass [] self.new.pass × (self.new.pass.left ≡ 0)) }
     {
         for _ in rt.forever() {
             let rings = self.bell.rings(rt);
-            let Some((answer, begun)) = self.try_ask(rt, request) else {
+            let Some((answer, begun, lent)) = self.try_ask(rt, request) else {
                 return None;
             };
             if !must_wait(&answer) {
                 if answer.recorded().is_some() {
                     self.bell.ring(rt);
                 }
-                return Some((answer, begun));
+                return Some((answer, begun, lent));
             }
             self.bell.wait_past(rt, rings);
         }
         unreachable!()
     }
 
-    /// Asks for a body: Full in place of Misuse, and where no act is left.
+    // Asks for a body: Full in place of Misuse, and where no act is left.
     #[tactic(auto, using(crate::proofs::Asking::worn_told))]
-    pub(crate) fn ask<R: Wait>(&mut self, rt: &R, request: &Request) -> Answer
+    fn ask_for_body<R: Wait>(&mut self, rt: &R, request: &Request) -> Answer
         ensures went { Went self.old.pass ((request.now, result) ∷ []) self.new.pass }
         ensures told { IsTold result }
     {
         let Some(given) = self.insist(rt, request) else {
             return Answer::Full;
         };
-        let (answer, _begun) = given;
+        let (answer, _begun, _lent) = given;
         told_of(answer)
     }
+}
+
+impl<R: Wait> Outward<R> for Asker {
+    ghost use Rattle.rv_port.specs.Traces.{Went};
+    ghost use Rattle.rv_port.specs.Composing.{went_none, went_both};
+
+    ghost went = { λ s trace t. Went s.pass trace t.pass };
+
+    #[tactic(auto, using(crate::proofs::Asking::told_stands))]
+    fn ask(&mut self, rt: &R, request: Request) -> Answer {
+        self.ask_for_body(rt, &request)
+    }
+
+    ghost none = { λ s. went_none s.pass };
+
+    ghost both = { λ s t u a b p q. went_both s.pass t.pass u.pass a b p q };
 }

@@ -1,26 +1,33 @@
 //! The host behind the turn.
 
-ghost use Rattle.std.specs.Prelude.{◌≡◌, ℕ, length};
-ghost use Rattle.rv_port.specs.Events.{log_of, called, begun_at};
-ghost use Rattle.rv_port.specs.Acting.{Does, Loaded, Unloaded, Changed, begun_by, limits_of};
+ghost use Rattle.std.specs.Prelude.{◌≡◌, ℕ, ◌++◌, ◌∷◌, [], length, IfOk, IfSome, Some, None};
+ghost use Rattle.std.specs.Arc.{arc_value};
+ghost use Rattle.rv_exec.specs.Bodies.{bodies_view, units_of, held};
+ghost use Rattle.rv_port.specs.Events.{log_in, called, begun_at};
+ghost use Rattle.rv_port.specs.Acting.{Does, Loaded, Unloaded, Changed, begun_by, limits_of, lent_view};
 ghost use Rattle.rv_history.specs.Lists.{Whole, Append, Remove, Replace};
 
-use crate::event::{Ask, Begun, Event, Limits, Reply};
+use crate::event::{Ask, Begun, Event, Lent, Limits, Reply};
 use rv_access::{AccessList, Line};
 use rv_event::entry::{Answer, Request};
+use rv_exec::bodies::{Bodies, SharedUnit};
 use rv_host::host::Host;
 use rv_host::pages::Page;
 use rv_shape::actor::Callee;
 use rv_shape::catalogue::Catalogue;
 use rv_shape::shape::UnitShape;
 use rv_turn::Counted;
-use std::alloc::Global;
+use std::alloc::{AllocError, Global};
+use std::sync::Arc;
 
-/// The host, as what threads act on one at a time.
+/// The host, as what threads act on one at a time, and the bodies of its units, of which each load
+/// brings those of one.
 #[derive(Drop)]
 pub struct Behind {
     pub(crate) alloc: Global,
     pub(crate) host: Host,
+    pub(crate) bodies: Arc<Bodies, Global>,
+    pub(crate) ghost brought: { length (units_of (arc_value bodies)) ≡ length host.shapes },
 }
 
 // No operation.
@@ -69,22 +76,56 @@ fn begun_by(catalogue: &Catalogue, actor: usize, request: &Request, answer: &Ans
     }
 }
 
+// Whether a body starts with the answer.
+fn starts(answer: &Answer) -> bool {
+    matches!(answer, Answer::Started(_) | Answer::Woken(Some(_)))
+}
+
+// The bodies with those of one more unit, which others may hold.
+fn grown(
+    alloc: Global,
+    bodies: &Bodies,
+    unit: SharedUnit,
+) -> Result<Arc<Bodies, Global>, AllocError>
+    ensures { IfOk result (λ b. units_of (arc_value b) ≡ units_of bodies.now ++ held unit ∷ []) }
+{
+    let bodies = bodies.with(unit)?;
+    match Arc::new(alloc, bodies) {
+        Ok(bodies) => Ok(bodies),
+        Err(_) => Err(AllocError),
+    }
+}
+
 impl Behind {
+    // The bodies, for an answer that starts one. None where there are too many holders of them.
+    fn lend(&self, answer: &Answer) -> Option<Lent>
+        ensures { IfSome result (λ l. bodies_view (arc_value l.bodies) ≡ bodies_view (arc_value self.now.bodies)) }
+    {
+        if !starts(answer) {
+            return None;
+        }
+        match Arc::try_clone(&self.bodies) {
+            Ok(bodies) => Some(Lent { bodies }),
+            Err(_) => None,
+        }
+    }
+
     // A request.
-    #[tactic(auto, using(crate::proofs::Doing::stepped))]
+    #[tactic(auto, using(crate::proofs::Doing::brought_step))]
     fn step(&mut self, actor: u64, request: Request) -> Reply
-        ensures does { Does (limits_of self.old.host) (log_of self.old.host) actor (Ask.Step request) result (log_of self.new.host) }
+        ensures does { Does (limits_of self.old.host) (log_in self.old.host (arc_value self.old.bodies)) actor (Ask.Step request) result (log_in self.new.host (arc_value self.new.bodies)) }
         ensures about { self.new.host.capacity ≡ self.old.host.capacity }
     {
         self.host.replays();
         let answer = self.host.step(actor as usize, request);
         let begun = begun_by(self.host.catalogue(), actor as usize, &request, &answer);
-        Reply::Answered(answer, begun)
+        let lent = self.lend(&answer);
+        Reply::Answered(answer, begun, lent)
     }
 
     // A page.
     fn read(&mut self, actor: u64, from: usize) -> Reply
-        ensures does { Does (limits_of self.old.host) (log_of self.old.host) actor (Ask.Read from) result (log_of self.new.host) }
+        ensures does { Does (limits_of self.old.host) (log_in self.old.host (arc_value self.old.bodies)) actor (Ask.Read from) result (log_in self.new.host (arc_value self.new.bodies)) }
         ensures about { self.new.host.capacity ≡ self.old.host.capacity }
     {
         self.host.replays();
@@ -95,18 +136,26 @@ impl Behind {
         }
     }
 
-    // A load by the operator.
-    fn load(&mut self, shape: &UnitShape) -> Answer
-        ensures does { Loaded self.old.host.capacity (log_of self.old.host) shape.now result (log_of self.new.host) }
+    // A load by the operator. The memory of its bodies is taken before its entry is added.
+    fn load(&mut self, shape: &UnitShape, unit: SharedUnit) -> Answer
+        ensures does { Loaded self.old.host.capacity (log_in self.old.host (arc_value self.old.bodies)) shape.now (held unit) result (log_in self.new.host (arc_value self.new.bodies)) }
         ensures about { self.new.host.capacity ≡ self.old.host.capacity }
     {
         self.host.replays();
-        self.host.load(shape)
+        let Ok(bodies) = grown(self.alloc, &self.bodies, unit) else {
+            return self.load_without_memory(shape);
+        };
+        let answer = self.host.load(shape);
+        if answer.recorded().is_none() {
+            return answer;
+        }
+        self.bodies = bodies;
+        answer
     }
 
     // A load by the operator, for which there is no memory.
     fn load_without_memory(&mut self, shape: &UnitShape) -> Answer
-        ensures does { Unloaded self.old.host.capacity (log_of self.old.host) shape.now result (log_of self.new.host) }
+        ensures does { Unloaded self.old.host.capacity (log_in self.old.host (arc_value self.old.bodies)) shape.now result (log_in self.new.host (arc_value self.new.bodies)) }
         ensures about { self.new.host.capacity ≡ self.old.host.capacity }
     {
         self.host.replays();
@@ -119,7 +168,7 @@ impl Behind {
 
     // A list change by the operator, whole.
     fn set_list(&mut self, list: &AccessList) -> Answer
-        ensures does { Changed self.old.host.capacity (log_of self.old.host) (Whole list.now) result (log_of self.new.host) }
+        ensures does { Changed self.old.host.capacity (log_in self.old.host (arc_value self.old.bodies)) (Whole list.now) result (log_in self.new.host (arc_value self.new.bodies)) }
         ensures about { self.new.host.capacity ≡ self.old.host.capacity }
     {
         self.host.replays();
@@ -128,7 +177,7 @@ impl Behind {
 
     // A line more.
     fn append_line(&mut self, line: &Line) -> Answer
-        ensures does { Changed self.old.host.capacity (log_of self.old.host) (Append line.now) result (log_of self.new.host) }
+        ensures does { Changed self.old.host.capacity (log_in self.old.host (arc_value self.old.bodies)) (Append line.now) result (log_in self.new.host (arc_value self.new.bodies)) }
         ensures about { self.new.host.capacity ≡ self.old.host.capacity }
     {
         self.host.replays();
@@ -137,7 +186,7 @@ impl Behind {
 
     // A line less.
     fn remove_line(&mut self, number: usize) -> Answer
-        ensures does { Changed self.old.host.capacity (log_of self.old.host) (Remove number) result (log_of self.new.host) }
+        ensures does { Changed self.old.host.capacity (log_in self.old.host (arc_value self.old.bodies)) (Remove number) result (log_in self.new.host (arc_value self.new.bodies)) }
         ensures about { self.new.host.capacity ≡ self.old.host.capacity }
     {
         self.host.replays();
@@ -146,7 +195,7 @@ impl Behind {
 
     // Another line in the place of one.
     fn replace_line(&mut self, number: usize, line: &Line) -> Answer
-        ensures does { Changed self.old.host.capacity (log_of self.old.host) (Replace number line.now) result (log_of self.new.host) }
+        ensures does { Changed self.old.host.capacity (log_in self.old.host (arc_value self.old.bodies)) (Replace number line.now) result (log_in self.new.host (arc_value self.new.bodies)) }
         ensures about { self.new.host.capacity ≡ self.old.host.capacity }
     {
         self.host.replays();
@@ -155,22 +204,22 @@ impl Behind {
 
     // What the operator asks.
     fn operate(&mut self, ask: Ask) -> Reply
-        ensures does { Does (limits_of self.old.host) (log_of self.old.host) 0 ask result (log_of self.new.host) }
+        ensures does { Does (limits_of self.old.host) (log_in self.old.host (arc_value self.old.bodies)) 0 ask result (log_in self.new.host (arc_value self.new.bodies)) }
         ensures about { self.new.host.capacity ≡ self.old.host.capacity }
     {
         self.host.replays();
         match ask {
             Ask::Step(request) => self.step(0, request),
             Ask::Read(from) => self.read(0, from),
-            Ask::Load(shape) => Reply::Answered(self.load(&shape), NONE),
+            Ask::Load(shape, unit) => Reply::Answered(self.load(&shape, unit), NONE, None),
             Ask::LoadWithoutMemory(shape) => {
-                Reply::Answered(self.load_without_memory(&shape), NONE)
+                Reply::Answered(self.load_without_memory(&shape), NONE, None)
             }
-            Ask::SetList(list) => Reply::Answered(self.set_list(&list), NONE),
-            Ask::AppendLine(line) => Reply::Answered(self.append_line(&line), NONE),
-            Ask::RemoveLine(number) => Reply::Answered(self.remove_line(number), NONE),
+            Ask::SetList(list) => Reply::Answered(self.set_list(&list), NONE, None),
+            Ask::AppendLine(line) => Reply::Answered(self.append_line(&line), NONE, None),
+            Ask::RemoveLine(number) => Reply::Answered(self.remove_line(number), NONE, None),
             Ask::ReplaceLine(number, line) => {
-                Reply::Answered(self.replace_line(number, &line), NONE)
+                Reply::Answered(self.replace_line(number, &line), NONE, None)
             }
         }
     }
@@ -178,26 +227,27 @@ impl Behind {
     // What another actor asks.
     fn serve(&mut self, actor: u64, ask: Ask) -> Reply
         requires { actor ≡ 0 → ⊥ }
-        ensures does { Does (limits_of self.old.host) (log_of self.old.host) actor ask result (log_of self.new.host) }
+        ensures does { Does (limits_of self.old.host) (log_in self.old.host (arc_value self.old.bodies)) actor ask result (log_in self.new.host (arc_value self.new.bodies)) }
         ensures about { self.new.host.capacity ≡ self.old.host.capacity }
     {
         self.host.replays();
         match ask {
             Ask::Step(request) => self.step(actor, request),
             Ask::Read(from) => self.read(actor, from),
-            Ask::Load(_shape) => Reply::Answered(Answer::Misuse, NONE),
-            Ask::LoadWithoutMemory(_shape) => Reply::Answered(Answer::Misuse, NONE),
-            Ask::SetList(_list) => Reply::Answered(Answer::Misuse, NONE),
-            Ask::AppendLine(_line) => Reply::Answered(Answer::Misuse, NONE),
-            Ask::RemoveLine(_number) => Reply::Answered(Answer::Misuse, NONE),
-            Ask::ReplaceLine(_number, _line) => Reply::Answered(Answer::Misuse, NONE),
+            Ask::Load(_shape, _unit) => Reply::Answered(Answer::Misuse, NONE, None),
+            Ask::LoadWithoutMemory(_shape) => Reply::Answered(Answer::Misuse, NONE, None),
+            Ask::SetList(_list) => Reply::Answered(Answer::Misuse, NONE, None),
+            Ask::AppendLine(_line) => Reply::Answered(Answer::Misuse, NONE, None),
+            Ask::RemoveLine(_number) => Reply::Answered(Answer::Misuse, NONE, None),
+            Ask::ReplaceLine(_number, _line) => Reply::Answered(Answer::Misuse, NONE, None),
         }
     }
 }
 
 impl Counted for Behind {
     ghost use Rattle.std.specs.Prelude.{ℕ};
-    ghost use Rattle.rv_port.specs.Events.{log_of, by};
+    ghost use Rattle.std.specs.Arc.{arc_value};
+    ghost use Rattle.rv_port.specs.Events.{log_in, by};
     ghost use Rattle.rv_port.specs.Acting.{Does, adds, limits_of};
 
     type Ask = Ask;
@@ -208,7 +258,7 @@ impl Counted for Behind {
 
     type About = Limits;
 
-    ghost history = { λ b. log_of b.host };
+    ghost history = { λ b. log_in b.host (arc_value b.bodies) };
 
     ghost about = { λ b. limits_of b.host };
 

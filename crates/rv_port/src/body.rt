@@ -1,13 +1,19 @@
-//! The place where bodies come in: what runs between a start and its end.
+//! What runs between a start and its end.
 
-ghost use Rattle.std.specs.Prelude.{◌≡◌};
+ghost use Rattle.std.specs.Prelude.{◌≡◌, Some};
+ghost use Rattle.std.specs.Arc.{arc_value};
+ghost use Rattle.rv_exec.specs.Bodies.{bodies_view};
+ghost use Rattle.rv_port.specs.Acting.{lent_view};
 ghost use Rattle.rv_port.specs.Traces.{Trace, Went};
-ghost use Rattle.rv_port.specs.Bodies.{Runs, left_alone};
+ghost use Rattle.rv_port.specs.Bodies.{Runs, left_alone, given_by};
 
 use crate::asker::Asker;
-use crate::event::Begun;
+use crate::event::{Begun, Lent};
 use rv_event::entry::{Exception, Exit};
+use rv_exec::bodies::Bodies;
+use rv_exec::machine::run_body;
 use rv_value::{Args, Scalars};
+use std::sync::Wait;
 
 /// How a body ended, and the scalars that it leaves, none for a function.
 #[derive(Clone, Copy, Drop)]
@@ -16,31 +22,71 @@ pub(crate) struct Ended {
     pub(crate) exit: Exit,
 }
 
-// The end of a body of a unit that was loaded as a shape alone.
+// The end of a body that couldn't be had.
 fn left_alone(begun: &Begun, scalars: &Scalars) -> Ended
     ensures { result ≡ left_alone begun.now scalars.now }
 {
     Ended {
-        scalars: if begun.is_function {
-            Scalars::new()
-        } else {
-            *scalars
-        },
+        scalars: given_by(begun, scalars),
         exit: Exit::Raise(Exception::ProgramError),
     }
 }
 
-/// Runs the body of an operation on these scalars, with these values, asking by the port's own
-/// asker. All units are loaded as shapes alone so far: such a body asks nothing, leaves the scalars
-/// and exits by `raise Program_Error`.
-pub(crate) fn run<R>(
-    _rt: &R,
-    _asker: &mut Asker,
+// The scalars that an end gives.
+fn given_by(begun: &Begun, scalars: &Scalars) -> Scalars
+    ensures { result ≡ given_by begun.now scalars.now }
+{
+    if begun.is_function {
+        Scalars::new()
+    } else {
+        *scalars
+    }
+}
+
+// Runs the body of an operation, of these.
+fn run_one<R: Wait>(
+    rt: &R,
+    asker: &mut Asker,
+    bodies: &Bodies,
     begun: &Begun,
     scalars: &Scalars,
-    _args: &Args,
+    args: &Args,
 ) -> Ended
-    ensures { (trace : Trace) × Runs begun.now scalars.now _args.now trace result × Went _asker.old.pass trace _asker.new.pass }
+    ensures { (trace : Trace) × Runs (Some (bodies_view bodies.now)) begun.now scalars.now args.now trace result × Went asker.old.pass trace asker.new.pass }
 {
-    left_alone(begun, scalars)
+    let ended = run_body(
+        rt,
+        bodies,
+        begun.object,
+        begun.operation,
+        *scalars,
+        *args,
+        asker,
+    );
+    Ended {
+        scalars: given_by(begun, &ended.scalars),
+        exit: ended.exit,
+    }
+}
+
+/// Runs the body of an operation on these scalars, with these values, asking by the port's own
+/// asker, outside the turn. Where the bodies couldn't be had it asks nothing, leaves the scalars and
+/// exits by `raise Program_Error`.
+pub(crate) fn run<R: Wait>(
+    rt: &R,
+    asker: &mut Asker,
+    lent: &Option<Lent>,
+    begun: &Begun,
+    scalars: &Scalars,
+    args: &Args,
+) -> Ended
+    ensures { (trace : Trace) × Runs (lent_view lent.now) begun.now scalars.now args.now trace result × Went asker.old.pass trace asker.new.pass }
+{
+    match lent {
+        Some(lent) => run_one(rt, asker, &lent.bodies, begun, scalars, args),
+        None => {
+            asker.is_refused = true;
+            left_alone(begun, scalars)
+        }
+    }
 }

@@ -11,10 +11,14 @@ pub struct Note {
 }
 
 impl Model for Note {
+    ghost use Rattle.std.specs.Coded.{codes};
+    ghost use Rattle.rv_port.specs.contracts.event.Event as e;
     ghost use Rattle.rv_turn.specs.Passes.{Noted};
     ghost use Rattle.rv_port.specs.declared.event.Event.{Event};
 
     ghost Value = { Noted Event };
+
+    ghost coded = { Prim.hlevel (codes, e.the_row.coded) };
 
     ghost view = { λ n. n.note };
 }

@@ -1,12 +1,13 @@
 //! One performance of a request: its answer, and where a body starts, the body and its end.
 
 ghost use Rattle.std.specs.Prelude.{◌≡◌};
+ghost use Rattle.rv_port.specs.Acting.{lent_view};
 ghost use Rattle.rv_port.specs.Calls.{RanOn, Waited, Performed, Stays, Tied};
 ghost use Rattle.rv_port.specs.Reaching.{Performs};
 
 use crate::asker::Asker;
 use crate::body::run;
-use crate::event::Begun;
+use crate::event::{Begun, Lent};
 use crate::gate::Gate;
 use crate::reached::{Reached, arguments_of, ended_as, is_wait, plain, reads, waited_for};
 use rv_event::entry::{Answer, Request};
@@ -19,19 +20,20 @@ impl Asker {
         &mut self,
         rt: &R,
         gate: &G,
+        lent: Option<Lent>,
         begun: &Begun,
         scalars: &Scalars,
         args: &Args,
     ) -> Reached
-        ensures { RanOn self.old.pass begun.now scalars.now args.now result self.new.pass }
+        ensures { RanOn (lent_view lent) self.old.pass begun.now scalars.now args.now result self.new.pass }
     {
-        let ended = run::<R>(rt, self, begun, scalars, args);
+        let ended = run(rt, self, &lent, begun, scalars, args);
         gate.pass(rt);
         let request = Request::Complete(ended.scalars, ended.exit);
         let Some(given) = self.insist(rt, &request) else {
             return Reached::Stopped;
         };
-        let (answer, _begun) = given;
+        let (answer, _begun, _lent) = given;
         ended_as(&answer, &ended.exit)
     }
 
@@ -42,11 +44,11 @@ impl Asker {
         let Some(given) = self.insist(rt, &Request::Resume) else {
             return Reached::Stopped;
         };
-        let (answer, _begun) = given;
+        let (answer, _begun, lent) = given;
         if let Answer::Woken(Some(scalars)) = answer {
             let begun = waited_for(request);
             let args = arguments_of(request);
-            return self.run_on(rt, gate, &begun, &scalars, &args);
+            return self.run_on(rt, gate, lent, &begun, &scalars, &args);
         }
         plain(false, &answer)
     }
@@ -58,10 +60,10 @@ impl Asker {
         let Some(given) = self.insist(rt, request) else {
             return Reached::Stopped;
         };
-        let (answer, begun) = given;
+        let (answer, begun, lent) = given;
         if let Answer::Started(scalars) = answer {
             let args = arguments_of(request);
-            return self.run_on(rt, gate, &begun, &scalars, &args);
+            return self.run_on(rt, gate, lent, &begun, &scalars, &args);
         }
         if is_wait(&answer) {
             return self.resume(rt, gate, request);

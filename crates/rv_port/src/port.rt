@@ -33,10 +33,14 @@ pub struct Port {
 }
 
 impl Model for Port {
+    ghost use Rattle.std.specs.Coded.{codes};
+    ghost use Rattle.rv_port.specs.contracts.event.Event as e;
     ghost use Rattle.std.specs.Prelude.{◌≡◌, []};
     ghost use Rattle.rv_port.specs.Traces.{Passing};
 
     ghost Value = { Passing };
+
+    ghost coded = { Prim.hlevel (codes, e.the_row.coded) };
 
     ghost view = { λ p. p.asker.pass };
 
@@ -47,15 +51,20 @@ impl Model for Port {
 #[derive(Drop)]
 pub struct Finished {
     pub(crate) pass: Pass<Behind>,
+    is_refused: bool,
 }
 
 impl Model for Finished {
+    ghost use Rattle.std.specs.Coded.{codes};
+    ghost use Rattle.rv_port.specs.contracts.event.Event as e;
     ghost use Rattle.std.specs.Prelude.{◌≡◌, ◌++◌, [], false};
     ghost use Rattle.rv_turn.specs.Histories.{mine};
     ghost use Rattle.rv_port.specs.Events.{by};
     ghost use Rattle.rv_port.specs.Traces.{Passing};
 
     ghost Value = { Passing };
+
+    ghost coded = { Prim.hlevel (codes, e.the_row.coded) };
 
     ghost view = { λ f. f.pass };
 
@@ -69,6 +78,11 @@ impl Finished {
     {
         self.pass.actor()
     }
+
+    /// Whether a body was ever left alone because there were too many holders of the bodies.
+    pub fn is_refused(&self) -> bool {
+        self.is_refused
+    }
 }
 
 impl Port {
@@ -81,7 +95,11 @@ impl Port {
         ensures { result ≡ pass }
     {
         Port {
-            asker: Asker { pass, bell },
+            asker: Asker {
+                pass,
+                bell,
+                is_refused: false,
+            },
         }
     }
 
@@ -220,8 +238,12 @@ impl Port {
     {
         let Port { mut asker } = self;
         quit(rt, &mut asker);
-        let Asker { pass, bell: _ } = asker;
-        Finished { pass }
+        let Asker {
+            pass,
+            bell: _,
+            is_refused,
+        } = asker;
+        Finished { pass, is_refused }
     }
 }
 
@@ -233,7 +255,7 @@ fn ask_quit<R: Wait>(rt: &R, asker: &mut Asker)
         return;
     }
     if let Some(given) = asker.try_ask(rt, &Request::Quit) {
-        let (answer, _begun) = given;
+        let (answer, _begun, _lent) = given;
         if answer.recorded().is_some() {
             asker.bell.ring(rt);
         }

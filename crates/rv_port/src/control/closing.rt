@@ -27,7 +27,7 @@ fn take_passes(passes: &mut Vec<Pass<Behind>>, mut finished: Vec<Finished>)
     ensures given { Each (λ p. p.first ≡ false) passes.new.items }
 {
     while let Some(done) = finished.pop() {
-        let Finished { pass } = done;
+        let Finished { pass, .. } = done;
         passes.push_reserved(pass);
     }
 }

@@ -16,5 +16,5 @@ pub invariant_of-self-clause-owns : goal.invariant_of-self-clause-owns
 invariant_of-self-clause-owns g c = act_owns c.args.self.now.pass c.act.new.self (Wants.Step c.args.request.now) _ c.args.self.now.owns c.act.ensures
 
 pub returns-clause-some : goal.returns-clause-some
-returns-clause-some g c = replied_step c.args.self.now.pass c.act.new.self c.args.request.now (Gives.Answered c.in-Answered.answer c.in-Answered.begun)
+returns-clause-some g c = replied_step c.args.self.now.pass c.act.new.self c.args.request.now (Gives.Answered c.in-Answered.answer c.in-Answered.begun c.in-Answered.lent)
     (subst (λ (z : Reply). Acted by Does c.args.self.now.pass (Wants.Step c.args.request.now) z c.act.new.self) c.in-Answered.is c.in-Ok.ensures)
