@@ -1,5 +1,5 @@
 -- The body of a protected unit, whose declaration was found; and objects without bodies, one after another.
-use Rattle.std.proofs.Common.{◌≡◌, ◌∙◌, ap, sym, ℕ, zero, suc, ◌<◌, ◌+◌, List, [], ◌∷◌, ◌++◌, map, drop, length, get_or, refl, subst, arith, Option, Some, slice_get, Bor}
+use Rattle.std.proofs.Common.{◌≡◌, ◌∙◌, ap, sym, ℕ, zero, suc, ◌<◌, List, [], ◌∷◌, ◌++◌, map, drop, length, get_or, refl, subst, arith, Option, Some, slice_get, Bor}
 use Rattle.rv_tree.specs.Declarations.{ProtectedUnit}
 use Rattle.rv_tree.specs.Bodies.{ProtectedBody}
 use Rattle.rv_tree.specs.DeclarationView.{protected_unit_view}

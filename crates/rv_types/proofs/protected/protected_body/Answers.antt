@@ -1,4 +1,4 @@
-use Rattle.std.proofs.Common.{◌≡◌, ◌∙◌, ap, sym, List, map, Option, Some, slice_get, Bor}
+use Rattle.std.proofs.Common.{◌≡◌, ◌∙◌, ap, sym, map, Some, slice_get, Bor}
 use Rattle.rv_tree.specs.DeclarationView.{protected_unit_view}
 use Rattle.rv_tree.specs.BodyView.{protected_body_view}
 use Rattle.rv_tree.specs.declared.declaration.ProtectedUnit as declared
