@@ -20,7 +20,7 @@ invariant-logic_links-loop-e l =
     logic_onto l.point l.is_evaluated l.operator l.before (expressions_of (expressions_view (drop l.e-index l.e-items))) (map link_view l.links.items)
     ≡ logic_onto l.point l.is_evaluated l.operator l.initial.before (expressions_of (expressions_view l.e-items)) (map link_view l.initial.links.items)
 
-abbrev pub invariant-arguments-loop-e : goal.invariant-arguments-loop-e
-invariant-arguments-loop-e l =
+abbrev pub invariant-call::arguments-loop-e : goal.invariant-call::arguments-loop-e
+invariant-call::arguments-loop-e l =
     arguments_onto l.point l.is_evaluated l.left (expressions_of (expressions_view (drop l.e-index l.e-items))) (map expression_view l.given.items)
     ≡ arguments_onto l.point l.is_evaluated l.initial.left (expressions_of (expressions_view l.e-items)) (map expression_view l.initial.given.items)
