@@ -3,7 +3,6 @@ use Rattle.std.proofs.Common.{◌≡◌, ℕ, List, [], Some, None, Option, Ok, 
 use Rattle.std.specs.Prelude.{Bool, IfSome}
 use Rattle.rv_script.specs.Openings.{OpenedText, opened}
 use Rattle.rv_script.proofs.Wrote.{keeps_nothing, nothing_yet}
-use Rattle.rv_settings.specs.Settings.{default_capacity}
 use Rattle.rv_fault.specs.declared.failure.Failure.{Failure}
 use Rattle.rv_fault.specs.declared.failure.Failure.TheVariants.{Refused, Memory, Io}
 use Rattle.rv_fault.specs.declared.fault.What.TheVariants as Whats
@@ -11,23 +10,25 @@ use Rattle.rv_fault.specs.declared.fault.ScriptFault.{ScriptFault}
 use Rattle.rv_script.specs.declared.read.TextError.{TextError}
 use Rattle.rv_fault.specs.Written.{WritesAll, WritesSome, Writes, WritesScript, refused_bytes}
 use Rattle.rv_play.specs.Acts.{acts_from}
-use Rattle.rv_play.specs.Scripted.{Stage, Run, Playing, start, PlaysOpened, PlaysScript, BeginsOpened, IsCapacity, ReadsCapacity, told_text, text_of, outcome_of}
+use Rattle.rv_play.specs.declared.player.Limits.{Limits}
+use Rattle.rv_play.specs.Stages.{Stage, start}
+use Rattle.rv_play.specs.Scripted.{Run, Playing, default_limits, PlaysOpened, PlaysScript, BeginsOpened, IsLimits, ReadsLimits, told_text, text_of, outcome_of}
 use Rattle.rv_play.specs.Carried.{Whole, Part, Carries}
 use Rattle.rv_play.proofs.Named.{text_is}
 
-abbrev beginning : Bool → ℕ → Playing
-beginning all capacity = record { all = all; stage = start capacity }
+abbrev beginning : Bool → Limits → Playing
+beginning all limits = record { all = all; stage = start limits }
 
 -- where nothing is written, something refused the script before its first act
-pub refused_first : (all : Bool) (a : Option (List ℕ)) (script : List ℕ) (fault : ScriptFault) → PlaysScript script (record { told = []; fault = Some fault; last = start default_capacity })
+pub refused_first : (all : Bool) (a : Option (List ℕ)) (script : List ℕ) (fault : ScriptFault) → PlaysScript script (record { told = []; fault = Some fault; last = start default_limits })
     → (let r : Result (Unit {0}) Failure = Err (Refused fault) in Writes a a (outcome_of all script) r)
 refused_first all a script fault plays = record {
   text = [];
-  is = (record { told = []; fault = Some fault; last = start default_capacity }, plays, refl, nothing all);
+  is = (record { told = []; fault = Some fault; last = start default_limits }, plays, refl, nothing all);
   written = keeps_nothing a;
 }
   where
-    nothing : (all : Bool) → [] ≡ text_of all (record { told = []; fault = Some fault; last = start default_capacity })
+    nothing : (all : Bool) → [] ≡ text_of all (record { told = []; fault = Some fault; last = start default_limits })
     nothing true = refl
     nothing false = refl
 
@@ -36,14 +37,14 @@ pub front_refused : (all : Bool) (a : Option (List ℕ)) (script : List ℕ) (li
     → (let r : Result (Unit {0}) Failure = Err (Refused (record { line = line; what = Whats.BadSection })) in Writes a a (outcome_of all script) r)
 front_refused all a script line e =
     let fault : ScriptFault = record { line = line; what = Whats.BadSection } in
-    let run : Run = record { told = []; fault = Some fault; last = start default_capacity } in
+    let run : Run = record { told = []; fault = Some fault; last = start default_limits } in
     refused_first all a script fault (subst (λ (o : Result OpenedText ℕ). PlaysOpened o run) (sym e) refl)
 
 -- settings that are refused
-pub settings_refused : (all : Bool) (a : Option (List ℕ)) (script : List ℕ) (whole : OpenedText) (fault : ScriptFault) → opened script ≡ Ok whole → IsCapacity whole.settings (Err fault)
+pub settings_refused : (all : Bool) (a : Option (List ℕ)) (script : List ℕ) (whole : OpenedText) (fault : ScriptFault) → opened script ≡ Ok whole → IsLimits whole.settings (Err fault)
     → (let r : Result (Unit {0}) Failure = Err (Refused fault) in Writes a a (outcome_of all script) r)
 settings_refused all a script whole fault e is =
-    let run : Run = record { told = []; fault = Some fault; last = start default_capacity } in
+    let run : Run = record { told = []; fault = Some fault; last = start default_limits } in
     refused_first all a script fault (subst (λ (o : Result OpenedText ℕ). PlaysOpened o run) (sym e) (Err fault, is, refl))
 
 -- nothing is written of any script
@@ -53,41 +54,41 @@ nothing_some all a script = record { text = []; begins = inl refl; written = not
 pub memory_first : (all : Bool) (a : Option (List ℕ)) (script : List ℕ) → (let r : Result (Unit {0}) Failure = Err Memory in Writes a a (outcome_of all script) r)
 memory_first all a script = nothing_some all a script
 
-all_is : (all : Bool) (a b : Option (List ℕ)) (script : List ℕ) (whole : OpenedText) (capacity : ℕ) (fault : Option ScriptFault) (last : Stage) → opened script ≡ Ok whole → IsCapacity whole.settings (Ok capacity)
-    → Whole a b (beginning all capacity) (acts_from whole.sections) fault last → WritesAll a b (outcome_of all script).Is fault
-all_is all a b script whole capacity fault last e is carried =
+all_is : (all : Bool) (a b : Option (List ℕ)) (script : List ℕ) (whole : OpenedText) (limits : Limits) (fault : Option ScriptFault) (last : Stage) → opened script ≡ Ok whole → IsLimits whole.settings (Ok limits)
+    → Whole a b (beginning all limits) (acts_from whole.sections) fault last → WritesAll a b (outcome_of all script).Is fault
+all_is all a b script whole limits fault last e is carried =
     let run : Run = record { told = carried.told; fault = fault; last = last } in
-    let same = text_is all capacity (acts_from whole.sections) carried.told fault last carried.plays in
+    let same = text_is all limits (acts_from whole.sections) carried.told fault last carried.plays in
     record {
       text = told_text all carried.told;
-      is = (run, subst (λ (o : Result OpenedText ℕ). PlaysOpened o run) (sym e) (Ok capacity, is, carried.plays), refl, sym same);
+      is = (run, subst (λ (o : Result OpenedText ℕ). PlaysOpened o run) (sym e) (Ok limits, is, carried.plays), refl, sym same);
       written = carried.written;
     }
 
-some_is : (all : Bool) (a b : Option (List ℕ)) (script : List ℕ) (whole : OpenedText) (capacity : ℕ) → opened script ≡ Ok whole → IsCapacity whole.settings (Ok capacity)
-    → Part a b (beginning all capacity) (acts_from whole.sections) → WritesSome a b (outcome_of all script).Begins
-some_is all a b script whole capacity e is part =
+some_is : (all : Bool) (a b : Option (List ℕ)) (script : List ℕ) (whole : OpenedText) (limits : Limits) → opened script ≡ Ok whole → IsLimits whole.settings (Ok limits)
+    → Part a b (beginning all limits) (acts_from whole.sections) → WritesSome a b (outcome_of all script).Begins
+some_is all a b script whole limits e is part =
     let run : Run = record { told = part.told; fault = None; last = part.last } in
-    let same = text_is all capacity part.done part.told None part.last part.plays in
+    let same = text_is all limits part.done part.told None part.last part.plays in
     record {
       text = told_text all part.told;
-      begins = inr (run, subst (λ (o : Result OpenedText ℕ). BeginsOpened o run) (sym e) (capacity, is, part.done, part.rest, part.split, part.plays), sym same);
+      begins = inr (run, subst (λ (o : Result OpenedText ℕ). BeginsOpened o run) (sym e) (limits, is, part.done, part.rest, part.split, part.plays), sym same);
       written = part.written;
     }
 
 -- the acts of a script were carried out from the beginning
-pub carried_writes : (all : Bool) (a b : Option (List ℕ)) (script : List ℕ) (whole : OpenedText) (capacity : ℕ) (p q : Playing) (r : Result (Unit {0}) Failure) → opened script ≡ Ok whole → IsCapacity whole.settings (Ok capacity)
-    → p ≡ record { all = all; stage = start capacity } → Carries a b p q (acts_from whole.sections) r → Writes a b (outcome_of all script) r
-carried_writes all a b script whole capacity p q r e is from carries = by_result r (subst (λ (o : Playing). Carries a b o q (acts_from whole.sections) r) from carries)
+pub carried_writes : (all : Bool) (a b : Option (List ℕ)) (script : List ℕ) (whole : OpenedText) (limits : Limits) (p q : Playing) (r : Result (Unit {0}) Failure) → opened script ≡ Ok whole → IsLimits whole.settings (Ok limits)
+    → p ≡ record { all = all; stage = start limits } → Carries a b p q (acts_from whole.sections) r → Writes a b (outcome_of all script) r
+carried_writes all a b script whole limits p q r e is from carries = by_result r (subst (λ (o : Playing). Carries a b o q (acts_from whole.sections) r) from carries)
   where
-    by_result : (r : Result (Unit {0}) Failure) → Carries a b (beginning all capacity) q (acts_from whole.sections) r → Writes a b (outcome_of all script) r
-    by_result (Ok x) c = all_is all a b script whole capacity None q.stage e is c.0
-    by_result (Err (Refused fault)) c = all_is all a b script whole capacity (Some fault) c.0 e is c.1
-    by_result (Err Memory) c = some_is all a b script whole capacity e is c
-    by_result (Err (Io error)) c = some_is all a b script whole capacity e is c
+    by_result : (r : Result (Unit {0}) Failure) → Carries a b (beginning all limits) q (acts_from whole.sections) r → Writes a b (outcome_of all script) r
+    by_result (Ok x) c = all_is all a b script whole limits None q.stage e is c.0
+    by_result (Err (Refused fault)) c = all_is all a b script whole limits (Some fault) c.0 e is c.1
+    by_result (Err Memory) c = some_is all a b script whole limits e is c
+    by_result (Err (Io error)) c = some_is all a b script whole limits e is c
 
--- settings that gave no capacity
-pub unread : (all : Bool) (a : Option (List ℕ)) (script : List ℕ) (whole : OpenedText) (failure : Failure) → opened script ≡ Ok whole → (let r : Result ℕ Failure = Err failure in ReadsCapacity whole.settings r)
+-- settings that gave no limits
+pub unread : (all : Bool) (a : Option (List ℕ)) (script : List ℕ) (whole : OpenedText) (failure : Failure) → opened script ≡ Ok whole → (let r : Result Limits Failure = Err failure in ReadsLimits whole.settings r)
     → (let r : Result (Unit {0}) Failure = Err failure in Writes a a (outcome_of all script) r)
 unread all a script whole (Refused fault) e is = settings_refused all a script whole fault e is
 unread all a script whole Memory e is = memory_first all a script

@@ -9,7 +9,8 @@ use Rattle.rv_fault.specs.declared.failure.Failure.{Failure}
 use Rattle.rv_fault.specs.declared.failure.Failure.TheVariants.{Refused, Memory, Io}
 use Rattle.rv_fault.specs.declared.fault.ScriptFault.{ScriptFault}
 use Rattle.rv_play.specs.Acts.{Act}
-use Rattle.rv_play.specs.Scripted.{Stage, Told, Playing, Plays, told_line, told_text}
+use Rattle.rv_play.specs.Stages.{Stage}
+use Rattle.rv_play.specs.Scripted.{Told, Playing, Plays, told_line, told_text}
 use Rattle.rv_play.specs.Carried.{Whole, Part, Carries}
 
 -- Plays

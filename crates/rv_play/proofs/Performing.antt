@@ -1,6 +1,7 @@
 -- One act.
-use Rattle.std.proofs.Common.{◌≡◌, ℕ, List, [], ◌∷◌, Some, None, Option, Ok, Err, Result, refl, sym, ap, ◌∙◌, subst, append-nil}
+use Rattle.std.proofs.Common.{◌≡◌, ℕ, ◌+◌, ◌-◌, ◌<◌, List, [], ◌∷◌, ◌++◌, replicate, arith, Some, None, Option, Ok, Err, Result, refl, sym, ap, ◌∙◌, subst, append-nil}
 use Rattle.std.specs.Prelude.{true}
+use Rattle.std.proofs.lemmas.List.{replicate-append-replicate}
 use Rattle.std.specs.Io.KnownBytes.{Appends}
 use Rattle.rv_script.specs.Prefixes.{WritesPrefix}
 use Rattle.rv_script.proofs.Wrote.{keeps_nothing}
@@ -21,21 +22,26 @@ use Rattle.rv_script.specs.declared.opening.Opening.{Opening}
 use Rattle.rv_script.specs.declared.opening.Opening.TheVariants as Openings
 use Rattle.rv_script.specs.Openings.{opening_of}
 use Rattle.rv_script.specs.UnitTexts.{without_returns}
+use Rattle.rv_step.specs.declared.step.Asker.{Asker}
+use Rattle.rv_step.specs.declared.step.Asked.{Asked}
+use Rattle.rv_step.specs.declared.step.Asked.TheVariants as Asks
 use Rattle.rv_step.specs.StepText.{StepWords, step_of}
-use Rattle.rv_play.specs.Acts.{Act, Compiles, Stops, line_of, step_act, line_acts, load_act, set_act, acts_in, section_acts}
-use Rattle.rv_play.specs.Deeds.{DeedText, ComesToDeed, Comes}
-use Rattle.rv_play.specs.Scripted.{Stage, Playing, Plays, tell, told_line, told_text, Does}
+use Rattle.rv_play.specs.Acts.{Act, Compiles, Stops, Steps, line_of, asked_acts, acts_of, line_acts, load_act, set_act, acts_in, section_acts}
+use Rattle.rv_play.specs.declared.deed.Deed.{Deed}
+use Rattle.rv_play.specs.Stages.{DeedText, Stage}
+use Rattle.rv_play.specs.Deeds.{ComesToDeed, Comes}
+use Rattle.rv_play.specs.Scripted.{Playing, Plays, tell, told_line, told_text, Does}
 use Rattle.rv_play.specs.Carried.{Part, Carries}
 use Rattle.rv_play.proofs.Carrying.{nothing_done}
 
-one_told : (p : Playing) (act : Act) (deed : DeedText) → ComesToDeed p.stage.history.shapes act (Ok deed) → Plays p.stage (act ∷ []) (tell p.stage deed ∷ []) None (tell p.stage deed).after
+one_told : (p : Playing) (act : Act) (deed : DeedText) → ComesToDeed p.stage act (Ok deed) → Plays p.stage (act ∷ []) (tell p.stage deed ∷ []) None (tell p.stage deed).after
 one_told p act deed e = (record { comes = e; told = refl }, refl)
 
 one_text : (p : Playing) (deed : DeedText) → told_line p.all (tell p.stage deed) ≡ told_text p.all (tell p.stage deed ∷ [])
 one_text p deed = sym (append-nil (told_line p.all (tell p.stage deed)))
 
 -- the act was carried out; its line, or a prefix of it, is written
-pub does_act : (a b : Option (List ℕ)) (p q : Playing) (act : Act) (deed : DeedText) (result : Result (Unit {0}) Failure) → ComesToDeed p.stage.history.shapes act (Ok deed) → Does a b p q deed result → Carries a b p q (act ∷ []) result
+pub does_act : (a b : Option (List ℕ)) (p q : Playing) (act : Act) (deed : DeedText) (result : Result (Unit {0}) Failure) → ComesToDeed p.stage act (Ok deed) → Does a b p q deed result → Carries a b p q (act ∷ []) result
 does_act a b p q act deed (Ok x) e does =
     let t = tell p.stage deed in
     let there : t.after ≡ q.stage = ap (λ (r : Playing). r.stage) (sym does.player) in (
@@ -49,7 +55,7 @@ does_act a b p q act deed (Ok x) e does =
 does_act a b p q act deed (Err (Refused fault)) e does = absurd does.text
 does_act a b p q act deed (Err Memory) e does = part_told a b p act deed e does.text
   where
-    part_told : (a b : Option (List ℕ)) (p : Playing) (act : Act) (deed : DeedText) → ComesToDeed p.stage.history.shapes act (Ok deed) → WritesPrefix a b (told_line p.all (tell p.stage deed)) → Part a b p (act ∷ [])
+    part_told : (a b : Option (List ℕ)) (p : Playing) (act : Act) (deed : DeedText) → ComesToDeed p.stage act (Ok deed) → WritesPrefix a b (told_line p.all (tell p.stage deed)) → Part a b p (act ∷ [])
     part_told a b p act deed e text = record {
       done = act ∷ [];
       rest = [];
@@ -70,12 +76,12 @@ does_act a b p q act deed (Err (Io error)) e does = record {
 }
 
 -- something stood against it, or memory was refused
-pub fails_act : (a : Option (List ℕ)) (p : Playing) (act : Act) (failure : Failure) → (let come : Result DeedText Failure = Err failure in Comes (line_of act) (ComesToDeed p.stage.history.shapes act) come) → Carries a a p p (act ∷ []) (Err failure)
+pub fails_act : (a : Option (List ℕ)) (p : Playing) (act : Act) (failure : Failure) → (let come : Result Deed Failure = Err failure in Comes (line_of act) (ComesToDeed p.stage act) come) → Carries a a p p (act ∷ []) (Err failure)
 fails_act a p act (Refused fault) comes = (
   p.stage,
   record {
     told = [];
-    plays = (record { comes = subst (λ (w : What). ComesToDeed p.stage.history.shapes act (Err w)) (sym (ap (λ (f : ScriptFault). f.what) comes.2)) comes.1; line = ap (λ (f : ScriptFault). f.line) comes.2 }, refl);
+    plays = (record { comes = subst (λ (w : What). ComesToDeed p.stage act (Err w)) (sym (ap (λ (f : ScriptFault). f.what) comes.2)) comes.1; line = ap (λ (f : ScriptFault). f.line) comes.2 }, refl);
     written = keeps_nothing a;
   },
 )
@@ -83,10 +89,6 @@ fails_act a p act Memory comes = nothing_done a p (act ∷ [])
 fails_act a p act (Io error) comes = absurd comes
 
 -- The lines of acts
-
-step_line : (line : ℕ) (step : Option StepWords) → line_of (step_act line step) ≡ line
-step_line line None = refl
-step_line line (Some step) = refl
 
 load_line : (line : ℕ) (shape : Option Shape) → line_of (load_act line shape) ≡ line
 load_line line None = refl
@@ -99,22 +101,62 @@ set_line line (Err fault) = refl
 -- Acts of the script
 
 -- what an act came to was carried out, for each act that came to it
-abbrev pub Performs : Known → Known → Playing → Playing → Result DeedText Failure → Ended → Type 0
-Performs a b p q deed result = (act : Act) → Comes (line_of act) (ComesToDeed p.stage.history.shapes act) deed → Carries a b p q (act ∷ []) result
+abbrev pub Performs : Known → Known → Playing → Playing → Result Deed Failure → Ended → Type 0
+Performs a b p q deed result = (act : Act) → Comes (line_of act) (ComesToDeed p.stage act) deed → Carries a b p q (act ∷ []) result
 
--- what an act of this line came to, where these shapes are loaded
-act_performed : (a b : Known) (p q : Playing) (deed : Result DeedText Failure) (result : Ended) (shapes : List Shape) (line : ℕ) (act : Act) → shapes ≡ p.stage.history.shapes → line_of act ≡ line → Performs a b p q deed result
-    → Comes line (ComesToDeed shapes act) deed → Carries a b p q (act ∷ []) result
-act_performed a b p q deed result shapes line act loaded same performs comes =
-    let there : Comes line (ComesToDeed p.stage.history.shapes act) deed = subst (λ (ss : List Shape). Comes line (ComesToDeed ss act) deed) loaded comes in
-    performs act (subst (λ (n : ℕ). Comes n (ComesToDeed p.stage.history.shapes act) deed) (sym same) there)
+-- what an act of this line came to
+act_performed : (a b : Known) (p q : Playing) (deed : Result Deed Failure) (result : Ended) (line : ℕ) (act : Act) → line_of act ≡ line → Performs a b p q deed result
+    → Comes line (ComesToDeed p.stage act) deed → Carries a b p q (act ∷ []) result
+act_performed a b p q deed result line act same performs comes = performs act (subst (λ (n : ℕ). Comes n (ComesToDeed p.stage act) deed) (sym same) comes)
 
--- a line that has words
-pub line_performed : (a b : Known) (p q : Playing) (deed : Result DeedText Failure) (result : Ended) (shapes : List Shape) (line : ℕ) (ws : List (List ℕ)) → shapes ≡ p.stage.history.shapes → is_some_word ws ≡ true → Performs a b p q deed result
-    → Comes line (ComesToDeed shapes (step_act line (step_of ws))) deed → Carries a b p q (line_acts line ws) result
-line_performed a b p q deed result shapes line [] loaded some performs comes = absurd cc
-line_performed a b p q deed result shapes line (word ∷ others) loaded some performs comes =
-    act_performed a b p q deed result shapes line (step_act line (step_of (word ∷ others))) loaded (step_line line (step_of (word ∷ others))) performs comes
+-- a step that is no `go`
+pub one_step : (a b : Known) (p q : Playing) (result : Ended) (line : ℕ) (asker : Asker) (asked : Asked) → ((count : ℕ) → asked ≡ Asks.Go count → ⊥)
+    → Carries a b p q (Steps line (record { asker = asker; asked = asked }) ∷ []) result → Carries a b p q (asked_acts line asker asked) result
+one_step a b p q result line asker (Asks.Go count) other carries = absurd (other count refl)
+one_step a b p q result line asker (Asks.Call object operation values) other carries = carries
+one_step a b p q result line asker (Asks.Complete scalars exit) other carries = carries
+one_step a b p q result line asker Asks.Resume other carries = carries
+one_step a b p q result line asker (Asks.DelayUntil time) other carries = carries
+one_step a b p q result line asker Asks.Clock other carries = carries
+one_step a b p q result line asker Asks.Fire other carries = carries
+one_step a b p q result line asker Asks.Quit other carries = carries
+one_step a b p q result line asker (Asks.Tick ticks) other carries = carries
+one_step a b p q result line asker Asks.Halt other carries = carries
+one_step a b p q result line asker (Asks.Append given) other carries = carries
+one_step a b p q result line asker (Asks.Remove number) other carries = carries
+one_step a b p q result line asker (Asks.Replace number given) other carries = carries
+
+-- one more `go` behind others
+pub one_more : (count : ℕ) (act : Act) → replicate count act ++ act ∷ [] ≡ replicate (count + 1) act
+one_more count act = replicate-append-replicate count 1 act
+
+-- the `go`s that follow one of them
+pub others_left : (count total : ℕ) (act : Act) → count < total → replicate count act ++ (act ∷ [] ++ replicate (total - count - 1) act) ≡ replicate total act
+others_left count total act lt =
+    let all : count + (1 + (total - count - 1)) ≡ total = omega (arith, lt) in
+    ap (λ (acts : List Act). replicate count act ++ acts) (replicate-append-replicate 1 (total - count - 1) act)
+    ∙ replicate-append-replicate count (1 + (total - count - 1)) act ∙ ap (λ (n : ℕ). replicate n act) all
+
+-- a line that is no step
+pub no_step : (a : Known) (p : Playing) (line : ℕ) (ws : List (List ℕ)) (failure : Failure) → is_some_word ws ≡ true → step_of ws ≡ None
+    → failure ≡ Refused (record { line = line; what = Whats.BadStep }) → (let r : Ended = Err failure in Carries a a p p (line_acts line ws) r)
+no_step a p line [] failure some none is = absurd cc
+no_step a p line (word ∷ others) failure some none is =
+    let refused : Failure = Refused (record { line = line; what = Whats.BadStep }) in
+    subst (λ (f : Failure). let r : Ended = Err f in Carries a a p p (line_acts line (word ∷ others)) r) (sym is)
+    (subst (λ (step : Option StepWords). Carries a a p p (acts_of line step) (Err refused)) (sym none)
+    (fails_act a p (Stops line Whats.BadStep) refused (Whats.BadStep, refl, refl)))
+
+-- a line that is a step
+pub step_performed : (a b : Known) (p q : Playing) (line : ℕ) (ws : List (List ℕ)) (step : StepWords) (result : Ended) → is_some_word ws ≡ true → step_of ws ≡ Some step
+    → Carries a b p q (asked_acts line step.asker step.asked) result → Carries a b p q (line_acts line ws) result
+step_performed a b p q line [] step result some is carries = absurd cc
+step_performed a b p q line (word ∷ others) step result some is carries =
+    subst (λ (found : Option StepWords). Carries a b p q (acts_of line found) result) (sym is) carries
+
+-- memory was refused
+pub line_unread : (a : Known) (p : Playing) (line : ℕ) (ws : List (List ℕ)) → (let r : Ended = Err Memory in Carries a a p p (line_acts line ws) r)
+line_unread a p line ws = nothing_done a p (line_acts line ws)
 
 -- Sections
 
@@ -123,25 +165,25 @@ pub section_carried : (a b : Known) (p q : Playing) (result : Ended) (section : 
 section_carried a b p q result section o e carries = subst (λ (opening : Option Opening). Carries a b p q (acts_in section opening) result) (sym e) carries
 
 -- a shape
-pub shape_performed : (a b : Known) (p q : Playing) (deed : Result DeedText Failure) (result : Ended) (shapes : List Shape) (section : SectionText) → opening_of section.opening ≡ Some Openings.Shape → shapes ≡ p.stage.history.shapes → Performs a b p q deed result
-    → Comes section.line (ComesToDeed shapes (load_act section.line (shape_of section.text))) deed → Carries a b p q (section_acts section) result
-shape_performed a b p q deed result shapes section e loaded performs comes =
+pub shape_performed : (a b : Known) (p q : Playing) (deed : Result Deed Failure) (result : Ended) (section : SectionText) → opening_of section.opening ≡ Some Openings.Shape → Performs a b p q deed result
+    → Comes section.line (ComesToDeed p.stage (load_act section.line (shape_of section.text))) deed → Carries a b p q (section_acts section) result
+shape_performed a b p q deed result section e performs comes =
     section_carried a b p q result section (Some Openings.Shape) e
-    (act_performed a b p q deed result shapes section.line (load_act section.line (shape_of section.text)) loaded (load_line section.line (shape_of section.text)) performs comes)
+    (act_performed a b p q deed result section.line (load_act section.line (shape_of section.text)) (load_line section.line (shape_of section.text)) performs comes)
 
 -- an access list
-pub list_performed : (a b : Known) (p q : Playing) (deed : Result DeedText Failure) (result : Ended) (shapes : List Shape) (section : SectionText) → opening_of section.opening ≡ Some Openings.AccessList → shapes ≡ p.stage.history.shapes → Performs a b p q deed result
-    → Comes section.line (ComesToDeed shapes (set_act section.line (list_of section.text))) deed → Carries a b p q (section_acts section) result
-list_performed a b p q deed result shapes section e loaded performs comes =
+pub list_performed : (a b : Known) (p q : Playing) (deed : Result Deed Failure) (result : Ended) (section : SectionText) → opening_of section.opening ≡ Some Openings.AccessList → Performs a b p q deed result
+    → Comes section.line (ComesToDeed p.stage (set_act section.line (list_of section.text))) deed → Carries a b p q (section_acts section) result
+list_performed a b p q deed result section e performs comes =
     section_carried a b p q result section (Some Openings.AccessList) e
-    (act_performed a b p q deed result shapes section.line (set_act section.line (list_of section.text)) loaded (set_line section.line (list_of section.text)) performs comes)
+    (act_performed a b p q deed result section.line (set_act section.line (list_of section.text)) (set_line section.line (list_of section.text)) performs comes)
 
 -- a unit text
-pub unit_performed : (a b : Known) (p q : Playing) (deed : Result DeedText Failure) (result : Ended) (shapes : List Shape) (section : SectionText) → opening_of section.opening ≡ Some Openings.UnitText → shapes ≡ p.stage.history.shapes → Performs a b p q deed result
-    → Comes section.line (ComesToDeed shapes (Compiles section.line (without_returns section.text))) deed → Carries a b p q (section_acts section) result
-unit_performed a b p q deed result shapes section e loaded performs comes =
+pub unit_performed : (a b : Known) (p q : Playing) (deed : Result Deed Failure) (result : Ended) (section : SectionText) → opening_of section.opening ≡ Some Openings.UnitText → Performs a b p q deed result
+    → Comes section.line (ComesToDeed p.stage (Compiles section.line (without_returns section.text))) deed → Carries a b p q (section_acts section) result
+unit_performed a b p q deed result section e performs comes =
     section_carried a b p q result section (Some Openings.UnitText) e
-    (act_performed a b p q deed result shapes section.line (Compiles section.line (without_returns section.text)) loaded refl performs comes)
+    (act_performed a b p q deed result section.line (Compiles section.line (without_returns section.text)) refl performs comes)
 
 -- a section whose opening stops the script
 stopped : (a : Known) (p : Playing) (section : SectionText) (o : Option Opening) (failure : Failure) → opening_of section.opening ≡ o → Stops section.line Whats.BadSection ∷ [] ≡ acts_in section o

@@ -12,7 +12,9 @@ use Rattle.rv_settings.specs.Settings.{default_capacity}
 use Rattle.rv_fault.specs.declared.fault.ScriptFault.{ScriptFault}
 use Rattle.rv_play.specs.Acts.{Act, acts_from}
 use Rattle.rv_play.specs.Laws.{commands, answers, commands_onto, answers_onto}
-use Rattle.rv_play.specs.Scripted.{Stage, Told, Run, tell, due_answer, after_deed, start, Plays, PlaysActs, PlaysOpened, PlaysScript}
+use Rattle.rv_play.specs.declared.player.Limits.{Limits}
+use Rattle.rv_play.specs.Stages.{Stage, due_answer, history_after, start}
+use Rattle.rv_play.specs.Scripted.{Told, Run, tell, Plays, PlaysActs, PlaysOpened, PlaysScript}
 
 -- Steps
 
@@ -24,7 +26,7 @@ is_due (Commands.AppendLine line) h = inl refl
 is_due (Commands.RemoveLine number) h = inl refl
 is_due (Commands.ReplaceLine number line) h = inl refl
 
-one_step : (stage : Stage) (o : Option Command) (cs : List Command) (given : List Answer) (k : History) → Steps (after_deed stage o (due_answer stage o)).history cs given k
+one_step : (stage : Stage) (o : Option Command) (cs : List Command) (given : List Answer) (k : History) → Steps (history_after stage.history o (due_answer stage o)) cs given k
     → Steps stage.history (commands_onto o cs) (answers_onto o (due_answer stage o) given) k
 one_step stage None cs given k steps = steps
 one_step stage (Some c) cs given k steps = (is_due c stage.history, steps)
@@ -44,12 +46,12 @@ steps_from stage (act ∷ acts) [] None last plays = absurd plays
 steps_from stage (act ∷ acts) [] (Some fault) last plays = ap (λ (s : Stage). s.history) plays.1
 steps_from stage (act ∷ acts) (t ∷ told) fault last plays = told_step stage t (commands told) (answers told) last.history plays.0.told (steps_from t.after acts told fault last plays.1)
 
-pub plays_steps : (capacity : ℕ) (acts : List Act) (told : List Told) (fault : Option ScriptFault) (last : Stage) → Plays (start capacity) acts told fault last → Steps (empty capacity) (commands told) (answers told) last.history
-plays_steps capacity acts told fault last plays = steps_from (start capacity) acts told fault last plays
+pub plays_steps : (limits : Limits) (acts : List Act) (told : List Told) (fault : Option ScriptFault) (last : Stage) → Plays (start limits) acts told fault last → Steps (empty limits.capacity) (commands told) (answers told) last.history
+plays_steps limits acts told fault last plays = steps_from (start limits) acts told fault last plays
 
 -- Legal
 
-legal_deed : (stage : Stage) (o : Option Command) → Legal stage.history → Legal (after_deed stage o (due_answer stage o)).history
+legal_deed : (stage : Stage) (o : Option Command) → Legal stage.history → Legal (history_after stage.history o (due_answer stage o))
 legal_deed stage None legal = legal
 legal_deed stage (Some c) legal = legal_after c stage.history legal
 
@@ -67,8 +69,8 @@ legal_from stage (act ∷ acts) (t ∷ told) fault last plays legal = legal_from
 pub empty_legal : (capacity : ℕ) → Legal (empty capacity)
 empty_legal capacity = (refl, refl)
 
-legal_acts : (capacity : Result ℕ ScriptFault) (acts : List Act) (run : Run) → PlaysActs capacity acts run → Legal run.last.history
-legal_acts (Ok capacity) acts run plays = legal_from (start capacity) acts run.told run.fault run.last plays (empty_legal capacity)
+legal_acts : (limits : Result Limits ScriptFault) (acts : List Act) (run : Run) → PlaysActs limits acts run → Legal run.last.history
+legal_acts (Ok limits) acts run plays = legal_from (start limits) acts run.told run.fault run.last plays (empty_legal limits.capacity)
 legal_acts (Err fault) acts run plays = subst (λ (r : Run). Legal r.last.history) (sym plays) (empty_legal default_capacity)
 
 legal_opened : (script : Result OpenedText ℕ) (run : Run) → PlaysOpened script run → Legal run.last.history

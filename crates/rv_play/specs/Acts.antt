@@ -1,6 +1,6 @@
 -- What the sections of a script ask, one after another (own). Names are those of the text: whether they are loaded is told
 -- by the stage, not here.
-use Rattle.std.specs.Prelude.{ℕ, ◌+◌, List, [], ◌∷◌, ◌++◌, Option, Some, None, Result, Ok, Err}
+use Rattle.std.specs.Prelude.{ℕ, ◌+◌, List, [], ◌∷◌, ◌++◌, replicate, Option, Some, None, Result, Ok, Err}
 use Rattle.std.specs.Str.Lines.{lines}
 use Rattle.rv_text.specs.Words.{words}
 use Rattle.rv_text.specs.Sections.{SectionText}
@@ -16,6 +16,9 @@ use Rattle.rv_script.specs.Openings.{opening_of}
 use Rattle.rv_script.specs.UnitTexts.{without_returns}
 use Rattle.rv_fault.specs.declared.fault.What.{What}
 use Rattle.rv_fault.specs.declared.fault.What.TheVariants as Whats
+use Rattle.rv_step.specs.declared.step.Asker.{Asker}
+use Rattle.rv_step.specs.declared.step.Asked.{Asked}
+use Rattle.rv_step.specs.declared.step.Asked.TheVariants.{Go}
 use Rattle.rv_step.specs.StepText.{StepWords, step_of}
 
 -- one act of a script, with the line that a fault of it is told at; a unit text is compiled over the units that are loaded then
@@ -24,6 +27,7 @@ pub data Act : Type 0 where
   Compiles : ℕ → List ℕ → Act
   Sets : ℕ → List Words → Act
   Steps : ℕ → StepWords → Act
+  Goes : ℕ → Asker → Act
   Stops : ℕ → What → Act
 
 -- the line that a fault of an act is told at
@@ -32,17 +36,23 @@ line_of (Loads line shape) = line
 line_of (Compiles line text) = line
 line_of (Sets line list) = line
 line_of (Steps line step) = line
+line_of (Goes line asker) = line
 line_of (Stops line what) = line
 
+-- `go N` is so many requests of the actor's text, one after another
+abbrev pub asked_acts : ℕ → Asker → Asked → List Act
+asked_acts line asker (Go count) = replicate count (Goes line asker)
+asked_acts line asker asked = Steps line (record { asker = asker; asked = asked }) ∷ []
+
 -- a line that is no step stops the script
-abbrev pub step_act : ℕ → Option StepWords → Act
-step_act line None = Stops line Whats.BadStep
-step_act line (Some step) = Steps line step
+abbrev pub acts_of : ℕ → Option StepWords → List Act
+acts_of line None = Stops line Whats.BadStep ∷ []
+acts_of line (Some step) = asked_acts line step.asker step.asked
 
 -- the acts of a line of this number; a blank one has none
 abbrev pub line_acts : ℕ → List (List ℕ) → List Act
 line_acts number [] = []
-line_acts number (word ∷ others) = step_act number (step_of (word ∷ others)) ∷ []
+line_acts number (word ∷ others) = acts_of number (step_of (word ∷ others))
 
 -- the acts of lines, the first of which has this number
 abbrev pub step_acts : ℕ → List (List ℕ) → List Act

@@ -6,7 +6,8 @@ use Rattle.rv_fault.specs.declared.failure.Failure.TheVariants.{Refused, Memory,
 use Rattle.rv_fault.specs.declared.fault.ScriptFault.{ScriptFault}
 use Rattle.rv_fault.specs.Written.{Known, Ended}
 use Rattle.rv_play.specs.Acts.{Act}
-use Rattle.rv_play.specs.Scripted.{Stage, Told, Playing, Plays, told_text}
+use Rattle.rv_play.specs.Stages.{Stage}
+use Rattle.rv_play.specs.Scripted.{Told, Playing, Plays, told_text}
 
 -- acts were told, up to the end or a fault, and their text is written
 pub record Whole (old new : Known) (p : Playing) (acts : List Act) (fault : Option ScriptFault) (last : Stage) : Type 0 where

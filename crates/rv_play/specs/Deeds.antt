@@ -1,5 +1,5 @@
 -- What the acts of a script come to: deeds, with names looked up among the units that are loaded (own).
-use Rattle.std.specs.Prelude.{◌≡◌, ◌<◌, ◌≤◌, ℕ, ℤ, pos, negsuc, List, ◌∷◌, ◌++◌, codes, length}
+use Rattle.std.specs.Prelude.{◌≡◌, ◌<◌, ◌≤◌, ℕ, ℤ, pos, negsuc, true, false, List, ◌∷◌, ◌++◌, codes, length}
 use Rattle.std.specs.Prelude.{Option, Some, None, Result, Ok, Err}
 use Rattle.std.specs.Fmt.{signed_decimal}
 use Rattle.rv_access.specs.Words.{Words}
@@ -23,22 +23,36 @@ use Rattle.rv_fault.specs.declared.fault.What.TheVariants as Whats
 use Rattle.rv_script.specs.UnitTexts.{most_unit_bytes}
 use Rattle.rv_unit.specs.Compiles.{IsUnit, IsRefused}
 use Rattle.rv_unit.specs.declared.fault.UnitFault.TheVariants as Units
-use Rattle.rv_play.specs.Acts.{Act, Loads, Compiles, Sets, Steps, Stops}
-
--- what is asked of the host: by which actor, which command (none where the actor has nothing to ask), and in which words
-pub record DeedText : Type 0 where
-  pub actor : ℕ
-  pub command : Option Command
-  pub words : List ℕ
+use Rattle.rv_code.specs.Bodies.{UnitBodies}
+use Rattle.rv_exec.specs.Bodies.{no_bodies}
+use Rattle.rv_go.specs.Texts.{without_text}
+use Rattle.rv_go.specs.Goes as going
+use Rattle.rv_step.specs.declared.step.Asker.{Asker}
+use Rattle.rv_play.specs.Acts.{Act, Loads, Compiles, Sets, Steps, Goes, Stops}
+use Rattle.rv_play.specs.declared.deed.Deed.{Deed}
+use Rattle.rv_play.specs.Stages.{DeedText, deed_text, Stage}
 
 -- the line of a list that a number counts, from 1; below zero it counts none, as 0 does
 abbrev pub line_number : ℤ → ℕ
 line_number (pos number) = number
 line_number (negsuc number) = 0
 
+-- a command that is no `go` and loads nothing
+abbrev pub plain : ℕ → Command → List ℕ → DeedText
+plain actor command words = record { actor = actor; command = Some command; words = words; goes = false; bodies = no_bodies }
+
 -- a request
 abbrev pub ask : List Shape → ℕ → Request → DeedText
-ask shapes actor request = record { actor = actor; command = Some (Ask actor request); words = request_text shapes request }
+ask shapes actor request = plain actor (Ask actor request) (request_text shapes request)
+
+-- a request of an actor's text, or none where it has nothing to ask
+abbrev pub go : List Shape → ℕ → Option Request → DeedText
+go shapes actor (Some request) = record (ask shapes actor request) { goes = true }
+go shapes actor None = record { actor = actor; command = None; words = codes "go"; goes = true; bodies = no_bodies }
+
+-- what `go` asks for an actor
+abbrev pub goes : Stage → ℕ → DeedText
+goes stage actor = go stage.history.shapes actor (going.asks stage.texts stage.history actor)
 
 -- the words of a step that adds a line
 abbrev pub append_words : Words → List ℕ
@@ -46,12 +60,11 @@ append_words line = codes "append " ++ line_text line
 
 -- one more line at the end of the list
 abbrev pub append : ℕ → Words → DeedText
-append actor line = record { actor = actor; command = Some (AppendLine line); words = append_words line }
+append actor line = plain actor (AppendLine line) (append_words line)
 
 -- the list without the line of a number
 abbrev pub remove : ℕ → ℤ → DeedText
-remove actor number =
-    record { actor = actor; command = Some (RemoveLine (line_number number)); words = codes "remove " ++ signed_decimal number }
+remove actor number = plain actor (RemoveLine (line_number number)) (codes "remove " ++ signed_decimal number)
 
 -- the words of a step that puts a line in place of another
 abbrev pub replace_words : ℤ → Words → List ℕ
@@ -59,16 +72,15 @@ replace_words number line = codes "replace " ++ (signed_decimal number ++ 32 ∷
 
 -- another line in place of that of a number
 abbrev pub replace : ℕ → ℤ → Words → DeedText
-replace actor number line =
-    record { actor = actor; command = Some (ReplaceLine (line_number number) line); words = replace_words number line }
+replace actor number line = plain actor (ReplaceLine (line_number number) line) (replace_words number line)
 
--- a unit, loaded by the operator
-abbrev pub load : Shape → DeedText
-load shape = record { actor = operator; command = Some (Load shape); words = codes "load " ++ shape.name }
+-- a unit with its bodies, loaded by the operator
+abbrev pub load : Shape → UnitBodies → DeedText
+load shape bodies = record { actor = operator; command = Some (Load shape); words = codes "load " ++ shape.name; goes = false; bodies = bodies }
 
 -- the list, set whole by the operator
 abbrev pub set : List Words → DeedText
-set list = record { actor = operator; command = Some (SetList list); words = codes "list [" ++ (list_text list ++ codes "]") }
+set list = plain operator (SetList list) (codes "list [" ++ (list_text list ++ codes "]"))
 
 -- what a name stands for, if it is loaded
 abbrev pub if_known : {X : Type 0} → Option X → Result X What
@@ -109,14 +121,19 @@ asks shapes asked actor = requests shapes asked actor
 abbrev pub step_deed : List Shape → StepWords → Result DeedText What
 step_deed shapes step = if_known (actor_of shapes step.asker) >> asks shapes step.asked
 
--- a shape, where nothing stands against it
+-- one request of the text of who is loaded
+abbrev pub go_deed : Stage → Asker → Result DeedText What
+go_deed stage asker = if_known (actor_of stage.history.shapes asker) >> λ actor. Ok (goes stage actor)
+
+-- a shape, where nothing stands against it: its unit has no text
 abbrev pub if_fits : Shape → Option ShapeFault → Result DeedText What
-if_fits shape None = Ok (load shape)
+if_fits shape None = Ok (load shape (without_text shape))
 if_fits shape (Some fault) = Err (Whats.Shape fault)
 
--- a unit text comes to the load of the unit that it gives; one that is too long is refused whatever its words
+-- a unit text comes to the load of the unit that it gives, with its bodies; one that is too long is refused whatever its words
 abbrev pub compiles : List Shape → List ℕ → Result DeedText What → Type 0
-compiles shapes text (Ok deed) = (shape : Shape) × (length text ≤ most_unit_bytes) × IsUnit shapes text shape × (deed ≡ load shape)
+compiles shapes text (Ok deed) =
+    (shape : Shape) × (bodies : UnitBodies) × (length text ≤ most_unit_bytes) × IsUnit shapes text shape × (deed ≡ load shape bodies)
 compiles shapes text (Err Whats.TooLong) = most_unit_bytes < length text
 compiles shapes text (Err (Whats.Unit told)) = (length text ≤ most_unit_bytes) × IsRefused shapes text told × (told ≡ Units.NoMemory → ⊥)
 compiles shapes text (Err what) = ⊥
@@ -125,17 +142,18 @@ compiles shapes text (Err what) = ⊥
 abbrev pub just : Result DeedText What → Result DeedText What → Type 0
 just due found = due ≡ found
 
--- what an act comes to where these units are loaded: a deed, or what stands against it
-abbrev pub ComesToDeed : List Shape → Act → Result DeedText What → Type 0
-ComesToDeed shapes (Loads line shape) found = just (if_fits shape (fitting.fault shapes shape)) found
-ComesToDeed shapes (Compiles line text) found = compiles shapes text found
-ComesToDeed shapes (Sets line list) found = just (Ok (set list)) found
-ComesToDeed shapes (Steps line step) found = just (step_deed shapes step) found
-ComesToDeed shapes (Stops line what) found = just (Err what) found
+-- what an act comes to at a stage: a deed, or what stands against it
+abbrev pub ComesToDeed : Stage → Act → Result DeedText What → Type 0
+ComesToDeed stage (Loads line shape) found = just (if_fits shape (fitting.fault stage.history.shapes shape)) found
+ComesToDeed stage (Compiles line text) found = compiles stage.history.shapes text found
+ComesToDeed stage (Sets line list) found = just (Ok (set list)) found
+ComesToDeed stage (Steps line step) found = just (step_deed stage.history.shapes step) found
+ComesToDeed stage (Goes line asker) found = just (go_deed stage asker) found
+ComesToDeed stage (Stops line what) found = just (Err what) found
 
 -- a call gives what is found, a fault with its line, unless memory ran out
-abbrev pub Comes : ℕ → (Result DeedText What → Type 0) → Result DeedText Failure → Type 0
-Comes line finds (Ok deed) = finds (Ok deed)
+abbrev pub Comes : ℕ → (Result DeedText What → Type 0) → Result Deed Failure → Type 0
+Comes line finds (Ok deed) = finds (Ok (deed_text deed))
 Comes line finds (Err (Refused told)) = (what : What) × finds (Err what) × (told ≡ record { line = line; what = what })
 Comes line finds (Err Memory) = Unit {0}
 Comes line finds (Err (Io error)) = ⊥

@@ -9,15 +9,12 @@ use Rattle.rv_event.specs.Recorded.{recorded}
 use Rattle.rv_event.specs.Text.{entry_line, unrecorded_line}
 use Rattle.rv_event.specs.declared.entry.Entry.TheVariants.{Asked, Load, ListChange}
 use Rattle.rv_event.specs.declared.entry.Answer.{Answer}
-use Rattle.rv_event.specs.declared.entry.Answer.TheVariants.{Misuse}
 use Rattle.rv_event.specs.declared.entry.Recorded.{Recorded}
 use Rattle.rv_history.specs.declared.command.Command.{Command}
 use Rattle.rv_history.specs.declared.command.Command.TheVariants as Commands
 use Rattle.rv_history.specs.History.{History, force}
-use Rattle.rv_history.specs.Legal.{empty}
-use Rattle.rv_history.specs.Steps.{due_command, after_command}
 use Rattle.rv_script.specs.Openings.{OpenedText, opened}
-use Rattle.rv_settings.specs.Settings.{SettingsText, IsSettings, IsRefused, default_capacity}
+use Rattle.rv_settings.specs.Settings.{SettingsText, IsSettings, IsRefused, default_capacity, default_budget}
 use Rattle.rv_settings.specs.declared.fault.SettingsFault.{SettingsFault}
 use Rattle.rv_settings.specs.declared.fault.SettingsFault.TheVariants.{NoMemory}
 use Rattle.rv_fault.specs.declared.failure.Failure.{Failure}
@@ -27,28 +24,14 @@ use Rattle.rv_fault.specs.declared.fault.What.TheVariants as Whats
 use Rattle.rv_fault.specs.declared.fault.ScriptFault.{ScriptFault}
 use Rattle.rv_fault.specs.Written.{Known, Ended, Outcome, Puts}
 use Rattle.rv_play.specs.Acts.{Act, acts_from, line_of}
-use Rattle.rv_play.specs.Deeds.{DeedText, ComesToDeed}
+use Rattle.rv_go.specs.Texts.{texts_view}
+use Rattle.rv_play.specs.declared.player.Limits.{Limits}
+use Rattle.rv_play.specs.declared.player.Player.{Player}
+use Rattle.rv_play.specs.Stages.{DeedText, Stage, start, due_answer, after_deed}
+use Rattle.rv_play.specs.Deeds.{ComesToDeed}
 use Rattle.rv_history.specs.Journal.{journal_text, newest_line}
 
 -- Acts
-
--- where a script stands: the history so far
-pub record Stage : Type 0 where
-  pub history : History
-
--- at the beginning, with room for so many entries
-abbrev pub start : ℕ → Stage
-start capacity = record { history = empty capacity }
-
--- the answer that is due; one who has nothing to ask is answered misuse
-abbrev pub due_answer : Stage → Option Command → Answer
-due_answer stage None = Misuse
-due_answer stage (Some command) = due_command stage.history command
-
--- the stage after an answer
-abbrev pub after_deed : Stage → Option Command → Answer → Stage
-after_deed stage None answer = stage
-after_deed stage (Some command) answer = record { history = after_command stage.history command answer }
 
 -- what was asked, what was answered, and the stage after it
 pub record Told : Type 0 where
@@ -60,20 +43,16 @@ pub record Told : Type 0 where
 abbrev pub tell : Stage → DeedText → Told
 tell stage deed =
     let answer = due_answer stage deed.command in
-    record { deed = deed; answer = answer; after = after_deed stage deed.command answer }
-
--- an act comes to a deed at a stage, or to what stands against it
-abbrev pub ComesTo : Stage → Act → Result DeedText What → Type 0
-ComesTo stage act found = ComesToDeed stage.history.shapes act found
+    record { deed = deed; answer = answer; after = after_deed stage deed answer }
 
 -- an act comes to a deed, and that is told
 pub record Asks (stage : Stage) (act : Act) (t : Told) : Type 0 where
-  pub comes : ComesTo stage act (Ok t.deed)
+  pub comes : ComesToDeed stage act (Ok t.deed)
   pub told : t ≡ tell stage t.deed
 
 -- this fault stands against an act
 pub record Stands (stage : Stage) (act : Act) (fault : ScriptFault) : Type 0 where
-  pub comes : ComesTo stage act (Err fault.what)
+  pub comes : ComesToDeed stage act (Err fault.what)
   pub line : fault.line ≡ line_of act
 
 -- from a stage acts are told one after another, and lead to another stage; a fault stands against the act behind those
@@ -93,28 +72,32 @@ pub record Run : Type 0 where
   pub fault : Option ScriptFault
   pub last : Stage
 
--- how many entries a journal may have: as many as the settings say, where there are some, or what stands against them
-abbrev pub IsCapacity : Option SectionText → Result ℕ ScriptFault → Type 0
-IsCapacity None capacity = capacity ≡ Ok default_capacity
-IsCapacity (Some section) (Ok capacity) = (settings : SettingsText) × IsSettings section.text settings × (capacity ≡ settings.capacity)
-IsCapacity (Some section) (Err fault) =
+-- the limits of a run: those of the settings, where there are some, or what stands against them
+abbrev pub default_limits : Limits
+default_limits = record { capacity = default_capacity; budget = default_budget }
+
+abbrev pub IsLimits : Option SectionText → Result Limits ScriptFault → Type 0
+IsLimits None limits = limits ≡ Ok default_limits
+IsLimits (Some section) (Ok limits) =
+    (settings : SettingsText) × IsSettings section.text settings × (limits ≡ record { capacity = settings.capacity; budget = settings.budget })
+IsLimits (Some section) (Err fault) =
     (why : SettingsFault) × IsRefused section.text why × (why ≡ NoMemory → ⊥) × (fault ≡ record { line = section.line; what = Whats.Settings why })
 
 -- a call gives what there is, unless memory ran out
-abbrev pub ReadsCapacity : Option SectionText → Result ℕ Failure → Type 0
-ReadsCapacity settings (Ok capacity) = IsCapacity settings (Ok capacity)
-ReadsCapacity settings (Err (Refused fault)) = IsCapacity settings (Err fault)
-ReadsCapacity settings (Err Memory) = Unit {0}
-ReadsCapacity settings (Err (Io error)) = ⊥
+abbrev pub ReadsLimits : Option SectionText → Result Limits Failure → Type 0
+ReadsLimits settings (Ok limits) = IsLimits settings (Ok limits)
+ReadsLimits settings (Err (Refused fault)) = IsLimits settings (Err fault)
+ReadsLimits settings (Err Memory) = Unit {0}
+ReadsLimits settings (Err (Io error)) = ⊥
 
 -- acts are played from the beginning
-abbrev pub PlaysActs : Result ℕ ScriptFault → List Act → Run → Type 0
-PlaysActs (Ok capacity) acts run = Plays (start capacity) acts run.told run.fault run.last
-PlaysActs (Err fault) acts run = run ≡ record { told = []; fault = Some fault; last = start default_capacity }
+abbrev pub PlaysActs : Result Limits ScriptFault → List Act → Run → Type 0
+PlaysActs (Ok limits) acts run = Plays (start limits) acts run.told run.fault run.last
+PlaysActs (Err fault) acts run = run ≡ record { told = []; fault = Some fault; last = start default_limits }
 
 -- the sections of a script are played; text before the first stands against it
 abbrev pub PlaysOpened : Result OpenedText ℕ → Run → Type 0
-PlaysOpened (Ok script) run = (capacity : Result ℕ ScriptFault) × IsCapacity script.settings capacity × PlaysActs capacity (acts_from script.sections) run
+PlaysOpened (Ok script) run = (limits : Result Limits ScriptFault) × IsLimits script.settings limits × PlaysActs limits (acts_from script.sections) run
 PlaysOpened (Err line) run = PlaysActs (Err (record { line = line; what = Whats.BadSection })) [] run
 
 -- what a script leads to
@@ -124,8 +107,8 @@ PlaysScript script run = PlaysOpened (opened script) run
 -- its first acts, no fault standing against them
 abbrev pub BeginsOpened : Result OpenedText ℕ → Run → Type 0
 BeginsOpened (Ok script) run =
-    (capacity : ℕ) × IsCapacity script.settings (Ok capacity)
-    × (done rest : List Act) × (acts_from script.sections ≡ done ++ rest) × Plays (start capacity) done run.told None run.last
+    (limits : Limits) × IsLimits script.settings (Ok limits)
+    × (done rest : List Act) × (acts_from script.sections ≡ done ++ rest) × Plays (start limits) done run.told None run.last
 BeginsOpened (Err line) run = ⊥
 
 -- Texts
@@ -159,6 +142,9 @@ outcome_of all script = record {
 pub record Playing : Type 0 where
   pub all : Bool
   pub stage : Stage
+
+abbrev pub playing : Player → Playing
+playing player = record { all = player.all; stage = record { history = player.host; texts = texts_view player.texts } }
 
 -- the line of the newest entry, which this command led to
 abbrev pub command_line : History → Command → Recorded → List ℕ

@@ -4,23 +4,24 @@ ghost use Rattle.std.specs.Prelude.{◌≡◌, Ok, IfOk, IfErr};
 ghost use Rattle.rv_access.specs.Reading.{list_of};
 ghost use Rattle.rv_shape.specs.Fits.{fault};
 ghost use Rattle.rv_shape.specs.ShapeText.{shape_of};
-ghost use Rattle.rv_text.specs.Words.{words};
 ghost use Rattle.rv_script.specs.UnitTexts.{without_returns};
-ghost use Rattle.rv_step.specs.StepText.{step_of};
-ghost use Rattle.rv_play.specs.Acts.{load_act, set_act, step_act};
-ghost use Rattle.rv_play.specs.Deeds.{Comes, ComesToDeed, compiles, just, step_deed, if_fits, requests, asks, appends, replaces};
+ghost use Rattle.rv_play.specs.Acts.{Compiles, Goes, Steps, load_act, set_act};
+ghost use Rattle.rv_play.specs.Stages.{deed_text};
+ghost use Rattle.rv_play.specs.Scripted.{playing};
+ghost use Rattle.rv_play.specs.Deeds.{Comes, ComesToDeed, compiles, goes, just, if_fits, requests, asks, appends, replaces};
 
 use crate::deed::Deed;
+use crate::player::Player;
 use rv_access::{Line, ListFault, read_list};
 use rv_fault::{Failure, What, refused};
+use rv_go::without_text;
 use rv_script::unit_text::{MOST_UNIT_BYTES, unit_text};
 use rv_shape::catalogue::Catalogue;
 use rv_shape::fault::ShapeFault;
 use rv_shape::reading::read_shape;
 use rv_shape::shape::UnitShape;
 use rv_step::lookup::{actor_of, request_of};
-use rv_step::reading::{StepError, step_of};
-use rv_step::step::{Asked, Step};
+use rv_step::step::{Asked, Asker};
 use rv_unit::{Unit, UnitFault, compile};
 use std::alloc::{AllocError, Global};
 
@@ -44,9 +45,12 @@ fn load_deed(
 ) -> Result<Deed, Failure>
     ensures { Comes line (just (if_fits shape (fault catalogue.now shape))) result }
 {
-    match catalogue.shape_fits(&shape) {
-        Some(fault) => Err(refused(line, What::Shape(fault))),
-        None => made(Deed::load(alloc, shape)),
+    if let Some(fault) = catalogue.shape_fits(&shape) {
+        return Err(refused(line, What::Shape(fault)));
+    }
+    match without_text(alloc, &shape) {
+        Ok(bodies) => made(Deed::load(alloc, shape, bodies)),
+        Err(_) => Err(Failure::Memory),
     }
 }
 
@@ -58,51 +62,36 @@ fn text_deed(alloc: Global, catalogue: &Catalogue, line: usize, text: &str) -> R
         return Err(refused(line, What::TooLong));
     }
     match compile(alloc, text, catalogue) {
-        Ok(Unit { shape, bodies: _ }) => made(Deed::load(alloc, shape)),
+        Ok(Unit { shape, bodies }) => made(Deed::load(alloc, shape, bodies)),
         Err(UnitFault::NoMemory) => Err(Failure::Memory),
         Err(fault) => Err(refused(line, What::Unit(fault))),
     }
 }
 
 /// What the unit text of a section comes to, which opens at a line.
-pub fn unit_deed(
-    alloc: Global,
-    catalogue: &Catalogue,
-    line: usize,
-    text: &str,
-) -> Result<Deed, Failure>
-    ensures { Comes line (compiles catalogue.now (without_returns text.now)) result }
+pub fn unit_deed(alloc: Global, player: &Player, line: usize, text: &str) -> Result<Deed, Failure>
+    ensures { Comes line (ComesToDeed (playing player.now).stage (Compiles line (without_returns text.now))) result }
 {
     match unit_text(alloc, text) {
-        Ok(text) => text_deed(alloc, catalogue, line, text.as_str()),
+        Ok(text) => text_deed(alloc, player.catalogue(), line, text.as_str()),
         Err(_) => Err(Failure::Memory),
     }
 }
 
 /// What the shape of a section comes to, which opens at a line.
-pub fn shape_deed(
-    alloc: Global,
-    catalogue: &Catalogue,
-    line: usize,
-    text: &str,
-) -> Result<Deed, Failure>
-    ensures { Comes line (ComesToDeed catalogue.now (load_act line (shape_of text.now))) result }
+pub fn shape_deed(alloc: Global, player: &Player, line: usize, text: &str) -> Result<Deed, Failure>
+    ensures { Comes line (ComesToDeed (playing player.now).stage (load_act line (shape_of text.now))) result }
 {
     match read_shape(alloc, text) {
-        Ok(shape) => load_deed(alloc, catalogue, line, shape),
+        Ok(shape) => load_deed(alloc, player.catalogue(), line, shape),
         Err(ShapeFault::NoMemory) => Err(Failure::Memory),
         Err(fault) => Err(refused(line, What::Shape(fault))),
     }
 }
 
 /// What the list of a section comes to, which opens at a line.
-pub fn list_deed(
-    alloc: Global,
-    catalogue: &Catalogue,
-    line: usize,
-    text: &str,
-) -> Result<Deed, Failure>
-    ensures { Comes line (ComesToDeed catalogue.now (set_act line (list_of text.now))) result }
+pub fn list_deed(alloc: Global, player: &Player, line: usize, text: &str) -> Result<Deed, Failure>
+    ensures { Comes line (ComesToDeed (playing player.now).stage (set_act line (list_of text.now))) result }
 {
     match read_list(alloc, text) {
         Ok(list) => made(Deed::set(alloc, list)),
@@ -177,35 +166,43 @@ fn asked_deed(
     }
 }
 
-// What a step comes to.
-fn named_deed(
+/// What a step comes to that is no `go`.
+pub fn step_deed(
     alloc: Global,
-    catalogue: &Catalogue,
+    player: &Player,
     line: usize,
-    step: Step,
+    asker: &Asker,
+    asked: Asked,
 ) -> Result<Deed, Failure>
-    ensures { Comes line (just (step_deed catalogue.now
-        (record { asker = step.asker; asked = step.asked }))) result }
+    ensures { Comes line (ComesToDeed (playing player.now).stage
+        (Steps line (record { asker = asker.now; asked = asked }))) result }
 {
-    match actor_of(alloc, catalogue, &step.asker) {
-        Ok(Some(actor)) => asked_deed(alloc, catalogue, line, actor, step.asked),
+    let catalogue = player.catalogue();
+    match actor_of(alloc, catalogue, asker) {
+        Ok(Some(actor)) => asked_deed(alloc, catalogue, line, actor, asked),
         Ok(None) => Err(refused(line, What::UnknownName)),
         Err(_) => Err(Failure::Memory),
     }
 }
 
-/// What a line of the script comes to that has words.
-pub fn line_deed(
-    alloc: Global,
-    catalogue: &Catalogue,
-    line: usize,
-    text: &str,
-) -> Result<Deed, Failure>
-    ensures { Comes line (ComesToDeed catalogue.now (step_act line (step_of (words text.now)))) result }
+// What a `go` of this actor comes to.
+fn asking_deed(alloc: Global, player: &Player, actor: usize) -> Result<Deed, Failure>
+    ensures ok { IfOk result (λ d. deed_text d ≡ goes (playing player.now).stage actor) }
+    ensures err { IfErr result (λ failure. failure ≡ Failure.Memory) }
 {
-    match step_of(alloc, text) {
-        Ok(step) => named_deed(alloc, catalogue, line, step),
-        Err(StepError::BadStep) => Err(refused(line, What::BadStep)),
-        Err(StepError::NoMemory) => Err(Failure::Memory),
+    match player.asks(actor) {
+        Ok(request) => made(Deed::go(alloc, player.catalogue(), actor, request)),
+        Err(_) => Err(Failure::Memory),
+    }
+}
+
+/// What one `go` comes to.
+pub fn go_deed(alloc: Global, player: &Player, line: usize, asker: &Asker) -> Result<Deed, Failure>
+    ensures { Comes line (ComesToDeed (playing player.now).stage (Goes line asker.now)) result }
+{
+    match actor_of(alloc, player.catalogue(), asker) {
+        Ok(Some(actor)) => asking_deed(alloc, player, actor),
+        Ok(None) => Err(refused(line, What::UnknownName)),
+        Err(_) => Err(Failure::Memory),
     }
 }

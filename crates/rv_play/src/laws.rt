@@ -7,15 +7,17 @@ ghost use Rattle.rv_fault.specs.declared.fault.ScriptFault.{ScriptFault};
 ghost use Rattle.rv_play.specs.Acts.{Act};
 ghost use Rattle.rv_history.specs.Journal.{journal_text};
 ghost use Rattle.rv_play.specs.Laws.{commands, answers};
-ghost use Rattle.rv_play.specs.Scripted.{Stage, Told, Run, Plays, PlaysScript, start, told_text};
+ghost use Rattle.rv_play.specs.Scripted.{Told, Run, Plays, PlaysScript, told_text};
+ghost use Rattle.rv_play.specs.Stages.{Stage, start};
+ghost use Rattle.rv_play.specs.declared.player.Limits.{Limits};
 
 /// The commands of what is told and their answers are steps of the host, from nothing to the history
 /// that they lead to.
 #[tactic(auto, using(crate::proofs::Scripting::plays_steps))]
 pub fn acts_are_steps()
-    ensures { (capacity : ℕ) → (acts : List Act) → (told : List Told) → (fault : Option ScriptFault) → (last : Stage)
-        → Plays (start capacity) acts told fault last
-        → Steps (empty capacity) (commands told) (answers told) last.history }
+    ensures { (limits : Limits) → (acts : List Act) → (told : List Told) → (fault : Option ScriptFault) → (last : Stage)
+        → Plays (start limits) acts told fault last
+        → Steps (empty limits.capacity) (commands told) (answers told) last.history }
 {}
 
 /// The history that a script leads to is legal.

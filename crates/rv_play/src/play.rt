@@ -1,22 +1,24 @@
 //! Carries out a script, section by section, and writes the journal of what it did.
 
-ghost use Rattle.std.specs.Prelude.{◌≡◌, ◌≤◌, ◌+◌, ◌^◌, ◌∷◌, [], length, IfSome, option_map};
+ghost use Rattle.std.specs.Prelude.{◌≤◌, ◌+◌, ◌^◌, ◌∷◌, [], length, replicate, IfSome, option_map};
 ghost use Rattle.std.specs.Str.Lines.{lines};
 ghost use Rattle.rv_text.specs.Words.{words};
 ghost use Rattle.rv_script.specs.Openings.{AreNumbered};
 ghost use Rattle.rv_fault.specs.Written.{Writes, WritesScript};
-ghost use Rattle.rv_play.specs.Acts.{Act, line_of, line_acts, step_acts, section_acts, acts_from};
+ghost use Rattle.rv_play.specs.Acts.{Act, Goes, line_of, asked_acts, line_acts, step_acts, section_acts, acts_from};
 ghost use Rattle.rv_play.specs.Deeds.{Comes, ComesToDeed};
 ghost use Rattle.rv_play.specs.Carried.{Carries};
-ghost use Rattle.rv_play.specs.Scripted.{ReadsCapacity, outcome_of};
+ghost use Rattle.rv_play.specs.Scripted.{playing, ReadsLimits, outcome_of};
 
-use crate::acts::{line_deed, list_deed, shape_deed, unit_deed};
+use crate::acts::{go_deed, list_deed, shape_deed, step_deed, unit_deed};
 use crate::deed::Deed;
-use crate::player::Player;
+use crate::player::{Limits, Player};
 use rv_fault::{Failure, What, refused};
 use rv_host::host::NewFault;
 use rv_script::{Opening, ReadError, open, opening_of, read_script, text_of};
-use rv_settings::{DEFAULT_CAPACITY, SettingsFault, read_settings};
+use rv_settings::{DEFAULT_BUDGET, DEFAULT_CAPACITY, SettingsFault, read_settings};
+use rv_step::reading::{StepError, step_of};
+use rv_step::step::{Asked, Asker, Step};
 use rv_text::{Section, Sections, has_words, next_line};
 use std::alloc::Global;
 use std::io::{Read, Write};
@@ -27,12 +29,55 @@ fn perform<W: Write>(
     writer: &mut W,
     deed: Result<Deed, Failure>,
 ) -> Result<(), Failure>
-    ensures { (act : Act) → Comes (line_of act) (ComesToDeed player.old.stage.history.shapes act) deed
-        → Carries (W.contents writer.old) (W.contents writer.new) player.old player.new (act ∷ []) result }
+    ensures { (act : Act) → Comes (line_of act) (ComesToDeed (playing player.old).stage act) deed
+        → Carries (W.contents writer.old) (W.contents writer.new) (playing player.old) (playing player.new) (act ∷ []) result }
 {
     match deed {
-        Ok(deed) => player.tell(writer, &deed),
+        Ok(deed) => player.tell(writer, deed),
         Err(failure) => Err(failure),
+    }
+}
+
+// Carries out so many `go`s, one after another.
+fn perform_goes<W: Write>(
+    alloc: Global,
+    player: &mut Player,
+    writer: &mut W,
+    line: usize,
+    asker: &Asker,
+    count: usize,
+) -> Result<(), Failure>
+    ensures { Carries (W.contents writer.old) (W.contents writer.new) (playing player.old) (playing player.new)
+        (replicate count (Goes line asker.now)) result }
+{
+    for _ in 0..count {
+        let deed = go_deed(alloc, player, line, asker);
+        match perform(player, writer, deed) {
+            Ok(()) => {}
+            Err(failure) => return Err(failure),
+        }
+    }
+    Ok(())
+}
+
+// Carries out a step.
+fn perform_step<W: Write>(
+    alloc: Global,
+    player: &mut Player,
+    writer: &mut W,
+    line: usize,
+    asker: &Asker,
+    asked: Asked,
+) -> Result<(), Failure>
+    ensures { Carries (W.contents writer.old) (W.contents writer.new) (playing player.old) (playing player.new)
+        (asked_acts line asker.now asked) result }
+{
+    match asked {
+        Asked::Go(count) => perform_goes(alloc, player, writer, line, asker, count),
+        asked => {
+            let deed = step_deed(alloc, player, line, asker, asked);
+            perform(player, writer, deed)
+        }
     }
 }
 
@@ -44,14 +89,17 @@ fn perform_line<W: Write>(
     line: usize,
     text: &str,
 ) -> Result<(), Failure>
-    ensures { Carries (W.contents writer.old) (W.contents writer.new) player.old player.new
+    ensures { Carries (W.contents writer.old) (W.contents writer.new) (playing player.old) (playing player.new)
         (line_acts line (words text.now)) result }
 {
     if !has_words(text) {
         return Ok(());
     }
-    let deed = line_deed(alloc, player.catalogue(), line, text);
-    perform(player, writer, deed)
+    match step_of(alloc, text) {
+        Ok(Step { asker, asked }) => perform_step(alloc, player, writer, line, &asker, asked),
+        Err(StepError::BadStep) => Err(refused(line, What::BadStep)),
+        Err(StepError::NoMemory) => Err(Failure::Memory),
+    }
 }
 
 // Carries out the steps of a section, one a line.
@@ -62,7 +110,7 @@ fn perform_all<W: Write>(
     section: &Section,
 ) -> Result<(), Failure>
     requires { section.now.line + length section.now.text.now ≤ 2 ^ 63 }
-    ensures { Carries (W.contents writer.old) (W.contents writer.new) player.old player.new
+    ensures { Carries (W.contents writer.old) (W.contents writer.new) (playing player.old) (playing player.new)
         (step_acts (section.now.line + 1) (lines section.now.text.now)) result }
 {
     let mut rest = section.text;
@@ -86,7 +134,7 @@ fn carry_out<W: Write>(
     section: &Section,
 ) -> Result<(), Failure>
     requires { section.now.line + length section.now.text.now ≤ 2 ^ 63 }
-    ensures { Carries (W.contents writer.old) (W.contents writer.new) player.old player.new
+    ensures { Carries (W.contents writer.old) (W.contents writer.new) (playing player.old) (playing player.new)
         (section_acts (record {
           line = section.now.line;
           opening = section.now.opening.now;
@@ -99,15 +147,15 @@ fn carry_out<W: Write>(
     };
     match opening {
         Opening::UnitText => {
-            let deed = unit_deed(alloc, player.catalogue(), line, section.text);
+            let deed = unit_deed(alloc, player, line, section.text);
             perform(player, writer, deed)
         }
         Opening::Shape => {
-            let deed = shape_deed(alloc, player.catalogue(), line, section.text);
+            let deed = shape_deed(alloc, player, line, section.text);
             perform(player, writer, deed)
         }
         Opening::AccessList => {
-            let deed = list_deed(alloc, player.catalogue(), line, section.text);
+            let deed = list_deed(alloc, player, line, section.text);
             perform(player, writer, deed)
         }
         Opening::Steps => perform_all(alloc, player, writer, section),
@@ -123,7 +171,7 @@ fn carry_out_all<W: Write>(
     mut sections: Sections<'_>,
 ) -> Result<(), Failure>
     requires { AreNumbered sections }
-    ensures { Carries (W.contents writer.old) (W.contents writer.new) player.old player.new
+    ensures { Carries (W.contents writer.old) (W.contents writer.new) (playing player.old) (playing player.new)
         (acts_from sections.entry) result }
 {
     'each: while let Some(section) = sections.next_section() {
@@ -135,16 +183,22 @@ fn carry_out_all<W: Write>(
     Ok(())
 }
 
-// How many entries the journal of a script may have.
-fn capacity_of(alloc: Global, settings: &Option<Section<'_>>) -> Result<usize, Failure>
-    ensures { ReadsCapacity (option_map (λ s. record { line = s.line; opening = s.opening.now; text = s.text.now })
+// How many entries the journal of a script may have, and how many requests a task's own body may make.
+fn limits_of(alloc: Global, settings: &Option<Section<'_>>) -> Result<Limits, Failure>
+    ensures { ReadsLimits (option_map (λ s. record { line = s.line; opening = s.opening.now; text = s.text.now })
         settings.now) result }
 {
     let Some(section) = settings else {
-        return Ok(DEFAULT_CAPACITY);
+        return Ok(Limits {
+            capacity: DEFAULT_CAPACITY,
+            budget: DEFAULT_BUDGET,
+        });
     };
     match read_settings(alloc, section.text) {
-        Ok(settings) => Ok(settings.capacity()),
+        Ok(settings) => Ok(Limits {
+            capacity: settings.capacity(),
+            budget: settings.budget(),
+        }),
         Err(SettingsFault::NoMemory) => Err(Failure::Memory),
         Err(fault) => Err(refused(section.line, What::Settings(fault))),
     }
@@ -158,11 +212,11 @@ fn play_text<W: Write>(alloc: Global, writer: &mut W, all: bool, text: &str) -> 
         Ok(script) => script,
         Err(line) => return Err(refused(line, What::BadSection)),
     };
-    let capacity = match capacity_of(alloc, &script.settings) {
-        Ok(capacity) => capacity,
+    let limits = match limits_of(alloc, &script.settings) {
+        Ok(limits) => limits,
         Err(failure) => return Err(failure),
     };
-    match Player::new(alloc, capacity, all) {
+    match Player::new(alloc, limits, all) {
         Ok(mut player) => carry_out_all(alloc, &mut player, writer, script.sections),
         Err(NewFault::BadCapacity) | Err(NewFault::NoMemory) => Err(Failure::Memory),
     }

@@ -10,7 +10,10 @@ use rv_check::check::check;
 use rv_fault::Failure;
 use rv_play::play::play;
 use std::alloc::Global;
-use std::{fs, io};
+use std::{fs, io, thread};
+
+// The stack of the thread that plays the scripts: the deepest bodies were measured to need 128 MiB.
+const STACK_BYTES: usize = 256 * 1024 * 1024;
 
 /// What is written for a script, and behind it the line of its fault.
 fn given(alloc: Global, script: &[u8], is_checked: bool) -> io::Result<Vec<u8>> {
@@ -92,10 +95,20 @@ fn names_of(rt: &HostRuntime) -> io::Result<Vec<String>> {
     Ok(names)
 }
 
-fn main(rt: HostRuntime) -> io::Result<()> {
+/// Says of each script whether it gave what stands beside it.
+fn tell_all(rt: HostRuntime) -> io::Result<()> {
     for name in names_of(&rt)? {
         let line = told(&rt, name.as_str())?;
         println!(rt; "{line}")?;
     }
     Ok(())
+}
+
+// The bodies of a script run on a thread whose stack holds the deepest of them.
+fn main(rt: HostRuntime) -> io::Result<()> {
+    let wide = thread::Builder::new().stack_size(STACK_BYTES);
+    match wide.spawn(&rt, move || tell_all(rt)) {
+        Ok(thread) => thread.join(&rt),
+        Err(_) => Err(io::Error::from(io::ErrorKind::OutOfMemory)),
+    }
 }

@@ -1,5 +1,5 @@
 -- The names of a step, looked up among the units that are loaded (own).
-use Rattle.std.specs.Prelude.{ℕ, ◌+◌, List, ◌∷◌, Option, Some, None}
+use Rattle.std.specs.Prelude.{ℕ, ◌+◌, List, Option, Some, None}
 use Rattle.rv_text.specs.Names.{dotted}
 use Rattle.rv_shape.specs.Shape.{Shape}
 use Rattle.rv_shape.specs.Names.{task_number, object_number, operation_number}
@@ -31,7 +31,7 @@ abbrev pub callee_of : List Shape → DottedWord → List ℕ → Option (ℕ ×
 callee_of shapes object operation =
     object_number shapes (full_name object) >>= λ o. operation_number shapes o operation >>= λ p. Some (o, p)
 
--- the request of a step, if what it names is loaded
+-- the request of a step, if what it names is loaded; a change of the list and a `go` are none
 abbrev pub request_of : List Shape → Asked → Option Request
 request_of shapes (Call object operation values) =
     callee_of shapes object operation >>= λ found. Some (Requests.Call found.0 found.1 values)
@@ -43,4 +43,4 @@ request_of shapes Fire = Some Requests.Fire
 request_of shapes Quit = Some Requests.Quit
 request_of shapes (Tick ticks) = Some (Requests.Tick ticks)
 request_of shapes Halt = Some Requests.Halt
-request_of shapes change = None
+request_of shapes asked = None

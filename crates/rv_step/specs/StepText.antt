@@ -1,7 +1,7 @@
 -- The steps of a script, one a line: who asks, and what (own). Keywords heed case.
 use Rattle.rv_step.specs.declared.reading.StepError.{StepError}
 use Rattle.rv_step.specs.declared.reading.StepError.TheVariants.{BadStep, NoMemory}
-use Rattle.std.specs.Prelude.{◌≡◌, ℕ, ℤ, Bool, true, false, not, ◌&&◌, if◌then◌else◌, List, [], ◌∷◌, codes}
+use Rattle.std.specs.Prelude.{◌≡◌, ℕ, ℤ, pos, negsuc, nat_lt, Bool, true, false, not, ◌&&◌, if◌then◌else◌, List, [], ◌∷◌, codes}
 use Rattle.std.specs.Prelude.{Option, Some, None, Result, Ok, Err}
 use Rattle.std.specs.Str.{bytes_eq}
 use Rattle.rv_text.specs.Names.{is_same_name}
@@ -68,7 +68,13 @@ alone word =
     else if bytes_eq word (codes "fire") then Some Asks.Fire
     else if bytes_eq word (codes "finish") then Some Asks.Quit
     else if bytes_eq word (codes "halt") then Some Asks.Halt
+    else if bytes_eq word (codes "go") then Some (Asks.Go 1)
     else None
+
+-- `go N`: so many requests of the actor's text, at least one
+abbrev pub go_of : ℤ → Option Asked
+go_of (pos number) = if nat_lt number 1 then None else Some (Asks.Go number)
+go_of (negsuc number) = None
 
 -- the requests with a number
 abbrev pub numbered_by : List ℕ → ℤ → Option Asked
@@ -76,6 +82,7 @@ numbered_by key number =
     if bytes_eq key (codes "delay") then Some (Asks.DelayUntil number)
     else if bytes_eq key (codes "tick") then Some (Asks.Tick number)
     else if bytes_eq key (codes "remove") then Some (Asks.Remove number)
+    else if bytes_eq key (codes "go") then go_of number
     else None
 
 -- a request of a word and a number

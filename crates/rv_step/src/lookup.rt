@@ -57,7 +57,7 @@ fn callee_of(
     }
 }
 
-/// The request of a step, if what it names is loaded. A change of the list is none.
+/// The request of a step, if what it names is loaded. A change of the list is none, and neither is a `go`.
 pub fn request_of(
     alloc: Global,
     catalogue: &Catalogue,
@@ -80,6 +80,6 @@ pub fn request_of(
         Asked::Quit => Ok(Some(Request::Quit)),
         Asked::Tick(ticks) => Ok(Some(Request::Tick(*ticks))),
         Asked::Halt => Ok(Some(Request::Halt)),
-        Asked::Append(_) | Asked::Remove(_) | Asked::Replace(_, _) => Ok(None),
+        Asked::Go(_) | Asked::Append(_) | Asked::Remove(_) | Asked::Replace(_, _) => Ok(None),
     }
 }

@@ -103,6 +103,8 @@ pub enum Asked {
     Quit,
     Tick(i64),
     Halt,
+    /// So many requests of the actor's text, one after another, at least one.
+    Go(usize),
     /// One more line at the end of the list; what is no line comes with its fault.
     Append(Result<Line, ListFault>),
     /// The list without the line of this number.

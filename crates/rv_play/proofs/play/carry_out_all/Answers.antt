@@ -3,6 +3,7 @@ use Rattle.rv_text.specs.Sections.{SectionText}
 use Rattle.rv_script.specs.Openings.{AreNumbered}
 use Rattle.rv_play.specs.Acts.{Act, section_acts, acts_from}
 use Rattle.rv_play.proofs.Carrying.{carries_nothing, carries_then, carries_fails}
+use Rattle.rv_play.specs.Scripted.{playing}
 use Rattle.rv_play.proofs.play.carry_out_all.Goals as goal
 
 -- the sections that are left, with the first of them
@@ -27,12 +28,12 @@ each-preserved g c =
       all_acts =
           append_assoc inv.done now (acts_from c.next_section.new.self)
           ∙ with_first inv.done c.each.sections section c.next_section.new.self _ first inv.all_acts;
-      carried = carries_then _ _ (g.W.Write.contents c.carry_out.new.writer) _ _ c.carry_out.new.player inv.done now (Ok tt) inv.carried c.in-Ok.ensures;
+      carried = carries_then _ _ (g.W.Write.contents c.carry_out.new.writer) _ _ (playing c.carry_out.new.player) inv.done now (Ok tt) inv.carried c.in-Ok.ensures;
     }
 
 pub returns-in-Err : goal.returns-in-Err
 returns-in-Err g c =
     let inv = c.each.invariant in
     let section : SectionText = record { line = c.in-Some.section.line; opening = c.in-Some.section.opening.now; text = c.in-Some.section.text.now } in
-    carries_fails _ _ _ _ _ c.carry_out.new.player inv.done (section_acts section) (acts_from c.next_section.new.self) _ _ inv.carried c.in-Err.ensures
+    carries_fails _ _ _ _ _ (playing c.carry_out.new.player) inv.done (section_acts section) (acts_from c.next_section.new.self) _ _ inv.carried c.in-Err.ensures
     (with_first inv.done c.each.sections section c.next_section.new.self _ c.in-Some.ensures.first inv.all_acts)

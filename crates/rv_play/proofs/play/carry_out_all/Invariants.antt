@@ -1,6 +1,7 @@
 use Rattle.std.proofs.Common.{◌≡◌, List, ◌++◌, Ok, length}
 use Rattle.rv_script.specs.Openings.{AreNumbered}
 use Rattle.rv_play.specs.Acts.{Act, acts_from}
+use Rattle.rv_play.specs.Scripted.{playing}
 use Rattle.rv_play.specs.Carried.{Carries}
 use Rattle.rv_play.proofs.play.carry_out_all.Given as goal
 
@@ -11,7 +12,7 @@ invariant-each g l =
       numbered : AreNumbered l.sections;
       done : List Act;
       all_acts : done ++ acts_from l.sections ≡ acts_from l.fn.sections;
-      carried : Carries (g.W.Write.contents l.fn.writer) (g.W.Write.contents l.writer) l.fn.player l.player done (Ok tt);
+      carried : Carries (g.W.Write.contents l.fn.writer) (g.W.Write.contents l.writer) (playing l.fn.player) (playing l.player) done (Ok tt);
     }
 
 abbrev pub decreases-each : goal.decreases-each

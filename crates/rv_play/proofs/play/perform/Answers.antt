@@ -1,14 +1,17 @@
 use Rattle.std.proofs.Common.{Result, subst}
 use Rattle.rv_fault.specs.declared.failure.Failure.{Failure}
 use Rattle.rv_play.specs.Acts.{line_of}
-use Rattle.rv_play.specs.Deeds.{DeedText, Comes, ComesToDeed}
+use Rattle.rv_play.specs.declared.deed.Deed.{Deed}
+use Rattle.rv_play.specs.Stages.{deed_text}
+use Rattle.rv_play.specs.Scripted.{playing}
+use Rattle.rv_play.specs.Deeds.{Comes, ComesToDeed}
 use Rattle.rv_play.proofs.Performing.{does_act, fails_act}
 use Rattle.rv_play.proofs.play.perform.Goals as goal
 
 pub returns-in-Ok : goal.returns-in-Ok
 returns-in-Ok g c act comes =
-    does_act _ _ _ _ act c.in-Ok.deed _ (subst (λ (r : Result DeedText Failure). Comes (line_of act) (ComesToDeed c.args.player.now.stage.history.shapes act) r) c.in-Ok.is comes) c.tell.ensures
+    does_act _ _ _ _ act (deed_text c.in-Ok.deed) _ (subst (λ (r : Result Deed Failure). Comes (line_of act) (ComesToDeed (playing c.args.player.now).stage act) r) c.in-Ok.is comes) c.tell.ensures
 
 pub returns-in-Err : goal.returns-in-Err
 returns-in-Err g c act comes =
-    fails_act _ _ act c.in-Err.failure (subst (λ (r : Result DeedText Failure). Comes (line_of act) (ComesToDeed c.args.player.now.stage.history.shapes act) r) c.in-Err.is comes)
+    fails_act _ _ act c.in-Err.failure (subst (λ (r : Result Deed Failure). Comes (line_of act) (ComesToDeed (playing c.args.player.now).stage act) r) c.in-Err.is comes)

@@ -3,6 +3,7 @@ use Rattle.std.specs.Str.Lines.{lines}
 use Rattle.rv_text.specs.Words.{words}
 use Rattle.rv_play.specs.Acts.{Act, line_acts, step_acts}
 use Rattle.rv_play.proofs.Carrying.{carries_then, carries_fails}
+use Rattle.rv_play.specs.Scripted.{playing}
 use Rattle.rv_play.proofs.play.perform_all.Goals as goal
 
 -- the lines that are left, with the first of them
@@ -12,7 +13,7 @@ with_first done number rest line after whole e same = ap (λ (ls : List (List �
 pub returns-in-Err : goal.returns-in-Err
 returns-in-Err g c =
     let inv = c.loop-text.invariant in
-    carries_fails _ _ _ _ _ c.perform_line.new.player inv.done (line_acts (c.loop-text.line + 1) (words c.in-Some.text.now)) (step_acts (c.loop-text.line + 1 + 1) (lines c.in-Some.after.now)) _ _
+    carries_fails _ _ _ _ _ (playing c.perform_line.new.player) inv.done (line_acts (c.loop-text.line + 1) (words c.in-Some.text.now)) (step_acts (c.loop-text.line + 1 + 1) (lines c.in-Some.after.now)) _ _
     inv.carried c.in-Err.ensures
     (with_first inv.done (c.loop-text.line + 1) (lines c.loop-text.rest.now) c.in-Some.text.now (lines c.in-Some.after.now) _ c.in-Some.ensures.lines inv.all_acts)
 
@@ -27,5 +28,5 @@ loop-text-preserved g c =
       all_acts =
           append_assoc inv.done now (step_acts (c.loop-text.line + 1 + 1) (lines c.in-Some.after.now))
           ∙ with_first inv.done (c.loop-text.line + 1) (lines c.loop-text.rest.now) c.in-Some.text.now (lines c.in-Some.after.now) _ c.in-Some.ensures.lines inv.all_acts;
-      carried = carries_then _ _ (g.W.Write.contents c.perform_line.new.writer) _ _ c.perform_line.new.player inv.done now (Ok tt) inv.carried c.in-Ok.ensures;
+      carried = carries_then _ _ (g.W.Write.contents c.perform_line.new.writer) _ _ (playing c.perform_line.new.player) inv.done now (Ok tt) inv.carried c.in-Ok.ensures;
     }

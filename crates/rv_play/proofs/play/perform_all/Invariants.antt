@@ -3,6 +3,7 @@ use denote.Text.{Utf8}
 use denote.Shadow.{shadow}
 use Rattle.std.specs.Str.Lines.{lines}
 use Rattle.rv_play.specs.Acts.{Act, step_acts}
+use Rattle.rv_play.specs.Scripted.{playing}
 use Rattle.rv_play.specs.Carried.{Carries}
 use Rattle.rv_play.proofs.play.perform_all.Given as goal
 
@@ -14,7 +15,7 @@ invariant-loop-text g l =
       few : l.line + length l.rest ≤ l.fn.section.line + length l.fn.section.text.now;
       done : List Act;
       all_acts : done ++ step_acts (l.line + 1) (lines l.rest) ≡ step_acts (l.fn.section.line + 1) (lines l.fn.section.text.now);
-      carried : Carries (g.W.Write.contents l.fn.writer) (g.W.Write.contents l.writer) l.fn.player l.player done (Ok tt);
+      carried : Carries (g.W.Write.contents l.fn.writer) (g.W.Write.contents l.writer) (playing l.fn.player) (playing l.player) done (Ok tt);
     }
 
 abbrev pub decreases-loop-text : goal.decreases-loop-text

@@ -1,0 +1,67 @@
+-- The texts of actors: the bodies of the loaded units, and what actors were answered since their texts began (own).
+use Rattle.std.specs.Prelude.{ℕ, Bool, true, false, ◌==◌, not, ◌&&◌, if◌then◌else◌, List, [], ◌∷◌, ◌++◌, length, replicate, reverse, None}
+use Rattle.rv_shape.specs.Shape.{Shape}
+use Rattle.rv_event.specs.declared.entry.Request.{Request}
+use Rattle.rv_event.specs.declared.entry.Request.TheVariants.{Fire}
+use Rattle.rv_event.specs.declared.entry.Answer.{Answer}
+use Rattle.rv_event.specs.declared.entry.Answer.TheVariants.{Started}
+use Rattle.rv_code.specs.Bodies.{UnitBodies}
+use Rattle.rv_exec.specs.Asking.{stands}
+use Rattle.rv_exec.specs.Bodies.{no_bodies, with_unit}
+use Rattle.rv_exec.specs.Bodies.{bodies_view}
+use Rattle.rv_go.specs.declared.texts.Heard.{Heard}
+use Rattle.rv_go.specs.declared.texts.Texts.{Texts}
+
+-- the bodies of the units that are loaded, the answers that texts go on by, the newest first, and how many requests a task's
+-- own body may make
+pub record TextsView : Type 0 where
+  pub bodies : UnitBodies
+  pub heard : List Heard
+  pub budget : ℕ
+
+abbrev pub texts_view : Texts → TextsView
+texts_view texts = record { bodies = bodies_view texts.bodies; heard = reverse texts.heard.items; budget = texts.machine.budget }
+
+-- before the first load
+abbrev pub no_texts : ℕ → TextsView
+no_texts budget = record { bodies = no_bodies; heard = []; budget = budget }
+
+-- a unit without a text: none of its operations and tasks has a body
+abbrev pub without_text : Shape → UnitBodies
+without_text shape = record { objects = replicate (length shape.objects) []; tasks = replicate (length shape.tasks) None }
+
+-- with the bodies of the next unit that is loaded
+abbrev pub with_bodies : UnitBodies → TextsView → TextsView
+with_bodies unit texts = record texts { bodies = with_unit unit texts.bodies }
+
+-- whether a body has started
+abbrev pub is_started : Answer → Bool
+is_started (Started scalars) = true
+is_started answer = false
+
+-- whether it is the `fire` of a line
+abbrev pub is_fire : Request → Bool
+is_fire Fire = true
+is_fire request = false
+
+-- whether a text goes on by the answer to a request: that of a handler begins where its line's `fire` is answered Started (C.3);
+-- else the request is a `go`, and the answer doesn't leave it standing
+abbrev pub is_heard : Bool → Request → Answer → Bool
+is_heard goes request answer = if is_fire request then is_started answer else goes && not (stands answer)
+
+-- the texts behind such an answer
+abbrev pub hears : TextsView → ℕ → Bool → Request → Answer → TextsView
+hears texts actor goes request answer =
+    if is_heard goes request answer
+    then record texts { heard = record { actor = actor; starts = is_fire request; answer = answer } ∷ texts.heard }
+    else texts
+
+-- an actor's answers with one more, behind which there are none before a start
+abbrev pub with_answer : ℕ → Heard → List Answer → List Answer
+with_answer actor h before =
+    if h.actor == actor then (if h.starts then h.answer ∷ [] else before ++ h.answer ∷ []) else before
+
+-- what an actor was answered since its text began, in order
+abbrev pub answers_to : ℕ → List Heard → List Answer
+answers_to actor [] = []
+answers_to actor (h ∷ before) = with_answer actor h (answers_to actor before)

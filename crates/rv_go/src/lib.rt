@@ -1,0 +1,9 @@
+//! What `go` asks for the actors of a script: the bodies of the loaded units, what their actors were answered, and the
+//! request that an actor's text makes next.
+#![tactic(auto)]
+
+mod asking;
+mod shapes;
+pub mod texts;
+
+pub use shapes::without_text;

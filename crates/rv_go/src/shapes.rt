@@ -1,0 +1,42 @@
+//! Units without a text.
+
+ghost use Rattle.std.specs.Prelude.{◌≡◌, [], map, replicate, None, IfOk};
+ghost use Rattle.rv_code.specs.BodyView.{object_view, maybe_body_view, unit_view};
+ghost use Rattle.rv_go.specs.Texts.{without_text};
+
+use rv_code::{Body, ObjectBodies, UnitBodies};
+use rv_shape::shape::UnitShape;
+use std::alloc::{AllocError, Global};
+
+// So many objects whose operations have no bodies.
+fn objects_without(alloc: Global, count: usize) -> Result<Vec<ObjectBodies>, AllocError>
+    ensures { IfOk result (λ objects. map object_view objects.items ≡ replicate count []) }
+{
+    let mut objects = Vec::new(alloc);
+    for _ in 0..count {
+        objects.push(ObjectBodies {
+            operations: Vec::new(alloc),
+        })?;
+    }
+    Ok(objects)
+}
+
+// So many tasks without a body.
+fn tasks_without(alloc: Global, count: usize) -> Result<Vec<Option<Body>>, AllocError>
+    ensures { IfOk result (λ tasks. map maybe_body_view tasks.items ≡ replicate count None) }
+{
+    let mut tasks = Vec::new(alloc);
+    for _ in 0..count {
+        tasks.push(None)?;
+    }
+    Ok(tasks)
+}
+
+/// The bodies of a unit without a text: none of its operations and tasks has one.
+pub fn without_text(alloc: Global, shape: &UnitShape) -> Result<UnitBodies, AllocError>
+    ensures { IfOk result (λ bodies. unit_view bodies ≡ without_text shape.now) }
+{
+    let objects = objects_without(alloc, shape.objects().len())?;
+    let tasks = tasks_without(alloc, shape.tasks().len())?;
+    Ok(UnitBodies { objects, tasks })
+}

@@ -1,0 +1,63 @@
+-- Where a script stands, and where an answer leads it (own).
+use Rattle.std.specs.Prelude.{ℕ, List, Bool, if◌then◌else◌, is_some, string_bytes, Option, Some, None}
+use Rattle.rv_event.specs.Recorded.{recorded}
+use Rattle.rv_event.specs.declared.entry.Answer.{Answer}
+use Rattle.rv_event.specs.declared.entry.Answer.TheVariants.{Misuse}
+use Rattle.rv_history.specs.declared.command.Command.{Command}
+use Rattle.rv_history.specs.declared.command.Command.TheVariants.{Ask, Load}
+use Rattle.rv_history.specs.History.{History}
+use Rattle.rv_history.specs.Legal.{empty}
+use Rattle.rv_history.specs.Steps.{due_command, after_command}
+use Rattle.rv_code.specs.Bodies.{UnitBodies}
+use Rattle.rv_go.specs.Texts.{TextsView, no_texts, with_bodies, hears}
+use Rattle.rv_code.specs.BodyView.{unit_view}
+use Rattle.rv_play.specs.declared.deed.Deed.{Deed}
+use Rattle.rv_play.specs.declared.player.Limits.{Limits}
+
+-- what is asked of the host: by which actor, which command (none where the actor has nothing to ask), and in which words; whether
+-- it is a `go`, by whose answer the actor's text goes on; and the bodies of the unit that it loads
+pub record DeedText : Type 0 where
+  pub actor : ℕ
+  pub command : Option Command
+  pub words : List ℕ
+  pub goes : Bool
+  pub bodies : UnitBodies
+
+abbrev pub deed_text : Deed → DeedText
+deed_text deed = record {
+  actor = deed.actor;
+  command = deed.command;
+  words = string_bytes deed.words;
+  goes = deed.goes;
+  bodies = unit_view deed.bodies;
+}
+
+-- where a script stands: the history so far, and the texts of actors
+pub record Stage : Type 0 where
+  pub history : History
+  pub texts : TextsView
+
+-- at the beginning, within these limits
+abbrev pub start : Limits → Stage
+start limits = record { history = empty limits.capacity; texts = no_texts limits.budget }
+
+-- the answer that is due; one who has nothing to ask is answered misuse
+abbrev pub due_answer : Stage → Option Command → Answer
+due_answer stage None = Misuse
+due_answer stage (Some command) = due_command stage.history command
+
+-- the history after an answer
+abbrev pub history_after : History → Option Command → Answer → History
+history_after h None answer = h
+history_after h (Some command) answer = after_command h command answer
+
+-- the texts after an answer: a unit that is loaded brings its bodies, and texts go on by answers
+abbrev pub texts_after : TextsView → DeedText → Option Command → Answer → TextsView
+texts_after texts deed (Some (Ask actor request)) answer = hears texts actor deed.goes request answer
+texts_after texts deed (Some (Load shape)) answer = if is_some (recorded answer) then with_bodies deed.bodies texts else texts
+texts_after texts deed command answer = texts
+
+-- the stage after an answer to a deed
+abbrev pub after_deed : Stage → DeedText → Answer → Stage
+after_deed stage deed answer =
+    record { history = history_after stage.history deed.command answer; texts = texts_after stage.texts deed deed.command answer }
