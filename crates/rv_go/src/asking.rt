@@ -4,7 +4,6 @@ ghost use Rattle.std.specs.Prelude.{◌≡◌, IfOk, Option, option_map};
 ghost use Rattle.rv_event.specs.declared.entry.Request.{Request};
 ghost use Rattle.rv_exec.specs.Next.{told};
 ghost use Rattle.rv_history.specs.Fitting.{awaits};
-ghost use Rattle.rv_shape.specs.Catalogue.{OperationNumber};
 ghost use Rattle.rv_go.specs.Texts.{texts_view};
 ghost use Rattle.rv_go.specs.Goes.{task_asks, handler_asks, line_asks, asks};
 

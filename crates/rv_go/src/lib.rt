@@ -3,7 +3,7 @@
 #![tactic(auto)]
 
 mod asking;
-pub mod texts;
 mod shapes;
+pub mod texts;
 
 pub use shapes::without_text;

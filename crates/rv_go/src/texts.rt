@@ -148,11 +148,7 @@ impl Texts {
     }
 
     // What an actor was answered since its text began, in order.
-    pub(crate) fn answers_to(
-        &self,
-        alloc: Global,
-        actor: usize,
-    ) -> Result<Vec<Answer>, AllocError>
+    pub(crate) fn answers_to(&self, alloc: Global, actor: usize) -> Result<Vec<Answer>, AllocError>
         ensures { IfOk result (λ answers. answers.items ≡ answers_to actor (texts_view self.now).heard) }
     {
         let mut answers = Vec::new(alloc);

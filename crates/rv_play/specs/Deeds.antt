@@ -21,7 +21,7 @@ use Rattle.rv_fault.specs.declared.failure.Failure.TheVariants.{Refused, Memory,
 use Rattle.rv_fault.specs.declared.fault.What.{What}
 use Rattle.rv_fault.specs.declared.fault.What.TheVariants as Whats
 use Rattle.rv_script.specs.UnitTexts.{most_unit_bytes}
-use Rattle.rv_unit.specs.Compiles.{IsUnit, IsRefused}
+use Rattle.rv_unit.specs.Compiles.{IsCompiled, IsRefused}
 use Rattle.rv_unit.specs.declared.fault.UnitFault.TheVariants as Units
 use Rattle.rv_code.specs.Bodies.{UnitBodies}
 use Rattle.rv_exec.specs.Bodies.{no_bodies}
@@ -133,7 +133,7 @@ if_fits shape (Some fault) = Err (Whats.Shape fault)
 -- a unit text comes to the load of the unit that it gives, with its bodies; one that is too long is refused whatever its words
 abbrev pub compiles : List Shape → List ℕ → Result DeedText What → Type 0
 compiles shapes text (Ok deed) =
-    (shape : Shape) × (bodies : UnitBodies) × (length text ≤ most_unit_bytes) × IsUnit shapes text shape × (deed ≡ load shape bodies)
+    (shape : Shape) × (bodies : UnitBodies) × (length text ≤ most_unit_bytes) × IsCompiled shapes text shape bodies × (deed ≡ load shape bodies)
 compiles shapes text (Err Whats.TooLong) = most_unit_bytes < length text
 compiles shapes text (Err (Whats.Unit told)) = (length text ≤ most_unit_bytes) × IsRefused shapes text told × (told ≡ Units.NoMemory → ⊥)
 compiles shapes text (Err what) = ⊥

@@ -1,6 +1,6 @@
 //! Carries out a script, section by section, and writes the journal of what it did.
 
-ghost use Rattle.std.specs.Prelude.{◌≡◌, ◌≤◌, ◌+◌, ◌^◌, ◌∷◌, [], length, replicate, IfSome, option_map};
+ghost use Rattle.std.specs.Prelude.{◌≤◌, ◌+◌, ◌^◌, ◌∷◌, [], length, replicate, IfSome, option_map};
 ghost use Rattle.std.specs.Str.Lines.{lines};
 ghost use Rattle.rv_text.specs.Words.{words};
 ghost use Rattle.rv_script.specs.Openings.{AreNumbered};

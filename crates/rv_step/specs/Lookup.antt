@@ -1,5 +1,5 @@
 -- The names of a step, looked up among the units that are loaded (own).
-use Rattle.std.specs.Prelude.{ℕ, ◌+◌, List, ◌∷◌, Option, Some, None}
+use Rattle.std.specs.Prelude.{ℕ, ◌+◌, List, Option, Some, None}
 use Rattle.rv_text.specs.Names.{dotted}
 use Rattle.rv_shape.specs.Shape.{Shape}
 use Rattle.rv_shape.specs.Names.{task_number, object_number, operation_number}

@@ -13,6 +13,8 @@ use Rattle.rv_names.specs.Bound.{AllBound, uses}
 use Rattle.rv_outline.specs.Shapes.{shape_of}
 use Rattle.rv_code.specs.Bodies.{UnitBodies}
 use Rattle.rv_types.specs.BodiesOf.{bodies_of}
+use Rattle.rv_names.specs.declared.fault.NameFault.TheVariants as name
+use Rattle.rv_static.specs.declared.fault.TypeFault.TheVariants as type
 use Rattle.rv_unit.specs.declared.fault.UnitFault.{UnitFault}
 use Rattle.rv_unit.specs.declared.fault.UnitFault.TheVariants.{Lex, Parse, Restriction, Names, Types, Shape as Fits, NoMemory}
 
@@ -65,12 +67,13 @@ IsOfText text (Parse told) = HasNoTree text told
 IsOfText text NoMemory = Unit {0}
 IsOfText text other = ⊥
 
--- this is why a tree gives no unit; which fault of names or of types it is, and its place, isn't said here
+-- this is why a tree gives no unit, and it is no want of memory; which fault of names or of types it is, and its place,
+-- isn't said here. A fault of the shape stands against a text whose bodies are compiled
 abbrev pub IsOfTree : List Shape → UnitTree → UnitFault → Type 0
 IsOfTree shapes tree (Restriction violation) = IsFirst violation (violations tree)
-IsOfTree shapes tree (Names told) = Conforms tree
-IsOfTree shapes tree (Types told) = IsBound shapes tree
-IsOfTree shapes tree (Fits told) = (shape : Shape) × HasShape shapes tree shape × (fitting.fault shapes shape ≡ Some told)
+IsOfTree shapes tree (Names told) = Conforms tree × (told ≡ name.NoMemory → ⊥)
+IsOfTree shapes tree (Types told) = IsBound shapes tree × (told ≡ type.NoMemory → ⊥)
+IsOfTree shapes tree (Fits told) = (shape : Shape) × HasShape shapes tree shape × (code : UnitBodies) × (bodies_of shapes tree ≡ Some code) × (fitting.fault shapes shape ≡ Some told)
 IsOfTree shapes tree NoMemory = Unit {0}
 IsOfTree shapes tree other = ⊥
 

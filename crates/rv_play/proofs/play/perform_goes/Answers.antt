@@ -1,4 +1,4 @@
-use Rattle.std.proofs.Common.{◌∷◌, [], ◌+◌, ◌-◌, Ok, replicate, subst, List}
+use Rattle.std.proofs.Common.{◌∷◌, [], ◌-◌, Ok, replicate, subst, List}
 use Rattle.rv_fault.specs.Written.{Ended}
 use Rattle.rv_play.specs.Acts.{Act, Goes}
 use Rattle.rv_play.specs.Carried.{Carries}
