@@ -102,7 +102,7 @@ pub completed : (tree : UnitTree) (names : Region) → names ≡ with_bodies tre
     list_all (item_wants_among (is_in names)) tree.body.items ≡ true → unit_is_completed tree ≡ true
 completed tree names is h e =
     let on : (n : List ℕ) → is_in names n ≡ true → has_body tree.body.items n ≡ true =
-        λ n found. has tree.body.items n (ap (λ (r : Region). is_in r n) (sym is) ∙ found) in
+    λ n found. has tree.body.items n (ap (λ (r : Region). is_in r n) (sym is) ∙ found) in
     and_both true (list_all (item_wants_among (is_in names)) tree.body.items)
     (list_all (wants_among (has_body tree.body.items)) tree.specification.declarations)
     (list_all (item_wants_among (has_body tree.body.items)) tree.body.items)

@@ -102,10 +102,7 @@ fn bodiless(tree: &UnitTree, names: &Region) -> Option<NameFault>
 }
 
 /// The first declaration without a body. Err where memory was refused.
-pub(crate) fn missing_body(
-    alloc: Global,
-    tree: &UnitTree,
-) -> Result<Option<NameFault>, AllocError>
+pub(crate) fn missing_body(alloc: Global, tree: &UnitTree) -> Result<Option<NameFault>, AllocError>
     ensures { IfOk result (λ fault. fault ≡ None → unit_is_completed (unit_view tree.now) ≡ true) }
 {
     let names = body_names(alloc, &tree.body.items)?;

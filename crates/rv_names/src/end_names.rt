@@ -33,10 +33,7 @@ fn end_fault(opening: &Identifier, end: &Option<Identifier>) -> Option<NameFault
     }
 }
 
-fn definition_fault(
-    opening: &Identifier,
-    definition: &Option<TaskDefinition>,
-) -> Option<NameFault>
+fn definition_fault(opening: &Identifier, definition: &Option<TaskDefinition>) -> Option<NameFault>
     ensures { result ≡ None → definition_ends (identifier_view opening.now) (maybe task_definition_view definition.now) ≡ true }
 {
     match definition {
