@@ -7,3 +7,6 @@ pub mod StatementUses
 pub mod DeclarationUses
 pub mod UnitUses
 pub mod Bound
+pub mod Completed
+pub mod EndNames
+pub mod Jumps

@@ -125,7 +125,6 @@ fn handlers(list: &Vec<Handler>, scope: &mut Scope, faults: &mut Faults) -> Resu
 
 /// A block: its declarations stand in the innermost region.
 pub(crate) fn block<'a>(
-    opening: &Identifier,
     block: &'a Block,
     scope: &mut Scope,
     faults: &mut Faults<'a>,
@@ -136,10 +135,7 @@ pub(crate) fn block<'a>(
     faults.set_block(Some(block));
     locals(&block.locals, scope, faults)?;
     statements(&block.statements, scope, faults)?;
-    faults.set_handling(true);
     handlers(&block.handlers, scope, faults)?;
-    faults.set_handling(false);
     faults.set_block(None);
-    faults.end_name(opening, &block.end_name);
     Ok(())
 }

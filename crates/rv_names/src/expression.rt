@@ -137,12 +137,7 @@ pub(crate) fn maybe_value(e: &Option<Expression>, scope: &Scope, faults: &mut Fa
 }
 
 /// Two expressions that give values.
-pub(crate) fn two_values(
-    left: &Expression,
-    right: &Expression,
-    scope: &Scope,
-    faults: &mut Faults,
-)
+pub(crate) fn two_values(left: &Expression, right: &Expression, scope: &Scope, faults: &mut Faults)
     ensures { faults.new
         ≡ (value_uses judged scope.now (expression_view left.now) ▷ value_uses judged scope.now (expression_view right.now)) faults.old }
 {

@@ -87,6 +87,20 @@ impl NameFault {
     }
 }
 
+/// The earlier of two faults, or none where there is neither.
+pub(crate) fn earlier(one: Option<NameFault>, other: Option<NameFault>) -> Option<NameFault>
+    ensures one { result ≡ None → one ≡ None }
+    ensures other { result ≡ None → other ≡ None }
+{
+    let Some(first) = one else {
+        return other;
+    };
+    let Some(second) = other else {
+        return one;
+    };
+    if second.precedes(first) { other } else { one }
+}
+
 /// What was found of a text's names so far: the fault at the least place, and whether each name is bound.
 ///
 /// Contracts see whether each name so far is bound; no fault was told only where it is so.
@@ -98,10 +112,6 @@ pub(crate) struct Faults<'a> {
     pub(crate) around: Around<'a>,
     /// What the marks of the profiles so far denote.
     pub(crate) marks: Marks,
-    // How many loops the point is in.
-    loops: usize,
-    // Whether the point is in an exception handler.
-    is_handling: bool,
 }
 
 impl<'a> Model for Faults<'a> {
@@ -124,8 +134,6 @@ impl<'a> Faults<'a> {
             are_bound: true,
             around,
             marks: Marks::new(alloc),
-            loops: 0,
-            is_handling: false,
         }
     }
 
@@ -176,17 +184,6 @@ impl<'a> Faults<'a> {
         self.marks.note(mark, scope)
     }
 
-    /// The name after `end` must be the opening one (7.1, 9.4, 9.1, 6.3).
-    pub(crate) fn end_name(&mut self, opening: &Identifier, end: &Option<Identifier>)
-        ensures { self.new ≡ self.old }
-    {
-        if let Some(end) = end {
-            if !is_same_name(opening.text.as_str(), end.text.as_str()) {
-                self.tell(NameFault::EndName(end.at));
-            }
-        }
-    }
-
     /// The attributes are First and Last (3.5).
     pub(crate) fn attribute(&mut self, attribute: &Identifier)
         ensures { self.new ≡ self.old }
@@ -194,45 +191,6 @@ impl<'a> Faults<'a> {
         let name = attribute.text.as_str();
         if !is_same_name(name, "First") && !is_same_name(name, "Last") {
             self.tell(NameFault::Unknown(attribute.at));
-        }
-    }
-
-    /// A loop begins.
-    pub(crate) fn enter_loop(&mut self)
-        ensures { self.new ≡ self.old }
-    {
-        self.loops = self.loops.saturating_add(1);
-    }
-
-    /// A loop ends.
-    pub(crate) fn leave_loop(&mut self)
-        ensures { self.new ≡ self.old }
-    {
-        self.loops = self.loops.saturating_sub(1);
-    }
-
-    /// An `exit` stands in a loop (5.7).
-    pub(crate) fn exit(&mut self, at: usize)
-        ensures { self.new ≡ self.old }
-    {
-        if self.loops == 0 {
-            self.tell(NameFault::WrongKind(at));
-        }
-    }
-
-    /// The handlers of a block begin or end.
-    pub(crate) fn set_handling(&mut self, is_handling: bool)
-        ensures { self.new ≡ self.old }
-    {
-        self.is_handling = is_handling;
-    }
-
-    /// A `raise` without a name stands in a handler (11.3).
-    pub(crate) fn raise_again(&mut self, at: usize)
-        ensures { self.new ≡ self.old }
-    {
-        if !self.is_handling {
-            self.tell(NameFault::WrongKind(at));
         }
     }
 

@@ -11,13 +11,16 @@
 #![tactic(auto)]
 
 mod body;
+mod completed;
 mod context;
 mod declaration;
 pub mod declare;
 pub mod declared;
+mod end_names;
 mod expression;
 pub mod fault;
 mod find;
+mod jumps;
 mod marks;
 mod members;
 mod missing;

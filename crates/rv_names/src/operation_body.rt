@@ -71,7 +71,7 @@ fn function_body<'a>(
     scope.enter()?;
     parameters(list, scope, faults)?;
     profile_mark(mark, scope, faults)?;
-    block(declared, part, scope, faults)?;
+    block(part, scope, faults)?;
     scope.leave();
     Ok(())
 }
@@ -92,7 +92,7 @@ fn procedure_body<'a>(
     body_name(declared, Wanted::ProcedureBody, scope, faults);
     scope.enter()?;
     parameters(list, scope, faults)?;
-    block(declared, part, scope, faults)?;
+    block(part, scope, faults)?;
     scope.leave();
     Ok(())
 }
@@ -116,7 +116,7 @@ fn entry_body<'a>(
     scope.enter()?;
     parameters(list, scope, faults)?;
     value(barrier, scope, faults);
-    block(declared, part, scope, faults)?;
+    block(part, scope, faults)?;
     scope.leave();
     Ok(())
 }

@@ -170,7 +170,6 @@ pub(crate) fn protected_rules(unit: &ProtectedUnit, faults: &mut Faults)
             }
         }
     }
-    faults.end_name(&unit.name, &unit.end_name);
 }
 
 /// The aspects and pragmas of a task.
@@ -187,7 +186,6 @@ pub(crate) fn task_rules(task: &TaskUnit, faults: &mut Faults)
                 }
             }
         }
-        faults.end_name(&task.name, &definition.end_name);
     }
 }
 

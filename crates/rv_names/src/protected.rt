@@ -66,11 +66,7 @@ pub(crate) fn parameters(
 }
 
 // The mark of a result, if there is one.
-fn result_mark(
-    mark: Option<&Name>,
-    scope: &Scope,
-    faults: &mut Faults,
-) -> Result<(), AllocError>
+fn result_mark(mark: Option<&Name>, scope: &Scope, faults: &mut Faults) -> Result<(), AllocError>
     ensures { OnOk result (faults.new
         ≡ maybe_uses (judged scope.now Wanted.Subtype) (maybe (λ n. name_view n.now) mark.entry) faults.old) }
 {

@@ -4,12 +4,18 @@ ghost use Rattle.std.specs.Prelude.{◌≡◌, ◌++◌, IfOk, OnOk, map, true, 
 ghost use Rattle.rv_tree.specs.DeclarationView.{declaration_view, protected_unit_view};
 ghost use Rattle.rv_tree.specs.UnitView.{body_item_view, unit_view};
 ghost use Rattle.rv_names.specs.Bound.{judged, AreBound, AllBound, uses};
+ghost use Rattle.rv_names.specs.Completed.{unit_is_completed};
+ghost use Rattle.rv_names.specs.EndNames.{unit_ends};
+ghost use Rattle.rv_names.specs.Jumps.{unit_is_placed};
 ghost use Rattle.rv_names.specs.ExpressionUses.{◌▷◌, simple as simple_name};
 ghost use Rattle.rv_names.specs.UnitUses.{unit_uses, protected_units as all_protected_units, unit_onto, item_onto};
 
+use crate::completed::missing_body;
 use crate::context::context;
 use crate::declaration::declarations;
-use crate::fault::{Faults, NameFault};
+use crate::end_names::end_name_fault;
+use crate::fault::{Faults, NameFault, earlier};
+use crate::jumps::jump_fault;
 use crate::missing::Around;
 use crate::operation_body::body_name;
 use crate::rules::package_bodies;
@@ -91,7 +97,7 @@ fn walk<'a>(
     package_bodies(alloc, tree, faults)
 }
 
-// The fault at the least place, or none where each name is bound.
+// The fault at the least place of those of bindings, or none where each name is bound.
 fn least_fault(
     alloc: Global,
     tree: &UnitTree,
@@ -111,6 +117,23 @@ fn least_fault(
     Ok(faults.least())
 }
 
+// The fault at the least place, of all that names are looked at for.
+fn first_fault(
+    alloc: Global,
+    tree: &UnitTree,
+    catalogue: &Catalogue,
+) -> Result<Option<NameFault>, AllocError>
+    ensures bound { IfOk result (λ fault. fault ≡ None → AreBound catalogue.now (unit_view tree.now)) }
+    ensures bodies { IfOk result (λ fault. fault ≡ None → unit_is_completed (unit_view tree.now) ≡ true) }
+    ensures ends { IfOk result (λ fault. fault ≡ None → unit_ends (unit_view tree.now) ≡ true) }
+    ensures jumps { IfOk result (λ fault. fault ≡ None → unit_is_placed (unit_view tree.now) ≡ true) }
+{
+    let unbound = least_fault(alloc, tree, catalogue)?;
+    let bodiless = missing_body(alloc, tree)?;
+    let misplaced = earlier(end_name_fault(tree), jump_fault(tree));
+    Ok(earlier(unbound, earlier(bodiless, misplaced)))
+}
+
 /// Binds each name of a text to the one declaration that is visible, over the loaded units.
 ///
 /// # Errors
@@ -123,8 +146,11 @@ pub fn resolve<'a>(
     ensures tree { IfOk result (λ named. named.tree.now ≡ tree.now) }
     ensures catalogue { IfOk result (λ named. named.catalogue.now ≡ catalogue.now) }
     ensures bound { IfOk result (λ named. AllBound (uses catalogue.now (unit_view tree.now))) }
+    ensures bodies { IfOk result (λ named. unit_is_completed (unit_view tree.now) ≡ true) }
+    ensures ends { IfOk result (λ named. unit_ends (unit_view tree.now) ≡ true) }
+    ensures jumps { IfOk result (λ named. unit_is_placed (unit_view tree.now) ≡ true) }
 {
-    match least_fault(alloc, tree, catalogue)? {
+    match first_fault(alloc, tree, catalogue)? {
         None => Ok(Named { tree, catalogue }),
         Some(fault) => Err(fault),
     }

@@ -9,7 +9,7 @@ use crate::scope::Scope;
 use rv_text::is_same_name;
 use rv_tree::body::{OperationBody, ProtectedBody};
 use rv_tree::declaration::{
-    Declaration, Mode, OperationDeclaration, Parameter, ProtectedElement, ProtectedUnit,
+    Mode, OperationDeclaration, Parameter, ProtectedElement, ProtectedUnit,
 };
 use rv_tree::name::{Identifier, Name};
 use rv_tree::unit::{BodyItem, UnitTree};
@@ -40,36 +40,7 @@ fn has_body(at: usize, declared: &Identifier, bodies: &Region, faults: &mut Faul
     }
 }
 
-fn declaration_has_body(declaration: &Declaration, bodies: &Region, faults: &mut Faults)
-    ensures { faults.new ≡ faults.old }
-{
-    match declaration {
-        Declaration::Protected(unit) => has_body(unit.at, &unit.name, bodies, faults),
-        Declaration::Task(task) => has_body(task.at, &task.name, bodies, faults),
-        _ => {}
-    }
-}
-
-// The bodies of a package.
-fn package_bodies_of(
-    alloc: Global,
-    items: &Vec<BodyItem>,
-    faults: &mut Faults,
-) -> Result<Region, AllocError>
-    ensures { OnOk result (faults.new ≡ faults.old) }
-{
-    let mut bodies = Region::new(alloc);
-    for item in items {
-        match item {
-            BodyItem::Declaration(_) => {}
-            BodyItem::Protected(body) => note(alloc, &body.name, &mut bodies, faults)?,
-            BodyItem::Task(body) => note(alloc, &body.name, &mut bodies, faults)?,
-        }
-    }
-    Ok(bodies)
-}
-
-/// Each protected unit and each task of the package has one body, and the names after `end` are the opening ones.
+/// No protected unit and no task of the package has two bodies.
 pub(crate) fn package_bodies(
     alloc: Global,
     tree: &UnitTree,
@@ -77,17 +48,14 @@ pub(crate) fn package_bodies(
 ) -> Result<(), AllocError>
     ensures { OnOk result (faults.new ≡ faults.old) }
 {
-    let bodies = package_bodies_of(alloc, &tree.body.items, faults)?;
-    for declaration in &tree.specification.declarations {
-        declaration_has_body(declaration, &bodies, faults);
-    }
+    let mut bodies = Region::new(alloc);
     for item in &tree.body.items {
-        if let BodyItem::Declaration(declaration) = item {
-            declaration_has_body(declaration, &bodies, faults);
+        match item {
+            BodyItem::Declaration(_) => {}
+            BodyItem::Protected(body) => note(alloc, &body.name, &mut bodies, faults)?,
+            BodyItem::Task(body) => note(alloc, &body.name, &mut bodies, faults)?,
         }
     }
-    faults.end_name(&tree.specification.name, &tree.specification.end_name);
-    faults.end_name(&tree.body.name, &tree.body.end_name);
     Ok(())
 }
 

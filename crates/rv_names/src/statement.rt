@@ -18,7 +18,6 @@ use crate::expression::{
 use crate::fault::{Faults, NameFault};
 use crate::scope::Scope;
 use crate::wanted::Wanted;
-use rv_tree::expression::Expression;
 use rv_tree::name::{Identifier, Name};
 use rv_tree::statement::{CaseAlternative, Choice, ElsifPart, Iteration, LoopBounds, Statement};
 use std::alloc::AllocError;
@@ -53,24 +52,6 @@ fn bounds(bounds: &LoopBounds, scope: &Scope, faults: &mut Faults)
             range(part, scope, faults);
         }
     }
-}
-
-// `exit`, which stands in a loop.
-fn exit(at: usize, condition: &Option<Expression>, scope: &Scope, faults: &mut Faults)
-    ensures { faults.new ≡ maybe_uses (value_uses judged scope.now) (maybe expression_view condition.now) faults.old }
-{
-    faults.exit(at);
-    maybe_value(condition, scope, faults);
-}
-
-// `raise`, without a name in a handler alone.
-fn raise(at: usize, exception: &Option<Name>, scope: &Scope, faults: &mut Faults)
-    ensures { faults.new ≡ maybe_uses (judged scope.now Wanted.Exception) (maybe name_view exception.now) faults.old }
-{
-    if exception.is_none() {
-        faults.raise_again(at);
-    }
-    maybe_name(exception, Wanted::Exception, scope, faults);
 }
 
 // `accept`, which names an entry of a task, of which the profile has none (9.5.2, D.7).
@@ -136,9 +117,9 @@ fn statement(
             iteration,
             statements: body,
         } => turns(iteration, body, scope, faults)?,
-        Statement::Exit(at, condition) => exit(*at, condition, scope, faults),
+        Statement::Exit(_, condition) => maybe_value(condition, scope, faults),
         Statement::Return(_, returned) => maybe_value(returned, scope, faults),
-        Statement::Raise(at, exception) => raise(*at, exception, scope, faults),
+        Statement::Raise(_, exception) => maybe_name(exception, Wanted::Exception, scope, faults),
         Statement::Delay {
             at: _,
             is_until: _,
@@ -179,10 +160,10 @@ fn turns(
     ensures scope { OnOk result (scope.new ≡ scope.old) }
 {
     match iteration {
-        Iteration::Forever => looped(body, scope, faults),
+        Iteration::Forever => statements(body, scope, faults),
         Iteration::While(condition) => {
             value(condition, scope, faults);
-            looped(body, scope, faults)
+            statements(body, scope, faults)
         }
         Iteration::For {
             parameter,
@@ -193,24 +174,11 @@ fn turns(
             hide(parameter, scope, faults)?;
             bounds(over, scope, faults);
             scope.declare(parameter, Some(Declared::LoopParameter(parameter.at)))?;
-            looped(body, scope, faults)?;
+            statements(body, scope, faults)?;
             scope.leave();
             Ok(())
         }
     }
-}
-
-// The statements of a loop.
-#[cycle(statement)]
-fn looped(body: &Vec<Statement>, scope: &mut Scope, faults: &mut Faults) -> Result<(), AllocError>
-    ensures faults { OnOk result
-        (faults.new ≡ statements_uses judged scope.old (statements_of (statements_view body.now.items)) faults.old) }
-    ensures scope { OnOk result (scope.new ≡ scope.old) }
-{
-    faults.enter_loop();
-    statements(body, scope, faults)?;
-    faults.leave_loop();
-    Ok(())
 }
 
 #[cycle(statement)]

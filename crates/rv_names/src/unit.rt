@@ -85,7 +85,6 @@ fn protected_body<'a>(
     ensures scope { OnOk result (scope.new ≡ scope.old) }
 {
     body_name(&body.name, Wanted::ProtectedBody, scope, faults);
-    faults.end_name(&body.name, &body.end_name);
     let found = scope.denoted_by_body(Wanted::ProtectedBody, &body.name);
     let Some(number) = unit_number(found) else {
         return Ok(());
@@ -106,7 +105,7 @@ fn task_body<'a>(
 {
     body_name(&body.name, Wanted::TaskBody, scope, faults);
     scope.enter()?;
-    block(&body.name, &body.block, scope, faults)?;
+    block(&body.block, scope, faults)?;
     scope.leave();
     Ok(())
 }

@@ -4,4 +4,4 @@ use Rattle.rv_names.proofs.resolve.resolve.Goals as goal
 
 pub returns-in-None-clause-bound : goal.returns-in-None-clause-bound
 returns-in-None-clause-bound c =
-    all_bound c.args.catalogue.now (unit_view c.args.tree.now) (c.in_ok-least_fault.ensures c.in-None.is)
+    all_bound c.args.catalogue.now (unit_view c.args.tree.now) (c.in_ok-first_fault.ensures.bound c.in-None.is)

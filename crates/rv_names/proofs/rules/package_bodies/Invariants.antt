@@ -1,8 +1,5 @@
 use Rattle.std.proofs.Common.{◌≡◌}
 use Rattle.rv_names.proofs.rules.package_bodies.Given as goal
 
-abbrev pub invariant-loop-declaration : goal.invariant-loop-declaration
-invariant-loop-declaration l = l.faults ≡ l.initial.faults
-
 abbrev pub invariant-loop-item : goal.invariant-loop-item
 invariant-loop-item l = l.faults ≡ l.initial.faults

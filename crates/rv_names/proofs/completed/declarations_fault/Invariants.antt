@@ -1,0 +1,9 @@
+use Rattle.std.proofs.Common.{◌≡◌, drop, map}
+use Rattle.std.specs.List.{list_all}
+use Rattle.rv_tree.specs.DeclarationView.{declaration_view}
+use Rattle.rv_names.specs.Completed.{wants_among, is_in}
+use Rattle.rv_names.proofs.completed.declarations_fault.Given as goal
+
+abbrev pub invariant-loop-one : goal.invariant-loop-one
+invariant-loop-one l =
+    list_all (wants_among (is_in l.names)) (map declaration_view (drop l.one-index l.one-items)) ≡ list_all (wants_among (is_in l.names)) (map declaration_view l.one-items)
