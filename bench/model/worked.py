@@ -1,5 +1,6 @@
 #!/usr/bin/env python3
 """Worked by hand: scripts with what they must print."""
+import re
 import sys
 from collections.abc import Iterator
 from pathlib import Path
@@ -208,12 +209,14 @@ def worked_scripts() -> Iterator[Script]:
 
 
 def document_scripts() -> Iterator[Script]:
-    """The example of docs/SCRIPTS.md with its journal, and the script whose journal README.md shows."""
+    """The example of docs/SCRIPTS.md with its journal, and the script beside which README.md shows its journal, loads aside."""
     example = (ROOT / "docs/SCRIPTS.md").read_text().partition("## An example\n")[2]
     script, journal = [indented(part) for part in example.split("`play --all` prints")]
     yield Script(script.encode(), Outcome(journal.encode(), b"", 0))
-    shown = (ROOT / "README.md").read_text().partition("journal:\n")[2].partition("rt ci")[0]
-    yield Script((ROOT / "examples/denied_call.raven").read_bytes(), Outcome(indented(shown).encode(), b"", 0))
+    shown = (ROOT / "README.md").read_text().partition("what is printed:\n")[2].partition("\nEntry")[0]
+    loads = "1 operator load Plant -> accepted 0\n2 operator load Nav -> accepted 0\n"
+    journal = loads + "".join(line + "\n" for line in re.findall(r"(?<=  )\d+ .*", shown))
+    yield Script((ROOT / "examples/denied_call.raven").read_bytes(), Outcome(journal.encode(), b"", 0))
 
 
 def indented(text: str) -> str:

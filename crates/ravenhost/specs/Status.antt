@@ -1,6 +1,5 @@
 -- The status that the program ends with (own).
 use Rattle.std.specs.Prelude.{ℕ, Result, Ok, Err}
-use Rattle.rv_fault.specs.declared.failure.Failure.{Failure}
 use Rattle.rv_fault.specs.declared.failure.Failure.TheVariants.{Refused, Memory, Io}
 use Rattle.ravenhost.specs.declared.status.Stop.{Stop}
 use Rattle.ravenhost.specs.declared.status.Stop.TheVariants.{Usage, Told, Failed, Explained}

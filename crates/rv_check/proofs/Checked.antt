@@ -13,7 +13,7 @@ use Rattle.rv_fault.specs.declared.failure.Failure.TheVariants.{Refused, Memory,
 use Rattle.rv_fault.specs.declared.fault.What.TheVariants as Whats
 use Rattle.rv_fault.specs.declared.fault.ScriptFault.{ScriptFault}
 use Rattle.rv_fault.specs.Written.{WritesSome, Writes, WritesScript, refused_bytes}
-use Rattle.rv_check.specs.Checks.{Finding, TellsSome, Tells, TellsAll, OfSection, Checks, ChecksSome, AreSettings, OfSettings, ChecksOpened, BeginsOpened, outcome_of}
+use Rattle.rv_check.specs.Checks.{TellsSome, Tells, TellsAll, OfSection, Checks, ChecksSome, AreSettings, OfSettings, ChecksOpened, BeginsOpened, outcome_of}
 
 -- what is said so far of the sections that are done, and how what is said of others goes on behind it
 pub record SoFar (old now : Option (List ℕ)) (shapes : List Shape) (left all : List SectionText) : Type 0 where
