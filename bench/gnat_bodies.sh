@@ -15,4 +15,4 @@ for tool in gnatmake gnatchop rt; do
 done
 
 cd "$(dirname "$(readlink -f "$0")")/.."
-exec python3 bench/gnat_bodies/compare.py "$@"
+exec python3 -B bench/gnat_bodies/compare.py "$@"

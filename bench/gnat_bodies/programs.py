@@ -69,21 +69,44 @@ def package(unit, declared, bodies):
     return "\n".join([*lines, f"package body {unit.name} is", *indented(bodies), f"end {unit.name};", ""])
 
 
+DRIVEN = """   begin
+      {statement}
+      Report.Returned;
+   exception
+      when Error : others => Report.Raised (Error);
+   end;
+   Report.Line ("{line}", {read});
+"""
+
+BOX_DECLARED = ["protected Box is", "   procedure Call (K : in Integer);", "end Box;"]
+
+BOX_HEAD = ["protected body Box is", "   procedure Call (K : in Integer) is", "   begin", "      case K is"]
+
+BOX_END = [
+    "         when others => null;",
+    "      end case;",
+    "   exception",
+    "      when others => null;",
+    "   end Call;",
+    "end Box;",
+]
+
+
 def ada_files(units):
-    """The texts of the Ada program, by what they hold; the main procedure is Compared."""
-    texts = [HOST, REPORT_SPECIFICATION, REPORT_BODY, *[package(unit, unit.declared, unit.bodies) for unit in units], *[_driver(unit) for unit in units]]
-    lines = [*[f"with Drive_{unit.name};" for unit in units], "procedure Compared is", "begin", *[f"   Drive_{unit.name};" for unit in units], "end Compared;", ""]
-    return [*texts, "\n".join(lines)]
+    """The texts of the Ada program; the main procedure is Compared."""
+    packages = [package(unit, unit.declared, unit.bodies) for unit in units]
+    main = "".join(f"with Drive_{unit.name};\n" for unit in units) + "procedure Compared is\nbegin\n"
+    main += "".join(f"   Drive_{unit.name};\n" for unit in units) + "end Compared;\n"
+    return [HOST, REPORT_SPECIFICATION, REPORT_BODY, *packages, *[_driver(unit) for unit in units], main]
 
 
 def _driver(unit):
     """A procedure that makes each call of a unit and tells how it ended."""
-    lines = ["with Report;", f"with {unit.name};", f"procedure Drive_{unit.name} is", "begin"]
+    text = f"with Report;\nwith {unit.name};\nprocedure Drive_{unit.name} is\nbegin\n"
     for call in unit.calls:
         read = ", ".join(f"{call.object}.Get_{name}" for name, _, _ in COMPONENTS)
-        lines += ["   begin", f"      {call.statement()}", "      Report.Returned;", "   exception", "      when Error : others => Report.Raised (Error);", "   end;",
-                  f'   Report.Line ("{call_line(call)}", {read});']
-    return "\n".join([*lines, f"end Drive_{unit.name};", ""])
+        text += DRIVEN.format(statement=call.statement(), line=call_line(call), read=read)
+    return text + f"end Drive_{unit.name};\n"
 
 
 def script(units):
@@ -94,15 +117,14 @@ def script(units):
     sections, steps = [], []
     for unit in units:
         tries = [f"         when {number} => {call.statement()}" for number, call in enumerate(unit.calls, 1)]
-        box = ["protected body Box is", "   procedure Call (K : in Integer) is", "   begin", "      case K is", *tries, "         when others => null;", "      end case;",
-               "   exception", "      when others => null;", "   end Call;", "end Box;"]
-        declared = ["protected Box is", "   procedure Call (K : in Integer);", "end Box;"]
+        declared, bodies = list(BOX_DECLARED), [*BOX_HEAD, *tries, *BOX_END]
         for first in range(1, len(unit.calls) + 1, CALLS_OF_A_BODY):
-            task = f"Caller_{first}"
+            task, last = f"Caller_{first}", first + CALLS_OF_A_BODY - 1
             declared.append(f"task {task};")
-            box += [f"task body {task} is", "begin", f"   for K in {first} .. {first + CALLS_OF_A_BODY - 1} loop", "      Box.Call (K);", "   end loop;", f"end {task};"]
+            bodies += [f"task body {task} is", "begin", f"   for K in {first} .. {last} loop", "      Box.Call (K);"]
+            bodies += ["   end loop;", f"end {task};"]
             steps.append(f"{unit.name}.{task} go {4 * CALLS_OF_A_BODY + 1}")
-        sections.append("@unit\n" + package(unit, [*unit.declared, *declared], [*unit.bodies, *box]))
+        sections.append("@unit\n" + package(unit, [*unit.declared, *declared], [*unit.bodies, *bodies]))
     return "".join(sections) + "@list\nallow * * *\n@steps\n" + "\n".join(steps) + "\n"
 
 

@@ -1,6 +1,6 @@
 """Statements of the subset, drawn at random: every loop ends, and no name is read before it has a value."""
 
-from expressions import RANGES, WHOLE
+from expressions import RANGES
 
 EXCEPTIONS = ("Constraint_Error", "Program_Error", "Host.Access_Denied")
 

@@ -160,7 +160,8 @@ def draw_object(draw, unit, object):
             calls.append(Call(f"{unit}.{object}", name, actuals))
     readers = [(f"function Get_{name} return {mark}", name) for name, mark, _ in COMPONENTS]
     components = [f"{name} : {mark} := {value};" for name, mark, value in COMPONENTS]
-    declared = [f"protected {object} is", *indented([f"{head};" for head, _ in readers]), *indented(made.declared), "private", *indented(made.hidden), *indented(components), f"end {object};"]
+    shown = [*[f"{head};" for head, _ in readers], *made.declared]
+    declared = [f"protected {object} is", *indented(shown), "private", *indented([*made.hidden, *components]), f"end {object};"]
     reading = [line for head, name in readers for line in operation(head, f"Get_{name}", [], [f"return {name};"], [])]
     return declared, [f"protected body {object} is", *indented(reading), *indented(made.bodies), f"end {object};"], calls
 
