@@ -60,9 +60,9 @@ lent_log : (h : History) (bodies : Bodies) (lent : Option Lent) → Legal h → 
 lent_log h bodies None l e same = tt
 lent_log h bodies (Some lent) l e same =
     same ∙ (ap all_of (views_of bodies.units.items) ∙ ap (λ (z : List UnitBodies). all_of (map unit_view z)) (sym (rebuilt_units h (units_of bodies) l e))) where
-  views_of : (us : List SharedUnit) → map shared_view us ≡ map unit_view (map held us)
-  views_of [] = refl
-  views_of (u ∷ us) = ap (λ (z : List Code.UnitBodies). shared_view u ∷ z) (views_of us)
+      views_of : (us : List SharedUnit) → map shared_view us ≡ map unit_view (map held us)
+      views_of [] = refl
+      views_of (u ∷ us) = ap (λ (z : List Code.UnitBodies). shared_view u ∷ z) (views_of us)
 
 pub stepped : (h k : History) (bodies : Bodies) (a : ℕ) (q : Request) (r : Answer) (b : Begun) (lent : Option Lent) → Legal h → length (units_of bodies) ≡ length h.shapes → r ≡ out h a q → k ≡ legal.after h a q r
     → b ≡ begun_by k.shapes a q r → k.shapes ≡ h.shapes → IfSome lent (λ l. bodies_view (arc_value l.bodies) ≡ bodies_view bodies)

@@ -1,8 +1,7 @@
 use Rattle.std.proofs.Common.{ap, ◌∙◌}
 use Rattle.std.specs.Arc.{arc_value}
-use Rattle.rv_exec.specs.Bodies.{units_of}
 use Rattle.rv_port.specs.Acting.{begun_by}
-use Rattle.rv_port.proofs.Doing.{stepped, step_shapes, brought_step}
+use Rattle.rv_port.proofs.Doing.{stepped, step_shapes}
 use Rattle.rv_port.proofs.behind.Behind.step.Goals as goal
 
 pub returns-clause-does : goal.returns-clause-does
