@@ -25,6 +25,9 @@ struct Gathered {
 
 // The subtype of what a name denotes.
 fn named_subtype(name: &Name, point: &Point) -> Option<Range> {
+    if let Some(range) = point.constant_subtype(name) {
+        return Some(range);
+    }
     match point.denoted(name) {
         Denoted::Variable(_, range, _) => Some(range),
         Denoted::Component(_, range) => Some(range),

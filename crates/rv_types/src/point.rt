@@ -147,6 +147,17 @@ impl<'a> Point<'a> {
         meaning(self.outline.known(), found)
     }
 
+    /// The subtype of the constant with a static value that a name denotes, if it denotes one (3.3.1).
+    pub(crate) fn constant_subtype(&self, name: &Name) -> Option<Range> {
+        let Some(Declared::Constant(at)) = self.scope.visible(name) else {
+            return None;
+        };
+        match self.known(at) {
+            Some(Known::Constant(range, _)) => Some(range),
+            _ => None,
+        }
+    }
+
     /// What a name denotes.
     #[tactic(auto, unfolding(crate::specs::Points::denotes))]
     pub(crate) fn denoted(&self, name: &Name) -> Denoted
