@@ -62,19 +62,11 @@ value::value_of-returns-in-Value-clause-ran g t c =
     let item : to_z w64 (of_z w64 c.in-Value.value) ≡ c.in-Value.value = first_of (search rules, grind arith) in
     got_as item (literal_goes _ g.met.O.Outward.none g.met.O.Outward.both (world (bodies_view c.args.bodies.now) c.args.setting) _ _ _ _ v)
 
-pub value::value_of-returns-in-Value-clause-steps : goal.value::value_of-returns-in-Value-clause-steps
-value::value_of-returns-in-Value-clause-steps g t c =
-    omega arith
-
 pub value::value_of-returns-in-Variable-clause-ran : goal.value::value_of-returns-in-Variable-clause-ran
 value::value_of-returns-in-Variable-clause-ran g t c =
     let v : (expression_view c.args.expression.now) ≡ code.variable c.in-Variable.slot = first_of (search (rules, expression_lemmas), grind (arith, expression_lemmas)) in
     let item : to_z w64 (of_z w64 c.variable.result) ≡ c.variable.result = first_of (search rules, grind arith) in
     variable_goes _ g.met.O.Outward.none g.met.O.Outward.both (world (bodies_view c.args.bodies.now) c.args.setting) _ _ _ _ _ v (item ∙ c.variable.ensures)
-
-pub value::value_of-returns-in-Variable-clause-steps : goal.value::value_of-returns-in-Variable-clause-steps
-value::value_of-returns-in-Variable-clause-steps g t c =
-    omega arith
 
 pub value::value_of-returns-in-Component-clause-ran : goal.value::value_of-returns-in-Component-clause-ran
 value::value_of-returns-in-Component-clause-ran g t c =
@@ -82,28 +74,16 @@ value::value_of-returns-in-Component-clause-ran g t c =
     let item : to_z w64 (of_z w64 c.component.result) ≡ c.component.result = first_of (search rules, grind arith) in
     component_goes _ g.met.O.Outward.none g.met.O.Outward.both (world (bodies_view c.args.bodies.now) c.args.setting) _ _ _ _ _ v (item ∙ c.component.ensures)
 
-pub value::value_of-returns-in-Component-clause-steps : goal.value::value_of-returns-in-Component-clause-steps
-value::value_of-returns-in-Component-clause-steps g t c =
-    omega arith
-
 pub value::value_of-returns-in-Ok-clause-ran : goal.value::value_of-returns-in-Ok-clause-ran
 value::value_of-returns-in-Ok-clause-ran g t c =
     let v : (expression_view c.args.expression.now) ≡ code.prefixed c.in-Prefixed.operator (expression_view c.deref.result.now) = first_of (search (rules, expression_lemmas), grind (arith, expression_lemmas)) in
     let item : to_z w64 (of_z w64 c.in-Ok.value) ≡ c.in-Ok.value = first_of (search rules, grind arith) in
     prefixed_goes _ g.met.O.Outward.none g.met.O.Outward.both (world (bodies_view c.args.bodies.now) c.args.setting) _ _ _ _ _ _ _ _ _ v c.in-Ok.ensures.ran (c.prefix_of.ensures ∙ ap (λ (k : ℤ). prefix_of c.in-Prefixed.operator k) item)
 
-pub value::value_of-returns-in-Ok-clause-steps : goal.value::value_of-returns-in-Ok-clause-steps
-value::value_of-returns-in-Ok-clause-steps g t c =
-    omega arith
-
 pub value::value_of-returns-in-Err-clause-ran : goal.value::value_of-returns-in-Err-clause-ran
 value::value_of-returns-in-Err-clause-ran g t c =
     let v : (expression_view c.args.expression.now) ≡ code.prefixed c.in-Prefixed.operator (expression_view c.deref.result.now) = first_of (search (rules, expression_lemmas), grind (arith, expression_lemmas)) in
     prefixed_fails _ g.met.O.Outward.none g.met.O.Outward.both (world (bodies_view c.args.bodies.now) c.args.setting) _ _ _ _ _ _ _ _ v c.in-Err.ensures.ran
-
-pub value::value_of-returns-in-Err-clause-steps : goal.value::value_of-returns-in-Err-clause-steps
-value::value_of-returns-in-Err-clause-steps g t c =
-    omega arith
 
 pub value::value_of-returns-in-Ok-value_of-clause-ran : goal.value::value_of-returns-in-Ok-value_of-clause-ran
 value::value_of-returns-in-Ok-value_of-clause-ran g t c =
@@ -111,18 +91,10 @@ value::value_of-returns-in-Ok-value_of-clause-ran g t c =
     let item : to_z w64 (of_z w64 c.in-Ok-value_of.value) ≡ c.in-Ok-value_of.value = first_of (search rules, grind arith) in
     chain_goes _ g.met.O.Outward.none g.met.O.Outward.both (world (bodies_view c.args.bodies.now) c.args.setting) _ _ _ _ _ _ _ _ _ _ v c.in-Ok-value_of.ensures.ran (linked_as (world (bodies_view c.args.bodies.now) c.args.setting) (links_view c.in-Chain.links.items) _ item c.linked.ensures.ran)
 
-pub value::value_of-returns-in-Ok-value_of-clause-steps : goal.value::value_of-returns-in-Ok-value_of-clause-steps
-value::value_of-returns-in-Ok-value_of-clause-steps g t c =
-    omega arith
-
 pub value::value_of-returns-in-Err-value_of-clause-ran : goal.value::value_of-returns-in-Err-value_of-clause-ran
 value::value_of-returns-in-Err-value_of-clause-ran g t c =
     let v : (expression_view c.args.expression.now) ≡ code.chain (expression_view c.deref-in-Chain.result.now) (links_view c.in-Chain.links.items) = first_of (search (rules, expression_lemmas), grind (arith, expression_lemmas)) in
     chain_fails _ g.met.O.Outward.none g.met.O.Outward.both (world (bodies_view c.args.bodies.now) c.args.setting) _ _ _ _ _ _ _ _ v c.in-Err-value_of.ensures.ran
-
-pub value::value_of-returns-in-Err-value_of-clause-steps : goal.value::value_of-returns-in-Err-value_of-clause-steps
-value::value_of-returns-in-Err-value_of-clause-steps g t c =
-    omega arith
 
 pub value::value_of-returns-in-Ok-value_of-2-clause-ran : goal.value::value_of-returns-in-Ok-value_of-2-clause-ran
 value::value_of-returns-in-Ok-value_of-2-clause-ran g t c =
@@ -130,18 +102,10 @@ value::value_of-returns-in-Ok-value_of-2-clause-ran g t c =
     let item : to_z w64 (of_z w64 c.in-Ok-value_of-2.value) ≡ c.in-Ok-value_of-2.value = first_of (search rules, grind arith) in
     within_goes _ g.met.O.Outward.none g.met.O.Outward.both (world (bodies_view c.args.bodies.now) c.args.setting) _ _ _ _ _ _ _ _ _ v c.in-Ok-value_of-2.ensures.ran (c.within.ensures ∙ ap (λ (k : ℤ). within c.in-Within.range k) item)
 
-pub value::value_of-returns-in-Ok-value_of-2-clause-steps : goal.value::value_of-returns-in-Ok-value_of-2-clause-steps
-value::value_of-returns-in-Ok-value_of-2-clause-steps g t c =
-    omega arith
-
 pub value::value_of-returns-in-Err-value_of-2-clause-ran : goal.value::value_of-returns-in-Err-value_of-2-clause-ran
 value::value_of-returns-in-Err-value_of-2-clause-ran g t c =
     let v : (expression_view c.args.expression.now) ≡ code.within c.in-Within.range (expression_view c.deref-in-Within.result.now) = first_of (search (rules, expression_lemmas), grind (arith, expression_lemmas)) in
     within_fails _ g.met.O.Outward.none g.met.O.Outward.both (world (bodies_view c.args.bodies.now) c.args.setting) _ _ _ _ _ _ _ _ v c.in-Err-value_of-2.ensures.ran
-
-pub value::value_of-returns-in-Err-value_of-2-clause-steps : goal.value::value_of-returns-in-Err-value_of-2-clause-steps
-value::value_of-returns-in-Err-value_of-2-clause-steps g t c =
-    omega arith
 
 pub value::linked-loop-link-init : goal.value::linked-loop-link-init
 value::linked-loop-link-init g t c =
@@ -168,20 +132,12 @@ value::linked-returns-in-Err-result_of-clause-ran g t c =
     let item : to_z w64 (of_z w64 c.in-Ok.operand) ≡ c.in-Ok.operand = first_of (search rules, grind arith) in
     linked_as (world (bodies_view c.args.bodies.now) c.args.setting) (links_view c.args.links.now.items) _ first (c.loop-link.invariant.1 _ _ (link_raises _ g.met.O.Outward.none g.met.O.Outward.both (world (bodies_view c.args.bodies.now) c.args.setting) c.args.links.now.items c.loop-link.link-index c.link-item.result _ _ _ _ _ _ _ lt at (sym c.decides.ensures ∙ c.if-decides.false) c.in-Ok.ensures.ran (ap (λ (k : ℤ). result_of c.link-item.result.operator (to_z w64 c.loop-link.value-bits) k) (sym item) ∙ sym c.result_of.ensures ∙ c.in-Err-result_of.is)))
 
-pub value::linked-returns-in-Err-result_of-clause-steps : goal.value::linked-returns-in-Err-result_of-clause-steps
-value::linked-returns-in-Err-result_of-clause-steps g t c =
-    omega arith
-
 pub value::linked-returns-in-Err-clause-ran : goal.value::linked-returns-in-Err-clause-ran
 value::linked-returns-in-Err-clause-ran g t c =
     let lt : c.loop-link.link-index < length c.args.links.now.items = omega (arith, ap length c.deref-link-items.ensures.value) in
     let at : c.link-item.result ≡ get_or c.args.links.now.items c.loop-link.link-index c.link-item.result = c.link-item.is ∙ ap (λ xs. get_or xs c.loop-link.link-index c.link-item.result) c.deref-link-items.ensures.value in
     let first : to_z w64 (of_z w64 c.args.first) ≡ c.args.first = first_of (search rules, grind arith) in
     linked_as (world (bodies_view c.args.bodies.now) c.args.setting) (links_view c.args.links.now.items) _ first (c.loop-link.invariant.1 _ _ (link_fails _ g.met.O.Outward.none g.met.O.Outward.both (world (bodies_view c.args.bodies.now) c.args.setting) c.args.links.now.items c.loop-link.link-index c.link-item.result _ _ _ _ _ _ lt at (sym c.decides.ensures ∙ c.if-decides.false) c.in-Err.ensures.ran))
-
-pub value::linked-returns-in-Err-clause-steps : goal.value::linked-returns-in-Err-clause-steps
-value::linked-returns-in-Err-clause-steps g t c =
-    omega arith
 
 pub value::linked-loop-link-preserved : goal.value::linked-loop-link-preserved
 value::linked-loop-link-preserved g t c =
@@ -196,10 +152,6 @@ value::linked-returns-clause-ran g t c =
     let le : length c.args.links.now.items ≤ c.loop-link.link-index = omega (arith, ap length c.deref-link-items.ensures.value) in
     let first : to_z w64 (of_z w64 c.args.first) ≡ c.args.first = first_of (search rules, grind arith) in
     linked_as (world (bodies_view c.args.bodies.now) c.args.setting) (links_view c.args.links.now.items) _ first (c.loop-link.invariant.1 _ _ (no_link_left _ g.met.O.Outward.none g.met.O.Outward.both (world (bodies_view c.args.bodies.now) c.args.setting) c.args.links.now.items c.loop-link.link-index _ _ _ le))
-
-pub value::linked-returns-clause-steps : goal.value::linked-returns-clause-steps
-value::linked-returns-clause-steps g t c =
-    omega arith
 
 pub value::arguments-loop-argument-init : goal.value::arguments-loop-argument-init
 value::arguments-loop-argument-init g t c =
@@ -218,10 +170,6 @@ value::arguments-returns-in-Err-clause-ran g t c =
     let at : c.argument-item.result ≡ get_or c.args.given.now.items c.loop-argument.argument-index c.argument-item.result = c.argument-item.is ∙ ap (λ xs. get_or xs c.loop-argument.argument-index c.argument-item.result) c.deref-argument-items.ensures.value in
     c.loop-argument.invariant.1 _ _ (argument_fails _ g.met.O.Outward.none g.met.O.Outward.both (world (bodies_view c.args.bodies.now) c.args.setting) c.args.given.now.items c.loop-argument.argument-index c.argument-item.result _ _ _ _ _ _ lt at c.in-Err.ensures.ran)
 
-pub value::arguments-returns-in-Err-clause-steps : goal.value::arguments-returns-in-Err-clause-steps
-value::arguments-returns-in-Err-clause-steps g t c =
-    omega arith
-
 pub value::arguments-loop-argument-preserved : goal.value::arguments-loop-argument-preserved
 value::arguments-loop-argument-preserved g t c =
     let lt : c.loop-argument.argument-index < length c.args.given.now.items = omega (arith, ap length c.deref-argument-items.ensures.value) in
@@ -233,10 +181,6 @@ pub value::arguments-returns-clause-ran : goal.value::arguments-returns-clause-r
 value::arguments-returns-clause-ran g t c =
     let le : length c.args.given.now.items ≤ c.loop-argument.argument-index = omega (arith, ap length c.deref-argument-items.ensures.value) in
     c.loop-argument.invariant.1 _ _ (no_argument_left _ g.met.O.Outward.none g.met.O.Outward.both (world (bodies_view c.args.bodies.now) c.args.setting) c.args.given.now.items c.loop-argument.argument-index _ _ _ le)
-
-pub value::arguments-returns-clause-steps : goal.value::arguments-returns-clause-steps
-value::arguments-returns-clause-steps g t c =
-    omega arith
 
 pub call::outside-returns-then-held-eq0 : goal.call::outside-returns-then-held-eq0
 call::outside-returns-then-held-eq0 g t c =
@@ -258,26 +202,14 @@ pub call::perform-returns-then-setting-eq0-clause-ran : goal.call::perform-retur
 call::perform-returns-then-setting-eq0-clause-ran g t c =
     nests_no_more _ g.met.O.Outward.none g.met.O.Outward.both _ _ _ _ _ _ _ _ _ c.if-setting-eq0.true
 
-pub call::perform-returns-then-setting-eq0-clause-steps : goal.call::perform-returns-then-setting-eq0-clause-steps
-call::perform-returns-then-setting-eq0-clause-steps g t c =
-    omega arith
-
 pub call::perform-returns-in_default-clause-ran : goal.call::perform-returns-in_default-clause-ran
 call::perform-returns-in_default-clause-ran g t c =
     no_body _ g.met.O.Outward.none g.met.O.Outward.both _ _ _ _ _ _ _ _ _ c.if-setting-eq0.false (c.in_default.ensures.none refl)
-
-pub call::perform-returns-in_default-clause-steps : goal.call::perform-returns-in_default-clause-steps
-call::perform-returns-in_default-clause-steps g t c =
-    omega arith
 
 pub call::perform-returns-clause-ran : goal.call::perform-returns-clause-ran
 call::perform-returns-clause-ran g t c =
     let from : c.bind.new.self ≡ opened (bound (body_view c.in-Some.body.now).parameters 0 0 c.args.values (replicate 68 (pos 0))) c.args.components c.args.steps 0 = activation_is _ _ _ _ _ c.bind.ensures.slots c.bind.ensures.rest.0 c.bind.ensures.rest.1 c.bind.ensures.rest.2 in
     body_goes _ g.met.O.Outward.none g.met.O.Outward.both (bodies_view c.args.bodies.now) c.args.setting.object c.args.setting.held c.args.setting.nested c.args.operation c.args.values c.args.components c.args.steps (body_view c.in-Some.body.now) c.bind.new.self _ _ _ _ _ c.if-setting-eq0.false c.in-Some.ensures.found from c.run_block-end.ensures.ran c.outcome_of.ensures
-
-pub call::perform-returns-clause-steps : goal.call::perform-returns-clause-steps
-call::perform-returns-clause-steps g t c =
-    omega arith
 
 pub block::run_block-elaborate-requires : goal.block::run_block-elaborate-requires
 block::run_block-elaborate-requires g t c κs within =
@@ -297,17 +229,9 @@ pub block::run_block-returns-in_default-raised-clause-ran : goal.block::run_bloc
 block::run_block-returns-in_default-raised-clause-ran g t c =
     block_ends _ g.met.O.Outward.none g.met.O.Outward.both (world (bodies_view c.args.bodies.now) c.args.setting) (body_view c.args.body.now) _ _ _ _ _ _ _ _ c.elaborate.ensures.ran c.in-Next.is c.run_all-end.ensures.ran (sym c.raised.ensures ∙ c.in_default-raised.is)
 
-pub block::run_block-returns-in_default-raised-clause-steps : goal.block::run_block-returns-in_default-raised-clause-steps
-block::run_block-returns-in_default-raised-clause-steps g t c =
-    omega arith
-
 pub block::run_block-returns-in_default-handler_of-clause-ran : goal.block::run_block-returns-in_default-handler_of-clause-ran
 block::run_block-returns-in_default-handler_of-clause-ran g t c =
     block_raises _ g.met.O.Outward.none g.met.O.Outward.both (world (bodies_view c.args.bodies.now) c.args.setting) (body_view c.args.body.now) _ _ _ _ _ _ _ _ _ c.elaborate.ensures.ran c.in-Next.is c.run_all-end.ensures.ran (sym c.raised.ensures ∙ c.in-Some.is) (c.in_default-handler_of.ensures.none refl)
-
-pub block::run_block-returns-in_default-handler_of-clause-steps : goal.block::run_block-returns-in_default-handler_of-clause-steps
-block::run_block-returns-in_default-handler_of-clause-steps g t c =
-    omega arith
 
 pub block::run_block-run_all-requires : goal.block::run_block-run_all-requires
 block::run_block-run_all-requires g t c κs within =
@@ -318,10 +242,6 @@ block::run_block-run_all-requires g t c κs within =
 pub block::run_block-returns-clause-ran : goal.block::run_block-returns-clause-ran
 block::run_block-returns-clause-ran g t c =
     block_handles _ g.met.O.Outward.none g.met.O.Outward.both (world (bodies_view c.args.bodies.now) c.args.setting) (body_view c.args.body.now) _ _ _ _ _ _ _ _ _ _ _ _ c.elaborate.ensures.ran c.in-Next.is c.run_all-end.ensures.ran (sym c.raised.ensures ∙ c.in-Some.is) c.in-Some-handler_of.ensures.found c.run_all.ensures.ran
-
-pub block::run_block-returns-clause-steps : goal.block::run_block-returns-clause-steps
-block::run_block-returns-clause-steps g t c =
-    omega arith
 
 pub block::elaborate-loop-declaration-init : goal.block::elaborate-loop-declaration-init
 block::elaborate-loop-declaration-init g t c =
@@ -348,10 +268,6 @@ block::elaborate-returns-in-Err-clause-ran g t c =
     let at : c.declaration-item.result ≡ get_or c.args.declarations.now.items c.loop-declaration.declaration-index c.declaration-item.result = c.declaration-item.is ∙ ap (λ xs. get_or xs c.loop-declaration.declaration-index c.declaration-item.result) c.deref-declaration-items.ensures.value in
     c.loop-declaration.invariant.1 _ _ (declaration_fails _ g.met.O.Outward.none g.met.O.Outward.both (world (bodies_view c.args.bodies.now) c.args.setting) c.args.declarations.now.items c.loop-declaration.declaration-index c.declaration-item.result _ _ _ _ _ lt at c.in-Err.ensures.ran)
 
-pub block::elaborate-returns-in-Err-clause-steps : goal.block::elaborate-returns-in-Err-clause-steps
-block::elaborate-returns-in-Err-clause-steps g t c =
-    omega arith
-
 pub block::elaborate-loop-declaration-preserved : goal.block::elaborate-loop-declaration-preserved
 block::elaborate-loop-declaration-preserved g t c =
     let lt : c.loop-declaration.declaration-index < length c.args.declarations.now.items = omega (arith, ap length c.deref-declaration-items.ensures.value) in
@@ -364,10 +280,6 @@ pub block::elaborate-returns-clause-ran : goal.block::elaborate-returns-clause-r
 block::elaborate-returns-clause-ran g t c =
     let le : length c.args.declarations.now.items ≤ c.loop-declaration.declaration-index = omega (arith, ap length c.deref-declaration-items.ensures.value) in
     c.loop-declaration.invariant.1 _ _ (no_declaration_left _ g.met.O.Outward.none g.met.O.Outward.both (world (bodies_view c.args.bodies.now) c.args.setting) c.args.declarations.now.items c.loop-declaration.declaration-index _ _ le)
-
-pub block::elaborate-returns-clause-steps : goal.block::elaborate-returns-clause-steps
-block::elaborate-returns-clause-steps g t c =
-    omega arith
 
 pub statement::run_all-loop-statement-init : goal.statement::run_all-loop-statement-init
 statement::run_all-loop-statement-init g t c =
@@ -410,10 +322,6 @@ statement::run_all-returns-clause-ran g t c =
     let le : length c.args.statements.now.items ≤ c.loop-statement.statement-index = omega (arith, ap length c.deref-statement-items.ensures.value) in
     c.loop-statement.invariant.1 _ _ (ran_end _ g.met.O.Outward.none _ _ _ (none_left _ g.met.O.Outward.none g.met.O.Outward.both (world (bodies_view c.args.bodies.now) c.args.setting) c.args.statements.now.items c.loop-statement.statement-index _ le))
 
-pub statement::run_all-returns-clause-steps : goal.statement::run_all-returns-clause-steps
-statement::run_all-returns-clause-steps g t c =
-    omega arith
-
 pub choice::run_if-loop-branch-init : goal.choice::run_if-loop-branch-init
 choice::run_if-loop-branch-init g t c =
     (omega arith, λ last after h. h)
@@ -441,19 +349,11 @@ choice::run_if-returns-then-is_true-clause-ran g t c =
     let item : to_z w64 (of_z w64 c.in-Ok.value) ≡ c.in-Ok.value = first_of (search rules, grind arith) in
     c.loop-branch.invariant.1 _ _ (branch_taken _ g.met.O.Outward.none g.met.O.Outward.both (world (bodies_view c.args.bodies.now) c.args.setting) c.args.branches.now.items c.loop-branch.branch-index c.branch-item.result _ _ _ _ _ _ _ _ lt at c.in-Ok.ensures.ran (ap is_true (sym item) ∙ sym c.is_true.ensures ∙ c.if-is_true.true) c.run_all.ensures.ran)
 
-pub choice::run_if-returns-then-is_true-clause-steps : goal.choice::run_if-returns-then-is_true-clause-steps
-choice::run_if-returns-then-is_true-clause-steps g t c =
-    omega arith
-
 pub choice::run_if-returns-in-Err-clause-ran : goal.choice::run_if-returns-in-Err-clause-ran
 choice::run_if-returns-in-Err-clause-ran g t c =
     let lt : c.loop-branch.branch-index < length c.args.branches.now.items = omega (arith, ap length c.deref-branch-items.ensures.value) in
     let at : c.branch-item.result ≡ get_or c.args.branches.now.items c.loop-branch.branch-index c.branch-item.result = c.branch-item.is ∙ ap (λ xs. get_or xs c.loop-branch.branch-index c.branch-item.result) c.deref-branch-items.ensures.value in
     c.loop-branch.invariant.1 _ _ (branch_fails _ g.met.O.Outward.none g.met.O.Outward.both (world (bodies_view c.args.bodies.now) c.args.setting) c.args.branches.now.items c.loop-branch.branch-index c.branch-item.result _ _ _ _ _ _ lt at c.in-Err.ensures.ran)
-
-pub choice::run_if-returns-in-Err-clause-steps : goal.choice::run_if-returns-in-Err-clause-steps
-choice::run_if-returns-in-Err-clause-steps g t c =
-    omega arith
 
 pub choice::run_if-loop-branch-preserved : goal.choice::run_if-loop-branch-preserved
 choice::run_if-loop-branch-preserved g t c =
@@ -471,10 +371,6 @@ pub choice::run_if-returns-clause-ran : goal.choice::run_if-returns-clause-ran
 choice::run_if-returns-clause-ran g t c =
     let le : length c.args.branches.now.items ≤ c.loop-branch.branch-index = omega (arith, ap length c.deref-branch-items.ensures.value) in
     c.loop-branch.invariant.1 _ _ (otherwise_goes _ g.met.O.Outward.none g.met.O.Outward.both (world (bodies_view c.args.bodies.now) c.args.setting) c.args.branches.now.items c.loop-branch.branch-index _ _ _ _ _ le c.run_all-2.ensures.ran)
-
-pub choice::run_if-returns-clause-steps : goal.choice::run_if-returns-clause-steps
-choice::run_if-returns-clause-steps g t c =
-    omega arith
 
 pub turns::run_while-turns-init : goal.turns::run_while-turns-init
 unfolding meaning
@@ -497,18 +393,10 @@ turns::run_while-returns-then-not-is_true-clause-ran g t c =
     let item : to_z w64 (of_z w64 c.in-Ok.value) ≡ c.in-Ok.value = first_of (search rules, grind arith) in
     c.turns.invariant.3 _ _ (turns_over _ g.met.O.Outward.none g.met.O.Outward.both c.turns.invariant.1 (value (world (bodies_view c.args.bodies.now) c.args.setting) (expression_view c.args.condition.now)) (meanings (world (bodies_view c.args.bodies.now) c.args.setting) (statements_view c.args.statements.now.items)) _ _ _ _ _ some c.in-Ok.ensures.ran (ap is_true (sym item) ∙ sym c.is_true.ensures ∙ c.if-not-is_true.true))
 
-pub turns::run_while-returns-then-not-is_true-clause-steps : goal.turns::run_while-returns-then-not-is_true-clause-steps
-turns::run_while-returns-then-not-is_true-clause-steps g t c =
-    omega arith
-
 pub turns::run_while-returns-in-Err-clause-ran : goal.turns::run_while-returns-in-Err-clause-ran
 turns::run_while-returns-in-Err-clause-ran g t c =
     let some : 0 < c.turns.invariant.1 = omega (arith, c.turns.invariant.2) in
     c.turns.invariant.3 _ _ (turns_abandoned _ g.met.O.Outward.none g.met.O.Outward.both c.turns.invariant.1 (value (world (bodies_view c.args.bodies.now) c.args.setting) (expression_view c.args.condition.now)) (meanings (world (bodies_view c.args.bodies.now) c.args.setting) (statements_view c.args.statements.now.items)) _ _ _ _ _ some c.in-Err.ensures.ran)
-
-pub turns::run_while-returns-in-Err-clause-steps : goal.turns::run_while-returns-in-Err-clause-steps
-turns::run_while-returns-in-Err-clause-steps g t c =
-    omega arith
 
 pub turns::run_while-returns-then-not-step-clause-ran : goal.turns::run_while-returns-then-not-step-clause-ran
 turns::run_while-returns-then-not-step-clause-ran g t c =
@@ -568,18 +456,10 @@ value::value_of-returns-in-Ok-called-clause-ran g t c =
     let item : to_z w64 (of_z w64 c.value_at.result) ≡ c.value_at.result = first_of (search rules, grind arith) in
     call_goes _ g.met.O.Outward.none g.met.O.Outward.both (world (bodies_view c.args.bodies.now) c.args.setting) _ _ _ _ _ _ _ _ _ v c.in-Ok-called.ensures.ran (item ∙ c.value_at.ensures)
 
-pub value::value_of-returns-in-Ok-called-clause-steps : goal.value::value_of-returns-in-Ok-called-clause-steps
-value::value_of-returns-in-Ok-called-clause-steps g t c =
-    omega arith
-
 pub value::value_of-returns-in-Err-called-clause-ran : goal.value::value_of-returns-in-Err-called-clause-ran
 value::value_of-returns-in-Err-called-clause-ran g t c =
     let v : (expression_view c.args.expression.now) ≡ code.call c.in-Call.callee (expressions_view c.in-Call.given.items) = first_of (search (rules, expression_lemmas), grind (arith, expression_lemmas)) in
     call_fails _ g.met.O.Outward.none g.met.O.Outward.both (world (bodies_view c.args.bodies.now) c.args.setting) _ _ _ _ _ _ _ _ v c.in-Err-called.ensures.ran
-
-pub value::value_of-returns-in-Err-called-clause-steps : goal.value::value_of-returns-in-Err-called-clause-steps
-value::value_of-returns-in-Err-called-clause-steps g t c =
-    omega arith
 
 pub call::called-arguments-requires : goal.call::called-arguments-requires
 call::called-arguments-requires g t c κs within =
@@ -599,17 +479,9 @@ pub call::called-returns-in-Err-clause-ran : goal.call::called-returns-in-Err-cl
 call::called-returns-in-Err-clause-ran g t c =
     passes_not _ g.met.O.Outward.none g.met.O.Outward.both (world (bodies_view c.args.bodies.now) c.args.setting) _ _ _ _ _ _ c.in-Err.ensures.ran
 
-pub call::called-returns-in-Err-clause-steps : goal.call::called-returns-in-Err-clause-steps
-call::called-returns-in-Err-clause-steps g t c =
-    omega arith
-
 pub call::called-returns-in-Some-clause-ran : goal.call::called-returns-in-Some-clause-ran
 call::called-returns-in-Some-clause-ran g t c =
     passes _ g.met.O.Outward.none g.met.O.Outward.both (world (bodies_view c.args.bodies.now) c.args.setting) _ _ _ _ _ _ _ _ c.in-Ok.ensures.ran (internal_goes _ g.met.O.Outward.none g.met.O.Outward.both (world (bodies_view c.args.bodies.now) c.args.setting) _ _ _ _ _ _ _ _ _ (sym c.internal.ensures ∙ c.in-Some.is) c.perform-outcome.ensures.ran)
-
-pub call::called-returns-in-Some-clause-steps : goal.call::called-returns-in-Some-clause-steps
-call::called-returns-in-Some-clause-steps g t c =
-    omega arith
 
 pub call::called-returns-then-not-spend-clause-ran : goal.call::called-returns-then-not-spend-clause-ran
 call::called-returns-then-not-spend-clause-ran g t c =
@@ -695,10 +567,6 @@ statement::run_one-returns-in-Null-clause-ran g t c =
     let v : (statement_view c.args.statement.now) ≡ tree.null_statement = first_of (search (rules, statement_lemmas), grind (arith, statement_lemmas)) in
     null_goes _ g.met.O.Outward.none g.met.O.Outward.both (world (bodies_view c.args.bodies.now) c.args.setting) _ _ _ v
 
-pub statement::run_one-returns-in-Null-clause-steps : goal.statement::run_one-returns-in-Null-clause-steps
-statement::run_one-returns-in-Null-clause-steps g t c =
-    omega arith
-
 pub statement::run_one-returns-in-Ok-clause-ran : goal.statement::run_one-returns-in-Ok-clause-ran
 statement::run_one-returns-in-Ok-clause-ran g t c =
     let v : (statement_view c.args.statement.now) ≡ tree.assign c.in-Assign.target (expression_view c.in-Assign.expression) = first_of (search (rules, statement_lemmas), grind (arith, statement_lemmas)) in
@@ -715,72 +583,40 @@ statement::run_one-returns-in-Err-clause-ran g t c =
     let v : (statement_view c.args.statement.now) ≡ tree.assign c.in-Assign.target (expression_view c.in-Assign.expression) = first_of (search (rules, statement_lemmas), grind (arith, statement_lemmas)) in
     assign_fails _ g.met.O.Outward.none g.met.O.Outward.both (world (bodies_view c.args.bodies.now) c.args.setting) _ _ _ _ _ _ _ _ v c.in-Err.ensures.ran
 
-pub statement::run_one-returns-in-Err-clause-steps : goal.statement::run_one-returns-in-Err-clause-steps
-statement::run_one-returns-in-Err-clause-steps g t c =
-    omega arith
-
 pub statement::run_one-returns-in-If-clause-ran : goal.statement::run_one-returns-in-If-clause-ran
 statement::run_one-returns-in-If-clause-ran g t c =
     let v : (statement_view c.args.statement.now) ≡ tree.choice (branches_view c.in-If.branches.items) (statements_view c.in-If.otherwise.items) = first_of (search (rules, statement_lemmas), grind (arith, statement_lemmas)) in
     choice_goes _ g.met.O.Outward.none g.met.O.Outward.both (world (bodies_view c.args.bodies.now) c.args.setting) _ _ _ _ _ _ _ v c.run_if.ensures.ran
-
-pub statement::run_one-returns-in-If-clause-steps : goal.statement::run_one-returns-in-If-clause-steps
-statement::run_one-returns-in-If-clause-steps g t c =
-    omega arith
 
 pub statement::run_one-returns-in-Return-clause-ran : goal.statement::run_one-returns-in-Return-clause-ran
 statement::run_one-returns-in-Return-clause-ran g t c =
     let v : (statement_view c.args.statement.now) ≡ tree.returns = first_of (search (rules, statement_lemmas), grind (arith, statement_lemmas)) in
     return_goes _ g.met.O.Outward.none g.met.O.Outward.both (world (bodies_view c.args.bodies.now) c.args.setting) _ _ _ v
 
-pub statement::run_one-returns-in-Return-clause-steps : goal.statement::run_one-returns-in-Return-clause-steps
-statement::run_one-returns-in-Return-clause-steps g t c =
-    omega arith
-
 pub statement::run_one-returns-in-Raise-clause-ran : goal.statement::run_one-returns-in-Raise-clause-ran
 statement::run_one-returns-in-Raise-clause-ran g t c =
     let v : (statement_view c.args.statement.now) ≡ tree.raises c.in-Raise.exception = first_of (search (rules, statement_lemmas), grind (arith, statement_lemmas)) in
     raise_goes _ g.met.O.Outward.none g.met.O.Outward.both (world (bodies_view c.args.bodies.now) c.args.setting) _ _ _ _ v
-
-pub statement::run_one-returns-in-Raise-clause-steps : goal.statement::run_one-returns-in-Raise-clause-steps
-statement::run_one-returns-in-Raise-clause-steps g t c =
-    omega arith
 
 pub statement::run_one-returns-in-Reraise-clause-ran : goal.statement::run_one-returns-in-Reraise-clause-ran
 statement::run_one-returns-in-Reraise-clause-ran g t c =
     let v : (statement_view c.args.statement.now) ≡ tree.reraises = first_of (search (rules, statement_lemmas), grind (arith, statement_lemmas)) in
     reraise_goes _ g.met.O.Outward.none g.met.O.Outward.both (world (bodies_view c.args.bodies.now) c.args.setting) _ _ _ _ v c.raised_again.ensures
 
-pub statement::run_one-returns-in-Reraise-clause-steps : goal.statement::run_one-returns-in-Reraise-clause-steps
-statement::run_one-returns-in-Reraise-clause-steps g t c =
-    omega arith
-
 pub statement::run_one-returns-in-Case-clause-ran : goal.statement::run_one-returns-in-Case-clause-ran
 statement::run_one-returns-in-Case-clause-ran g t c =
     let v : (statement_view c.args.statement.now) ≡ tree.selection (expression_view c.in-Case.selector) (alternatives_view c.in-Case.alternatives.items) = first_of (search (rules, statement_lemmas), grind (arith, statement_lemmas)) in
     same_goes _ g.met.O.Outward.none g.met.O.Outward.both (world (bodies_view c.args.bodies.now) c.args.setting) _ _ _ _ _ _ v c.run_case.ensures.ran
-
-pub statement::run_one-returns-in-Case-clause-steps : goal.statement::run_one-returns-in-Case-clause-steps
-statement::run_one-returns-in-Case-clause-steps g t c =
-    omega arith
 
 pub statement::run_one-returns-in-While-clause-ran : goal.statement::run_one-returns-in-While-clause-ran
 statement::run_one-returns-in-While-clause-ran g t c =
     let v : (statement_view c.args.statement.now) ≡ tree.while_loop (expression_view c.in-While.condition) (statements_view c.in-While.statements.items) = first_of (search (rules, statement_lemmas), grind (arith, statement_lemmas)) in
     same_goes _ g.met.O.Outward.none g.met.O.Outward.both (world (bodies_view c.args.bodies.now) c.args.setting) _ _ _ _ _ _ v c.run_while.ensures.ran
 
-pub statement::run_one-returns-in-While-clause-steps : goal.statement::run_one-returns-in-While-clause-steps
-statement::run_one-returns-in-While-clause-steps g t c =
-    omega arith
-
 pub statement::run_one-returns-in-For-clause-ran : goal.statement::run_one-returns-in-For-clause-ran
 statement::run_one-returns-in-For-clause-ran g t c =
     let v : (statement_view c.args.statement.now) ≡ tree.for_loop c.in-For.parameter c.in-For.is_reverse c.in-For.range (expression_view c.in-For.low) (expression_view c.in-For.high) (statements_view c.in-For.statements.items) = first_of (search (rules, statement_lemmas), grind (arith, statement_lemmas)) in
     same_goes _ g.met.O.Outward.none g.met.O.Outward.both (world (bodies_view c.args.bodies.now) c.args.setting) _ _ _ _ _ _ v c.run_for.ensures.ran
-
-pub statement::run_one-returns-in-For-clause-steps : goal.statement::run_one-returns-in-For-clause-steps
-statement::run_one-returns-in-For-clause-steps g t c =
-    omega arith
 
 pub statement::run_one-returns-in-Ok-value_of-clause-ran : goal.statement::run_one-returns-in-Ok-value_of-clause-ran
 statement::run_one-returns-in-Ok-value_of-clause-ran g t c =
@@ -788,18 +624,10 @@ statement::run_one-returns-in-Ok-value_of-clause-ran g t c =
     let item : to_z w64 (of_z w64 c.in-Ok-value_of.value) ≡ c.in-Ok-value_of.value = first_of (search rules, grind arith) in
     exit_goes _ g.met.O.Outward.none g.met.O.Outward.both (world (bodies_view c.args.bodies.now) c.args.setting) _ _ _ _ _ _ _ _ v c.in-Ok-value_of.ensures.ran (c.exit_where.ensures ∙ ap exit_where item)
 
-pub statement::run_one-returns-in-Ok-value_of-clause-steps : goal.statement::run_one-returns-in-Ok-value_of-clause-steps
-statement::run_one-returns-in-Ok-value_of-clause-steps g t c =
-    omega arith
-
 pub statement::run_one-returns-in-Err-value_of-clause-ran : goal.statement::run_one-returns-in-Err-value_of-clause-ran
 statement::run_one-returns-in-Err-value_of-clause-ran g t c =
     let v : (statement_view c.args.statement.now) ≡ tree.exit_when (expression_view c.in-ExitWhen.condition) = first_of (search (rules, statement_lemmas), grind (arith, statement_lemmas)) in
     exit_fails _ g.met.O.Outward.none g.met.O.Outward.both (world (bodies_view c.args.bodies.now) c.args.setting) _ _ _ _ _ _ _ v c.in-Err-value_of.ensures.ran
-
-pub statement::run_one-returns-in-Err-value_of-clause-steps : goal.statement::run_one-returns-in-Err-value_of-clause-steps
-statement::run_one-returns-in-Err-value_of-clause-steps g t c =
-    omega arith
 
 pub statement::run_one-returns-in-Ok-value_of-2-clause-ran : goal.statement::run_one-returns-in-Ok-value_of-2-clause-ran
 statement::run_one-returns-in-Ok-value_of-2-clause-ran g t c =
@@ -811,14 +639,6 @@ pub statement::run_one-returns-in-Err-value_of-2-clause-ran : goal.statement::ru
 statement::run_one-returns-in-Err-value_of-2-clause-ran g t c =
     let v : (statement_view c.args.statement.now) ≡ tree.returns_value (expression_view c.in-ReturnValue.expression) = first_of (search (rules, statement_lemmas), grind (arith, statement_lemmas)) in
     return_value_fails _ g.met.O.Outward.none g.met.O.Outward.both (world (bodies_view c.args.bodies.now) c.args.setting) _ _ _ _ _ _ _ v c.in-Err-value_of-2.ensures.ran
-
-pub statement::run_one-returns-in-Ok-value_of-2-clause-steps : goal.statement::run_one-returns-in-Ok-value_of-2-clause-steps
-statement::run_one-returns-in-Ok-value_of-2-clause-steps g t c =
-    omega arith
-
-pub statement::run_one-returns-in-Err-value_of-2-clause-steps : goal.statement::run_one-returns-in-Err-value_of-2-clause-steps
-statement::run_one-returns-in-Err-value_of-2-clause-steps g t c =
-    omega arith
 
 pub statement::run_one-returns-in-Ok-called-clause-ran : goal.statement::run_one-returns-in-Ok-called-clause-ran
 statement::run_one-returns-in-Ok-called-clause-ran g t c =
@@ -835,10 +655,6 @@ statement::run_one-returns-in-Err-called-clause-ran g t c =
     let v : (statement_view c.args.statement.now) ≡ tree.calls c.in-Call.callee (expressions_view c.in-Call.given.items) c.in-Call.targets.items = first_of (search (rules, statement_lemmas), grind (arith, statement_lemmas)) in
     statement_call_fails _ g.met.O.Outward.none g.met.O.Outward.both (world (bodies_view c.args.bodies.now) c.args.setting) _ _ _ _ _ _ _ _ _ v c.in-Err-called.ensures.ran
 
-pub statement::run_one-returns-in-Err-called-clause-steps : goal.statement::run_one-returns-in-Err-called-clause-steps
-statement::run_one-returns-in-Err-called-clause-steps g t c =
-    omega arith
-
 pub choice::run_case-value_of-requires : goal.choice::run_case-value_of-requires
 choice::run_case-value_of-requires g t c κs within =
     let d : size (expression_view c.args.selector.now) < size (expression_view c.args.selector.now) + alternatives_size (alternatives_view c.args.alternatives.now.items) + 1 = omega arith in
@@ -854,26 +670,14 @@ choice::run_case-returns-in-Some-clause-ran g t c =
     let item : to_z w64 (of_z w64 c.in-Ok.value) ≡ c.in-Ok.value = first_of (search rules, grind arith) in
     case_goes _ g.met.O.Outward.none g.met.O.Outward.both (world (bodies_view c.args.bodies.now) c.args.setting) _ _ _ _ _ _ _ _ _ _ _ refl c.in-Ok.ensures.ran (ap (alternative_of (alternatives_view c.args.alternatives.now.items)) (sym item) ∙ c.in-Some.ensures.found) c.run_all.ensures.ran
 
-pub choice::run_case-returns-in-Some-clause-steps : goal.choice::run_case-returns-in-Some-clause-steps
-choice::run_case-returns-in-Some-clause-steps g t c =
-    omega arith
-
 pub choice::run_case-returns-in-None-clause-ran : goal.choice::run_case-returns-in-None-clause-ran
 choice::run_case-returns-in-None-clause-ran g t c =
     let item : to_z w64 (of_z w64 c.in-Ok.value) ≡ c.in-Ok.value = first_of (search rules, grind arith) in
     case_covers_none _ g.met.O.Outward.none g.met.O.Outward.both (world (bodies_view c.args.bodies.now) c.args.setting) _ _ _ _ _ _ _ _ refl c.in-Ok.ensures.ran (ap (alternative_of (alternatives_view c.args.alternatives.now.items)) (sym item) ∙ c.in-None.ensures.none refl)
 
-pub choice::run_case-returns-in-None-clause-steps : goal.choice::run_case-returns-in-None-clause-steps
-choice::run_case-returns-in-None-clause-steps g t c =
-    omega arith
-
 pub choice::run_case-returns-in-Err-clause-ran : goal.choice::run_case-returns-in-Err-clause-ran
 choice::run_case-returns-in-Err-clause-ran g t c =
     case_fails _ g.met.O.Outward.none g.met.O.Outward.both (world (bodies_view c.args.bodies.now) c.args.setting) _ _ _ _ _ _ _ _ refl c.in-Err.ensures.ran
-
-pub choice::run_case-returns-in-Err-clause-steps : goal.choice::run_case-returns-in-Err-clause-steps
-choice::run_case-returns-in-Err-clause-steps g t c =
-    omega arith
 
 pub turns::run_values-loop-left-init : goal.turns::run_values-loop-left-init
 turns::run_values-loop-left-init g t c =
@@ -888,10 +692,6 @@ pub turns::run_values-run_all-requires : goal.turns::run_values-run_all-requires
 turns::run_values-run_all-requires g t c κs within =
     let d : statements_size (statements_view c.args.statements.now.items) < statements_size (statements_view c.args.statements.now.items) + 1 = omega arith in
     search (rules, d, c.requires, c.decreases)
-
-pub turns::run_values-loop-left-smaller : goal.turns::run_values-loop-left-smaller
-turns::run_values-loop-left-smaller g t c =
-    omega arith
 
 pub turns::run_values-returns-then-not-step-clause-ran : goal.turns::run_values-returns-then-not-step-clause-ran
 turns::run_values-returns-then-not-step-clause-ran g t c =
@@ -936,10 +736,6 @@ pub turns::run_values-returns-clause-ran : goal.turns::run_values-returns-clause
 turns::run_values-returns-clause-ran g t c =
     c.loop-left.invariant.2 _ _ (for_over _ g.met.O.Outward.none g.met.O.Outward.both c.loop-left.left c.args.values.is_reverse c.args.values.low c.args.values.high c.args.values.slot (meanings (world (bodies_view c.args.bodies.now) c.args.setting) (statements_view c.args.statements.now.items)) _ _ (omega arith))
 
-pub turns::run_values-returns-clause-steps : goal.turns::run_values-returns-clause-steps
-turns::run_values-returns-clause-steps g t c =
-    omega arith
-
 pub turns::run_for-value_of-requires : goal.turns::run_for-value_of-requires
 turns::run_for-value_of-requires g t c κs within =
     let d : size (expression_view c.args.low.now) < size (expression_view c.args.low.now) + size (expression_view c.args.high.now) + statements_size (statements_view c.args.statements.now.items) + 1 = omega arith in
@@ -959,26 +755,14 @@ pub turns::run_for-returns-in-Err-clause-ran : goal.turns::run_for-returns-in-Er
 turns::run_for-returns-in-Err-clause-ran g t c =
     low_fails _ g.met.O.Outward.none g.met.O.Outward.both (world (bodies_view c.args.bodies.now) c.args.setting) _ _ _ _ _ _ _ _ _ _ _ _ refl c.in-Err.ensures.ran
 
-pub turns::run_for-returns-in-Err-clause-steps : goal.turns::run_for-returns-in-Err-clause-steps
-turns::run_for-returns-in-Err-clause-steps g t c =
-    omega arith
-
 pub turns::run_for-returns-in-Err-value_of-clause-ran : goal.turns::run_for-returns-in-Err-value_of-clause-ran
 turns::run_for-returns-in-Err-value_of-clause-ran g t c =
     high_fails _ g.met.O.Outward.none g.met.O.Outward.both (world (bodies_view c.args.bodies.now) c.args.setting) _ _ _ _ _ _ _ _ _ _ _ _ _ _ _ refl c.in-Ok.ensures.ran c.in-Err-value_of.ensures.ran
-
-pub turns::run_for-returns-in-Err-value_of-clause-steps : goal.turns::run_for-returns-in-Err-value_of-clause-steps
-turns::run_for-returns-in-Err-value_of-clause-steps g t c =
-    omega arith
 
 pub turns::run_for-returns-then-to-from-clause-ran : goal.turns::run_for-returns-then-to-from-clause-ran
 turns::run_for-returns-then-to-from-clause-ran g t c =
     let below : int_lt c.in-Ok-value_of.value c.in-Ok.value ≡ true = first_of (search (rules, tests), grind (arith, ints)) in
     for_goes _ g.met.O.Outward.none g.met.O.Outward.both (world (bodies_view c.args.bodies.now) c.args.setting) _ _ _ _ _ _ _ _ _ _ _ _ _ _ _ _ _ refl c.in-Ok.ensures.ran c.in-Ok-value_of.ensures.ran (ran_end _ g.met.O.Outward.none _ _ _ (for_null c.args.scheme.is_reverse c.args.scheme.range c.args.scheme.parameter (meanings (world (bodies_view c.args.bodies.now) c.args.setting) (statements_view c.args.statements.now.items)) c.in-Ok.value c.in-Ok-value_of.value c.value_of-2.new.activation below))
-
-pub turns::run_for-returns-then-to-from-clause-steps : goal.turns::run_for-returns-then-to-from-clause-steps
-turns::run_for-returns-then-to-from-clause-steps g t c =
-    omega arith
 
 pub turns::run_for-returns-then-not-fits-clause-ran : goal.turns::run_for-returns-then-not-fits-clause-ran
 turns::run_for-returns-then-not-fits-clause-ran g t c =
@@ -987,17 +771,9 @@ turns::run_for-returns-then-not-fits-clause-ran g t c =
     let high : to_z w64 (of_z w64 c.in-Ok-value_of.value) ≡ c.in-Ok-value_of.value = first_of (search rules, grind arith) in
     for_goes _ g.met.O.Outward.none g.met.O.Outward.both (world (bodies_view c.args.bodies.now) c.args.setting) _ _ _ _ _ _ _ _ _ _ _ _ _ _ _ _ _ refl c.in-Ok.ensures.ran c.in-Ok-value_of.ensures.ran (ran_end _ g.met.O.Outward.none _ _ _ (for_raises c.args.scheme.is_reverse c.args.scheme.range c.args.scheme.parameter (meanings (world (bodies_view c.args.bodies.now) c.args.setting) (statements_view c.args.statements.now.items)) c.in-Ok.value c.in-Ok-value_of.value c.value_of-2.new.activation below (ap (λ (k : ℤ). fits c.args.scheme.range k c.in-Ok-value_of.value) (sym low) ∙ ap (λ (k : ℤ). fits c.args.scheme.range (to_z w64 (of_z w64 c.in-Ok.value)) k) (sym high) ∙ sym c.fits.ensures.value ∙ c.if-not-fits.true)))
 
-pub turns::run_for-returns-then-not-fits-clause-steps : goal.turns::run_for-returns-then-not-fits-clause-steps
-turns::run_for-returns-then-not-fits-clause-steps g t c =
-    omega arith
-
 pub turns::run_for-returns-clause-ran : goal.turns::run_for-returns-clause-ran
 turns::run_for-returns-clause-ran g t c =
     let below : int_lt c.in-Ok-value_of.value c.in-Ok.value ≡ false = first_of (search (rules, tests), grind (arith, ints)) in
     let low : to_z w64 (of_z w64 c.in-Ok.value) ≡ c.in-Ok.value = first_of (search rules, grind arith) in
     let high : to_z w64 (of_z w64 c.in-Ok-value_of.value) ≡ c.in-Ok-value_of.value = first_of (search rules, grind arith) in
     for_goes _ g.met.O.Outward.none g.met.O.Outward.both (world (bodies_view c.args.bodies.now) c.args.setting) _ _ _ _ _ _ _ _ _ _ _ _ _ _ _ _ _ refl c.in-Ok.ensures.ran c.in-Ok-value_of.ensures.ran (ran_eq (for_turns c.args.scheme.is_reverse c.args.scheme.range c.args.scheme.parameter (meanings (world (bodies_view c.args.bodies.now) c.args.setting) (statements_view c.args.statements.now.items)) c.in-Ok.value c.in-Ok-value_of.value c.value_of-2.new.activation below (ap (λ (k : ℤ). fits c.args.scheme.range k c.in-Ok-value_of.value) (sym low) ∙ ap (λ (k : ℤ). fits c.args.scheme.range (to_z w64 (of_z w64 c.in-Ok.value)) k) (sym high) ∙ sym c.fits.ensures.value ∙ c.if-not-fits.false)) (bounds_as _ c.in-Ok.value c.in-Ok-value_of.value _ _ c.args.scheme.is_reverse c.args.scheme.parameter (meanings (world (bodies_view c.args.bodies.now) c.args.setting) (statements_view c.args.statements.now.items)) c.value_of-2.new.activation _ _ _ low high c.run_values.ensures.ran))
-
-pub turns::run_for-returns-clause-steps : goal.turns::run_for-returns-clause-steps
-turns::run_for-returns-clause-steps g t c =
-    omega arith
