@@ -1,5 +1,6 @@
 -- Compiled bodies, without where they lie in memory.
-use Rattle.std.specs.Prelude.{ℕ, ◌+◌, suc, Bool, List, [], ◌∷◌, Option}
+use Rattle.std.specs.Prelude.{ℕ, ◌+◌, suc, Bool, List, [], ◌∷◌, length, replicate, Option, None}
+use Rattle.rv_shape.specs.Shape.{Shape}
 use Rattle.rv_shape.specs.declared.kind.Parameter.{Parameter}
 use Rattle.rv_code.specs.declared.body.ExceptionChoice.{ExceptionChoice}
 use Rattle.rv_code.specs.declared.statement.Target.{Target}
@@ -25,6 +26,10 @@ pub record UnitBodies : Type 0 where
   -- of each object the bodies of its operations
   pub objects : List (List Body)
   pub tasks : List (Option Body)
+
+-- those of a unit that is a shape alone: none of its operations and tasks has a body (own)
+abbrev pub without_bodies : Shape → UnitBodies
+without_bodies shape = record { objects = replicate (length shape.objects) []; tasks = replicate (length shape.tasks) None }
 
 -- how many nodes it has: a measure of what is left to run (own)
 abbrev pub declarations_size : List Declaration → ℕ

@@ -4,6 +4,7 @@
 
 pub mod body;
 pub mod expression;
+mod shape_alone;
 pub mod statement;
 
 pub use body::{Body, Declaration, ExceptionChoice, Handler, MOST_SLOTS, ObjectBodies, UnitBodies};

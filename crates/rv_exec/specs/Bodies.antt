@@ -1,5 +1,5 @@
 -- The bodies of all units loaded (own): operations and tasks by the catalogue's numbers.
-use Rattle.std.specs.Prelude.{ℕ, ◌-◌, nat_lt, if◌then◌else◌, List, [], ◌∷◌, ◌++◌, Option, Some, None, slice_get, map, replicate}
+use Rattle.std.specs.Prelude.{ℕ, ◌-◌, nat_lt, if◌then◌else◌, List, [], ◌∷◌, ◌++◌, Option, Some, None, slice_get, map}
 use Rattle.std.specs.Arc.{arc_value}
 use Rattle.rv_code.specs.Bodies.{Body, UnitBodies}
 use Rattle.rv_code.specs.BodyView.{unit_view}
@@ -28,10 +28,6 @@ units_of bodies = map held bodies.units.items
 
 abbrev pub bodies_view : Bodies → UnitBodies
 bodies_view bodies = all_of (map shared_view bodies.units.items)
-
--- a unit without a text: of its objects and tasks, so many, none has a body
-abbrev pub unit_without_bodies : (objects tasks : ℕ) → UnitBodies
-unit_without_bodies objects tasks = record { objects = replicate objects []; tasks = replicate tasks None }
 
 -- the bodies with those of one more unit
 abbrev pub with_unit : UnitBodies → UnitBodies → UnitBodies

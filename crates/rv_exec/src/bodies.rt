@@ -1,8 +1,8 @@
 //! The bodies of all units loaded.
 
-ghost use Rattle.std.specs.Prelude.{◌≡◌, ◌++◌, ◌∷◌, [], IfOk, IfSome, IsNone, OnOk, OnErr, Some, None, slice_get, map, replicate};
+ghost use Rattle.std.specs.Prelude.{◌≡◌, ◌++◌, ◌∷◌, [], IfOk, IfSome, IsNone, OnOk, OnErr, Some, None, slice_get, map};
 ghost use Rattle.rv_code.specs.BodyView.{body_view, object_view, unit_view, maybe_body_view};
-ghost use Rattle.rv_exec.specs.Bodies.{operation_of, task_of, bodies_view, no_bodies, numbered, with_unit, all_of, shared_view, units_of, held, unit_without_bodies};
+ghost use Rattle.rv_exec.specs.Bodies.{operation_of, task_of, bodies_view, no_bodies, numbered, with_unit, all_of, shared_view, units_of, held};
 
 use rv_code::{Body, ObjectBodies, UnitBodies};
 use std::alloc::{AllocError, Global};
@@ -28,19 +28,6 @@ impl SharedUnit {
         }
     }
 
-    /// The bodies of a unit without a text: of so many objects and tasks none has a body. Err where memory was refused.
-    pub fn without_bodies(
-        alloc: Global,
-        objects: usize,
-        tasks: usize,
-    ) -> Result<SharedUnit, AllocError>
-        ensures { IfOk result (λ u. shared_view u ≡ unit_without_bodies objects tasks) }
-    {
-        let objects = no_operations(alloc, objects)?;
-        let tasks = no_tasks(alloc, tasks)?;
-        SharedUnit::new(alloc, UnitBodies { objects, tasks })
-    }
-
     /// One more holder of the bodies. Err where there are too many.
     pub fn share(&self) -> Result<SharedUnit, AllocError>
         ensures { IfOk result (λ u. held u ≡ held self.now) }
@@ -50,30 +37,6 @@ impl SharedUnit {
             Err(_) => Err(AllocError),
         }
     }
-}
-
-// So many objects without operations.
-fn no_operations(alloc: Global, count: usize) -> Result<Vec<ObjectBodies>, AllocError>
-    ensures { IfOk result (λ v. map object_view v.items ≡ replicate count []) }
-{
-    let mut objects = Vec::new(alloc);
-    for _ in 0..count {
-        objects.push(ObjectBodies {
-            operations: Vec::new(alloc),
-        })?;
-    }
-    Ok(objects)
-}
-
-// So many tasks without bodies.
-fn no_tasks(alloc: Global, count: usize) -> Result<Vec<Option<Body>>, AllocError>
-    ensures { IfOk result (λ v. map maybe_body_view v.items ≡ replicate count None) }
-{
-    let mut tasks = Vec::new(alloc);
-    for _ in 0..count {
-        tasks.push(None)?;
-    }
-    Ok(tasks)
 }
 
 /// The bodies of the units in the order of their loads, so that objects and tasks have the numbers that the catalogue

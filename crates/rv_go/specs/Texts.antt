@@ -1,6 +1,5 @@
 -- The texts of actors: the bodies of the loaded units, and what actors were answered since their texts began (own).
-use Rattle.std.specs.Prelude.{ℕ, Bool, true, false, ◌==◌, not, ◌&&◌, if◌then◌else◌, List, [], ◌∷◌, ◌++◌, length, replicate, reverse, None}
-use Rattle.rv_shape.specs.Shape.{Shape}
+use Rattle.std.specs.Prelude.{ℕ, Bool, true, false, ◌==◌, not, ◌&&◌, if◌then◌else◌, List, [], ◌∷◌, ◌++◌, reverse}
 use Rattle.rv_event.specs.declared.entry.Request.{Request}
 use Rattle.rv_event.specs.declared.entry.Request.TheVariants.{Fire}
 use Rattle.rv_event.specs.declared.entry.Answer.{Answer}
@@ -25,10 +24,6 @@ texts_view texts = record { bodies = bodies_view texts.bodies; heard = reverse t
 -- before the first load
 abbrev pub no_texts : ℕ → TextsView
 no_texts budget = record { bodies = no_bodies; heard = []; budget = budget }
-
--- a unit without a text: none of its operations and tasks has a body
-abbrev pub without_text : Shape → UnitBodies
-without_text shape = record { objects = replicate (length shape.objects) []; tasks = replicate (length shape.tasks) None }
 
 -- with the bodies of the next unit that is loaded
 abbrev pub with_bodies : UnitBodies → TextsView → TextsView

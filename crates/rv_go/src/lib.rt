@@ -3,7 +3,5 @@
 #![tactic(auto)]
 
 mod asking;
-mod shapes;
 pub mod texts;
 
-pub use shapes::without_text;

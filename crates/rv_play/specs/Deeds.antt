@@ -1,5 +1,5 @@
 -- What the acts of a script come to: deeds, with names looked up among the units that are loaded (own).
-use Rattle.std.specs.Prelude.{◌≡◌, ◌<◌, ◌≤◌, ℕ, ℤ, pos, negsuc, true, false, List, ◌∷◌, ◌++◌, codes, length}
+use Rattle.std.specs.Prelude.{◌≡◌, ◌<◌, ◌≤◌, ℕ, ℤ, true, false, List, ◌∷◌, ◌++◌, codes, length}
 use Rattle.std.specs.Prelude.{Option, Some, None, Result, Ok, Err}
 use Rattle.std.specs.Fmt.{signed_decimal}
 use Rattle.rv_access.specs.Words.{Words}
@@ -14,7 +14,7 @@ use Rattle.rv_history.specs.declared.command.Command.{Command}
 use Rattle.rv_history.specs.declared.command.Command.TheVariants.{Ask, Load, SetList, AppendLine, RemoveLine, ReplaceLine}
 use Rattle.rv_step.specs.declared.step.Asked.{Asked}
 use Rattle.rv_step.specs.declared.step.Asked.TheVariants.{Append, Remove, Replace}
-use Rattle.rv_step.specs.Lookup.{operator, actor_of, request_of}
+use Rattle.rv_step.specs.Lookup.{operator, actor_of, request_of, line_number}
 use Rattle.rv_step.specs.StepText.{StepWords}
 use Rattle.rv_fault.specs.declared.failure.Failure.{Failure}
 use Rattle.rv_fault.specs.declared.failure.Failure.TheVariants.{Refused, Memory, Io}
@@ -23,19 +23,13 @@ use Rattle.rv_fault.specs.declared.fault.What.TheVariants as Whats
 use Rattle.rv_script.specs.UnitTexts.{most_unit_bytes}
 use Rattle.rv_unit.specs.Compiles.{IsCompiled, IsRefused}
 use Rattle.rv_unit.specs.declared.fault.UnitFault.TheVariants as Units
-use Rattle.rv_code.specs.Bodies.{UnitBodies}
+use Rattle.rv_code.specs.Bodies.{UnitBodies, without_bodies}
 use Rattle.rv_exec.specs.Bodies.{no_bodies}
-use Rattle.rv_go.specs.Texts.{without_text}
 use Rattle.rv_go.specs.Goes as going
 use Rattle.rv_step.specs.declared.step.Asker.{Asker}
 use Rattle.rv_play.specs.Acts.{Act, Loads, Compiles, Sets, Steps, Goes, Stops}
 use Rattle.rv_play.specs.declared.deed.Deed.{Deed}
 use Rattle.rv_play.specs.Stages.{DeedText, deed_text, Stage}
-
--- the line of a list that a number counts, from 1; below zero it counts none, as 0 does
-abbrev pub line_number : ℤ → ℕ
-line_number (pos number) = number
-line_number (negsuc number) = 0
 
 -- a command that is no `go` and loads nothing
 abbrev pub plain : ℕ → Command → List ℕ → DeedText
@@ -127,7 +121,7 @@ go_deed stage asker = if_known (actor_of stage.history.shapes asker) >> λ actor
 
 -- a shape, where nothing stands against it: its unit has no text
 abbrev pub if_fits : Shape → Option ShapeFault → Result DeedText What
-if_fits shape None = Ok (load shape (without_text shape))
+if_fits shape None = Ok (load shape (without_bodies shape))
 if_fits shape (Some fault) = Err (Whats.Shape fault)
 
 -- a unit text comes to the load of the unit that it gives, with its bodies; one that is too long is refused whatever its words

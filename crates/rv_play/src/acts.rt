@@ -13,8 +13,8 @@ ghost use Rattle.rv_play.specs.Deeds.{Comes, ComesToDeed, compiles, goes, just, 
 use crate::deed::Deed;
 use crate::player::Player;
 use rv_access::{Line, ListFault, read_list};
+use rv_code::UnitBodies;
 use rv_fault::{Failure, What, refused};
-use rv_go::without_text;
 use rv_script::unit_text::{MOST_UNIT_BYTES, unit_text};
 use rv_shape::catalogue::Catalogue;
 use rv_shape::fault::ShapeFault;
@@ -48,7 +48,7 @@ fn load_deed(
     if let Some(fault) = catalogue.shape_fits(&shape) {
         return Err(refused(line, What::Shape(fault)));
     }
-    match without_text(alloc, &shape) {
+    match UnitBodies::of_shape(alloc, &shape) {
         Ok(bodies) => made(Deed::load(alloc, shape, bodies)),
         Err(_) => Err(Failure::Memory),
     }

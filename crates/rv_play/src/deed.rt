@@ -4,7 +4,7 @@ ghost use Rattle.std.specs.Prelude.{◌≡◌, IfOk, IfErr, Some, string_bytes};
 ghost use Rattle.rv_code.specs.BodyView.{unit_view};
 ghost use Rattle.rv_exec.specs.Bodies.{no_bodies};
 ghost use Rattle.rv_play.specs.Stages.{deed_text};
-ghost use Rattle.rv_play.specs.Deeds.{line_number, plain, load, set, ask, go, append, remove, replace};
+ghost use Rattle.rv_play.specs.Deeds.{plain, load, set, ask, go, append, remove, replace};
 
 use rv_access::{AccessList, Line};
 use rv_code::UnitBodies;
@@ -13,7 +13,7 @@ use rv_event::text::text_of_request;
 use rv_history::command::Command;
 use rv_shape::catalogue::Catalogue;
 use rv_shape::shape::UnitShape;
-use rv_step::lookup::OPERATOR;
+use rv_step::lookup::{OPERATOR, line_number};
 use std::alloc::{AllocError, Global};
 
 /// What is asked of the host: by which actor, which command, and in which words.
@@ -147,11 +147,4 @@ impl Deed {
         let command = Command::ReplaceLine(line_number(number), line);
         Ok(Deed::plain(alloc, actor, command, words))
     }
-}
-
-// The line that a number counts; below zero it counts none, as 0 does.
-fn line_number(number: i64) -> usize
-    ensures { result ≡ line_number number }
-{
-    if number < 0 { 0 } else { number as usize }
 }

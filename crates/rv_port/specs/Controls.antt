@@ -11,7 +11,7 @@ use Rattle.rv_turn.specs.Passes.{Acted, Parted, IsWorn}
 use Rattle.rv_code.specs.Bodies as Code
 use Rattle.rv_code.specs.BodyView.{unit_view}
 use Rattle.rv_code.specs.declared.body.UnitBodies.{UnitBodies}
-use Rattle.rv_exec.specs.Bodies.{held, unit_without_bodies}
+use Rattle.rv_exec.specs.Bodies.{held}
 use Rattle.rv_exec.specs.declared.bodies.SharedUnit.{SharedUnit}
 use Rattle.rv_history.specs.History.{History}
 use Rattle.rv_port.specs.Events.{by, log_of, catalogue_of}
@@ -75,7 +75,7 @@ LoadTold v shape Such r w =
 
 -- the bodies of a unit that was loaded as a shape alone: none (own)
 abbrev pub no_bodies_of : Shape → Code.UnitBodies
-no_bodies_of shape = unit_without_bodies (length shape.objects) (length shape.tasks)
+no_bodies_of = without_bodies
 
 -- The history that a control begins with is that of the host, whose units have no bodies. (own)
 abbrev pub BeginsWith : History → List Event → Type 0

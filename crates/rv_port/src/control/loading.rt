@@ -35,7 +35,7 @@ fn with_unit(alloc: Global, catalogue: &Catalogue, shape: &UnitShape) -> Option<
 fn no_bodies_of(alloc: Global, shape: &UnitShape) -> Result<SharedUnit, AllocError>
     ensures { IfOk result (λ u. shared_view u ≡ no_bodies_of shape.now) }
 {
-    SharedUnit::without_bodies(alloc, shape.objects().len(), shape.tasks().len())
+    SharedUnit::new(alloc, UnitBodies::of_shape(alloc, shape)?)
 }
 
 /// The bodies of units that were loaded before as shapes alone.

@@ -1,10 +1,10 @@
-//! Units without a text.
+//! Units that are a shape alone.
 
 ghost use Rattle.std.specs.Prelude.{◌≡◌, [], map, replicate, None, IfOk};
+ghost use Rattle.rv_code.specs.Bodies.{without_bodies};
 ghost use Rattle.rv_code.specs.BodyView.{object_view, maybe_body_view, unit_view};
-ghost use Rattle.rv_go.specs.Texts.{without_text};
 
-use rv_code::{Body, ObjectBodies, UnitBodies};
+use crate::body::{Body, ObjectBodies, UnitBodies};
 use rv_shape::shape::UnitShape;
 use std::alloc::{AllocError, Global};
 
@@ -32,11 +32,14 @@ fn tasks_without(alloc: Global, count: usize) -> Result<Vec<Option<Body>>, Alloc
     Ok(tasks)
 }
 
-/// The bodies of a unit without a text: none of its operations and tasks has one.
-pub fn without_text(alloc: Global, shape: &UnitShape) -> Result<UnitBodies, AllocError>
-    ensures { IfOk result (λ bodies. unit_view bodies ≡ without_text shape.now) }
-{
-    let objects = objects_without(alloc, shape.objects().len())?;
-    let tasks = tasks_without(alloc, shape.tasks().len())?;
-    Ok(UnitBodies { objects, tasks })
+impl UnitBodies {
+    /// The bodies of a unit that is a shape alone: none of its operations and tasks has one. Err where memory was
+    /// refused.
+    pub fn of_shape(alloc: Global, shape: &UnitShape) -> Result<UnitBodies, AllocError>
+        ensures { IfOk result (λ bodies. unit_view bodies ≡ without_bodies shape.now) }
+    {
+        let objects = objects_without(alloc, shape.objects().len())?;
+        let tasks = tasks_without(alloc, shape.tasks().len())?;
+        Ok(UnitBodies { objects, tasks })
+    }
 }
