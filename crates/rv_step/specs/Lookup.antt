@@ -1,5 +1,5 @@
 -- The names of a step, looked up among the units that are loaded (own).
-use Rattle.std.specs.Prelude.{ℕ, ◌+◌, List, Option, Some, None}
+use Rattle.std.specs.Prelude.{ℕ, ℤ, pos, negsuc, ◌+◌, List, Option, Some, None}
 use Rattle.rv_text.specs.Names.{dotted}
 use Rattle.rv_shape.specs.Shape.{Shape}
 use Rattle.rv_shape.specs.Names.{task_number, object_number, operation_number}
@@ -44,3 +44,8 @@ request_of shapes Quit = Some Requests.Quit
 request_of shapes (Tick ticks) = Some (Requests.Tick ticks)
 request_of shapes Halt = Some Requests.Halt
 request_of shapes asked = None
+
+-- the line of a list that a number counts, from 1; below zero it counts none, as 0 does
+abbrev pub line_number : ℤ → ℕ
+line_number (pos number) = number
+line_number (negsuc number) = 0

@@ -1,7 +1,7 @@
 //! The names of a step, looked up among the units that are loaded.
 
 ghost use Rattle.std.specs.Prelude.{◌≡◌, IfOk, string_bytes, option_map};
-ghost use Rattle.rv_step.specs.Lookup.{full_name, actor_of, callee_of, request_of};
+ghost use Rattle.rv_step.specs.Lookup.{full_name, actor_of, callee_of, request_of, line_number};
 
 use crate::step::{Asked, Asker, DottedName, Name};
 use rv_event::entry::Request;
@@ -82,4 +82,11 @@ pub fn request_of(
         Asked::Halt => Ok(Some(Request::Halt)),
         Asked::Go(_) | Asked::Append(_) | Asked::Remove(_) | Asked::Replace(_, _) => Ok(None),
     }
+}
+
+/// The line of a list that a number of a step counts, from 1; below zero it counts none, as 0 does.
+pub fn line_number(number: i64) -> usize
+    ensures { result ≡ line_number number }
+{
+    if number < 0 { 0 } else { number as usize }
 }

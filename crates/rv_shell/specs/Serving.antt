@@ -1,0 +1,135 @@
+-- What a command line does: one request of the operator, one page of the journal, or nothing but a word to the caller; and what
+-- is written of it (own).
+use Rattle.std.specs.Prelude.{◌≡◌, ◌⊎◌, ℕ, ◌+◌, List, [], ◌∷◌, ◌++◌, codes, Option, Some, None, Result, Ok, Err}
+use Rattle.std.specs.Fmt.{decimal}
+use Rattle.std.specs.Io.KnownBytes.{Appends}
+use Rattle.rv_script.specs.Prefixes.{WritesPrefix}
+use Rattle.rv_access.specs.Words.{Words}
+use Rattle.rv_access.specs.declared.fault.ListFault.{ListFault}
+use Rattle.rv_access.specs.declared.fault.ListFault.TheVariants as Lists
+use Rattle.rv_shape.specs.Shape.{Shape}
+use Rattle.rv_event.specs.Text.{answer_text, entry_line}
+use Rattle.rv_event.specs.declared.entry.Answer.{Answer}
+use Rattle.rv_event.specs.declared.entry.Request.TheVariants as asks
+use Rattle.rv_host.specs.Pages.{Item}
+use Rattle.rv_step.specs.Lookup.{line_number}
+use Rattle.rv_turn.specs.Passes.{Acted, IsWorn}
+use Rattle.rv_port.specs.Events.{by, catalogue_of}
+use Rattle.rv_port.specs.Acting.{Does}
+use Rattle.rv_port.specs.Traces.{Passing}
+use Rattle.rv_port.specs.Controls.{Told, PageFailed}
+use Rattle.rv_port.specs.declared.fault.PageFault.TheVariants as PageFaults
+use Rattle.rv_port.specs.declared.event.Ask.{Ask}
+use Rattle.rv_port.specs.declared.event.Reply.TheVariants as Gives
+use Rattle.rv_shell.specs.declared.order.Order.{Order}
+use Rattle.rv_shell.specs.declared.order.Order.TheVariants as Orders
+use Rattle.rv_shell.specs.declared.shell.Next.{Next}
+use Rattle.rv_shell.specs.declared.shell.Next.TheVariants as Nexts
+use Rattle.rv_shell.specs.declared.shell.LineFault.{LineFault}
+use Rattle.rv_shell.specs.declared.shell.LineFault.TheVariants.{NoMemory, Write, Worn}
+
+-- Texts
+
+-- the line of an answer
+abbrev pub answer_line : List Shape → Answer → List ℕ
+answer_line shapes answer = answer_text shapes answer ++ 10 ∷ []
+
+-- the words of a fault of a line of the list
+abbrev pub fault_words : ListFault → List ℕ
+fault_words (Lists.BadWord at) = codes "list BadWord at line " ++ decimal at
+fault_words (Lists.BadName at) = codes "list BadName at line " ++ decimal at
+fault_words (Lists.TooMany at) = codes "list TooMany at line " ++ decimal at
+fault_words Lists.NoMemory = codes "list NoMemory"
+
+abbrev pub fault_line : ListFault → List ℕ
+fault_line fault = fault_words fault ++ 10 ∷ []
+
+-- the words of an entry are the unit's name of a load, and the whole list after a list change
+abbrev pub item_line : List Shape → ℕ → Item → List ℕ
+item_line shapes number item = entry_line shapes number item.entry item.words item.words
+
+-- the lines of entries that stand one behind another, the first of which has this number
+abbrev pub page_text : List Shape → ℕ → List Item → List ℕ
+page_text shapes number [] = []
+page_text shapes number (item ∷ items) = item_line shapes number item ++ page_text shapes (number + 1) items
+
+-- What is written
+
+-- what a writer holds, where it tells
+abbrev pub Known : Type 0
+Known = Option (List ℕ)
+
+-- a text is written whole; where writing fails, a prefix of it; where memory is refused, nothing
+abbrev pub Writes : Known → Known → List ℕ → Result Next LineFault → Type 0
+Writes old new text (Ok next) = Appends old new text × (next ≡ Nexts.Go)
+Writes old new text (Err Write) = WritesPrefix old new text
+Writes old new text (Err NoMemory) = new ≡ old
+Writes old new text (Err Worn) = ⊥
+
+-- What is asked
+
+-- one request of the operator, and its answer is written
+pub record Requests (old new : Known) (v w : Passing) (ask : Ask) (result : Result Next LineFault) : Type 0 where
+  pub answer : Answer
+  pub told : Told v ask answer w
+  pub written : Writes old new (answer_line (catalogue_of w.seen) answer) result
+
+-- one page of the journal, and its entries are written
+pub record Reads (old new : Known) (v w : Passing) (from : ℕ) (result : Result Next LineFault) : Type 0 where
+  pub page : List Item
+  pub told : Acted by Does v (Ask.Read from) (Gives.Read page) w
+  pub written : Writes old new (page_text (catalogue_of w.seen) from page) result
+
+-- no act was left, and nothing changed
+abbrev pub IsSpent : Known → Known → Passing → Passing → Type 0
+IsSpent old new v w = IsWorn v w × (new ≡ old)
+
+-- a request, unless no act was left
+abbrev pub Asks : Known → Known → Passing → Passing → Ask → Result Next LineFault → Type 0
+Asks old new v w ask (Err Worn) = IsSpent old new v w
+Asks old new v w ask result = Requests old new v w ask result
+
+-- a page, unless no act was left or there was no memory for it
+abbrev pub Pages : Known → Known → Passing → Passing → ℕ → Result Next LineFault → Type 0
+Pages old new v w from (Err Worn) = IsSpent old new v w
+Pages old new v w from (Err NoMemory) =
+    (PageFailed v from PageFaults.NoMemory w × (new ≡ old)) ⊎ Reads old new v w from (Err NoMemory)
+Pages old new v w from result = Reads old new v w from result
+
+-- nothing is asked, and a text is written
+abbrev pub Says : Known → Known → Passing → Passing → List ℕ → Result Next LineFault → Type 0
+Says old new v w text result = (w ≡ v) × Writes old new text result
+
+-- nothing is asked or written: the caller goes on
+abbrev pub HandsOn : Known → Known → Passing → Passing → Next → Result Next LineFault → Type 0
+HandsOn old new v w next result = (w ≡ v) × (new ≡ old) × (result ≡ Ok next)
+
+-- nothing is asked or written for want of memory
+abbrev pub HandsBack : Known → Known → Passing → Passing → Result Next LineFault → Type 0
+HandsBack old new v w result = (w ≡ v) × (new ≡ old) × (result ≡ Err NoMemory)
+
+-- a request with a line of the list, or what is wrong with that line
+abbrev pub WithLine : Known → Known → Passing → Passing → Result Words ListFault → (Words → Ask) → Result Next LineFault → Type 0
+WithLine old new v w (Ok line) ask result = Asks old new v w (ask line) result
+WithLine old new v w (Err fault) ask result = Says old new v w (fault_line fault) result
+
+-- what a command does
+abbrev pub Obeys : Known → Known → Passing → Passing → Order → Result Next LineFault → Type 0
+Obeys old new v w (Orders.Append line) result = WithLine old new v w line (λ l. Ask.AppendLine l) result
+Obeys old new v w (Orders.Remove number) result = Asks old new v w (Ask.RemoveLine (line_number number)) result
+Obeys old new v w (Orders.Replace number line) result = WithLine old new v w line (λ l. Ask.ReplaceLine (line_number number) l) result
+Obeys old new v w (Orders.Tick ticks) result = Asks old new v w (Ask.Step (asks.Tick ticks)) result
+Obeys old new v w Orders.Halt result = Asks old new v w (Ask.Step asks.Halt) result
+Obeys old new v w (Orders.Raise line) result = HandsOn old new v w (Nexts.Raise line) result
+Obeys old new v w Orders.Load result = HandsOn old new v w Nexts.Load result
+Obeys old new v w (Orders.Journal from) result = Pages old new v w from result
+Obeys old new v w Orders.Quit result = HandsOn old new v w Nexts.Quit result
+
+-- what a line does; one that is no command sends nothing
+abbrev pub Carries : Known → Known → Passing → Passing → Option Order → Result Next LineFault → Type 0
+Carries old new v w (Some order) result = Obeys old new v w order result
+Carries old new v w None result = Says old new v w (codes "bad command" ++ 10 ∷ []) result
+
+-- there was no memory to read the line, and nothing is asked or written; else the line is carried out
+abbrev pub Serves : Known → Known → Passing → Passing → Option Order → Result Next LineFault → Type 0
+Serves old new v w order result = HandsBack old new v w result ⊎ Carries old new v w order result

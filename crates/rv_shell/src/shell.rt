@@ -1,0 +1,280 @@
+//! The shell: reads a command line, and does what it asks.
+
+ghost use Rattle.std.specs.Prelude.{◌≡◌, ℕ, List, IfOk, MatchResult, string_bytes};
+ghost use Rattle.rv_text.specs.Words.{words};
+ghost use Rattle.rv_event.specs.declared.entry.Request.TheVariants as asks;
+ghost use Rattle.rv_port.specs.Controls.{Told};
+ghost use Rattle.rv_port.specs.declared.event.Ask.{Ask};
+ghost use Rattle.rv_turn.specs.Passes.{IsWorn};
+ghost use Rattle.rv_port.specs.Traces.{Passing};
+ghost use Rattle.rv_step.specs.Lookup.{line_number};
+ghost use Rattle.rv_shell.specs.Orders.{order_of as order_words};
+ghost use Rattle.rv_shell.specs.Serving.{Asks, Obeys, Pages, Serves, Writes, answer_line, fault_line};
+
+use crate::order::{Order, order_of};
+use crate::page::page_text;
+use rv_access::{Line, ListFault};
+use rv_event::entry::Answer;
+use rv_event::text::text_of_answer;
+use rv_host::pages::Page;
+use rv_port::control::Control;
+use rv_port::fault::PageFault;
+use rv_script::write_whole;
+use rv_shape::catalogue::Catalogue;
+use rv_step::lookup::line_number;
+use rv_step::reading::StepError;
+use rv_turn::Worn;
+use std::alloc::{AllocError, Global};
+use std::io::Write;
+use std::sync::Wait;
+use thiserror::Error;
+
+/// What the caller does after a command line.
+#[derive(Clone, Copy, Debug, PartialEq, Eq, Drop)]
+pub enum Next {
+    /// It goes on with the next line.
+    Go,
+    /// It loads the unit text that follows.
+    Load,
+    /// It raises this line, 0 .. 9.
+    Raise(u8),
+    /// It ends the run.
+    Quit,
+}
+
+/// Why a command line wasn't carried out to its end.
+#[derive(Clone, Copy, Debug, PartialEq, Eq, Drop, Error)]
+pub enum LineFault {
+    /// Memory was refused.
+    #[error("NoMemory")]
+    NoMemory,
+    /// Writing failed.
+    #[error("Write")]
+    Write,
+    /// The control has no act left.
+    #[error("Worn")]
+    Worn,
+}
+
+// Writes a text.
+fn put<W: Write>(writer: &mut W, text: &str) -> Result<Next, LineFault>
+    ensures { Writes (W.contents writer.old) (W.contents writer.new) text.now result }
+{
+    match write_whole(writer, text.as_bytes()) {
+        Ok(()) => Ok(Next::Go),
+        Err(_) => Err(LineFault::Write),
+    }
+}
+
+// Writes a text that there was memory for.
+fn put_made<W: Write>(writer: &mut W, text: Result<String, AllocError>) -> Result<Next, LineFault>
+    ensures { (bytes : List ℕ) → IfOk text (λ t. string_bytes t ≡ bytes)
+        → Writes (W.contents writer.old) (W.contents writer.new) bytes result }
+{
+    match text {
+        Ok(text) => put(writer, text.as_str()),
+        Err(_) => Err(LineFault::NoMemory),
+    }
+}
+
+// The line of an answer.
+fn answer_line(alloc: Global, catalogue: &Catalogue, answer: &Answer) -> Result<String, AllocError>
+    ensures { IfOk result (λ line. string_bytes line ≡ answer_line catalogue.now answer.now) }
+{
+    let mut line = text_of_answer(alloc, catalogue, answer)?;
+    line.push_str("\n")?;
+    Ok(line)
+}
+
+// The line of a fault of a line of the list.
+fn fault_line(alloc: Global, fault: ListFault) -> Result<String, AllocError>
+    ensures { IfOk result (λ line. string_bytes line ≡ fault_line fault) }
+{
+    match fault {
+        ListFault::BadWord(at) => format!(in alloc; "list BadWord at line {at}\n"),
+        ListFault::BadName(at) => format!(in alloc; "list BadName at line {at}\n"),
+        ListFault::TooMany(at) => format!(in alloc; "list TooMany at line {at}\n"),
+        ListFault::NoMemory => String::from_str(alloc, "list NoMemory\n"),
+    }
+}
+
+/// Carries out command lines of the operator.
+#[derive(Clone, Copy, Drop)]
+pub struct Shell {
+    alloc: Global,
+}
+
+impl Shell {
+    /// A shell that takes the memory of texts from here.
+    pub fn new(alloc: Global) -> Shell {
+        Shell { alloc }
+    }
+
+    /// Writes the answer to a request of the operator.
+    pub fn tell<W: Write>(
+        &self,
+        control: &Control,
+        answer: Result<Answer, Worn>,
+        writer: &mut W,
+    ) -> Result<Next, LineFault>
+        ensures { (before : Passing) (ask : Ask)
+            → MatchResult answer (λ r. Told before ask r control.now) (λ _. IsWorn before control.now)
+            → Asks (W.contents writer.old) (W.contents writer.new) before control.now ask result }
+    {
+        match answer {
+            Ok(answer) => {
+                let line = answer_line(self.alloc, control.catalogue(), &answer);
+                put_made(writer, line)
+            }
+            Err(_) => Err(LineFault::Worn),
+        }
+    }
+
+    // Writes what is wrong with a line of the list.
+    fn complain<W: Write>(&self, fault: ListFault, writer: &mut W) -> Result<Next, LineFault>
+        ensures { Writes (W.contents writer.old) (W.contents writer.new) (fault_line fault) result }
+    {
+        let line = fault_line(self.alloc, fault);
+        put_made(writer, line)
+    }
+
+    // A line more.
+    fn append<R: Wait, W: Write>(
+        &self,
+        rt: &R,
+        control: &mut Control,
+        line: Line,
+        writer: &mut W,
+    ) -> Result<Next, LineFault>
+        ensures { Asks (W.contents writer.old) (W.contents writer.new) control.old control.new (Ask.AppendLine line) result }
+    {
+        let answer = control.append_line(rt, line);
+        self.tell(&*control, answer, writer)
+    }
+
+    // A line less.
+    fn remove<R: Wait, W: Write>(
+        &self,
+        rt: &R,
+        control: &mut Control,
+        number: i64,
+        writer: &mut W,
+    ) -> Result<Next, LineFault>
+        ensures { Asks (W.contents writer.old) (W.contents writer.new) control.old control.new (Ask.RemoveLine (line_number number)) result }
+    {
+        let answer = control.remove_line(rt, line_number(number));
+        self.tell(&*control, answer, writer)
+    }
+
+    // Another line in place of one.
+    fn replace<R: Wait, W: Write>(
+        &self,
+        rt: &R,
+        control: &mut Control,
+        number: i64,
+        line: Line,
+        writer: &mut W,
+    ) -> Result<Next, LineFault>
+        ensures { Asks (W.contents writer.old) (W.contents writer.new) control.old control.new (Ask.ReplaceLine (line_number number) line) result }
+    {
+        let answer = control.replace_line(rt, line_number(number), line);
+        self.tell(&*control, answer, writer)
+    }
+
+    // Ticks of the clock.
+    fn tick<R: Wait, W: Write>(
+        &self,
+        rt: &R,
+        control: &mut Control,
+        ticks: i64,
+        writer: &mut W,
+    ) -> Result<Next, LineFault>
+        ensures { Asks (W.contents writer.old) (W.contents writer.new) control.old control.new (Ask.Step (asks.Tick ticks)) result }
+    {
+        let answer = control.tick(rt, ticks);
+        self.tell(&*control, answer, writer)
+    }
+
+    // The end of the host.
+    fn halt<R: Wait, W: Write>(
+        &self,
+        rt: &R,
+        control: &mut Control,
+        writer: &mut W,
+    ) -> Result<Next, LineFault>
+        ensures { Asks (W.contents writer.old) (W.contents writer.new) control.old control.new (Ask.Step asks.Halt) result }
+    {
+        let answer = control.halt(rt);
+        self.tell(&*control, answer, writer)
+    }
+
+    // The entries of the journal from a number on.
+    fn journal<R: Wait, W: Write>(
+        &self,
+        rt: &R,
+        control: &mut Control,
+        from: usize,
+        writer: &mut W,
+    ) -> Result<Next, LineFault>
+        ensures { Pages (W.contents writer.old) (W.contents writer.new) control.old control.new from result }
+    {
+        let mut page = Page::new(self.alloc);
+        match control.entries(rt, from, &mut page) {
+            Ok(()) => {
+                let text = page_text(self.alloc, control.catalogue(), from, &page);
+                put_made(writer, text)
+            }
+            Err(PageFault::NoMemory) => Err(LineFault::NoMemory),
+            Err(PageFault::Worn) => Err(LineFault::Worn),
+        }
+    }
+
+    // What a command asks.
+    fn obey<R: Wait, W: Write>(
+        &self,
+        rt: &R,
+        control: &mut Control,
+        order: Order,
+        writer: &mut W,
+    ) -> Result<Next, LineFault>
+        ensures { Obeys (W.contents writer.old) (W.contents writer.new) control.old control.new order result }
+    {
+        match order {
+            Order::Append(Ok(line)) => self.append(rt, control, line, writer),
+            Order::Append(Err(fault)) => self.complain(fault, writer),
+            Order::Remove(number) => self.remove(rt, control, number, writer),
+            Order::Replace(number, Ok(line)) => self.replace(rt, control, number, line, writer),
+            Order::Replace(_, Err(fault)) => self.complain(fault, writer),
+            Order::Tick(ticks) => self.tick(rt, control, ticks, writer),
+            Order::Halt => self.halt(rt, control, writer),
+            Order::Raise(line) => Ok(Next::Raise(line)),
+            Order::Load => Ok(Next::Load),
+            Order::Journal(from) => self.journal(rt, control, from, writer),
+            Order::Quit => Ok(Next::Quit),
+        }
+    }
+
+    /// Carries out a command line: one request of the operator, whose answer is written; for `journal` one page, whose
+    /// entries are written; for `load`, `raise` and `quit` nothing is asked, and the caller is told. A line that is no
+    /// command, or whose line of the list is none, sends nothing, and that is written.
+    ///
+    /// # Errors
+    /// `Write` where writing failed, `NoMemory` where memory was refused; the request is answered by then. `Worn` where
+    /// the control has no act left.
+    pub fn line<R: Wait, W: Write>(
+        &self,
+        rt: &R,
+        control: &mut Control,
+        line: &str,
+        writer: &mut W,
+    ) -> Result<Next, LineFault>
+        ensures serves { Serves (W.contents writer.old) (W.contents writer.new) control.old control.new (order_words (words line.now)) result }
+        ensures turn { control.new.turn ≡ control.old.turn }
+    {
+        match order_of(self.alloc, line) {
+            Ok(order) => self.obey(rt, control, order, writer),
+            Err(StepError::BadStep) => put(writer, "bad command\n"),
+            Err(StepError::NoMemory) => Err(LineFault::NoMemory),
+        }
+    }
+}
