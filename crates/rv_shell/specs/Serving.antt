@@ -11,7 +11,6 @@ use Rattle.rv_shape.specs.Shape.{Shape}
 use Rattle.rv_event.specs.Text.{answer_text, entry_line}
 use Rattle.rv_event.specs.declared.entry.Answer.{Answer}
 use Rattle.rv_event.specs.declared.entry.Request.TheVariants as asks
-use Rattle.rv_fault.specs.Written.{Known}
 use Rattle.rv_host.specs.Pages.{Item}
 use Rattle.rv_step.specs.Lookup.{line_number}
 use Rattle.rv_turn.specs.Passes.{Acted, IsWorn}
@@ -55,6 +54,10 @@ page_text shapes number [] = []
 page_text shapes number (item ∷ items) = item_line shapes number item ++ page_text shapes (number + 1) items
 
 -- What is written
+
+-- what a writer holds, where it tells
+abbrev pub Known : Type 0
+Known = Option (List ℕ)
 
 -- a text is written whole; where writing fails, a prefix of it; where memory is refused, nothing
 abbrev pub Writes : Known → Known → List ℕ → Result Next LineFault → Type 0

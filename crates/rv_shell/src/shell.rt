@@ -1,15 +1,15 @@
 //! The shell: reads a command line, and does what it asks.
 
-ghost use Rattle.std.specs.Prelude.{◌≡◌, ◌++◌, ◌∷◌, [], Ok, IfOk, MatchResult, codes, string_bytes};
+ghost use Rattle.std.specs.Prelude.{◌≡◌, ℕ, List, IfOk, MatchResult, string_bytes};
 ghost use Rattle.rv_text.specs.Words.{words};
-ghost use Rattle.rv_access.specs.Words.{Words};
-ghost use Rattle.rv_event.specs.declared.entry.Answer.{Answer};
+ghost use Rattle.rv_event.specs.declared.entry.Request.TheVariants as asks;
 ghost use Rattle.rv_port.specs.Controls.{Told};
 ghost use Rattle.rv_port.specs.declared.event.Ask.{Ask};
 ghost use Rattle.rv_turn.specs.Passes.{IsWorn};
 ghost use Rattle.rv_port.specs.Traces.{Passing};
+ghost use Rattle.rv_step.specs.Lookup.{line_number};
 ghost use Rattle.rv_shell.specs.Orders.{order_of as order_words};
-ghost use Rattle.rv_shell.specs.Serving.{Asks, Obeys, Pages, Says, Serves, Writes, answer_line, fault_line};
+ghost use Rattle.rv_shell.specs.Serving.{Asks, Obeys, Pages, Serves, Writes, answer_line, fault_line};
 
 use crate::order::{Order, order_of};
 use crate::page::page_text;
@@ -67,10 +67,7 @@ fn put<W: Write>(writer: &mut W, text: &str) -> Result<Next, LineFault>
 }
 
 // Writes a text that there was memory for.
-fn put_made<W: Write>(
-    writer: &mut W,
-    text: Result<String, AllocError>,
-) -> Result<Next, LineFault>
+fn put_made<W: Write>(writer: &mut W, text: Result<String, AllocError>) -> Result<Next, LineFault>
     ensures { (bytes : List ℕ) → IfOk text (λ t. string_bytes t ≡ bytes)
         → Writes (W.contents writer.old) (W.contents writer.new) bytes result }
 {
@@ -81,11 +78,7 @@ fn put_made<W: Write>(
 }
 
 // The line of an answer.
-fn answer_line(
-    alloc: Global,
-    catalogue: &Catalogue,
-    answer: &Answer,
-) -> Result<String, AllocError>
+fn answer_line(alloc: Global, catalogue: &Catalogue, answer: &Answer) -> Result<String, AllocError>
     ensures { IfOk result (λ line. string_bytes line ≡ answer_line catalogue.now answer.now) }
 {
     let mut line = text_of_answer(alloc, catalogue, answer)?;
@@ -117,8 +110,8 @@ impl Shell {
         Shell { alloc }
     }
 
-    // Writes the answer to a request of the operator.
-    fn tell<W: Write>(
+    /// Writes the answer to a request of the operator.
+    pub fn tell<W: Write>(
         &self,
         control: &Control,
         answer: Result<Answer, Worn>,
@@ -150,18 +143,27 @@ impl Shell {
         &self,
         rt: &R,
         control: &mut Control,
-        line: Result<Line, ListFault>,
+        line: Line,
         writer: &mut W,
     ) -> Result<Next, LineFault>
-        ensures { Obeys (W.contents writer.old) (W.contents writer.new) control.old control.new (Order.Append line) result }
+        ensures { Asks (W.contents writer.old) (W.contents writer.new) control.old control.new (Ask.AppendLine line) result }
     {
-        match line {
-            Ok(line) => {
-                let answer = control.append_line(rt, line);
-                self.tell(&*control, answer, writer)
-            }
-            Err(fault) => self.complain(fault, writer),
-        }
+        let answer = control.append_line(rt, line);
+        self.tell(&*control, answer, writer)
+    }
+
+    // A line less.
+    fn remove<R: Wait, W: Write>(
+        &self,
+        rt: &R,
+        control: &mut Control,
+        number: i64,
+        writer: &mut W,
+    ) -> Result<Next, LineFault>
+        ensures { Asks (W.contents writer.old) (W.contents writer.new) control.old control.new (Ask.RemoveLine (line_number number)) result }
+    {
+        let answer = control.remove_line(rt, line_number(number));
+        self.tell(&*control, answer, writer)
     }
 
     // Another line in place of one.
@@ -170,18 +172,40 @@ impl Shell {
         rt: &R,
         control: &mut Control,
         number: i64,
-        line: Result<Line, ListFault>,
+        line: Line,
         writer: &mut W,
     ) -> Result<Next, LineFault>
-        ensures { Obeys (W.contents writer.old) (W.contents writer.new) control.old control.new (Order.Replace number line) result }
+        ensures { Asks (W.contents writer.old) (W.contents writer.new) control.old control.new (Ask.ReplaceLine (line_number number) line) result }
     {
-        match line {
-            Ok(line) => {
-                let answer = control.replace_line(rt, line_number(number), line);
-                self.tell(&*control, answer, writer)
-            }
-            Err(fault) => self.complain(fault, writer),
-        }
+        let answer = control.replace_line(rt, line_number(number), line);
+        self.tell(&*control, answer, writer)
+    }
+
+    // Ticks of the clock.
+    fn tick<R: Wait, W: Write>(
+        &self,
+        rt: &R,
+        control: &mut Control,
+        ticks: i64,
+        writer: &mut W,
+    ) -> Result<Next, LineFault>
+        ensures { Asks (W.contents writer.old) (W.contents writer.new) control.old control.new (Ask.Step (asks.Tick ticks)) result }
+    {
+        let answer = control.tick(rt, ticks);
+        self.tell(&*control, answer, writer)
+    }
+
+    // The end of the host.
+    fn halt<R: Wait, W: Write>(
+        &self,
+        rt: &R,
+        control: &mut Control,
+        writer: &mut W,
+    ) -> Result<Next, LineFault>
+        ensures { Asks (W.contents writer.old) (W.contents writer.new) control.old control.new (Ask.Step asks.Halt) result }
+    {
+        let answer = control.halt(rt);
+        self.tell(&*control, answer, writer)
     }
 
     // The entries of the journal from a number on.
@@ -216,20 +240,13 @@ impl Shell {
         ensures { Obeys (W.contents writer.old) (W.contents writer.new) control.old control.new order result }
     {
         match order {
-            Order::Append(line) => self.append(rt, control, line, writer),
-            Order::Remove(number) => {
-                let answer = control.remove_line(rt, line_number(number));
-                self.tell(&*control, answer, writer)
-            }
-            Order::Replace(number, line) => self.replace(rt, control, number, line, writer),
-            Order::Tick(ticks) => {
-                let answer = control.tick(rt, ticks);
-                self.tell(&*control, answer, writer)
-            }
-            Order::Halt => {
-                let answer = control.halt(rt);
-                self.tell(&*control, answer, writer)
-            }
+            Order::Append(Ok(line)) => self.append(rt, control, line, writer),
+            Order::Append(Err(fault)) => self.complain(fault, writer),
+            Order::Remove(number) => self.remove(rt, control, number, writer),
+            Order::Replace(number, Ok(line)) => self.replace(rt, control, number, line, writer),
+            Order::Replace(_, Err(fault)) => self.complain(fault, writer),
+            Order::Tick(ticks) => self.tick(rt, control, ticks, writer),
+            Order::Halt => self.halt(rt, control, writer),
             Order::Raise(line) => Ok(Next::Raise(line)),
             Order::Load => Ok(Next::Load),
             Order::Journal(from) => self.journal(rt, control, from, writer),
@@ -251,7 +268,8 @@ impl Shell {
         line: &str,
         writer: &mut W,
     ) -> Result<Next, LineFault>
-        ensures { Serves (W.contents writer.old) (W.contents writer.new) control.old control.new (order_words (words line.now)) result }
+        ensures serves { Serves (W.contents writer.old) (W.contents writer.new) control.old control.new (order_words (words line.now)) result }
+        ensures turn { control.new.turn ≡ control.old.turn }
     {
         match order_of(self.alloc, line) {
             Ok(order) => self.obey(rt, control, order, writer),

@@ -1,0 +1,72 @@
+-- What is told and written makes what a line does.
+use Rattle.std.proofs.Common.{◌≡◌, ℕ, List, Ok, Err, Option, Some, None, inl, inr, ap}
+use Rattle.std.specs.Prelude.{Result}
+use Rattle.rv_event.specs.declared.entry.Answer.{Answer}
+use Rattle.rv_host.specs.Pages.{Item}
+use Rattle.rv_turn.specs.Passes.{Acted}
+use Rattle.rv_port.specs.Acting.{Does}
+use Rattle.rv_port.specs.Controls.{Told}
+use Rattle.rv_port.specs.Events.{by, catalogue_of}
+use Rattle.rv_port.specs.Traces.{Passing}
+use Rattle.rv_port.specs.declared.event.Ask.{Ask}
+use Rattle.rv_port.specs.declared.event.Reply.{Reply}
+use Rattle.rv_port.specs.declared.event.Reply.TheVariants as Gives
+use Rattle.rv_shell.specs.declared.shell.Next.{Next}
+use Rattle.rv_shell.specs.declared.shell.LineFault.{LineFault}
+use Rattle.rv_shell.specs.declared.shell.LineFault.TheVariants.{NoMemory, Write, Worn}
+use Rattle.rv_shell.specs.declared.order.Order.{Order}
+use Rattle.rv_shell.specs.declared.order.Order.TheVariants as Orders
+use Rattle.rv_shell.specs.Serving.{Known, Writes, Asks, Pages, Obeys, Serves, answer_line, page_text}
+
+-- a request was told, and its answer is written
+pub asks_by : (old new : Known) (v w : Passing) (ask : Ask) (answer : Answer) (result : Result Next LineFault)
+    → Told v ask answer w → Writes old new (answer_line (catalogue_of w.seen) answer) result → Asks old new v w ask result
+asks_by old new v w ask answer (Ok next) told written = record { answer = answer; told = told; written = written }
+asks_by old new v w ask answer (Err Write) told written = record { answer = answer; told = told; written = written }
+asks_by old new v w ask answer (Err NoMemory) told written = record { answer = answer; told = told; written = written }
+asks_by old new v w ask answer (Err Worn) told written = absurd written
+
+-- a page was read, and its text is written
+pub pages_by : (old new : Known) (v w : Passing) (from : ℕ) (page : List Item) (result : Result Next LineFault)
+    → Acted by Does v (Ask.Read from) (Gives.Read page) w → Writes old new (page_text (catalogue_of w.seen) from page) result
+    → Pages old new v w from result
+pages_by old new v w from page (Ok next) told written = record { page = page; told = told; written = written }
+pages_by old new v w from page (Err Write) told written = record { page = page; told = told; written = written }
+pages_by old new v w from page (Err NoMemory) told written = inr record { page = page; told = told; written = written }
+pages_by old new v w from page (Err Worn) told written = absurd written
+
+-- The turn stays
+
+pub acted_turn : (v w : Passing) (ask : Ask) (reply : Reply) → Acted by Does v ask reply w → w.turn ≡ v.turn
+acted_turn v w ask reply acted = ap (λ (p : Passing). p.turn) acted.same
+
+pub asks_turn : (old new : Known) (v w : Passing) (ask : Ask) (result : Result Next LineFault) → Asks old new v w ask result → w.turn ≡ v.turn
+asks_turn old new v w ask (Ok next) asks = acted_turn v w ask asks.told.0 asks.told.2
+asks_turn old new v w ask (Err Write) asks = acted_turn v w ask asks.told.0 asks.told.2
+asks_turn old new v w ask (Err NoMemory) asks = acted_turn v w ask asks.told.0 asks.told.2
+asks_turn old new v w ask (Err Worn) asks = ap (λ (p : Passing). p.turn) asks.0.1
+
+pub pages_turn : (old new : Known) (v w : Passing) (from : ℕ) (result : Result Next LineFault) → Pages old new v w from result → w.turn ≡ v.turn
+pages_turn old new v w from (Ok next) pages = acted_turn v w (Ask.Read from) (Gives.Read pages.page) pages.told
+pages_turn old new v w from (Err Write) pages = acted_turn v w (Ask.Read from) (Gives.Read pages.page) pages.told
+pages_turn old new v w from (Err NoMemory) (inl none) = acted_turn v w (Ask.Read from) Gives.Unread none.0
+pages_turn old new v w from (Err NoMemory) (inr pages) = acted_turn v w (Ask.Read from) (Gives.Read pages.page) pages.told
+pages_turn old new v w from (Err Worn) pages = ap (λ (p : Passing). p.turn) pages.0.1
+
+pub obeys_turn : (old new : Known) (v w : Passing) (order : Order) (result : Result Next LineFault) → Obeys old new v w order result → w.turn ≡ v.turn
+obeys_turn old new v w (Orders.Append (Ok line)) result obeys = asks_turn old new v w _ result obeys
+obeys_turn old new v w (Orders.Append (Err fault)) result obeys = ap (λ (p : Passing). p.turn) obeys.0
+obeys_turn old new v w (Orders.Remove number) result obeys = asks_turn old new v w _ result obeys
+obeys_turn old new v w (Orders.Replace number (Ok line)) result obeys = asks_turn old new v w _ result obeys
+obeys_turn old new v w (Orders.Replace number (Err fault)) result obeys = ap (λ (p : Passing). p.turn) obeys.0
+obeys_turn old new v w (Orders.Tick ticks) result obeys = asks_turn old new v w _ result obeys
+obeys_turn old new v w Orders.Halt result obeys = asks_turn old new v w _ result obeys
+obeys_turn old new v w (Orders.Raise line) result obeys = ap (λ (p : Passing). p.turn) obeys.0
+obeys_turn old new v w Orders.Load result obeys = ap (λ (p : Passing). p.turn) obeys.0
+obeys_turn old new v w (Orders.Journal from) result obeys = pages_turn old new v w from result obeys
+obeys_turn old new v w Orders.Quit result obeys = ap (λ (p : Passing). p.turn) obeys.0
+
+pub serves_turn : (old new : Known) (v w : Passing) (order : Option Order) (result : Result Next LineFault) → Serves old new v w order result → w.turn ≡ v.turn
+serves_turn old new v w order result (inl none) = ap (λ (p : Passing). p.turn) none.0
+serves_turn old new v w (Some order) result (inr obeys) = obeys_turn old new v w order result obeys
+serves_turn old new v w None result (inr says) = ap (λ (p : Passing). p.turn) says.0
