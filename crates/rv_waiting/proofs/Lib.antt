@@ -1,0 +1,6 @@
+pub mod Arrays
+pub mod Suspending
+pub mod Queueing
+pub mod Naming
+pub mod Telling
+pub mod Releasing

@@ -1,0 +1,4 @@
+pub mod Suspensions
+pub mod Queues
+pub mod Versions
+pub mod Waiting
