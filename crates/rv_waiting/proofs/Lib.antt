@@ -1,4 +1,5 @@
 pub mod Arrays
+pub mod Limits
 pub mod Suspending
 pub mod Queueing
 pub mod Naming

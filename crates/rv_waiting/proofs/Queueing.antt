@@ -32,16 +32,18 @@ use Rattle.rv_history.proofs.Loaded.{protected_place}
 use Rattle.rv_history.proofs.Orderly.{legal_orderly_at}
 use Rattle.rv_history.proofs.Stances.{same_number, some_is}
 use Rattle.rv_history.proofs.Waits.{AllWait, joins, legal_waits}
+use Rattle.rv_waiting.proofs.Limits.{entry_within}
 use Rattle.rv_waiting.proofs.Arrays.{all_alike, at_set}
+use Rattle.rv_waiting.specs.Limits.{most_places}
 use Rattle.rv_waiting.specs.Queues.{AreQueues, CanJoin, Moves, call_of, callers, joined_by, left_by}
 
 -- at first
 
-pub fresh_long : length (replicate {A = List ℕ} 257 []) ≡ 257
-fresh_long = length-replicate {A = List ℕ} 257 []
+pub fresh_long : length (replicate {A = List ℕ} most_places []) ≡ most_places
+fresh_long = length-replicate {A = List ℕ} most_places []
 
-pub fresh_are : AreQueues [] (replicate 257 [])
-fresh_are o = all_alike 257 [] o
+pub fresh_are : AreQueues [] (replicate most_places [])
+fresh_are o = all_alike most_places [] o
 
 -- the callers of a list of calls, object by object
 
@@ -70,7 +72,7 @@ record Served (shapes : List Shape) (past : List Entry) (n : ℕ) : Type 0 where
   its : call.actor ≡ n
   last : last_queued n past ≡ Some call
   one : queue call.object past ≡ call ∷ []
-  known : call.object < 257
+  known : call.object < most_places
   low : n < actors shapes
   all : AllWait shapes past (waiting past)
 
@@ -111,10 +113,10 @@ one_more calls queues c some are =
 
 -- On a legal history
 
-pub within_objects : (shapes : List Shape) (o : ℕ) (p : UnitObject) → IsWithin shapes → place shapes o ≡ Some p → o < 257
+pub within_objects : (shapes : List Shape) (o : ℕ) (p : UnitObject) → IsWithin shapes → place shapes o ≡ Some p → o < most_places
 within_objects shapes o p few e = by_test (nat_lt o 1) refl e
   where
-    by_test : (t : Bool) → nat_lt o 1 ≡ t → (if t then None else slice_get (all_objects shapes) (o - 1)) ≡ Some p → o < 257
+    by_test : (t : Bool) → nat_lt o 1 ≡ t → (if t then None else slice_get (all_objects shapes) (o - 1)) ≡ Some p → o < most_places
     by_test true is f = absurd (cc)
     by_test false is f =
         let some : 0 < o = grind (arith, nat_tests) in
@@ -172,18 +174,18 @@ pub named_low : (h : History) (e : Entry) (n : ℕ) → Legal (record h { past =
 named_low h e n l few is = (named_served h e n l few is).low
 
 -- the call of whom an entry names has a queue
-pub may_leave : (h : History) (e : Entry) (named : Option Body) (queues : List (List ℕ)) (c : Body) → Moves h e named queues → named ≡ Some c → c.object < 257
+pub may_leave : (h : History) (e : Entry) (named : Option Body) (queues : List (List ℕ)) (c : Body) → Moves h e named queues → named ≡ Some c → c.object < most_places
 may_leave h e named queues c m is = by_name (named_in (next_of e)) refl (sym m.named_is ∙ is)
   where
-    by_name : (q : Option ℕ) → named_in (next_of e) ≡ q → call_of q h.past ≡ Some c → c.object < 257
+    by_name : (q : Option ℕ) → named_in (next_of e) ≡ q → call_of q h.past ≡ Some c → c.object < most_places
     by_name None at f = absurd (cc)
     by_name (Some n) at f =
-        let s = named_served h e n m.legal m.few at in
-        subst (λ (d : Body). d.object < 257) (some_is s.call c (sym s.last ∙ f)) s.known
+        let s = named_served h e n m.legal (entry_within h e m.legal) at in
+        subst (λ (d : Body). d.object < most_places) (some_is s.call c (sym s.last ∙ f)) s.known
 
 -- a call that an entry queues finds an empty queue, and the entry names nobody
 record Queues (h : History) (e : Entry) (c : Body) : Type 0 where
-  known : c.object < 257
+  known : c.object < most_places
   short : length (queue c.object h.past) < 1
   nobody : named_in (next_of e) ≡ None
 
@@ -200,7 +202,7 @@ queues_at h (Asked a (Call o p vs) Queued) c l few is =
     let there : o ≡ c.object = ap (λ (b : Body). b.object) (some_is (record { actor = a; object = o; operation = p }) c is) in
     let at = protected_place h.shapes o p j.site j.at in
     record {
-      known = subst (λ m. m < 257) there (within_objects h.shapes o at.0 few at.1);
+      known = subst (λ m. m < most_places) there (within_objects h.shapes o at.0 few at.1);
       short = not_full (length (queue c.object h.past)) (ap (λ m. full_queue h m) (sym there) ∙ j.short);
       nobody = refl;
     }
@@ -213,22 +215,22 @@ same_length : (named : Option Body) (queues : List (List ℕ)) → length (left_
 same_length None queues = refl
 same_length (Some c) queues = length-set queues c.object (drop 1 (get_or queues c.object []))
 
-pub may_join : (h : History) (e : Entry) (named : Option Body) (queues : List (List ℕ)) (c : Body) → length queues ≡ 257 → Moves h e named queues → queued_by e ≡ Some c → CanJoin c (left_by named queues)
+pub may_join : (h : History) (e : Entry) (named : Option Body) (queues : List (List ℕ)) (c : Body) → length queues ≡ most_places → Moves h e named queues → queued_by e ≡ Some c → CanJoin c (left_by named queues)
 may_join h e named queues c long m is =
-    let q = queues_at h e c m.legal m.few is in
+    let q = queues_at h e c m.legal (entry_within h e m.legal) is in
     let none : named ≡ None = m.named_is ∙ ap (λ n. call_of n h.past) q.nobody in
     let count : length (get_or queues c.object []) ≡ length (queue c.object h.past) =
     ap (λ (ns : List ℕ). length ns) (m.queues_are c.object) ∙ length-map (queue c.object h.past) (λ (call : Body). call.actor) in
     let short : length (get_or queues c.object []) < 1 = omega (arith, count, q.short) in
     (q.known, subst (λ k. length (get_or (left_by k queues) c.object []) < 1) (sym none) short)
 
-pub moved : (h : History) (e : Entry) (named : Option Body) (queues : List (List ℕ)) → length queues ≡ 257 → Moves h e named queues → AreQueues (e ∷ h.past) (joined_by (queued_by e) (left_by named queues))
+pub moved : (h : History) (e : Entry) (named : Option Body) (queues : List (List ℕ)) → length queues ≡ most_places → Moves h e named queues → AreQueues (e ∷ h.past) (joined_by (queued_by e) (left_by named queues))
 moved h e named queues long m = then_joins (queued_by e) refl
   where
     leaves : (q : Option ℕ) → named_in (next_of e) ≡ q → AreCallers (left q (waiting h.past)) (left_by (call_of q h.past) queues)
     leaves None is = m.queues_are
     leaves (Some n) is =
-        let s = named_served h e n m.legal m.few is in
+        let s = named_served h e n m.legal (entry_within h e m.legal) is in
         subst (λ k. AreCallers (left (Some n) (waiting h.past)) (left_by k queues)) (sym s.last) (one_gone h.shapes h.past n queues s (omega (arith, long, s.known)) m.queues_are)
 
     left_now : AreCallers (left (named_in (next_of e)) (waiting h.past)) (left_by named queues)
@@ -237,7 +239,7 @@ moved h e named queues long m = then_joins (queued_by e) refl
     then_joins : (q : Option Body) → queued_by e ≡ q → AreCallers (joined q (left (named_in (next_of e)) (waiting h.past))) (joined_by q (left_by named queues))
     then_joins None is = left_now
     then_joins (Some c) is =
-        let known : c.object < length (left_by named queues) = omega (arith, long, same_length named queues, (queues_at h e c m.legal m.few is).known) in
+        let known : c.object < length (left_by named queues) = omega (arith, long, same_length named queues, (queues_at h e c m.legal (entry_within h e m.legal) is).known) in
         one_more (left (named_in (next_of e)) (waiting h.past)) (left_by named queues) c known left_now
 
 -- the call at the head of a queue is the last queued one of its caller

@@ -7,18 +7,19 @@ use Rattle.rv_event.specs.declared.entry.Entry.{Entry}
 use Rattle.rv_event.specs.declared.entry.Entry.TheVariants.{Asked, Load, ListChange}
 use Rattle.rv_event.specs.declared.entry.Request.TheVariants.{Call, Complete, Resume, DelayUntil, Clock, Fire, Quit, Tick, Halt}
 use Rattle.rv_suspend.specs.Suspension.{Suspension, initially}
+use Rattle.rv_waiting.specs.Limits.{most_places}
 use Rattle.rv_waiting.specs.Suspensions.{AreCollected, AreSuspensions, called, suspension_after, suspension_at}
 use Rattle.rv_waiting.proofs.Arrays.{all_alike, at_set}
 
 -- at first
 
-pub fresh_long : length (replicate 257 initially) ≡ 257
-fresh_long = length-replicate 257 initially
+pub fresh_long : length (replicate most_places initially) ≡ most_places
+fresh_long = length-replicate most_places initially
 
-pub fresh_are : AreSuspensions [] (replicate 257 initially)
-fresh_are o = all_alike 257 initially o
+pub fresh_are : AreSuspensions [] (replicate most_places initially)
+fresh_are o = all_alike most_places initially o
 
-pub fresh_collected : AreCollected (replicate 257 initially)
+pub fresh_collected : AreCollected (replicate most_places initially)
 fresh_collected o = ap (λ (s : Suspension). s.released) (fresh_are o)
 
 -- an entry that is no call of the object leaves it

@@ -15,12 +15,13 @@ use Rattle.rv_event.specs.declared.entry.Stance.TheVariants.{HandedOver, Dropped
 use Rattle.rv_history.specs.History.{changes}
 use Rattle.rv_history.proofs.Stances.{same_number}
 use Rattle.rv_waiting.proofs.Arrays.{all_alike}
+use Rattle.rv_waiting.specs.Limits.{most_actors}
 use Rattle.rv_waiting.specs.Versions.{AreVersions, asker, version_then, with_version}
 
 -- at first
 
-pub fresh_are : (v : ℕ) → v ≡ 0 → AreVersions [] (replicate 75 v)
-fresh_are v none a = ap (get_or (replicate 75 v) a) (sym none) ∙ all_alike 75 v a ∙ none
+pub fresh_are : (v : ℕ) → v ≡ 0 → AreVersions [] (replicate most_actors v)
+fresh_are v none a = ap (get_or (replicate most_actors v) a) (sym none) ∙ all_alike most_actors v a ∙ none
 
 -- an entry speaks of its own actor and of the one that it names
 
@@ -71,7 +72,7 @@ then_was : (t : Bool) (past : List Entry) (a : ℕ) → (if t then changes past 
 then_was true past a = refl
 then_was false past a = refl
 
-pub told : (e : Entry) (past : List Entry) (v : ℕ) (xs : List ℕ) → length xs ≡ 75 → v ≡ changes past → ((a : ℕ) → asker e ≡ Some a → a < 75) → ((a : ℕ) → named_in (next_of e) ≡ Some a → a < 75) → AreVersions past xs →
+pub told : (e : Entry) (past : List Entry) (v : ℕ) (xs : List ℕ) → length xs ≡ most_actors → v ≡ changes past → ((a : ℕ) → asker e ≡ Some a → a < most_actors) → ((a : ℕ) → named_in (next_of e) ≡ Some a → a < most_actors) → AreVersions past xs →
     AreVersions (e ∷ past) (with_version (named_in (next_of e)) v (with_version (asker e) v xs))
 told e past v xs count now own named are j =
     at_one (named_in (next_of e)) v j (with_version (asker e) v xs) (λ a is. omega (arith, named a is, count, long (asker e) v xs))

@@ -1,3 +1,4 @@
+pub mod Limits
 pub mod Suspensions
 pub mod Queues
 pub mod Versions

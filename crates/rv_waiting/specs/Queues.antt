@@ -5,7 +5,7 @@ use Rattle.rv_event.specs.declared.entry.Body.{Body}
 use Rattle.rv_event.specs.declared.entry.Entry.{Entry}
 use Rattle.rv_history.specs.History.{History}
 use Rattle.rv_history.specs.Legal.{Legal}
-use Rattle.rv_shape.specs.Fits.{IsWithin}
+use Rattle.rv_waiting.specs.Limits.{most_places}
 
 -- the callers that wait on an object, the one that waits longest first
 abbrev pub callers : ℕ → List Entry → List ℕ
@@ -36,11 +36,10 @@ joined_by (Some call) queues = slice_set queues call.object (slice_index_or queu
 
 -- the call's object has a queue, and nobody waits in it
 abbrev pub CanJoin : Body → List (List ℕ) → Type 0
-CanJoin call queues = (call.object < 257) × (length (slice_index_or queues call.object []) < 1)
+CanJoin call queues = (call.object < most_places) × (length (slice_index_or queues call.object []) < 1)
 
 -- after a history for which these queues stand, the entry comes next, and this is the queued call of whom it names
 pub record Moves (h : History) (entry : Entry) (named : Option Body) (queues : List (List ℕ)) : Type 0 where
   pub queues_are : AreQueues h.past queues
   pub legal : Legal (record h { past = entry ∷ h.past })
-  pub few : IsWithin h.shapes
   pub named_is : named ≡ named_call entry h.past

@@ -4,7 +4,6 @@ use Rattle.rv_event.specs.declared.entry.Body.{Body}
 use Rattle.rv_event.specs.declared.entry.Entry.{Entry}
 use Rattle.rv_history.specs.History.{History, changes}
 use Rattle.rv_history.specs.Legal.{Legal}
-use Rattle.rv_shape.specs.Fits.{IsWithin}
 use Rattle.rv_suspend.specs.Suspension.{Suspension}
 use Rattle.rv_waiting.specs.Queues.{AreQueues, named_call}
 use Rattle.rv_waiting.specs.Suspensions.{AreSuspensions}
@@ -28,6 +27,5 @@ pub record IsWaiting (past : List Entry) (kept : Kept) : Type 0 where
 pub record IsNext (h : History) (entry : Entry) (named : Option Body) (version : ℕ) (kept : Kept) : Type 0 where
   pub so_far : IsWaiting h.past kept
   pub legal : Legal (record h { past = entry ∷ h.past })
-  pub few : IsWithin h.shapes
   pub named_is : named ≡ named_call entry h.past
   pub version_is : version ≡ changes h.past

@@ -6,6 +6,7 @@ ghost use Rattle.rv_event.specs.declared.entry.Body.{Body as Call};
 ghost use Rattle.rv_event.specs.declared.entry.Entry.{Entry};
 ghost use Rattle.rv_history.specs.Exclusion.{full_queue};
 ghost use Rattle.rv_history.specs.History.{History};
+ghost use Rattle.rv_waiting.specs.Limits.{most_places};
 ghost use Rattle.rv_waiting.specs.Queues.{AreQueues, CanJoin, Moves, callers, joined_by, left_by};
 
 use rv_event::entry::{Body, Entry, Recorded, Request};
@@ -30,7 +31,7 @@ fn queued_by(entry: &Entry) -> Option<Body>
 
 // An empty queue for each number of an object.
 fn all_empty(alloc: Global) -> Result<Vec<EntryQueue>, AllocError>
-    ensures { IfOk result (λ items. items.items ≡ replicate 257 []) }
+    ensures { IfOk result (λ items. items.items ≡ replicate most_places []) }
 {
     let mut items = Vec::with_capacity(alloc, MOST_OBJECTS + 1)?;
     for _ in 0..MOST_OBJECTS + 1 {
@@ -49,12 +50,13 @@ pub struct Queues {
 
 impl Model for Queues {
     ghost use Rattle.std.specs.Prelude.{◌≡◌, List, ℕ, length};
+    ghost use Rattle.rv_waiting.specs.Limits.{most_places};
 
     ghost Value = { List (List ℕ) };
 
     ghost view = { λ q. q.items.items };
 
-    ghost invariant = { λ q. length q.items.items ≡ 257 };
+    ghost invariant = { λ q. length q.items.items ≡ most_places };
 }
 
 impl Queues {
@@ -84,7 +86,7 @@ impl Queues {
 
     // The first caller on the object of a call leaves.
     fn leave(&mut self, call: Option<Body>)
-        requires { (some : Call) → call ≡ Some some → some.object < 257 }
+        requires { (some : Call) → call ≡ Some some → some.object < most_places }
         ensures { self.new ≡ left_by call self.old }
     {
         if let Some(call) = call {

@@ -8,6 +8,7 @@ ghost use Rattle.rv_history.specs.History.{History};
 ghost use Rattle.rv_history.specs.Legal.{Legal};
 ghost use Rattle.rv_shape.specs.Catalogue as catalogues;
 ghost use Rattle.rv_suspend.specs.Suspension.{Suspension, initially};
+ghost use Rattle.rv_waiting.specs.Limits.{most_places};
 ghost use Rattle.rv_waiting.specs.Suspensions as suspensions;
 ghost use Rattle.rv_waiting.specs.Suspensions.{AreSuspensions, suspension_after, touch_of_deed};
 
@@ -102,7 +103,7 @@ fn carry_out(suspension: &mut SuspensionObject, deed: Deed)
 
 // A suspension object for each number of an object.
 fn all_false(alloc: Global) -> Result<Vec<SuspensionObject>, AllocError>
-    ensures { IfOk result (λ items. items.items ≡ replicate 257 initially) }
+    ensures { IfOk result (λ items. items.items ≡ replicate most_places initially) }
 {
     let mut items = Vec::with_capacity(alloc, MOST_OBJECTS + 1)?;
     for _ in 0..MOST_OBJECTS + 1 {
@@ -124,17 +125,18 @@ impl Model for Suspensions {
     ghost use Rattle.std.specs.Prelude.{◌≡◌, List, length};
     ghost use Rattle.rv_suspend.specs.Suspension.{Suspension};
     ghost use Rattle.rv_waiting.specs.Suspensions.{AreCollected};
+    ghost use Rattle.rv_waiting.specs.Limits.{most_places};
 
     ghost Value = { List Suspension };
 
     ghost view = { λ s. s.items.items };
 
-    ghost invariant = { λ s. (length s.items.items ≡ 257) × AreCollected s.items.items };
+    ghost invariant = { λ s. (length s.items.items ≡ most_places) × AreCollected s.items.items };
 }
 
 impl Suspensions {
     /// All are False, and nobody waits.
-    #[tactic(auto, using(crate::proofs::Suspending::fresh_long, crate::proofs::Suspending::fresh_collected, crate::proofs::Suspending::fresh_are,))]
+    #[tactic(auto, using(crate::proofs::Suspending::fresh_long, crate::proofs::Suspending::fresh_collected, crate::proofs::Suspending::fresh_are))]
     pub fn new(alloc: Global) -> Result<Suspensions, AllocError>
         ensures { IfOk result (λ s. AreSuspensions [] s) }
     {
@@ -181,7 +183,7 @@ impl Suspensions {
 
     /// One entry more.
     pub fn note(&mut self, entry: &Entry)
-        requires { (object : ℕ) → suspensions.called entry.now ≡ Some object → object < 257 }
+        requires { (object : ℕ) → suspensions.called entry.now ≡ Some object → object < most_places }
         ensures { (history : List Entry) → AreSuspensions history self.old →
             AreSuspensions (entry.now ∷ history) self.new }
     {

@@ -5,6 +5,7 @@ ghost use Rattle.std.specs.Prelude.{◌≡◌, ◌<◌, [], ◌∷◌, ℕ, List
 ghost use Rattle.rv_event.specs.Past as past;
 ghost use Rattle.rv_event.specs.declared.entry.Entry.{Entry};
 ghost use Rattle.rv_history.specs.History.{changes};
+ghost use Rattle.rv_waiting.specs.Limits.{most_actors};
 ghost use Rattle.rv_waiting.specs.Versions as versions;
 ghost use Rattle.rv_waiting.specs.Versions.{AreVersions, version_then, with_version};
 
@@ -35,12 +36,13 @@ pub struct Versions {
 
 impl Model for Versions {
     ghost use Rattle.std.specs.Prelude.{◌≡◌, List, ℕ, length};
+    ghost use Rattle.rv_waiting.specs.Limits.{most_actors};
 
     ghost Value = { List ℕ };
 
     ghost view = { λ v. v.items.items };
 
-    ghost invariant = { λ v. length v.items.items ≡ 75 };
+    ghost invariant = { λ v. length v.items.items ≡ most_actors };
 }
 
 impl Versions {
@@ -66,7 +68,7 @@ impl Versions {
 
     // One is spoken of now.
     fn tell(&mut self, actor: Option<usize>, version: usize)
-        requires { (some : ℕ) → actor ≡ Some some → some < 75 }
+        requires { (some : ℕ) → actor ≡ Some some → some < most_actors }
         ensures { self.new ≡ with_version actor version self.old }
     {
         if let Some(actor) = actor {
@@ -76,9 +78,9 @@ impl Versions {
 
     /// One entry more, at this version.
     pub fn note(&mut self, entry: &Entry, version: usize)
-        requires own { (actor : ℕ) → versions.asker entry.now ≡ Some actor → actor < 75 }
+        requires own { (actor : ℕ) → versions.asker entry.now ≡ Some actor → actor < most_actors }
         requires named { (actor : ℕ) → past.named_in (past.next_of entry.now) ≡ Some actor →
-            actor < 75 }
+            actor < most_actors }
         ensures { (history : List Entry) → version ≡ changes history →
             AreVersions history self.old → AreVersions (entry.now ∷ history) self.new }
     {
