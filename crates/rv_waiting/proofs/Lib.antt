@@ -2,6 +2,6 @@ pub mod Arrays
 pub mod Limits
 pub mod Suspending
 pub mod Queueing
-pub mod Naming
+pub mod Numbers
 pub mod Telling
 pub mod Releasing

@@ -1,4 +1,4 @@
-use Rattle.rv_waiting.proofs.Naming.{asker_known, called_known, named_known}
+use Rattle.rv_waiting.proofs.Numbers.{asker_known, called_known, named_known}
 use Rattle.rv_waiting.proofs.waiting.Waiting.note.Goals as goal
 
 pub note-requires-2 : goal.note-requires-2
