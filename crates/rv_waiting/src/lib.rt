@@ -7,7 +7,7 @@
 //! dropped, its stance says.
 #![tactic(auto)]
 
-mod named;
+pub mod named;
 mod queues;
 mod suspensions;
 mod versions;

@@ -1,4 +1,4 @@
-//! Whom an entry names.
+//! Whom an entry names: `Waiting::note` is passed that one's last queued call.
 
 ghost use Rattle.std.specs.Prelude.{◌≡◌};
 ghost use Rattle.rv_event.specs.Past as past;
