@@ -3,6 +3,7 @@ use Rattle.std.specs.Prelude.{◌≡◌, ◌<◌, ℕ, List, [], ◌∷◌, ◌+
 use Rattle.rv_event.specs.Past.{last_queued, named_in, next_of, queue}
 use Rattle.rv_event.specs.declared.entry.Body.{Body}
 use Rattle.rv_event.specs.declared.entry.Entry.{Entry}
+use Rattle.rv_history.specs.Exclusion.{queue_limit}
 use Rattle.rv_history.specs.History.{History}
 use Rattle.rv_history.specs.Legal.{Legal}
 use Rattle.rv_waiting.specs.Limits.{most_places}
@@ -36,7 +37,7 @@ joined_by (Some call) queues = slice_set queues call.object (slice_index_or queu
 
 -- the call's object has a queue, and nobody waits in it
 abbrev pub CanJoin : Body → List (List ℕ) → Type 0
-CanJoin call queues = (call.object < most_places) × (length (slice_index_or queues call.object []) < 1)
+CanJoin call queues = (call.object < most_places) × (length (slice_index_or queues call.object []) < queue_limit)
 
 -- after a history for which these queues stand, the entry comes next, and this is the queued call of whom it names
 pub record Moves (h : History) (entry : Entry) (named : Option Body) (queues : List (List ℕ)) : Type 0 where
