@@ -1,0 +1,7 @@
+pub mod Arrays
+pub mod Limits
+pub mod Suspending
+pub mod Queueing
+pub mod Numbers
+pub mod Telling
+pub mod Releasing

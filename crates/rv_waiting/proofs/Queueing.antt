@@ -1,0 +1,251 @@
+-- The queues, as an entry is added.
+use Rattle.std.proofs.Common.{◌≡◌, ℕ, ◌-◌, ◌<◌, ◌≤◌, List, [], ◌∷◌, ◌++◌, length, map, drop, get_or, replicate, Some, None, Option, Bool, true, false, cond, arith, ap, subst, sym, ◌∙◌, refl}
+use Rattle.std.specs.Prelude.{nat_lt, ◌==◌, not, if◌then◌else◌, slice_get}
+use Rattle.std.specs.List.{filter}
+use Rattle.std.proofs.lemmas.Bool.Decides.{nat_tests}
+use Rattle.std.proofs.lemmas.List.{length-map, length-replicate, length-set}
+use Rattle.std.proofs.lemmas.Option.{slice_get_within}
+use Rattle.rv_shape.specs.Shape.{Shape}
+use Rattle.rv_shape.specs.Catalogue.{UnitObject, all_objects, place}
+use Rattle.rv_shape.specs.Fits.{IsWithin}
+use Rattle.rv_event.specs.Past.{joined, last_queued, left, named_in, next_of, queue, queued_by, waiting}
+use Rattle.rv_event.specs.Recorded.{recorded}
+use Rattle.rv_event.specs.declared.entry.Body.{Body}
+use Rattle.rv_event.specs.declared.entry.Entry.{Entry}
+use Rattle.rv_event.specs.declared.entry.Entry.TheVariants.{Asked, Load, ListChange}
+use Rattle.rv_event.specs.declared.entry.Next.{Next}
+use Rattle.rv_event.specs.declared.entry.Recorded.TheVariants.{Started, Queued, Refused, Done, Suspended, Delayed, Woken, Accepted}
+use Rattle.rv_event.specs.declared.entry.Request.{Request}
+use Rattle.rv_event.specs.declared.entry.Request.TheVariants.{Call, Complete, Resume, DelayUntil, Clock, Fire, Quit, Tick, Halt}
+use Rattle.rv_history.specs.History.{History}
+use Rattle.rv_history.specs.Legal.{Legal}
+use Rattle.rv_history.specs.Due.{out}
+use Rattle.rv_history.specs.Exclusion.{full_queue}
+use Rattle.rv_history.specs.HandOver.{is_complete}
+use Rattle.rv_history.specs.Owed.{actors}
+use Rattle.rv_history.specs.Orderly.{Each, IsOfEntry, is_on}
+use Rattle.rv_history.proofs.Bodies.{each_filter, filter_append, filter_gone}
+use Rattle.rv_history.proofs.Answered.{off}
+use Rattle.rv_history.proofs.Ending.{head_on, head_waits, names_at}
+use Rattle.rv_history.proofs.HandOver.{done_at_ends}
+use Rattle.rv_history.proofs.Loaded.{protected_place}
+use Rattle.rv_history.proofs.Orderly.{legal_orderly_at}
+use Rattle.rv_history.proofs.Stances.{same_number, some_is}
+use Rattle.rv_history.proofs.Waits.{AllWait, joins, legal_waits}
+use Rattle.rv_waiting.proofs.Limits.{entry_within}
+use Rattle.rv_waiting.proofs.Arrays.{all_alike, at_set}
+use Rattle.rv_waiting.specs.Limits.{most_places}
+use Rattle.rv_waiting.specs.Queues.{AreQueues, CanJoin, Moves, call_of, callers, joined_by, left_by}
+
+-- at first
+
+pub fresh_long : length (replicate {A = List ℕ} most_places []) ≡ most_places
+fresh_long = length-replicate {A = List ℕ} most_places []
+
+pub fresh_are : AreQueues [] (replicate most_places [])
+fresh_are o = all_alike most_places [] o
+
+-- the callers of a list of calls, object by object
+
+abbrev pub AreCallers : List Body → List (List ℕ) → Type 0
+AreCallers calls queues = (o : ℕ) → get_or queues o [] ≡ map (λ call. call.actor) (filter (is_on o) calls)
+
+-- One call leaves
+
+-- no other call of its actor waits
+others_kept : (shapes : List Shape) (past : List Entry) (n o : ℕ) (c : Body) (calls : List Body) → AllWait shapes past calls → last_queued n past ≡ Some c → (c.object == o) ≡ false →
+    filter (is_on o) (filter (λ d. not (d.actor == n)) calls) ≡ filter (is_on o) calls
+others_kept shapes past n o c [] all last off_it = refl
+others_kept shapes past n o c (d ∷ calls) all last off_it = by_test (d.actor == n) refl (others_kept shapes past n o c calls all.1 last off_it)
+  where
+    by_test : (t : Bool) → (d.actor == n) ≡ t → filter (is_on o) (filter (λ d. not (d.actor == n)) calls) ≡ filter (is_on o) calls →
+        filter (is_on o) (cond (not t) (d ∷ filter (λ d. not (d.actor == n)) calls) (filter (λ d. not (d.actor == n)) calls)) ≡ filter (is_on o) (d ∷ calls)
+    by_test false is rest = ap (λ ds. cond (d.object == o) (d ∷ ds) ds) rest
+    by_test true is rest =
+        let same : c ≡ d = some_is c d (sym last ∙ ap (λ m. last_queued m past) (sym (same_number d.actor n is)) ∙ all.0.last) in
+        let away : (d.object == o) ≡ false = ap (λ (b : Body). b.object == o) (sym same) ∙ off_it in
+        rest ∙ ap (λ t. cond t (d ∷ filter (is_on o) calls) (filter (is_on o) calls)) (sym away)
+
+-- whom an end names: its call is the only one on its object
+record Served (shapes : List Shape) (past : List Entry) (n : ℕ) : Type 0 where
+  call : Body
+  its : call.actor ≡ n
+  last : last_queued n past ≡ Some call
+  one : queue call.object past ≡ call ∷ []
+  known : call.object < most_places
+  low : n < actors shapes
+  all : AllWait shapes past (waiting past)
+
+one_gone : (shapes : List Shape) (past : List Entry) (n : ℕ) (queues : List (List ℕ)) (s : Served shapes past n) → s.call.object < length queues → AreCallers (waiting past) queues →
+    AreCallers (left (Some n) (waiting past)) (left_by (Some s.call) queues)
+one_gone shapes past n queues s some are =
+    at_set queues on (drop 1 (get_or queues on [])) [] (λ o cs. cs ≡ map (λ call. call.actor) (filter (is_on o) others)) some
+    (λ itself. ap (drop 1) (are on) ∙ ap (λ (cs : List Body). drop 1 (map (λ call. call.actor) cs)) s.one ∙ sym (ap (map (λ (call : Body). call.actor)) gone))
+    (λ o other. are o ∙ ap (map (λ (call : Body). call.actor)) (sym (others_kept shapes past n o s.call (waiting past) s.all s.last other)))
+  where
+    on : ℕ
+    on = s.call.object
+
+    others : List Body
+    others = filter (λ d. not (d.actor == n)) (waiting past)
+
+    gone : filter (is_on on) others ≡ []
+    gone = ap (λ m. filter (is_on on) (filter (λ d. not (d.actor == m)) (waiting past))) (sym s.its) ∙ filter_gone (is_on on) s.call (waiting past) s.one
+
+-- One call joins
+
+map_more : (calls : List Body) (c : Body) → map (λ call. call.actor) (calls ++ c ∷ []) ≡ map (λ call. call.actor) calls ++ c.actor ∷ []
+map_more [] c = refl
+map_more (d ∷ calls) c = ap (λ ns. d.actor ∷ ns) (map_more calls c)
+
+append_nothing : (calls : List Body) → calls ++ [] ≡ calls
+append_nothing [] = refl
+append_nothing (d ∷ calls) = ap (λ ds. d ∷ ds) (append_nothing calls)
+
+one_more : (calls : List Body) (queues : List (List ℕ)) (c : Body) → c.object < length queues → AreCallers calls queues → AreCallers (calls ++ c ∷ []) (joined_by (Some c) queues)
+one_more calls queues c some are =
+    at_set queues c.object (get_or queues c.object [] ++ c.actor ∷ []) [] (λ o cs. cs ≡ map (λ call. call.actor) (filter (is_on o) (calls ++ c ∷ []))) some
+    (λ itself. ap (λ ns. ns ++ c.actor ∷ []) (are c.object) ∙ sym (ap (map (λ (call : Body). call.actor)) (split c.object true itself) ∙ map_more (filter (is_on c.object) calls) c))
+    (λ o other. are o ∙ sym (ap (map (λ (call : Body). call.actor)) (split o false other ∙ append_nothing (filter (is_on o) calls))))
+  where
+    split : (o : ℕ) (t : Bool) → (c.object == o) ≡ t → filter (is_on o) (calls ++ c ∷ []) ≡ filter (is_on o) calls ++ cond t (c ∷ []) []
+    split o t is = filter_append (is_on o) calls (c ∷ []) ∙ ap (λ u. filter (is_on o) calls ++ cond u (c ∷ []) []) is
+
+-- On a legal history
+
+pub within_objects : (shapes : List Shape) (o : ℕ) (p : UnitObject) → IsWithin shapes → place shapes o ≡ Some p → o < most_places
+within_objects shapes o p few e = by_test (nat_lt o 1) refl e
+  where
+    by_test : (t : Bool) → nat_lt o 1 ≡ t → (if t then None else slice_get (all_objects shapes) (o - 1)) ≡ Some p → o < most_places
+    by_test true is f = absurd (cc)
+    by_test false is f =
+        let some : 0 < o = grind (arith, nat_tests) in
+        omega (arith, some, slice_get_within (all_objects shapes) (o - 1) p f, few.objects)
+
+one_only : (c : Body) (cs : List Body) → length (c ∷ cs) ≤ 1 → cs ≡ []
+one_only c [] e = refl
+one_only c (d ∷ cs) e = absurd (omega (arith, e))
+
+served : (h : History) (a : ℕ) (r : Request) (next : Next) (n : ℕ) → Legal h → IsWithin h.shapes → recorded (out h a r) ≡ Some (Done next) → named_in next ≡ Some n → Served h.shapes h.past n
+served h a r next n l few e f = by_request r (done_at_ends h a r next e) e
+  where
+    by_request : (r : Request) → is_complete r ≡ true → recorded (out h a r) ≡ Some (Done next) → Served h.shapes h.past n
+    by_request (Complete vs x) is e =
+        let m = names_at h a vs x next n e f in
+        let q = m.served_by in
+        let all : AllWait h.shapes h.past (waiting h.past) = legal_waits h.capacity h.past h.shapes h.lists l in
+        let v = head_waits h.shapes h.past m.body.object q.call q.rest all q.queued in
+        let orderly = legal_orderly_at h l in
+        let there : q.call.object ≡ m.body.object = same_number q.call.object m.body.object (head_on h.past m.body.object q.call q.rest q.queued) in
+        let none : q.rest ≡ [] = one_only q.call q.rest (subst (λ cs. length cs ≤ 1) q.queued (orderly.queues m.body.object)) in
+        let of_entry : IsOfEntry h.shapes q.call = (subst (Each (IsOfEntry h.shapes)) q.queued (each_filter (IsOfEntry h.shapes) (λ c. c.object == m.body.object) (waiting h.past) orderly.calls)).0 in
+        let at = protected_place h.shapes q.call.object q.call.operation of_entry.0 of_entry.1 in
+        record {
+          call = q.call;
+          its = q.is_its;
+          last = ap (λ j. last_queued j h.past) (sym q.is_its) ∙ v.last;
+          one = ap (λ o. queue o h.past) there ∙ q.queued ∙ ap (λ cs. q.call ∷ cs) none;
+          known = within_objects h.shapes q.call.object at.0 few at.1;
+          low = subst (λ j. j < actors h.shapes) q.is_its v.known;
+          all = all;
+        }
+    by_request (Call o p vs) is e = absurd (off is)
+    by_request Resume is e = absurd (off is)
+    by_request (DelayUntil t) is e = absurd (off is)
+    by_request Clock is e = absurd (off is)
+    by_request Fire is e = absurd (off is)
+    by_request Quit is e = absurd (off is)
+    by_request (Tick m) is e = absurd (off is)
+    by_request Halt is e = absurd (off is)
+
+named_served : (h : History) (e : Entry) (n : ℕ) → Legal (record h { past = e ∷ h.past }) → IsWithin h.shapes → named_in (next_of e) ≡ Some n → Served h.shapes h.past n
+named_served h (Asked a r (Done next)) n l few is = served (record { capacity = h.capacity; past = h.past; shapes = h.shapes; lists = h.lists }) a r next n l.0 few l.1 is
+named_served h (Asked a r Started) n l few is = absurd (cc)
+named_served h (Asked a r Queued) n l few is = absurd (cc)
+named_served h (Asked a r (Refused rule line version)) n l few is = absurd (cc)
+named_served h (Asked a r Suspended) n l few is = absurd (cc)
+named_served h (Asked a r Delayed) n l few is = absurd (cc)
+named_served h (Asked a r Woken) n l few is = absurd (cc)
+named_served h (Asked a r (Accepted value)) n l few is = absurd (cc)
+named_served h Load n l few is = absurd (cc)
+named_served h ListChange n l few is = absurd (cc)
+
+pub named_low : (h : History) (e : Entry) (n : ℕ) → Legal (record h { past = e ∷ h.past }) → IsWithin h.shapes → named_in (next_of e) ≡ Some n → n < actors h.shapes
+named_low h e n l few is = (named_served h e n l few is).low
+
+-- the call of whom an entry names has a queue
+pub may_leave : (h : History) (e : Entry) (named : Option Body) (queues : List (List ℕ)) (c : Body) → Moves h e named queues → named ≡ Some c → c.object < most_places
+may_leave h e named queues c m is = by_name (named_in (next_of e)) refl (sym m.named_is ∙ is)
+  where
+    by_name : (q : Option ℕ) → named_in (next_of e) ≡ q → call_of q h.past ≡ Some c → c.object < most_places
+    by_name None at f = absurd (cc)
+    by_name (Some n) at f =
+        let s = named_served h e n m.legal (entry_within h e m.legal) at in
+        subst (λ (d : Body). d.object < most_places) (some_is s.call c (sym s.last ∙ f)) s.known
+
+-- a call that an entry queues finds an empty queue, and the entry names nobody
+record Queues (h : History) (e : Entry) (c : Body) : Type 0 where
+  known : c.object < most_places
+  short : length (queue c.object h.past) < 1
+  nobody : named_in (next_of e) ≡ None
+
+not_full : (n : ℕ) → not (nat_lt n 1) ≡ false → n < 1
+not_full n e = by_test (nat_lt n 1) refl e
+  where
+    by_test : (t : Bool) → nat_lt n 1 ≡ t → not t ≡ false → n < 1
+    by_test true is f = grind (arith, nat_tests)
+    by_test false is f = absurd (off (sym f))
+
+queues_at : (h : History) (e : Entry) (c : Body) → Legal (record h { past = e ∷ h.past }) → IsWithin h.shapes → queued_by e ≡ Some c → Queues h e c
+queues_at h (Asked a (Call o p vs) Queued) c l few is =
+    let j = joins (record { capacity = h.capacity; past = h.past; shapes = h.shapes; lists = h.lists }) a o p vs l.1 in
+    let there : o ≡ c.object = ap (λ (b : Body). b.object) (some_is (record { actor = a; object = o; operation = p }) c is) in
+    let at = protected_place h.shapes o p j.site j.at in
+    record {
+      known = subst (λ m. m < most_places) there (within_objects h.shapes o at.0 few at.1);
+      short = not_full (length (queue c.object h.past)) (ap (λ m. full_queue h m) (sym there) ∙ j.short);
+      nobody = refl;
+    }
+queues_at h (Asked a (Call o p vs) w) c l few is = absurd (cc)
+queues_at h (Asked a r w) c l few is = absurd (cc)
+queues_at h Load c l few is = absurd (cc)
+queues_at h ListChange c l few is = absurd (cc)
+
+same_length : (named : Option Body) (queues : List (List ℕ)) → length (left_by named queues) ≡ length queues
+same_length None queues = refl
+same_length (Some c) queues = length-set queues c.object (drop 1 (get_or queues c.object []))
+
+pub may_join : (h : History) (e : Entry) (named : Option Body) (queues : List (List ℕ)) (c : Body) → length queues ≡ most_places → Moves h e named queues → queued_by e ≡ Some c → CanJoin c (left_by named queues)
+may_join h e named queues c long m is =
+    let q = queues_at h e c m.legal (entry_within h e m.legal) is in
+    let none : named ≡ None = m.named_is ∙ ap (λ n. call_of n h.past) q.nobody in
+    let count : length (get_or queues c.object []) ≡ length (queue c.object h.past) =
+    ap (λ (ns : List ℕ). length ns) (m.queues_are c.object) ∙ length-map (queue c.object h.past) (λ (call : Body). call.actor) in
+    let short : length (get_or queues c.object []) < 1 = omega (arith, count, q.short) in
+    (q.known, subst (λ k. length (get_or (left_by k queues) c.object []) < 1) (sym none) short)
+
+pub moved : (h : History) (e : Entry) (named : Option Body) (queues : List (List ℕ)) → length queues ≡ most_places → Moves h e named queues → AreQueues (e ∷ h.past) (joined_by (queued_by e) (left_by named queues))
+moved h e named queues long m = then_joins (queued_by e) refl
+  where
+    leaves : (q : Option ℕ) → named_in (next_of e) ≡ q → AreCallers (left q (waiting h.past)) (left_by (call_of q h.past) queues)
+    leaves None is = m.queues_are
+    leaves (Some n) is =
+        let s = named_served h e n m.legal (entry_within h e m.legal) is in
+        subst (λ k. AreCallers (left (Some n) (waiting h.past)) (left_by k queues)) (sym s.last) (one_gone h.shapes h.past n queues s (omega (arith, long, s.known)) m.queues_are)
+
+    left_now : AreCallers (left (named_in (next_of e)) (waiting h.past)) (left_by named queues)
+    left_now = subst (λ k. AreCallers (left (named_in (next_of e)) (waiting h.past)) (left_by k queues)) (sym m.named_is) (leaves (named_in (next_of e)) refl)
+
+    then_joins : (q : Option Body) → queued_by e ≡ q → AreCallers (joined q (left (named_in (next_of e)) (waiting h.past))) (joined_by q (left_by named queues))
+    then_joins None is = left_now
+    then_joins (Some c) is =
+        let known : c.object < length (left_by named queues) = omega (arith, long, same_length named queues, (queues_at h e c m.legal (entry_within h e m.legal) is).known) in
+        one_more (left (named_in (next_of e)) (waiting h.past)) (left_by named queues) c known left_now
+
+-- the call at the head of a queue is the last queued one of its caller
+pub head_call : (h : History) (o : ℕ) → Legal h → slice_get (queue o h.past) 0 ≡ call_of (slice_get (callers o h.past) 0) h.past
+head_call h o l = by_queue (queue o h.past) refl
+  where
+    by_queue : (q : List Body) → queue o h.past ≡ q → slice_get q 0 ≡ call_of (slice_get (map (λ call. call.actor) q) 0) h.past
+    by_queue [] is = refl
+    by_queue (c ∷ cs) is = sym (head_waits h.shapes h.past o c cs (legal_waits h.capacity h.past h.shapes h.lists l) is).last

@@ -1,0 +1,5 @@
+pub mod Limits
+pub mod Suspensions
+pub mod Queues
+pub mod Versions
+pub mod Waiting

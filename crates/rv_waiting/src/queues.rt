@@ -1,0 +1,118 @@
+//! The queues of the objects' entries, each as the entries so far leave it (9.5.3, D.7).
+
+ghost use Rattle.std.specs.Prelude.{◌≡◌, ◌<◌, [], ◌∷◌, ℕ, List, Some, replicate, slice_get, IfOk};
+ghost use Rattle.rv_event.specs.Past as past;
+ghost use Rattle.rv_event.specs.declared.entry.Body.{Body as Call};
+ghost use Rattle.rv_event.specs.declared.entry.Entry.{Entry};
+ghost use Rattle.rv_history.specs.Exclusion.{full_queue};
+ghost use Rattle.rv_history.specs.History.{History};
+ghost use Rattle.rv_waiting.specs.Limits.{most_places};
+ghost use Rattle.rv_waiting.specs.Queues.{AreQueues, CanJoin, Moves, callers, joined_by, left_by};
+
+use rv_event::entry::{Body, Entry, Recorded, Request};
+use rv_queue::EntryQueue;
+use rv_shape::catalogue::MOST_OBJECTS;
+use std::alloc::{AllocError, Global};
+use std::marker::Model;
+
+// The call that an entry put into a queue.
+fn queued_by(entry: &Entry) -> Option<Body>
+    ensures { result ≡ past.queued_by entry.now }
+{
+    match *entry {
+        Entry::Asked(actor, Request::Call(object, operation, _), Recorded::Queued) => Some(Body {
+            actor,
+            object,
+            operation,
+        }),
+        _ => None,
+    }
+}
+
+// An empty queue for each number of an object.
+fn all_empty(alloc: Global) -> Result<Vec<EntryQueue>, AllocError>
+    ensures { IfOk result (λ items. items.items ≡ replicate most_places []) }
+{
+    let mut items = Vec::with_capacity(alloc, MOST_OBJECTS + 1)?;
+    for _ in 0..MOST_OBJECTS + 1 {
+        items.push(EntryQueue::new())?;
+    }
+    Ok(items)
+}
+
+/// The queues by the numbers of objects; that of an object without an entry stays empty.
+///
+/// Contracts see a list with a place for each number of an object, 0 .. 256.
+#[derive(Drop)]
+pub struct Queues {
+    items: Vec<EntryQueue>,
+}
+
+impl Model for Queues {
+    ghost use Rattle.std.specs.Prelude.{◌≡◌, List, ℕ, length};
+    ghost use Rattle.rv_waiting.specs.Limits.{most_places};
+
+    ghost Value = { List (List ℕ) };
+
+    ghost view = { λ q. q.items.items };
+
+    ghost invariant = { λ q. length q.items.items ≡ most_places };
+}
+
+impl Queues {
+    /// Nobody waits.
+    #[tactic(auto, using(crate::proofs::Queueing::fresh_long))]
+    pub fn new(alloc: Global) -> Result<Queues, AllocError>
+        ensures { IfOk result (λ q. AreQueues [] q) }
+    {
+        let items = all_empty(alloc)?;
+        Ok(Queues { items })
+    }
+
+    /// The caller that waits longest on the object.
+    pub fn head(&self, object: usize) -> Option<usize>
+        ensures { (history : List Entry) → AreQueues history self.now →
+            result ≡ slice_get (callers object history) 0 }
+    {
+        self.items.get(object)?.head()
+    }
+
+    /// Whether the queue of the object is full.
+    pub fn is_full(&self, object: usize) -> bool
+        ensures { (h : History) → AreQueues h.past self.now → result ≡ full_queue h object }
+    {
+        object < self.items.len() && self.items[object].is_full()
+    }
+
+    // The first caller on the object of a call leaves.
+    fn leave(&mut self, call: Option<Body>)
+        requires { (some : Call) → call ≡ Some some → some.object < most_places }
+        ensures { self.new ≡ left_by call self.old }
+    {
+        if let Some(call) = call {
+            let _ = self.items[call.object].leave();
+        }
+    }
+
+    // The caller of a call joins.
+    fn join(&mut self, call: Option<Body>)
+        requires { (some : Call) → call ≡ Some some → CanJoin some self.old }
+        ensures { self.new ≡ joined_by call self.old }
+    {
+        if let Some(call) = call {
+            self.items[call.object].join(call.actor);
+        }
+    }
+
+    /// One entry more, with the queued call of the actor that it names as handed the object or
+    /// dropped: that one leaves. A call that the entry queues joins.
+    pub fn note(&mut self, entry: &Entry, named: Option<Body>)
+        requires { (h : History) × Moves h entry.now named self.old }
+        ensures { (h : History) → Moves h entry.now named self.old →
+            AreQueues (entry.now ∷ h.past) self.new }
+    {
+        let _ = &self.items;
+        self.leave(named);
+        self.join(queued_by(entry));
+    }
+}

@@ -1,0 +1,194 @@
+//! The suspension objects, each as the entries so far leave it (D.10).
+
+ghost use Rattle.std.specs.Prelude.{◌≡◌, ◌<◌, [], ◌∷◌, ℕ, List, Some, None, replicate, IfOk};
+ghost use Rattle.rv_event.specs.Past as past;
+ghost use Rattle.rv_event.specs.declared.entry.Entry.{Entry};
+ghost use Rattle.rv_event.specs.declared.entry.Stance.{Stance};
+ghost use Rattle.rv_history.specs.History.{History};
+ghost use Rattle.rv_history.specs.Legal.{Legal};
+ghost use Rattle.rv_shape.specs.Catalogue as catalogues;
+ghost use Rattle.rv_suspend.specs.Suspension.{Suspension, initially};
+ghost use Rattle.rv_waiting.specs.Limits.{most_places};
+ghost use Rattle.rv_waiting.specs.Suspensions as suspensions;
+ghost use Rattle.rv_waiting.specs.Suspensions.{AreSuspensions, suspension_after, touch_of_deed};
+
+use rv_event::entry::{Entry, Recorded, Request};
+use rv_shape::catalogue::MOST_OBJECTS;
+use rv_shape::suspension::SuspensionOperation;
+use rv_suspend::SuspensionObject;
+use std::alloc::{AllocError, Global};
+use std::marker::Model;
+
+/// What an entry does to the suspension object that it is a call of.
+#[derive(Clone, Copy, Drop)]
+pub enum Deed {
+    /// This actor waits.
+    Waits(usize),
+    /// An accepted Set_True.
+    Sets,
+    /// An accepted Set_False, or a Suspend_Until_True that found the state True.
+    Clears,
+    /// Nothing.
+    Untouched,
+}
+
+// The operation of a suspension object of a number.
+fn operation_at(number: usize) -> Option<SuspensionOperation>
+    ensures { result ≡ catalogues.numbered catalogues.suspension_operations number }
+{
+    match number {
+        1 => Some(SuspensionOperation::SetTrue),
+        2 => Some(SuspensionOperation::SetFalse),
+        3 => Some(SuspensionOperation::CurrentState),
+        4 => Some(SuspensionOperation::SuspendUntilTrue),
+        _ => None,
+    }
+}
+
+// What an accepted call of an operation does, if there is such an operation.
+fn accepted(operation: Option<SuspensionOperation>) -> Deed
+    ensures { touch_of_deed result ≡ past.accepted_touch operation }
+{
+    match operation {
+        None => Deed::Untouched,
+        Some(SuspensionOperation::SetTrue) => Deed::Sets,
+        Some(SuspensionOperation::SetFalse) => Deed::Clears,
+        Some(SuspensionOperation::CurrentState) => Deed::Untouched,
+        Some(SuspensionOperation::SuspendUntilTrue) => Deed::Clears,
+    }
+}
+
+// What a call does.
+fn deed_of(entry: &Entry) -> Deed
+    ensures { touch_of_deed result ≡ past.touch_of entry.now }
+{
+    match *entry {
+        Entry::Asked(actor, Request::Call(_, _, _), Recorded::Suspended) => Deed::Waits(actor),
+        Entry::Asked(_, Request::Call(_, operation, _), Recorded::Accepted(_)) => {
+            accepted(operation_at(operation))
+        }
+        _ => Deed::Untouched,
+    }
+}
+
+// The object that an entry is a call of.
+fn called(entry: &Entry) -> Option<usize>
+    ensures { result ≡ suspensions.called entry.now }
+{
+    match *entry {
+        Entry::Asked(_, Request::Call(object, _, _), _) => Some(object),
+        _ => None,
+    }
+}
+
+// Carries out what an entry did. One that suspends its actor says that nobody waited and that the
+// state was False: then the object is as a fresh one.
+fn carry_out(suspension: &mut SuspensionObject, deed: Deed)
+    requires { suspension.old.released ≡ None }
+    ensures { suspension.new ≡ suspension_after (touch_of_deed deed) suspension.old }
+{
+    match deed {
+        Deed::Waits(actor) => {
+            *suspension = SuspensionObject::new();
+            suspension.wait(actor);
+        }
+        Deed::Sets => {
+            suspension.set_true();
+            suspension.collect();
+        }
+        Deed::Clears => suspension.set_false(),
+        Deed::Untouched => {}
+    }
+}
+
+// A suspension object for each number of an object.
+fn all_false(alloc: Global) -> Result<Vec<SuspensionObject>, AllocError>
+    ensures { IfOk result (λ items. items.items ≡ replicate most_places initially) }
+{
+    let mut items = Vec::with_capacity(alloc, MOST_OBJECTS + 1)?;
+    for _ in 0..MOST_OBJECTS + 1 {
+        items.push(SuspensionObject::new())?;
+    }
+    Ok(items)
+}
+
+/// The suspension objects by the numbers of objects; at a number that is no suspension object's
+/// stands one that nobody touches.
+///
+/// Contracts see a list with a place for each number of an object, 0 .. 256.
+#[derive(Drop)]
+pub struct Suspensions {
+    items: Vec<SuspensionObject>,
+}
+
+impl Model for Suspensions {
+    ghost use Rattle.std.specs.Prelude.{◌≡◌, List, length};
+    ghost use Rattle.rv_suspend.specs.Suspension.{Suspension};
+    ghost use Rattle.rv_waiting.specs.Suspensions.{AreCollected};
+    ghost use Rattle.rv_waiting.specs.Limits.{most_places};
+
+    ghost Value = { List Suspension };
+
+    ghost view = { λ s. s.items.items };
+
+    ghost invariant = { λ s. (length s.items.items ≡ most_places) × AreCollected s.items.items };
+}
+
+impl Suspensions {
+    /// All are False, and nobody waits.
+    #[tactic(auto, using(crate::proofs::Suspending::fresh_long, crate::proofs::Suspending::fresh_collected, crate::proofs::Suspending::fresh_are))]
+    pub fn new(alloc: Global) -> Result<Suspensions, AllocError>
+        ensures { IfOk result (λ s. AreSuspensions [] s) }
+    {
+        let items = all_false(alloc)?;
+        Ok(Suspensions { items })
+    }
+
+    /// Whether the object is True (Current_State).
+    pub fn state(&self, object: usize) -> bool
+        ensures { (history : List Entry) → AreSuspensions history self.now →
+            result ≡ past.state object history }
+    {
+        object < self.items.len() && self.items[object].state()
+    }
+
+    /// The actor that waits on it.
+    pub fn waiter(&self, object: usize) -> Option<usize>
+        ensures { (history : List Entry) → AreSuspensions history self.now →
+            result ≡ past.waiter object history }
+    {
+        self.items.get(object)?.waiter()
+    }
+
+    // Whether it is this actor that waits.
+    fn is_waiter(&self, actor: usize, object: usize) -> bool
+        ensures { (history : List Entry) → AreSuspensions history self.now →
+            result ≡ past.is_named actor (past.waiter object history) }
+    {
+        match self.waiter(object) {
+            Some(waiter) => waiter == actor,
+            None => false,
+        }
+    }
+
+    /// Whether an actor that was suspended on it may go on: an accepted Set_True has released it,
+    /// which is so exactly where it isn't the one that waits.
+    pub fn is_released(&self, actor: usize, object: usize) -> bool
+        ensures { (h : History) → Legal h → AreSuspensions h.past self.now →
+            past.stance actor h.past ≡ Stance.WaitsOn object →
+            result ≡ past.released actor object h.past }
+    {
+        !self.is_waiter(actor, object)
+    }
+
+    /// One entry more.
+    pub fn note(&mut self, entry: &Entry)
+        requires { (object : ℕ) → suspensions.called entry.now ≡ Some object → object < most_places }
+        ensures { (history : List Entry) → AreSuspensions history self.old →
+            AreSuspensions (entry.now ∷ history) self.new }
+    {
+        if let Some(object) = called(entry) {
+            carry_out(&mut self.items[object], deed_of(entry));
+        }
+    }
+}

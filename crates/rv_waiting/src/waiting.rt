@@ -1,0 +1,139 @@
+//! All that is kept of those that wait.
+
+ghost use Rattle.std.specs.Prelude.{◌≡◌, [], ◌∷◌, List, slice_get, IfOk};
+ghost use Rattle.rv_event.specs.Past as past;
+ghost use Rattle.rv_event.specs.declared.entry.Entry.{Entry};
+ghost use Rattle.rv_event.specs.declared.entry.Stance.{Stance};
+ghost use Rattle.rv_history.specs.Exclusion.{full_queue};
+ghost use Rattle.rv_history.specs.History.{History};
+ghost use Rattle.rv_history.specs.Legal.{Legal};
+ghost use Rattle.rv_waiting.specs.Queues.{call_of, callers};
+ghost use Rattle.rv_waiting.specs.Versions.{version_then};
+ghost use Rattle.rv_waiting.specs.Waiting.{IsNext, IsWaiting};
+
+use crate::queues::Queues;
+use crate::suspensions::Suspensions;
+use crate::versions::Versions;
+use rv_event::entry::{Body, Entry};
+use std::alloc::{AllocError, Global};
+use std::marker::Model;
+
+/// What is kept of those that wait. Its room is taken at first, so that no entry takes memory.
+///
+/// Contracts see the queues and the suspension objects by the numbers of objects, 0 .. 256, and the
+/// versions by the numbers of actors, 0 .. 74.
+#[derive(Drop)]
+pub struct Waiting {
+    queues: Queues,
+    suspensions: Suspensions,
+    versions: Versions,
+}
+
+impl Model for Waiting {
+    ghost use Rattle.rv_waiting.specs.Waiting.{Kept};
+
+    ghost Value = { Kept };
+
+    ghost view = { λ w. record {
+      queues = w.queues;
+      suspensions = w.suspensions;
+      versions = w.versions;
+    } };
+}
+
+impl Waiting {
+    /// Nobody waits, and nobody was spoken of.
+    pub fn new(alloc: Global) -> Result<Waiting, AllocError>
+        ensures { IfOk result (λ w. IsWaiting [] w) }
+    {
+        let queues = Queues::new(alloc)?;
+        let suspensions = Suspensions::new(alloc)?;
+        let versions = Versions::new(alloc)?;
+        Ok(Waiting {
+            queues,
+            suspensions,
+            versions,
+        })
+    }
+
+    /// The caller that waits longest in the queue of the object, which is the next that is served
+    /// (9.5.3). On a legal history its last queued call is the one that waits.
+    pub fn head(&self, object: usize) -> Option<usize>
+        ensures caller { (history : List Entry) → IsWaiting history self.now →
+            result ≡ slice_get (callers object history) 0 }
+        ensures call { (h : History) → Legal h → IsWaiting h.past self.now →
+            slice_get (past.queue object h.past) 0 ≡ call_of result h.past }
+    {
+        self.queues.head(object)
+    }
+
+    /// Whether the queue of the object is full (D.7).
+    pub fn is_full(&self, object: usize) -> bool
+        ensures { (h : History) → IsWaiting h.past self.now → result ≡ full_queue h object }
+    {
+        self.queues.is_full(object)
+    }
+
+    /// Whether the suspension object is True (Current_State, D.10).
+    pub fn state(&self, object: usize) -> bool
+        ensures { (history : List Entry) → IsWaiting history self.now →
+            result ≡ past.state object history }
+    {
+        self.suspensions.state(object)
+    }
+
+    /// The actor that waits on the suspension object (D.10).
+    pub fn waiter(&self, object: usize) -> Option<usize>
+        ensures { (history : List Entry) → IsWaiting history self.now →
+            result ≡ past.waiter object history }
+    {
+        self.suspensions.waiter(object)
+    }
+
+    /// Whether an actor that was suspended on the object may go on: an accepted Set_True has
+    /// released it (D.10).
+    pub fn is_released(&self, actor: usize, object: usize) -> bool
+        ensures { (h : History) → Legal h → IsWaiting h.past self.now →
+            past.stance actor h.past ≡ Stance.WaitsOn object →
+            result ≡ past.released actor object h.past }
+    {
+        self.suspensions.is_released(actor, object)
+    }
+
+    /// The version of the list before the last entry that is the actor's own, or names it: for one
+    /// that was dropped, that at which it was found denied.
+    pub fn version_then(&self, actor: usize) -> usize
+        ensures { (history : List Entry) → IsWaiting history self.now →
+            result ≡ version_then actor history }
+    {
+        self.versions.version_then(actor)
+    }
+
+    /// One entry more, with the last queued call of the actor that it names as handed the object or
+    /// dropped, and the version of the list before it.
+    pub fn note(&mut self, entry: &Entry, named: Option<Body>, version: usize)
+        requires { (h : History) × IsNext h entry.now named version self.old }
+        ensures { (h : History) → IsNext h entry.now named version self.old →
+            IsWaiting (entry.now ∷ h.past) self.new }
+    {
+        self.queues.note(entry, named);
+        self.suspensions.note(entry);
+        self.versions.note(entry, version);
+    }
+
+    /// One load more: it leaves all as it was.
+    pub fn note_load(&mut self)
+        ensures { (history : List Entry) → IsWaiting history self.old →
+            IsWaiting (Entry.Load ∷ history) self.new }
+    {
+        let _ = &self.queues;
+    }
+
+    /// One list change more: a queued call stays where it is, though the new list may deny it.
+    pub fn note_list(&mut self)
+        ensures { (history : List Entry) → IsWaiting history self.old →
+            IsWaiting (Entry.ListChange ∷ history) self.new }
+    {
+        let _ = &self.queues;
+    }
+}
