@@ -147,20 +147,20 @@ task_unit_in part (Some s) x e = of_get (slice_get s.tasks part) (sym (slice_get
     of_get (Some t) e = ap (option_map (λ (y : UnitTask). y.unit)) e
 
 pub object_unit : (shapes : List Shape) (at : Option Place) (p : Place) (x : Option UnitObject) → at ≡ Some p → Stands objects_of shapes at x →
-    unit_named shapes (Some p.unit) ≡ option_map (λ (o : UnitObject). o.unit) x
+    option_map (unit_named shapes) (Some p.unit) ≡ option_map (λ (o : UnitObject). Some o.unit) x
 object_unit shapes at p None is e = absurd (differ (sym (ap (option_map (part_at objects_of shapes)) is) ∙ e))
   where
     differ : Some (part_at objects_of shapes p) ≡ None → ⊥
     differ e = absurd (cc)
-object_unit shapes at p (Some x) is e = object_unit_in p.part (numbered shapes p.unit) x (found objects_of shapes at p (Some x) is e)
+object_unit shapes at p (Some x) is e = ap (λ n. Some n) (object_unit_in p.part (numbered shapes p.unit) x (found objects_of shapes at p (Some x) is e))
 
 pub task_unit : (shapes : List Shape) (at : Option Place) (p : Place) (x : Option UnitTask) → at ≡ Some p → Stands tasks_of shapes at x →
-    unit_named shapes (Some p.unit) ≡ option_map (λ (t : UnitTask). t.unit) x
+    option_map (unit_named shapes) (Some p.unit) ≡ option_map (λ (t : UnitTask). Some t.unit) x
 task_unit shapes at p None is e = absurd (differ (sym (ap (option_map (part_at tasks_of shapes)) is) ∙ e))
   where
     differ : Some (part_at tasks_of shapes p) ≡ None → ⊥
     differ e = absurd (cc)
-task_unit shapes at p (Some x) is e = task_unit_in p.part (numbered shapes p.unit) x (found tasks_of shapes at p (Some x) is e)
+task_unit shapes at p (Some x) is e = ap (λ n. Some n) (task_unit_in p.part (numbered shapes p.unit) x (found tasks_of shapes at p (Some x) is e))
 
 -- a part of a unit
 pub object_of_unit : (s : Shape) (k : ℕ) → slice_get (objects_of s) k ≡ option_map (λ o. record { unit = s.name; object = o }) (slice_get s.objects k)
