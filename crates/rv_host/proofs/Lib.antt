@@ -17,3 +17,4 @@ pub mod Running
 pub mod Marking
 pub mod Paid
 pub mod Paging
+pub mod Tabled

@@ -1,5 +1,5 @@
 -- The mode of an actor, from whether it holds anything.
-use Rattle.std.proofs.Common.{◌≡◌, refl, List, [], ◌∷◌, length, Bool, true, arith, ap}
+use Rattle.std.proofs.Common.{◌≡◌, refl, List, [], ◌∷◌, length, true, arith, ap}
 use Rattle.std.specs.Prelude.{nat_lt}
 use Rattle.std.proofs.lemmas.Bool.Decides.{nat_tests}
 use Rattle.rv_event.specs.Past.{mode_by}

@@ -2,6 +2,7 @@ pub mod Found
 pub mod Replayed
 pub mod Suspensions
 pub mod Seen
+pub mod Numbered
 pub mod Aimed
 pub mod Attached
 pub mod Facts

@@ -1,5 +1,5 @@
 pub mod Stay
-pub mod Numbered
+pub mod Indexed
 pub mod Handlers
 pub mod Parameters
 pub mod Drafting

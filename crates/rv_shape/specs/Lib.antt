@@ -10,5 +10,6 @@ pub mod Items
 pub mod ShapeText
 pub mod Drafts
 pub mod Names
+pub mod Places
 pub mod Found
 pub mod Printed

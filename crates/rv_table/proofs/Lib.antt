@@ -2,3 +2,4 @@ mod Marks
 mod Firsts
 mod Zips
 mod Looks
+mod Grown

@@ -1,6 +1,6 @@
 //! The rows of all callers, and of all operations.
 
-ghost use Rattle.std.specs.Prelude.{◌≡◌, ◌≤◌, ◌++◌, ◌∷◌, [], List, length, map, IfOk, OnOk};
+ghost use Rattle.std.specs.Prelude.{◌≡◌, ◌≤◌, ◌++◌, ◌∷◌, [], ℕ, List, length, map, IfOk, OnOk};
 ghost use Rattle.std.specs.List.{AllZip};
 ghost use Rattle.std.specs.Option.{option_copied};
 ghost use Rattle.rv_access.specs.Limits.{most_lines};
@@ -33,6 +33,14 @@ impl Model for ObjectRows {
 }
 
 impl ObjectRows {
+    // A copy. Err where memory was refused.
+    fn copy(&self, alloc: Global) -> Result<ObjectRows, AllocError>
+        ensures { IfOk result (λ copy. copy ≡ self.now) }
+    {
+        let rows = copy_rows(alloc, &self.rows)?;
+        Ok(ObjectRows { rows })
+    }
+
     /// The row of an operation, by its number from 1, or `None` where there is none.
     pub fn row(&self, operation: usize) -> Option<&Row>
         ensures { option_copied result ≡ numbered self.now operation }
@@ -58,6 +66,33 @@ pub(crate) fn caller_rows(
     for shape in shapes {
         rows.push(caller_row(list, shape.name()))?;
     }
+    Ok(rows)
+}
+
+// A copy of rows. Err where memory was refused.
+fn copy_rows(alloc: Global, rows: &[Row]) -> Result<Vec<Row>, AllocError>
+    ensures { IfOk result (λ copy. copy.items ≡ rows.now) }
+{
+    let mut copy = Vec::new(alloc);
+    for row in rows {
+        copy.push(*row)?;
+    }
+    Ok(copy)
+}
+
+/// Rows of callers, with that of one more unit behind them. Err where memory was refused.
+pub(crate) fn callers_with(
+    alloc: Global,
+    rows: &[Row],
+    list: &AccessList,
+    shape: &UnitShape,
+) -> Result<Vec<Row>, AllocError>
+    requires { length list.now ≤ most_lines }
+    ensures { (names : List (List ℕ)) → AllZip (IsCaller list.now) names rows.now
+        → IfOk result (λ more. AllZip (IsCaller list.now) (names ++ shape.now.name ∷ []) more.items) }
+{
+    let mut rows = copy_rows(alloc, rows)?;
+    rows.push(caller_row(list, shape.name()))?;
     Ok(rows)
 }
 
@@ -146,5 +181,32 @@ pub(crate) fn object_rows(
     for shape in shapes {
         add_unit(alloc, list, shape, &mut rows)?;
     }
+    Ok(rows)
+}
+
+// A copy of the rows of objects. Err where memory was refused.
+fn copy_objects(alloc: Global, rows: &[ObjectRows]) -> Result<Vec<ObjectRows>, AllocError>
+    ensures { IfOk result (λ copy. copy.items ≡ rows.now) }
+{
+    let mut copy = Vec::new(alloc);
+    for each in rows {
+        copy.push(each.copy(alloc)?)?;
+    }
+    Ok(copy)
+}
+
+/// Rows of objects, with those of one more unit behind them. Err where memory was refused.
+pub(crate) fn objects_with(
+    alloc: Global,
+    rows: &[ObjectRows],
+    list: &AccessList,
+    shape: &UnitShape,
+) -> Result<Vec<ObjectRows>, AllocError>
+    requires { length list.now ≤ most_lines }
+    ensures { (before : List UnitObject) → AllZip (AreSites list.now) before rows.now
+        → IfOk result (λ more. AllZip (AreSites list.now) (before ++ objects_of shape.now) more.items) }
+{
+    let mut rows = copy_objects(alloc, rows)?;
+    add_unit(alloc, list, shape, &mut rows)?;
     Ok(rows)
 }

@@ -1,6 +1,6 @@
 //! The table of a list over the units that are loaded.
 
-ghost use Rattle.std.specs.Prelude.{◌≡◌, ◌≤◌, ◌<◌, List, length, IfOk, slice_get};
+ghost use Rattle.std.specs.Prelude.{◌≡◌, ◌≤◌, ◌<◌, ◌++◌, ◌∷◌, [], List, length, IfOk, slice_get};
 ghost use Rattle.std.specs.Option.{option_copied};
 ghost use Rattle.rv_access.specs.Limits.{most_lines};
 ghost use Rattle.rv_access.specs.Words.{Words};
@@ -8,9 +8,10 @@ ghost use Rattle.rv_shape.specs.Shape.{Shape};
 ghost use Rattle.rv_table.specs.Tables.{IsTable, allowed, decided, granted, row_of};
 
 use crate::row::{Row, allowing_row, deciding, is_marked};
-use crate::rows::{ObjectRows, caller_rows, object_rows};
+use crate::rows::{ObjectRows, caller_rows, callers_with, object_rows, objects_with};
 use rv_access::{AccessList, MOST_LINES};
 use rv_shape::catalogue::Catalogue;
+use rv_shape::shape::UnitShape;
 use std::alloc::{AllocError, Global};
 use std::marker::Model;
 
@@ -50,6 +51,25 @@ impl Table {
             objects: object_rows(alloc, list, shapes)?,
             allowing: allowing_row(list),
             lines: list.len(),
+        })
+    }
+
+    /// The table of the same list over one more unit, the last. Err where memory was refused.
+    pub fn with_unit(
+        &self,
+        alloc: Global,
+        list: &AccessList,
+        shape: &UnitShape,
+    ) -> Result<Table, AllocError>
+        requires { length list.now ≤ most_lines }
+        ensures { (shapes : List Shape) → IsTable list.now shapes self.now
+            → IfOk result (λ t. IsTable list.now (shapes ++ shape.now ∷ []) t) }
+    {
+        Ok(Table {
+            callers: callers_with(alloc, &self.callers, list, shape)?,
+            objects: objects_with(alloc, &self.objects, list, shape)?,
+            allowing: self.allowing,
+            lines: self.lines,
         })
     }
 

@@ -13,11 +13,10 @@ ghost use Rattle.rv_host.specs.Seen.{IsSeen, history_of};
 ghost use Rattle.rv_shape.specs.Catalogue as catalogues;
 
 use crate::facts::{CallFacts, SuspensionFacts};
-use crate::past::counts::count_lists;
 use crate::rules::blocking::{is_call, is_holding, is_inside, may_block, waits};
 use crate::rules::ceiling::is_above;
 use crate::rules::exclusion::{is_busy, is_closed};
-use crate::rules::grant::{decide_call, subject};
+use crate::rules::grant::decide_call;
 use crate::rules::queue::is_full;
 use crate::seen::Seen;
 use rv_event::entry::{Answer, Request};
@@ -53,7 +52,7 @@ fn call_facts(
     let inside = is_inside(seen, actor);
     let holding = is_holding(seen, actor, seen.object);
     CallFacts {
-        version: count_lists(seen.entries),
+        version: seen.lists.len(),
         line,
         scalars: seen.scan.scalars(),
         denied: !granted,
@@ -86,7 +85,7 @@ fn suspension_facts(
     let inside = is_inside(seen, actor);
     let waited = seen.scan.waiter().is_some();
     SuspensionFacts {
-        version: count_lists(seen.entries),
+        version: seen.lists.len(),
         line,
         denied: !granted,
         blocking: inside && may_block,
@@ -108,7 +107,7 @@ pub fn due_call(
     ensures { result ≡ due.due_call (history_of seen.now) actor request.now object (catalogues.target seen.now.catalogue.now object operation) }
 {
     let callee = seen.catalogue.callee(object, operation);
-    let decided = decide_call(seen, subject(seen, actor), &callee);
+    let decided = decide_call(seen, actor, object, operation, &callee);
     let asked = (actor, is_call(request), may_block(request, &callee));
     match callee {
         Callee::Nowhere => Answer::Misuse,

@@ -7,7 +7,7 @@ ghost use Rattle.rv_host.specs.Seen.{IsSeen, history_of};
 
 use crate::past::counts::is_halted;
 use crate::rules::exclusion::opens_at;
-use crate::rules::grant::{decide_call, subject};
+use crate::rules::grant::decide_call;
 use crate::rules::queue::head_call;
 use crate::seen::Seen;
 use rv_event::entry::{Answer, Body, Next};
@@ -23,7 +23,7 @@ fn serve(seen: &Seen, head: Option<Body>) -> Next
         return Next::Nothing;
     };
     let callee = seen.catalogue.callee(call.object, call.operation);
-    let (granted, line) = decide_call(seen, subject(seen, call.actor), &callee);
+    let (granted, line) = decide_call(seen, call.actor, call.object, call.operation, &callee);
     if granted {
         Next::HandedTo(call.actor)
     } else {

@@ -35,7 +35,7 @@ pub fn delay_facts(seen: &Seen, actor: usize, until: i64) -> DelayFacts
     ensures over { result.over ≡ int_le until (pos (past.clock (history_of seen.now).past)) }
 {
     DelayFacts {
-        version: count_lists(seen.entries),
+        version: seen.lists.len(),
         blocking: is_inside(seen, actor),
         over: until <= time(seen),
     }

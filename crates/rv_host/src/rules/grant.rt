@@ -1,48 +1,49 @@
-//! The list in force: for whom an actor calls, and whether that is granted.
+//! The list in force: for whom an actor calls, and whether that is granted, by the table of the list.
 
-ghost use Rattle.std.specs.Prelude.{◌≡◌};
-ghost use Rattle.rv_access.specs.Lines.{decides, grants};
-ghost use Rattle.rv_history.specs.History.{last_list};
+ghost use Rattle.std.specs.Prelude.{◌≡◌, [], Some};
+ghost use Rattle.rv_history.specs.History.{force, last_list};
 ghost use Rattle.rv_history.specs.Rules as rules;
 ghost use Rattle.rv_history.specs.Subject as subjects;
+ghost use Rattle.rv_host.specs.Numbered.{IsNumber};
 ghost use Rattle.rv_host.specs.Seen.{IsSeen, history_of};
 ghost use Rattle.rv_shape.specs.Catalogue as catalogues;
 ghost use Rattle.rv_shape.specs.Readers.{target_of};
-ghost use Rattle.rv_text.specs.Names.{dotted};
+ghost use Rattle.rv_table.specs.Tables.{decided_at, granted_at};
 
 use crate::past::bodies::innermost_of;
 use crate::seen::Seen;
 use rv_access::{AccessList, decide};
-use rv_shape::actor::{Actor, Callee};
+use rv_shape::actor::{Callee, FIRST_TASK};
 use rv_shape::catalogue::Catalogue;
 use rv_shape::suspension::SuspensionOperation;
 
-// The home of an actor: its unit, or `Interrupts`.
-fn home(catalogue: &Catalogue, actor: usize) -> &str
-    ensures { result.now ≡ subjects.home (catalogues.who catalogue.now actor) }
+// The number of the home of an actor: of its unit, or 0 for `Interrupts`; `None` where it has none.
+#[tactic(auto, using(crate::proofs::Tabled::operator_number, crate::proofs::Tabled::line_number, crate::proofs::Tabled::task_number))]
+fn home(catalogue: &Catalogue, actor: usize) -> Option<usize>
+    ensures { IsNumber catalogue.now (subjects.home (catalogues.who catalogue.now actor)) result }
 {
-    match catalogue.who(actor) {
-        Actor::Operator => "",
-        Actor::Line(_) => "Interrupts",
-        Actor::Task(unit, _) => unit.name(),
-        Actor::Nobody => "",
+    if actor == 0 {
+        return None;
     }
+    if actor < FIRST_TASK {
+        return Some(0);
+    }
+    catalogue.unit_of_task(actor)
 }
 
-// The unit of an object.
-fn unit_at(catalogue: &Catalogue, object: usize) -> &str
-    ensures { result.now ≡ subjects.unit_at (catalogues.place catalogue.now object) }
+// The number of the unit of an object.
+#[tactic(auto, using(crate::proofs::Tabled::object_number))]
+fn unit_at(catalogue: &Catalogue, object: usize) -> Option<usize>
+    ensures { IsNumber catalogue.now (subjects.unit_at (catalogues.place catalogue.now object)) result }
 {
-    match catalogue.object(object) {
-        None => "",
-        Some((unit, _)) => unit.name(),
-    }
+    catalogue.unit_of_object(object)
 }
 
-/// The subject of a call: the unit of the innermost object that the actor holds, else its home.
-pub fn subject<'a>(seen: &Seen<'a>, actor: usize) -> &'a str
+// The number of the subject of a call: of the unit of the innermost object that the actor holds, else
+// of its home.
+fn subject(seen: &Seen, actor: usize) -> Option<usize>
     requires { IsSeen seen.now }
-    ensures { result.now ≡ subjects.subject (history_of seen.now) actor }
+    ensures { IsNumber seen.now.catalogue.now (subjects.subject (history_of seen.now) actor) result }
 {
     match innermost_of(seen.scan.bodies(), actor) {
         None => home(seen.catalogue, actor),
@@ -50,20 +51,27 @@ pub fn subject<'a>(seen: &Seen<'a>, actor: usize) -> &'a str
     }
 }
 
-/// What the last of the lists decides of a call: whether it grants it, and by which line.
-pub fn decide_by(
-    lists: &[AccessList],
-    caller: &str,
-    unit: &str,
-    object: &str,
-    operation: &str,
-) -> (bool, usize)
-    ensures granted { result.0 ≡ grants (last_list lists.now) caller.now (dotted unit.now object.now) operation.now }
-    ensures line { result.1 ≡ decides (last_list lists.now) caller.now (dotted unit.now object.now) operation.now }
+// What the last of the lists decides of a call by a caller without a home. No request of such an
+// actor fits: the list is searched, since the table has no row for it.
+fn decide_nameless(lists: &[AccessList], callee: &Callee) -> (bool, usize)
+    ensures granted { result.0 ≡ granted_at (last_list lists.now) (Some []) (target_of callee.now) }
+    ensures line { result.1 ≡ decided_at (last_list lists.now) (Some []) (target_of callee.now) }
 {
-    match lists.last() {
-        Some(list) => decide(list, caller, unit, object, operation),
-        None => (false, 0),
+    let Some(list) = lists.last() else {
+        return (false, 0);
+    };
+    match callee {
+        Callee::Nowhere => (false, 0),
+        Callee::Protected(unit, object, operation) => {
+            decide(list, "", unit.name(), object.name(), operation.name())
+        }
+        Callee::Suspension(unit, object, operation) => decide(
+            list,
+            "",
+            unit.name(),
+            object.name(),
+            suspension_name(*operation),
+        ),
     }
 }
 
@@ -79,26 +87,42 @@ fn suspension_name(operation: SuspensionOperation) -> &'static str
     }
 }
 
-/// Whether the list in force grants a call to a subject, and by which line.
-pub fn decide_call(seen: &Seen, caller: &str, callee: &Callee) -> (bool, usize)
-    ensures granted { result.0 ≡ rules.granted (history_of seen.now) caller.now (target_of callee.now) }
-    ensures line { result.1 ≡ rules.decided (history_of seen.now) caller.now (target_of callee.now) }
+// What the list in force decides of a call by an actor, of what there is at these numbers.
+fn looked_up(
+    seen: &Seen,
+    actor: usize,
+    object: usize,
+    operation: usize,
+    callee: &Callee,
+) -> (bool, usize)
+    requires seen { IsSeen seen.now }
+    requires called { target_of callee.now ≡ catalogues.target seen.now.catalogue.now object operation }
+    ensures granted { result.0 ≡ granted_at (force (history_of seen.now)) (Some (subjects.subject (history_of seen.now) actor)) (target_of callee.now) }
+    ensures line { result.1 ≡ decided_at (force (history_of seen.now)) (Some (subjects.subject (history_of seen.now) actor)) (target_of callee.now) }
+{
+    match subject(seen, actor) {
+        Some(unit) => seen.table.look(unit, object, operation),
+        None => decide_nameless(seen.lists, callee),
+    }
+}
+
+/// Whether the list in force grants a call to an actor, of what there is at these numbers, and by which
+/// line.
+pub fn decide_call(
+    seen: &Seen,
+    actor: usize,
+    object: usize,
+    operation: usize,
+    callee: &Callee,
+) -> (bool, usize)
+    requires seen { IsSeen seen.now }
+    requires called { target_of callee.now ≡ catalogues.target seen.now.catalogue.now object operation }
+    ensures granted { result.0 ≡ rules.granted (history_of seen.now) (subjects.subject (history_of seen.now) actor) (target_of callee.now) }
+    ensures line { result.1 ≡ rules.decided (history_of seen.now) (subjects.subject (history_of seen.now) actor) (target_of callee.now) }
 {
     match callee {
         Callee::Nowhere => (true, 0),
-        Callee::Protected(unit, object, operation) => decide_by(
-            seen.lists,
-            caller,
-            unit.name(),
-            object.name(),
-            operation.name(),
-        ),
-        Callee::Suspension(unit, object, operation) => decide_by(
-            seen.lists,
-            caller,
-            unit.name(),
-            object.name(),
-            suspension_name(*operation),
-        ),
+        Callee::Protected(_, _, _) => looked_up(seen, actor, object, operation, callee),
+        Callee::Suspension(_, _, _) => looked_up(seen, actor, object, operation, callee),
     }
 }
