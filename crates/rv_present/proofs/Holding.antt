@@ -1,9 +1,11 @@
 -- What an actor holds, as a body starts or ends.
-use Rattle.std.proofs.Common.{◌≡◌, ◌≢◌, ℕ, ◌<◌, List, [], ◌∷◌, length, get_or, set, map, drop, Some, None, Option, Bool, true, false, cond, ap, sym, ◌∙◌, refl}
-use Rattle.std.specs.Prelude.{◌==◌, slice_get}
-use Rattle.std.specs.List.{filter}
+use Rattle.std.proofs.Common.{◌≡◌, ◌≢◌, ℕ, ◌<◌, List, [], ◌∷◌, length, get_or, set, map, max, drop, Some, None, Option, Bool, true, false, cond, ap, sym, ◌∙◌, refl}
+use Rattle.std.specs.Prelude.{◌==◌, ◌||◌, slice_get}
+use Rattle.std.specs.List.{filter, list_any}
+use Rattle.rv_prio.specs.Priority.{greatest, active_priority}
 use Rattle.rv_prio.specs.declared.held.Held.{Held}
 use Rattle.rv_shape.specs.Shape.{Shape}
+use Rattle.rv_shape.specs.Catalogue.{ceiling}
 use Rattle.rv_event.specs.Past.{without}
 use Rattle.rv_event.specs.declared.entry.Body.{Body}
 use Rattle.rv_event.proofs.Matching.{by, filter_without, filter_others}
@@ -65,3 +67,13 @@ no_body shapes (b ∷ bs) e = absurd (cc)
 
 pub no_inner : (shapes : List Shape) (a : ℕ) (bs : List Body) → slice_get (holdings shapes a bs) 0 ≡ None → slice_get (filter (by a) bs) 0 ≡ None
 no_inner shapes a bs e = ap (λ cs. slice_get cs 0) (no_body shapes (filter (by a) bs) e)
+
+-- What a stack says of what its actor holds
+
+pub holds_is : (shapes : List Shape) (object : ℕ) (bs : List Body) → list_any (λ held. held.object == object) (map (held_of shapes) bs) ≡ list_any (λ b. b.object == object) bs
+holds_is shapes object [] = refl
+holds_is shapes object (b ∷ bs) = ap (λ t. (b.object == object) || t) (holds_is shapes object bs)
+
+pub active_is : (shapes : List Shape) (base : ℕ) (bs : List Body) → active_priority base (map (held_of shapes) bs) ≡ greatest base (map (λ b. ceiling shapes b.object) bs)
+active_is shapes base [] = refl
+active_is shapes base (b ∷ bs) = ap (λ n. max (ceiling shapes b.object) n) (active_is shapes base bs)

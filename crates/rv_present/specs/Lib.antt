@@ -5,3 +5,7 @@ pub mod Bodies
 pub mod Known
 pub mod Stances
 pub mod Calls
+pub mod Modes
+pub mod Counts
+pub mod Loads
+pub mod Present

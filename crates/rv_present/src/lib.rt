@@ -5,7 +5,12 @@
 
 mod bodies;
 mod calls;
+mod counts;
 mod entries;
+mod new_objects;
 mod objects;
+mod present;
 mod stacks;
 mod stances;
+
+pub use present::Present;
