@@ -89,7 +89,7 @@ kind_writes false a before given = refl
 
 pub end_scalars : (shapes : List Shape) (bs : List Body) (objects : List ObjectView) (a : ℕ) (b : Body) (x : ObjectView) (given : List ℤ) → b.object < length objects → slice_get (filter (by a) bs) 0 ≡ Some b →
     x.scalars ≡ scalars_after (action_of shapes b) (get_or objects b.object idle).scalars given → (o : ℕ) →
-    (get_or (set objects b.object x) o idle).scalars ≡ left_by shapes o bs (Some (a, given)) (get_or objects o idle).scalars
+    (get_or (set objects b.object x) o idle).scalars ≡ left_by shapes o bs a given (get_or objects o idle).scalars
 end_scalars shapes bs objects a b x given some inner is o = by_test (b.object == o) refl ∙ sym (ap (λ (q : Option Body). if writes shapes o q then given else (get_or objects o idle).scalars) inner)
   where
     by_test : (t : Bool) → (b.object == o) ≡ t → (get_or (set objects b.object x) o idle).scalars ≡ (if (if t then not (shares (target shapes b.object b.operation)) else false) then given else (get_or objects o idle).scalars)

@@ -1,14 +1,14 @@
 -- The bodies under way, by actor and by object (own).
-use Rattle.std.specs.Prelude.{◌≡◌, ℕ, ◌<◌, ◌^◌, ◌==◌, false, List, [], length, Option, Some, slice_index_or, ℤ}
+use Rattle.std.specs.Prelude.{◌≡◌, ℕ, ◌<◌, ◌^◌, ◌==◌, false, List, [], length, Option, Some, slice_index_or}
 use Rattle.std.specs.List.{filter}
 use Rattle.rv_prio.specs.declared.held.Held.{Held}
 use Rattle.rv_object.specs.Actions.{ObjectView, excludes}
 use Rattle.rv_shape.specs.Shape.{Shape}
-use Rattle.rv_event.specs.Past.{closed}
+use Rattle.rv_event.specs.Past.{closed, ended}
 use Rattle.rv_event.specs.declared.entry.Body.{Body}
 use Rattle.rv_history.specs.Orderly.{Each}
 use Rattle.rv_present.specs.declared.bodies.Bodies.{Bodies}
-use Rattle.rv_present.specs.Ends.{ender}
+use Rattle.rv_event.specs.declared.entry.Entry.{Entry}
 use Rattle.rv_present.specs.Holdings.{holdings, actions_on, action_of, idle}
 
 -- the stack of each actor is what these bodies of its hold
@@ -40,8 +40,7 @@ pub record CanStart (shapes : List Shape) (bodies : List Body) (actors places : 
   pub few : length bodies < 2 ^ 32
 
 -- these bodies let one end and one start
-pub record IsReady (shapes : List Shape) (bodies : List Body) (found : Bodies) (ending : Option (ℕ × List ℤ)) (start : Option Body) : Type 0 where
+pub record IsReady (shapes : List Shape) (bodies : List Body) (found : Bodies) (entry : Entry) (start : Option Body) : Type 0 where
   pub sound : IsBodies shapes bodies found
-  pub ends : (actor : ℕ) → ender ending ≡ Some actor → actor < length found.stacks
   pub starts : (body : Body) → start ≡ Some body →
-      CanStart shapes (closed (ender ending) bodies) (length found.stacks) (length found.objects) body
+      CanStart shapes (closed (ended entry) bodies) (length found.stacks) (length found.objects) body

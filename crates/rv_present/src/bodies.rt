@@ -5,7 +5,7 @@ ghost use Rattle.rv_event.specs.Past as past;
 ghost use Rattle.rv_event.specs.declared.entry.Body.{Body};
 ghost use Rattle.rv_object.specs.Actions.{excludes};
 ghost use Rattle.rv_present.specs.Bodies.{IsBodies, IsReady};
-ghost use Rattle.rv_present.specs.Ends.{ender, left_by};
+ghost use Rattle.rv_present.specs.Ends.{left_after, left_by};
 ghost use Rattle.rv_present.specs.Holdings.{action_of, idle};
 ghost use Rattle.rv_present.specs.Limits.{most_actors, most_places};
 ghost use Rattle.rv_shape.specs.Catalogue as catalogues;
@@ -13,7 +13,7 @@ ghost use Rattle.rv_shape.specs.Shape.{Shape};
 
 use crate::objects::Objects;
 use crate::stacks::Stacks;
-use rv_event::entry::Body;
+use rv_event::entry::{Body, Entry, Request};
 use rv_object::Action;
 use rv_prio::Held;
 use rv_shape::catalogue::Catalogue;
@@ -76,19 +76,14 @@ impl Bodies {
     }
 
     /// What an entry ends and starts.
-    pub fn note(
-        &mut self,
-        catalogue: &Catalogue,
-        ending: Option<(usize, Scalars)>,
-        start: Option<Body>,
-    )
-        requires { (bodies : List Body) × IsReady catalogue.now bodies self.old ending start }
+    pub fn note(&mut self, catalogue: &Catalogue, entry: &Entry, start: Option<Body>)
+        requires { (bodies : List Body) × IsReady catalogue.now bodies self.old entry.now start }
         ensures same { (length self.new.stacks ≡ length self.old.stacks) × (length self.new.objects ≡ length self.old.objects) }
-        ensures kept { (bodies : List Body) → IsBodies catalogue.now bodies self.old → IsBodies catalogue.now (past.begun start (past.closed (ender ending) bodies)) self.new }
+        ensures kept { (bodies : List Body) → IsBodies catalogue.now bodies self.old → IsBodies catalogue.now (past.begun start (past.closed (past.ended entry.now) bodies)) self.new }
         ensures scalars { (bodies : List Body) → IsBodies catalogue.now bodies self.old → (o : ℕ) →
-            (slice_index_or self.new.objects o idle).scalars ≡ left_by catalogue.now o bodies ending (slice_index_or self.old.objects o idle).scalars }
+            (slice_index_or self.new.objects o idle).scalars ≡ left_after catalogue.now o bodies entry.now (slice_index_or self.old.objects o idle).scalars }
     {
-        self.end_if(catalogue, ending);
+        self.end_if(catalogue, entry);
         if let Some(body) = start {
             self.begin(catalogue, body);
         }
@@ -133,16 +128,18 @@ impl Bodies {
     }
 
     // What an entry ends.
-    fn end_if(&mut self, catalogue: &Catalogue, ending: Option<(usize, Scalars)>)
-        requires actor { (a : ℕ) → ender ending ≡ Some a → a < length self.old.stacks }
-        requires sound { (bodies : List Body) × IsBodies catalogue.now bodies self.old }
+    fn end_if(&mut self, catalogue: &Catalogue, entry: &Entry)
+        requires { (bodies : List Body) × IsBodies catalogue.now bodies self.old }
         ensures same { (length self.new.stacks ≡ length self.old.stacks) × (length self.new.objects ≡ length self.old.objects) }
-        ensures kept { (bodies : List Body) → IsBodies catalogue.now bodies self.old → IsBodies catalogue.now (past.closed (ender ending) bodies) self.new }
+        ensures kept { (bodies : List Body) → IsBodies catalogue.now bodies self.old → IsBodies catalogue.now (past.closed (past.ended entry.now) bodies) self.new }
         ensures scalars { (bodies : List Body) → IsBodies catalogue.now bodies self.old → (o : ℕ) →
-            (slice_index_or self.new.objects o idle).scalars ≡ left_by catalogue.now o bodies ending (slice_index_or self.old.objects o idle).scalars }
+            (slice_index_or self.new.objects o idle).scalars ≡ left_after catalogue.now o bodies entry.now (slice_index_or self.old.objects o idle).scalars }
     {
-        if let Some(last) = ending {
-            self.end(catalogue, last.0, last.1);
+        match entry {
+            Entry::Asked(actor, Request::Complete(given, _), _) => {
+                self.end(catalogue, *actor, given);
+            }
+            _ => {}
         }
     }
 
@@ -173,13 +170,12 @@ impl Bodies {
     }
 
     // An actor ends its innermost body, if it is in one.
-    fn end(&mut self, catalogue: &Catalogue, actor: usize, given: Scalars)
-        requires actor { actor < length self.old.stacks }
-        requires sound { (bodies : List Body) × IsBodies catalogue.now bodies self.old }
+    fn end(&mut self, catalogue: &Catalogue, actor: usize, given: &Scalars)
+        requires { (bodies : List Body) × IsBodies catalogue.now bodies self.old }
         ensures same { (length self.new.stacks ≡ length self.old.stacks) × (length self.new.objects ≡ length self.old.objects) }
         ensures kept { (bodies : List Body) → IsBodies catalogue.now bodies self.old → IsBodies catalogue.now (past.without actor bodies) self.new }
         ensures scalars { (bodies : List Body) → IsBodies catalogue.now bodies self.old → (o : ℕ) →
-            (slice_index_or self.new.objects o idle).scalars ≡ left_by catalogue.now o bodies (Some (actor, given)) (slice_index_or self.old.objects o idle).scalars }
+            (slice_index_or self.new.objects o idle).scalars ≡ left_by catalogue.now o bodies actor given.now (slice_index_or self.old.objects o idle).scalars }
     {
         let Some(held) = self.stacks.of(actor).innermost() else {
             return;

@@ -72,14 +72,14 @@ impl Objects {
     }
 
     /// A body ends, and leaves these scalars if it is exclusive.
-    pub fn end(&mut self, object: usize, action: Action, scalars: Scalars)
+    pub fn end(&mut self, object: usize, action: Action, scalars: &Scalars)
         requires known { object < length self.old }
         requires under_way { is_under_way action (slice_index_or self.old object idle).actions ≡ true }
         ensures alike { (slice_index_or self.old object idle).actions ≡ replicate (length (slice_index_or self.old object idle).actions) action }
         ensures newest { (slice_index_or self.old object idle).actions ≡ action ∷ drop 1 (slice_index_or self.old object idle).actions }
-        ensures new { self.new ≡ slice_set self.old object (record { actions = drop 1 (slice_index_or self.old object idle).actions; scalars = scalars_after action (slice_index_or self.old object idle).scalars scalars }) }
+        ensures new { self.new ≡ slice_set self.old object (record { actions = drop 1 (slice_index_or self.old object idle).actions; scalars = scalars_after action (slice_index_or self.old object idle).scalars scalars.now }) }
     {
-        self.items[object].finish(action, scalars);
+        self.items[object].finish(action, *scalars);
     }
 
     /// Puts a new object, with its first scalars and nobody in it.

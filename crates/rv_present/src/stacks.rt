@@ -68,7 +68,7 @@ impl Stacks {
 
     /// An actor ends its innermost body.
     pub fn end(&mut self, actor: usize)
-        requires known { actor < length self.old }
+        requires { actor < length self.old }
         ensures { self.new ≡ slice_set self.old actor (drop 1 (slice_index_or self.old actor [])) }
     {
         let _ = self.items[actor].pop();

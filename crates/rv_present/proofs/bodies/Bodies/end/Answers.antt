@@ -25,7 +25,7 @@ returns-in_default-clause-kept c = λ bs k.
 
 pub returns-in_default-clause-scalars : goal.returns-in_default-clause-scalars
 returns-in_default-clause-scalars c = λ bs k o.
-    sym (ap (λ (q : Option Body). if writes c.args.catalogue.now o q then c.args.given else (get_or c.args.self.now.objects o idle).scalars)
+    sym (ap (λ (q : Option Body). if writes c.args.catalogue.now o q then c.args.given.now else (get_or c.args.self.now.objects o idle).scalars)
     (no_inner c.args.catalogue.now c.args.actor bs
     (ap (λ (hs : List Held). slice_get hs 0) (sym (c.of.ensures ∙ k.stacks c.args.actor)) ∙ sym c.innermost.ensures ∙ none_is c.innermost.result c.in_default.not-Some)))
 
@@ -35,16 +35,25 @@ inner c bs k =
     inner_body c.args.catalogue.now c.args.actor bs c.in-Some.held
     (ap (λ (hs : List Held). slice_get hs 0) (sym (c.of.ensures ∙ k.stacks c.args.actor)) ∙ sym c.innermost.ensures ∙ c.in-Some.is)
 
+pub end-requires : goal.end-requires
+end-requires c =
+    let bs = c.requires.0 in
+    let k = c.requires.1 in
+    let inner : slice_get (filter (by c.args.actor) bs) 0 ≡ Some (body_of c.args.actor c.in-Some.held) =
+    inner_body c.args.catalogue.now c.args.actor bs c.in-Some.held
+    (ap (λ (hs : List Held). slice_get hs 0) (sym (c.of.ensures ∙ k.stacks c.args.actor)) ∙ sym c.innermost.ensures ∙ c.in-Some.is) in
+    (each_inner (IsKnown (length c.args.self.now.stacks) (length c.args.self.now.objects)) c.args.actor (body_of c.args.actor c.in-Some.held) bs inner k.known).0
+
 pub end-requires-2-clause-known : goal.end-requires-2-clause-known
 end-requires-2-clause-known c =
-    let bs = c.requires.sound.0 in
-    let k = c.requires.sound.1 in
+    let bs = c.requires.0 in
+    let k = c.requires.1 in
     (each_inner (IsKnown (length c.args.self.now.stacks) (length c.args.self.now.objects)) c.args.actor (body_of c.args.actor c.in-Some.held) bs (inner c bs k) k.known).1
 
 pub end-requires-2-clause-under_way : goal.end-requires-2-clause-under_way
 end-requires-2-clause-under_way c =
-    let bs = c.requires.sound.0 in
-    let k = c.requires.sound.1 in
+    let bs = c.requires.0 in
+    let k = c.requires.1 in
     let shapes = c.args.catalogue.now in
     let b : Body = body_of c.args.actor c.in-Some.held in
     ap (λ (x : Action). is_under_way x (get_or c.args.self.now.objects b.object idle).actions) c.action_by-action.ensures
@@ -57,12 +66,12 @@ returns-clause-kept c = λ bs k.
     let a = c.args.actor in
     let b : Body = body_of a c.in-Some.held in
     let was : ObjectView = get_or f.objects b.object idle in
-    let x : ObjectView = record { actions = drop 1 was.actions; scalars = scalars_after c.action_by-action.result was.scalars c.args.given } in
+    let x : ObjectView = record { actions = drop 1 was.actions; scalars = scalars_after c.action_by-action.result was.scalars c.args.given.now } in
     let in_it : slice_get (filter (by a) bs) 0 ≡ Some b =
     inner_body shapes a bs c.in-Some.held (ap (λ (hs : List Held). slice_get hs 0) (sym (c.of.ensures ∙ k.stacks a)) ∙ sym c.innermost.ensures ∙ c.in-Some.is) in
-    let some : b.object < length f.objects = (each_inner (IsKnown (length f.stacks) (length f.objects)) a b bs in_it k.known).1 in
+    let there = each_inner (IsKnown (length f.stacks) (length f.objects)) a b bs in_it k.known in
     let acts : c.action_by-action.result ≡ action_of shapes b = c.action_by-action.ensures in
-    let kept = end_kept shapes bs f a b x c.requires.actor some in_it
+    let kept = end_kept shapes bs f a b x there.0 there.1 in_it
     (c.end-2.ensures.alike ∙ ap (λ (y : Action). replicate (length was.actions) y) acts) (c.end-2.ensures.newest ∙ ap (λ (y : Action). y ∷ drop 1 was.actions) acts) k in
     subst (λ (o : List ObjectView). IsBodies shapes (past.without a bs) (record { stacks = c.end.new.self; objects = o; number = f.number - 1 })) (sym c.end-2.ensures.new)
     (subst (λ (s : List (List Held)). IsBodies shapes (past.without a bs) (record { stacks = s; objects = set f.objects b.object x; number = f.number - 1 })) (sym c.end.ensures) kept)
@@ -74,9 +83,9 @@ returns-clause-scalars c = λ bs k o.
     let a = c.args.actor in
     let b : Body = body_of a c.in-Some.held in
     let was : ObjectView = get_or f.objects b.object idle in
-    let x : ObjectView = record { actions = drop 1 was.actions; scalars = scalars_after c.action_by-action.result was.scalars c.args.given } in
+    let x : ObjectView = record { actions = drop 1 was.actions; scalars = scalars_after c.action_by-action.result was.scalars c.args.given.now } in
     let in_it : slice_get (filter (by a) bs) 0 ≡ Some b =
     inner_body shapes a bs c.in-Some.held (ap (λ (hs : List Held). slice_get hs 0) (sym (c.of.ensures ∙ k.stacks a)) ∙ sym c.innermost.ensures ∙ c.in-Some.is) in
     let some : b.object < length f.objects = (each_inner (IsKnown (length f.stacks) (length f.objects)) a b bs in_it k.known).1 in
     ap (λ (xs : List ObjectView). (get_or xs o idle).scalars) c.end-2.ensures.new
-    ∙ end_scalars shapes bs f.objects a b x c.args.given some in_it (ap (λ (y : Action). scalars_after y was.scalars c.args.given) c.action_by-action.ensures) o
+    ∙ end_scalars shapes bs f.objects a b x c.args.given.now some in_it (ap (λ (y : Action). scalars_after y was.scalars c.args.given.now) c.action_by-action.ensures) o
