@@ -1,0 +1,19 @@
+use Rattle.rv_present.proofs.Growing.{load_grown}
+use Rattle.rv_present.proofs.present.Present.note_load.Goals as goal
+
+pub note-requires : goal.note-requires
+note-requires c =
+    let k = c.requires in
+    record {
+      capacity = k.capacity;
+      past = k.past;
+      lists = k.lists;
+      legal = k.legal;
+      least = k.least;
+      most = k.most;
+      is_present = load_grown k.capacity k.past c.args.catalogue.now k.lists c.args.self.now c.grow.new.self k.legal k.is_present c.grow.ensures;
+    }
+
+pub returns : goal.returns
+returns c = λ capacity past lists legal was.
+    c.note.ensures past (load_grown capacity past c.args.catalogue.now lists c.args.self.now c.grow.new.self legal was c.grow.ensures)

@@ -1,0 +1,32 @@
+use Rattle.std.proofs.Common.{◌≡◌, ◌+◌, ◌<◌, ◌∙◌, arith, ap}
+use Rattle.rv_event.specs.Past.{halted}
+use Rattle.rv_history.specs.Owed.{actors, dues, each, halt_due}
+use Rattle.rv_present.proofs.Owing.{dues_are, few_dues}
+use Rattle.rv_present.proofs.Ready.{few_bodies, little_sum}
+use Rattle.rv_present.proofs.present.Present.taken.Goals as goal
+
+all_little : (c : goal.After-halt_due-halt) → c.args.self.now.counts.entries + 1 + (c.args.self.now.bodies.number + c.dues-dues.result + c.halt_due-halt.result) < 4294967296
+all_little c =
+    let k = c.requires.1 in
+    let few = few_bodies k.capacity k.past c.requires.0 k.lists k.legal k.least in
+    let ss = c.args.self.now.stances in
+    little_sum c.args.self.now.bodies.number c.dues-dues.result c.halt_due-halt.result c.args.self.now.bodies.number c.args.self.now.counts.entries (omega arith)
+    (omega (arith, k.is_present.bodies_are.count, few, k.most))
+    (omega (arith, c.dues-dues.ensures, few_dues ss.stances ss.actors, k.is_present.actors_are, k.is_present.few_actors)) c.halt_due-halt.ensures.within
+    (omega (arith, k.is_present.counts_are.entries_are, few, k.most))
+
+pub overflow_add-result : goal.overflow_add-result
+overflow_add-result c = omega (arith, all_little c)
+
+pub overflow_add-result-2 : goal.overflow_add-result-2
+overflow_add-result-2 c = omega (arith, all_little c)
+
+pub overflow_add-result-3 : goal.overflow_add-result-3
+overflow_add-result-3 c = omega (arith, all_little c)
+
+pub returns : goal.returns
+returns c = λ shapes past was.
+    let ss = c.args.self.now.stances in
+    let due : c.dues-dues.result ≡ each (actors shapes) (dues past) = c.dues-dues.ensures ∙ dues_are past ss.stances ss.actors was.stances_are ∙ ap (λ n. each n (dues past)) was.actors_are in
+    let halt : c.halt_due-halt.result ≡ halt_due (halted past) = c.halt_due-halt.ensures.value ∙ ap halt_due was.counts_are.halted_is in
+    omega (arith, due, halt, was.counts_are.entries_are, was.bodies_are.count)

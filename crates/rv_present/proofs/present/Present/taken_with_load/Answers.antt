@@ -1,0 +1,42 @@
+use Rattle.std.proofs.Common.{◌≡◌, ◌+◌, ◌<◌, ◌∙◌, ◌∷◌, length, arith, ap}
+use Rattle.rv_event.specs.declared.entry.Entry.TheVariants.{Load}
+use Rattle.rv_event.specs.Past.{halted}
+use Rattle.rv_history.specs.History.{History}
+use Rattle.rv_history.specs.Owed.{actors, dues, each, halt_due}
+use Rattle.rv_present.proofs.Loading.{owed_loaded}
+use Rattle.rv_present.proofs.Owing.{dues_are}
+use Rattle.rv_present.proofs.Ready.{few_bodies, little_sum}
+use Rattle.rv_present.proofs.present.Present.taken_with_load.Goals as goal
+
+all_little : (c : goal.After-halt_due_with-halt) → c.args.self.now.counts.entries + 1 + (c.args.self.now.bodies.number + c.dues_of-dues.result + c.halt_due_with-halt.result) < 4294967296
+all_little c =
+    let k = c.requires.stands in
+    let few = few_bodies k.capacity k.past c.args.catalogue.now k.lists k.legal k.least in
+    little_sum c.args.self.now.bodies.number c.dues_of-dues.result c.halt_due_with-halt.result c.args.self.now.bodies.number c.args.self.now.counts.entries (omega arith)
+    (omega (arith, k.is_present.bodies_are.count, few, k.most))
+    (omega (arith, c.dues_of-dues.ensures.within, c.actors.ensures.value, ap (λ ts. length ts) c.tasks.ensures, c.requires.few, k.is_present.actors_are)) c.halt_due_with-halt.ensures.within
+    (omega (arith, k.is_present.counts_are.entries_are, few, k.most))
+
+pub overflow_add-result : goal.overflow_add-result
+overflow_add-result c = omega (arith, all_little c)
+
+pub overflow_add-result-2 : goal.overflow_add-result-2
+overflow_add-result-2 c = omega (arith, all_little c)
+
+pub overflow_add-result-3 : goal.overflow_add-result-3
+overflow_add-result-3 c = omega (arith, all_little c)
+
+pub overflow_add-result-4 : goal.overflow_add-result-4
+overflow_add-result-4 c = omega (arith, all_little c)
+
+pub returns : goal.returns
+returns c = λ capacity past lists legal was.
+    let shapes = c.args.catalogue.now in
+    let h : History = record { capacity = capacity; past = past; shapes = shapes; lists = lists } in
+    let ss = c.args.self.now.stances in
+    let n : c.actors.result + length c.tasks.result.now ≡ actors shapes + length c.args.shape.now.tasks =
+    omega (arith, c.actors.ensures.value, was.actors_are, ap (λ ts. length ts) c.tasks.ensures) in
+    let due : c.dues_of-dues.result ≡ each (actors shapes + length c.args.shape.now.tasks) (dues (Load ∷ past)) =
+    c.dues_of-dues.ensures.value ∙ dues_are (Load ∷ past) ss.stances (c.actors.result + length c.tasks.result.now) was.stances_are ∙ ap (λ m. each m (dues (Load ∷ past))) n in
+    let halt : c.halt_due_with-halt.result ≡ halt_due (halted (Load ∷ past)) = c.halt_due_with-halt.ensures.value past was.counts_are.halted_is in
+    omega (arith, owed_loaded h c.args.shape.now legal, was.bodies_are.count, due, halt, was.counts_are.entries_are)

@@ -1,0 +1,11 @@
+pub mod Limits
+pub mod Holdings
+pub mod Ends
+pub mod Bodies
+pub mod Known
+pub mod Stances
+pub mod Calls
+pub mod Modes
+pub mod Counts
+pub mod Loads
+pub mod Present

@@ -1,0 +1,69 @@
+-- The present, and the history that it stands for (own).
+use Rattle.std.specs.Prelude.{◌≡◌, ℕ, ◌<◌, ◌≤◌, ◌^◌, List, ◌∷◌, length, slice_index_or}
+use Rattle.rv_access.specs.Words.{Words}
+use Rattle.rv_object.specs.Actions.{ObjectView}
+use Rattle.rv_shape.specs.Catalogue.{all_objects}
+use Rattle.rv_shape.specs.Shape.{Shape}
+use Rattle.rv_event.specs.Past.{under_way, scalars}
+use Rattle.rv_event.specs.declared.entry.Entry.{Entry}
+use Rattle.rv_event.specs.declared.entry.Entry.TheVariants.{Load}
+use Rattle.rv_history.specs.Legal.{IsLegal}
+use Rattle.rv_history.specs.Owed.{actors}
+use Rattle.rv_present.specs.declared.present.Present.{Present}
+use Rattle.rv_present.specs.Bodies.{IsBodies}
+use Rattle.rv_present.specs.Calls.{AreCalls}
+use Rattle.rv_present.specs.Counts.{AreCounts}
+use Rattle.rv_present.specs.Holdings.{idle}
+use Rattle.rv_present.specs.Limits.{most_actors, most_places}
+use Rattle.rv_present.specs.Stances.{AreStances}
+
+-- each object has its scalars (9.4)
+abbrev pub AreScalars : List Shape → List Entry → List ObjectView → Type 0
+AreScalars shapes past objects =
+    (object : ℕ) → (slice_index_or objects object idle).scalars ≡ scalars shapes object past
+
+-- the fields are what is so after these entries, with these units loaded
+pub record IsPresent (shapes : List Shape) (past : List Entry) (present : Present) : Type 0 where
+  pub bodies_are : IsBodies shapes (under_way shapes past) present.bodies
+  pub scalars_are : AreScalars shapes past present.bodies.objects
+  pub stances_are : AreStances past present.stances.stances
+  pub calls_are : AreCalls past present.calls
+  pub counts_are : AreCounts past present.counts
+  pub actors_are : present.stances.actors ≡ actors shapes
+  pub places_are : present.places ≡ length (all_objects shapes)
+  pub few_actors : actors shapes ≤ most_actors
+  pub few_objects : length (all_objects shapes) < most_places
+  pub stacks_long : length present.bodies.stacks ≡ most_actors
+  pub objects_long : length present.bodies.objects ≡ most_places
+  pub stances_long : length present.stances.stances ≡ most_actors
+  pub calls_long : length present.calls ≡ most_actors
+
+-- it is the present of a legal history of a capacity that hosts have
+pub record Stands (shapes : List Shape) (present : Present) : Type 0 where
+  pub capacity : ℕ
+  pub past : List Entry
+  pub lists : List (List Words)
+  pub legal : IsLegal capacity past shapes lists
+  pub least : 1 ≤ capacity
+  pub most : capacity ≤ 2 ^ 20
+  pub is_present : IsPresent shapes past present
+
+-- and the entry is the next of a legal history
+pub record IsNext (shapes : List Shape) (entry : Entry) (present : Present) : Type 0 where
+  pub capacity : ℕ
+  pub past : List Entry
+  pub lists : List (List Words)
+  pub legal : IsLegal capacity (entry ∷ past) shapes lists
+  pub least : 1 ≤ capacity
+  pub most : capacity ≤ 2 ^ 20
+  pub is_present : IsPresent shapes past present
+
+-- it is the present before the last of these units was loaded
+pub record IsBeforeLoad (shapes : List Shape) (present : Present) : Type 0 where
+  pub capacity : ℕ
+  pub past : List Entry
+  pub lists : List (List Words)
+  pub legal : IsLegal capacity (Load ∷ past) shapes lists
+  pub least : 1 ≤ capacity
+  pub most : capacity ≤ 2 ^ 20
+  pub is_present : IsPresent legal.0 past present

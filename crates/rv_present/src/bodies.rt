@@ -1,0 +1,188 @@
+//! The bodies under way, by actor and by object.
+
+ghost use Rattle.std.specs.Prelude.{◌≡◌, ◌<◌, ◌≤◌, ◌+◌, ◌∷◌, ◌^◌, List, [], ℕ, Some, false, length, slice_index_or, replicate, IfOk};
+ghost use Rattle.rv_event.specs.Past as past;
+ghost use Rattle.rv_event.specs.declared.entry.Body.{Body};
+ghost use Rattle.rv_object.specs.Actions.{excludes};
+ghost use Rattle.rv_present.specs.Bodies.{IsBodies, IsReady};
+ghost use Rattle.rv_present.specs.Ends.{left_after, left_by};
+ghost use Rattle.rv_present.specs.Holdings.{action_of, idle};
+ghost use Rattle.rv_present.specs.Limits.{most_actors, most_places};
+ghost use Rattle.rv_shape.specs.Catalogue as catalogues;
+ghost use Rattle.rv_shape.specs.Shape.{Shape};
+
+use crate::objects::Objects;
+use crate::stacks::Stacks;
+use rv_event::entry::{Body, Entry, Request};
+use rv_object::Action;
+use rv_prio::Held;
+use rv_shape::catalogue::Catalogue;
+use rv_shape::object::Object as DeclaredObject;
+use rv_value::Scalars;
+use std::alloc::{AllocError, Global};
+
+// Whether an operation is a function, which shares its object with other functions (9.5.1).
+fn is_shared(catalogue: &Catalogue, object: usize, operation: usize) -> bool
+    ensures { result ≡ catalogues.shares (catalogues.target catalogue.now object operation) }
+{
+    match catalogue.operation(object, operation) {
+        Some((_, _, found)) => found.kind().is_function(),
+        None => false,
+    }
+}
+
+// The ceiling of an object, 0 where there is none (D.3).
+fn ceiling_of(catalogue: &Catalogue, object: usize) -> usize
+    ensures { result ≡ catalogues.ceiling catalogue.now object }
+{
+    match catalogue.object(object) {
+        Some((_, DeclaredObject::Protected(found))) => found.ceiling(),
+        _ => 0,
+    }
+}
+
+// The action of an actor's body of an operation on its object.
+fn action_by(catalogue: &Catalogue, actor: usize, object: usize, operation: usize) -> Action
+    ensures { result ≡ action_of catalogue.now (record { actor = actor; object = object; operation = operation }) }
+{
+    if is_shared(catalogue, object, operation) {
+        Action::Shared
+    } else {
+        Action::Exclusive(actor)
+    }
+}
+
+/// The bodies under way: the stack of each actor, the actions on each object with its scalars, and
+/// how many there are.
+#[derive(Drop)]
+pub struct Bodies {
+    pub stacks: Stacks,
+    pub objects: Objects,
+    pub number: usize,
+}
+
+impl Bodies {
+    /// None, in no object that there is. Err where memory was refused.
+    pub fn new(alloc: Global) -> Result<Bodies, AllocError>
+        ensures { IfOk result (λ bodies. bodies ≡ record { stacks = replicate most_actors []; objects = replicate most_places idle; number = 0 }) }
+    {
+        let stacks = Stacks::new(alloc)?;
+        let objects = Objects::new(alloc)?;
+        Ok(Bodies {
+            stacks,
+            objects,
+            number: 0,
+        })
+    }
+
+    /// What an entry ends and starts.
+    pub fn note(&mut self, catalogue: &Catalogue, entry: &Entry, start: Option<Body>)
+        requires { (bodies : List Body) × IsReady catalogue.now bodies self.old entry.now start }
+        ensures same { (length self.new.stacks ≡ length self.old.stacks) × (length self.new.objects ≡ length self.old.objects) }
+        ensures kept { (bodies : List Body) → IsBodies catalogue.now bodies self.old → IsBodies catalogue.now (past.begun start (past.closed (past.ended entry.now) bodies)) self.new }
+        ensures scalars { (bodies : List Body) → IsBodies catalogue.now bodies self.old → (o : ℕ) →
+            (slice_index_or self.new.objects o idle).scalars ≡ left_after catalogue.now o bodies entry.now (slice_index_or self.old.objects o idle).scalars }
+    {
+        self.end_if(catalogue, entry);
+        if let Some(body) = start {
+            self.begin(catalogue, body);
+        }
+    }
+
+    // How many bodies are under way once an actor ends its own.
+    fn number_without(&self, actor: usize) -> usize
+        requires { (shapes : List Shape) × (bodies : List Body) × IsBodies shapes bodies self.now }
+        ensures value { (shapes : List Shape) (bodies : List Body) → IsBodies shapes bodies self.now → result ≡ length (past.without actor bodies) }
+        ensures within { result ≤ self.now.number }
+    {
+        match self.stacks.of(actor).innermost() {
+            Some(_held) => self.number - 1,
+            None => self.number,
+        }
+    }
+
+    // How many bodies are under way once an end has happened, if one does.
+    fn number_closed(&self, ended: Option<usize>) -> usize
+        requires { (shapes : List Shape) × (bodies : List Body) × IsBodies shapes bodies self.now }
+        ensures value { (shapes : List Shape) (bodies : List Body) → IsBodies shapes bodies self.now → result ≡ length (past.closed ended bodies) }
+        ensures within { result ≤ self.now.number }
+    {
+        match ended {
+            Some(actor) => self.number_without(actor),
+            None => self.number,
+        }
+    }
+
+    /// How many bodies are under way once one has ended and one has started, if they do.
+    pub fn number_after(&self, ended: Option<usize>, start: Option<Body>) -> usize
+        requires sound { (shapes : List Shape) × (bodies : List Body) × IsBodies shapes bodies self.now }
+        requires few { self.now.number < 2 ^ 32 }
+        ensures value { (shapes : List Shape) (bodies : List Body) → IsBodies shapes bodies self.now → result ≡ length (past.begun start (past.closed ended bodies)) }
+        ensures within { result ≤ self.now.number + 1 }
+    {
+        let left = self.number_closed(ended);
+        match start {
+            Some(_body) => left + 1,
+            None => left,
+        }
+    }
+
+    // What an entry ends.
+    fn end_if(&mut self, catalogue: &Catalogue, entry: &Entry)
+        requires { (bodies : List Body) × IsBodies catalogue.now bodies self.old }
+        ensures same { (length self.new.stacks ≡ length self.old.stacks) × (length self.new.objects ≡ length self.old.objects) }
+        ensures kept { (bodies : List Body) → IsBodies catalogue.now bodies self.old → IsBodies catalogue.now (past.closed (past.ended entry.now) bodies) self.new }
+        ensures scalars { (bodies : List Body) → IsBodies catalogue.now bodies self.old → (o : ℕ) →
+            (slice_index_or self.new.objects o idle).scalars ≡ left_after catalogue.now o bodies entry.now (slice_index_or self.old.objects o idle).scalars }
+    {
+        match entry {
+            Entry::Asked(actor, Request::Complete(given, _), _) => {
+                self.end(catalogue, *actor, given);
+            }
+            _ => {}
+        }
+    }
+
+    // A body starts.
+    fn begin(&mut self, catalogue: &Catalogue, body: Body)
+        requires actor { body.actor < length self.old.stacks }
+        requires object { body.object < length self.old.objects }
+        requires room { length (slice_index_or self.old.stacks body.actor []) < 16 }
+        requires free { excludes (slice_index_or self.old.objects body.object idle).actions (action_of catalogue.now body) ≡ false }
+        requires few { self.old.number < 2 ^ 32 }
+        requires sound { (bodies : List Body) × IsBodies catalogue.now bodies self.old }
+        ensures kept { (bodies : List Body) → IsBodies catalogue.now bodies self.old → IsBodies catalogue.now (body ∷ bodies) self.new }
+        ensures same { (length self.new.stacks ≡ length self.old.stacks) × (length self.new.objects ≡ length self.old.objects) }
+        ensures scalars { (o : ℕ) → (slice_index_or self.new.objects o idle).scalars ≡ (slice_index_or self.old.objects o idle).scalars }
+    {
+        let action = action_by(catalogue, body.actor, body.object, body.operation);
+        let ceiling = ceiling_of(catalogue, body.object);
+        self.stacks.begin(
+            body.actor,
+            Held {
+                object: body.object,
+                operation: body.operation,
+                ceiling,
+            },
+        );
+        self.objects.begin(body.object, action);
+        self.number += 1;
+    }
+
+    // An actor ends its innermost body, if it is in one.
+    fn end(&mut self, catalogue: &Catalogue, actor: usize, given: &Scalars)
+        requires { (bodies : List Body) × IsBodies catalogue.now bodies self.old }
+        ensures same { (length self.new.stacks ≡ length self.old.stacks) × (length self.new.objects ≡ length self.old.objects) }
+        ensures kept { (bodies : List Body) → IsBodies catalogue.now bodies self.old → IsBodies catalogue.now (past.without actor bodies) self.new }
+        ensures scalars { (bodies : List Body) → IsBodies catalogue.now bodies self.old → (o : ℕ) →
+            (slice_index_or self.new.objects o idle).scalars ≡ left_by catalogue.now o bodies actor given.now (slice_index_or self.old.objects o idle).scalars }
+    {
+        let Some(held) = self.stacks.of(actor).innermost() else {
+            return;
+        };
+        let action = action_by(catalogue, actor, held.object, held.operation);
+        self.stacks.end(actor);
+        self.objects.end(held.object, action, given);
+        self.number -= 1;
+    }
+}

@@ -1,0 +1,86 @@
+//! How many entries and list changes there were, the clock, and whether the host is halted.
+
+ghost use Rattle.std.specs.Prelude.{◌≡◌, ◌<◌, ◌≤◌, ◌+◌, ◌^◌, ◌∷◌, List, false};
+ghost use Rattle.rv_event.specs.Past as past;
+ghost use Rattle.rv_event.specs.declared.entry.Entry.{Entry};
+ghost use Rattle.rv_history.specs.History.{changes};
+ghost use Rattle.rv_history.specs.Owed as owed;
+ghost use Rattle.rv_present.specs.Counts.{AreCounts};
+
+use crate::entries::{halts, is_list, ticks};
+use rv_event::entry::Entry;
+
+/// What entries come to that concern no actor and no object.
+#[derive(Drop)]
+pub struct Counts {
+    /// How many entries there are.
+    pub entries: usize,
+    /// How many list changes there were.
+    pub version: usize,
+    /// The sum of the accepted ticks (D.8).
+    pub clock: u64,
+    /// Whether there is an accepted halt.
+    pub is_halted: bool,
+}
+
+impl Counts {
+    /// Of no entries.
+    pub fn new() -> Counts
+        ensures { result ≡ record { entries = 0; version = 0; clock = 0; is_halted = false } }
+    {
+        Counts {
+            entries: 0,
+            version: 0,
+            clock: 0,
+            is_halted: false,
+        }
+    }
+
+    // Whether the host is halted once an entry more stands.
+    fn is_halted_with(&self, entry: &Entry) -> bool
+        ensures { (before : List Entry) → self.now.is_halted ≡ past.halted before → result ≡ past.halted (entry.now ∷ before) }
+    {
+        halts(entry) || self.is_halted
+    }
+
+    // How many list changes there are once an entry more stands.
+    fn version_with(&self, entry: &Entry) -> usize
+        requires { self.now.version < 2 ^ 32 }
+        ensures { (before : List Entry) → self.now.version ≡ changes before → result ≡ changes (entry.now ∷ before) }
+    {
+        if is_list(entry) {
+            self.version + 1
+        } else {
+            self.version
+        }
+    }
+
+    /// 1 for the halt, while there is none.
+    pub fn halt_due(&self) -> usize
+        ensures value { result ≡ owed.halt_due self.now.is_halted }
+        ensures within { result ≤ 1 }
+    {
+        if self.is_halted { 0 } else { 1 }
+    }
+
+    /// 1 for the halt, while there is none, once an entry more stands.
+    pub fn halt_due_with(&self, entry: &Entry) -> usize
+        ensures value { (before : List Entry) → self.now.is_halted ≡ past.halted before → result ≡ owed.halt_due (past.halted (entry.now ∷ before)) }
+        ensures within { result ≤ 1 }
+    {
+        if self.is_halted_with(entry) { 0 } else { 1 }
+    }
+
+    /// One more entry.
+    pub fn note(&mut self, entry: &Entry)
+        requires entries { self.old.entries < 2 ^ 32 }
+        requires version { self.old.version < 2 ^ 32 }
+        requires clock { self.old.clock + past.ticks entry.now < 2 ^ 63 }
+        ensures { (before : List Entry) → AreCounts before self.old → AreCounts (entry.now ∷ before) self.new }
+    {
+        self.is_halted = self.is_halted_with(entry);
+        self.version = self.version_with(entry);
+        self.clock += ticks(entry);
+        self.entries += 1;
+    }
+}

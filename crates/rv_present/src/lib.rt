@@ -1,0 +1,16 @@
+//! What is so after the entries of a history, kept in fields: who holds what, the scalars, the stances, what is owed, the
+//! clock. An entry more changes them in place, whatever came before it; each stands for its definition in rv_event or
+//! rv_history.
+#![tactic(auto)]
+
+mod bodies;
+mod calls;
+mod counts;
+mod entries;
+mod new_objects;
+mod objects;
+mod present;
+mod stacks;
+mod stances;
+
+pub use present::Present;
