@@ -9,6 +9,8 @@ mod fits;
 #[cfg(test)]
 mod hosts;
 #[cfg(test)]
+mod journals;
+#[cfg(test)]
 mod lists;
 #[cfg(test)]
 mod parts;
