@@ -4,7 +4,8 @@ use Rattle.std.specs.Str.{bytes_eq}
 use Rattle.rv_shape.specs.Items.{◌>>=◌}
 use Rattle.rv_step.specs.declared.step.Asked.{Asked}
 use Rattle.rv_step.specs.declared.step.Asked.TheVariants as Asks
-use Rattle.rv_step.specs.StepText.{asked_of, one_number}
+use Rattle.rv_step.specs.StepText.{asked_of}
+use Rattle.rv_text.specs.Numbers.{integer_of}
 use Rattle.rv_shell.specs.declared.order.Order.{Order}
 use Rattle.rv_shell.specs.declared.order.Order.TheVariants.{Append, Remove, Replace, Tick, Halt, Raise, Load, Journal, Quit}
 
@@ -27,26 +28,23 @@ abbrev pub journal_of : ℤ → Option Order
 journal_of (pos number) = if nat_lt number 1 then None else Some (Journal number)
 journal_of (negsuc number) = None
 
--- a command that is a step's request
-abbrev pub stepped : List (List ℕ) → Option Order
-stepped line = asked_of line >>= of_step
-
--- a command of one word, of a line
-abbrev pub single : List ℕ → List (List ℕ) → Option Order
-single key line =
+-- the commands that are no steps: `load`, `quit`, `raise K` and `journal FROM`
+abbrev pub own_order : List (List ℕ) → Option Order
+own_order (key ∷ []) =
     if bytes_eq key (codes "load") then Some Load
     else if bytes_eq key (codes "quit") then Some Quit
-    else stepped line
+    else None
+own_order (key ∷ number ∷ []) =
+    if bytes_eq key (codes "raise") then (integer_of number >>= raise_of)
+    else if bytes_eq key (codes "journal") then (integer_of number >>= journal_of)
+    else None
+own_order words = None
 
--- a command that goes on behind its first word, of a line
-abbrev pub longer : List ℕ → List (List ℕ) → List (List ℕ) → Option Order
-longer key rest line =
-    if bytes_eq key (codes "raise") then (one_number rest >>= raise_of)
-    else if bytes_eq key (codes "journal") then (one_number rest >>= journal_of)
-    else stepped line
+-- one of them, or else what the words ask as a step's request
+abbrev pub or_stepped : Option Order → List (List ℕ) → Option Order
+or_stepped (Some order) words = Some order
+or_stepped None words = asked_of words >>= of_step
 
--- what the words of a line ask; a blank line asks nothing
+-- what the words of a line ask; a blank line is no command
 abbrev pub order_of : List (List ℕ) → Option Order
-order_of [] = None
-order_of (key ∷ []) = single key (key ∷ [])
-order_of (key ∷ word ∷ rest) = longer key (word ∷ rest) (key ∷ word ∷ rest)
+order_of words = or_stepped (own_order words) words

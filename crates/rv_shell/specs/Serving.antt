@@ -56,80 +56,85 @@ page_text shapes number (item ∷ items) = item_line shapes number item ++ page_
 -- What is written
 
 -- what a writer holds, where it tells
-abbrev pub Known : Type 0
-Known = Option (List ℕ)
+abbrev pub Written : Type 0
+Written = Option (List ℕ)
 
--- a text is written whole; where writing fails, a prefix of it; where memory is refused, nothing
-abbrev pub Writes : Known → Known → List ℕ → Result Next LineFault → Type 0
-Writes old new text (Ok next) = Appends old new text × (next ≡ Nexts.Go)
-Writes old new text (Err Write) = WritesPrefix old new text
+-- a text is written whole, or, where writing fails, a prefix of it
+abbrev pub Prints : Written → Written → List ℕ → Result Next LineFault → Type 0
+Prints old new text (Ok next) = Appends old new text × (next ≡ Nexts.Go)
+Prints old new text (Err Write) = WritesPrefix old new text
+Prints old new text (Err NoMemory) = ⊥
+Prints old new text (Err Worn) = ⊥
+
+-- the same of a text that memory is taken for; where that is refused, nothing is written
+abbrev pub Writes : Written → Written → List ℕ → Result Next LineFault → Type 0
 Writes old new text (Err NoMemory) = new ≡ old
-Writes old new text (Err Worn) = ⊥
+Writes old new text result = Prints old new text result
 
 -- What is asked
 
 -- one request of the operator, and its answer is written
-pub record Requests (old new : Known) (v w : Passing) (ask : Ask) (result : Result Next LineFault) : Type 0 where
+pub record Requests (old new : Written) (v w : Passing) (ask : Ask) (result : Result Next LineFault) : Type 0 where
   pub answer : Answer
   pub told : Told v ask answer w
   pub written : Writes old new (answer_line (catalogue_of w.seen) answer) result
 
 -- one page of the journal, and its entries are written
-pub record Reads (old new : Known) (v w : Passing) (from : ℕ) (result : Result Next LineFault) : Type 0 where
+pub record Reads (old new : Written) (v w : Passing) (from : ℕ) (result : Result Next LineFault) : Type 0 where
   pub page : List Item
   pub told : Acted by Does v (Ask.Read from) (Gives.Read page) w
   pub written : Writes old new (page_text (catalogue_of w.seen) from page) result
 
 -- no act was left, and nothing changed
-abbrev pub IsSpent : Known → Known → Passing → Passing → Type 0
-IsSpent old new v w = IsWorn v w × (new ≡ old)
+abbrev pub NoActLeft : Written → Written → Passing → Passing → Type 0
+NoActLeft old new v w = IsWorn v w × (new ≡ old)
 
 -- a request, unless no act was left
-abbrev pub Asks : Known → Known → Passing → Passing → Ask → Result Next LineFault → Type 0
-Asks old new v w ask (Err Worn) = IsSpent old new v w
-Asks old new v w ask result = Requests old new v w ask result
+abbrev pub RequestsOrWorn : Written → Written → Passing → Passing → Ask → Result Next LineFault → Type 0
+RequestsOrWorn old new v w ask (Err Worn) = NoActLeft old new v w
+RequestsOrWorn old new v w ask result = Requests old new v w ask result
 
 -- a page, unless no act was left or there was no memory for it
-abbrev pub Pages : Known → Known → Passing → Passing → ℕ → Result Next LineFault → Type 0
-Pages old new v w from (Err Worn) = IsSpent old new v w
-Pages old new v w from (Err NoMemory) =
+abbrev pub ReadsOrWorn : Written → Written → Passing → Passing → ℕ → Result Next LineFault → Type 0
+ReadsOrWorn old new v w from (Err Worn) = NoActLeft old new v w
+ReadsOrWorn old new v w from (Err NoMemory) =
     (PageFailed v from PageFaults.NoMemory w × (new ≡ old)) ⊎ Reads old new v w from (Err NoMemory)
-Pages old new v w from result = Reads old new v w from result
+ReadsOrWorn old new v w from result = Reads old new v w from result
 
 -- nothing is asked, and a text is written
-abbrev pub Says : Known → Known → Passing → Passing → List ℕ → Result Next LineFault → Type 0
-Says old new v w text result = (w ≡ v) × Writes old new text result
+abbrev pub WritesOnly : Written → Written → Passing → Passing → List ℕ → Result Next LineFault → Type 0
+WritesOnly old new v w text result = (w ≡ v) × Writes old new text result
 
 -- nothing is asked or written: the caller goes on
-abbrev pub HandsOn : Known → Known → Passing → Passing → Next → Result Next LineFault → Type 0
-HandsOn old new v w next result = (w ≡ v) × (new ≡ old) × (result ≡ Ok next)
+abbrev pub TellsCaller : Written → Written → Passing → Passing → Next → Result Next LineFault → Type 0
+TellsCaller old new v w next result = (w ≡ v) × (new ≡ old) × (result ≡ Ok next)
 
 -- nothing is asked or written for want of memory
-abbrev pub HandsBack : Known → Known → Passing → Passing → Result Next LineFault → Type 0
-HandsBack old new v w result = (w ≡ v) × (new ≡ old) × (result ≡ Err NoMemory)
+abbrev pub LacksMemory : Written → Written → Passing → Passing → Result Next LineFault → Type 0
+LacksMemory old new v w result = (w ≡ v) × (new ≡ old) × (result ≡ Err NoMemory)
 
 -- a request with a line of the list, or what is wrong with that line
-abbrev pub WithLine : Known → Known → Passing → Passing → Result Words ListFault → (Words → Ask) → Result Next LineFault → Type 0
-WithLine old new v w (Ok line) ask result = Asks old new v w (ask line) result
-WithLine old new v w (Err fault) ask result = Says old new v w (fault_line fault) result
+abbrev pub WithLine : Written → Written → Passing → Passing → Result Words ListFault → (Words → Ask) → Result Next LineFault → Type 0
+WithLine old new v w (Ok line) ask result = RequestsOrWorn old new v w (ask line) result
+WithLine old new v w (Err fault) ask result = WritesOnly old new v w (fault_line fault) result
 
 -- what a command does
-abbrev pub Obeys : Known → Known → Passing → Passing → Order → Result Next LineFault → Type 0
+abbrev pub Obeys : Written → Written → Passing → Passing → Order → Result Next LineFault → Type 0
 Obeys old new v w (Orders.Append line) result = WithLine old new v w line (λ l. Ask.AppendLine l) result
-Obeys old new v w (Orders.Remove number) result = Asks old new v w (Ask.RemoveLine (line_number number)) result
+Obeys old new v w (Orders.Remove number) result = RequestsOrWorn old new v w (Ask.RemoveLine (line_number number)) result
 Obeys old new v w (Orders.Replace number line) result = WithLine old new v w line (λ l. Ask.ReplaceLine (line_number number) l) result
-Obeys old new v w (Orders.Tick ticks) result = Asks old new v w (Ask.Step (asks.Tick ticks)) result
-Obeys old new v w Orders.Halt result = Asks old new v w (Ask.Step asks.Halt) result
-Obeys old new v w (Orders.Raise line) result = HandsOn old new v w (Nexts.Raise line) result
-Obeys old new v w Orders.Load result = HandsOn old new v w Nexts.Load result
-Obeys old new v w (Orders.Journal from) result = Pages old new v w from result
-Obeys old new v w Orders.Quit result = HandsOn old new v w Nexts.Quit result
+Obeys old new v w (Orders.Tick ticks) result = RequestsOrWorn old new v w (Ask.Step (asks.Tick ticks)) result
+Obeys old new v w Orders.Halt result = RequestsOrWorn old new v w (Ask.Step asks.Halt) result
+Obeys old new v w (Orders.Raise line) result = TellsCaller old new v w (Nexts.Raise line) result
+Obeys old new v w Orders.Load result = TellsCaller old new v w Nexts.Load result
+Obeys old new v w (Orders.Journal from) result = ReadsOrWorn old new v w from result
+Obeys old new v w Orders.Quit result = TellsCaller old new v w Nexts.Quit result
 
 -- what a line does; one that is no command sends nothing
-abbrev pub Carries : Known → Known → Passing → Passing → Option Order → Result Next LineFault → Type 0
+abbrev pub Carries : Written → Written → Passing → Passing → Option Order → Result Next LineFault → Type 0
 Carries old new v w (Some order) result = Obeys old new v w order result
-Carries old new v w None result = Says old new v w (codes "bad command" ++ 10 ∷ []) result
+Carries old new v w None result = (w ≡ v) × Prints old new (codes "bad command" ++ 10 ∷ []) result
 
 -- there was no memory to read the line, and nothing is asked or written; else the line is carried out
-abbrev pub Serves : Known → Known → Passing → Passing → Option Order → Result Next LineFault → Type 0
-Serves old new v w order result = HandsBack old new v w result ⊎ Carries old new v w order result
+abbrev pub Serves : Written → Written → Passing → Passing → Option Order → Result Next LineFault → Type 0
+Serves old new v w order result = LacksMemory old new v w result ⊎ Carries old new v w order result

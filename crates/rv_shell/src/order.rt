@@ -1,14 +1,14 @@
 //! What a command line asks.
 
-ghost use Rattle.std.specs.Prelude.{◌≡◌};
+ghost use Rattle.std.specs.Prelude.{◌≡◌, ◌∷◌, []};
 ghost use Rattle.rv_step.specs.StepText.{Gives};
-ghost use Rattle.rv_shell.specs.Orders.{order_of, of_step, raise_of, journal_of, stepped, single, longer};
+ghost use Rattle.rv_shell.specs.Orders.{order_of, own_order, of_step, raise_of, journal_of};
 ghost use Rattle.rv_text.specs.Words.{words};
 
 use rv_access::{Line, ListFault};
-use rv_step::reading::{StepError, asked_of, one_number};
+use rv_step::reading::{StepError, asked_of};
 use rv_step::step::Asked;
-use rv_text::next_word;
+use rv_text::{integer_of, next_word};
 use std::alloc::Global;
 
 /// What a command line asks.
@@ -48,66 +48,64 @@ fn of_step(asked: Asked) -> Result<Order, StepError>
     }
 }
 
-// A line of Int_0 .. Int_9 is raised.
-fn raise_of(number: i64) -> Result<Order, StepError>
-    ensures { Gives result (raise_of number) }
+// `raise K`: a line of Int_0 .. Int_9.
+fn raise_of(number: i64) -> Option<Order>
+    ensures { result ≡ raise_of number }
 {
     if number < 0 || number > 9 {
-        return Err(StepError::BadStep);
+        return None;
     }
-    Ok(Order::Raise(number as u8))
+    Some(Order::Raise(number as u8))
 }
 
-// The journal from a number on.
-fn journal_of(number: i64) -> Result<Order, StepError>
-    ensures { Gives result (journal_of number) }
+// `journal FROM`: entries count from 1.
+fn journal_of(number: i64) -> Option<Order>
+    ensures { result ≡ journal_of number }
 {
     if number < 1 {
-        return Err(StepError::BadStep);
+        return None;
     }
-    Ok(Order::Journal(number as usize))
-}
-
-// A command that is a step's request.
-fn stepped(alloc: Global, line: &str) -> Result<Order, StepError>
-    ensures { Gives result (stepped (words line.now)) }
-{
-    match asked_of(alloc, line) {
-        Ok(asked) => of_step(asked),
-        Err(e) => Err(e),
-    }
+    Some(Order::Journal(number as usize))
 }
 
 // A command of one word.
-fn single(alloc: Global, key: &str, line: &str) -> Result<Order, StepError>
-    ensures { Gives result (single key.now (words line.now)) }
+fn single(key: &str) -> Option<Order>
+    ensures { result ≡ own_order (key.now ∷ []) }
 {
     if key == "load" {
-        return Ok(Order::Load);
+        return Some(Order::Load);
     }
     if key == "quit" {
-        return Ok(Order::Quit);
+        return Some(Order::Quit);
     }
-    stepped(alloc, line)
+    None
 }
 
-// A command that goes on behind its first word.
-fn longer(alloc: Global, key: &str, rest: &str, line: &str) -> Result<Order, StepError>
-    ensures { Gives result (longer key.now (words rest.now) (words line.now)) }
+// A command of a word and a number.
+fn numbered(key: &str, number: &str) -> Option<Order>
+    ensures { result ≡ own_order (key.now ∷ number.now ∷ []) }
 {
     if key == "raise" {
-        return match one_number(rest) {
-            Some(number) => raise_of(number),
-            None => Err(StepError::BadStep),
-        };
+        return raise_of(integer_of(number)?);
     }
     if key == "journal" {
-        return match one_number(rest) {
-            Some(number) => journal_of(number),
-            None => Err(StepError::BadStep),
-        };
+        return journal_of(integer_of(number)?);
     }
-    stepped(alloc, line)
+    None
+}
+
+// A command that is no step.
+fn own_order(line: &str) -> Option<Order>
+    ensures { result ≡ own_order (words line.now) }
+{
+    let (key, rest) = next_word(line)?;
+    let Some((number, rest)) = next_word(rest) else {
+        return single(key);
+    };
+    match next_word(rest) {
+        Some(_) => None,
+        None => numbered(key, number),
+    }
 }
 
 /// What a command line asks: `append LINE`, `remove N`, `replace N LINE`, `tick N`, `halt`, `raise K`, `load`,
@@ -115,11 +113,11 @@ fn longer(alloc: Global, key: &str, rest: &str, line: &str) -> Result<Order, Ste
 pub fn order_of(alloc: Global, line: &str) -> Result<Order, StepError>
     ensures { Gives result (order_of (words line.now)) }
 {
-    let Some((key, rest)) = next_word(line) else {
-        return Err(StepError::BadStep);
-    };
-    match next_word(rest) {
-        Some(_) => longer(alloc, key, rest, line),
-        None => single(alloc, key, line),
+    if let Some(order) = own_order(line) {
+        return Ok(order);
+    }
+    match asked_of(alloc, line) {
+        Ok(asked) => of_step(asked),
+        Err(e) => Err(e),
     }
 }

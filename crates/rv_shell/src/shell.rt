@@ -1,15 +1,13 @@
 //! The shell: reads a command line, and does what it asks.
 
-ghost use Rattle.std.specs.Prelude.{◌≡◌, ℕ, List, IfOk, MatchResult, string_bytes};
+ghost use Rattle.std.specs.Prelude.{◌≡◌, ℕ, List, Err, IfOk, MatchResult, string_bytes};
 ghost use Rattle.rv_text.specs.Words.{words};
 ghost use Rattle.rv_event.specs.declared.entry.Request.TheVariants as asks;
-ghost use Rattle.rv_port.specs.Controls.{Told};
+ghost use Rattle.rv_port.specs.Events.{catalogue_of};
 ghost use Rattle.rv_port.specs.declared.event.Ask.{Ask};
-ghost use Rattle.rv_turn.specs.Passes.{IsWorn};
-ghost use Rattle.rv_port.specs.Traces.{Passing};
 ghost use Rattle.rv_step.specs.Lookup.{line_number};
 ghost use Rattle.rv_shell.specs.Orders.{order_of as order_words};
-ghost use Rattle.rv_shell.specs.Serving.{Asks, Obeys, Pages, Serves, Writes, answer_line, fault_line};
+ghost use Rattle.rv_shell.specs.Serving.{RequestsOrWorn, Obeys, Prints, ReadsOrWorn, Serves, Writes, answer_line, fault_line};
 
 use crate::order::{Order, order_of};
 use crate::page::page_text;
@@ -58,7 +56,7 @@ pub enum LineFault {
 
 // Writes a text.
 fn put<W: Write>(writer: &mut W, text: &str) -> Result<Next, LineFault>
-    ensures { Writes (W.contents writer.old) (W.contents writer.new) text.now result }
+    ensures { Prints (W.contents writer.old) (W.contents writer.new) text.now result }
 {
     match write_whole(writer, text.as_bytes()) {
         Ok(()) => Ok(Next::Go),
@@ -117,9 +115,10 @@ impl Shell {
         answer: Result<Answer, Worn>,
         writer: &mut W,
     ) -> Result<Next, LineFault>
-        ensures { (before : Passing) (ask : Ask)
-            → MatchResult answer (λ r. Told before ask r control.now) (λ _. IsWorn before control.now)
-            → Asks (W.contents writer.old) (W.contents writer.new) before control.now ask result }
+        ensures { MatchResult
+            answer
+            (λ r. Writes (W.contents writer.old) (W.contents writer.new) (answer_line (catalogue_of control.now.seen) r) result)
+            (λ _. (result ≡ Err LineFault.Worn) × (W.contents writer.new ≡ W.contents writer.old)) }
     {
         match answer {
             Ok(answer) => {
@@ -146,7 +145,7 @@ impl Shell {
         line: Line,
         writer: &mut W,
     ) -> Result<Next, LineFault>
-        ensures { Asks (W.contents writer.old) (W.contents writer.new) control.old control.new (Ask.AppendLine line) result }
+        ensures { RequestsOrWorn (W.contents writer.old) (W.contents writer.new) control.old control.new (Ask.AppendLine line) result }
     {
         let answer = control.append_line(rt, line);
         self.tell(&*control, answer, writer)
@@ -160,7 +159,7 @@ impl Shell {
         number: i64,
         writer: &mut W,
     ) -> Result<Next, LineFault>
-        ensures { Asks (W.contents writer.old) (W.contents writer.new) control.old control.new (Ask.RemoveLine (line_number number)) result }
+        ensures { RequestsOrWorn (W.contents writer.old) (W.contents writer.new) control.old control.new (Ask.RemoveLine (line_number number)) result }
     {
         let answer = control.remove_line(rt, line_number(number));
         self.tell(&*control, answer, writer)
@@ -175,7 +174,7 @@ impl Shell {
         line: Line,
         writer: &mut W,
     ) -> Result<Next, LineFault>
-        ensures { Asks (W.contents writer.old) (W.contents writer.new) control.old control.new (Ask.ReplaceLine (line_number number) line) result }
+        ensures { RequestsOrWorn (W.contents writer.old) (W.contents writer.new) control.old control.new (Ask.ReplaceLine (line_number number) line) result }
     {
         let answer = control.replace_line(rt, line_number(number), line);
         self.tell(&*control, answer, writer)
@@ -189,7 +188,7 @@ impl Shell {
         ticks: i64,
         writer: &mut W,
     ) -> Result<Next, LineFault>
-        ensures { Asks (W.contents writer.old) (W.contents writer.new) control.old control.new (Ask.Step (asks.Tick ticks)) result }
+        ensures { RequestsOrWorn (W.contents writer.old) (W.contents writer.new) control.old control.new (Ask.Step (asks.Tick ticks)) result }
     {
         let answer = control.tick(rt, ticks);
         self.tell(&*control, answer, writer)
@@ -202,7 +201,7 @@ impl Shell {
         control: &mut Control,
         writer: &mut W,
     ) -> Result<Next, LineFault>
-        ensures { Asks (W.contents writer.old) (W.contents writer.new) control.old control.new (Ask.Step asks.Halt) result }
+        ensures { RequestsOrWorn (W.contents writer.old) (W.contents writer.new) control.old control.new (Ask.Step asks.Halt) result }
     {
         let answer = control.halt(rt);
         self.tell(&*control, answer, writer)
@@ -216,7 +215,7 @@ impl Shell {
         from: usize,
         writer: &mut W,
     ) -> Result<Next, LineFault>
-        ensures { Pages (W.contents writer.old) (W.contents writer.new) control.old control.new from result }
+        ensures { ReadsOrWorn (W.contents writer.old) (W.contents writer.new) control.old control.new from result }
     {
         let mut page = Page::new(self.alloc);
         match control.entries(rt, from, &mut page) {
@@ -254,13 +253,15 @@ impl Shell {
         }
     }
 
-    /// Carries out a command line: one request of the operator, whose answer is written; for `journal` one page, whose
-    /// entries are written; for `load`, `raise` and `quit` nothing is asked, and the caller is told. A line that is no
-    /// command, or whose line of the list is none, sends nothing, and that is written.
+    /// Carries out a command line, which comes without its line feed: one request of the operator, whose answer is
+    /// written; for `journal` one page, whose entries are written; for `load`, `raise` and `quit` nothing is asked, and
+    /// the caller is told. A line that is no command, or whose line of the list is none, sends nothing, and that is
+    /// written. The caller flushes.
     ///
     /// # Errors
-    /// `Write` where writing failed, `NoMemory` where memory was refused; the request is answered by then. `Worn` where
-    /// the control has no act left.
+    /// `NoMemory` where the line couldn't be read, and nothing was asked, or where the text of an answer or of a page
+    /// couldn't be made, and nothing is written of it. `Write` where writing failed. `Worn` where the control has no act
+    /// left.
     pub fn line<R: Wait, W: Write>(
         &self,
         rt: &R,
