@@ -5,7 +5,7 @@ use Rattle.rv_tree.specs.Names.{Identifier, Name}
 use Rattle.rv_tree.specs.Expressions.{Expression, literal, name, attribute, call, parenthesized, highest, product, signed, sum, relation, logical, Expressions, no_expressions, and_expression, Factors, no_factors, and_factor, Terms, no_terms, and_term, RangeConstraint}
 use Rattle.rv_names.specs.declared.wanted.Wanted.{Wanted}
 use Rattle.rv_names.specs.declared.wanted.Wanted.TheVariants as w
-use Rattle.rv_names.specs.Scope.{ScopeView, declaring, hiding, entered, declaring_all, hiding_all, showing, Region, in_body_of, with_unit, with_library, using_library, empty_scope}
+use Rattle.rv_names.specs.Scope.{ScopeView, declaring, hiding, entered, declaring_all, hiding_all, showing, Region, within_unit, with_unit, with_library, using_library, empty_scope}
 use Rattle.rv_tree.specs.Statements.{Choice, others, value, between, LoopBounds, whole_bounds, two_bounds, constrained_bounds, Iteration, forever, while_true, for_each, Statement, null_statement, assignment, call_statement, if_statement, case_statement, loop_statement, exit_statement, return_statement, raise_statement, delay_statement, abort_statement, requeue_statement, accept_statement, select_statement, Statements, no_statements, and_statement, ElsifParts, no_elsif_parts, and_elsif_part, Alternatives, no_alternatives, and_alternative}
 use Rattle.rv_names.specs.declared.declared.Declared.TheVariants as d
 use Rattle.rv_names.specs.ExpressionUses.{Use, ◌▷◌, nothing, refused, expression_uses, value_uses, expressions_uses, maybe_uses, each_uses, range_uses, simple, factors_uses, terms_uses}
@@ -25,7 +25,7 @@ use Rattle.rv_names.specs.declared.predefined.Library.{Library}
 use Rattle.rv_names.specs.declared.predefined.Library.TheVariants as l
 use Rattle.rv_names.specs.Wanted.{denoted, is_found, suits, sort}
 use Rattle.rv_names.specs.StatementUses.{statements_uses, choice_uses, choices_uses, bounds_uses, iteration_uses, statement_uses, elsif_parts_uses, alternatives_uses, in_loop}
-use Rattle.rv_names.specs.DeclarationUses.{parameters_uses, with_parameters, with_members, declaration_uses, with_declaration, declarations_uses, with_declarations, arguments_uses, pragma_uses, aspects_uses, operation_uses, operations_uses, element_uses, elements_uses, private_uses, protected_unit_uses, task_item_uses, task_items_uses, definition_uses, task_uses, is_priority, is_attachment, with_operation, with_operations, with_element, with_elements, with_private}
+use Rattle.rv_names.specs.DeclarationUses.{parameters_uses, with_parameters, with_members, declaration_uses, with_declaration, declarations_uses, with_declarations, arguments_uses, pragma_uses, aspects_uses, operation_uses, operations_uses, element_uses, elements_uses, private_uses, parts_uses, protected_unit_uses, naming_unit, task_item_uses, task_items_uses, definition_uses, task_uses, is_priority, is_attachment, with_operation, with_operations, with_element, with_elements, with_private}
 use Rattle.rv_names.specs.UnitUses.{unit_uses, local_uses, locals_uses, exception_uses, exceptions_uses, handlers_uses, block_uses, operation_body_uses, operation_bodies_uses, bodies_of_unit, protected_body_uses, task_body_uses, body_item_uses, body_items_uses, with_names_uses, use_names_uses, context_item_uses, context_uses, in_protected_unit, unit_number, protected_unit_of, with_body_item, withed, with_names, used_by, use_names, with_context_item, with_context, package_scope, protected_units, with_local, with_locals}
 use Rattle.rv_names.specs.Bound.{judged, Used, listed, uses, IsBound, AllBound}
 
@@ -185,8 +185,11 @@ private_shown : (x0 : ScopeView) (x1 : Option (List ProtectedElement)) → Shows
 private_shown scope None = none_shown
 private_shown scope (Some elements) = elements_shown scope elements
 
+parts_shown : (x0 : ScopeView) (x1 : ProtectedUnit) → Shows (parts_uses judged x0 x1) (parts_uses listed x0 x1)
+parts_shown scope unit = aspects_shown scope unit.aspects and operations_shown (entered scope) unit.operations and private_shown (with_operations unit.operations (entered scope)) unit.private
+
 protected_unit_shown : (x0 : ScopeView) (x1 : ProtectedUnit) → Shows (protected_unit_uses judged x0 x1) (protected_unit_uses listed x0 x1)
-protected_unit_shown scope unit = aspects_shown (hiding unit.name scope) unit.aspects and operations_shown (entered (hiding unit.name scope)) unit.operations and private_shown (with_operations unit.operations (entered (hiding unit.name scope))) unit.private
+protected_unit_shown scope unit = parts_shown (within_unit unit.name.at (naming_unit unit scope)) unit
 
 task_item_shown : (x0 : ScopeView) (x1 : TaskItem) → Shows (task_item_uses judged x0 x1) (task_item_uses listed x0 x1)
 task_item_shown scope (task_pragma pragma) = pragma_shown scope pragma

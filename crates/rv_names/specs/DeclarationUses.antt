@@ -14,7 +14,7 @@ use Rattle.rv_names.specs.declared.declare.Form.{Form}
 use Rattle.rv_names.specs.declared.declare.Form.TheVariants as f
 use Rattle.rv_names.specs.declared.wanted.Wanted.{Wanted}
 use Rattle.rv_names.specs.declared.wanted.Wanted.TheVariants as w
-use Rattle.rv_names.specs.Scope.{ScopeView, declaring, declaring_all, hiding, hiding_all, entered, showing, Region}
+use Rattle.rv_names.specs.Scope.{ScopeView, declaring, declaring_all, hiding, hiding_all, entered, within_unit, showing, Region}
 use Rattle.rv_names.specs.Visible.{visible}
 use Rattle.rv_names.specs.ExpressionUses.{Use, ◌▷◌, nothing, simple, refused, expression_uses, value_uses, maybe_uses, range_uses}
 
@@ -117,16 +117,24 @@ with_private (Some elements) scope = with_elements elements scope
 abbrev pub with_members : ProtectedUnit → ScopeView → ScopeView
 with_members unit scope = with_private unit.private (with_operations unit.operations (entered scope))
 
-abbrev pub protected_unit_uses : {A : Type 0} → Use A → ScopeView → ProtectedUnit → A → A
-protected_unit_uses at_use scope unit =
-    aspects_uses at_use (hiding unit.name scope) unit.aspects
-    ▷ operations_uses at_use (entered (hiding unit.name scope)) unit.operations
-    ▷ private_uses at_use (with_operations unit.operations (entered (hiding unit.name scope))) unit.private
-
 -- what a protected unit of this number declares: a type, or a single object
 abbrev pub protected_meaning : Bool → ℕ → ℕ → Declared
 protected_meaning true number at = d.ProtectedType at number
 protected_meaning false number at = d.SingleProtected at number
+
+-- the identifier of a protected unit is declared: it denotes the unit within its own declaration too (8.3)
+abbrev pub naming_unit : ProtectedUnit → ScopeView → ScopeView
+naming_unit unit scope = declaring (protected_meaning unit.is_type (length scope.shown)) unit.name (hiding unit.name scope)
+
+-- the parts of a protected unit, whose operations and components stand in a region of their own
+abbrev pub parts_uses : {A : Type 0} → Use A → ScopeView → ProtectedUnit → A → A
+parts_uses at_use scope unit =
+    aspects_uses at_use scope unit.aspects
+    ▷ operations_uses at_use (entered scope) unit.operations
+    ▷ private_uses at_use (with_operations unit.operations (entered scope)) unit.private
+
+abbrev pub protected_unit_uses : {A : Type 0} → Use A → ScopeView → ProtectedUnit → A → A
+protected_unit_uses at_use scope unit = parts_uses at_use (within_unit unit.name.at (naming_unit unit scope)) unit
 
 -- the operations that a region shows, with this one
 abbrev pub with_shown : OperationDeclaration → Region → Region
@@ -139,10 +147,9 @@ abbrev pub with_all_shown : List OperationDeclaration → Region → Region
 with_all_shown [] region = region
 with_all_shown (o ∷ more) region = with_all_shown more (with_shown o region)
 
+-- and behind its declaration what others see of it: its operations before `private` (9.4)
 abbrev pub declaring_protected_unit : ProtectedUnit → ScopeView → ScopeView
-declaring_protected_unit unit scope =
-    showing (with_all_shown unit.operations [])
-    (declaring (protected_meaning unit.is_type (length scope.shown)) unit.name (hiding unit.name scope))
+declaring_protected_unit unit scope = showing (with_all_shown unit.operations []) (naming_unit unit scope)
 
 abbrev pub task_item_uses : {A : Type 0} → Use A → ScopeView → TaskItem → A → A
 task_item_uses at_use scope (task_pragma pragma) = pragma_uses at_use scope pragma

@@ -24,7 +24,7 @@ pub record ScopeView : Type 0 where
   pub around : List Region
   -- the innermost region that the point is in
   pub innermost : Region
-  -- the protected unit whose body the point is in, by the place of its identifier
+  -- the protected unit whose declaration or body the point is in, by the place of its identifier
   pub current : Option ℕ
   -- the operations before `private` of each protected unit of the text that was declared so far
   pub shown : List Region
@@ -70,9 +70,9 @@ hiding_all (i ∷ more) scope = hiding_all more (hiding i scope)
 abbrev pub entered : ScopeView → ScopeView
 entered scope = record scope { around = scope.around ++ scope.innermost ∷ []; innermost = [] }
 
--- the body of a protected unit begins
-abbrev pub in_body_of : ℕ → ScopeView → ScopeView
-in_body_of at scope = record scope { current = Some at }
+-- the point is within the declaration or the body of the protected unit whose identifier has this place
+abbrev pub within_unit : ℕ → ScopeView → ScopeView
+within_unit at scope = record scope { current = Some at }
 
 -- a protected unit with these operations before `private` is declared
 abbrev pub showing : Region → ScopeView → ScopeView

@@ -16,7 +16,7 @@ use Rattle.rv_names.specs.declared.predefined.Library.{Library}
 use Rattle.rv_names.specs.declared.predefined.Library.TheVariants as l
 use Rattle.rv_names.specs.declared.wanted.Wanted.{Wanted}
 use Rattle.rv_names.specs.declared.wanted.Wanted.TheVariants as w
-use Rattle.rv_names.specs.Scope.{ScopeView, declaring_all, hiding_all, entered, in_body_of, with_unit, with_library, using_library, empty_scope}
+use Rattle.rv_names.specs.Scope.{ScopeView, declaring_all, hiding_all, entered, within_unit, with_unit, with_library, using_library, empty_scope}
 use Rattle.rv_names.specs.Wanted.{denoted}
 use Rattle.rv_names.specs.ExpressionUses.{Use, ◌▷◌, nothing, simple, refused, value_uses, maybe_uses, range_uses}
 use Rattle.rv_names.specs.StatementUses.{statements_uses}
@@ -98,7 +98,7 @@ operation_bodies_uses at_use scope (body ∷ more) =
 
 -- in the body of a protected unit all its members are declared, and it is the current one
 abbrev pub in_protected_unit : ProtectedUnit → ScopeView → ScopeView
-in_protected_unit unit scope = in_body_of unit.name.at (with_members unit scope)
+in_protected_unit unit scope = within_unit unit.name.at (with_members unit scope)
 
 -- the number of the protected unit that is declared, if it is one
 abbrev pub unit_number : Option Declared → Option ℕ

@@ -153,7 +153,7 @@ abbrev pub is_place : Option ℕ → ℕ → Bool
 is_place None at = false
 is_place (Some place) at = place == at
 
--- the protected unit of this place is the one whose body the point is in
+-- the protected unit of this place is the one whose declaration or body the point is in
 abbrev pub is_current : ScopeView → ℕ → Bool
 is_current scope at = is_place scope.current at
 

@@ -204,13 +204,34 @@ impl<'a> Around<'a> {
             Declared::Unit(unit) => scope.has_object(unit, name),
             Declared::UnitObject(unit, object) => scope.has_unit_operation(unit, object, name),
             Declared::LibraryPackage(library) => library.child(name).is_some(),
-            Declared::SingleProtected(_, number) | Declared::ProtectedObject(_, number) => {
-                match self.units.get(number) {
-                    Some(unit) => has_private(unit, name),
-                    None => false,
+            Declared::ProtectedType(at, number) => {
+                scope.is_current(at) && self.has_later_member(number, name)
+            }
+            Declared::SingleProtected(at, number) => {
+                if scope.is_current(at) {
+                    self.has_later_member(number, name)
+                } else {
+                    self.has_hidden_member(number, name)
                 }
             }
+            Declared::ProtectedObject(_, number) => self.has_hidden_member(number, name),
             _ => false,
+        }
+    }
+
+    // Whether the protected unit of a number declares a name that isn't visible yet within its declaration.
+    fn has_later_member(&self, number: usize, name: &str) -> bool {
+        match self.units.get(number) {
+            Some(unit) => has_member(unit, name),
+            None => false,
+        }
+    }
+
+    // Whether it declares a name after `private`.
+    fn has_hidden_member(&self, number: usize, name: &str) -> bool {
+        match self.units.get(number) {
+            Some(unit) => has_private(unit, name),
+            None => false,
         }
     }
 

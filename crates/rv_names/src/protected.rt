@@ -5,9 +5,9 @@ ghost use Rattle.rv_tree.specs.NameView.{identifier_view, identifiers_view, name
 ghost use Rattle.rv_tree.specs.ExpressionView.{expression_view, range_view};
 ghost use Rattle.rv_tree.specs.DeclarationView.{maybe, aspect_view, parameter_view, operation_view, element_view, protected_unit_view};
 ghost use Rattle.rv_names.specs.Bound.{judged};
-ghost use Rattle.rv_names.specs.Scope.{OnlyDeclares, declaring, declaring_all, hiding_all, hiding, entered, showing};
+ghost use Rattle.rv_names.specs.Scope.{OnlyDeclares, declaring, declaring_all, hiding_all, hiding, entered, within_unit, showing};
 ghost use Rattle.rv_names.specs.ExpressionUses.{◌▷◌, value_uses, maybe_uses, range_uses};
-ghost use Rattle.rv_names.specs.DeclarationUses.{aspects_uses, parameters_uses, with_parameters, declaring_operation, operation_uses, with_operation, operations_uses, with_operations, element_uses, with_element, elements_uses, with_elements, private_uses, with_private, with_members, protected_unit_uses, protected_meaning as meaning_of_unit, with_shown, with_all_shown, declaring_protected_unit};
+ghost use Rattle.rv_names.specs.DeclarationUses.{aspects_uses, parameters_uses, with_parameters, declaring_operation, operation_uses, with_operation, operations_uses, with_operations, element_uses, with_element, elements_uses, with_elements, private_uses, with_private, with_members, parts_uses, protected_unit_uses, protected_meaning as meaning_of_unit, with_shown, with_all_shown, declaring_protected_unit};
 
 use crate::declare::{Form, declare_all, hide, hide_all};
 use crate::declared::{Declared, OperationKind};
@@ -326,22 +326,36 @@ fn shown(alloc: Global, list: &Vec<OperationDeclaration>) -> Result<Region, Allo
 }
 
 impl<'a> Scope<'a> {
-    /// The identifier of a protected unit is declared behind its declaration, and with it what others see of the unit: its
-    /// operations before `private` (9.4).
+    /// The identifier of a protected unit is declared, which denotes the unit within its own declaration too (8.3).
+    pub fn name_protected_unit(&mut self, unit: &ProtectedUnit) -> Result<(), AllocError>
+        ensures { OnOk result (self.new
+            ≡ declaring (meaning_of_unit unit.now.is_type (length self.old.shown)) (identifier_view unit.now.name) self.old) }
+    {
+        let meaning = unit_meaning(unit.is_type, self.shown().len(), unit.name.at);
+        self.declare(&unit.name, Some(meaning))
+    }
+
+    /// What others see of a protected unit behind its declaration: its operations before `private` (9.4).
+    pub fn show_protected_unit(&mut self, unit: &ProtectedUnit) -> Result<(), AllocError>
+        ensures { OnOk result (self.new ≡ showing (with_all_shown (map operation_view unit.now.operations.items) []) self.old) }
+    {
+        let operations = shown(self.allocator(), &unit.operations)?;
+        self.show(operations)
+    }
+
+    /// The identifier of a protected unit, and what others see of the unit.
     pub fn declare_protected_unit(&mut self, unit: &ProtectedUnit) -> Result<(), AllocError>
         ensures { OnOk result (self.new
             ≡ showing (with_all_shown (map operation_view unit.now.operations.items) [])
             (declaring (meaning_of_unit unit.now.is_type (length self.old.shown)) (identifier_view unit.now.name) self.old)) }
     {
-        let meaning = unit_meaning(unit.is_type, self.shown().len(), unit.name.at);
-        self.declare(&unit.name, Some(meaning))?;
-        let operations = shown(self.allocator(), &unit.operations)?;
-        self.show(operations)
+        self.name_protected_unit(unit)?;
+        self.show_protected_unit(unit)
     }
 }
 
 // What a protected unit declares, in a region of its own.
-fn parts(unit: &ProtectedUnit, scope: &mut Scope, faults: &mut Faults) -> Result<(), AllocError>
+fn members(unit: &ProtectedUnit, scope: &mut Scope, faults: &mut Faults) -> Result<(), AllocError>
     ensures faults { OnOk result (faults.new
         ≡ (operations_uses judged (entered scope.old) (map operation_view unit.now.operations.items)
         ▷ private_uses judged (with_operations (map operation_view unit.now.operations.items) (entered scope.old))
@@ -355,6 +369,27 @@ fn parts(unit: &ProtectedUnit, scope: &mut Scope, faults: &mut Faults) -> Result
     Ok(())
 }
 
+// The parts of a protected unit, at a point within its declaration.
+fn parts<'a>(
+    unit: &'a ProtectedUnit,
+    scope: &mut Scope,
+    faults: &mut Faults<'a>,
+) -> Result<(), AllocError>
+    ensures faults { OnOk result (faults.new
+        ≡ parts_uses judged (within_unit unit.now.name.at scope.old) (protected_unit_view unit.now) faults.old) }
+    ensures scope { OnOk result (scope.new ≡ scope.old) }
+{
+    let around = scope.current();
+    scope.set_current(Some(unit.name.at));
+    aspects(&unit.aspects, scope, faults);
+    protected_rules(unit, faults);
+    faults.set_unit(Some(unit));
+    members(unit, scope, faults)?;
+    faults.set_unit(None);
+    scope.set_current(around);
+    Ok(())
+}
+
 /// A protected unit of the package.
 pub(crate) fn protected_unit<'a>(
     unit: &'a ProtectedUnit,
@@ -365,10 +400,7 @@ pub(crate) fn protected_unit<'a>(
     ensures scope { OnOk result (scope.new ≡ declaring_protected_unit (protected_unit_view unit.now) scope.old) }
 {
     hide(&unit.name, scope, faults)?;
-    aspects(&unit.aspects, scope, faults);
-    protected_rules(unit, faults);
-    faults.set_unit(Some(unit));
+    scope.name_protected_unit(unit)?;
     parts(unit, scope, faults)?;
-    faults.set_unit(None);
-    scope.declare_protected_unit(unit)
+    scope.show_protected_unit(unit)
 }

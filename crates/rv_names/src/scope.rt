@@ -4,7 +4,7 @@ ghost use Rattle.std.specs.Prelude.{◌≡◌, ◌==◌, ◌++◌, ◌∷◌, []
 ghost use Rattle.std.specs.List.{list_any};
 ghost use Rattle.rv_tree.specs.NameView.{identifier_view};
 ghost use Rattle.rv_names.specs.Predefined.{named};
-ghost use Rattle.rv_names.specs.Scope.{ScopeView, Region as RegionView, with_meaning, entered, in_body_of, showing, with_unit, with_library, using_library, empty_scope};
+ghost use Rattle.rv_names.specs.Scope.{ScopeView, Region as RegionView, with_meaning, entered, within_unit, showing, with_unit, with_library, using_library, empty_scope};
 
 use crate::declared::Declared;
 use crate::predefined::{Library, is_among};
@@ -24,7 +24,7 @@ pub struct Scope<'a> {
     // The regions around the innermost one, the package's first.
     around: Vec<Region>,
     innermost: Region,
-    // The protected unit whose body the point is in, by the place of its identifier.
+    // The protected unit whose declaration or body the point is in, by the place of its identifier.
     current: Option<usize>,
     // The operations before `private` of each protected unit of the text that was declared so far.
     shown: Vec<Region>,
@@ -91,7 +91,7 @@ impl<'a> Scope<'a> {
         &self.innermost
     }
 
-    /// The protected unit whose body the point is in, by the place of its identifier.
+    /// The protected unit whose declaration or body the point is in, by the place of its identifier.
     pub fn current(&self) -> Option<usize>
         ensures { result ≡ self.now.current }
     {
@@ -168,7 +168,7 @@ impl<'a> Scope<'a> {
         }
     }
 
-    /// Begins the body of the protected unit whose identifier has this place, or ends a protected body.
+    /// Begins the declaration or the body of the protected unit whose identifier has this place, or ends it.
     pub fn set_current(&mut self, current: Option<usize>)
         ensures { self.new ≡ record self.old { current = current } }
     {

@@ -7,7 +7,7 @@ ghost use Rattle.rv_tree.specs.DeclarationView.{declaration_view, protected_unit
 ghost use Rattle.rv_tree.specs.BodyView.{operation_body_view, protected_body_view, task_body_view};
 ghost use Rattle.rv_tree.specs.UnitView.{body_item_view, unit_view};
 ghost use Rattle.rv_names.specs.Bound.{judged};
-ghost use Rattle.rv_names.specs.Scope.{in_body_of};
+ghost use Rattle.rv_names.specs.Scope.{within_unit};
 ghost use Rattle.rv_names.specs.ExpressionUses.{◌▷◌, simple as simple_name};
 ghost use Rattle.rv_names.specs.UnitUses.{operation_bodies_uses, in_protected_unit, unit_number as unit_number_of, protected_unit_of, bodies_of_unit, protected_body_uses, task_body_uses, body_item_uses, with_body_item, body_items_uses};
 
@@ -44,7 +44,7 @@ fn current_bodies<'a>(
     faults: &mut Faults<'a>,
 ) -> Result<(), AllocError>
     ensures faults { OnOk result (faults.new
-        ≡ operation_bodies_uses judged (in_body_of unit.now.name.at scope.old) (map operation_body_view body.now.operations.items) faults.old) }
+        ≡ operation_bodies_uses judged (within_unit unit.now.name.at scope.old) (map operation_body_view body.now.operations.items) faults.old) }
     ensures scope { OnOk result (scope.new ≡ scope.old) }
 {
     let around = scope.current();

@@ -173,8 +173,8 @@ impl<'a> Scope<'a> {
         of_object(object, operation)
     }
 
-    // Whether the point is in the body of the protected unit whose identifier has this place.
-    fn is_current(&self, at: usize) -> bool
+    // Whether the point is in the declaration or the body of the protected unit whose identifier has this place.
+    pub(crate) fn is_current(&self, at: usize) -> bool
         ensures { result ≡ is_current self.now at }
     {
         match self.current() {

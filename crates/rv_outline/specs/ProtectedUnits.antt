@@ -4,8 +4,8 @@ use Rattle.std.specs.Prelude.{ℕ, Bool, true, false, if◌then◌else◌, List,
 use Rattle.rv_tree.specs.Names.{Identifier}
 use Rattle.rv_tree.specs.Declarations.{Pragma, Aspect, OperationDeclaration, a_pragma, a_function, a_procedure, an_entry, ProtectedElement, an_operation, a_component, ProtectedUnit, TaskItem, task_pragma, task_entry, TaskDefinition, TaskUnit}
 use Rattle.rv_shape.specs.declared.kind.Kind.TheVariants.{Handler}
-use Rattle.rv_names.specs.Scope.{ScopeView, hiding, hiding_all, entered}
-use Rattle.rv_names.specs.DeclarationUses.{is_priority, is_attachment, with_operation, with_operations, with_element}
+use Rattle.rv_names.specs.Scope.{ScopeView, hiding, hiding_all, entered, within_unit}
+use Rattle.rv_names.specs.DeclarationUses.{is_priority, is_attachment, with_operation, with_operations, with_element, naming_unit}
 use Rattle.rv_outline.specs.declared.outline.ObjectType.TheVariants as sort
 use Rattle.rv_outline.specs.declared.handler.Attachment.{Attachment}
 use Rattle.rv_outline.specs.Known.{means}
@@ -93,7 +93,7 @@ private_outlined scope (Some elements) draft = elements_outlined scope elements 
 
 -- Protected units
 
--- all parts of a protected unit; the point is inside its declaration
+-- all parts of a protected unit; the point is within its declaration
 abbrev pub parts_outlined : ScopeView → ProtectedUnit → Draft → Draft
 parts_outlined scope unit draft =
     private_outlined (with_operations unit.operations (entered scope)) unit.private
@@ -107,7 +107,7 @@ single_outlined false is_visible number i draft = adding_object is_visible (sort
 abbrev pub protected_unit_outlined : ScopeView → Bool → ProtectedUnit → Draft → Draft
 protected_unit_outlined scope is_visible unit draft =
     single_outlined unit.is_type is_visible (length draft.units) unit.name
-    (finished (parts_outlined (hiding unit.name scope) unit (started unit.name is_visible draft)))
+    (finished (parts_outlined (within_unit unit.name.at (naming_unit unit scope)) unit (started unit.name is_visible draft)))
 
 -- Tasks
 

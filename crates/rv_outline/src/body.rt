@@ -6,7 +6,7 @@ ghost use Rattle.rv_tree.specs.ExpressionView.{expression_view};
 ghost use Rattle.rv_tree.specs.DeclarationView.{parameter_view, protected_unit_view};
 ghost use Rattle.rv_tree.specs.BodyView.{operation_body_view, protected_body_view};
 ghost use Rattle.rv_tree.specs.UnitView.{body_item_view};
-ghost use Rattle.rv_names.specs.Scope.{OnlyDeclares, entered, in_body_of};
+ghost use Rattle.rv_names.specs.Scope.{OnlyDeclares, entered, within_unit};
 ghost use Rattle.rv_names.specs.ExpressionUses.{simple as simple_name};
 ghost use Rattle.rv_names.specs.Wanted.{denoted};
 ghost use Rattle.rv_names.specs.DeclarationUses.{with_parameters};
@@ -131,7 +131,7 @@ fn current_bodies(
     draft: &mut Draft,
 ) -> Result<(), AllocError>
     ensures draft { OnOk result (draft.new
-        ≡ operation_bodies_outlined (in_body_of unit.now.name.at scope.old) (map operation_body_view body.now.operations.items) draft.old) }
+        ≡ operation_bodies_outlined (within_unit unit.now.name.at scope.old) (map operation_body_view body.now.operations.items) draft.old) }
     ensures scope { OnOk result (scope.new ≡ scope.old) }
 {
     let around = scope.current();

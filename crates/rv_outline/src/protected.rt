@@ -4,7 +4,7 @@ ghost use Rattle.std.specs.Prelude.{◌≡◌, OnOk, map, length};
 ghost use Rattle.rv_tree.specs.NameView.{identifier_view, identifiers_view, name_view};
 ghost use Rattle.rv_tree.specs.ExpressionView.{expression_view, range_view};
 ghost use Rattle.rv_tree.specs.DeclarationView.{maybe, aspect_view, parameter_view, operation_view, element_view, protected_unit_view};
-ghost use Rattle.rv_names.specs.Scope.{OnlyDeclares, declaring_all, hiding_all, hiding, entered};
+ghost use Rattle.rv_names.specs.Scope.{OnlyDeclares, declaring_all, hiding_all, hiding, entered, within_unit};
 ghost use Rattle.rv_names.specs.DeclarationUses.{declaring_operation, with_operation, with_operations, with_element, with_elements, declaring_protected_unit};
 ghost use Rattle.rv_outline.specs.Known.{means};
 ghost use Rattle.rv_outline.specs.Drafts.{noted, started, finished, adding_operation, adding_found, adding_components};
@@ -280,7 +280,20 @@ fn single(
     draft.add_object(is_visible, ObjectType::Protected(number), &unit.name)
 }
 
-// A protected unit at the point inside its declaration.
+// All parts of a protected unit, at a point within its declaration.
+fn within(unit: &ProtectedUnit, scope: &mut Scope, draft: &mut Draft) -> Result<(), AllocError>
+    ensures draft { OnOk result (draft.new
+        ≡ parts_outlined (within_unit unit.now.name.at scope.old) (protected_unit_view unit.now) draft.old) }
+    ensures scope { OnOk result (scope.new ≡ scope.old) }
+{
+    let around = scope.current();
+    scope.set_current(Some(unit.name.at));
+    parts(unit, scope, draft)?;
+    scope.set_current(around);
+    Ok(())
+}
+
+// A protected unit whose identifier is declared.
 fn outline_unit(
     unit: &ProtectedUnit,
     is_visible: bool,
@@ -288,12 +301,12 @@ fn outline_unit(
     draft: &mut Draft,
 ) -> Result<(), AllocError>
     ensures draft { OnOk result (draft.new ≡ single_outlined unit.now.is_type is_visible (length draft.old.units) (identifier_view unit.now.name)
-        (finished (parts_outlined scope.old (protected_unit_view unit.now) (started (identifier_view unit.now.name) is_visible draft.old)))) }
+        (finished (parts_outlined (within_unit unit.now.name.at scope.old) (protected_unit_view unit.now) (started (identifier_view unit.now.name) is_visible draft.old)))) }
     ensures scope { OnOk result (scope.new ≡ scope.old) }
 {
     let number = draft.units.len();
     draft.start(&unit.name, is_visible)?;
-    parts(unit, scope, draft)?;
+    within(unit, scope, draft)?;
     draft.finish_unit()?;
     single(unit, is_visible, number, draft)
 }
@@ -309,6 +322,7 @@ pub(crate) fn protected_unit(
     ensures scope { OnOk result (scope.new ≡ declaring_protected_unit (protected_unit_view unit.now) scope.old) }
 {
     hide(&unit.name, scope)?;
+    scope.name_protected_unit(unit)?;
     outline_unit(unit, is_visible, scope, draft)?;
-    scope.declare_protected_unit(unit)
+    scope.show_protected_unit(unit)
 }

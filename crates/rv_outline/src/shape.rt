@@ -30,24 +30,12 @@ fn kind(kinds: &Kinds, draft: &OperationDraft) -> Kind
     }
 }
 
-fn copied_parameters(alloc: Global, list: &[Parameter]) -> Result<Vec<Parameter>, AllocError>
-    ensures { IfOk result (λ v. v.items ≡ list.now) }
-{
-    list.iter().copied().collect(alloc)
-}
-
-fn copied_components(alloc: Global, list: &[Component]) -> Result<Vec<Component>, AllocError>
-    ensures { IfOk result (λ v. v.items ≡ list.now) }
-{
-    list.iter().copied().collect(alloc)
-}
-
 // An operation with its kind.
 fn operation(alloc: Global, kinds: &Kinds, draft: &OperationDraft) -> Result<Operation, AllocError>
     ensures { IfOk result (λ o. o ≡ shape_of_operation kinds.now draft.now) }
 {
     let name = String::from_str(alloc, draft.operation.name())?;
-    let parameters = copied_parameters(alloc, draft.operation.parameters())?;
+    let parameters = Vec::from_slice(alloc, draft.operation.parameters())?;
     let kind = kind(kinds, draft);
     Ok(Operation::new(name, kind, parameters, draft.operation.is_visible()))
 }
@@ -92,7 +80,7 @@ fn with_operations(
         Some(priority) => priority,
     };
     let name = String::from_str(alloc, unit.name.as_str())?;
-    let components = copied_components(alloc, unit.components.as_slice())?;
+    let components = Vec::from_slice(alloc, unit.components.as_slice())?;
     Ok(ProtectedObject::new(name, unit.is_visible, ceiling, components, operations))
 }
 
@@ -116,18 +104,28 @@ pub(crate) fn unit_shapes(alloc: Global, draft: &Draft) -> Result<Vec<ProtectedO
     Ok(done)
 }
 
+// The first of these, so many at most.
+fn first_of<T>(list: &[T], most: usize) -> &[T]
+    ensures { result.now ≡ take most list.now }
+{
+    if list.len() <= most {
+        return list;
+    }
+    &list[..most]
+}
+
 // The first of these parameters, and one more than an operation may have.
 fn cut_parameters(alloc: Global, list: &[Parameter]) -> Result<Vec<Parameter>, AllocError>
     ensures { IfOk result (λ v. v.items ≡ take (most_parameters + 1) list.now) }
 {
-    list.iter().take(5).copied().collect(alloc)
+    Vec::from_slice(alloc, first_of(list, 5))
 }
 
 // The first of these components, and one more than an object may have.
 fn cut_components(alloc: Global, list: &[Component]) -> Result<Vec<Component>, AllocError>
     ensures { IfOk result (λ v. v.items ≡ take (most_components + 1) list.now) }
 {
-    list.iter().take(33).copied().collect(alloc)
+    Vec::from_slice(alloc, first_of(list, 33))
 }
 
 // A copy of an operation, cut behind the first parameter that is too many.
@@ -154,10 +152,7 @@ fn cut_each(alloc: Global, list: &[Operation]) -> Result<Vec<Operation>, AllocEr
 fn cut_operations(alloc: Global, list: &[Operation]) -> Result<Vec<Operation>, AllocError>
     ensures { IfOk result (λ v. v.items ≡ map operation_cut (take (most_operations + 1) list.now)) }
 {
-    if list.len() <= 17 {
-        return cut_each(alloc, list);
-    }
-    cut_each(alloc, &list[..17])
+    cut_each(alloc, first_of(list, 17))
 }
 
 // An object of a protected unit.
@@ -226,16 +221,6 @@ fn each_object(
         push_object(alloc, object, units, &mut done)?;
     }
     Ok(done)
-}
-
-// The first of these, so many at most.
-fn first_of(list: &[ObjectDraft], most: usize) -> &[ObjectDraft]
-    ensures { result.now ≡ take most list.now }
-{
-    if list.len() <= most {
-        return list;
-    }
-    &list[..most]
 }
 
 /// The objects of the unit, cut behind the first that is too many.

@@ -4,6 +4,7 @@
 mod arithmetic;
 pub mod fault;
 pub mod meaning;
+mod primary;
 pub mod range;
 mod value;
 

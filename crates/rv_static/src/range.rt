@@ -1,6 +1,6 @@
 //! Subtypes with their ranges, and what a component starts at.
 
-ghost use Rattle.std.specs.Prelude.{◌≡◌};
+ghost use Rattle.std.specs.Prelude.{◌≡◌, true};
 ghost use Rattle.rv_tree.specs.NameView.{name_view};
 ghost use Rattle.rv_tree.specs.DeclarationView.{maybe};
 ghost use Rattle.rv_tree.specs.ExpressionView.{expression_view, range_view};
@@ -39,13 +39,24 @@ pub fn static_number<N: Meanings>(
     ensures value { result ≡ static_number (N.means names.now) range (expression_view e.now) }
     ensures told { faults.new ≡ told_unless result faults.old }
 {
-    match operand(range.of, e, true, names, faults)? {
-        Number::Known(number) => Some(number),
-        Number::Skipped => {
+    match operand(range.of, e, true, names, faults) {
+        Some(Number::Known(number)) => Some(number),
+        Some(Number::Skipped) => {
             faults.tell(TypeFault::NotStatic(e.place()));
             None
         }
+        None => {
+            tell_types(range, e, names, faults);
+            None
+        }
     }
+}
+
+// Where an expression with a fault has a value that is too large, a type that doesn't fit may stand before.
+fn tell_types<N: Meanings>(range: Range, e: &Expression, names: &N, faults: &mut Faults)
+    ensures { faults.old ≡ true → faults.new ≡ true }
+{
+    let _ = operand(range.of, e, false, names, faults);
 }
 
 fn in_bounds(range: Range, number: i64) -> bool

@@ -1,158 +1,19 @@
 //! The type and the value of a static expression.
 
 ghost use Rattle.std.specs.Prelude.{◌≡◌};
-ghost use Rattle.rv_tree.specs.NameView.{identifier_view, name_view};
+ghost use Rattle.rv_tree.specs.NameView.{name_view};
 ghost use Rattle.rv_tree.specs.Expressions.{expressions_of, factors_of, terms_of};
 ghost use Rattle.rv_tree.specs.ExpressionView.{expression_view, expressions_view, factors_view, terms_view};
-ghost use Rattle.rv_shape.specs.declared.kind.ValueType.TheVariants.{Integer, Boolean};
-ghost use Rattle.rv_static.specs.Meanings.{same_type, static_of_type, shown, constant_in, placed};
-ghost use Rattle.rv_static.specs.Static.{number_in, literal_number, bound_of, converted, highest_of, is_compared, comparable, static_of, argument_of, product_of, sum_of, logic_of};
+ghost use Rattle.rv_shape.specs.declared.kind.ValueType.TheVariants.{Integer};
+ghost use Rattle.rv_static.specs.Static.{number_in, converted, highest_of, comparable, static_of, argument_of, product_of, sum_of, logic_of};
 ghost use Rattle.rv_static.specs.Told.{told_unless};
 
-use crate::arithmetic::{
-    absolute, added, decides, joined, known, multiplied, negated, related, signed,
-};
+use crate::arithmetic::{absolute, added, decides, joined, multiplied, negated, related, signed};
 use crate::fault::{Faults, TypeFault};
 use crate::meaning::{Meaning, Meanings, Number, Static};
-use rv_shape::kind::{Range, ValueType};
-use rv_text::is_same_name;
-use rv_tree::{
-    Expression, Factor, HighestOperator, Identifier, LogicalOperator, Name, RelationalOperator,
-    Term,
-};
-
-fn shown(is_evaluated: bool, number: i64) -> Number
-    ensures { result ≡ shown is_evaluated number }
-{
-    if is_evaluated {
-        Number::Known(number)
-    } else {
-        Number::Skipped
-    }
-}
-
-fn same_type(left: ValueType, right: ValueType) -> bool
-    ensures { result ≡ same_type left right }
-{
-    match left {
-        ValueType::Integer => match right {
-            ValueType::Integer => true,
-            _ => false,
-        },
-        ValueType::Boolean => match right {
-            ValueType::Boolean => true,
-            _ => false,
-        },
-        ValueType::Time => match right {
-            ValueType::Time => true,
-            _ => false,
-        },
-        ValueType::TimeSpan => match right {
-            ValueType::TimeSpan => true,
-            _ => false,
-        },
-    }
-}
-
-fn literal(is_evaluated: bool, number: u64, at: usize, faults: &mut Faults) -> Option<Number>
-    ensures value { result ≡ literal_number is_evaluated number }
-    ensures told { faults.new ≡ told_unless result faults.old }
-{
-    if !is_evaluated {
-        return Some(Number::Skipped);
-    }
-    if number <= 2147483647 {
-        return Some(Number::Known(number as i64));
-    }
-    faults.tell(TypeFault::TooLarge(at));
-    None
-}
-
-// The value of a constant.
-fn constant(is_evaluated: bool, meaning: Meaning, at: usize, faults: &mut Faults) -> Option<Static>
-    ensures value { result ≡ constant_in is_evaluated meaning }
-    ensures told { faults.new ≡ told_unless result faults.old }
-{
-    match meaning {
-        Meaning::Constant(of, number) => Some(Static {
-            of,
-            number: shown(is_evaluated, number),
-        }),
-        _ => {
-            faults.tell(TypeFault::NotStatic(at));
-            None
-        }
-    }
-}
-
-// The bound that `First` or `Last` asks for.
-fn bound(
-    is_evaluated: bool,
-    meaning: Meaning,
-    attribute: &Identifier,
-    at: usize,
-    faults: &mut Faults,
-) -> Option<Number>
-    ensures value { result ≡ bound_of is_evaluated meaning (identifier_view attribute.now).text }
-    ensures told { faults.new ≡ told_unless result faults.old }
-{
-    if let Meaning::Subtype(range) = meaning {
-        if same_type(range.of, ValueType::Integer) {
-            if is_same_name(attribute.text.as_str(), "First") {
-                return Some(shown(is_evaluated, range.low));
-            }
-            if is_same_name(attribute.text.as_str(), "Last") {
-                return Some(shown(is_evaluated, range.high));
-            }
-        }
-    }
-    faults.tell(TypeFault::Mismatch(at));
-    None
-}
-
-// A number within a range.
-fn placed(range: Range, number: Number, at: usize, faults: &mut Faults) -> Option<Number>
-    ensures value { result ≡ placed range number }
-    ensures told { faults.new ≡ told_unless result faults.old }
-{
-    let Number::Known(value) = number else {
-        return Some(Number::Skipped);
-    };
-    if range.low <= value && value <= range.high {
-        return Some(Number::Known(value));
-    }
-    faults.tell(TypeFault::TooLarge(at));
-    None
-}
-
-fn integer(number: Number) -> Static
-    ensures { result ≡ static_of_type Integer number }
-{
-    Static {
-        of: ValueType::Integer,
-        number,
-    }
-}
-
-fn boolean(number: Number) -> Static
-    ensures { result ≡ static_of_type Boolean number }
-{
-    Static {
-        of: ValueType::Boolean,
-        number,
-    }
-}
-
-// Whether values of the type are compared.
-fn is_compared(of: ValueType) -> bool
-    ensures { result ≡ is_compared of }
-{
-    match of {
-        ValueType::Integer => true,
-        ValueType::Boolean => true,
-        _ => false,
-    }
-}
+use crate::primary::{boolean, bound, constant, integer, is_compared, literal, placed, same_type};
+use rv_shape::kind::ValueType;
+use rv_tree::{Expression, Factor, HighestOperator, LogicalOperator, Name, Term};
 
 /// The type of a static expression, and its value where it is evaluated; or `None`, where a fault was told.
 pub fn static_value<N: Meanings>(

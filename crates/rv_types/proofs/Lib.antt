@@ -1,3 +1,4 @@
 pub mod Pushed
 pub mod Ended
 pub mod Units
+pub mod Covered

@@ -5,6 +5,9 @@ pub mod TypedView
 pub mod Targets
 pub mod Loops
 pub mod LoopView
+pub mod Coverage
+pub mod Spans
+pub mod Selectors
 pub mod StatementCode
 pub mod Blocks
 pub mod BodiesOf

@@ -1,5 +1,5 @@
 -- The code of statements (ISO/IEC 8652:2012, 5, 6.4, 6.5, 9.5.3, 9.6, 11.3).
-use Rattle.std.specs.Prelude.{ℕ, pos, Bool, true, false, List, [], ◌∷◌, ◌++◌, Option, Some, None}
+use Rattle.std.specs.Prelude.{ℕ, pos, Bool, true, false, if◌then◌else◌, List, [], ◌∷◌, ◌++◌, Option, Some, None}
 use Rattle.rv_tree.specs.Names.{Identifier, Name}
 use Rattle.rv_tree.specs.Expressions.{Expression}
 use Rattle.rv_tree.specs.Statements.{LoopBounds, forever, while_true, for_each, Statement, null_statement, assignment, call_statement, if_statement, case_statement, loop_statement, exit_statement, return_statement, raise_statement, delay_statement, abort_statement, requeue_statement, accept_statement, select_statement, Statements, no_statements, and_statement, ElsifParts, no_elsif_parts, and_elsif_part, Alternatives, no_alternatives, and_alternative}
@@ -18,6 +18,8 @@ use Rattle.rv_types.specs.Points.{PointView, denotes, in_bounds, with_loop_param
 use Rattle.rv_types.specs.Typed.{Typed, typed, typed_as}
 use Rattle.rv_types.specs.Targets.{target_of, assigned, called}
 use Rattle.rv_types.specs.Loops.{Bounds, bounds_of, discrete, choices_onto}
+use Rattle.rv_types.specs.Selectors.{selector_subtype}
+use Rattle.rv_types.specs.Coverage.{covers}
 
 -- an exit, without a condition always (5.7)
 abbrev pub exit_of : PointView → Option Expression → Option code.Statement
@@ -49,6 +51,10 @@ delay_of p false e = None
 abbrev pub selected_range : Typed → Option Range
 selected_range selector = discrete (whole_range selector.of)
 
+-- a choice between alternatives, where each value of the selector's subtype is of exactly one choice (5.4)
+abbrev pub selection_of : c.Expression → Range → code.Alternatives → Option code.Statement
+selection_of selector r alternatives = if covers r alternatives then Some (code.selection selector alternatives) else None
+
 -- a branch, and an alternative, with these statements
 abbrev pub branch_with : c.Expression → List code.Statement → code.Branch
 branch_with c ss = record { condition = c; statements = code.statements_of ss }
@@ -71,7 +77,7 @@ abbrev mutual
       statements_onto p otherwise [] >>= λ others. Some (code.choice (code.branches_of branches) (code.statements_of others))
   statement_of p (case_statement at selector alternatives) =
       typed p true selector >>= λ value. selected_range value >>= λ r. alternatives_onto p r alternatives [] >>= λ done.
-      Some (code.selection value.code (code.alternatives_of done))
+      selection_of value.code (selector_subtype p r selector) (code.alternatives_of done)
   statement_of p (loop_statement at forever ss) =
       statements_onto p ss [] >>= λ body. Some (code.while_loop (literal (pos 1)) (code.statements_of body))
   statement_of p (loop_statement at (while_true condition) ss) =

@@ -76,7 +76,7 @@ fn all_taken(parameters: &[Parameter], at: usize, point: &Point) -> Result<(), R
 fn copied(alloc: Global, parameters: &[Parameter]) -> Result<Vec<Parameter>, Refused>
     ensures { IfOk result (λ v. v.items ≡ parameters.now) }
 {
-    let copy = parameters.iter().copied().collect(alloc)?;
+    let copy = Vec::from_slice(alloc, parameters)?;
     Ok(copy)
 }
 

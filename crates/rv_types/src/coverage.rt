@@ -1,13 +1,12 @@
-//! Whether each value of a case selector's subtype stands in exactly one choice (5.4). What is told here only refuses.
+//! What is wrong with the choices of a case statement, and where (5.4).
 
 use crate::choice::choice;
-use crate::denoted::Denoted;
 use crate::point::Point;
 use crate::refused::Refused;
 use rv_code::Choice as Covered;
 use rv_shape::kind::Range;
-use rv_static::{Faults, Meaning, Meanings, TypeFault};
-use rv_tree::{CaseAlternative, Choice, Expression, Name};
+use rv_static::{Faults, TypeFault};
+use rv_tree::{CaseAlternative, Choice};
 use std::alloc::Global;
 
 // Values that a choice covers, from the low one to the high one, and its place.
@@ -21,35 +20,6 @@ struct Gathered {
     has_others: bool,
     // Whether one of them isn't static, or of another type, so that nothing is known of what is missing.
     is_unknown: bool,
-}
-
-// The subtype of what a name denotes.
-fn named_subtype(name: &Name, point: &Point) -> Option<Range> {
-    if let Some(range) = point.constant_subtype(name) {
-        return Some(range);
-    }
-    match point.denoted(name) {
-        Denoted::Variable(_, range, _) => Some(range),
-        Denoted::Component(_, range) => Some(range),
-        Denoted::Function(_, range) => Some(range),
-        _ => None,
-    }
-}
-
-// The subtype of a selector: its own where it is a name, a conversion or a function call, else all values of its type.
-fn selector_subtype(whole: Range, selector: &Expression, point: &Point) -> Range {
-    let found = match selector {
-        Expression::Name(name) => named_subtype(name, point),
-        Expression::Call(name, _) => match point.meaning(name) {
-            Meaning::Subtype(range) => Some(range),
-            _ => named_subtype(name, point),
-        },
-        _ => None,
-    };
-    match found {
-        Some(range) => range,
-        None => whole,
-    }
 }
 
 // The place of a choice.
@@ -184,17 +154,16 @@ fn tell_coverage(
     Ok(())
 }
 
-/// What is wrong with the choices of a case statement: values outside the selector's subtype, a value in two choices,
-/// `others` that isn't last, or a value in no choice, which is told at the selector. A choice that isn't static is told
-/// elsewhere.
+/// What is wrong with the choices of a case statement whose selector, at a place, has the values of a range: values outside
+/// the range, a value in two choices, `others` that isn't last, or a value in no choice, which is told at the selector. A
+/// choice that isn't static is told elsewhere.
 pub(crate) fn uncovered(
     alloc: Global,
-    whole: Range,
-    selector: &Expression,
+    range: Range,
+    at: usize,
     list: &Vec<CaseAlternative>,
     point: &Point,
 ) -> Result<Option<Refused>, Refused> {
-    let range = selector_subtype(whole, selector, point);
     let mut faults = Faults::new();
     let mut gathered = Gathered {
         spans: Vec::new(alloc),
@@ -213,7 +182,7 @@ pub(crate) fn uncovered(
             &mut faults,
         )?;
     }
-    tell_coverage(range, selector.place(), gathered, &mut faults)?;
+    tell_coverage(range, at, gathered, &mut faults)?;
     match faults.first() {
         Some(fault) => Ok(Some(Refused(fault))),
         None => Ok(None),

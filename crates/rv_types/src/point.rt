@@ -7,6 +7,7 @@ ghost use Rattle.rv_names.specs.Scope.{OnlyDeclares};
 ghost use Rattle.rv_names.specs.Visible.{visible};
 ghost use Rattle.rv_types.specs.Blocks.{hidden, revealed};
 ghost use Rattle.rv_types.specs.BodiesOf.{point_in};
+ghost use Rattle.rv_types.specs.Selectors.{constant_subtype, declared_range};
 ghost use Rattle.rv_types.specs.Points.{PointView, static_meaning, point_meaning, denotes, denoted_by, profile, profile_of, shows_times, local_at, known_in, noting, taking_slot, in_bounds as inside_bounds, with_loop_parameter};
 
 use crate::denoted::Denoted;
@@ -148,8 +149,19 @@ impl<'a> Point<'a> {
     }
 
     /// The subtype of the constant with a static value that a name denotes, if it denotes one (3.3.1).
-    pub(crate) fn constant_subtype(&self, name: &Name) -> Option<Range> {
-        let Some(Declared::Constant(at)) = self.scope.visible(name) else {
+    #[tactic(auto, unfolding(crate::specs::Selectors::constant_subtype))]
+    pub(crate) fn constant_subtype(&self, name: &Name) -> Option<Range>
+        ensures { result ≡ constant_subtype self.now (name_view name.now) }
+    {
+        let found = self.scope.visible(name);
+        self.declared_range(found)
+    }
+
+    // The subtype of a constant with a static value.
+    fn declared_range(&self, found: Option<Declared>) -> Option<Range>
+        ensures { result ≡ declared_range self.now found }
+    {
+        let Some(Declared::Constant(at)) = found else {
             return None;
         };
         match self.known(at) {

@@ -7,7 +7,8 @@ ghost use Rattle.rv_tree.specs.ExpressionView.{expression_view};
 ghost use Rattle.rv_tree.specs.Statements.{statements_of, elsif_parts_of, alternatives_of, loop_statement};
 ghost use Rattle.rv_tree.specs.StatementView.{statement_view, statements_view, elsif_parts_view, alternatives_view, iteration_view, bounds_view as tree_bounds_view};
 ghost use Rattle.rv_code.specs.ExpressionView.{expression_view as code_view};
-ghost use Rattle.rv_code.specs.StatementView.{statement_view as action_view, branch_view, alternative_view};
+ghost use Rattle.rv_code.specs.StatementView.{statement_view as action_view, branch_view, alternative_view, alternatives_view as code_alternatives_view};
+ghost use Rattle.rv_types.specs.Coverage.{covers as covers_range};
 ghost use Rattle.rv_types.specs.Typed.{typed};
 ghost use Rattle.rv_types.specs.TypedView.{typed_view};
 ghost use Rattle.rv_types.specs.StatementCode.{exit_of, return_of, raise_of, delay_of, branch_with, alternative_with, for_loop_of, statement_of, statements_onto, branches_onto, alternatives_onto};
@@ -15,11 +16,13 @@ ghost use Rattle.rv_types.specs.StatementCode.{exit_of, return_of, raise_of, del
 use crate::bounds::{Bounds, discrete, loop_bounds};
 use crate::choice::choices;
 use crate::coverage::uncovered;
+use crate::covers::covers;
 use crate::denoted::Denoted;
 use crate::expression::{expression, expression_as};
 use crate::operators::within_range;
 use crate::point::Point;
 use crate::refused::{Refused, least, mismatch};
+use crate::selector::selector_subtype;
 use crate::target::{assignment, call_statement};
 use crate::typed::Typed;
 use rv_code::{
@@ -27,6 +30,7 @@ use rv_code::{
 };
 use rv_outline::point::whole_range;
 use rv_shape::kind::{Range, ValueType};
+use rv_static::TypeFault;
 use rv_tree::{
     CaseAlternative, ElsifPart, Expression, Identifier, Iteration, LoopBounds, Name, Statement,
 };
@@ -174,8 +178,26 @@ fn wrong_choices(
     point: &Point,
 ) -> Result<Option<Refused>, Refused> {
     let value = expression(alloc, selector, false, point)?;
-    let range = discrete(whole_range(value.of), selector.place())?;
-    uncovered(alloc, range, selector, list, point)
+    let whole = discrete(whole_range(value.of), selector.place())?;
+    let range = selector_subtype(whole, selector, point);
+    uncovered(alloc, range, selector.place(), list, point)
+}
+
+// Alternatives of which each value of a range is of exactly one choice.
+fn covering(
+    alloc: Global,
+    range: Range,
+    at: usize,
+    list: Vec<Alternative>,
+) -> Result<Vec<Alternative>, Refused>
+    ensures covers { IfOk result (λ v. covers_range range (code_alternatives_view v.items) ≡ true) }
+    ensures same { IfOk result (λ v. v.items ≡ list.items) }
+{
+    if covers(alloc, range, &list)? {
+        Ok(list)
+    } else {
+        Err(Refused(TypeFault::BadChoice(at)))
+    }
 }
 
 #[cycle(statement)]
@@ -206,9 +228,11 @@ fn statement(alloc: Global, one: &Statement, point: &mut Point) -> Result<Action
             alternatives: list,
         } => {
             let value = selected(alloc, selector, list, point)?;
-            let range = discrete(whole_range(value.of), selector.place())?;
-            let missing = uncovered(alloc, range, selector, list, point)?;
-            let alternatives = covering(alloc, range, list, missing, point)?;
+            let whole = discrete(whole_range(value.of), selector.place())?;
+            let range = selector_subtype(whole, selector, point);
+            let missing = uncovered(alloc, range, selector.place(), list, point)?;
+            let found = judged_alternatives(alloc, whole, list, missing, point)?;
+            let alternatives = covering(alloc, range, selector.place(), found)?;
             Ok(Action::Case(value.into_code(), alternatives))
         }
         Statement::Loop {
@@ -350,7 +374,7 @@ fn branches(
 
 // Alternatives for a selector of a range, of which a fault in their choices may be known.
 #[cycle(statement)]
-fn covering(
+fn judged_alternatives(
     alloc: Global,
     range: Range,
     list: &Vec<CaseAlternative>,

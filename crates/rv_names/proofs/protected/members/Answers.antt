@@ -1,5 +1,5 @@
 use Rattle.rv_names.proofs.Scopes.{left, declares_on}
-use Rattle.rv_names.proofs.protected.parts.Goals as goal
+use Rattle.rv_names.proofs.protected.members.Goals as goal
 
 pub returns-clause-scope : goal.returns-clause-scope
 returns-clause-scope c =
