@@ -1,17 +1,19 @@
 -- Lists of ports that are done.
-use Rattle.std.proofs.Common.{◌≡◌, false, List, [], ◌∷◌, ◌++◌, reverse, sym, ap, ◌∙◌, subst, append_assoc}
+use Rattle.std.proofs.Common.{◌≡◌, ℕ, false, length, List, [], ◌∷◌, ◌++◌, reverse, sym, ap, ◌∙◌, subst, append_assoc}
 use Rattle.std.proofs.lemmas.List.{reverse-append, reverse-reverse}
 use Rattle.rv_code.specs.declared.body.UnitBodies.{UnitBodies}
 use Rattle.rv_history.specs.History.{History}
 use Rattle.rv_history.specs.Legal.{Legal}
-use Rattle.rv_turn.specs.Histories.{Each, NoStrangers}
+use Rattle.rv_turn.specs.Histories.{mine, Each, NoStrangers, StartsWith}
+use Rattle.rv_turn.specs.Prefixes.{mine-append}
 use Rattle.rv_turn.specs.Passes.{StandsIn}
 use Rattle.std.specs.Prelude.{Some}
 use Rattle.atomic_table.specs.Seated.{TableId}
 use Rattle.rv_port.specs.Events.{by, log_of}
 use Rattle.rv_port.specs.Acting.{limits_of}
 use Rattle.rv_port.specs.Traces.{Passing}
-use Rattle.rv_port.specs.Closing.{IsClosed}
+use Rattle.rv_port.specs.Closing.{KeepsAll, IsClosed}
+use Rattle.rv_port.specs.declared.event.Event.{Event}
 
 each_both : (P : Passing → Type 0) (xs ys : List Passing) → Each P xs → Each P ys → Each P (xs ++ ys)
 each_both P [] ys t u = u
@@ -41,7 +43,24 @@ pub others : (turn : TableId) (finished passes : List Passing) → passes ≡ re
     → Each (λ p. (p.first ≡ false) × (p.turn ≡ turn)) passes
 others turn finished passes is t u = both_each turn passes t (subst (λ (l : List Passing). Each (λ p. p.turn ≡ turn) l) (sym is) (each_back (λ p. p.turn ≡ turn) finished u))
 
-pub closed : (control : Passing) (finished passes : List Passing) (h : History) (us : List UnitBodies) → Legal h → passes ≡ reverse finished → StandsIn by (log_of h us) control
+-- what was seen of an actor's events stays
+pub mine_later : (a : ℕ) (seen log : List Event) → StartsWith log seen → StartsWith (mine by a log) (mine by a seen)
+mine_later a seen log w = (mine by a w.0, ap (mine by a) w.1 ∙ mine-append by a seen w.0)
+
+each_keeps : (log : List Event) (ports : List Passing) → Each (StandsIn by log) ports → Each (KeepsAll log) ports
+each_keeps log [] t = tt
+each_keeps log (p ∷ ps) t = ((λ a. mine_later a p.seen log t.0.0), each_keeps log ps t.1)
+
+pub closed : (control : Passing) (finished passes : List Passing) (h : History) (us : List UnitBodies) → Legal h → length us ≡ length h.shapes → passes ≡ reverse finished → StandsIn by (log_of h us) control
     → Each (StandsIn by (log_of h us)) passes → NoStrangers by (log_of h us) control.given → control.about ≡ Some (limits_of h) → IsClosed control finished h
-closed control finished passes h us l is own stand none about =
-    record { legal = l; units = us; operator = own; ports_stand = each_forth (StandsIn by (log_of h us)) finished passes is stand; strangers = none; limits = about }
+closed control finished passes h us l some is own stand none about = let stood : Each (StandsIn by (log_of h us)) finished = each_forth (StandsIn by (log_of h us)) finished passes is stand in record {
+  legal = l;
+  units = us;
+  brought = some;
+  operator = own;
+  ports_stand = stood;
+  control_keeps = λ a. mine_later a control.seen (log_of h us) own.0;
+  ports_keep = each_keeps (log_of h us) finished stood;
+  strangers = none;
+  limits = about;
+}

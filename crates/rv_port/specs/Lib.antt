@@ -4,6 +4,7 @@ pub mod Actors
 pub mod Traces
 pub mod Composing
 pub mod Reaching
+pub mod Later
 pub mod Bodies
 pub mod Calls
 pub mod Controls

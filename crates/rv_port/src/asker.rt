@@ -4,7 +4,7 @@ ghost use Rattle.std.specs.Prelude.{◌≡◌, ℕ, ◌++◌, ◌∷◌, [], IfS
 ghost use Rattle.rv_turn.specs.Histories.{mine};
 ghost use Rattle.rv_port.specs.Actors.{HasHandler};
 ghost use Rattle.rv_port.specs.Events.{by, catalogue_of};
-ghost use Rattle.rv_port.specs.Traces.{Went, Asked, Replied, IsTold, told, asks_on};
+ghost use Rattle.rv_port.specs.Traces.{WoreOut, Went, Replied, IsTold, told, asks_on};
 
 use crate::behind::Behind;
 use crate::bell::Bell;
@@ -71,7 +71,7 @@ impl Asker {
         request: &Request,
     ) -> Option<(Answer, Begun, Option<Lent>)>
         ensures some { IfSome result (λ r. Replied self.old.pass request.now r.0 r.1 r.2 self.new.pass × (asks_on r.0 ≡ false)) }
-        ensures none { IfNone result (Went self.old.pass [] self.new.pass × (self.new.pass.left ≡ 0)) }
+        ensures none { IfNone result (WoreOut self.old.pass request.now self.new.pass) }
     {
         for _ in rt.forever() {
             let rings = self.bell.rings(rt);
@@ -90,7 +90,6 @@ impl Asker {
     }
 
     // Asks for a body: Full in place of Misuse, and where no act is left.
-    #[tactic(auto, using(crate::proofs::Asking::worn_told))]
     fn ask_for_body<R: Wait>(&mut self, rt: &R, request: &Request) -> Answer
         ensures went { Went self.old.pass ((request.now, result) ∷ []) self.new.pass }
         ensures told { IsTold result }

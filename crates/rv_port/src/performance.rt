@@ -80,7 +80,7 @@ impl Asker {
     ) -> Reached
         requires { Performs request.now }
         ensures performed { Performed self.old.pass request.now result self.new.pass }
-        ensures tied { Tied self.old.pass result self.new.pass }
+        ensures tied { Tied self.old.pass request.now result self.new.pass }
         ensures stays { Stays self.old.pass self.new.pass }
     {
         self.go(rt, gate, request)

@@ -1,14 +1,16 @@
 //! Ports.
 
-ghost use Rattle.std.specs.Prelude.{◌≡◌, ◌⊎◌, ◌++◌, [], false};
-ghost use Rattle.rv_turn.specs.Histories.{mine};
+ghost use Rattle.std.specs.Prelude.{◌≡◌, ◌++◌, List, [], false};
+ghost use Rattle.rv_turn.specs.Histories.{mine, StartsWith};
 ghost use Rattle.rv_turn.specs.Passes.{Meets};
 ghost use Rattle.rv_event.specs.declared.entry.Answer.{Answer};
 ghost use Rattle.rv_event.specs.declared.entry.Request.TheVariants as asks;
 ghost use Rattle.rv_port.specs.Actors.{HasHandler};
 ghost use Rattle.rv_port.specs.Events.{by, catalogue_of};
-ghost use Rattle.rv_port.specs.Traces.{Went, Asked};
-ghost use Rattle.rv_port.specs.Calls.{Performed, Stays, Tied};
+ghost use Rattle.rv_port.specs.Calls.{Performed, Quits, Stays, Tied};
+ghost use Rattle.rv_port.specs.Controls.{IsPorts};
+ghost use Rattle.rv_port.specs.Later.{NoEarlierList};
+ghost use Rattle.rv_port.specs.declared.event.Event.{Event};
 
 use crate::asker::Asker;
 use crate::behind::Behind;
@@ -79,6 +81,13 @@ impl Finished {
         self.pass.actor()
     }
 
+    /// Does nothing. Its clause says what every port that is done keeps.
+    pub fn keeps(&self)
+        ensures { IsPorts self.now }
+    {
+        let _ = &self.pass;
+    }
+
     /// Whether a body was ever left alone because there were too many holders of the bodies.
     pub fn is_refused(&self) -> bool {
         self.is_refused
@@ -118,12 +127,20 @@ impl Port {
         let _ = &self.asker;
     }
 
+    /// Does nothing. Its clauses say what every port keeps.
+    pub fn keeps(&self)
+        ensures keeps { IsPorts self.now }
+        ensures handles { HasHandler (catalogue_of self.now.seen) self.now.actor }
+    {
+        let _ = &self.asker;
+    }
+
     /// A call of an operation (9.5.1, 9.5.3, D.10): by the numbers of its object and of the
     /// operation, each from 1, with the values of the `in` and `in out` parameters. It waits while
     /// the object is held by others, and where the call is queued. The body runs outside the turn.
     pub fn call<R: Wait>(&mut self, rt: &R, object: usize, operation: usize, args: Args) -> Reached
         ensures performed { Performed self.old (asks.Call object operation args) result self.new }
-        ensures tied { Tied self.old result self.new }
+        ensures tied { Tied self.old (asks.Call object operation args) result self.new }
         ensures stays { Stays self.old self.new }
     {
         self.call_gated(rt, object, operation, args, &Open)
@@ -139,7 +156,7 @@ impl Port {
         gate: &G,
     ) -> Reached
         ensures performed { Performed self.old (asks.Call object operation args) result self.new }
-        ensures tied { Tied self.old result self.new }
+        ensures tied { Tied self.old (asks.Call object operation args) result self.new }
         ensures stays { Stays self.old self.new }
     {
         self.asker
@@ -149,7 +166,7 @@ impl Port {
     /// `Set_True` of a suspension object (D.10).
     pub fn set_true<R: Wait>(&mut self, rt: &R, object: usize) -> Reached
         ensures performed { Performed self.old (asks.Call object 1 []) result self.new }
-        ensures tied { Tied self.old result self.new }
+        ensures tied { Tied self.old (asks.Call object 1 []) result self.new }
         ensures stays { Stays self.old self.new }
     {
         self.call(rt, object, 1, Args::new())
@@ -158,7 +175,7 @@ impl Port {
     /// `Set_False` of a suspension object (D.10).
     pub fn set_false<R: Wait>(&mut self, rt: &R, object: usize) -> Reached
         ensures performed { Performed self.old (asks.Call object 2 []) result self.new }
-        ensures tied { Tied self.old result self.new }
+        ensures tied { Tied self.old (asks.Call object 2 []) result self.new }
         ensures stays { Stays self.old self.new }
     {
         self.call(rt, object, 2, Args::new())
@@ -167,7 +184,7 @@ impl Port {
     /// `Current_State` of a suspension object, returned as 1 for True and 0 for False (D.10).
     pub fn state<R: Wait>(&mut self, rt: &R, object: usize) -> Reached
         ensures performed { Performed self.old (asks.Call object 3 []) result self.new }
-        ensures tied { Tied self.old result self.new }
+        ensures tied { Tied self.old (asks.Call object 3 []) result self.new }
         ensures stays { Stays self.old self.new }
     {
         self.call(rt, object, 3, Args::new())
@@ -176,7 +193,7 @@ impl Port {
     /// `Suspend_Until_True` of a suspension object (D.10). It waits while that is False.
     pub fn suspend<R: Wait>(&mut self, rt: &R, object: usize) -> Reached
         ensures performed { Performed self.old (asks.Call object 4 []) result self.new }
-        ensures tied { Tied self.old result self.new }
+        ensures tied { Tied self.old (asks.Call object 4 []) result self.new }
         ensures stays { Stays self.old self.new }
     {
         self.call(rt, object, 4, Args::new())
@@ -185,7 +202,7 @@ impl Port {
     /// A delay until a time in ticks, -10^15 .. 10^15 (9.6, D.9). It waits until the clock is there.
     pub fn delay_until<R: Wait>(&mut self, rt: &R, time: i64) -> Reached
         ensures performed { Performed self.old (asks.DelayUntil time) result self.new }
-        ensures tied { Tied self.old result self.new }
+        ensures tied { Tied self.old (asks.DelayUntil time) result self.new }
         ensures stays { Stays self.old self.new }
     {
         self.asker.perform(rt, &Open, &Request::DelayUntil(time))
@@ -194,7 +211,7 @@ impl Port {
     /// The ticks so far, which are returned (D.8).
     pub fn clock<R: Wait>(&mut self, rt: &R) -> Reached
         ensures performed { Performed self.old asks.Clock result self.new }
-        ensures tied { Tied self.old result self.new }
+        ensures tied { Tied self.old asks.Clock result self.new }
         ensures stays { Stays self.old self.new }
     {
         self.asker.perform(rt, &Open, &Request::Clock)
@@ -204,7 +221,7 @@ impl Port {
     /// object is held by others.
     pub fn fire<R: Wait>(&mut self, rt: &R) -> Reached
         ensures performed { Performed self.old asks.Fire result self.new }
-        ensures tied { Tied self.old result self.new }
+        ensures tied { Tied self.old asks.Fire result self.new }
         ensures stays { Stays self.old self.new }
     {
         self.asker.perform(rt, &Open, &Request::Fire)
@@ -224,7 +241,8 @@ impl Port {
     /// list in force there or by a later one. The note is of the same control.
     pub fn told(&mut self, note: Note)
         requires turn { note.turn ≡ self.old.turn }
-        ensures { Meets by self.old note.seen self.new }
+        ensures meets { Meets by self.old note.seen self.new }
+        ensures judged { (at : List Event) → StartsWith at self.new.seen → NoEarlierList note.seen at }
     {
         let Note { note } = note;
         self.asker.pass.meet(note);
@@ -233,7 +251,7 @@ impl Port {
     /// Lets go of the port: a task quits, where it may; a line asks nothing. An answer Misuse, and
     /// want of an act, change nothing.
     pub fn finish<R: Wait>(self, rt: &R) -> Finished
-        ensures quits { Went self [] result ⊎ ((r : Answer) × Asked self asks.Quit r result) }
+        ensures quits { Quits self result }
         ensures stays { Stays self result }
     {
         let Port { mut asker } = self;
@@ -247,9 +265,9 @@ impl Port {
     }
 }
 
-// Asks for the end of a task, and tells those who wait.
+// Asks for the end of a task, and tells those who wait; a line has none.
 fn ask_quit<R: Wait>(rt: &R, asker: &mut Asker)
-    ensures { Went asker.old.pass [] asker.new.pass ⊎ ((r : Answer) × Asked asker.old.pass asks.Quit r asker.new.pass) }
+    ensures { Quits asker.old.pass asker.new.pass }
 {
     if asker.pass.actor() < FIRST_TASK as u64 {
         return;
@@ -262,9 +280,9 @@ fn ask_quit<R: Wait>(rt: &R, asker: &mut Asker)
     }
 }
 
-// The end of a task; a line has none.
+// The same. The port stays what it was.
 fn quit<R: Wait>(rt: &R, asker: &mut Asker)
-    ensures quits { Went asker.old.pass [] asker.new.pass ⊎ ((r : Answer) × Asked asker.old.pass asks.Quit r asker.new.pass) }
+    ensures quits { Quits asker.old.pass asker.new.pass }
     ensures stays { Stays asker.old.pass asker.new.pass }
 {
     ask_quit(rt, asker);

@@ -1,6 +1,15 @@
-use Rattle.std.proofs.Common.{sym}
-use Rattle.rv_port.proofs.Asking.{replied_after}
+use Rattle.std.proofs.Common.{◌≡◌, true, rules, tests, sym}
+use Rattle.rv_port.specs.Traces.{asks_on}
+use Rattle.rv_port.proofs.Asking.{in_vain_more, replied_after}
 use Rattle.rv_port.proofs.asker.Asker.insist.Goals as goal
+
+pub loop-preserved-else-not-must_wait : goal.loop-preserved-else-not-must_wait
+loop-preserved-else-not-must_wait g c = let again : asks_on c.in-Some-try_ask.answer ≡ true = search (rules, tests) in
+    in_vain_more c.args.self.now.pass c.loop.self.pass c.try_ask.new.self.pass c.args.request.now c.in-Some-try_ask.answer c.loop.invariant c.in-Some-try_ask.ensures.some.asked again
+
+pub loop-preserved : goal.loop-preserved
+loop-preserved g c = let again : asks_on c.in-Some-try_ask.answer ≡ true = search (rules, tests) in
+    in_vain_more c.args.self.now.pass c.loop.self.pass c.try_ask.new.self.pass c.args.request.now c.in-Some-try_ask.answer c.loop.invariant c.in-Some-try_ask.ensures.some.asked again
 
 pub returns-then-not-must_wait-clause-some : goal.returns-then-not-must_wait-clause-some
 returns-then-not-must_wait-clause-some g c = (

@@ -17,7 +17,7 @@ close-host-requires-clause-others g c =
 
 pub returns-clause-ok : goal.returns-clause-ok
 returns-clause-ok g c = let h = c.close-host.result.host in
-    closed c.args.self c.args.finished.items c.take_passes.new.passes.items h (units_of (arc_value c.close-host.result.bodies)) c.replays.ensures.legal c.take_passes.ensures.passes
+    closed c.args.self c.args.finished.items c.take_passes.new.passes.items h (units_of (arc_value c.close-host.result.bodies)) c.replays.ensures.legal c.close-host.result.brought c.take_passes.ensures.passes
     (subst (λ (v : Passing). StandsIn by (log_of h (units_of (arc_value c.close-host.result.bodies))) v) c.self.view_is c.close-host.ensures.first) c.close-host.ensures.others
     (subst (λ (v : Passing). NoStrangers by (log_of h (units_of (arc_value c.close-host.result.bodies))) v.given) c.self.view_is c.close-host.ensures.strangers)
     (subst (λ (v : Passing). v.about ≡ Some (limits_of h)) c.self.view_is c.close-host.ensures.about)
