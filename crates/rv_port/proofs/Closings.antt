@@ -1,5 +1,5 @@
 -- Lists of ports that are done.
-use Rattle.std.proofs.Common.{◌≡◌, ℕ, false, length, List, [], ◌∷◌, ◌++◌, reverse, sym, ap, ◌∙◌, subst, append_assoc}
+use Rattle.std.proofs.Common.{◌≡◌, ℕ, false, length, map, refl, List, [], ◌∷◌, ◌++◌, reverse, sym, ap, ◌∙◌, subst, append_assoc}
 use Rattle.std.proofs.lemmas.List.{reverse-append, reverse-reverse}
 use Rattle.rv_code.specs.declared.body.UnitBodies.{UnitBodies}
 use Rattle.rv_history.specs.History.{History}
@@ -12,6 +12,7 @@ use Rattle.atomic_table.specs.Seated.{TableId}
 use Rattle.rv_port.specs.Events.{by, log_of}
 use Rattle.rv_port.specs.Acting.{limits_of}
 use Rattle.rv_port.specs.Traces.{Passing}
+use Rattle.rv_port.specs.Ports.{Porting, pass_of}
 use Rattle.rv_port.specs.Closing.{KeepsAll, IsClosed}
 use Rattle.rv_port.specs.declared.event.Event.{Event}
 
@@ -37,6 +38,21 @@ taken all left less passes x is e =
 both_each : (turn : TableId) (xs : List Passing) → Each (λ p. p.first ≡ false) xs → Each (λ p. p.turn ≡ turn) xs → Each (λ p. (p.first ≡ false) × (p.turn ≡ turn)) xs
 both_each turn [] t u = tt
 both_each turn (x ∷ xs) t u = ((t.0, u.0), both_each turn xs t.1 u.1)
+
+-- the passes of ports of a turn are of it
+pub each_pass : (turn : TableId) (ports : List Porting) → Each (λ p. p.turn ≡ turn) ports → Each (λ p. p.turn ≡ turn) (map pass_of ports)
+each_pass turn [] t = tt
+each_pass turn (p ∷ ps) t = (t.0, each_pass turn ps t.1)
+
+map_last : (ports less : List Porting) (p : Porting) → ports ≡ less ++ p ∷ [] → map pass_of ports ≡ map pass_of less ++ pass_of p ∷ []
+map_last ports less p is = ap (map pass_of) is ∙ of_both less where
+  of_both : (xs : List Porting) → map pass_of (xs ++ p ∷ []) ≡ map pass_of xs ++ pass_of p ∷ []
+  of_both [] = refl
+  of_both (x ∷ xs) = ap (λ (l : List Passing). pass_of x ∷ l) (of_both xs)
+
+pub port_taken : (all : List Passing) (left less : List Porting) (passes : List Passing) (p : Porting) → all ≡ map pass_of left ++ reverse passes → left ≡ less ++ p ∷ []
+    → all ≡ map pass_of less ++ reverse (passes ++ pass_of p ∷ [])
+port_taken all left less passes p is e = taken all (map pass_of left) (map pass_of less) passes (pass_of p) is (map_last left less p e)
 
 -- the passes are of the turn, and none is the first
 pub others : (turn : TableId) (finished passes : List Passing) → passes ≡ reverse finished → Each (λ p. p.first ≡ false) passes → Each (λ p. p.turn ≡ turn) finished

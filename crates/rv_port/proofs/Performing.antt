@@ -33,56 +33,87 @@ use Rattle.rv_port.proofs.Actors.{handler_later}
 use Rattle.rv_port.specs.Reaching.{Performs, arguments_of, reads, values_of, reached_by, end_of, plain_of, waits_on, waited_for}
 use Rattle.rv_port.proofs.Asking.{in_vain_later, asked_later}
 use Rattle.rv_port.proofs.Later.{version_later, is_handed, HandOverIn, handed_in, waits_still, dropped_later, refused_resume, woken_handed}
-use Rattle.rv_port.specs.Calls.{Wore, RanOn, Resumed, Waited, Followed, Performed, QuitBy, Quits, IsWait, Opens, IsStart, IsNew, EndedBy, Grown, stops_at, Tied, Stays}
+use Rattle.rv_port.specs.Calls.{Wore, marked, RanOn, Resumed, Waited, Followed, Performed, QuitBy, Quits, IsWait, Opens, IsStart, IsNew, EndedBy, Grown, stops_at, Tied, Stays}
 use Rattle.rv_turn.specs.Histories.{StartsWith}
 use Rattle.rv_turn.specs.Prefixes.{starts_self, starts_both}
 use Rattle.rv_port.specs.declared.event.Begun.{Begun}
 
-pub plainly : (r : Answer) (log : List Event) (b : Begun) (u : Passing) (q : Request) (reached : Reached) → ((s : List ℤ) → r ≡ Answers.Started s → ⊥) → waits_on r ≡ false → reached ≡ plain_of (reads q) r → Followed r log b u q reached u
-plainly (Answers.Started s) log b u q reached never e p = absurd (never s refl)
-plainly Answers.Queued log b u q reached never e p = absurd (cc e)
-plainly Answers.Suspended log b u q reached never e p = absurd (cc e)
-plainly (Answers.Refused rule line version) log b u q reached never e p = (refl, p)
-plainly (Answers.Done n) log b u q reached never e p = (refl, p)
-plainly Answers.Delayed log b u q reached never e p = absurd (cc e)
-plainly (Answers.Woken s) log b u q reached never e p = (refl, p)
-plainly (Answers.Accepted n) log b u q reached never e p = (refl, p)
-plainly Answers.Misuse log b u q reached never e p = (refl, p)
-plainly Answers.Halted log b u q reached never e p = (refl, p)
-plainly Answers.Full log b u q reached never e p = (refl, p)
-plainly Answers.Busy log b u q reached never e p = (refl, p)
-plainly Answers.Waiting log b u q reached never e p = (refl, p)
-plainly Answers.Unattached log b u q reached never e p = (refl, p)
-plainly Answers.BadLine log b u q reached never e p = (refl, p)
-plainly Answers.OutOfMemory log b u q reached never e p = (refl, p)
+pub plainly : (r : Answer) (log : List Event) (b : Begun) (u : Passing) (m f : Bool) (q : Request) (reached : Reached) → f ≡ m → ((s : List ℤ) → r ≡ Answers.Started s → ⊥) → waits_on r ≡ false → reached ≡ plain_of (reads q) r → Followed r log b u m q reached u f
+plainly (Answers.Started s) log b u m f q reached k never e p = absurd (never s refl)
+plainly Answers.Queued log b u m f q reached k never e p = absurd (cc e)
+plainly Answers.Suspended log b u m f q reached k never e p = absurd (cc e)
+plainly (Answers.Refused rule line version) log b u m f q reached k never e p = (refl, k, p)
+plainly (Answers.Done n) log b u m f q reached k never e p = (refl, k, p)
+plainly Answers.Delayed log b u m f q reached k never e p = absurd (cc e)
+plainly (Answers.Woken s) log b u m f q reached k never e p = (refl, k, p)
+plainly (Answers.Accepted n) log b u m f q reached k never e p = (refl, k, p)
+plainly Answers.Misuse log b u m f q reached k never e p = (refl, k, p)
+plainly Answers.Halted log b u m f q reached k never e p = (refl, k, p)
+plainly Answers.Full log b u m f q reached k never e p = (refl, k, p)
+plainly Answers.Busy log b u m f q reached k never e p = (refl, k, p)
+plainly Answers.Waiting log b u m f q reached k never e p = (refl, k, p)
+plainly Answers.Unattached log b u m f q reached k never e p = (refl, k, p)
+plainly Answers.BadLine log b u m f q reached k never e p = (refl, k, p)
+plainly Answers.OutOfMemory log b u m f q reached k never e p = (refl, k, p)
 
--- a body was started
-pub started : (v u w : Passing) (q : Request) (r : Answer) (b : Begun) (lent : Option Lent) (scalars arguments : List ℤ) (reached : Reached) → Replied v q r b lent u → asks_on r ≡ false → r ≡ Answers.Started scalars
-    → arguments ≡ arguments_of q → RanOn (lent_view lent) u b scalars arguments reached w → Performed v q reached w
-started v u w q r b lent scalars arguments reached x n is same ran = inr (
+wait_followed : (r : Answer) (log : List Event) (b : Begun) (u w : Passing) (m f : Bool) (q : Request) (reached : Reached) → waits_on r ≡ true → Waited u m q reached w f → Followed r log b u m q reached w f
+wait_followed Answers.Queued log b u w m f q reached e t = t
+wait_followed Answers.Suspended log b u w m f q reached e t = t
+wait_followed Answers.Delayed log b u w m f q reached e t = t
+wait_followed (Answers.Started s) log b u w m f q reached e t = absurd (cc e)
+wait_followed (Answers.Refused rule line version) log b u w m f q reached e t = absurd (cc e)
+wait_followed (Answers.Done n) log b u w m f q reached e t = absurd (cc e)
+wait_followed (Answers.Woken s) log b u w m f q reached e t = absurd (cc e)
+wait_followed (Answers.Accepted n) log b u w m f q reached e t = absurd (cc e)
+wait_followed Answers.Misuse log b u w m f q reached e t = absurd (cc e)
+wait_followed Answers.Halted log b u w m f q reached e t = absurd (cc e)
+wait_followed Answers.Full log b u w m f q reached e t = absurd (cc e)
+wait_followed Answers.Busy log b u w m f q reached e t = absurd (cc e)
+wait_followed Answers.Waiting log b u w m f q reached e t = absurd (cc e)
+wait_followed Answers.Unattached log b u w m f q reached e t = absurd (cc e)
+wait_followed Answers.BadLine log b u w m f q reached e t = absurd (cc e)
+wait_followed Answers.OutOfMemory log b u w m f q reached e t = absurd (cc e)
+
+-- the request waits
+pub waited : (v u w : Passing) (m k f : Bool) (q : Request) (r : Answer) (b : Begun) (lent : Option Lent) (reached : Reached) → Replied v q r b lent u → asks_on r ≡ false → waits_on r ≡ true → k ≡ m → Waited u k q reached w f
+    → Performed v m q reached w f
+waited v u w m k f q r b lent reached x calm e same t = inr (
   r,
   u,
   x.asked,
-  n,
-  subst (λ (z : Answer). Followed z x.asked.at (called (catalogue_of x.asked.at) v.actor q) u q reached w) (sym is) (
+  calm,
+  wait_followed r x.asked.at (called (catalogue_of x.asked.at) v.actor q) u w m f q reached e (subst (λ (z : Bool). Waited u z q reached w f) same t),
+)
+
+-- a body was started
+pub started : (v u w : Passing) (m n : Bool) (q : Request) (r : Answer) (b : Begun) (lent : Option Lent) (scalars arguments : List ℤ) (reached : Reached) → Replied v q r b lent u → asks_on r ≡ false → r ≡ Answers.Started scalars
+    → arguments ≡ arguments_of q → n ≡ marked m (lent_view lent) → RanOn (lent_view lent) u b scalars arguments reached w → Performed v m q reached w n
+started v u w m n q r b lent scalars arguments reached x calm is same mark ran = inr (
+  r,
+  u,
+  x.asked,
+  calm,
+  subst (λ (z : Answer). Followed z x.asked.at (called (catalogue_of x.asked.at) v.actor q) u m q reached w n) (sym is) (
     lent_view lent,
     x.lent_is,
+    mark,
     subst (λ (z : Begun × List ℤ). RanOn (lent_view lent) u z.0 scalars z.1 reached w)
         (λ i. ((x.begun_is ∙ ap (begun_by (catalogue_of x.asked.at) v.actor q) is) i, same i)) ran,
   ),
 )
 
 -- a caller that waited was handed the object over
-pub woken : (v u w : Passing) (q : Request) (r : Answer) (b : Begun) (lent : Option Lent) (scalars arguments : List ℤ) (begun : Begun) (reached : Reached) → Replied v Resume r b lent u → asks_on r ≡ false
-    → r ≡ Answers.Woken (Some scalars) → begun ≡ waited_for q → arguments ≡ arguments_of q → RanOn (lent_view lent) u begun scalars arguments reached w → Waited v q reached w
-woken v u w q r b lent scalars arguments begun reached x n is at same ran = inr (
+pub woken : (v u w : Passing) (m n : Bool) (q : Request) (r : Answer) (b : Begun) (lent : Option Lent) (scalars arguments : List ℤ) (begun : Begun) (reached : Reached) → Replied v Resume r b lent u → asks_on r ≡ false
+    → r ≡ Answers.Woken (Some scalars) → begun ≡ waited_for q → arguments ≡ arguments_of q → n ≡ marked m (lent_view lent) → RanOn (lent_view lent) u begun scalars arguments reached w → Waited v m q reached w n
+woken v u w m n q r b lent scalars arguments begun reached x calm is at same mark ran = inr (
   r,
   u,
   x.asked,
-  n,
-  subst (λ (z : Answer). Resumed z x.asked.at u q reached w) (sym is) (
+  calm,
+  subst (λ (z : Answer). Resumed z x.asked.at u m q reached w n) (sym is) (
     lent_view lent,
     x.lent_is,
+    mark,
     subst (λ (z : Begun × List ℤ). RanOn (lent_view lent) u z.0 scalars z.1 reached w) (λ i. (at i, same i)) ran,
   ),
 )
@@ -264,8 +295,8 @@ ran_to u w bodies b scalars arguments reached n =
 tied_wore : (v w : Passing) (q : Request) (reached : Reached) → Wore v q reached w → Tied v q reached w
 tied_wore v w q reached t = subst (λ (z : Reached). Tied v q z w) (sym t.1) (vain_grown v w q t.0.0, inl t.0.1)
 
-as_told : (v u w : Passing) (q : Request) (to reached : Reached) → Tied v q to u → (w ≡ u) × (reached ≡ to) → Tied v q reached w
-as_told v u w q to reached is t = subst (λ (z : Reached × Passing). Tied v q z.0 z.1) (λ i. (sym t.1 i, sym t.0 i)) is
+as_told : (v u w : Passing) (m n : Bool) (q : Request) (to reached : Reached) → Tied v q to u → (w ≡ u) × (n ≡ m) × (reached ≡ to) → Tied v q reached w
+as_told v u w m n q to reached is t = subst (λ (z : Reached × Passing). Tied v q z.0 z.1) (λ i. (sym t.2 i, sym t.0 i)) is
 
 -- the version of a refusal at once
 refused_at : (v u : Passing) (q : Request) (rule : Rule) (line version : ℕ) → goes_on q ≡ false → Asked v q (Answers.Refused rule line version) u → version_seen v.seen ≤ version
@@ -288,55 +319,55 @@ refused_then v u w q wait rule line version k x = omega (arith, is, drop, more) 
   more : changes (marks (reverse v.seen)) ≤ changes (marks (reverse k.at))
   more = version_later v.seen k.at k.from
 
-tied_resumed : (v u k w : Passing) (q : Request) (wait : Recorded) (r : Answer) (log : List Event) (reached : Reached) → Waits v q wait u → Asked u Resume r k → of_resume r ≡ true → asks_on r ≡ false
-    → Resumed r log k q reached w → Tied v q reached w
-tied_resumed v u k w q wait (Answers.Woken (Some s)) log reached a x e n t = tied_body v k w q reached (opened_by_wait v u k q wait s a x) (ran_to k w t.0 (waited_for q) s (arguments_of q) reached t.2)
-tied_resumed v u k w q wait (Answers.Woken None) log reached a x e n t = as_told v k w q (Reaches.Returned []) reached (inr (inr (wait, a.is_wait, refl, both_own v u k q wait Words.Woken a x.own_is))) t
-tied_resumed v u k w q wait (Answers.Refused rule line version) log reached a x e n t =
-    as_told v k w q (Reaches.Refused rule line version) reached (inr (wait, a.is_wait, both_own v u k q wait (Words.Refused rule line version) a x.own_is), refused_then v u k q wait rule line version a x) t
-tied_resumed v u k w q wait Answers.Misuse log reached a x e n t = as_told v k w q Reaches.Misuse reached (more_after v u k (_, a.own_is) (_, x.own_is), inr (u, x)) t
-tied_resumed v u k w q wait Answers.Halted log reached a x e n t = as_told v k w q Reaches.Stopped reached (more_after v u k (_, a.own_is) (_, x.own_is), inr (inl (u, Resume, Answers.Halted, x, refl))) t
-tied_resumed v u k w q wait Answers.Full log reached a x e n t = as_told v k w q Reaches.Stopped reached (more_after v u k (_, a.own_is) (_, x.own_is), inr (inl (u, Resume, Answers.Full, x, refl))) t
-tied_resumed v u k w q wait Answers.Waiting log reached a x e n t = absurd (cc n)
-tied_resumed v u k w q wait (Answers.Started s) log reached a x e n t = absurd (cc e)
-tied_resumed v u k w q wait (Answers.Done d) log reached a x e n t = absurd (cc e)
-tied_resumed v u k w q wait (Answers.Accepted value) log reached a x e n t = absurd (cc e)
-tied_resumed v u k w q wait Answers.Queued log reached a x e n t = absurd (cc e)
-tied_resumed v u k w q wait Answers.Suspended log reached a x e n t = absurd (cc e)
-tied_resumed v u k w q wait Answers.Delayed log reached a x e n t = absurd (cc e)
-tied_resumed v u k w q wait Answers.Busy log reached a x e n t = absurd (cc e)
-tied_resumed v u k w q wait Answers.Unattached log reached a x e n t = absurd (cc e)
-tied_resumed v u k w q wait Answers.BadLine log reached a x e n t = absurd (cc e)
-tied_resumed v u k w q wait Answers.OutOfMemory log reached a x e n t = absurd (cc e)
+tied_resumed : (v u k w : Passing) (m f : Bool) (q : Request) (wait : Recorded) (r : Answer) (log : List Event) (reached : Reached) → Waits v q wait u → Asked u Resume r k → of_resume r ≡ true → asks_on r ≡ false
+    → Resumed r log k m q reached w f → Tied v q reached w
+tied_resumed v u k w m f q wait (Answers.Woken (Some s)) log reached a x e n t = tied_body v k w q reached (opened_by_wait v u k q wait s a x) (ran_to k w t.0 (waited_for q) s (arguments_of q) reached t.3)
+tied_resumed v u k w m f q wait (Answers.Woken None) log reached a x e n t = as_told v k w m f q (Reaches.Returned []) reached (inr (inr (wait, a.is_wait, refl, both_own v u k q wait Words.Woken a x.own_is))) t
+tied_resumed v u k w m f q wait (Answers.Refused rule line version) log reached a x e n t =
+    as_told v k w m f q (Reaches.Refused rule line version) reached (inr (wait, a.is_wait, both_own v u k q wait (Words.Refused rule line version) a x.own_is), refused_then v u k q wait rule line version a x) t
+tied_resumed v u k w m f q wait Answers.Misuse log reached a x e n t = as_told v k w m f q Reaches.Misuse reached (more_after v u k (_, a.own_is) (_, x.own_is), inr (u, x)) t
+tied_resumed v u k w m f q wait Answers.Halted log reached a x e n t = as_told v k w m f q Reaches.Stopped reached (more_after v u k (_, a.own_is) (_, x.own_is), inr (inl (u, Resume, Answers.Halted, x, refl))) t
+tied_resumed v u k w m f q wait Answers.Full log reached a x e n t = as_told v k w m f q Reaches.Stopped reached (more_after v u k (_, a.own_is) (_, x.own_is), inr (inl (u, Resume, Answers.Full, x, refl))) t
+tied_resumed v u k w m f q wait Answers.Waiting log reached a x e n t = absurd (cc n)
+tied_resumed v u k w m f q wait (Answers.Started s) log reached a x e n t = absurd (cc e)
+tied_resumed v u k w m f q wait (Answers.Done d) log reached a x e n t = absurd (cc e)
+tied_resumed v u k w m f q wait (Answers.Accepted value) log reached a x e n t = absurd (cc e)
+tied_resumed v u k w m f q wait Answers.Queued log reached a x e n t = absurd (cc e)
+tied_resumed v u k w m f q wait Answers.Suspended log reached a x e n t = absurd (cc e)
+tied_resumed v u k w m f q wait Answers.Delayed log reached a x e n t = absurd (cc e)
+tied_resumed v u k w m f q wait Answers.Busy log reached a x e n t = absurd (cc e)
+tied_resumed v u k w m f q wait Answers.Unattached log reached a x e n t = absurd (cc e)
+tied_resumed v u k w m f q wait Answers.BadLine log reached a x e n t = absurd (cc e)
+tied_resumed v u k w m f q wait Answers.OutOfMemory log reached a x e n t = absurd (cc e)
 
 wore_then : (v u w : Passing) (q : Request) (wait : Recorded) (reached : Reached) → Waits v q wait u → Wore u Resume reached w → Tied v q reached w
 wore_then v u w q wait reached a t = subst (λ (z : Reached). Tied v q z w) (sym t.1) (more_after v u w (_, a.own_is) (vain_grown u w Resume t.0.0), inl t.0.1)
 
-tied_waited : (v u w : Passing) (q : Request) (wait : Recorded) (reached : Reached) → Waits v q wait u → Waited u q reached w → Tied v q reached w
-tied_waited v u w q wait reached a t = ⊎_elim (λ wore. wore_then v u w q wait reached a wore)
-    (λ x. tied_resumed v u x.1 w q wait x.0 x.2.at reached a x.2 (ap of_resume x.2.due_is ∙ resume_gets (history_at (capacity_in u.about) x.2.at) u.actor) x.3 x.4) t
+tied_waited : (v u w : Passing) (m f : Bool) (q : Request) (wait : Recorded) (reached : Reached) → Waits v q wait u → Waited u m q reached w f → Tied v q reached w
+tied_waited v u w m f q wait reached a t = ⊎_elim (λ wore. wore_then v u w q wait reached a wore.0)
+    (λ x. tied_resumed v u x.1 w m f q wait x.0 x.2.at reached a x.2 (ap of_resume x.2.due_is ∙ resume_gets (history_at (capacity_in u.about) x.2.at) u.actor) x.3 x.4) t
 
-tied_followed : (v u w : Passing) (q : Request) (r : Answer) (log : List Event) (b : Begun) (reached : Reached) → goes_on q ≡ false → of_first r ≡ true → asks_on r ≡ false → Asked v q r u
-    → Followed r log b u q reached w → Tied v q reached w
-tied_followed v u w q (Answers.Started s) log b reached g e n x t = tied_body v u w q reached (opened_at_once v u q s x) (ran_to u w t.0 b s (arguments_of q) reached t.2)
-tied_followed v u w q Answers.Queued log b reached g e n x t =
-    tied_waited v u w q Words.Queued reached (record { is_wait = tt; at = x.at; from = x.from; seen_is = x.seen_is; own_is = x.own_is; actor_is = asked_actor v u q _ x }) t
-tied_followed v u w q Answers.Suspended log b reached g e n x t =
-    tied_waited v u w q Words.Suspended reached (record { is_wait = tt; at = x.at; from = x.from; seen_is = x.seen_is; own_is = x.own_is; actor_is = asked_actor v u q _ x }) t
-tied_followed v u w q Answers.Delayed log b reached g e n x t =
-    tied_waited v u w q Words.Delayed reached (record { is_wait = tt; at = x.at; from = x.from; seen_is = x.seen_is; own_is = x.own_is; actor_is = asked_actor v u q _ x }) t
-tied_followed v u w q (Answers.Refused rule line version) log b reached g e n x t = as_told v u w q (Reaches.Refused rule line version) reached (inl x.own_is, refused_at v u q rule line version g x) t
-tied_followed v u w q (Answers.Accepted value) log b reached g e n x t = as_told v u w q (Reaches.Returned (values_of (reads q) value)) reached (inr (inl (value, refl, x.own_is))) t
-tied_followed v u w q Answers.Misuse log b reached g e n x t = as_told v u w q Reaches.Misuse reached ((_, x.own_is), inl x) t
-tied_followed v u w q Answers.Halted log b reached g e n x t = as_told v u w q Reaches.Stopped reached ((_, x.own_is), inr (inl (v, q, Answers.Halted, x, refl))) t
-tied_followed v u w q Answers.Full log b reached g e n x t = as_told v u w q Reaches.Stopped reached ((_, x.own_is), inr (inl (v, q, Answers.Full, x, refl))) t
-tied_followed v u w q Answers.Busy log b reached g e n x t = absurd (cc n)
-tied_followed v u w q (Answers.Woken s) log b reached g e n x t = absurd (cc e)
-tied_followed v u w q (Answers.Done d) log b reached g e n x t = absurd (cc e)
-tied_followed v u w q Answers.Waiting log b reached g e n x t = absurd (cc e)
-tied_followed v u w q Answers.Unattached log b reached g e n x t = absurd (cc e)
-tied_followed v u w q Answers.BadLine log b reached g e n x t = absurd (cc e)
-tied_followed v u w q Answers.OutOfMemory log b reached g e n x t = absurd (cc e)
+tied_followed : (v u w : Passing) (m f : Bool) (q : Request) (r : Answer) (log : List Event) (b : Begun) (reached : Reached) → goes_on q ≡ false → of_first r ≡ true → asks_on r ≡ false → Asked v q r u
+    → Followed r log b u m q reached w f → Tied v q reached w
+tied_followed v u w m f q (Answers.Started s) log b reached g e n x t = tied_body v u w q reached (opened_at_once v u q s x) (ran_to u w t.0 b s (arguments_of q) reached t.3)
+tied_followed v u w m f q Answers.Queued log b reached g e n x t =
+    tied_waited v u w m f q Words.Queued reached (record { is_wait = tt; at = x.at; from = x.from; seen_is = x.seen_is; own_is = x.own_is; actor_is = asked_actor v u q _ x }) t
+tied_followed v u w m f q Answers.Suspended log b reached g e n x t =
+    tied_waited v u w m f q Words.Suspended reached (record { is_wait = tt; at = x.at; from = x.from; seen_is = x.seen_is; own_is = x.own_is; actor_is = asked_actor v u q _ x }) t
+tied_followed v u w m f q Answers.Delayed log b reached g e n x t =
+    tied_waited v u w m f q Words.Delayed reached (record { is_wait = tt; at = x.at; from = x.from; seen_is = x.seen_is; own_is = x.own_is; actor_is = asked_actor v u q _ x }) t
+tied_followed v u w m f q (Answers.Refused rule line version) log b reached g e n x t = as_told v u w m f q (Reaches.Refused rule line version) reached (inl x.own_is, refused_at v u q rule line version g x) t
+tied_followed v u w m f q (Answers.Accepted value) log b reached g e n x t = as_told v u w m f q (Reaches.Returned (values_of (reads q) value)) reached (inr (inl (value, refl, x.own_is))) t
+tied_followed v u w m f q Answers.Misuse log b reached g e n x t = as_told v u w m f q Reaches.Misuse reached ((_, x.own_is), inl x) t
+tied_followed v u w m f q Answers.Halted log b reached g e n x t = as_told v u w m f q Reaches.Stopped reached ((_, x.own_is), inr (inl (v, q, Answers.Halted, x, refl))) t
+tied_followed v u w m f q Answers.Full log b reached g e n x t = as_told v u w m f q Reaches.Stopped reached ((_, x.own_is), inr (inl (v, q, Answers.Full, x, refl))) t
+tied_followed v u w m f q Answers.Busy log b reached g e n x t = absurd (cc n)
+tied_followed v u w m f q (Answers.Woken s) log b reached g e n x t = absurd (cc e)
+tied_followed v u w m f q (Answers.Done d) log b reached g e n x t = absurd (cc e)
+tied_followed v u w m f q Answers.Waiting log b reached g e n x t = absurd (cc e)
+tied_followed v u w m f q Answers.Unattached log b reached g e n x t = absurd (cc e)
+tied_followed v u w m f q Answers.BadLine log b reached g e n x t = absurd (cc e)
+tied_followed v u w m f q Answers.OutOfMemory log b reached g e n x t = absurd (cc e)
 
 stops_on_halt : (q : Request) → Performs q → goes_on q ≡ false
 stops_on_halt (Call o p vs) t = refl
@@ -350,9 +381,9 @@ stops_on_halt (Tick n) t = absurd t
 stops_on_halt Halt t = absurd t
 
 -- one performance, by a line that has its handler or by a task
-pub tied : (v w : Passing) (q : Request) (reached : Reached) → HasHandler (catalogue_of v.seen) v.actor → Performs q → Performed v q reached w → Tied v q reached w
-tied v w q reached has p t = ⊎_elim (λ wore. tied_wore v w q reached wore)
-    (λ x. tied_followed v x.1 w q x.0 x.2.at (called (catalogue_of x.2.at) v.actor q) reached (stops_on_halt q p)
+pub tied : (v w : Passing) (m f : Bool) (q : Request) (reached : Reached) → HasHandler (catalogue_of v.seen) v.actor → Performs q → Performed v m q reached w f → Tied v q reached w
+tied v w m f q reached has p t = ⊎_elim (λ wore. tied_wore v w q reached wore.0)
+    (λ x. tied_followed v x.1 w m f q x.0 x.2.at (called (catalogue_of x.2.at) v.actor q) reached (stops_on_halt q p)
     (ap of_first x.2.due_is ∙ first_gets (history_at (capacity_in v.about) x.2.at) v.actor q (handler_later v.seen x.2.at v.actor x.2.from has) p) x.3 x.2 x.4) t
 
 -- A port stays what it was
@@ -403,49 +434,49 @@ ran_stays v w bodies b scalars arguments reached n =
 flat_stays : (v u w : Passing) → Stays v u → w ≡ u → Stays v w
 flat_stays v u w s is = subst (λ (z : Passing). Stays v z) (sym is) s
 
-resumed_stays : (u w : Passing) (r : Answer) (log : List Event) (q : Request) (reached : Reached) → Resumed r log u q reached w → Stays u w
-resumed_stays u w (Answers.Woken (Some s)) log q reached t = ran_stays u w t.0 (waited_for q) s (arguments_of q) reached t.2
-resumed_stays u w (Answers.Woken None) log q reached t = flat_stays u u w (stays_self u) t.0
-resumed_stays u w (Answers.Refused rule line version) log q reached t = flat_stays u u w (stays_self u) t.0
-resumed_stays u w Answers.Misuse log q reached t = flat_stays u u w (stays_self u) t.0
-resumed_stays u w Answers.Halted log q reached t = flat_stays u u w (stays_self u) t.0
-resumed_stays u w Answers.Full log q reached t = flat_stays u u w (stays_self u) t.0
-resumed_stays u w Answers.Waiting log q reached t = flat_stays u u w (stays_self u) t.0
-resumed_stays u w (Answers.Started s) log q reached t = flat_stays u u w (stays_self u) t.0
-resumed_stays u w (Answers.Done d) log q reached t = flat_stays u u w (stays_self u) t.0
-resumed_stays u w (Answers.Accepted value) log q reached t = flat_stays u u w (stays_self u) t.0
-resumed_stays u w Answers.Queued log q reached t = flat_stays u u w (stays_self u) t.0
-resumed_stays u w Answers.Suspended log q reached t = flat_stays u u w (stays_self u) t.0
-resumed_stays u w Answers.Delayed log q reached t = flat_stays u u w (stays_self u) t.0
-resumed_stays u w Answers.Busy log q reached t = flat_stays u u w (stays_self u) t.0
-resumed_stays u w Answers.Unattached log q reached t = flat_stays u u w (stays_self u) t.0
-resumed_stays u w Answers.BadLine log q reached t = flat_stays u u w (stays_self u) t.0
-resumed_stays u w Answers.OutOfMemory log q reached t = flat_stays u u w (stays_self u) t.0
+resumed_stays : (u w : Passing) (m f : Bool) (r : Answer) (log : List Event) (q : Request) (reached : Reached) → Resumed r log u m q reached w f → Stays u w
+resumed_stays u w m f (Answers.Woken (Some s)) log q reached t = ran_stays u w t.0 (waited_for q) s (arguments_of q) reached t.3
+resumed_stays u w m f (Answers.Woken None) log q reached t = flat_stays u u w (stays_self u) t.0
+resumed_stays u w m f (Answers.Refused rule line version) log q reached t = flat_stays u u w (stays_self u) t.0
+resumed_stays u w m f Answers.Misuse log q reached t = flat_stays u u w (stays_self u) t.0
+resumed_stays u w m f Answers.Halted log q reached t = flat_stays u u w (stays_self u) t.0
+resumed_stays u w m f Answers.Full log q reached t = flat_stays u u w (stays_self u) t.0
+resumed_stays u w m f Answers.Waiting log q reached t = flat_stays u u w (stays_self u) t.0
+resumed_stays u w m f (Answers.Started s) log q reached t = flat_stays u u w (stays_self u) t.0
+resumed_stays u w m f (Answers.Done d) log q reached t = flat_stays u u w (stays_self u) t.0
+resumed_stays u w m f (Answers.Accepted value) log q reached t = flat_stays u u w (stays_self u) t.0
+resumed_stays u w m f Answers.Queued log q reached t = flat_stays u u w (stays_self u) t.0
+resumed_stays u w m f Answers.Suspended log q reached t = flat_stays u u w (stays_self u) t.0
+resumed_stays u w m f Answers.Delayed log q reached t = flat_stays u u w (stays_self u) t.0
+resumed_stays u w m f Answers.Busy log q reached t = flat_stays u u w (stays_self u) t.0
+resumed_stays u w m f Answers.Unattached log q reached t = flat_stays u u w (stays_self u) t.0
+resumed_stays u w m f Answers.BadLine log q reached t = flat_stays u u w (stays_self u) t.0
+resumed_stays u w m f Answers.OutOfMemory log q reached t = flat_stays u u w (stays_self u) t.0
 
-waited_stays : (v w : Passing) (q : Request) (reached : Reached) → Waited v q reached w → Stays v w
-waited_stays v w q reached t = ⊎_elim (λ wore. vain_stays v w Resume wore.0.0) (λ x. stays_both v x.1 w (asked_stays v x.1 Resume x.0 x.2) (resumed_stays x.1 w x.0 x.2.at q reached x.4)) t
+waited_stays : (v w : Passing) (m f : Bool) (q : Request) (reached : Reached) → Waited v m q reached w f → Stays v w
+waited_stays v w m f q reached t = ⊎_elim (λ wore. vain_stays v w Resume wore.0.0.0) (λ x. stays_both v x.1 w (asked_stays v x.1 Resume x.0 x.2) (resumed_stays x.1 w m f x.0 x.2.at q reached x.4)) t
 
-followed_stays : (u w : Passing) (q : Request) (r : Answer) (log : List Event) (b : Begun) (reached : Reached) → Followed r log b u q reached w → Stays u w
-followed_stays u w q (Answers.Started s) log b reached t = ran_stays u w t.0 b s (arguments_of q) reached t.2
-followed_stays u w q Answers.Queued log b reached t = waited_stays u w q reached t
-followed_stays u w q Answers.Suspended log b reached t = waited_stays u w q reached t
-followed_stays u w q Answers.Delayed log b reached t = waited_stays u w q reached t
-followed_stays u w q (Answers.Refused rule line version) log b reached t = flat_stays u u w (stays_self u) t.0
-followed_stays u w q (Answers.Accepted value) log b reached t = flat_stays u u w (stays_self u) t.0
-followed_stays u w q Answers.Misuse log b reached t = flat_stays u u w (stays_self u) t.0
-followed_stays u w q Answers.Halted log b reached t = flat_stays u u w (stays_self u) t.0
-followed_stays u w q Answers.Full log b reached t = flat_stays u u w (stays_self u) t.0
-followed_stays u w q Answers.Busy log b reached t = flat_stays u u w (stays_self u) t.0
-followed_stays u w q (Answers.Woken s) log b reached t = flat_stays u u w (stays_self u) t.0
-followed_stays u w q (Answers.Done d) log b reached t = flat_stays u u w (stays_self u) t.0
-followed_stays u w q Answers.Waiting log b reached t = flat_stays u u w (stays_self u) t.0
-followed_stays u w q Answers.Unattached log b reached t = flat_stays u u w (stays_self u) t.0
-followed_stays u w q Answers.BadLine log b reached t = flat_stays u u w (stays_self u) t.0
-followed_stays u w q Answers.OutOfMemory log b reached t = flat_stays u u w (stays_self u) t.0
+followed_stays : (u w : Passing) (m f : Bool) (q : Request) (r : Answer) (log : List Event) (b : Begun) (reached : Reached) → Followed r log b u m q reached w f → Stays u w
+followed_stays u w m f q (Answers.Started s) log b reached t = ran_stays u w t.0 b s (arguments_of q) reached t.3
+followed_stays u w m f q Answers.Queued log b reached t = waited_stays u w m f q reached t
+followed_stays u w m f q Answers.Suspended log b reached t = waited_stays u w m f q reached t
+followed_stays u w m f q Answers.Delayed log b reached t = waited_stays u w m f q reached t
+followed_stays u w m f q (Answers.Refused rule line version) log b reached t = flat_stays u u w (stays_self u) t.0
+followed_stays u w m f q (Answers.Accepted value) log b reached t = flat_stays u u w (stays_self u) t.0
+followed_stays u w m f q Answers.Misuse log b reached t = flat_stays u u w (stays_self u) t.0
+followed_stays u w m f q Answers.Halted log b reached t = flat_stays u u w (stays_self u) t.0
+followed_stays u w m f q Answers.Full log b reached t = flat_stays u u w (stays_self u) t.0
+followed_stays u w m f q Answers.Busy log b reached t = flat_stays u u w (stays_self u) t.0
+followed_stays u w m f q (Answers.Woken s) log b reached t = flat_stays u u w (stays_self u) t.0
+followed_stays u w m f q (Answers.Done d) log b reached t = flat_stays u u w (stays_self u) t.0
+followed_stays u w m f q Answers.Waiting log b reached t = flat_stays u u w (stays_self u) t.0
+followed_stays u w m f q Answers.Unattached log b reached t = flat_stays u u w (stays_self u) t.0
+followed_stays u w m f q Answers.BadLine log b reached t = flat_stays u u w (stays_self u) t.0
+followed_stays u w m f q Answers.OutOfMemory log b reached t = flat_stays u u w (stays_self u) t.0
 
-pub performed_stays : (v w : Passing) (q : Request) (reached : Reached) → Performed v q reached w → Stays v w
-performed_stays v w q reached t = ⊎_elim (λ wore. vain_stays v w q wore.0.0)
-    (λ x. stays_both v x.1 w (asked_stays v x.1 q x.0 x.2) (followed_stays x.1 w q x.0 x.2.at _ reached x.4)) t
+pub performed_stays : (v w : Passing) (m f : Bool) (q : Request) (reached : Reached) → Performed v m q reached w f → Stays v w
+performed_stays v w m f q reached t = ⊎_elim (λ wore. vain_stays v w q wore.0.0.0)
+    (λ x. stays_both v x.1 w (asked_stays v x.1 q x.0 x.2) (followed_stays x.1 w m f q x.0 x.2.at _ reached x.4)) t
 
 quit_stays : (b : Bool) (v w : Passing) → QuitBy b v w → Stays v w
 quit_stays true v w t = flat_stays v v w (stays_self v) t

@@ -1,5 +1,5 @@
 -- What a call on a port did. (own)
-use Rattle.std.specs.Prelude.{◌≡◌, ◌⊎◌, ℕ, ℤ, ◌≤◌, nat_lt, Bool, true, false, List, [], ◌∷◌, ◌++◌, Option, Some}
+use Rattle.std.specs.Prelude.{◌≡◌, ◌⊎◌, ℕ, ℤ, ◌≤◌, nat_lt, Bool, true, false, List, [], ◌∷◌, ◌++◌, Option, Some, None}
 use Rattle.rv_code.specs.Bodies.{UnitBodies}
 use Rattle.rv_event.specs.declared.entry.Request.{Request}
 use Rattle.rv_event.specs.declared.entry.Request.TheVariants.{Complete, Resume, Quit}
@@ -52,37 +52,44 @@ pub record RanOn (bodies : Option UnitBodies) (started : Passing) (begun : Begun
   pub end_is : Wore body (Complete ended.scalars ended.exit) reached w
       ⊎ ((d : Answer) × Asked body (Complete ended.scalars ended.exit) d w × (asks_on d ≡ false) × (reached ≡ end_of d ended.exit))
 
--- The same by the bodies of all units that this history loads, or without, where a port can't hold them. (own)
-abbrev pub Ran : List Event → Passing → Begun → List ℤ → List ℤ → Reached → Passing → Type 0
-Ran log started begun scalars arguments reached w =
-    (bodies : Option UnitBodies) × IsLent log bodies × RanOn bodies started begun scalars arguments reached w
+-- the mark that bodies which were wanted couldn't be had, after a body ran by these bodies, or without (own)
+abbrev pub marked : Bool → Option UnitBodies → Bool
+marked mark None = true
+marked mark (Some bodies) = mark
+
+-- The same by the bodies of all units that this history loads, or without, where a port can't hold them, which is marked. (own)
+abbrev pub Ran : List Event → Passing → Bool → Begun → List ℤ → List ℤ → Reached → Passing → Bool → Type 0
+Ran log started mark begun scalars arguments reached w after =
+    (bodies : Option UnitBodies) × IsLent log bodies × (after ≡ marked mark bodies) × RanOn bodies started begun scalars arguments reached w
 
 -- what followed an answer to a resume, on this history (own)
-abbrev pub Resumed : Answer → List Event → Passing → Request → Reached → Passing → Type 0
-Resumed (Answers.Woken (Some scalars)) log u q reached w = Ran log u (waited_for q) scalars (arguments_of q) reached w
-Resumed r log u q reached w = (w ≡ u) × (reached ≡ plain_of false r)
+abbrev pub Resumed : Answer → List Event → Passing → Bool → Request → Reached → Passing → Bool → Type 0
+Resumed (Answers.Woken (Some scalars)) log u mark q reached w after =
+    Ran log u mark (waited_for q) scalars (arguments_of q) reached w after
+Resumed r log u mark q reached w after = (w ≡ u) × (after ≡ mark) × (reached ≡ plain_of false r)
 
 -- the wait of a request: its resume, and what followed it (own)
-abbrev pub Waited : Passing → Request → Reached → Passing → Type 0
-Waited v q reached w =
-    Wore v Resume reached w
-    ⊎ ((r : Answer) × (u : Passing) × (x : Asked v Resume r u) × (asks_on r ≡ false) × Resumed r x.at u q reached w)
+abbrev pub Waited : Passing → Bool → Request → Reached → Passing → Bool → Type 0
+Waited v mark q reached w after =
+    (Wore v Resume reached w × (after ≡ mark))
+    ⊎ ((r : Answer) × (u : Passing) × (x : Asked v Resume r u) × (asks_on r ≡ false) × Resumed r x.at u mark q reached w after)
 
 -- what followed an answer to a request on this history, where a start is of this operation (own)
-abbrev pub Followed : Answer → List Event → Begun → Passing → Request → Reached → Passing → Type 0
-Followed (Answers.Started scalars) log begun u q reached w = Ran log u begun scalars (arguments_of q) reached w
-Followed Answers.Queued log begun u q reached w = Waited u q reached w
-Followed Answers.Suspended log begun u q reached w = Waited u q reached w
-Followed Answers.Delayed log begun u q reached w = Waited u q reached w
-Followed r log begun u q reached w = (w ≡ u) × (reached ≡ plain_of (reads q) r)
+abbrev pub Followed : Answer → List Event → Begun → Passing → Bool → Request → Reached → Passing → Bool → Type 0
+Followed (Answers.Started scalars) log begun u mark q reached w after = Ran log u mark begun scalars (arguments_of q) reached w after
+Followed Answers.Queued log begun u mark q reached w after = Waited u mark q reached w after
+Followed Answers.Suspended log begun u mark q reached w after = Waited u mark q reached w after
+Followed Answers.Delayed log begun u mark q reached w after = Waited u mark q reached w after
+Followed r log begun u mark q reached w after = (w ≡ u) × (after ≡ mark) × (reached ≡ plain_of (reads q) r)
 
 -- One performance of a request: its answer, which is due on a legal history that begins with all that was seen, and what
--- followed: a body and its end, a wait, or nothing. Or no act was left. (own)
-abbrev pub Performed : Passing → Request → Reached → Passing → Type 0
-Performed v q reached w =
-    Wore v q reached w
+-- followed: a body and its end, a wait, or nothing. Or no act was left. The mark before and after tells whether bodies
+-- couldn't be had. (own)
+abbrev pub Performed : Passing → Bool → Request → Reached → Passing → Bool → Type 0
+Performed v mark q reached w after =
+    (Wore v q reached w × (after ≡ mark))
     ⊎ ((r : Answer) × (u : Passing) × (x : Asked v q r u) × (asks_on r ≡ false)
-    × Followed r x.at (called (catalogue_of x.at) v.actor q) u q reached w)
+    × Followed r x.at (called (catalogue_of x.at) v.actor q) u mark q reached w after)
 
 -- the end of a port: a line asks nothing, a task asks Quit, once, where an act is left (own)
 abbrev pub QuitBy : Bool → Passing → Passing → Type 0

@@ -7,5 +7,6 @@ pub mod Reaching
 pub mod Later
 pub mod Bodies
 pub mod Calls
+pub mod Ports
 pub mod Controls
 pub mod Closing
