@@ -3,7 +3,6 @@
 ghost use Rattle.std.specs.Prelude.{◌≡◌, ◌++◌, List, [], false};
 ghost use Rattle.rv_turn.specs.Histories.{mine, StartsWith};
 ghost use Rattle.rv_turn.specs.Passes.{Meets};
-ghost use Rattle.rv_event.specs.declared.entry.Answer.{Answer};
 ghost use Rattle.rv_event.specs.declared.entry.Request.TheVariants as asks;
 ghost use Rattle.rv_port.specs.Actors.{HasHandler};
 ghost use Rattle.rv_port.specs.Events.{by, catalogue_of};
