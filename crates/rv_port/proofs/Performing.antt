@@ -389,12 +389,13 @@ tied v w m f q reached has p t = ⊎_elim (λ wore. tied_wore v w q reached wore
 -- A port stays what it was
 
 stays_self : (v : Passing) → Stays v v
-stays_self v = record { turn = refl; actor = refl; later = starts_self v.seen; grown = ([], sym (append-nil v.own)); fewer = omega arith }
+stays_self v = record { turn = refl; actor = refl; about = refl; later = starts_self v.seen; grown = ([], sym (append-nil v.own)); fewer = omega arith }
 
 stays_both : (v u w : Passing) → Stays v u → Stays u w → Stays v w
 stays_both v u w p q = record {
   turn = q.turn ∙ p.turn;
   actor = q.actor ∙ p.actor;
+  about = q.about ∙ p.about;
   later = starts_both v.seen u.seen w.seen p.later q.later;
   grown = more_after v u w p.grown q.grown;
   fewer = let one = p.fewer in let two = q.fewer in omega (arith, one, two);
@@ -404,6 +405,7 @@ pub went_stays : (v w : Passing) (xs : Trace) → Went v xs w → Stays v w
 went_stays v w xs p = record {
   turn = ap (λ (k : Passing). k.turn) p.same;
   actor = ap (λ (k : Passing). k.actor) p.same;
+  about = ap (λ (k : Passing). k.about) p.same;
   later = p.later;
   grown = (_, p.own);
   fewer = let less = p.acts in omega (arith, less);
@@ -413,6 +415,7 @@ vain_stays : (v w : Passing) (q : Request) → InVain v q w → Stays v w
 vain_stays v w q p = let acts : w.left + length p.times ≡ v.left = p.acts in record {
   turn = ap (λ (k : Passing). k.turn) p.same;
   actor = ap (λ (k : Passing). k.actor) p.same;
+  about = ap (λ (k : Passing). k.about) p.same;
   later = in_vain_later v w q p;
   grown = vain_grown v w q p;
   fewer = omega (arith, acts);
@@ -422,6 +425,7 @@ asked_stays : (v w : Passing) (q : Request) (r : Answer) → Asked v q r w → S
 asked_stays v w q r x = let act : w.left + 1 ≡ x.before.left = x.act in let acts : x.before.left + length x.in_vain.times ≡ v.left = x.in_vain.acts in record {
   turn = ap (λ (k : Passing). k.turn) x.same;
   actor = ap (λ (k : Passing). k.actor) x.same;
+  about = ap (λ (k : Passing). k.about) x.same;
   later = asked_later v w q r x;
   grown = (_, x.own_is);
   fewer = omega (arith, act, acts);

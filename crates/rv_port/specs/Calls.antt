@@ -30,10 +30,12 @@ use Rattle.rv_port.specs.Reaching.{arguments_of, reads, values_of, plain_of, end
 abbrev pub Grown : Passing → Passing → Type 0
 Grown v w = (more : List Event) × (w.own ≡ v.own ++ more)
 
--- A port stays what it was: of one control and one actor, it forgets nothing that it saw or did, and gains no act. (own)
+-- A port stays what it was: of one control and one actor, with the same capacity, it forgets nothing that it saw or did, and
+-- gains no act. (own)
 pub record Stays (v w : Passing) : Type 0 where
   pub turn : w.turn ≡ v.turn
   pub actor : w.actor ≡ v.actor
+  pub about : w.about ≡ v.about
   pub later : StartsWith w.seen v.seen
   pub grown : Grown v w
   pub fewer : w.left ≤ v.left
