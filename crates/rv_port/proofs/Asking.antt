@@ -1,5 +1,5 @@
 -- One act of a pass as an ask of a port.
-use Rattle.std.proofs.Common.{◌≡◌, ◌⊎◌, ℕ, ◌-◌, ◌<◌, ◌≤◌, true, false, List, [], ◌∷◌, ◌++◌, length, Option, Some, None, refl, sym, ap, ◌∙◌, subst, inl, inr, ⊎_elim, arith, append-nil, length-append}
+use Rattle.std.proofs.Common.{◌≡◌, ◌⊎◌, ℕ, ◌+◌, ◌-◌, ◌<◌, ◌≤◌, true, false, List, [], ◌∷◌, ◌++◌, length, Option, Some, None, refl, sym, ap, ◌∙◌, subst, inl, inr, ⊎_elim, arith, append-nil, length-append}
 use Rattle.rv_event.specs.Recorded.{recorded}
 use Rattle.rv_event.specs.declared.entry.Request.{Request}
 use Rattle.rv_event.specs.declared.entry.Answer.{Answer}
@@ -11,10 +11,9 @@ use Rattle.rv_turn.specs.Histories.{mine, StartsWith}
 use Rattle.rv_turn.specs.Passes.{Acted}
 use Rattle.rv_port.specs.Events.{by, history_at, catalogue_of}
 use Rattle.rv_port.specs.Acting.{entered, grown, Does, begun_by}
-use Rattle.rv_port.specs.Traces.{Passing, capacity_in, told, IsTold, asks_on, noted, noted_if, Went, Asked, Replied}
+use Rattle.rv_port.specs.Traces.{Passing, capacity_in, told, IsTold, asks_on, noted, noted_if, EachInVain, InVain, WoreOut, Went, Asked, Replied}
 use Rattle.rv_exec.specs.Asking.{stands}
 use Rattle.rv_turn.specs.Prefixes.{starts_self, starts_both}
-use Rattle.rv_port.specs.Composing.{went_both}
 use Rattle.rv_port.specs.declared.event.Begun.{Begun}
 use Rattle.rv_port.specs.declared.event.Lent.{Lent}
 use Rattle.rv_port.specs.declared.event.Event.{Event}
@@ -70,6 +69,81 @@ starts_entered : (word : Option Recorded) (a : ℕ) (q : Request) (log : List Ev
 starts_entered (Some w) a q log = (Asks a q w ∷ [], refl)
 starts_entered None a q log = starts_self log
 
+pub not_kept : (r : Answer) → asks_on r ≡ true → recorded r ≡ None
+not_kept Answers.Busy e = refl
+not_kept Answers.Waiting e = refl
+not_kept (Answers.Started s) e = absurd (cc e)
+not_kept Answers.Queued e = absurd (cc e)
+not_kept (Answers.Refused rule line version) e = absurd (cc e)
+not_kept (Answers.Done n) e = absurd (cc e)
+not_kept Answers.Suspended e = absurd (cc e)
+not_kept Answers.Delayed e = absurd (cc e)
+not_kept (Answers.Woken s) e = absurd (cc e)
+not_kept (Answers.Accepted n) e = absurd (cc e)
+not_kept Answers.Misuse e = refl
+not_kept Answers.Halted e = refl
+not_kept Answers.Full e = refl
+not_kept Answers.Unattached e = refl
+not_kept Answers.BadLine e = refl
+not_kept Answers.OutOfMemory e = refl
+
+-- asks in vain
+
+in_vain_none : (v : Passing) (q : Request) → InVain v q v
+in_vain_none v q = record { times = []; each = refl; acts = omega arith; same = refl }
+
+each_both : (limit a : ℕ) (q : Request) (seen mid last : List Event) (xs ys : List (List Event)) → EachInVain limit a q seen xs mid → EachInVain limit a q mid ys last → EachInVain limit a q seen (xs ++ ys) last
+each_both limit a q seen mid last [] ys t u = subst (λ (z : List Event). EachInVain limit a q z ys last) t u
+each_both limit a q seen mid last (x ∷ xs) ys t u = (t.0, t.1, t.2, each_both limit a q x mid last xs ys t.3 u)
+
+each_later : (limit a : ℕ) (q : Request) (seen last : List Event) (xs : List (List Event)) → EachInVain limit a q seen xs last → StartsWith last seen
+each_later limit a q seen last [] t = subst (λ (z : List Event). StartsWith z seen) (sym t) (starts_self seen)
+each_later limit a q seen last (x ∷ xs) t = starts_both seen x last t.0 (each_later limit a q x last xs t.3)
+
+pub in_vain_later : (v w : Passing) (q : Request) → InVain v q w → StartsWith w.seen v.seen
+in_vain_later v w q p = each_later (capacity_in v.about) v.actor q v.seen w.seen p.times p.each
+
+in_vain_both : (v u w : Passing) (q : Request) → InVain v q u → InVain u q w → InVain v q w
+in_vain_both v u w q p r = let sa : u.actor ≡ v.actor = ap (λ (k : Passing). k.actor) p.same in let sl : u.about ≡ v.about = ap (λ (k : Passing). k.about) p.same in
+    let one : u.left + length p.times ≡ v.left = p.acts in let two : w.left + length r.times ≡ u.left = r.acts in record {
+      times = p.times ++ r.times;
+      each = each_both (capacity_in v.about) v.actor q v.seen u.seen w.seen p.times r.times p.each
+          (subst (λ (z : Option Limits × ℕ). EachInVain (capacity_in z.0) z.1 q u.seen r.times w.seen) (λ i. (sl i, sa i)) r.each);
+      acts = omega (arith, one, two, length-append p.times r.times);
+      same = r.same ∙ ap (λ (k : Passing). record k { seen = w.seen; left = w.left }) p.same;
+    }
+
+-- an answer by which the request is made again
+pub in_vain_more : (v u w : Passing) (q : Request) (r : Answer) → InVain v q u → Asked u q r w → asks_on r ≡ true → InVain v q w
+in_vain_more v u w q r p x e = in_vain_both v u w q p (one) where
+  none : recorded r ≡ None
+  none = not_kept r e
+
+  same_seen : w.seen ≡ x.at
+  same_seen = x.seen_is ∙ ap (λ (b : Option Recorded). entered x.at u.actor q b) none
+
+  same_own : w.own ≡ u.own
+  same_own = x.own_is ∙ (ap (λ (b : Option Recorded). u.own ++ noted_if b u.actor q []) none ∙ append-nil u.own)
+
+  act : w.left + 1 ≡ x.before.left
+  act = x.act
+
+  acts : x.before.left + length x.in_vain.times ≡ u.left
+  acts = x.in_vain.acts
+
+  one : InVain u q w
+  one = record {
+    times = x.in_vain.times ++ x.at ∷ [];
+    each = each_both (capacity_in u.about) u.actor q u.seen x.before.seen w.seen x.in_vain.times (x.at ∷ []) x.in_vain.each
+        (x.later, x.legal, sym (ap asks_on x.due_is) ∙ e, same_seen);
+    acts = omega (arith, act, acts, length-append x.in_vain.times (x.at ∷ []));
+    same = x.same ∙ ap (λ (l : List Event). record u { seen = w.seen; own = l; left = w.left }) same_own;
+  }
+
+-- what was seen then begins with what was seen before
+pub asked_later : (v w : Passing) (q : Request) (r : Answer) → Asked v q r w → StartsWith w.seen v.seen
+asked_later v w q r x = starts_both v.seen x.at w.seen x.from (subst (λ (l : List Event). StartsWith l x.at) (sym x.seen_is) (starts_entered (recorded r) v.actor q x.at))
+
 -- one act is one ask
 pub asked_act : (v w : Passing) (q : Request) (r : Answer) (at : List Event) (limits : Limits) → v.about ≡ Some limits → StartsWith at v.seen → mine by v.actor at ≡ v.base ++ v.own
     → Legal (history_at limits.capacity at) → r ≡ out (history_at limits.capacity at) v.actor q → w.seen ≡ grown at v.actor q r
@@ -80,60 +154,64 @@ asked_act v w q r at limits about later owned legal due grew entry owns some sam
     let legal' : Legal (history_at (capacity_in v.about) at) = subst (λ (n : ℕ). Legal (history_at n at)) cap legal in
     let due' : r ≡ out (history_at (capacity_in v.about) at) v.actor q = due ∙ ap (λ (n : ℕ). out (history_at n at) v.actor q) cap in
     let own : w.own ≡ v.own ++ noted v.actor ((q, r) ∷ []) = own_grows (recorded r) v.actor q at w.seen v.own w.own grew entry in
-    let tells : noted v.actor ((q, told r) ∷ []) ≡ noted v.actor ((q, r) ∷ []) = ap (λ (z : Option Recorded). noted_if z v.actor q []) (told_recorded r) in
-    let grew' : w.seen ≡ grown at v.actor q (told r) = grew ∙ ap (λ (z : Option Recorded). entered at v.actor q z) (sym (told_recorded r)) in
-    let one : length (noted v.actor ((q, told r) ∷ [])) ≤ 1 = noted_one (recorded (told r)) v.actor q in
     let fewer : w.left ≡ v.left - 1 = ap (λ (k : Passing). k.left) same in record {
+      before = v;
+      in_vain = in_vain_none v q;
       at = at;
+      later = later;
       from = later;
-      seen_is = grew;
-      own_is = own;
       owned = owned;
-      owns = owns;
       legal = legal';
       due_is = due';
-      went = record {
-        later = starts_both v.seen at w.seen later (subst (λ (l : List Event). StartsWith l at) (sym grew) (starts_entered (recorded r) v.actor q at));
-        own = own ∙ ap (λ (l : List Event). v.own ++ l) (sym tells);
-        acts = omega (arith, one, fewer, some);
-        each = (
-          inl record {
-            at = at;
-            from = later;
-            to = subst (λ (l : List Event). StartsWith w.seen l) grew' (starts_self w.seen);
-            own_is = owned;
-            legal = legal';
-            due_is = ap told due';
-          },
-          tt,
-        );
-        same = same ∙ ap (λ (n : ℕ). record v { seen = w.seen; own = w.own; left = n }) (sym fewer);
-      };
+      seen_is = grew;
+      own_is = own;
+      owns = owns;
+      act = omega (arith, fewer, some);
+      same = same ∙ ap (λ (n : ℕ). record v { seen = w.seen; own = w.own; left = n }) (sym fewer);
     }
 
--- an ask that is made again
-pub asks_again : (v u w : Passing) (q : Request) (r : Answer) → Went v [] u → Asked u q r w → recorded r ≡ None → Went v [] w
-asks_again v u w q r p x e = went_both v u w [] [] p record {
-  later = x.went.later;
-  own = x.own_is ∙ ap (λ (b : Option Recorded). u.own ++ noted_if b u.actor q []) e;
-  acts = let less = x.went.acts in omega (arith, less);
-  each = tt;
-  same = x.went.same;
-}
+-- what a trace tells of one ask
+pub asked_went : (v w : Passing) (q : Request) (r : Answer) → Asked v q r w → asks_on r ≡ false → Went v ((q, told r) ∷ []) w
+asked_went v w q r x n =
+    let tells : noted v.actor ((q, told r) ∷ []) ≡ noted v.actor ((q, r) ∷ []) = ap (λ (z : Option Recorded). noted_if z v.actor q []) (told_recorded r) in
+    let grew : w.seen ≡ grown x.at v.actor q (told r) = x.seen_is ∙ ap (λ (z : Option Recorded). entered x.at v.actor q z) (sym (told_recorded r)) in
+    let one : length (noted v.actor ((q, told r) ∷ [])) ≤ 1 = noted_one (recorded (told r)) v.actor q in
+    let act : w.left + 1 ≡ x.before.left = x.act in let acts : x.before.left + length x.in_vain.times ≡ v.left = x.in_vain.acts in record {
+      later = asked_later v w q r x;
+      own = x.own_is ∙ ap (λ (l : List Event). v.own ++ l) (sym tells);
+      acts = omega (arith, one, act, acts);
+      each = (
+        inl record {
+          at = x.at;
+          from = x.from;
+          to = subst (λ (l : List Event). StartsWith w.seen l) grew (starts_self w.seen);
+          own_is = x.owned;
+          legal = x.legal;
+          due_is = ap told x.due_is;
+        },
+        tt,
+      );
+      steps = (w, inl (r, x, n, refl), refl);
+      same = x.same;
+    }
 
--- an ask after others that are left out
-pub asked_after : (v u w : Passing) (q : Request) (r : Answer) → Went v [] u → Asked u q r w → Asked v q r w
+-- an ask after others that were in vain
+pub asked_after : (v u w : Passing) (q : Request) (r : Answer) → InVain v q u → Asked u q r w → Asked v q r w
 asked_after v u w q r p x = let sa : u.actor ≡ v.actor = ap (λ (k : Passing). k.actor) p.same in let sb : u.base ≡ v.base = ap (λ (k : Passing). k.base) p.same in
-    let sl : u.about ≡ v.about = ap (λ (k : Passing). k.about) p.same in record {
-      went = went_both v u w [] ((q, told r) ∷ []) p x.went;
+    let so : u.own ≡ v.own = ap (λ (k : Passing). k.own) p.same in let sl : u.about ≡ v.about = ap (λ (k : Passing). k.about) p.same in record {
+      before = x.before;
+      in_vain = in_vain_both v u x.before q p x.in_vain;
       at = x.at;
-      from = starts_both v.seen u.seen x.at p.later x.from;
-      seen_is = x.seen_is ∙ ap (λ (n : ℕ). grown x.at n q r) sa;
-      own_is = x.own_is ∙ (ap (λ (n : ℕ). u.own ++ noted n ((q, r) ∷ [])) sa ∙ ap (λ (l : List Event). l ++ noted v.actor ((q, r) ∷ [])) (p.own ∙ append-nil v.own));
-      owned = subst (λ (n : ℕ). mine by n x.at ≡ v.base ++ v.own) sa (x.owned ∙ (λ i. sb i ++ (p.own ∙ append-nil v.own) i));
-      owns = x.owns;
+      later = x.later;
+      from = starts_both v.seen u.seen x.at (in_vain_later v u q p) x.from;
+      owned = subst (λ (n : ℕ). mine by n x.at ≡ v.base ++ v.own) sa (x.owned ∙ (λ i. sb i ++ so i));
       legal = subst (λ (n : Option Limits). Legal (history_at (capacity_in n) x.at)) sl x.legal;
       due_is = x.due_is ∙ (λ i. out (history_at (capacity_in (sl i)) x.at) (sa i) q);
+      seen_is = x.seen_is ∙ ap (λ (n : ℕ). grown x.at n q r) sa;
+      own_is = x.own_is ∙ (ap (λ (n : ℕ). u.own ++ noted n ((q, r) ∷ [])) sa ∙ ap (λ (l : List Event). l ++ noted v.actor ((q, r) ∷ [])) so);
+      owns = x.owns;
+      act = x.act;
+      same = x.same ∙ ap (λ (k : Passing). record k { seen = w.seen; own = w.own; left = w.left }) p.same;
     }
 
 pub is_told : (r : Answer) → asks_on r ≡ false → IsTold (told r)
@@ -173,27 +251,20 @@ told_stands Answers.Unattached t = refl
 told_stands Answers.BadLine t = refl
 told_stands Answers.OutOfMemory t = refl
 
-pub not_kept : (r : Answer) → asks_on r ≡ true → recorded r ≡ None
-not_kept Answers.Busy e = refl
-not_kept Answers.Waiting e = refl
-not_kept (Answers.Started s) e = absurd (cc e)
-not_kept Answers.Queued e = absurd (cc e)
-not_kept (Answers.Refused rule line version) e = absurd (cc e)
-not_kept (Answers.Done n) e = absurd (cc e)
-not_kept Answers.Suspended e = absurd (cc e)
-not_kept Answers.Delayed e = absurd (cc e)
-not_kept (Answers.Woken s) e = absurd (cc e)
-not_kept (Answers.Accepted n) e = absurd (cc e)
-not_kept Answers.Misuse e = refl
-not_kept Answers.Halted e = refl
-not_kept Answers.Full e = refl
-not_kept Answers.Unattached e = refl
-not_kept Answers.BadLine e = refl
-not_kept Answers.OutOfMemory e = refl
-
 -- where no act is left a body is told Full
-pub worn_told : (v w : Passing) (q : Request) → Went v [] w → w.left ≡ 0 → Went v ((q, Answers.Full) ∷ []) w
-worn_told v w q p none = record { later = p.later; own = p.own; acts = p.acts; each = (inr (refl, none, refl), tt); same = p.same }
+pub worn_told : (v w : Passing) (q : Request) → WoreOut v q w → Went v ((q, Answers.Full) ∷ []) w
+worn_told v w q p = let so : w.own ≡ v.own = ap (λ (k : Passing). k.own) p.0.same in let acts : w.left + length p.0.times ≡ v.left = p.0.acts in record {
+  later = in_vain_later v w q p.0;
+  own = so ∙ sym (append-nil v.own);
+  acts = omega (arith, acts);
+  each = (inr (refl, p.1, refl), tt);
+  steps = (w, inr (p, refl), refl);
+  same = p.0.same ∙ ap (λ (l : List Event). record v { seen = w.seen; own = l; left = w.left }) (sym so);
+}
+
+-- a body is told the answer itself
+pub answer_told : (v w : Passing) (q : Request) (r t : Answer) (b : Begun) (lent : Option Lent) → Replied v q r b lent w → asks_on r ≡ false → t ≡ told r → Went v ((q, t) ∷ []) w
+answer_told v w q r t b lent x n is = subst (λ (z : Answer). Went v ((q, z) ∷ []) w) (sym is) (asked_went v w q r x.asked n)
 
 -- a step's reply
 abbrev pub IsReplied : Passing → Request → Reply → Passing → Type 0
@@ -213,7 +284,7 @@ replied_step v w q (Gives.Read p) a = absurd a.answer.1
 replied_step v w q Gives.Unread a = absurd a.answer.1
 
 -- after asks that are left out
-pub replied_after : (v u w : Passing) (q : Request) (r : Answer) (b : Begun) (lent : Option Lent) → Went v [] u → Replied u q r b lent w → Replied v q r b lent w
+pub replied_after : (v u w : Passing) (q : Request) (r : Answer) (b : Begun) (lent : Option Lent) → InVain v q u → Replied u q r b lent w → Replied v q r b lent w
 unfolding asked_after
 replied_after v u w q r b lent p x = record {
   asked = asked_after v u w q r p x.asked;

@@ -1,5 +1,5 @@
 -- Who was given a port, and what a control begins with.
-use Rattle.std.proofs.Common.{◌≡◌, ℕ, ◌<◌, Bool, true, false, eqb, List, [], ◌∷◌, ◌++◌, reverse, if◌then◌else◌, ap, sym, refl, ◌∙◌, eq-eqb, ⊎_elim, inl, inr, map, length, arith, subst}
+use Rattle.std.proofs.Common.{◌≡◌, ℕ, ◌+◌, ◌<◌, ◌≤◌, Bool, true, false, eqb, List, [], ◌∷◌, ◌++◌, reverse, if◌then◌else◌, ap, sym, refl, ◌∙◌, eq-eqb, ⊎_elim, inl, inr, map, length, arith, subst}
 use Rattle.std.specs.Prelude.{◌||◌, ◌-◌, is_some, Option, Some, None, Result, Ok, Err, MatchResult}
 use Rattle.rv_turn.specs.declared.pass.Worn.{Worn}
 use Rattle.std.proofs.lemmas.Bool.{ne_eqb}
@@ -27,7 +27,7 @@ use Rattle.rv_exec.specs.declared.bodies.SharedUnit.{SharedUnit}
 use Rattle.rv_port.specs.Events.{by, events, log_of, history_at, first_or, first_of, rest_of, no_shape, shapes_of, with_shape, catalogue_of}
 use Rattle.rv_port.specs.Acting.{limits_of, entered, listed as listed_to, Does, Due, Loaded, Unloaded, Changed, IfOperator}
 use Rattle.rv_port.specs.Traces.{Passing}
-use Rattle.rv_port.specs.Controls.{listed, OperatorAlone, IsControl, Told, LoadTold, BeginsWith, no_bodies_of, answer_in}
+use Rattle.rv_port.specs.Controls.{listed, OperatorAlone, IsControl, IsOperators, Told, LoadTold, BeginsWith, no_bodies_of, answer_in}
 use Rattle.rv_port.specs.declared.event.Ask.{Ask}
 use Rattle.rv_port.specs.declared.event.Ask.TheVariants as Wants
 use Rattle.rv_port.specs.declared.event.Reply.{Reply}
@@ -68,6 +68,59 @@ alone_back (ListChange ∷ past) ss us ls a some t = one_back a (Lists (first_or
 
 pub alone_mine : (h : History) (us : List UnitBodies) → OperatorAlone h.past → (a : ℕ) → 0 < a → mine by a (log_of h us) ≡ []
 alone_mine h us t a some = alone_back h.past (reverse h.shapes) (reverse us) (reverse h.lists) a some t
+
+-- the events of the operator alone
+mine_if : (b : Bool) (e : Event) (es : List Event) → b ≡ true → (if b then e ∷ es else es) ≡ e ∷ es
+mine_if true e es is = refl
+mine_if false e es is = absurd (cc is)
+
+one_kept : (e : Event) (es : List Event) → mine by 0 (reverse es) ≡ reverse es → by e ≡ 0 → mine by 0 (reverse (e ∷ es)) ≡ reverse (e ∷ es)
+one_kept e es h is =
+    ap (mine by 0) (reverse-append (e ∷ []) es) ∙ (mine-append by 0 (reverse es) (e ∷ []) ∙ ((λ i. h i ++ mine_if (eqb (by e) 0) e [] (eq-eqb (by e) 0 is) i) ∙ sym (reverse-append (e ∷ []) es)))
+
+all_back : (past : List Entry) (ss : List Shape) (us : List UnitBodies) (ls : List (List Words)) → OperatorAlone past → mine by 0 (reverse (events past ss us ls)) ≡ reverse (events past ss us ls)
+all_back [] ss us ls t = refl
+all_back (Asked b q w ∷ past) ss us ls t = one_kept (Asks b q w) (events past ss us ls) (all_back past ss us ls t.1) t.0
+all_back (Load ∷ past) ss us ls t = one_kept (Loads (first_or no_shape ss) (first_of us)) (events past (rest_of ss) (rest_of us) ls) (all_back past (rest_of ss) (rest_of us) ls t) refl
+all_back (ListChange ∷ past) ss us ls t = one_kept (Lists (first_or [] ls)) (events past ss us (rest_of ls)) (all_back past ss us (rest_of ls) t) refl
+
+pub begins_alone : (turn : TableId) (pass : Passing) (h : History) (us : List UnitBodies) → OperatorAlone h.past → pass ≡ opening_of turn (limits_of h) by (log_of h us) → pass.base ≡ pass.seen
+begins_alone turn pass h us t is =
+    ap (λ (z : Passing). z.base) is ∙ (all_back h.past (reverse h.shapes) (reverse us) (reverse h.lists) t ∙ sym (ap (λ (z : Passing). z.seen) is))
+
+-- the operator's events of a list are the operator's
+twice_if : (b : Bool) (e : Event) (es : List Event) → eqb (by e) 0 ≡ b → mine by 0 es ≡ es → mine by 0 (if b then e ∷ es else es) ≡ (if b then e ∷ es else es)
+twice_if true e es is h = mine_if (eqb (by e) 0) e (mine by 0 es) is ∙ ap (λ (l : List Event). e ∷ l) h
+twice_if false e es is h = h
+
+twice : (es : List Event) → mine by 0 (mine by 0 es) ≡ mine by 0 es
+twice [] = refl
+twice (e ∷ es) = twice_if (eqb (by e) 0) e (mine by 0 es) refl (twice es)
+
+length_if : (b : Bool) (e : Event) (es : List Event) (n : ℕ) → length es ≤ n → length (if b then e ∷ es else es) ≤ n + 1
+length_if true e es n less = omega (arith, less)
+length_if false e es n less = omega (arith, less)
+
+length_mine : (es : List Event) → length (mine by 0 es) ≤ length es
+length_mine [] = omega arith
+length_mine (e ∷ es) = let one : length (mine by 0 (e ∷ es)) ≤ length es + 1 = length_if (eqb (by e) 0) e (mine by 0 es) (length es) (length_mine es) in omega (arith, one)
+
+own_if : (b : Bool) (e : Event) (es fs : List Event) → length es ≤ length fs → (if b then e ∷ es else es) ≡ e ∷ fs → (b ≡ true) × (es ≡ fs)
+own_if true e es fs less is = (refl, ap rest_of is)
+own_if false e es fs less is = absurd (omega (arith, less, ap length is))
+
+front_kept : (xs ys : List Event) → mine by 0 (xs ++ ys) ≡ xs ++ ys → mine by 0 xs ≡ xs
+front_kept [] ys h = refl
+front_kept (x ∷ xs) ys h = let own = own_if (eqb (by x) 0) x (mine by 0 (xs ++ ys)) (xs ++ ys) (length_mine (xs ++ ys)) h in
+    mine_if (eqb (by x) 0) x (mine by 0 xs) own.0 ∙ ap (λ (l : List Event). x ∷ l) (front_kept xs ys own.1)
+
+pub keeps_of : (turn : TableId) (pass : Passing) (given : List ℕ) (catalogue : List Shape) → IsControl turn pass given catalogue → IsOperators pass
+keeps_of turn pass given catalogue k = record {
+  first = k.first;
+  actor = k.operator;
+  opening = front_kept pass.base pass.own (ap (mine by 0) (sym k.owns) ∙ (twice pass.seen ∙ k.owns));
+  owns = k.owns;
+}
 
 -- the catalogue is that of the operator's own events
 

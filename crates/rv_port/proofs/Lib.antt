@@ -3,6 +3,7 @@ pub mod Doing
 pub mod Actors
 pub mod Asking
 pub mod Gets
+pub mod Later
 pub mod Performing
 pub mod Controls
 pub mod Closings

@@ -1,14 +1,17 @@
 -- What a call on a port did. (own)
-use Rattle.std.specs.Prelude.{◌≡◌, ◌⊎◌, ℤ, ◌≤◌, Bool, true, false, List, [], ◌∷◌, ◌++◌, Option, Some}
+use Rattle.std.specs.Prelude.{◌≡◌, ◌⊎◌, ℕ, ℤ, ◌≤◌, nat_lt, Bool, true, false, List, [], ◌∷◌, ◌++◌, Option, Some, None}
 use Rattle.rv_code.specs.Bodies.{UnitBodies}
 use Rattle.rv_event.specs.declared.entry.Request.{Request}
-use Rattle.rv_event.specs.declared.entry.Request.TheVariants.{Complete, Resume}
+use Rattle.rv_event.specs.declared.entry.Request.TheVariants.{Complete, Resume, Quit}
 use Rattle.rv_event.specs.declared.entry.Exit.{Exit}
 use Rattle.rv_event.specs.declared.entry.Exit.TheVariants as Exits
 use Rattle.rv_event.specs.declared.entry.Answer.{Answer}
 use Rattle.rv_event.specs.declared.entry.Answer.TheVariants as Answers
+use Rattle.rv_event.specs.declared.entry.Recorded.{Recorded}
 use Rattle.rv_event.specs.declared.entry.Recorded.TheVariants as Words
 use Rattle.rv_event.specs.declared.entry.Next.{Next}
+use Rattle.rv_event.specs.declared.entry.Next.TheVariants.{HandedTo}
+use Rattle.rv_shape.specs.Catalogue.{first_task}
 use Rattle.rv_port.specs.declared.body.Ended.{Ended}
 use Rattle.rv_port.specs.declared.event.Begun.{Begun}
 use Rattle.rv_port.specs.declared.event.Event.{Event}
@@ -16,8 +19,9 @@ use Rattle.rv_port.specs.declared.event.Event.TheVariants.{Asks}
 use Rattle.rv_port.specs.declared.reached.Reached.{Reached}
 use Rattle.rv_port.specs.declared.reached.Reached.TheVariants as Reaches
 use Rattle.rv_port.specs.Events.{catalogue_of, called}
+use Rattle.rv_port.specs.Later.{version_seen}
 use Rattle.rv_turn.specs.Histories.{StartsWith}
-use Rattle.rv_port.specs.Traces.{Passing, Trace, Went, Asked, asks_on}
+use Rattle.rv_port.specs.Traces.{Passing, Trace, noted, WoreOut, Went, Asked, asks_on}
 use Rattle.rv_port.specs.Acting.{IsLent}
 use Rattle.rv_port.specs.Bodies.{Runs}
 use Rattle.rv_port.specs.Reaching.{arguments_of, reads, values_of, plain_of, end_of, reached_by, waited_for}
@@ -26,17 +30,19 @@ use Rattle.rv_port.specs.Reaching.{arguments_of, reads, values_of, plain_of, end
 abbrev pub Grown : Passing → Passing → Type 0
 Grown v w = (more : List Event) × (w.own ≡ v.own ++ more)
 
--- A port stays what it was: of one control and one actor, it forgets nothing that it saw or did, and gains no act. (own)
+-- A port stays what it was: of one control and one actor, with the same capacity, it forgets nothing that it saw or did, and
+-- gains no act. (own)
 pub record Stays (v w : Passing) : Type 0 where
   pub turn : w.turn ≡ v.turn
   pub actor : w.actor ≡ v.actor
+  pub about : w.about ≡ v.about
   pub later : StartsWith w.seen v.seen
   pub grown : Grown v w
   pub fewer : w.left ≤ v.left
 
--- no act was left, and nothing was recorded (own)
-abbrev pub Wore : Passing → Reached → Passing → Type 0
-Wore v reached w = Went v [] w × (w.left ≡ 0) × (reached ≡ Reaches.Stopped)
+-- no act was left for the request, and nothing was recorded (own)
+abbrev pub Wore : Passing → Request → Reached → Passing → Type 0
+Wore v q reached w = WoreOut v q w × (reached ≡ Reaches.Stopped)
 
 -- A body that started asked what it asks by these bodies, and ended, where an act was left. (own)
 pub record RanOn (bodies : Option UnitBodies) (started : Passing) (begun : Begun) (scalars arguments : List ℤ) (reached : Reached) (w : Passing) : Type 0 where
@@ -45,49 +51,106 @@ pub record RanOn (bodies : Option UnitBodies) (started : Passing) (begun : Begun
   pub runs : Runs bodies begun scalars arguments trace ended
   pub body : Passing
   pub went : Went started trace body
-  pub end_is : Wore body reached w
+  pub end_is : Wore body (Complete ended.scalars ended.exit) reached w
       ⊎ ((d : Answer) × Asked body (Complete ended.scalars ended.exit) d w × (asks_on d ≡ false) × (reached ≡ end_of d ended.exit))
 
--- The same by the bodies of all units that this history loads, or without, where a port can't hold them. (own)
-abbrev pub Ran : List Event → Passing → Begun → List ℤ → List ℤ → Reached → Passing → Type 0
-Ran log started begun scalars arguments reached w =
-    (bodies : Option UnitBodies) × IsLent log bodies × RanOn bodies started begun scalars arguments reached w
+-- the mark that bodies which were wanted couldn't be had, after a body ran by these bodies, or without (own)
+abbrev pub marked : Bool → Option UnitBodies → Bool
+marked mark None = true
+marked mark (Some bodies) = mark
+
+-- The same by the bodies of all units that this history loads, or without, where a port can't hold them, which is marked. (own)
+abbrev pub Ran : List Event → Passing → Bool → Begun → List ℤ → List ℤ → Reached → Passing → Bool → Type 0
+Ran log started mark begun scalars arguments reached w after =
+    (bodies : Option UnitBodies) × IsLent log bodies × (after ≡ marked mark bodies) × RanOn bodies started begun scalars arguments reached w
 
 -- what followed an answer to a resume, on this history (own)
-abbrev pub Resumed : Answer → List Event → Passing → Request → Reached → Passing → Type 0
-Resumed (Answers.Woken (Some scalars)) log u q reached w = Ran log u (waited_for q) scalars (arguments_of q) reached w
-Resumed r log u q reached w = (w ≡ u) × (reached ≡ plain_of false r)
+abbrev pub Resumed : Answer → List Event → Passing → Bool → Request → Reached → Passing → Bool → Type 0
+Resumed (Answers.Woken (Some scalars)) log u mark q reached w after =
+    Ran log u mark (waited_for q) scalars (arguments_of q) reached w after
+Resumed r log u mark q reached w after = (w ≡ u) × (after ≡ mark) × (reached ≡ plain_of false r)
 
 -- the wait of a request: its resume, and what followed it (own)
-abbrev pub Waited : Passing → Request → Reached → Passing → Type 0
-Waited v q reached w =
-    Wore v reached w ⊎ ((r : Answer) × (u : Passing) × (x : Asked v Resume r u) × (asks_on r ≡ false) × Resumed r x.at u q reached w)
+abbrev pub Waited : Passing → Bool → Request → Reached → Passing → Bool → Type 0
+Waited v mark q reached w after =
+    (Wore v Resume reached w × (after ≡ mark))
+    ⊎ ((r : Answer) × (u : Passing) × (x : Asked v Resume r u) × (asks_on r ≡ false) × Resumed r x.at u mark q reached w after)
 
 -- what followed an answer to a request on this history, where a start is of this operation (own)
-abbrev pub Followed : Answer → List Event → Begun → Passing → Request → Reached → Passing → Type 0
-Followed (Answers.Started scalars) log begun u q reached w = Ran log u begun scalars (arguments_of q) reached w
-Followed Answers.Queued log begun u q reached w = Waited u q reached w
-Followed Answers.Suspended log begun u q reached w = Waited u q reached w
-Followed Answers.Delayed log begun u q reached w = Waited u q reached w
-Followed r log begun u q reached w = (w ≡ u) × (reached ≡ plain_of (reads q) r)
+abbrev pub Followed : Answer → List Event → Begun → Passing → Bool → Request → Reached → Passing → Bool → Type 0
+Followed (Answers.Started scalars) log begun u mark q reached w after = Ran log u mark begun scalars (arguments_of q) reached w after
+Followed Answers.Queued log begun u mark q reached w after = Waited u mark q reached w after
+Followed Answers.Suspended log begun u mark q reached w after = Waited u mark q reached w after
+Followed Answers.Delayed log begun u mark q reached w after = Waited u mark q reached w after
+Followed r log begun u mark q reached w after = (w ≡ u) × (after ≡ mark) × (reached ≡ plain_of (reads q) r)
 
 -- One performance of a request: its answer, which is due on a legal history that begins with all that was seen, and what
--- followed: a body and its end, a wait, or nothing. Or no act was left. (own)
-abbrev pub Performed : Passing → Request → Reached → Passing → Type 0
-Performed v q reached w =
-    Wore v reached w
+-- followed: a body and its end, a wait, or nothing. Or no act was left. The mark before and after tells whether bodies
+-- couldn't be had. (own)
+abbrev pub Performed : Passing → Bool → Request → Reached → Passing → Bool → Type 0
+Performed v mark q reached w after =
+    (Wore v q reached w × (after ≡ mark))
     ⊎ ((r : Answer) × (u : Passing) × (x : Asked v q r u) × (asks_on r ≡ false)
-    × Followed r x.at (called (catalogue_of x.at) v.actor q) u q reached w)
+    × Followed r x.at (called (catalogue_of x.at) v.actor q) u mark q reached w after)
 
--- The pass's own events have grown, and this is the last. (own)
-abbrev pub GrewBy : Passing → Event → Passing → Type 0
-GrewBy v last w = (more : List Event) × (w.own ≡ v.own ++ (more ++ last ∷ []))
+-- the end of a port: a line asks nothing, a task asks Quit, once, where an act is left (own)
+abbrev pub QuitBy : Bool → Passing → Passing → Type 0
+QuitBy true v w = w ≡ v
+QuitBy false v w = ((v.left ≡ 0) × (w ≡ v)) ⊎ ((r : Answer) × Asked v Quit r w)
+
+abbrev pub Quits : Passing → Passing → Type 0
+Quits v w = QuitBy (nat_lt v.actor first_task) v w
+
+-- What is reached, by the pass's own events
+
+-- by what a request waits, as it is recorded (9.5.3, 9.6, D.10)
+abbrev pub IsWait : Recorded → Type 0
+IsWait Words.Queued = Unit {0}
+IsWait Words.Suspended = Unit {0}
+IsWait Words.Delayed = Unit {0}
+IsWait word = ⊥
+
+-- the answer to the request is the last of the pass's own events, or after a wait that to its resume, and nothing else is
+-- new (own)
+abbrev pub Answered : Passing → Request → Recorded → Passing → Type 0
+Answered v q word w =
+    (w.own ≡ v.own ++ Asks v.actor q word ∷ [])
+    ⊎ ((wait : Recorded) × IsWait wait × (w.own ≡ v.own ++ Asks v.actor q wait ∷ Asks v.actor Resume word ∷ []))
+
+-- the call's own first events: it started, or it waited and was woken (own)
+abbrev pub Opens : ℕ → Request → List Event → Type 0
+Opens a q first =
+    (first ≡ Asks a q Words.Started ∷ [])
+    ⊎ ((wait : Recorded) × IsWait wait × (first ≡ Asks a q wait ∷ Asks a Resume Words.Woken ∷ []))
+
+-- the start of an actor's call: its own entry, or the end of another's body that hands the object over to it (9.5.3)
+abbrev pub IsStart : ℕ → Request → Event → Type 0
+IsStart a q e = (e ≡ Asks a q Words.Started) ⊎ ((b : ℕ) × (r : Request) × (e ≡ Asks b r (Words.Done (HandedTo a))))
+
+-- this is new in what was seen (own)
+abbrev pub IsNew : Event → List Event → List Event → Type 0
+IsNew e before after = (more : List Event) × (rest : List Event) × (after ≡ before ++ (more ++ e ∷ rest))
+
+-- A body of the call ended by this exit: the call's first events, what the body asked, and the end are the growth of the
+-- pass's own events, and the start is new in what was seen. (own)
+pub record EndedBy (v : Passing) (q : Request) (exit : Exit) (w : Passing) : Type 0 where
+  pub first : List Event
+  pub opens : Opens v.actor q first
+  pub asked : Trace
+  pub scalars : List ℤ
+  pub next : Next
+  pub own_is : w.own ≡ v.own ++ (first ++ (noted v.actor asked ++ Asks v.actor (Complete scalars exit) (Words.Done next) ∷ []))
+  pub start : Event
+  pub is_start : IsStart v.actor q start
+  pub is_new : IsNew start v.seen w.seen
 
 -- an end with these values, or an answer without a body: Accepted, with the value that was read, or Woken (own)
-abbrev pub Back : Passing → List ℤ → Passing → Type 0
-Back v values w = ((scalars : List ℤ) × (next : Next) × GrewBy v (Asks v.actor (Complete scalars (Exits.Return values)) (Words.Done next)) w)
-    ⊎ (((q : Request) × (value : ℤ) × (values ≡ values_of (reads q) value) × GrewBy v (Asks v.actor q (Words.Accepted value)) w)
-    ⊎ ((values ≡ []) × GrewBy v (Asks v.actor Resume Words.Woken) w))
+abbrev pub Back : Passing → Request → List ℤ → Passing → Type 0
+Back v q values w =
+    EndedBy v q (Exits.Return values) w
+    ⊎ (((value : ℤ) × (values ≡ values_of (reads q) value) × (w.own ≡ v.own ++ Asks v.actor q (Words.Accepted value) ∷ []))
+    ⊎ ((wait : Recorded) × IsWait wait × (values ≡ [])
+    × (w.own ≡ v.own ++ Asks v.actor q wait ∷ Asks v.actor Resume Words.Woken ∷ [])))
 
 -- the answer to the last ask stops the call: the host is halted or has no room, or a body's end doesn't fit (own)
 abbrev pub stops_at : Request → Answer → Bool
@@ -97,19 +160,18 @@ stops_at (Complete scalars exit) Answers.Misuse = true
 stops_at request answer = false
 
 -- why a call stopped: no act was left, or the last ask was answered so, or the body itself exited by stopped (own)
-abbrev pub StoppedBy : Passing → Passing → Type 0
-StoppedBy v w =
+abbrev pub StoppedBy : Passing → Request → Passing → Type 0
+StoppedBy v q w =
     (w.left ≡ 0)
-    ⊎ (((u : Passing) × (q : Request) × (r : Answer) × Asked u q r w × (stops_at q r ≡ true))
-    ⊎ ((scalars : List ℤ) × (next : Next) × GrewBy v (Asks v.actor (Complete scalars Exits.Stopped) (Words.Done next)) w))
+    ⊎ (((u : Passing) × (r : Request) × (d : Answer) × Asked u r d w × (stops_at r d ≡ true)) ⊎ EndedBy v q Exits.Stopped w)
 
--- What is reached, by the pass's own last event: a refusal is that very answer; values and exceptions are those of the end
--- of a body, or of an answer that starts none. Misuse was the last answer; a stop has its reason. (own)
-abbrev pub Tied : Passing → Reached → Passing → Type 0
-Tied v (Reaches.Refused rule line version) w = (q : Request) × GrewBy v (Asks v.actor q (Words.Refused rule line version)) w
-Tied v (Reaches.Returned values) w = Back v values w
-Tied v (Reaches.Raised exception) w =
-    (scalars : List ℤ) × (exit : Exit) × (next : Next) × (reached_by exit ≡ Reaches.Raised exception)
-    × GrewBy v (Asks v.actor (Complete scalars exit) (Words.Done next)) w
-Tied v Reaches.Misuse w = Grown v w × ((u : Passing) × (q : Request) × Asked u q Answers.Misuse w)
-Tied v Reaches.Stopped w = Grown v w × StoppedBy v w
+-- What is reached, by the pass's own last event: a refusal is that very answer, by the list in force in what had been seen or
+-- by a later one; values and exceptions are those of the end of the call's body, or of an answer that starts none. Misuse
+-- was the answer to the request or to its resume; a stop has its reason. (own)
+abbrev pub Tied : Passing → Request → Reached → Passing → Type 0
+Tied v q (Reaches.Refused rule line version) w =
+    Answered v q (Words.Refused rule line version) w × (version_seen v.seen ≤ version)
+Tied v q (Reaches.Returned values) w = Back v q values w
+Tied v q (Reaches.Raised exception) w = (exit : Exit) × (reached_by exit ≡ Reaches.Raised exception) × EndedBy v q exit w
+Tied v q Reaches.Misuse w = Grown v w × (Asked v q Answers.Misuse w ⊎ ((u : Passing) × Asked u Resume Answers.Misuse w))
+Tied v q Reaches.Stopped w = Grown v w × StoppedBy v q w

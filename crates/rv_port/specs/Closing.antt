@@ -1,21 +1,30 @@
 -- What a host is at the close. (own)
-use Rattle.std.specs.Prelude.{◌≡◌, List, Some}
+use Rattle.std.specs.Prelude.{◌≡◌, ℕ, List, length, Some}
 use Rattle.rv_code.specs.declared.body.UnitBodies.{UnitBodies}
 use Rattle.rv_history.specs.History.{History}
 use Rattle.rv_history.specs.Legal.{Legal}
-use Rattle.rv_turn.specs.Histories.{Each, NoStrangers}
+use Rattle.rv_turn.specs.Histories.{mine, Each, NoStrangers, StartsWith}
 use Rattle.rv_turn.specs.Passes.{StandsIn}
 use Rattle.rv_port.specs.Events.{by, log_of}
 use Rattle.rv_port.specs.Acting.{limits_of}
 use Rattle.rv_port.specs.Traces.{Passing}
+use Rattle.rv_port.specs.declared.event.Event.{Event}
 
--- The host's journal is legal; it begins with all that the control and each port had seen, and has of the operator and of
--- each port's actor the entries that they made, behind those that were there at first. An actor that was given no port has
--- no entry. The journal has no bodies; these were kept behind it. (own)
+-- of an actor's events none that was seen is missing (own)
+abbrev pub KeepsAll : List Event → Passing → Type 0
+KeepsAll log p = (actor : ℕ) → StartsWith (mine by actor log) (mine by actor p.seen)
+
+-- The host's journal is legal; it begins with all that the control and each port that came back had seen, and has of the
+-- operator and of each such port's actor the entries that they made, behind those that were there at first. Of a port that
+-- was lost it keeps all entries that any of these had seen. An actor that was given no port has no entry. The journal has no
+-- bodies; these were kept behind it, one of each unit. (own)
 pub record IsClosed (control : Passing) (ports : List Passing) (h : History) : Type 0 where
   pub legal : Legal h
   pub units : List UnitBodies
+  pub brought : length units ≡ length h.shapes
   pub operator : StandsIn by (log_of h units) control
   pub ports_stand : Each (StandsIn by (log_of h units)) ports
+  pub control_keeps : KeepsAll (log_of h units) control
+  pub ports_keep : Each (KeepsAll (log_of h units)) ports
   pub strangers : NoStrangers by (log_of h units) control.given
   pub limits : control.about ≡ Some (limits_of h)

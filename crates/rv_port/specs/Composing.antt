@@ -7,7 +7,7 @@ use Rattle.rv_event.specs.declared.entry.Recorded.{Recorded}
 use Rattle.rv_turn.specs.Histories.{StartsWith}
 use Rattle.rv_turn.specs.Prefixes.{starts_self, starts_both}
 use Rattle.rv_port.specs.Acting.{grown}
-use Rattle.rv_port.specs.Traces.{Passing, capacity_in, Trace, noted, noted_if, IsAnswered, EachAnswered, Went}
+use Rattle.rv_port.specs.Traces.{Passing, capacity_in, Trace, noted, noted_if, IsAnswered, EachAnswered, Steps, Went}
 use Rattle.rv_port.specs.declared.event.Event.{Event}
 use Rattle.rv_port.specs.declared.event.Limits.{Limits}
 
@@ -49,7 +49,11 @@ each_both limit a seen mid later l₁ l₂ own (x ∷ xs) ys p q few t u = (
   first_of_all x xs = noted-append a (x ∷ []) xs
 
 pub went_none : (v : Passing) → Went v [] v
-went_none v = record { later = starts_self v.seen; own = sym (append-nil v.own); acts = omega arith; each = tt; same = refl }
+went_none v = record { later = starts_self v.seen; own = sym (append-nil v.own); acts = omega arith; each = tt; steps = refl; same = refl }
+
+steps_both : (v u w : Passing) (xs ys : Trace) → Steps v xs u → Steps u ys w → Steps v (xs ++ ys) w
+steps_both v u w [] ys p q = subst (λ (z : Passing). Steps z ys w) p q
+steps_both v u w (x ∷ xs) ys p q = (p.0, p.1, steps_both p.0 u w xs ys p.2 q)
 
 pub went_both : (v u w : Passing) (xs ys : Trace) → Went v xs u → Went u ys w → Went v (xs ++ ys) w
 went_both v u w xs ys p q = let sa : u.actor ≡ v.actor = ap (λ k. k.actor) p.same in let sb : u.base ≡ v.base = ap (λ k. k.base) p.same in let sl : u.about ≡ v.about = ap (λ k. k.about) p.same in
@@ -64,5 +68,6 @@ went_both v u w xs ys p q = let sa : u.actor ≡ v.actor = ap (λ k. k.actor) p.
       own = own_w ∙ (ap (λ (l : List Event). l ++ noted v.actor ys) own_u ∙ (append_assoc v.own (noted v.actor xs) (noted v.actor ys) ∙ ap (λ (l : List Event). v.own ++ l) (sym both)));
       acts = let long = ap length both ∙ length-append (noted v.actor xs) (noted v.actor ys) in let fewer = p.acts in omega (arith, long, fewer, acts_w);
       each = each_both (capacity_in v.about) v.actor v.seen u.seen w.seen u.left w.left (v.base ++ v.own) xs ys p.later q.later acts_w p.each each_w;
+      steps = steps_both v u w xs ys p.steps q.steps;
       same = q.same ∙ ap (λ (k : Passing). record k { seen = w.seen; own = w.own; left = w.left }) p.same;
     }

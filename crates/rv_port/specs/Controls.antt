@@ -90,6 +90,21 @@ pub record IsControl (turn : TableId) (pass : Passing) (given : List ℕ) (catal
   pub owns : mine by 0 pass.seen ≡ pass.base ++ pass.own
   pub catalogue_is : catalogue ≡ catalogue_of pass.seen
 
+-- What every control keeps: it is the operator's, and its own events are the operator's in all that it has seen, behind those
+-- that the host had at first, which are the operator's too. (own)
+pub record IsOperators (control : Passing) : Type 0 where
+  pub first : control.first ≡ true
+  pub actor : control.actor ≡ 0
+  pub opening : mine by 0 control.base ≡ control.base
+  pub owns : mine by 0 control.seen ≡ control.base ++ control.own
+
+-- What every port keeps, also one that is done: its own events are its actor's in all that it has seen, each once and in their
+-- order. (own)
+pub record IsPorts (port : Passing) : Type 0 where
+  pub first : port.first ≡ false
+  pub base : port.base ≡ []
+  pub owns : mine by port.actor port.seen ≡ port.own
+
 -- no page: there was no memory for it, or no act was left, and nothing changed (own)
 abbrev pub PageFailed : Passing → ℕ → PageFault → Passing → Type 0
 PageFailed v from PageFaults.NoMemory w = Acted by Does v (Ask.Read from) Gives.Unread w

@@ -4,7 +4,9 @@ pub mod Actors
 pub mod Traces
 pub mod Composing
 pub mod Reaching
+pub mod Later
 pub mod Bodies
 pub mod Calls
+pub mod Ports
 pub mod Controls
 pub mod Closing

@@ -76,25 +76,58 @@ EachAnswered limit a seen later left own [] = Unit {0}
 EachAnswered limit a seen later left own (x ∷ xs) =
     (IsAnswered limit a seen own later x.0 x.1 ⊎ IsWorn a left x.1 xs) × EachAnswered limit a seen later left (own ++ noted a (x ∷ [])) xs
 
+-- On these legal histories, of which each begins with all that was seen before it, Busy or Waiting was due. The last is seen
+-- then. (own)
+abbrev pub EachInVain : ℕ → ℕ → Request → List Event → List (List Event) → List Event → Type 0
+EachInVain limit a q seen [] last = last ≡ seen
+EachInVain limit a q seen (at ∷ more) last =
+    StartsWith at seen × Legal (history_at limit at) × (asks_on (out (history_at limit at) a q) ≡ true) × EachInVain limit a q at more last
+
+-- A request was made in vain, so many times: each answer was Busy or Waiting, and took one act. (own)
+pub record InVain (v : Passing) (q : Request) (w : Passing) : Type 0 where
+  pub times : List (List Event)
+  pub each : EachInVain (capacity_in v.about) v.actor q v.seen times w.seen
+  pub acts : w.left + length times ≡ v.left
+  pub same : w ≡ record v { seen = w.seen; left = w.left }
+
+-- One request, with the answer itself: the due one on a legal history that begins with all that was seen, and on which the
+-- actor's events are the pass's own. It took one act, after those that were in vain. (own)
+pub record Asked (v : Passing) (q : Request) (r : Answer) (w : Passing) : Type 0 where
+  pub before : Passing
+  pub in_vain : InVain v q before
+  pub at : List Event
+  pub later : StartsWith at before.seen
+  pub from : StartsWith at v.seen
+  pub owned : mine by v.actor at ≡ v.base ++ v.own
+  pub legal : Legal (history_at (capacity_in v.about) at)
+  pub due_is : r ≡ out (history_at (capacity_in v.about) at) v.actor q
+  pub seen_is : w.seen ≡ grown at v.actor q r
+  pub own_is : w.own ≡ v.own ++ noted v.actor ((q, r) ∷ [])
+  pub owns : mine by w.actor w.seen ≡ w.base ++ w.own
+  pub act : w.left + 1 ≡ before.left
+  pub same : w ≡ record v { seen = w.seen; own = w.own; left = w.left }
+
+-- no act was left for a request (own)
+abbrev pub WoreOut : Passing → Request → Passing → Type 0
+WoreOut v q w = InVain v q w × (w.left ≡ 0)
+
+-- a body is told an answer, or Full where no act is left (own)
+abbrev pub Tells : Passing → Request → Answer → Passing → Type 0
+Tells v q r w = ((d : Answer) × Asked v q d w × (asks_on d ≡ false) × (r ≡ told d)) ⊎ (WoreOut v q w × (r ≡ Answers.Full))
+
+-- the pairs of a trace, one after another, and nothing else (own)
+abbrev pub Steps : Passing → Trace → Passing → Type 0
+Steps v [] w = w ≡ v
+Steps v (x ∷ xs) w = (u : Passing) × Tells v x.0 x.1 u × Steps u xs w
+
 -- The events of the recorded pairs are the growth of the pass's own, each takes an act, and acts left never grow. (own)
 pub record Went (v : Passing) (xs : Trace) (w : Passing) : Type 0 where
   pub later : StartsWith w.seen v.seen
   pub own : w.own ≡ v.own ++ noted v.actor xs
   pub acts : w.left + length (noted v.actor xs) ≤ v.left
   pub each : EachAnswered (capacity_in v.about) v.actor v.seen w.seen w.left (v.base ++ v.own) xs
+  pub steps : Steps v xs w
   pub same : w ≡ record v { seen = w.seen; own = w.own; left = w.left }
-
--- one request, with the answer itself (own)
-pub record Asked (v : Passing) (q : Request) (r : Answer) (w : Passing) : Type 0 where
-  pub went : Went v ((q, told r) ∷ []) w
-  pub at : List Event
-  pub from : StartsWith at v.seen
-  pub seen_is : w.seen ≡ grown at v.actor q r
-  pub own_is : w.own ≡ v.own ++ noted v.actor ((q, r) ∷ [])
-  pub owned : mine by v.actor at ≡ v.base ++ v.own
-  pub owns : mine by w.actor w.seen ≡ w.base ++ w.own
-  pub legal : Legal (history_at (capacity_in v.about) at)
-  pub due_is : r ≡ out (history_at (capacity_in v.about) at) v.actor q
 
 -- one request, with the operation whose body the answer starts, and the bodies that it brings (own)
 pub record Replied (v : Passing) (q : Request) (r : Answer) (begun : Begun) (lent : Option Lent) (w : Passing) : Type 0 where

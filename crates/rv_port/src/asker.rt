@@ -4,7 +4,7 @@ ghost use Rattle.std.specs.Prelude.{◌≡◌, ℕ, ◌++◌, ◌∷◌, [], IfS
 ghost use Rattle.rv_turn.specs.Histories.{mine};
 ghost use Rattle.rv_port.specs.Actors.{HasHandler};
 ghost use Rattle.rv_port.specs.Events.{by, catalogue_of};
-ghost use Rattle.rv_port.specs.Traces.{Went, Asked, Replied, IsTold, told, asks_on};
+ghost use Rattle.rv_port.specs.Traces.{WoreOut, Went, Replied, IsTold, told, asks_on};
 
 use crate::behind::Behind;
 use crate::bell::Bell;
@@ -54,6 +54,7 @@ impl Asker {
     ) -> Option<(Answer, Begun, Option<Lent>)>
         ensures some { IfSome result (λ r. Replied self.old.pass request.now r.0 r.1 r.2 self.new.pass) }
         ensures none { IfNone result ((self.new.pass ≡ self.old.pass) × (self.old.pass.left ≡ 0)) }
+        ensures mark { self.new.is_refused ≡ self.old.is_refused }
     {
         let Ok(reply) = self.pass.act(rt, Ask::Step(*request)) else {
             return None;
@@ -71,7 +72,8 @@ impl Asker {
         request: &Request,
     ) -> Option<(Answer, Begun, Option<Lent>)>
         ensures some { IfSome result (λ r. Replied self.old.pass request.now r.0 r.1 r.2 self.new.pass × (asks_on r.0 ≡ false)) }
-        ensures none { IfNone result (Went self.old.pass [] self.new.pass × (self.new.pass.left ≡ 0)) }
+        ensures none { IfNone result (WoreOut self.old.pass request.now self.new.pass) }
+        ensures mark { self.new.is_refused ≡ self.old.is_refused }
     {
         for _ in rt.forever() {
             let rings = self.bell.rings(rt);
@@ -90,10 +92,10 @@ impl Asker {
     }
 
     // Asks for a body: Full in place of Misuse, and where no act is left.
-    #[tactic(auto, using(crate::proofs::Asking::worn_told))]
     fn ask_for_body<R: Wait>(&mut self, rt: &R, request: &Request) -> Answer
         ensures went { Went self.old.pass ((request.now, result) ∷ []) self.new.pass }
         ensures told { IsTold result }
+        ensures mark { self.new.is_refused ≡ self.old.is_refused }
     {
         let Some(given) = self.insist(rt, request) else {
             return Answer::Full;
@@ -104,17 +106,19 @@ impl Asker {
 }
 
 impl<R: Wait> Outward<R> for Asker {
+    ghost use Rattle.std.specs.Prelude.{◌≡◌};
+    ghost use Rattle.std.proofs.Common.{refl, ◌∙◌};
     ghost use Rattle.rv_port.specs.Traces.{Went};
     ghost use Rattle.rv_port.specs.Composing.{went_none, went_both};
 
-    ghost went = { λ s trace t. Went s.pass trace t.pass };
+    ghost went = { λ s trace t. Went s.pass trace t.pass × (t.is_refused ≡ s.is_refused) };
 
     #[tactic(auto, using(crate::proofs::Asking::told_stands))]
     fn ask(&mut self, rt: &R, request: Request) -> Answer {
         self.ask_for_body(rt, &request)
     }
 
-    ghost none = { λ s. went_none s.pass };
+    ghost none = { λ s. (went_none s.pass, refl) };
 
-    ghost both = { λ s t u a b p q. went_both s.pass t.pass u.pass a b p q };
+    ghost both = { λ s t u a b p q. (went_both s.pass t.pass u.pass a b p.0 q.0, q.1 ∙ p.1) };
 }

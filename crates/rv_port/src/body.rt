@@ -6,6 +6,7 @@ ghost use Rattle.rv_exec.specs.Bodies.{bodies_view};
 ghost use Rattle.rv_port.specs.Acting.{lent_view};
 ghost use Rattle.rv_port.specs.Traces.{Trace, Went};
 ghost use Rattle.rv_port.specs.Bodies.{Runs, left_alone, given_by};
+ghost use Rattle.rv_port.specs.Calls.{marked};
 
 use crate::asker::Asker;
 use crate::event::{Begun, Lent};
@@ -52,7 +53,8 @@ fn run_one<R: Wait>(
     scalars: &Scalars,
     args: &Args,
 ) -> Ended
-    ensures { (trace : Trace) × Runs (Some (bodies_view bodies.now)) begun.now scalars.now args.now trace result × Went asker.old.pass trace asker.new.pass }
+    ensures runs { (trace : Trace) × Runs (Some (bodies_view bodies.now)) begun.now scalars.now args.now trace result × Went asker.old.pass trace asker.new.pass }
+    ensures mark { asker.new.is_refused ≡ asker.old.is_refused }
 {
     let ended = run_body(
         rt,
@@ -80,7 +82,8 @@ pub(crate) fn run<R: Wait>(
     scalars: &Scalars,
     args: &Args,
 ) -> Ended
-    ensures { (trace : Trace) × Runs (lent_view lent.now) begun.now scalars.now args.now trace result × Went asker.old.pass trace asker.new.pass }
+    ensures runs { (trace : Trace) × Runs (lent_view lent.now) begun.now scalars.now args.now trace result × Went asker.old.pass trace asker.new.pass }
+    ensures mark { asker.new.is_refused ≡ marked asker.old.is_refused (lent_view lent.now) }
 {
     match lent {
         Some(lent) => run_one(rt, asker, &lent.bodies, begun, scalars, args),

@@ -1,12 +1,40 @@
 //! Laws, each on a function that does nothing.
 
-ghost use Rattle.std.specs.Prelude.{◌≡◌, List};
-ghost use Rattle.rv_turn.specs.Histories.{mine};
-ghost use Rattle.rv_port.specs.Events.{by, catalogue_of};
+ghost use Rattle.std.specs.Prelude.{◌≡◌, ℕ, List, length, reverse};
+ghost use Rattle.rv_code.specs.declared.body.UnitBodies.{UnitBodies};
+ghost use Rattle.rv_history.specs.History.{History};
+ghost use Rattle.rv_history.specs.Legal.{Legal};
+ghost use Rattle.rv_turn.specs.Histories.{mine, StartsWith};
+ghost use Rattle.rv_port.specs.Events.{by, catalogue_of, history_at, log_of, units_in};
+ghost use Rattle.rv_port.specs.Later.{NoEarlierList};
 ghost use Rattle.rv_port.specs.declared.event.Event.{Event};
 
 /// The catalogue is that of the operator's own events, whatever others add.
 #[tactic(auto, using(crate::proofs::Controls::catalogue_mine))]
 pub fn catalogue_is_the_operators()
     ensures { (log : List Event) → catalogue_of (mine by 0 log) ≡ catalogue_of log }
+{}
+
+/// The events of a legal history stand for that very history, whatever bodies its units have: so what
+/// is said of events is said of the host's journal.
+#[tactic(auto, using(crate::proofs::Zips::rebuilt))]
+pub fn events_are_the_journal()
+    ensures { (h : History) (units : List UnitBodies) → Legal h → history_at h.capacity (log_of h units) ≡ h }
+{}
+
+/// And the bodies in them are these, where there are as many as units.
+#[tactic(auto, using(crate::proofs::Zips::rebuilt_units))]
+pub fn events_keep_the_bodies()
+    ensures { (h : History) (units : List UnitBodies) → Legal h → length units ≡ length h.shapes → units_in (reverse (log_of h units)) ≡ units }
+{}
+
+/// In a history that begins with another, the list in force is the one in force there, or a later one.
+pub fn lists_are_never_forgotten()
+    ensures { (seen at : List Event) → StartsWith at seen → NoEarlierList seen at }
+{}
+
+/// What anyone saw of an actor's events stays in every history that begins with what was seen.
+#[tactic(auto, using(crate::proofs::Closings::mine_later))]
+pub fn events_stay()
+    ensures { (actor : ℕ) (seen log : List Event) → StartsWith log seen → StartsWith (mine by actor log) (mine by actor seen) }
 {}

@@ -2,7 +2,7 @@
 
 ghost use Rattle.std.specs.Prelude.{◌≡◌};
 ghost use Rattle.rv_port.specs.Acting.{lent_view};
-ghost use Rattle.rv_port.specs.Calls.{RanOn, Waited, Performed, Stays, Tied};
+ghost use Rattle.rv_port.specs.Calls.{marked, RanOn, Waited, Performed, Stays, Tied};
 ghost use Rattle.rv_port.specs.Reaching.{Performs};
 
 use crate::asker::Asker;
@@ -25,7 +25,8 @@ impl Asker {
         scalars: &Scalars,
         args: &Args,
     ) -> Reached
-        ensures { RanOn (lent_view lent) self.old.pass begun.now scalars.now args.now result self.new.pass }
+        ensures ran { RanOn (lent_view lent) self.old.pass begun.now scalars.now args.now result self.new.pass }
+        ensures mark { self.new.is_refused ≡ marked self.old.is_refused (lent_view lent) }
     {
         let ended = run(rt, self, &lent, begun, scalars, args);
         gate.pass(rt);
@@ -39,7 +40,7 @@ impl Asker {
 
     // Waits for what a request came to.
     fn resume<R: Wait, G: Gate<R>>(&mut self, rt: &R, gate: &G, request: &Request) -> Reached
-        ensures { Waited self.old.pass request.now result self.new.pass }
+        ensures { Waited self.old.pass self.old.is_refused request.now result self.new.pass self.new.is_refused }
     {
         let Some(given) = self.insist(rt, &Request::Resume) else {
             return Reached::Stopped;
@@ -55,7 +56,7 @@ impl Asker {
 
     // One performance, by its parts.
     fn go<R: Wait, G: Gate<R>>(&mut self, rt: &R, gate: &G, request: &Request) -> Reached
-        ensures { Performed self.old.pass request.now result self.new.pass }
+        ensures { Performed self.old.pass self.old.is_refused request.now result self.new.pass self.new.is_refused }
     {
         let Some(given) = self.insist(rt, request) else {
             return Reached::Stopped;
@@ -79,8 +80,8 @@ impl Asker {
         request: &Request,
     ) -> Reached
         requires { Performs request.now }
-        ensures performed { Performed self.old.pass request.now result self.new.pass }
-        ensures tied { Tied self.old.pass result self.new.pass }
+        ensures performed { Performed self.old.pass self.old.is_refused request.now result self.new.pass self.new.is_refused }
+        ensures tied { Tied self.old.pass request.now result self.new.pass }
         ensures stays { Stays self.old.pass self.new.pass }
     {
         self.go(rt, gate, request)

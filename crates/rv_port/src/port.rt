@@ -1,14 +1,16 @@
 //! Ports.
 
-ghost use Rattle.std.specs.Prelude.{◌≡◌, ◌⊎◌, ◌++◌, [], false};
-ghost use Rattle.rv_turn.specs.Histories.{mine};
+ghost use Rattle.std.specs.Prelude.{◌≡◌, ◌++◌, List, [], false};
+ghost use Rattle.rv_turn.specs.Histories.{mine, StartsWith};
 ghost use Rattle.rv_turn.specs.Passes.{Meets};
-ghost use Rattle.rv_event.specs.declared.entry.Answer.{Answer};
 ghost use Rattle.rv_event.specs.declared.entry.Request.TheVariants as asks;
 ghost use Rattle.rv_port.specs.Actors.{HasHandler};
 ghost use Rattle.rv_port.specs.Events.{by, catalogue_of};
-ghost use Rattle.rv_port.specs.Traces.{Went, Asked};
-ghost use Rattle.rv_port.specs.Calls.{Performed, Stays, Tied};
+ghost use Rattle.rv_port.specs.Calls.{Quits, Stays, Tied};
+ghost use Rattle.rv_port.specs.Ports.{porting, pass_of, PerformedBy};
+ghost use Rattle.rv_port.specs.Controls.{IsPorts};
+ghost use Rattle.rv_port.specs.Later.{NoEarlierList};
+ghost use Rattle.rv_port.specs.declared.event.Event.{Event};
 
 use crate::asker::Asker;
 use crate::behind::Behind;
@@ -26,7 +28,7 @@ use std::sync::{Arc, Wait};
 
 /// The right to perform one actor's requests: calls of operations, waits, and, for a line, fires.
 /// It goes from thread to thread as a value, and can't be copied. Contracts see what its pass
-/// knows.
+/// knows, and whether a body was ever left alone.
 #[derive(Drop)]
 pub struct Port {
     pub(crate) asker: Asker,
@@ -36,18 +38,18 @@ impl Model for Port {
     ghost use Rattle.std.specs.Coded.{codes};
     ghost use Rattle.rv_port.specs.contracts.event.Event as e;
     ghost use Rattle.std.specs.Prelude.{◌≡◌, []};
-    ghost use Rattle.rv_port.specs.Traces.{Passing};
+    ghost use Rattle.rv_port.specs.Ports.{Porting, porting};
 
-    ghost Value = { Passing };
+    ghost Value = { Porting };
 
     ghost coded = { Prim.hlevel (codes, e.the_row.coded) };
 
-    ghost view = { λ p. p.asker.pass };
+    ghost view = { λ p. porting p.asker.pass p.asker.is_refused };
 
     ghost invariant = { λ p. p.asker.pass.base ≡ [] };
 }
 
-/// A port that is done. Contracts see what its pass knows.
+/// A port that is done. Contracts see of it what they saw of the port.
 #[derive(Drop)]
 pub struct Finished {
     pub(crate) pass: Pass<Behind>,
@@ -60,13 +62,13 @@ impl Model for Finished {
     ghost use Rattle.std.specs.Prelude.{◌≡◌, ◌++◌, [], false};
     ghost use Rattle.rv_turn.specs.Histories.{mine};
     ghost use Rattle.rv_port.specs.Events.{by};
-    ghost use Rattle.rv_port.specs.Traces.{Passing};
+    ghost use Rattle.rv_port.specs.Ports.{Porting, porting};
 
-    ghost Value = { Passing };
+    ghost Value = { Porting };
 
     ghost coded = { Prim.hlevel (codes, e.the_row.coded) };
 
-    ghost view = { λ f. f.pass };
+    ghost view = { λ f. porting f.pass f.is_refused };
 
     ghost invariant = { λ f. (f.pass.first ≡ false) × (f.pass.base ≡ []) × (mine by f.pass.actor f.pass.seen ≡ f.pass.own) };
 }
@@ -79,8 +81,17 @@ impl Finished {
         self.pass.actor()
     }
 
+    /// Does nothing. Its clause says what every port that is done keeps.
+    pub fn keeps(&self)
+        ensures { IsPorts (pass_of self.now) }
+    {
+        let _ = &self.pass;
+    }
+
     /// Whether a body was ever left alone because there were too many holders of the bodies.
-    pub fn is_refused(&self) -> bool {
+    pub fn is_refused(&self) -> bool
+        ensures { result ≡ self.now.refused }
+    {
         self.is_refused
     }
 }
@@ -92,7 +103,7 @@ impl Port {
         requires fresh { pass.base ≡ [] }
         requires handles { HasHandler (catalogue_of pass.seen) pass.actor }
         requires owns { mine by pass.actor pass.seen ≡ pass.base ++ pass.own }
-        ensures { result ≡ pass }
+        ensures { result ≡ porting pass false }
     {
         Port {
             asker: Asker {
@@ -118,13 +129,21 @@ impl Port {
         let _ = &self.asker;
     }
 
+    /// Does nothing. Its clauses say what every port keeps.
+    pub fn keeps(&self)
+        ensures keeps { IsPorts (pass_of self.now) }
+        ensures handles { HasHandler (catalogue_of self.now.seen) self.now.actor }
+    {
+        let _ = &self.asker;
+    }
+
     /// A call of an operation (9.5.1, 9.5.3, D.10): by the numbers of its object and of the
     /// operation, each from 1, with the values of the `in` and `in out` parameters. It waits while
     /// the object is held by others, and where the call is queued. The body runs outside the turn.
     pub fn call<R: Wait>(&mut self, rt: &R, object: usize, operation: usize, args: Args) -> Reached
-        ensures performed { Performed self.old (asks.Call object operation args) result self.new }
-        ensures tied { Tied self.old result self.new }
-        ensures stays { Stays self.old self.new }
+        ensures performed { PerformedBy self.old (asks.Call object operation args) result self.new }
+        ensures tied { Tied (pass_of self.old) (asks.Call object operation args) result (pass_of self.new) }
+        ensures stays { Stays (pass_of self.old) (pass_of self.new) }
     {
         self.call_gated(rt, object, operation, args, &Open)
     }
@@ -138,9 +157,9 @@ impl Port {
         args: Args,
         gate: &G,
     ) -> Reached
-        ensures performed { Performed self.old (asks.Call object operation args) result self.new }
-        ensures tied { Tied self.old result self.new }
-        ensures stays { Stays self.old self.new }
+        ensures performed { PerformedBy self.old (asks.Call object operation args) result self.new }
+        ensures tied { Tied (pass_of self.old) (asks.Call object operation args) result (pass_of self.new) }
+        ensures stays { Stays (pass_of self.old) (pass_of self.new) }
     {
         self.asker
             .perform(rt, gate, &Request::Call(object, operation, args))
@@ -148,54 +167,54 @@ impl Port {
 
     /// `Set_True` of a suspension object (D.10).
     pub fn set_true<R: Wait>(&mut self, rt: &R, object: usize) -> Reached
-        ensures performed { Performed self.old (asks.Call object 1 []) result self.new }
-        ensures tied { Tied self.old result self.new }
-        ensures stays { Stays self.old self.new }
+        ensures performed { PerformedBy self.old (asks.Call object 1 []) result self.new }
+        ensures tied { Tied (pass_of self.old) (asks.Call object 1 []) result (pass_of self.new) }
+        ensures stays { Stays (pass_of self.old) (pass_of self.new) }
     {
         self.call(rt, object, 1, Args::new())
     }
 
     /// `Set_False` of a suspension object (D.10).
     pub fn set_false<R: Wait>(&mut self, rt: &R, object: usize) -> Reached
-        ensures performed { Performed self.old (asks.Call object 2 []) result self.new }
-        ensures tied { Tied self.old result self.new }
-        ensures stays { Stays self.old self.new }
+        ensures performed { PerformedBy self.old (asks.Call object 2 []) result self.new }
+        ensures tied { Tied (pass_of self.old) (asks.Call object 2 []) result (pass_of self.new) }
+        ensures stays { Stays (pass_of self.old) (pass_of self.new) }
     {
         self.call(rt, object, 2, Args::new())
     }
 
     /// `Current_State` of a suspension object, returned as 1 for True and 0 for False (D.10).
     pub fn state<R: Wait>(&mut self, rt: &R, object: usize) -> Reached
-        ensures performed { Performed self.old (asks.Call object 3 []) result self.new }
-        ensures tied { Tied self.old result self.new }
-        ensures stays { Stays self.old self.new }
+        ensures performed { PerformedBy self.old (asks.Call object 3 []) result self.new }
+        ensures tied { Tied (pass_of self.old) (asks.Call object 3 []) result (pass_of self.new) }
+        ensures stays { Stays (pass_of self.old) (pass_of self.new) }
     {
         self.call(rt, object, 3, Args::new())
     }
 
     /// `Suspend_Until_True` of a suspension object (D.10). It waits while that is False.
     pub fn suspend<R: Wait>(&mut self, rt: &R, object: usize) -> Reached
-        ensures performed { Performed self.old (asks.Call object 4 []) result self.new }
-        ensures tied { Tied self.old result self.new }
-        ensures stays { Stays self.old self.new }
+        ensures performed { PerformedBy self.old (asks.Call object 4 []) result self.new }
+        ensures tied { Tied (pass_of self.old) (asks.Call object 4 []) result (pass_of self.new) }
+        ensures stays { Stays (pass_of self.old) (pass_of self.new) }
     {
         self.call(rt, object, 4, Args::new())
     }
 
     /// A delay until a time in ticks, -10^15 .. 10^15 (9.6, D.9). It waits until the clock is there.
     pub fn delay_until<R: Wait>(&mut self, rt: &R, time: i64) -> Reached
-        ensures performed { Performed self.old (asks.DelayUntil time) result self.new }
-        ensures tied { Tied self.old result self.new }
-        ensures stays { Stays self.old self.new }
+        ensures performed { PerformedBy self.old (asks.DelayUntil time) result self.new }
+        ensures tied { Tied (pass_of self.old) (asks.DelayUntil time) result (pass_of self.new) }
+        ensures stays { Stays (pass_of self.old) (pass_of self.new) }
     {
         self.asker.perform(rt, &Open, &Request::DelayUntil(time))
     }
 
     /// The ticks so far, which are returned (D.8).
     pub fn clock<R: Wait>(&mut self, rt: &R) -> Reached
-        ensures performed { Performed self.old asks.Clock result self.new }
-        ensures tied { Tied self.old result self.new }
-        ensures stays { Stays self.old self.new }
+        ensures performed { PerformedBy self.old asks.Clock result self.new }
+        ensures tied { Tied (pass_of self.old) asks.Clock result (pass_of self.new) }
+        ensures stays { Stays (pass_of self.old) (pass_of self.new) }
     {
         self.asker.perform(rt, &Open, &Request::Clock)
     }
@@ -203,9 +222,9 @@ impl Port {
     /// An interrupt of the port's line: a call of its handler (C.3). It waits while the handler's
     /// object is held by others.
     pub fn fire<R: Wait>(&mut self, rt: &R) -> Reached
-        ensures performed { Performed self.old asks.Fire result self.new }
-        ensures tied { Tied self.old result self.new }
-        ensures stays { Stays self.old self.new }
+        ensures performed { PerformedBy self.old asks.Fire result self.new }
+        ensures tied { Tied (pass_of self.old) asks.Fire result (pass_of self.new) }
+        ensures stays { Stays (pass_of self.old) (pass_of self.new) }
     {
         self.asker.perform(rt, &Open, &Request::Fire)
     }
@@ -224,7 +243,9 @@ impl Port {
     /// list in force there or by a later one. The note is of the same control.
     pub fn told(&mut self, note: Note)
         requires turn { note.turn ≡ self.old.turn }
-        ensures { Meets by self.old note.seen self.new }
+        ensures meets { Meets by (pass_of self.old) note.seen (pass_of self.new) }
+        ensures mark { self.new.refused ≡ self.old.refused }
+        ensures judged { (at : List Event) → StartsWith at self.new.seen → NoEarlierList note.seen at }
     {
         let Note { note } = note;
         self.asker.pass.meet(note);
@@ -233,8 +254,9 @@ impl Port {
     /// Lets go of the port: a task quits, where it may; a line asks nothing. An answer Misuse, and
     /// want of an act, change nothing.
     pub fn finish<R: Wait>(self, rt: &R) -> Finished
-        ensures quits { Went self [] result ⊎ ((r : Answer) × Asked self asks.Quit r result) }
-        ensures stays { Stays self result }
+        ensures quits { Quits (pass_of self) (pass_of result) }
+        ensures stays { Stays (pass_of self) (pass_of result) }
+        ensures mark { result.refused ≡ self.refused }
     {
         let Port { mut asker } = self;
         quit(rt, &mut asker);
@@ -247,9 +269,10 @@ impl Port {
     }
 }
 
-// Asks for the end of a task, and tells those who wait.
+// Asks for the end of a task, and tells those who wait; a line has none.
 fn ask_quit<R: Wait>(rt: &R, asker: &mut Asker)
-    ensures { Went asker.old.pass [] asker.new.pass ⊎ ((r : Answer) × Asked asker.old.pass asks.Quit r asker.new.pass) }
+    ensures quits { Quits asker.old.pass asker.new.pass }
+    ensures mark { asker.new.is_refused ≡ asker.old.is_refused }
 {
     if asker.pass.actor() < FIRST_TASK as u64 {
         return;
@@ -262,10 +285,11 @@ fn ask_quit<R: Wait>(rt: &R, asker: &mut Asker)
     }
 }
 
-// The end of a task; a line has none.
+// The same. The port stays what it was.
 fn quit<R: Wait>(rt: &R, asker: &mut Asker)
-    ensures quits { Went asker.old.pass [] asker.new.pass ⊎ ((r : Answer) × Asked asker.old.pass asks.Quit r asker.new.pass) }
+    ensures quits { Quits asker.old.pass asker.new.pass }
     ensures stays { Stays asker.old.pass asker.new.pass }
+    ensures mark { asker.new.is_refused ≡ asker.old.is_refused }
 {
     ask_quit(rt, asker);
 }

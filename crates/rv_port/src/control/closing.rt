@@ -1,9 +1,10 @@
 //! The end of a control: the host comes back.
 
-ghost use Rattle.std.specs.Prelude.{◌≡◌, ◌≤◌, ◌+◌, [], false, IfOk, IfErr, length, reverse, vec_len};
+ghost use Rattle.std.specs.Prelude.{◌≡◌, ◌≤◌, ◌+◌, [], false, IfOk, IfErr, length, map, reverse, vec_len};
 ghost use Rattle.std.specs.Vec.{vec_capacity};
 ghost use Rattle.rv_turn.specs.Histories.{Each};
 ghost use Rattle.rv_port.specs.Closing.{IsClosed};
+ghost use Rattle.rv_port.specs.Ports.{pass_of};
 
 use super::Control;
 use crate::behind::Behind;
@@ -23,7 +24,7 @@ pub struct Unclosed {
 fn take_passes(passes: &mut Vec<Pass<Behind>>, mut finished: Vec<Finished>)
     requires empty { passes.old.items ≡ [] }
     requires room { length finished.items + vec_len passes.old ≤ vec_capacity passes.old }
-    ensures passes { passes.new.items ≡ reverse finished.items }
+    ensures passes { passes.new.items ≡ reverse (map pass_of finished.items) }
     ensures given { Each (λ p. p.first ≡ false) passes.new.items }
 {
     while let Some(done) = finished.pop() {
@@ -38,7 +39,7 @@ impl Control {
     /// first. The ports are of this control. Where there is no memory, both come back.
     pub fn close<R: Wait>(self, rt: &R, finished: Vec<Finished>) -> Result<Host, Unclosed>
         requires { Each (λ f. f.turn ≡ self.turn) finished.items }
-        ensures ok { IfOk result (λ h. IsClosed self finished.items h) }
+        ensures ok { IfOk result (λ h. IsClosed self (map pass_of finished.items) h) }
         ensures err { IfErr result (λ u. (u.control ≡ self) × (u.finished.items ≡ finished.items)) }
     {
         let mut passes = Vec::new(self.alloc);

@@ -1,6 +1,9 @@
-use Rattle.std.proofs.Common.{[]}
-use Rattle.rv_port.specs.Traces.{Went}
+use Rattle.std.proofs.Common.{◌≡◌}
+use Rattle.rv_port.specs.Traces.{InVain}
 use Rattle.rv_port.proofs.asker.Asker.insist.Given as goal
 
 abbrev pub invariant-loop : goal.invariant-loop
-invariant-loop g l = Went l.fn.self.pass [] l.self.pass
+invariant-loop g l = record {
+  vain : InVain l.fn.self.pass l.fn.request l.self.pass;
+  mark : l.self.is_refused ≡ l.fn.self.is_refused;
+}

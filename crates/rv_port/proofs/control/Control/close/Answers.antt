@@ -1,4 +1,4 @@
-use Rattle.std.proofs.Common.{◌≡◌, Some, ap, sym, ◌∙◌, subst}
+use Rattle.std.proofs.Common.{◌≡◌, Some, map, ap, sym, ◌∙◌, subst}
 use Rattle.atomic_table.specs.Seated.{TableId}
 use Rattle.rv_turn.specs.Histories.{Each, NoStrangers}
 use Rattle.rv_turn.specs.Passes.{StandsIn}
@@ -7,17 +7,18 @@ use Rattle.rv_exec.specs.Bodies.{units_of}
 use Rattle.rv_port.specs.Events.{by, log_of}
 use Rattle.rv_port.specs.Acting.{limits_of}
 use Rattle.rv_port.specs.Traces.{Passing}
-use Rattle.rv_port.proofs.Closings.{others, closed}
+use Rattle.rv_port.specs.Ports.{pass_of}
+use Rattle.rv_port.proofs.Closings.{each_pass, others, closed}
 use Rattle.rv_port.proofs.control.Control.close.Goals as goal
 
 pub close-host-requires-clause-others : goal.close-host-requires-clause-others
 close-host-requires-clause-others g c =
-    others c.self.inside.turn c.args.finished.items c.take_passes.new.passes.items c.take_passes.ensures.passes c.take_passes.ensures.given
-    (subst (λ (t : TableId). Each (λ (p : Passing). p.turn ≡ t) c.args.finished.items) (sym (ap (λ (k : Passing). k.turn) c.self.view_is) ∙ c.self.invariant.here) c.requires)
+    others c.self.inside.turn (map pass_of c.args.finished.items) c.take_passes.new.passes.items c.take_passes.ensures.passes c.take_passes.ensures.given
+    (subst (λ (t : TableId). Each (λ (p : Passing). p.turn ≡ t) (map pass_of c.args.finished.items)) (sym (ap (λ (k : Passing). k.turn) c.self.view_is) ∙ c.self.invariant.here) (each_pass c.args.self.turn c.args.finished.items c.requires))
 
 pub returns-clause-ok : goal.returns-clause-ok
 returns-clause-ok g c = let h = c.close-host.result.host in
-    closed c.args.self c.args.finished.items c.take_passes.new.passes.items h (units_of (arc_value c.close-host.result.bodies)) c.replays.ensures.legal c.take_passes.ensures.passes
+    closed c.args.self (map pass_of c.args.finished.items) c.take_passes.new.passes.items h (units_of (arc_value c.close-host.result.bodies)) c.replays.ensures.legal c.close-host.result.brought c.take_passes.ensures.passes
     (subst (λ (v : Passing). StandsIn by (log_of h (units_of (arc_value c.close-host.result.bodies))) v) c.self.view_is c.close-host.ensures.first) c.close-host.ensures.others
     (subst (λ (v : Passing). NoStrangers by (log_of h (units_of (arc_value c.close-host.result.bodies))) v.given) c.self.view_is c.close-host.ensures.strangers)
     (subst (λ (v : Passing). v.about ≡ Some (limits_of h)) c.self.view_is c.close-host.ensures.about)

@@ -3,7 +3,7 @@ use Rattle.std.specs.Arc.{arc_value}
 use Rattle.rv_code.specs.BodyView.{unit_view}
 use Rattle.rv_exec.specs.Bodies.{units_of}
 use Rattle.rv_port.specs.Controls.{no_bodies_of}
-use Rattle.rv_port.proofs.Controls.{opened_by, begins, as_many}
+use Rattle.rv_port.proofs.Controls.{opened_by, begins, begins_alone, as_many}
 use Rattle.rv_port.proofs.control.Control.make.Goals as goal
 
 pub invariant_of-result : goal.invariant_of-result
@@ -17,3 +17,6 @@ returns-in-Ok-make-clause-ok c = let none : map unit_view (units_of (arc_value c
 pub invariant_of-behind : goal.invariant_of-behind
 invariant_of-behind c = let none : map unit_view (units_of (arc_value c.in-Ok-no_bodies_of_all.bodies)) ≡ map no_bodies_of c.args.host.shapes = search rules in
     record { brought = as_many (units_of (arc_value c.in-Ok-no_bodies_of_all.bodies)) c.args.host.shapes none }
+
+pub returns-in-Ok-make-clause-alone : goal.returns-in-Ok-make-clause-alone
+returns-in-Ok-make-clause-alone c = begins_alone _ _ c.args.host (units_of (arc_value c.in-Ok-no_bodies_of_all.bodies)) c.requires c.in-Ok-make.ensures.ok

@@ -1,8 +1,11 @@
 use Rattle.std.proofs.Common.{subst}
 use Rattle.rv_event.specs.declared.entry.Request.TheVariants as Asks
-use Rattle.rv_port.specs.Traces.{Passing}
-use Rattle.rv_port.specs.Calls.{Performed}
+use Rattle.rv_port.specs.Ports.{Porting, porting, pass_of, PerformedBy}
+use Rattle.rv_port.specs.Calls.{Tied}
 use Rattle.rv_port.proofs.port.Port.clock.Goals as goal
 
 pub returns-clause-performed : goal.returns-clause-performed
-returns-clause-performed g c = subst (λ (z : Passing). Performed z Asks.Clock c.perform.result c.perform.new.self.pass) c.self.view_is c.perform.ensures.performed
+returns-clause-performed g c = subst (λ (z : Porting). PerformedBy z Asks.Clock c.perform.result (porting c.perform.new.self.pass c.perform.new.self.is_refused)) c.self.view_is c.perform.ensures.performed
+
+pub returns-clause-tied : goal.returns-clause-tied
+returns-clause-tied g c = subst (λ (z : Porting). Tied (pass_of z) Asks.Clock c.perform.result c.perform.new.self.pass) c.self.view_is c.perform.ensures.tied

@@ -1,5 +1,15 @@
+use Rattle.std.proofs.Common.{subst}
+use Rattle.rv_turn.specs.Histories.{StartsWith}
+use Rattle.rv_turn.specs.Passes.{Noted}
+use Rattle.rv_turn.specs.Prefixes.{starts_both}
+use Rattle.rv_port.specs.declared.event.Event.{Event}
 use Rattle.rv_port.proofs.Actors.{meet_handles}
+use Rattle.rv_port.proofs.Later.{no_earlier}
 use Rattle.rv_port.proofs.port.Port.told.Goals as goal
 
 pub invariant_of-self-inside-clause-handles : goal.invariant_of-self-inside-clause-handles
 invariant_of-self-inside-clause-handles c = meet_handles c.self.inside.asker.pass c.meet.new.self _ c.self.inside.asker.handles c.meet.ensures.meets
+
+pub returns-clause-judged : goal.returns-clause-judged
+returns-clause-judged c = let told : StartsWith c.meet.new.self.seen c.args.note.seen = subst (λ (z : Noted Event). StartsWith c.meet.new.self.seen z.seen) c.note.view_is c.meet.ensures.meets.told in
+    λ at later. no_earlier c.args.note.seen at (starts_both c.args.note.seen c.meet.new.self.seen at told later)
