@@ -13,7 +13,6 @@ ghost use Rattle.rv_play.specs.Deeds.{Comes, ComesToDeed, compiles, goes, just, 
 use crate::deed::Deed;
 use crate::player::Player;
 use rv_access::{Line, ListFault, read_list};
-use rv_code::UnitBodies;
 use rv_fault::{Failure, What, refused};
 use rv_script::unit_text::{MOST_UNIT_BYTES, unit_text};
 use rv_shape::catalogue::Catalogue;
@@ -48,8 +47,8 @@ fn load_deed(
     if let Some(fault) = catalogue.shape_fits(&shape) {
         return Err(refused(line, What::Shape(fault)));
     }
-    match UnitBodies::of_shape(alloc, &shape) {
-        Ok(bodies) => made(Deed::load(alloc, shape, bodies)),
+    match Unit::of_shape(alloc, shape) {
+        Ok(Unit { shape, bodies }) => made(Deed::load(alloc, shape, bodies)),
         Err(_) => Err(Failure::Memory),
     }
 }
