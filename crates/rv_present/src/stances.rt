@@ -94,7 +94,8 @@ impl Stances {
     /// memory was refused.
     #[tactic(auto, using(std::proofs::lemmas::List::replicate_more))]
     pub fn new(alloc: Global) -> Result<Stances, AllocError>
-        ensures { IfOk result (λ s. s ≡ record { stances = replicate most_actors Stance.Free; actors = first_task }) }
+        ensures { IfOk result (λ s. s
+            ≡ record { stances = replicate most_actors Stance.Free; actors = first_task }) }
     {
         let mut items = Vec::with_capacity(alloc, MOST_ACTORS)?;
         for i in 0..MOST_ACTORS {
@@ -168,7 +169,8 @@ impl Stances {
     #[tactic(auto, using(crate::proofs::Owing::set_one))]
     fn of_with(&self, actor: usize, stance: Stance, named: usize) -> Stance
         requires { named < length self.now.stances }
-        ensures { result ≡ slice_index_or (slice_set self.now.stances actor stance) named Stance.Free }
+        ensures { result
+            ≡ slice_index_or (slice_set self.now.stances actor stance) named Stance.Free }
     {
         if actor == named {
             stance
@@ -179,7 +181,8 @@ impl Stances {
 
     // What all would owe if two were at something else, the second after the first.
     fn dues_with_both(&self, actor: usize, stance: Stance, named: usize, becomes: Stance) -> usize
-        ensures { result ≡ dues_by (slice_set (slice_set self.now.stances actor stance) named becomes) self.now.actors }
+        ensures { result
+            ≡ dues_by (slice_set (slice_set self.now.stances actor stance) named becomes) self.now.actors }
     {
         let dues = self.dues_with(actor, stance);
         if self.actors <= named {

@@ -22,7 +22,8 @@ impl Present {
     pub fn taken_with_load(&self, catalogue: &Catalogue, shape: &UnitShape) -> usize
         requires stands { Stands catalogue.now self.now }
         requires few { owed.actors catalogue.now + length shape.now.tasks ≤ most_actors }
-        ensures { (capacity : ℕ) (before : List Entry) (lists : List (List Words)) → IsLegal capacity before catalogue.now lists → IsPresent catalogue.now before self.now →
+        ensures { (capacity : ℕ) (before : List Entry) (lists : List (List Words)) →
+            IsLegal capacity before catalogue.now lists → IsPresent catalogue.now before self.now →
             result ≡ length (Entry.Load ∷ before) + owed.owed (catalogue.now ++ shape.now ∷ []) (Entry.Load ∷ before) }
     {
         let actors = self.stances.actors() + shape.tasks().len();
