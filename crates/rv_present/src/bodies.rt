@@ -44,7 +44,11 @@ fn ceiling_of(catalogue: &Catalogue, object: usize) -> usize
 // The action of an actor's body of an operation on its object.
 fn action_by(catalogue: &Catalogue, actor: usize, object: usize, operation: usize) -> Action
     ensures { result
-        ≡ action_of catalogue.now (record { actor = actor; object = object; operation = operation }) }
+        ≡ action_of catalogue.now (record {
+          actor = actor;
+          object = object;
+          operation = operation;
+        }) }
 {
     if is_shared(catalogue, object, operation) {
         Action::Shared
@@ -66,7 +70,11 @@ impl Bodies {
     /// None, in no object that there is. Err where memory was refused.
     pub fn new(alloc: Global) -> Result<Bodies, AllocError>
         ensures { IfOk result (λ bodies. bodies
-            ≡ record { stacks = replicate most_actors []; objects = replicate most_places idle; number = 0 }) }
+            ≡ record {
+              stacks = replicate most_actors [];
+              objects = replicate most_places idle;
+              number = 0;
+            }) }
     {
         let stacks = Stacks::new(alloc)?;
         let objects = Objects::new(alloc)?;
@@ -85,7 +93,8 @@ impl Bodies {
         ensures kept { (bodies : List Body) → IsBodies catalogue.now bodies self.old →
             IsBodies catalogue.now (past.begun start (past.closed (past.ended entry.now) bodies)) self.new }
         ensures scalars { (bodies : List Body) → IsBodies catalogue.now bodies self.old → (o : ℕ) →
-            (slice_index_or self.new.objects o idle).scalars ≡ left_after catalogue.now o bodies entry.now (slice_index_or self.old.objects o idle).scalars }
+            (slice_index_or self.new.objects o idle).scalars
+            ≡ left_after catalogue.now o bodies entry.now (slice_index_or self.old.objects o idle).scalars }
     {
         self.end_if(catalogue, entry);
         if let Some(body) = start {
@@ -144,7 +153,8 @@ impl Bodies {
         ensures kept { (bodies : List Body) → IsBodies catalogue.now bodies self.old →
             IsBodies catalogue.now (past.closed (past.ended entry.now) bodies) self.new }
         ensures scalars { (bodies : List Body) → IsBodies catalogue.now bodies self.old → (o : ℕ) →
-            (slice_index_or self.new.objects o idle).scalars ≡ left_after catalogue.now o bodies entry.now (slice_index_or self.old.objects o idle).scalars }
+            (slice_index_or self.new.objects o idle).scalars
+            ≡ left_after catalogue.now o bodies entry.now (slice_index_or self.old.objects o idle).scalars }
     {
         match entry {
             Entry::Asked(actor, Request::Complete(given, _), _) => {
@@ -159,7 +169,8 @@ impl Bodies {
         requires actor { body.actor < length self.old.stacks }
         requires object { body.object < length self.old.objects }
         requires room { length (slice_index_or self.old.stacks body.actor []) < 16 }
-        requires free { excludes (slice_index_or self.old.objects body.object idle).actions (action_of catalogue.now body) ≡ false }
+        requires free { excludes (slice_index_or self.old.objects body.object idle).actions
+            (action_of catalogue.now body) ≡ false }
         requires few { self.old.number < 2 ^ 32 }
         requires sound { (bodies : List Body) × IsBodies catalogue.now bodies self.old }
         ensures kept { (bodies : List Body) → IsBodies catalogue.now bodies self.old →
@@ -192,7 +203,8 @@ impl Bodies {
         ensures kept { (bodies : List Body) → IsBodies catalogue.now bodies self.old →
             IsBodies catalogue.now (past.without actor bodies) self.new }
         ensures scalars { (bodies : List Body) → IsBodies catalogue.now bodies self.old → (o : ℕ) →
-            (slice_index_or self.new.objects o idle).scalars ≡ left_by catalogue.now o bodies actor given.now (slice_index_or self.old.objects o idle).scalars }
+            (slice_index_or self.new.objects o idle).scalars
+            ≡ left_by catalogue.now o bodies actor given.now (slice_index_or self.old.objects o idle).scalars }
     {
         let Some(held) = self.stacks.of(actor).innermost() else {
             return;

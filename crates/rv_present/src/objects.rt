@@ -67,7 +67,9 @@ impl Objects {
         requires free { excludes (slice_index_or self.old object idle).actions action ≡ false }
         requires countable { length (slice_index_or self.old object idle).actions < 2 ^ 32 }
         ensures { self.new
-            ≡ slice_set self.old object (record (slice_index_or self.old object idle) { actions = action ∷ (slice_index_or self.old object idle).actions }) }
+            ≡ slice_set self.old object (record (slice_index_or self.old object idle) {
+              actions = action ∷ (slice_index_or self.old object idle).actions;
+            }) }
     {
         self.items[object].start(action);
     }
@@ -82,7 +84,10 @@ impl Objects {
         ensures newest { (slice_index_or self.old object idle).actions
             ≡ action ∷ drop 1 (slice_index_or self.old object idle).actions }
         ensures new { self.new
-            ≡ slice_set self.old object (record { actions = drop 1 (slice_index_or self.old object idle).actions; scalars = scalars_after action (slice_index_or self.old object idle).scalars scalars.now }) }
+            ≡ slice_set self.old object (record {
+              actions = drop 1 (slice_index_or self.old object idle).actions;
+              scalars = scalars_after action (slice_index_or self.old object idle).scalars scalars.now;
+            }) }
     {
         self.items[object].finish(action, *scalars);
     }

@@ -86,7 +86,8 @@ impl Model for Stances {
 
     ghost view = { λ s. record { stances = s.items.items; actors = s.actors } };
 
-    ghost invariant = { λ s. (s.dues ≡ dues_by s.items.items s.actors) × (length s.items.items ≡ most_actors) × (s.actors ≤ most_actors) };
+    ghost invariant = { λ s. (s.dues ≡ dues_by s.items.items s.actors) ×
+        (length s.items.items ≡ most_actors) × (s.actors ≤ most_actors) };
 }
 
 impl Stances {

@@ -45,8 +45,10 @@ impl Present {
     /// One more load, of the last of the units.
     pub fn note_load(&mut self, catalogue: &Catalogue)
         requires { IsBeforeLoad catalogue.now self.old }
-        ensures { (capacity : ℕ) (before : List Entry) (lists : List (List Words)) (legal : IsLegal capacity (Entry.Load ∷ before) catalogue.now lists) →
-            IsPresent legal.0 before self.old → IsPresent catalogue.now (Entry.Load ∷ before) self.new }
+        ensures { (capacity : ℕ) (before : List Entry) (lists : List (List Words))
+            (legal : IsLegal capacity (Entry.Load ∷ before) catalogue.now lists) →
+            IsPresent legal.0 before self.old →
+            IsPresent catalogue.now (Entry.Load ∷ before) self.new }
     {
         self.grow(catalogue);
         self.note(catalogue, &Entry::Load);
