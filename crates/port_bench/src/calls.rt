@@ -1,0 +1,122 @@
+//! Granted calls of a function: start, body and end.
+
+use crate::plant::{capacity_for, control, host};
+use crate::times::{StartLine, nanos_a_part, nanos_since};
+use rv_event::entry::{Answer, Exception, Exit, Request};
+use rv_host::host::Host;
+use rv_port::control::Control;
+use rv_port::port::Port;
+use rv_port::reached::Reached;
+use rv_value::{Args, Scalars};
+use std::alloc::{AllocError, Global};
+use std::sync::{Mutex, Wait};
+use std::thread;
+use std::thread::Threads;
+use std::time::{Clock, Instant};
+
+// So many calls through a port, and whether each was carried out.
+fn call_all<R: Wait>(rt: &R, port: &mut Port, calls: u64) -> bool {
+    let mut all = true;
+    for _ in 0..calls {
+        let reached = port.call(rt, 1, 1, Args::new());
+        all = all && matches!(reached, Reached::Raised(_));
+    }
+    all
+}
+
+// What they take.
+fn time_port<R: Wait + Clock>(rt: &R, line: &StartLine, port: Port, calls: u64) -> Option<u64> {
+    let mut port = port;
+    line.wait();
+    let start = Instant::now(rt).ok()?;
+    let all = call_all(rt, &mut port, calls);
+    nanos_since(rt, start, all)
+}
+
+// The ports of so many tasks, of whom the first is actor 11.
+pub fn ports(alloc: Global, control: &mut Control, threads: u64) -> Option<Vec<Port>> {
+    let mut ports = Vec::new(alloc);
+    for number in 0..threads {
+        let port = control.port(number.saturating_add(11)).ok()?;
+        ports.push(port).ok()?;
+    }
+    Some(ports)
+}
+
+// What they take, each in a thread of its own.
+fn time_ports<R: Threads + Wait + Clock + Sync>(
+    rt: &R,
+    line: &StartLine,
+    ports: Vec<Port>,
+    calls: u64,
+) -> Option<Vec<Option<u64>>> {
+    thread::map_vec(rt, ports, &|port| time_port(rt, line, port, calls)).ok()
+}
+
+/// Nanoseconds a call through a port, each of so many threads with its own.
+pub fn through_ports<R: Threads + Wait + Clock + Sync>(
+    rt: &R,
+    alloc: Global,
+    threads: u64,
+    calls: u64,
+) -> Option<u64> {
+    let mut control = control(rt, alloc, capacity_for(calls))?;
+    let ports = ports(alloc, &mut control, threads)?;
+    let taken = time_ports(rt, &StartLine::new(threads), ports, calls)?;
+    nanos_a_part(&taken, calls)
+}
+
+// One call of a host under a lock: its start, and its end.
+fn call_locked<R: Wait>(rt: &R, host: &Mutex<Host>, actor: u64) -> bool {
+    let actor = actor as usize;
+    let started = host.lock(rt).step(actor, Request::Call(1, 1, Args::new()));
+    let exit = Exit::Raise(Exception::ProgramError);
+    let ended = host
+        .lock(rt)
+        .step(actor, Request::Complete(Scalars::new(), exit));
+    matches!((started, ended), (Answer::Started(_), Answer::Done(_)))
+}
+
+// So many calls of a host under a lock, and what they take.
+fn time_lock<R: Wait + Clock>(
+    rt: &R,
+    line: &StartLine,
+    host: &Mutex<Host>,
+    actor: u64,
+    calls: u64,
+) -> Option<u64> {
+    line.wait();
+    let start = Instant::now(rt).ok()?;
+    let mut all = true;
+    for _ in 0..calls {
+        all = call_locked(rt, host, actor) && all;
+    }
+    nanos_since(rt, start, all)
+}
+
+// The actors of so many tasks.
+fn actors(alloc: Global, threads: u64) -> Result<Vec<u64>, AllocError> {
+    let mut actors = Vec::new(alloc);
+    for number in 0..threads {
+        actors.push(number.saturating_add(11))?;
+    }
+    Ok(actors)
+}
+
+/// Nanoseconds a call of a host under one `Mutex`, by so many threads.
+pub fn under_mutex<R: Threads + Wait + Clock + Sync>(
+    rt: &R,
+    alloc: Global,
+    threads: u64,
+    calls: u64,
+) -> Option<u64> {
+    let host = Mutex::new(host(alloc, capacity_for(calls))?);
+    let actors = actors(alloc, threads).ok()?;
+    let line = StartLine::new(threads);
+    let taken = thread::map_vec(
+        rt,
+        actors,
+        &|actor| { time_lock(rt, &line, &host, actor, calls) },
+    );
+    nanos_a_part(&taken.ok()?, calls)
+}
