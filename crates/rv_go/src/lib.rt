@@ -4,4 +4,3 @@
 
 mod asking;
 pub mod texts;
-

@@ -10,7 +10,7 @@ pub returns : goal.returns
 returns g c =
     let number : to_z w64 (of_z w64 c.args.number) ≡ c.args.number = first_of (search rules, grind arith) in
     asks_told _ _ c.args.control.now c.remove_line-answer.new.self (Ask.RemoveLine (line_number c.args.number)) c.remove_line-answer.result _
-        (subst (λ (n : ℕ). MatchResult c.remove_line-answer.result
-            (λ r. Told c.args.control.now (Ask.RemoveLine n) r c.remove_line-answer.new.self)
-            (λ x. IsWorn c.args.control.now c.remove_line-answer.new.self)) (c.line_number.ensures ∙ ap (λ (k : ℤ). line_number k) number) c.remove_line-answer.ensures)
-        c.tell.ensures
+    (subst (λ (n : ℕ). MatchResult c.remove_line-answer.result
+    (λ r. Told c.args.control.now (Ask.RemoveLine n) r c.remove_line-answer.new.self)
+    (λ x. IsWorn c.args.control.now c.remove_line-answer.new.self)) (c.line_number.ensures ∙ ap (λ (k : ℤ). line_number k) number) c.remove_line-answer.ensures)
+    c.tell.ensures

@@ -10,7 +10,7 @@ pub returns : goal.returns
 returns g c =
     let ticks : to_z w64 (of_z w64 c.args.ticks) ≡ c.args.ticks = first_of (search rules, grind arith) in
     asks_told _ _ c.args.control.now c.tick-answer.new.self (Ask.Step (asks.Tick c.args.ticks)) c.tick-answer.result _
-        (subst (λ (n : ℤ). MatchResult c.tick-answer.result
-            (λ r. Told c.args.control.now (Ask.Step (asks.Tick n)) r c.tick-answer.new.self)
-            (λ x. IsWorn c.args.control.now c.tick-answer.new.self)) ticks c.tick-answer.ensures)
-        c.tell.ensures
+    (subst (λ (n : ℤ). MatchResult c.tick-answer.result
+    (λ r. Told c.args.control.now (Ask.Step (asks.Tick n)) r c.tick-answer.new.self)
+    (λ x. IsWorn c.args.control.now c.tick-answer.new.self)) ticks c.tick-answer.ensures)
+    c.tell.ensures
