@@ -271,6 +271,7 @@ abbrev pub IsReplied : Passing → Request → Reply → Passing → Type 0
 IsReplied v q (Gives.Answered r b lent) w = Replied v q r b lent w
 IsReplied v q (Gives.Read p) w = ⊥
 IsReplied v q Gives.Unread w = ⊥
+IsReplied v q (Gives.Bodies lent) w = ⊥
 
 -- one act by a step
 pub replied_step : (v w : Passing) (q : Request) (reply : Reply) → Acted by Does v (Wants.Step q) reply w → IsReplied v q reply w
@@ -282,6 +283,7 @@ replied_step v w q (Gives.Answered r b lent) a = record {
 }
 replied_step v w q (Gives.Read p) a = absurd a.answer.1
 replied_step v w q Gives.Unread a = absurd a.answer.1
+replied_step v w q (Gives.Bodies lent) a = absurd a.answer.1
 
 -- after asks that are left out
 pub replied_after : (v u w : Passing) (q : Request) (r : Answer) (b : Begun) (lent : Option Lent) → InVain v q u → Replied u q r b lent w → Replied v q r b lent w

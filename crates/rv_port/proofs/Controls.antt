@@ -212,6 +212,18 @@ due_catalogue c log a (Wants.RemoveLine k) (Gives.Read p) after n d = absurd d
 due_catalogue c log a (Wants.RemoveLine k) Gives.Unread after n d = absurd d
 due_catalogue c log a (Wants.ReplaceLine k line) (Gives.Read p) after n d = absurd d
 due_catalogue c log a (Wants.ReplaceLine k line) Gives.Unread after n d = absurd d
+due_catalogue c log a (Wants.Step q) (Gives.Bodies lent) after n d = absurd d
+due_catalogue c log a (Wants.Load shape unit) (Gives.Bodies lent) after n d = absurd d
+due_catalogue c log a (Wants.LoadWithoutMemory shape) (Gives.Bodies lent) after n d = absurd d
+due_catalogue c log a (Wants.SetList list) (Gives.Bodies lent) after n d = absurd d
+due_catalogue c log a (Wants.AppendLine line) (Gives.Bodies lent) after n d = absurd d
+due_catalogue c log a (Wants.RemoveLine k) (Gives.Bodies lent) after n d = absurd d
+due_catalogue c log a (Wants.ReplaceLine k line) (Gives.Bodies lent) after n d = absurd d
+due_catalogue c log a (Wants.Read from) (Gives.Bodies lent) after n d = absurd d
+due_catalogue c log a Wants.Bodies (Gives.Answered r b lent) after n d = absurd d
+due_catalogue c log a Wants.Bodies (Gives.Read p) after n d = absurd d
+due_catalogue c log a Wants.Bodies Gives.Unread after n d = absurd d
+due_catalogue c log a Wants.Bodies (Gives.Bodies lent) after n d = ap catalogue_of d.1
 
 -- the catalogue of the history that an ask of the operator was answered on
 at_catalogue : (turn : TableId) (v : Passing) (given : List ℕ) (catalogue : List Shape) (log : List Event) → IsControl turn v given catalogue → mine by v.actor log ≡ v.base ++ v.own → catalogue ≡ catalogue_of log
@@ -257,6 +269,7 @@ load_due c log a shape unit (Gives.Answered r b lent) after none d =
     loaded_catalogue (is_some (recorded r)) log after shape (held unit) (subst (λ (n : ℕ). IfOperator (eqb n 0) (Loaded c log shape (held unit) r after) r log after) none d).1
 load_due c log a shape unit (Gives.Read p) after none d = absurd d
 load_due c log a shape unit Gives.Unread after none d = absurd d
+load_due c log a shape unit (Gives.Bodies lent) after none d = absurd d
 
 pub load_told : (turn : TableId) (v w : Passing) (given : List ℕ) (catalogue : List Shape) (shape : Shape) (unit : SharedUnit) (r : Answer) → IsControl turn v given catalogue → Told v (Wants.Load shape unit) r w
     → IsControl turn w given (with_loaded (is_some (recorded r)) catalogue shape)

@@ -64,6 +64,11 @@ lent_log h bodies (Some lent) l e same =
       views_of [] = refl
       views_of (u ∷ us) = ap (λ (z : List Code.UnitBodies). shared_view u ∷ z) (views_of us)
 
+-- the bodies are given
+pub given : (h : History) (bodies : Bodies) (a : ℕ) (lent : Option Lent) → Legal h → length (units_of bodies) ≡ length h.shapes → IfSome lent (λ l. bodies_view (arc_value l.bodies) ≡ bodies_view bodies)
+    → Does (limits_of h) (log_in h bodies) a Wants.Bodies (Gives.Bodies lent) (log_in h bodies)
+given h bodies a lent l some kept = (legal_log h (units_of bodies) l, (lent_log h bodies lent l some kept, refl))
+
 pub stepped : (h k : History) (bodies : Bodies) (a : ℕ) (q : Request) (r : Answer) (b : Begun) (lent : Option Lent) → Legal h → length (units_of bodies) ≡ length h.shapes → r ≡ out h a q → k ≡ legal.after h a q r
     → b ≡ begun_by k.shapes a q r → k.shapes ≡ h.shapes → IfSome lent (λ l. bodies_view (arc_value l.bodies) ≡ bodies_view bodies)
     → Does (limits_of h) (log_in h bodies) a (Wants.Step q) (Gives.Answered r b lent) (log_in k bodies)
@@ -205,6 +210,7 @@ does_ask h us a ask wanted reply after is l d = subst (λ (z : Ask). Does (limit
 abbrev pub IsOperators : Ask → Type 0
 IsOperators (Wants.Step q) = ⊥
 IsOperators (Wants.Read from) = ⊥
+IsOperators Wants.Bodies = ⊥
 IsOperators ask = Unit {0}
 
 misused : (b : Bool) (does : Type 0) (log : List Event) → b ≡ false → IfOperator b does Misuse log log
@@ -214,6 +220,7 @@ misused false does log e = (refl, refl)
 misused_due : (c : ℕ) (log : List Event) (a : ℕ) (ask : Ask) (b : Begun) → IsOperators ask → eqb a 0 ≡ false → Due c log a ask (Gives.Answered Misuse b None) log
 misused_due c log a (Wants.Step q) b t e = absurd t
 misused_due c log a (Wants.Read from) b t e = absurd t
+misused_due c log a Wants.Bodies b t e = absurd t
 misused_due c log a (Wants.Load s unit) b t e = misused (eqb a 0) _ log e
 misused_due c log a (Wants.LoadWithoutMemory s) b t e = misused (eqb a 0) _ log e
 misused_due c log a (Wants.SetList s) b t e = misused (eqb a 0) _ log e

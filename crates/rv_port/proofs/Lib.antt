@@ -7,3 +7,4 @@ pub mod Later
 pub mod Performing
 pub mod Controls
 pub mod Closings
+pub mod Texts

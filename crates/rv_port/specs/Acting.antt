@@ -107,6 +107,7 @@ Due c log a (Wants.ReplaceLine n line) (Gives.Answered r b lent) after =
     IfOperator (a == 0) (Changed c log (Replace n line) r after) r log after
 Due c log a (Wants.Read from) (Gives.Read p) after = (p ≡ page (history_at c log) from) × (after ≡ log)
 Due c log a (Wants.Read from) Gives.Unread after = after ≡ log
+Due c log a Wants.Bodies (Gives.Bodies lent) after = IsLent log (lent_view lent) × (after ≡ log)
 Due c log a ask reply after = ⊥
 
 -- what no act changes (own)
@@ -180,6 +181,18 @@ due_adds c log a (Wants.RemoveLine n) (Gives.Read p) after d = absurd d
 due_adds c log a (Wants.RemoveLine n) Gives.Unread after d = absurd d
 due_adds c log a (Wants.ReplaceLine n line) (Gives.Read p) after d = absurd d
 due_adds c log a (Wants.ReplaceLine n line) Gives.Unread after d = absurd d
+due_adds c log a (Wants.Step q) (Gives.Bodies lent) after d = absurd d
+due_adds c log a (Wants.Load shape unit) (Gives.Bodies lent) after d = absurd d
+due_adds c log a (Wants.LoadWithoutMemory shape) (Gives.Bodies lent) after d = absurd d
+due_adds c log a (Wants.SetList list) (Gives.Bodies lent) after d = absurd d
+due_adds c log a (Wants.AppendLine line) (Gives.Bodies lent) after d = absurd d
+due_adds c log a (Wants.RemoveLine n) (Gives.Bodies lent) after d = absurd d
+due_adds c log a (Wants.ReplaceLine n line) (Gives.Bodies lent) after d = absurd d
+due_adds c log a (Wants.Read from) (Gives.Bodies lent) after d = absurd d
+due_adds c log a Wants.Bodies (Gives.Answered r b lent) after d = absurd d
+due_adds c log a Wants.Bodies (Gives.Read p) after d = absurd d
+due_adds c log a Wants.Bodies Gives.Unread after d = absurd d
+due_adds c log a Wants.Bodies (Gives.Bodies lent) after d = inl d.1
 
 pub adds : (limits : Limits) (log : List Event) (a : ℕ) (ask : Ask) (reply : Reply) (after : List Event) → Does limits log a ask reply after → Adds by log a after
 adds limits log a ask reply after d = due_adds limits.capacity log a ask reply after d.1

@@ -10,3 +10,4 @@ pub mod Calls
 pub mod Ports
 pub mod Controls
 pub mod Closing
+pub mod Texts

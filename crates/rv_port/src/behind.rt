@@ -97,17 +97,32 @@ fn grown(
 }
 
 impl Behind {
-    // The bodies, for an answer that starts one. None where there are too many holders of them.
+    // The bodies. None where there are too many holders of them.
+    fn share(&self) -> Option<Lent>
+        ensures { IfSome result (λ l. bodies_view (arc_value l.bodies) ≡ bodies_view (arc_value self.now.bodies)) }
+    {
+        match Arc::try_clone(&self.bodies) {
+            Ok(bodies) => Some(Lent { bodies }),
+            Err(_) => None,
+        }
+    }
+
+    // The bodies, for an answer that starts one.
     fn lend(&self, answer: &Answer) -> Option<Lent>
         ensures { IfSome result (λ l. bodies_view (arc_value l.bodies) ≡ bodies_view (arc_value self.now.bodies)) }
     {
         if !starts(answer) {
             return None;
         }
-        match Arc::try_clone(&self.bodies) {
-            Ok(bodies) => Some(Lent { bodies }),
-            Err(_) => None,
-        }
+        self.share()
+    }
+
+    // The bodies, for a text.
+    fn give_bodies(&self, actor: u64) -> Reply
+        ensures { Does (limits_of self.now.host) (log_in self.now.host (arc_value self.now.bodies)) actor Ask.Bodies result (log_in self.now.host (arc_value self.now.bodies)) }
+    {
+        self.host.replays();
+        Reply::Bodies(self.share())
     }
 
     // A request.
@@ -211,6 +226,7 @@ impl Behind {
         match ask {
             Ask::Step(request) => self.step(0, request),
             Ask::Read(from) => self.read(0, from),
+            Ask::Bodies => self.give_bodies(0),
             Ask::Load(shape, unit) => Reply::Answered(self.load(&shape, unit), NONE, None),
             Ask::LoadWithoutMemory(shape) => {
                 Reply::Answered(self.load_without_memory(&shape), NONE, None)
@@ -234,6 +250,7 @@ impl Behind {
         match ask {
             Ask::Step(request) => self.step(actor, request),
             Ask::Read(from) => self.read(actor, from),
+            Ask::Bodies => self.give_bodies(actor),
             Ask::Load(_shape, _unit) => Reply::Answered(Answer::Misuse, NONE, None),
             Ask::LoadWithoutMemory(_shape) => Reply::Answered(Answer::Misuse, NONE, None),
             Ask::SetList(_list) => Reply::Answered(Answer::Misuse, NONE, None),

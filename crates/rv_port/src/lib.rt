@@ -14,3 +14,4 @@ pub mod note;
 mod performance;
 pub mod port;
 pub mod reached;
+mod text;

@@ -1,0 +1,44 @@
+-- Calls and interrupts, one after another.
+use Rattle.std.proofs.Common.{◌≡◌, ℕ, zero, suc, ◌-◌, ◌<◌, Bool, true, false, List, [], ◌++◌, refl, ap, ◌∙◌, subst, arith, append_assoc}
+use Rattle.std.specs.Prelude.{ℤ}
+use Rattle.rv_turn.specs.Prefixes.{starts_both}
+use Rattle.rv_event.specs.declared.entry.Request.TheVariants.{Call}
+use Rattle.rv_port.specs.declared.event.Event.{Event}
+use Rattle.rv_port.specs.declared.reached.Reached.{Reached}
+use Rattle.rv_port.specs.Traces.{Passing}
+use Rattle.rv_port.specs.Calls.{Stays}
+use Rattle.rv_port.specs.Ports.{Porting, PerformedBy}
+use Rattle.rv_crew.specs.Tasks.{If, Calls, goes_on}
+
+-- a port stays what it was
+pub stays_both : (v u w : Passing) → Stays v u → Stays u w → Stays v w
+stays_both v u w p q = record {
+  turn = q.turn ∙ p.turn;
+  actor = q.actor ∙ p.actor;
+  about = q.about ∙ p.about;
+  later = starts_both v.seen u.seen w.seen p.later q.later;
+  grown = (p.grown.0 ++ q.grown.0, q.grown.1 ∙ (ap (λ (l : List Event). l ++ q.grown.0) p.grown.1 ∙ append_assoc v.own p.grown.0 q.grown.0));
+  fewer = let one = p.fewer in let two = q.fewer in omega (arith, one, two);
+}
+
+when_false : (b : Bool) (more none : Type 0) → b ≡ false → none → If b more none
+when_false false more none e t = t
+when_false true more none e t = absurd (cc e)
+
+when_true : (b : Bool) (more none : Type 0) → b ≡ true → more → If b more none
+when_true true more none e t = t
+when_true false more none e t = absurd (cc e)
+
+-- a call that is the last
+pub stops : (o p n : ℕ) (values : List ℤ) (v u : Porting) (reached : Reached) → 0 < n → values ≡ [] → PerformedBy v (Call o p values) reached u → goes_on reached ≡ false → Calls o p n v u
+stops o p zero values v u reached some none x e = absurd (omega (arith, some))
+stops o p (suc n) values v u reached some none x e =
+    (reached, u, subst (λ (z : List ℤ). PerformedBy v (Call o p z) reached u) none x, when_false (goes_on reached) (Calls o p n u u) (u ≡ u) e refl)
+
+-- a call, and then the others
+pub goes : (o p n : ℕ) (values : List ℤ) (v u w : Porting) (reached : Reached) → 0 < n → values ≡ [] → PerformedBy v (Call o p values) reached u → goes_on reached ≡ true → Calls o p (n - 1) u w → Calls o p n v w
+goes o p zero values v u w reached some none x e more = absurd (omega (arith, some))
+goes o p (suc n) values v u w reached some none x e more =
+    (reached, u, subst (λ (z : List ℤ). PerformedBy v (Call o p z) reached u) none x, when_true (goes_on reached) (Calls o p n u w) (w ≡ u) e (subst (λ (k : ℕ). Calls o p k u w) same more)) where
+      same : suc n - 1 ≡ n
+      same = omega arith

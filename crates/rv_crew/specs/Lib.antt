@@ -1,0 +1,3 @@
+pub mod Teams
+pub mod Crews
+pub mod Tasks

@@ -1,0 +1,211 @@
+//! The crew: threads that were started, each with a job and a port, and what came of them.
+
+ghost use Rattle.std.specs.Prelude.{◌≡◌, ◌+◌, ◌≤◌, ◌++◌, ◌∷◌, [], map, reverse, length, vec_len, IfOk, IfErr, IfSome, OnOk, OnErr};
+ghost use Rattle.std.specs.Vec.{vec_capacity};
+ghost use Rattle.rv_turn.specs.Histories.{Each};
+ghost use Rattle.rv_crew.specs.Crews.{Joins, IsStartFault, IsClosedBy, told_of, actor_of, with_started, owed};
+
+use crate::job::{Job, OfPort};
+use rv_host::host::Host;
+use rv_port::control::{Control, Unclosed};
+use rv_port::port::{Finished, Port};
+use std::alloc::{AllocError, Global};
+use std::marker::Model;
+use std::mem;
+use std::sync::Wait;
+use std::thread::{Builder, PromisedHandle, Threads};
+
+/// The stack of a job's thread, in bytes: the deepest bodies were measured to need 128 MiB.
+pub const STACK_BYTES: usize = 256 * 1024 * 1024;
+
+/// Why a job wasn't started.
+#[derive(Drop)]
+pub enum StartFault {
+    /// No thread can be started. Job and port are gone; what the port recorded stays, and the crew
+    /// keeps its actor as lost.
+    NoThread,
+    /// A growth was refused. Job and port come back.
+    NoMemory(Job, Port),
+}
+
+/// The threads of a host. Contracts see which ports are out, which came back, and which are lost.
+#[derive(Drop)]
+pub struct Crew {
+    alloc: Global,
+    running: Vec<PromisedHandle<Finished, OfPort>>,
+    joined: Vec<Finished>,
+    lost: Vec<u64>,
+}
+
+impl Model for Crew {
+    ghost use Rattle.std.specs.Coded.{codes};
+    ghost use Rattle.std.specs.Prelude.{map};
+    ghost use Rattle.rv_port.specs.contracts.event.Event as e;
+    ghost use Rattle.rv_crew.specs.Teams.{Team};
+
+    ghost Value = { Team };
+
+    ghost coded = { Prim.hlevel (codes, e.the_row.coded) };
+
+    ghost use Rattle.rv_crew.specs.Crews.{owed};
+
+    ghost view = { λ c. record { running = map owed c.running.items; joined = c.joined.items; lost = c.lost.items } };
+}
+
+/// What a crew leaves when it is closed.
+#[derive(Drop)]
+pub struct Closed {
+    /// The host, with all that was done.
+    pub host: Host,
+    /// The actors whose ports came back, in the order in which they were joined.
+    pub finished: Vec<u64>,
+    /// The actors whose ports were lost.
+    pub lost: Vec<u64>,
+}
+
+/// A crew that wasn't closed for want of memory, with its control.
+#[derive(Drop)]
+pub struct StillOpen {
+    pub crew: Crew,
+    pub control: Control,
+}
+
+// Runs a job on a port in a thread of its own.
+fn begin<R: Threads>(rt: &R, job: Job, port: Port) -> Option<PromisedHandle<Finished, OfPort>>
+    requires { port.actor ≡ job.actor }
+    ensures { IfSome result (λ h. h.promise.0.value ≡ port) }
+{
+    let Job { actor: _, run } = job;
+    let promise = OfPort::of(&port);
+    Builder::new()
+        .stack_size(STACK_BYTES)
+        .spawn_with(
+            rt,
+            promise,
+            move ||
+                requires { pre run port }
+                ensures { post run port result }
+            { run(port) },
+        )
+        .ok()
+}
+
+// Waits for threads, the last first, and keeps what each gives.
+#[tactic(auto, using(crate::proofs::Joins::joins_none))]
+fn join_each<R: Threads>(
+    rt: &R,
+    mut waiting: Vec<PromisedHandle<Finished, OfPort>>,
+    joined: &mut Vec<Finished>,
+)
+    requires { length waiting.items + vec_len joined.old ≤ vec_capacity joined.old }
+    ensures { Joins joined.old.items (map owed (reverse waiting.items)) joined.new.items }
+{
+    while let Some(thread) = waiting.pop() {
+        joined.push_reserved(thread.join(rt));
+    }
+}
+
+// The actors of ports.
+fn actors_of(alloc: Global, ports: &[Finished]) -> Result<Vec<u64>, AllocError>
+    ensures { IfOk result (λ actors. actors.items ≡ map actor_of ports.now) }
+{
+    let mut actors = Vec::new(alloc);
+    for port in ports {
+        actors.push(port.actor())?;
+    }
+    Ok(actors)
+}
+
+impl Crew {
+    /// A crew without threads.
+    pub fn new(alloc: Global) -> Crew
+        ensures { result ≡ record { running = []; joined = []; lost = [] } }
+    {
+        Crew {
+            alloc,
+            running: Vec::new(alloc),
+            joined: Vec::new(alloc),
+            lost: Vec::new(alloc),
+        }
+    }
+
+    /// Starts a thread that runs the job on the port of its actor.
+    pub fn start<R: Threads>(&mut self, rt: &R, job: Job, port: Port) -> Result<(), StartFault>
+        requires { port.actor ≡ job.actor }
+        ensures ok { OnOk result (self.new ≡ with_started self.old port) }
+        ensures err { IfErr result (λ fault. IsStartFault self.old job port self.new fault) }
+    {
+        if self.running.reserve(1).is_err() || self.lost.reserve(1).is_err() {
+            return Err(StartFault::NoMemory(job, port));
+        }
+        let actor = port.actor();
+        match begin(rt, job, port) {
+            Some(thread) => {
+                self.running.push_reserved(thread);
+                Ok(())
+            }
+            None => {
+                self.lost.push_reserved(actor);
+                Err(StartFault::NoThread)
+            }
+        }
+    }
+
+    /// Waits until each thread that was started has ended, and keeps the ports that they give back.
+    /// Where there is no memory for these it waits for none.
+    pub fn join_all<R: Threads>(&mut self, rt: &R) -> Result<(), AllocError>
+        ensures ok { OnOk result (Joins self.old.joined self.old.running self.new.joined
+            × (self.new ≡ record { running = []; joined = self.new.joined; lost = self.old.lost })) }
+        ensures err { OnErr result (self.new ≡ self.old) }
+    {
+        self.joined.reserve(self.running.len())?;
+        let mut waiting = mem::replace(&mut self.running, Vec::new(self.alloc));
+        waiting.as_mut_slice().reverse();
+        join_each(rt, waiting, &mut self.joined);
+        Ok(())
+    }
+
+    /// The host, whose journal has all that the control and the ports of this crew did, and the
+    /// actors whose ports came back and were lost. The ports are of this control. Where there is no
+    /// memory, crew and control come back.
+    pub fn close<R: Wait>(self, rt: &R, control: Control) -> Result<Closed, StillOpen>
+        requires joined { self.running ≡ [] }
+        requires turn { Each (λ f. f.turn ≡ control.turn) self.joined }
+        ensures ok { IfOk result (λ closed. IsClosedBy self control closed) }
+        ensures err { IfErr result (λ still. (still.crew ≡ self) × (still.control ≡ control)) }
+    {
+        let Ok(finished) = actors_of(self.alloc, self.joined.as_slice()) else {
+            return Err(StillOpen {
+                crew: self,
+                control,
+            });
+        };
+        let Crew {
+            alloc,
+            running,
+            joined,
+            lost,
+        } = self;
+        match control.close(rt, joined) {
+            Ok(host) => Ok(Closed {
+                host,
+                finished,
+                lost,
+            }),
+            Err(
+                Unclosed {
+                    control,
+                    finished: joined,
+                },
+            ) => Err(StillOpen {
+                crew: Crew {
+                    alloc,
+                    running,
+                    joined,
+                    lost,
+                },
+                control,
+            }),
+        }
+    }
+}

@@ -1,0 +1,6 @@
+//! Boxed jobs, each on a port in a thread of its own, and the crew that starts and joins them.
+#![tactic(auto)]
+
+pub mod crew;
+pub mod job;
+pub mod tasks;

@@ -1,0 +1,83 @@
+//! What jobs do: plain functions, each of which takes a port and gives it back done.
+
+ghost use Rattle.std.specs.Prelude.{◌≡◌, ℕ};
+ghost use Rattle.rv_port.specs.Ports.{Porting, pass_of};
+ghost use Rattle.rv_event.specs.declared.entry.Exit.{Exit};
+ghost use Rattle.rv_port.specs.Calls.{Quits, Stays};
+ghost use Rattle.rv_port.specs.Texts.{TextRan};
+ghost use Rattle.rv_crew.specs.Tasks.{Calls, Fires, goes_on};
+
+use crossbeam_channel::Receiver;
+use rv_port::port::{Finished, Port};
+use rv_port::reached::Reached;
+use rv_value::Args;
+use std::sync::Wait;
+
+// Whether a device goes on after a call.
+fn goes_on(reached: &Reached) -> bool
+    ensures { result ≡ goes_on reached.now }
+{
+    !matches!(reached, Reached::Stopped | Reached::Misuse)
+}
+
+// Makes the calls of a device.
+fn make_calls<R: Wait>(rt: &R, port: &mut Port, object: usize, operation: usize, calls: u32)
+    ensures calls { Calls object operation calls port.old port.new }
+    ensures stays { Stays (pass_of port.old) (pass_of port.new) }
+{
+    let mut left = calls;
+    while left > 0 {
+        left -= 1;
+        let reached = port.call(rt, object, operation, Args::new());
+        if !goes_on(&reached) {
+            return;
+        }
+    }
+}
+
+/// The job of a task with a text: it runs the text to its end (9.2, 9.3), with so many requests of
+/// its own, and finishes.
+pub fn text_task<R: Wait>(rt: &R, mut port: Port, budget: u32) -> Finished
+    ensures ran { (exit : Exit) × (done : Porting) × TextRan (pass_of port) port.refused budget exit (pass_of done) done.refused × Quits (pass_of done) (pass_of result) }
+    ensures stays { Stays (pass_of port) (pass_of result) }
+{
+    port.run_text(rt, budget);
+    port.finish(rt)
+}
+
+/// The job of a device: it calls an operation without parameters so many times, by the numbers of
+/// its object and of the operation, and finishes. It goes on where a call is refused or raises an
+/// exception, and ends where one is stopped or doesn't fit its actor.
+pub fn device<R: Wait>(
+    rt: &R,
+    mut port: Port,
+    object: usize,
+    operation: usize,
+    calls: u32,
+) -> Finished
+    ensures calls { (done : Porting) × Calls object operation calls port done × Quits (pass_of done) (pass_of result) }
+    ensures stays { Stays (pass_of port) (pass_of result) }
+{
+    make_calls(rt, &mut port, object, operation, calls);
+    port.finish(rt)
+}
+
+// Fires for each number that comes, until no more can come.
+fn fire_each<R: Wait>(rt: &R, port: &mut Port, receiver: &Receiver<u8>)
+    ensures fires { (count : ℕ) × Fires count port.old port.new }
+    ensures stays { Stays (pass_of port.old) (pass_of port.new) }
+{
+    for _ in receiver.iter(rt) {
+        let _ = port.fire(rt);
+    }
+}
+
+/// The job of a line: an interrupt for each line number that is received, until the channel closes
+/// (C.3).
+pub fn line_task<R: Wait>(rt: &R, mut port: Port, receiver: Receiver<u8>) -> Finished
+    ensures fires { (count : ℕ) × (done : Porting) × Fires count port done × Quits (pass_of done) (pass_of result) }
+    ensures stays { Stays (pass_of port) (pass_of result) }
+{
+    fire_each(rt, &mut port, &receiver);
+    port.finish(rt)
+}
