@@ -7,6 +7,7 @@ use Rattle.rv_shape.specs.Shape.{Shape}
 use Rattle.rv_event.specs.Past.{under_way, scalars}
 use Rattle.rv_event.specs.declared.entry.Entry.{Entry}
 use Rattle.rv_event.specs.declared.entry.Entry.TheVariants.{Load}
+use Rattle.rv_history.specs.History.{History}
 use Rattle.rv_history.specs.Legal.{IsLegal}
 use Rattle.rv_history.specs.Owed.{actors}
 use Rattle.rv_present.specs.declared.present.Present.{Present}
@@ -37,6 +38,10 @@ pub record IsPresent (shapes : List Shape) (past : List Entry) (present : Presen
   pub objects_long : length present.bodies.objects ≡ most_places
   pub stances_long : length present.stances.stances ≡ most_actors
   pub calls_long : length present.calls ≡ most_actors
+
+-- what is so of each history of which it is the present
+abbrev pub WherePresent : Present → (History → Type 0) → Type 0
+WherePresent present Fact = (h : History) → IsPresent h.shapes h.past present → Fact h
 
 -- it is the present of a legal history of a capacity that hosts have
 pub record Stands (shapes : List Shape) (present : Present) : Type 0 where

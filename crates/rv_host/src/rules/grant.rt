@@ -51,7 +51,7 @@ fn subject(seen: &Seen, actor: usize) -> Option<usize>
     }
 }
 
-// What the last of the lists decides of a call by a caller without a home. No request of such an
+// What the last of the lists decides of a call by a caller without a home. No call of such an
 // actor fits: the list is searched, since the table has no row for it.
 fn decide_nameless(lists: &[AccessList], callee: &Callee) -> (bool, usize)
     ensures granted { result.0 ≡ granted_at (last_list lists.now) (Some []) (target_of callee.now) }

@@ -8,6 +8,6 @@ use Rattle.rv_present.specs.Holdings.{held_of}
 use Rattle.rv_present.proofs.present.Present.depth.Goals as goal
 
 pub returns : goal.returns
-returns c = λ shapes past k.
+returns c = λ h k.
     let a = c.args.actor in
-    c.len.ensures.value ∙ ap (λ (hs : List Held). length hs) (c.of.ensures ∙ k.bodies_are.stacks a) ∙ length-map (filter (by a) (under_way shapes past)) (held_of shapes)
+    c.len.ensures.value ∙ ap (λ (hs : List Held). length hs) (c.of.ensures ∙ k.bodies_are.stacks a) ∙ length-map (filter (by a) (under_way h.shapes h.past)) (held_of h.shapes)

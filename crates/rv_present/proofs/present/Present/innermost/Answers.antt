@@ -6,9 +6,9 @@ use Rattle.rv_present.proofs.Holding.{inner_body, no_inner}
 use Rattle.rv_present.proofs.present.Present.innermost.Goals as goal
 
 pub returns-in-Some : goal.returns-in-Some
-returns-in-Some c = λ shapes past k.
-    sym (inner_body shapes c.args.actor (under_way shapes past) c.in-Some.held (ap (λ (hs : List Held). slice_get hs 0) (sym (c.of.ensures ∙ k.bodies_are.stacks c.args.actor)) ∙ sym c.innermost.ensures ∙ c.in-Some.is))
+returns-in-Some c = λ h k.
+    sym (inner_body h.shapes c.args.actor (under_way h.shapes h.past) c.in-Some.held (ap (λ (hs : List Held). slice_get hs 0) (sym (c.of.ensures ∙ k.bodies_are.stacks c.args.actor)) ∙ sym c.innermost.ensures ∙ c.in-Some.is))
 
 pub returns-in-None : goal.returns-in-None
-returns-in-None c = λ shapes past k.
-    sym (no_inner shapes c.args.actor (under_way shapes past) (ap (λ (hs : List Held). slice_get hs 0) (sym (c.of.ensures ∙ k.bodies_are.stacks c.args.actor)) ∙ sym c.innermost.ensures ∙ c.in-None.is))
+returns-in-None c = λ h k.
+    sym (no_inner h.shapes c.args.actor (under_way h.shapes h.past) (ap (λ (hs : List Held). slice_get hs 0) (sym (c.of.ensures ∙ k.bodies_are.stacks c.args.actor)) ∙ sym c.innermost.ensures ∙ c.in-None.is))
