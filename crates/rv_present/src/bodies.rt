@@ -43,7 +43,12 @@ fn ceiling_of(catalogue: &Catalogue, object: usize) -> usize
 
 // The action of an actor's body of an operation on its object.
 fn action_by(catalogue: &Catalogue, actor: usize, object: usize, operation: usize) -> Action
-    ensures { result ≡ action_of catalogue.now (record { actor = actor; object = object; operation = operation }) }
+    ensures { result
+        ≡ action_of catalogue.now (record {
+          actor = actor;
+          object = object;
+          operation = operation;
+        }) }
 {
     if is_shared(catalogue, object, operation) {
         Action::Shared
@@ -64,7 +69,12 @@ pub struct Bodies {
 impl Bodies {
     /// None, in no object that there is. Err where memory was refused.
     pub fn new(alloc: Global) -> Result<Bodies, AllocError>
-        ensures { IfOk result (λ bodies. bodies ≡ record { stacks = replicate most_actors []; objects = replicate most_places idle; number = 0 }) }
+        ensures { IfOk result (λ bodies. bodies
+            ≡ record {
+              stacks = replicate most_actors [];
+              objects = replicate most_places idle;
+              number = 0;
+            }) }
     {
         let stacks = Stacks::new(alloc)?;
         let objects = Objects::new(alloc)?;
@@ -78,10 +88,13 @@ impl Bodies {
     /// What an entry ends and starts.
     pub fn note(&mut self, catalogue: &Catalogue, entry: &Entry, start: Option<Body>)
         requires { (bodies : List Body) × IsReady catalogue.now bodies self.old entry.now start }
-        ensures same { (length self.new.stacks ≡ length self.old.stacks) × (length self.new.objects ≡ length self.old.objects) }
-        ensures kept { (bodies : List Body) → IsBodies catalogue.now bodies self.old → IsBodies catalogue.now (past.begun start (past.closed (past.ended entry.now) bodies)) self.new }
+        ensures same { (length self.new.stacks ≡ length self.old.stacks) ×
+            (length self.new.objects ≡ length self.old.objects) }
+        ensures kept { (bodies : List Body) → IsBodies catalogue.now bodies self.old →
+            IsBodies catalogue.now (past.begun start (past.closed (past.ended entry.now) bodies)) self.new }
         ensures scalars { (bodies : List Body) → IsBodies catalogue.now bodies self.old → (o : ℕ) →
-            (slice_index_or self.new.objects o idle).scalars ≡ left_after catalogue.now o bodies entry.now (slice_index_or self.old.objects o idle).scalars }
+            (slice_index_or self.new.objects o idle).scalars
+            ≡ left_after catalogue.now o bodies entry.now (slice_index_or self.old.objects o idle).scalars }
     {
         self.end_if(catalogue, entry);
         if let Some(body) = start {
@@ -92,7 +105,8 @@ impl Bodies {
     // How many bodies are under way once an actor ends its own.
     fn number_without(&self, actor: usize) -> usize
         requires { (shapes : List Shape) × (bodies : List Body) × IsBodies shapes bodies self.now }
-        ensures value { (shapes : List Shape) (bodies : List Body) → IsBodies shapes bodies self.now → result ≡ length (past.without actor bodies) }
+        ensures value { (shapes : List Shape) (bodies : List Body) →
+            IsBodies shapes bodies self.now → result ≡ length (past.without actor bodies) }
         ensures within { result ≤ self.now.number }
     {
         match self.stacks.of(actor).innermost() {
@@ -104,7 +118,8 @@ impl Bodies {
     // How many bodies are under way once an end has happened, if one does.
     fn number_closed(&self, ended: Option<usize>) -> usize
         requires { (shapes : List Shape) × (bodies : List Body) × IsBodies shapes bodies self.now }
-        ensures value { (shapes : List Shape) (bodies : List Body) → IsBodies shapes bodies self.now → result ≡ length (past.closed ended bodies) }
+        ensures value { (shapes : List Shape) (bodies : List Body) →
+            IsBodies shapes bodies self.now → result ≡ length (past.closed ended bodies) }
         ensures within { result ≤ self.now.number }
     {
         match ended {
@@ -115,9 +130,12 @@ impl Bodies {
 
     /// How many bodies are under way once one has ended and one has started, if they do.
     pub fn number_after(&self, ended: Option<usize>, start: Option<Body>) -> usize
-        requires sound { (shapes : List Shape) × (bodies : List Body) × IsBodies shapes bodies self.now }
+        requires sound { (shapes : List Shape) × (bodies : List Body) ×
+            IsBodies shapes bodies self.now }
         requires few { self.now.number < 2 ^ 32 }
-        ensures value { (shapes : List Shape) (bodies : List Body) → IsBodies shapes bodies self.now → result ≡ length (past.begun start (past.closed ended bodies)) }
+        ensures value { (shapes : List Shape) (bodies : List Body) →
+            IsBodies shapes bodies self.now →
+            result ≡ length (past.begun start (past.closed ended bodies)) }
         ensures within { result ≤ self.now.number + 1 }
     {
         let left = self.number_closed(ended);
@@ -130,10 +148,13 @@ impl Bodies {
     // What an entry ends.
     fn end_if(&mut self, catalogue: &Catalogue, entry: &Entry)
         requires { (bodies : List Body) × IsBodies catalogue.now bodies self.old }
-        ensures same { (length self.new.stacks ≡ length self.old.stacks) × (length self.new.objects ≡ length self.old.objects) }
-        ensures kept { (bodies : List Body) → IsBodies catalogue.now bodies self.old → IsBodies catalogue.now (past.closed (past.ended entry.now) bodies) self.new }
+        ensures same { (length self.new.stacks ≡ length self.old.stacks) ×
+            (length self.new.objects ≡ length self.old.objects) }
+        ensures kept { (bodies : List Body) → IsBodies catalogue.now bodies self.old →
+            IsBodies catalogue.now (past.closed (past.ended entry.now) bodies) self.new }
         ensures scalars { (bodies : List Body) → IsBodies catalogue.now bodies self.old → (o : ℕ) →
-            (slice_index_or self.new.objects o idle).scalars ≡ left_after catalogue.now o bodies entry.now (slice_index_or self.old.objects o idle).scalars }
+            (slice_index_or self.new.objects o idle).scalars
+            ≡ left_after catalogue.now o bodies entry.now (slice_index_or self.old.objects o idle).scalars }
     {
         match entry {
             Entry::Asked(actor, Request::Complete(given, _), _) => {
@@ -148,12 +169,17 @@ impl Bodies {
         requires actor { body.actor < length self.old.stacks }
         requires object { body.object < length self.old.objects }
         requires room { length (slice_index_or self.old.stacks body.actor []) < 16 }
-        requires free { excludes (slice_index_or self.old.objects body.object idle).actions (action_of catalogue.now body) ≡ false }
+        requires free { excludes (slice_index_or self.old.objects body.object idle).actions
+            (action_of catalogue.now body) ≡ false }
         requires few { self.old.number < 2 ^ 32 }
         requires sound { (bodies : List Body) × IsBodies catalogue.now bodies self.old }
-        ensures kept { (bodies : List Body) → IsBodies catalogue.now bodies self.old → IsBodies catalogue.now (body ∷ bodies) self.new }
-        ensures same { (length self.new.stacks ≡ length self.old.stacks) × (length self.new.objects ≡ length self.old.objects) }
-        ensures scalars { (o : ℕ) → (slice_index_or self.new.objects o idle).scalars ≡ (slice_index_or self.old.objects o idle).scalars }
+        ensures kept { (bodies : List Body) → IsBodies catalogue.now bodies self.old →
+            IsBodies catalogue.now (body ∷ bodies) self.new }
+        ensures same { (length self.new.stacks ≡ length self.old.stacks) ×
+            (length self.new.objects ≡ length self.old.objects) }
+        ensures scalars { (o : ℕ) →
+            (slice_index_or self.new.objects o idle).scalars
+            ≡ (slice_index_or self.old.objects o idle).scalars }
     {
         let action = action_by(catalogue, body.actor, body.object, body.operation);
         let ceiling = ceiling_of(catalogue, body.object);
@@ -172,10 +198,13 @@ impl Bodies {
     // An actor ends its innermost body, if it is in one.
     fn end(&mut self, catalogue: &Catalogue, actor: usize, given: &Scalars)
         requires { (bodies : List Body) × IsBodies catalogue.now bodies self.old }
-        ensures same { (length self.new.stacks ≡ length self.old.stacks) × (length self.new.objects ≡ length self.old.objects) }
-        ensures kept { (bodies : List Body) → IsBodies catalogue.now bodies self.old → IsBodies catalogue.now (past.without actor bodies) self.new }
+        ensures same { (length self.new.stacks ≡ length self.old.stacks) ×
+            (length self.new.objects ≡ length self.old.objects) }
+        ensures kept { (bodies : List Body) → IsBodies catalogue.now bodies self.old →
+            IsBodies catalogue.now (past.without actor bodies) self.new }
         ensures scalars { (bodies : List Body) → IsBodies catalogue.now bodies self.old → (o : ℕ) →
-            (slice_index_or self.new.objects o idle).scalars ≡ left_by catalogue.now o bodies actor given.now (slice_index_or self.old.objects o idle).scalars }
+            (slice_index_or self.new.objects o idle).scalars
+            ≡ left_by catalogue.now o bodies actor given.now (slice_index_or self.old.objects o idle).scalars }
     {
         let Some(held) = self.stacks.of(actor).innermost() else {
             return;

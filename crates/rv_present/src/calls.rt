@@ -57,7 +57,8 @@ impl Calls {
     pub fn note(&mut self, entry: &Entry)
         requires { AreBelow (length self.old) entry.now }
         ensures same { length self.new ≡ length self.old }
-        ensures kept { (past : List Entry) → AreCalls past self.old → AreCalls (entry.now ∷ past) self.new }
+        ensures kept { (past : List Entry) → AreCalls past self.old →
+            AreCalls (entry.now ∷ past) self.new }
     {
         if let Some(call) = queued_by(entry) {
             self.items[call.actor] = Some(call);

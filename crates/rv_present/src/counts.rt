@@ -38,7 +38,8 @@ impl Counts {
 
     // Whether the host is halted once an entry more stands.
     fn is_halted_with(&self, entry: &Entry) -> bool
-        ensures { (before : List Entry) → self.now.is_halted ≡ past.halted before → result ≡ past.halted (entry.now ∷ before) }
+        ensures { (before : List Entry) → self.now.is_halted ≡ past.halted before →
+            result ≡ past.halted (entry.now ∷ before) }
     {
         halts(entry) || self.is_halted
     }
@@ -46,7 +47,8 @@ impl Counts {
     // How many list changes there are once an entry more stands.
     fn version_with(&self, entry: &Entry) -> usize
         requires { self.now.version < 2 ^ 32 }
-        ensures { (before : List Entry) → self.now.version ≡ changes before → result ≡ changes (entry.now ∷ before) }
+        ensures { (before : List Entry) → self.now.version ≡ changes before →
+            result ≡ changes (entry.now ∷ before) }
     {
         if is_list(entry) {
             self.version + 1
@@ -65,7 +67,8 @@ impl Counts {
 
     /// 1 for the halt, while there is none, once an entry more stands.
     pub fn halt_due_with(&self, entry: &Entry) -> usize
-        ensures value { (before : List Entry) → self.now.is_halted ≡ past.halted before → result ≡ owed.halt_due (past.halted (entry.now ∷ before)) }
+        ensures value { (before : List Entry) → self.now.is_halted ≡ past.halted before →
+            result ≡ owed.halt_due (past.halted (entry.now ∷ before)) }
         ensures within { result ≤ 1 }
     {
         if self.is_halted_with(entry) { 0 } else { 1 }
@@ -76,7 +79,8 @@ impl Counts {
         requires entries { self.old.entries < 2 ^ 32 }
         requires version { self.old.version < 2 ^ 32 }
         requires clock { self.old.clock + past.ticks entry.now < 2 ^ 63 }
-        ensures { (before : List Entry) → AreCounts before self.old → AreCounts (entry.now ∷ before) self.new }
+        ensures { (before : List Entry) → AreCounts before self.old →
+            AreCounts (entry.now ∷ before) self.new }
     {
         self.is_halted = self.is_halted_with(entry);
         self.version = self.version_with(entry);

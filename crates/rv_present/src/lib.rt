@@ -1,6 +1,6 @@
-//! What is so after the entries of a history, kept in fields: who holds what, the scalars, the stances, what is owed, the
-//! clock. An entry more changes them in place, whatever came before it; each stands for its definition in rv_event or
-//! rv_history.
+//! What is so after the entries of a history, kept in fields: who holds what, the scalars, the
+//! stances, what is owed, the clock. An entry more changes them in place, whatever came before it;
+//! each stands for its definition in rv_event or rv_history.
 #![tactic(auto)]
 
 mod bodies;

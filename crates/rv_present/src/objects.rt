@@ -66,7 +66,10 @@ impl Objects {
         requires known { object < length self.old }
         requires free { excludes (slice_index_or self.old object idle).actions action ≡ false }
         requires countable { length (slice_index_or self.old object idle).actions < 2 ^ 32 }
-        ensures { self.new ≡ slice_set self.old object (record (slice_index_or self.old object idle) { actions = action ∷ (slice_index_or self.old object idle).actions }) }
+        ensures { self.new
+            ≡ slice_set self.old object (record (slice_index_or self.old object idle) {
+              actions = action ∷ (slice_index_or self.old object idle).actions;
+            }) }
     {
         self.items[object].start(action);
     }
@@ -74,10 +77,17 @@ impl Objects {
     /// A body ends, and leaves these scalars if it is exclusive.
     pub fn end(&mut self, object: usize, action: Action, scalars: &Scalars)
         requires known { object < length self.old }
-        requires under_way { is_under_way action (slice_index_or self.old object idle).actions ≡ true }
-        ensures alike { (slice_index_or self.old object idle).actions ≡ replicate (length (slice_index_or self.old object idle).actions) action }
-        ensures newest { (slice_index_or self.old object idle).actions ≡ action ∷ drop 1 (slice_index_or self.old object idle).actions }
-        ensures new { self.new ≡ slice_set self.old object (record { actions = drop 1 (slice_index_or self.old object idle).actions; scalars = scalars_after action (slice_index_or self.old object idle).scalars scalars.now }) }
+        requires under_way { is_under_way action (slice_index_or self.old object idle).actions
+            ≡ true }
+        ensures alike { (slice_index_or self.old object idle).actions
+            ≡ replicate (length (slice_index_or self.old object idle).actions) action }
+        ensures newest { (slice_index_or self.old object idle).actions
+            ≡ action ∷ drop 1 (slice_index_or self.old object idle).actions }
+        ensures new { self.new
+            ≡ slice_set self.old object (record {
+              actions = drop 1 (slice_index_or self.old object idle).actions;
+              scalars = scalars_after action (slice_index_or self.old object idle).scalars scalars.now;
+            }) }
     {
         self.items[object].finish(action, *scalars);
     }
@@ -85,7 +95,8 @@ impl Objects {
     /// Puts a new object, with its first scalars and nobody in it.
     pub fn put(&mut self, object: usize, scalars: Scalars)
         requires { object < length self.old }
-        ensures { self.new ≡ slice_set self.old object (record { actions = []; scalars = scalars }) }
+        ensures { self.new
+            ≡ slice_set self.old object (record { actions = []; scalars = scalars }) }
     {
         self.items[object] = Object::new(scalars);
     }

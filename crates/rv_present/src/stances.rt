@@ -86,7 +86,8 @@ impl Model for Stances {
 
     ghost view = { λ s. record { stances = s.items.items; actors = s.actors } };
 
-    ghost invariant = { λ s. (s.dues ≡ dues_by s.items.items s.actors) × (length s.items.items ≡ most_actors) × (s.actors ≤ most_actors) };
+    ghost invariant = { λ s. (s.dues ≡ dues_by s.items.items s.actors) ×
+        (length s.items.items ≡ most_actors) × (s.actors ≤ most_actors) };
 }
 
 impl Stances {
@@ -94,7 +95,8 @@ impl Stances {
     /// memory was refused.
     #[tactic(auto, using(std::proofs::lemmas::List::replicate_more))]
     pub fn new(alloc: Global) -> Result<Stances, AllocError>
-        ensures { IfOk result (λ s. s ≡ record { stances = replicate most_actors Stance.Free; actors = first_task }) }
+        ensures { IfOk result (λ s. s
+            ≡ record { stances = replicate most_actors Stance.Free; actors = first_task }) }
     {
         let mut items = Vec::with_capacity(alloc, MOST_ACTORS)?;
         for i in 0..MOST_ACTORS {
@@ -168,7 +170,8 @@ impl Stances {
     #[tactic(auto, using(crate::proofs::Owing::set_one))]
     fn of_with(&self, actor: usize, stance: Stance, named: usize) -> Stance
         requires { named < length self.now.stances }
-        ensures { result ≡ slice_index_or (slice_set self.now.stances actor stance) named Stance.Free }
+        ensures { result
+            ≡ slice_index_or (slice_set self.now.stances actor stance) named Stance.Free }
     {
         if actor == named {
             stance
@@ -179,7 +182,8 @@ impl Stances {
 
     // What all would owe if two were at something else, the second after the first.
     fn dues_with_both(&self, actor: usize, stance: Stance, named: usize, becomes: Stance) -> usize
-        ensures { result ≡ dues_by (slice_set (slice_set self.now.stances actor stance) named becomes) self.now.actors }
+        ensures { result
+            ≡ dues_by (slice_set (slice_set self.now.stances actor stance) named becomes) self.now.actors }
     {
         let dues = self.dues_with(actor, stance);
         if self.actors <= named {

@@ -18,11 +18,12 @@ pub table_more : (list : List Words) (shapes : List Shape) (s : Shape) (t : Mark
     IsTable list shapes t →
     AllZip (IsCaller list) (callers shapes ++ s.name ∷ []) own →
     AllZip (AreSites list) (all_objects shapes ++ objects_of s) sites →
-    IsTable list (shapes ++ s ∷ []) (record { callers = own; objects = sites; allowing = t.allowing; lines = t.lines })
+    IsTable list (shapes ++ s ∷ []) (record { callers = own; objects = sites; nameless = t.nameless; allowing = t.allowing; lines = t.lines })
 table_more list shapes s t own sites is mine theirs = record {
   few = is.few;
   count = is.count;
   callers = subst (λ names. AllZip (IsCaller list) names own) (sym (callers_append shapes s)) mine;
   objects = subst (λ os. AllZip (AreSites list) os sites) (sym (objects_append shapes s)) theirs;
+  nameless = is.nameless;
   allowing = is.allowing;
 }

@@ -12,8 +12,8 @@ use Rattle.rv_shape.specs.Shape.{Shape}
 use Rattle.rv_shape.specs.declared.object.Object.{Object}
 use Rattle.rv_shape.specs.declared.object.Object.TheVariants.{Protected, Suspension}
 use Rattle.rv_shape.specs.declared.suspension.SuspensionOperation.{SuspensionOperation}
-use Rattle.rv_table.specs.Rows.{IsRow, of_caller, of_site}
-use Rattle.rv_table.specs.Tables.{AreSites, IsCaller, IsSite, IsTable, Marks, callers, decided, decided_at, granted, granted_at, name_of, operation_names, row_in, row_of}
+use Rattle.rv_table.specs.Rows.{IsRow, of_site}
+use Rattle.rv_table.specs.Tables.{AreSites, IsCaller, IsSite, IsTable, Marks, decided_at, granted_at, name_of, operation_names, row_in, row_of}
 
 -- both are there, and R holds of them, or neither is
 abbrev pub Both : {A B : Type 0} → (A → B → Type 0) → Option A → Option B → Type 0
@@ -118,53 +118,27 @@ pub seen : (list : List Words) (shapes : List Shape) (t : Marks) (object operati
 seen list shapes t object operation is =
     of_place list operation (place shapes object) (numbered t.objects object) (numbered_both (AreSites list) (all_objects shapes) t.objects object is.objects)
 
--- what is looked up: the caller of the row of a caller, and the names of the row of an operation
-pub record Looked (list : List Words) (shapes : List Shape) (unit object operation : ℕ) (ours theirs : List ℕ) : Type 0 where
-  pub caller : List ℕ
-  pub site : List ℕ
-  pub name : List ℕ
-  pub mine : IsRow (of_caller caller) list ours
-  pub yours : IsRow (of_site site name) list theirs
-  pub line : decided list shapes unit object operation ≡ decides list caller site name
-  pub grant : granted list shapes unit object operation ≡ grants list caller site name
+-- the names of the operation that is called, where its row is there
+pub found : (list : List Words) (shapes : List Shape) (t : Marks) (object operation : ℕ) (row : List ℕ) → IsTable list shapes t → row_of t.objects object operation ≡ Some row → Found list (target shapes object operation) row
+found list shapes t object operation row is there =
+    subst (λ (r : Option (List ℕ)). Seen list (target shapes object operation) r) there (seen list shapes t object operation is)
 
-looked_by : (list : List Words) (shapes : List Shape) (unit object operation : ℕ) (ours theirs : List ℕ) (caller : Option (List ℕ)) (row row' : Option (List ℕ)) → slice_get (callers shapes) unit ≡ caller → row ≡ Some ours → row' ≡ Some theirs
-    → Both (IsCaller list) caller row → Seen list (target shapes object operation) row' → Looked list shapes unit object operation ours theirs
-looked_by list shapes unit object operation ours theirs None None row' is here there both seen = absurd (differ here)
+-- where it isn't there, nothing is called
+pub unseen : (list : List Words) (shapes : List Shape) (t : Marks) (object operation : ℕ) (caller : List ℕ) → IsTable list shapes t → row_of t.objects object operation ≡ None
+    → (decided_at list (Some caller) (target shapes object operation) ≡ 0) × (granted_at list (Some caller) (target shapes object operation) ≡ false)
+unseen list shapes t object operation caller is none =
+    let nothing : Seen list (target shapes object operation) None = subst (λ (r : Option (List ℕ)). Seen list (target shapes object operation) r) none (seen list shapes t object operation is) in
+    (nothing.0 caller, nothing.1 caller)
+
+-- the caller of a row
+pub caller_of : (list : List Words) (names : List (List ℕ)) (rows : List (List ℕ)) (unit : ℕ) (row : List ℕ) → AllZip (IsCaller list) names rows → slice_get rows unit ≡ Some row
+    → (name : List ℕ) × (slice_get names unit ≡ Some name) × IsCaller list name row
+caller_of list names rows unit row all here = by_both (slice_get names unit) (slice_get rows unit) refl here (get_both (IsCaller list) names rows unit all)
   where
-    differ : None ≡ Some ours → ⊥
-    differ e = subst is_none e (tt {0})
-      where
-        is_none : Option (List ℕ) → Type 0
-        is_none None = Unit {0}
-        is_none (Some x) = ⊥
-looked_by list shapes unit object operation ours theirs None (Some row) row' is here there both seen = absurd both
-looked_by list shapes unit object operation ours theirs (Some caller) row row' is here there both seen =
-    let mine : IsRow (of_caller caller) list ours = subst (λ (r : Option (List ℕ)). Both (IsCaller list) (Some caller) r) here both in
-    let found : Found list (target shapes object operation) theirs = subst (λ (r : Option (List ℕ)). Seen list (target shapes object operation) r) there seen in
-    record {
-      caller = caller;
-      site = found.site;
-      name = found.name;
-      mine = mine;
-      yours = found.is_row;
-      line = ap (λ (c : Option (List ℕ)). decided_at list c (target shapes object operation)) is ∙ found.line caller;
-      grant = ap (λ (c : Option (List ℕ)). granted_at list c (target shapes object operation)) is ∙ found.grant caller;
-    }
-
-pub looked : (list : List Words) (shapes : List Shape) (t : Marks) (unit object operation : ℕ) (ours theirs : List ℕ) → IsTable list shapes t → slice_get t.callers unit ≡ Some ours → row_of t.objects object operation ≡ Some theirs → Looked list shapes unit object operation ours theirs
-looked list shapes t unit object operation ours theirs is here there =
-    looked_by list shapes unit object operation ours theirs (slice_get (callers shapes) unit) (slice_get t.callers unit) (row_of t.objects object operation) refl here there (get_both (IsCaller list) (callers shapes) t.callers unit is.callers) (seen list shapes t object operation is)
-
--- where the row of an operation isn't there, nothing is called
-pub unseen : (list : List Words) (shapes : List Shape) (t : Marks) (unit object operation : ℕ) → IsTable list shapes t → row_of t.objects object operation ≡ None → (decided list shapes unit object operation ≡ 0) × (granted list shapes unit object operation ≡ false)
-unseen list shapes t unit object operation is none =
-    let found : Seen list (target shapes object operation) None = subst (λ (r : Option (List ℕ)). Seen list (target shapes object operation) r) none (seen list shapes t object operation is) in
-    by_caller (slice_get (callers shapes) unit) found
-  where
-    by_caller : (c : Option (List ℕ)) → Seen list (target shapes object operation) None → (decided_at list c (target shapes object operation) ≡ 0) × (granted_at list c (target shapes object operation) ≡ false)
-    by_caller None found = (refl, refl)
-    by_caller (Some caller) found = (found.0 caller, found.1 caller)
+    by_both : (name row' : Option (List ℕ)) → slice_get names unit ≡ name → row' ≡ Some row → Both (IsCaller list) name row' → (name : List ℕ) × (slice_get names unit ≡ Some name) × IsCaller list name row
+    by_both None None is here both = absurd (cc)
+    by_both None (Some row') is here both = absurd both
+    by_both (Some name) row' is here both = (name, is, subst (λ (r : Option (List ℕ)). Both (IsCaller list) (Some name) r) here both)
 
 -- a line that decides is one of the list
 pub decides_few : (list : List Words) (unit object operation : List ℕ) → decides list unit object operation ≤ length list

@@ -1,5 +1,5 @@
 -- The table that an access list is compiled to, over the units that are loaded (own).
-use Rattle.std.specs.Prelude.{ℕ, ◌≡◌, ◌≤◌, Bool, false, ◌==◌, ◌-◌, if◌then◌else◌, length, List, ◌∷◌, map, codes, slice_get, Some, None, Option}
+use Rattle.std.specs.Prelude.{ℕ, ◌≡◌, ◌≤◌, Bool, false, ◌==◌, ◌-◌, if◌then◌else◌, length, List, [], ◌∷◌, map, codes, slice_get, Some, None, Option}
 use Rattle.std.specs.List.{AllZip}
 use Rattle.rv_access.specs.Limits.{most_lines}
 use Rattle.rv_access.specs.Words.{Words}
@@ -37,11 +37,12 @@ decided list shapes unit object operation = decided_at list (slice_get (callers 
 abbrev pub granted : List Words → List Shape → ℕ → ℕ → ℕ → Bool
 granted list shapes unit object operation = granted_at list (slice_get (callers shapes) unit) (target shapes object operation)
 
--- what contracts see of a table: the rows of each caller, of each operation of each object, and of the lines that
--- allow; and how many lines there are
+-- what contracts see of a table: the rows of each caller, of each operation of each object, of a caller without a name, and of
+-- the lines that allow; and how many lines there are
 pub record Marks : Type 0 where
   pub callers : List (List ℕ)
   pub objects : List (List (List ℕ))
+  pub nameless : List ℕ
   pub allowing : List ℕ
   pub lines : ℕ
 
@@ -84,4 +85,5 @@ pub record IsTable (list : List Words) (shapes : List Shape) (t : Marks) : Type 
   pub count : t.lines ≡ length list
   pub callers : AllZip (IsCaller list) (callers shapes) t.callers
   pub objects : AllZip (AreSites list) (all_objects shapes) t.objects
+  pub nameless : IsCaller list [] t.nameless
   pub allowing : IsRow is_allowing list t.allowing

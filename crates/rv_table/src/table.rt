@@ -1,13 +1,14 @@
 //! The table of a list over the units that are loaded.
 
-ghost use Rattle.std.specs.Prelude.{◌≡◌, ◌≤◌, ◌<◌, ◌++◌, ◌∷◌, [], List, length, IfOk, slice_get};
+ghost use Rattle.std.specs.Prelude.{◌≡◌, ◌≤◌, ◌<◌, ◌++◌, ◌∷◌, [], ℕ, Some, List, length, IfOk, slice_get};
 ghost use Rattle.std.specs.Option.{option_copied};
 ghost use Rattle.rv_access.specs.Limits.{most_lines};
 ghost use Rattle.rv_access.specs.Words.{Words};
+ghost use Rattle.rv_shape.specs.Catalogue.{target};
 ghost use Rattle.rv_shape.specs.Shape.{Shape};
-ghost use Rattle.rv_table.specs.Tables.{IsTable, allowed, decided, granted, row_of};
+ghost use Rattle.rv_table.specs.Tables.{IsCaller, IsTable, allowed, decided, decided_at, granted, granted_at, row_of};
 
-use crate::row::{Row, allowing_row, deciding, is_marked};
+use crate::row::{Row, allowing_row, caller_row, deciding, is_marked};
 use crate::rows::{ObjectRows, caller_rows, callers_with, object_rows, objects_with};
 use rv_access::{AccessList, MOST_LINES};
 use rv_shape::catalogue::Catalogue;
@@ -23,6 +24,7 @@ use std::marker::Model;
 pub struct Table {
     callers: Vec<Row>,
     objects: Vec<ObjectRows>,
+    nameless: Row,
     allowing: Row,
     lines: usize,
 }
@@ -32,7 +34,7 @@ impl Model for Table {
 
     ghost Value = { Marks };
 
-    ghost view = { λ t. record { callers = t.callers.items; objects = t.objects.items; allowing = t.allowing; lines = t.lines } };
+    ghost view = { λ t. record { callers = t.callers.items; objects = t.objects.items; nameless = t.nameless; allowing = t.allowing; lines = t.lines } };
 }
 
 impl Table {
@@ -49,6 +51,7 @@ impl Table {
         Ok(Table {
             callers: caller_rows(alloc, list, shapes)?,
             objects: object_rows(alloc, list, shapes)?,
+            nameless: caller_row(list, ""),
             allowing: allowing_row(list),
             lines: list.len(),
         })
@@ -68,6 +71,7 @@ impl Table {
         Ok(Table {
             callers: callers_with(alloc, &self.callers, list, shape)?,
             objects: objects_with(alloc, &self.objects, list, shape)?,
+            nameless: self.nameless,
             allowing: self.allowing,
             lines: self.lines,
         })
@@ -102,6 +106,26 @@ impl Table {
         let Some(ours) = self.caller(unit) else {
             return (false, 0);
         };
+        self.look_in(ours, object, operation)
+    }
+
+    /// The same of a call by one that has no home, which `*` alone fits.
+    pub fn look_nameless(&self, object: usize, operation: usize) -> (bool, usize)
+        ensures line { (list : List Words) (shapes : List Shape) → IsTable list shapes self.now
+            → result.1 ≡ decided_at list (Some []) (target shapes object operation) }
+        ensures granted { (list : List Words) (shapes : List Shape) → IsTable list shapes self.now
+            → result.0 ≡ granted_at list (Some []) (target shapes object operation) }
+    {
+        self.look_in(&self.nameless, object, operation)
+    }
+
+    // What is decided of a call by the caller of a row.
+    fn look_in(&self, ours: &Row, object: usize, operation: usize) -> (bool, usize)
+        ensures line { (list : List Words) (shapes : List Shape) (caller : List ℕ) → IsTable list shapes self.now
+            → IsCaller list caller ours.now → result.1 ≡ decided_at list (Some caller) (target shapes object operation) }
+        ensures granted { (list : List Words) (shapes : List Shape) (caller : List ℕ) → IsTable list shapes self.now
+            → IsCaller list caller ours.now → result.0 ≡ granted_at list (Some caller) (target shapes object operation) }
+    {
         let Some(theirs) = self.site(object, operation) else {
             return (false, 0);
         };

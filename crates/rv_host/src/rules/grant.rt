@@ -1,7 +1,7 @@
 //! The list in force: for whom an actor calls, and whether that is granted, by the table of the list.
 
-ghost use Rattle.std.specs.Prelude.{◌≡◌, [], Some};
-ghost use Rattle.rv_history.specs.History.{force, last_list};
+ghost use Rattle.std.specs.Prelude.{◌≡◌, Some};
+ghost use Rattle.rv_history.specs.History.{force};
 ghost use Rattle.rv_history.specs.Rules as rules;
 ghost use Rattle.rv_history.specs.Subject as subjects;
 ghost use Rattle.rv_host.specs.Numbered.{IsNumber};
@@ -12,10 +12,8 @@ ghost use Rattle.rv_table.specs.Tables.{decided_at, granted_at};
 
 use crate::past::bodies::innermost_of;
 use crate::seen::Seen;
-use rv_access::{AccessList, decide};
 use rv_shape::actor::{Callee, FIRST_TASK};
 use rv_shape::catalogue::Catalogue;
-use rv_shape::suspension::SuspensionOperation;
 
 // The number of the home of an actor: of its unit, or 0 for `Interrupts`; `None` where it has none.
 #[tactic(auto, using(crate::proofs::Tabled::operator_number, crate::proofs::Tabled::line_number, crate::proofs::Tabled::task_number))]
@@ -51,58 +49,15 @@ fn subject(seen: &Seen, actor: usize) -> Option<usize>
     }
 }
 
-// What the last of the lists decides of a call by a caller without a home. No call of such an
-// actor fits: the list is searched, since the table has no row for it.
-fn decide_nameless(lists: &[AccessList], callee: &Callee) -> (bool, usize)
-    ensures granted { result.0 ≡ granted_at (last_list lists.now) (Some []) (target_of callee.now) }
-    ensures line { result.1 ≡ decided_at (last_list lists.now) (Some []) (target_of callee.now) }
-{
-    let Some(list) = lists.last() else {
-        return (false, 0);
-    };
-    match callee {
-        Callee::Nowhere => (false, 0),
-        Callee::Protected(unit, object, operation) => {
-            decide(list, "", unit.name(), object.name(), operation.name())
-        }
-        Callee::Suspension(unit, object, operation) => decide(
-            list,
-            "",
-            unit.name(),
-            object.name(),
-            suspension_name(*operation),
-        ),
-    }
-}
-
-// The name of an operation of a suspension object.
-fn suspension_name(operation: SuspensionOperation) -> &'static str
-    ensures { result.now ≡ catalogues.suspension_operation_name operation }
-{
-    match operation {
-        SuspensionOperation::SetTrue => "Set_True",
-        SuspensionOperation::SetFalse => "Set_False",
-        SuspensionOperation::CurrentState => "Current_State",
-        SuspensionOperation::SuspendUntilTrue => "Suspend_Until_True",
-    }
-}
-
 // What the list in force decides of a call by an actor, of what there is at these numbers.
-fn looked_up(
-    seen: &Seen,
-    actor: usize,
-    object: usize,
-    operation: usize,
-    callee: &Callee,
-) -> (bool, usize)
-    requires seen { IsSeen seen.now }
-    requires called { target_of callee.now ≡ catalogues.target seen.now.catalogue.now object operation }
-    ensures granted { result.0 ≡ granted_at (force (history_of seen.now)) (Some (subjects.subject (history_of seen.now) actor)) (target_of callee.now) }
-    ensures line { result.1 ≡ decided_at (force (history_of seen.now)) (Some (subjects.subject (history_of seen.now) actor)) (target_of callee.now) }
+fn looked_up(seen: &Seen, actor: usize, object: usize, operation: usize) -> (bool, usize)
+    requires { IsSeen seen.now }
+    ensures granted { result.0 ≡ granted_at (force (history_of seen.now)) (Some (subjects.subject (history_of seen.now) actor)) (catalogues.target seen.now.catalogue.now object operation) }
+    ensures line { result.1 ≡ decided_at (force (history_of seen.now)) (Some (subjects.subject (history_of seen.now) actor)) (catalogues.target seen.now.catalogue.now object operation) }
 {
     match subject(seen, actor) {
         Some(unit) => seen.table.look(unit, object, operation),
-        None => decide_nameless(seen.lists, callee),
+        None => seen.table.look_nameless(object, operation),
     }
 }
 
@@ -122,7 +77,7 @@ pub fn decide_call(
 {
     match callee {
         Callee::Nowhere => (true, 0),
-        Callee::Protected(_, _, _) => looked_up(seen, actor, object, operation, callee),
-        Callee::Suspension(_, _, _) => looked_up(seen, actor, object, operation, callee),
+        Callee::Protected(_, _, _) => looked_up(seen, actor, object, operation),
+        Callee::Suspension(_, _, _) => looked_up(seen, actor, object, operation),
     }
 }

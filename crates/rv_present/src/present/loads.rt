@@ -22,7 +22,8 @@ impl Present {
     pub fn taken_with_load(&self, catalogue: &Catalogue, shape: &UnitShape) -> usize
         requires stands { Stands catalogue.now self.now }
         requires few { owed.actors catalogue.now + length shape.now.tasks ≤ most_actors }
-        ensures { (capacity : ℕ) (before : List Entry) (lists : List (List Words)) → IsLegal capacity before catalogue.now lists → IsPresent catalogue.now before self.now →
+        ensures { (capacity : ℕ) (before : List Entry) (lists : List (List Words)) →
+            IsLegal capacity before catalogue.now lists → IsPresent catalogue.now before self.now →
             result ≡ length (Entry.Load ∷ before) + owed.owed (catalogue.now ++ shape.now ∷ []) (Entry.Load ∷ before) }
     {
         let actors = self.stances.actors() + shape.tasks().len();
@@ -44,8 +45,10 @@ impl Present {
     /// One more load, of the last of the units.
     pub fn note_load(&mut self, catalogue: &Catalogue)
         requires { IsBeforeLoad catalogue.now self.old }
-        ensures { (capacity : ℕ) (before : List Entry) (lists : List (List Words)) (legal : IsLegal capacity (Entry.Load ∷ before) catalogue.now lists) →
-            IsPresent legal.0 before self.old → IsPresent catalogue.now (Entry.Load ∷ before) self.new }
+        ensures { (capacity : ℕ) (before : List Entry) (lists : List (List Words))
+            (legal : IsLegal capacity (Entry.Load ∷ before) catalogue.now lists) →
+            IsPresent legal.0 before self.old →
+            IsPresent catalogue.now (Entry.Load ∷ before) self.new }
     {
         self.grow(catalogue);
         self.note(catalogue, &Entry::Load);

@@ -1,16 +1,19 @@
-use Rattle.std.proofs.Common.{◌∙◌, sym}
+use Rattle.std.proofs.Common.{◌∙◌, ap, List, Option, ℕ}
 use Rattle.rv_history.specs.History.{last_list}
+use Rattle.rv_shape.specs.Catalogue.{target}
 use Rattle.rv_table.specs.Tables.{decided_at, granted_at}
 use Rattle.rv_host.proofs.rules.grant.looked_up.Goals as goal
 
 pub returns-in-Some-clause-granted : goal.returns-in-Some-clause-granted
 returns-in-Some-clause-granted c =
     let list = last_list c.args.seen.now.lists.now in
-    c.look.ensures.granted list c.args.seen.now.catalogue.now c.requires.seen.tabled
-    ∙ (λ i. granted_at list (c.in-Some.ensures i) (sym c.requires.called i))
+    let shapes = c.args.seen.now.catalogue.now in
+    c.look.ensures.granted list shapes c.requires.tabled
+    ∙ ap (λ (name : Option (List ℕ)). granted_at list name (target shapes c.args.object c.args.operation)) c.in-Some.ensures
 
 pub returns-in-Some-clause-line : goal.returns-in-Some-clause-line
 returns-in-Some-clause-line c =
     let list = last_list c.args.seen.now.lists.now in
-    c.look.ensures.line list c.args.seen.now.catalogue.now c.requires.seen.tabled
-    ∙ (λ i. decided_at list (c.in-Some.ensures i) (sym c.requires.called i))
+    let shapes = c.args.seen.now.catalogue.now in
+    c.look.ensures.line list shapes c.requires.tabled
+    ∙ ap (λ (name : Option (List ℕ)). decided_at list name (target shapes c.args.object c.args.operation)) c.in-Some.ensures

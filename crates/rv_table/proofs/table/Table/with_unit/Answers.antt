@@ -9,7 +9,7 @@ pub returns : goal.returns
 returns c = λ shapes is.
     let list = c.args.list.now in
     let i = c.self.inside in
-    let marks : Marks = record { callers = i.callers.items; objects = i.objects.items; allowing = i.allowing; lines = i.lines } in
+    let marks : Marks = record { callers = i.callers.items; objects = i.objects.items; nameless = i.nameless; allowing = i.allowing; lines = i.lines } in
     let inside : IsTable list shapes marks = subst (IsTable list shapes) (sym c.self.view_is) is in
     let mine = c.in_ok-callers_with.ensures (callers shapes) (subst (λ (rows : List (List ℕ)). AllZip (IsCaller list) (callers shapes) rows) (sym c.deref.ensures.value) inside.callers) in
     let theirs = c.in_ok-objects_with.ensures (all_objects shapes) (subst (λ (rows : List (List (List ℕ))). AllZip (AreSites list) (all_objects shapes) rows) (sym c.deref-2.ensures.value) inside.objects) in
