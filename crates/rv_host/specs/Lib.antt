@@ -1,12 +1,6 @@
-pub mod Found
-pub mod Replayed
-pub mod Suspensions
 pub mod Seen
 pub mod Numbered
-pub mod Aimed
 pub mod Attached
 pub mod Facts
-pub mod Modes
-pub mod Depth
 pub mod Pages
 pub mod Given

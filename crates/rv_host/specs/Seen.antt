@@ -1,13 +1,14 @@
--- A history as a scan has seen it (own).
-use Rattle.std.specs.Prelude.{◌≡◌, ◌<◌, ◌^◌, length, reverse}
+-- A history, and what is kept of it (own).
+use Rattle.std.specs.Prelude.{◌<◌, ◌≤◌, ◌^◌, reverse}
 use Rattle.rv_event.specs.Past.{clock}
 use Rattle.rv_host.specs.declared.seen.Seen.{Seen}
-use Rattle.rv_history.specs.History.{History, changes, last_list}
-use Rattle.rv_host.specs.Found.{IsFound}
-use Rattle.rv_history.specs.Orderly.{Orderly}
+use Rattle.rv_history.specs.History.{History, last_list}
+use Rattle.rv_history.specs.Legal.{IsLegal}
+use Rattle.rv_present.specs.Present.{IsPresent}
 use Rattle.rv_table.specs.Tables.{IsTable}
+use Rattle.rv_waiting.specs.Waiting.{IsWaiting}
 
--- the history that was scanned
+-- the history that is meant
 abbrev pub history_of : Seen → History
 history_of seen =
     record {
@@ -18,11 +19,13 @@ history_of seen =
           seen.lists.now;
     }
 
--- the scan is of that history, which is orderly, and whose clock is a number of 63 bits; its list changes are as many as its
--- lists, and the table is of the last of these over what is loaded
+-- that history is legal, of a capacity that hosts have, and its clock is a number of 63 bits; the fields stand for it, and
+-- the table is of the last of its lists over what is loaded
 pub record IsSeen (seen : Seen) : Type 0 where
-  pub found : IsFound seen.catalogue.now seen.object (reverse seen.entries.now) seen.scan.now
-  pub orderly : Orderly seen.catalogue.now (reverse seen.entries.now)
+  pub legal : IsLegal seen.capacity (reverse seen.entries.now) seen.catalogue.now seen.lists.now
+  pub least : 1 ≤ seen.capacity
+  pub most : seen.capacity ≤ 2 ^ 20
   pub timely : clock (reverse seen.entries.now) < 2 ^ 63
-  pub counted : changes (reverse seen.entries.now) ≡ length seen.lists.now
+  pub is_present : IsPresent seen.catalogue.now (reverse seen.entries.now) seen.present.now
+  pub is_waiting : IsWaiting (reverse seen.entries.now) seen.waiting.now
   pub tabled : IsTable (last_list seen.lists.now) seen.catalogue.now seen.table.now

@@ -6,4 +6,5 @@ pub mod exclusion;
 pub mod fitting;
 pub mod grant;
 pub mod queue;
+pub mod suspension;
 pub mod values;

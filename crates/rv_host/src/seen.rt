@@ -1,12 +1,15 @@
-//! A history as a scan has seen it, of which the questions are asked, with the table of its list in force.
+//! A history, and the fields that stand for it, of which the questions are asked, with the table of its
+//! list in force.
 
-use crate::past::scan::Scan;
 use rv_access::AccessList;
 use rv_event::entry::Entry;
+use rv_present::Present;
 use rv_shape::catalogue::Catalogue;
 use rv_table::Table;
+use rv_waiting::waiting::Waiting;
 
-/// A history, and what a scan found in it for an object.
+/// A history, and what is kept of it. The entries and the lists only name the history: no question
+/// walks over them.
 #[derive(Clone, Copy)]
 pub struct Seen<'a> {
     pub capacity: usize,
@@ -14,6 +17,6 @@ pub struct Seen<'a> {
     pub entries: &'a [Entry],
     pub lists: &'a [AccessList],
     pub table: &'a Table,
-    pub scan: &'a Scan,
-    pub object: usize,
+    pub present: &'a Present,
+    pub waiting: &'a Waiting,
 }

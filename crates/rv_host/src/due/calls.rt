@@ -7,17 +7,18 @@ ghost use Rattle.rv_history.specs.Exclusion as exclusion;
 ghost use Rattle.rv_history.specs.History.{version};
 ghost use Rattle.rv_history.specs.Rules as rules;
 ghost use Rattle.rv_history.specs.Subject as subjects;
-ghost use Rattle.rv_host.specs.Aimed.{IsAimedAt};
 ghost use Rattle.rv_host.specs.Attached.{number_of};
 ghost use Rattle.rv_host.specs.Seen.{IsSeen, history_of};
 ghost use Rattle.rv_shape.specs.Catalogue as catalogues;
 
+use crate::due::waits::version_of;
 use crate::facts::{CallFacts, SuspensionFacts};
 use crate::rules::blocking::{is_call, is_holding, is_inside, may_block, waits};
 use crate::rules::ceiling::is_above;
-use crate::rules::exclusion::{is_busy, is_closed};
+use crate::rules::exclusion::{is_busy, is_closed, scalars_of};
 use crate::rules::grant::decide_call;
 use crate::rules::queue::is_full;
+use crate::rules::suspension::{has_waiter, state_of};
 use crate::seen::Seen;
 use rv_event::entry::{Answer, Request};
 use rv_irq::{Handler, Lines};
@@ -31,6 +32,7 @@ use rv_shape::suspension::SuspensionOperation;
 fn call_facts(
     seen: &Seen,
     asked: (usize, bool, bool),
+    object: usize,
     kind: Kind,
     ceiling: usize,
     decided: (bool, usize),
@@ -38,30 +40,30 @@ fn call_facts(
     requires { IsSeen seen.now }
     ensures version { result.version ≡ version (history_of seen.now) }
     ensures line { result.line ≡ decided.1 }
-    ensures scalars { result.scalars ≡ past.scalars (history_of seen.now).shapes seen.now.object (history_of seen.now).past }
+    ensures scalars { result.scalars ≡ past.scalars (history_of seen.now).shapes object (history_of seen.now).past }
     ensures denied { result.denied ≡ not decided.0 }
     ensures blocking { result.blocking ≡ (rules.holds_any (history_of seen.now) asked.0 && asked.2) }
-    ensures reentry { result.reentry ≡ (asked.1 && rules.holds (history_of seen.now) asked.0 seen.now.object) }
+    ensures reentry { result.reentry ≡ (asked.1 && rules.holds (history_of seen.now) asked.0 object) }
     ensures above { result.above ≡ nat_lt ceiling (subjects.active (history_of seen.now) asked.0) }
-    ensures busy { result.busy ≡ exclusion.excluded (history_of seen.now) seen.now.object (catalogues.is_function kind) }
-    ensures barred { result.barred ≡ exclusion.is_barred (history_of seen.now) seen.now.object kind }
-    ensures full { result.full ≡ exclusion.full_queue (history_of seen.now) seen.now.object }
+    ensures busy { result.busy ≡ exclusion.excluded (history_of seen.now) object (catalogues.is_function kind) }
+    ensures barred { result.barred ≡ exclusion.is_barred (history_of seen.now) object kind }
+    ensures full { result.full ≡ exclusion.full_queue (history_of seen.now) object }
 {
     let (actor, call, may_block) = asked;
     let (granted, line) = decided;
     let inside = is_inside(seen, actor);
-    let holding = is_holding(seen, actor, seen.object);
+    let holding = is_holding(seen, actor, object);
     CallFacts {
-        version: seen.lists.len(),
+        version: version_of(seen),
         line,
-        scalars: seen.scan.scalars(),
+        scalars: scalars_of(seen, object),
         denied: !granted,
         blocking: inside && may_block,
         reentry: call && holding,
         above: is_above(seen, actor, ceiling),
-        busy: is_busy(seen, kind.is_function()),
-        barred: is_closed(seen, kind),
-        full: is_full(seen),
+        busy: is_busy(seen, object, kind.is_function()),
+        barred: is_closed(seen, object, kind),
+        full: is_full(seen, object),
     }
 }
 
@@ -69,6 +71,7 @@ fn call_facts(
 fn suspension_facts(
     seen: &Seen,
     asked: (usize, bool, bool),
+    object: usize,
     operation: SuspensionOperation,
     decided: (bool, usize),
 ) -> SuspensionFacts
@@ -77,20 +80,20 @@ fn suspension_facts(
     ensures line { result.line ≡ decided.1 }
     ensures denied { result.denied ≡ not decided.0 }
     ensures blocking { result.blocking ≡ (rules.holds_any (history_of seen.now) asked.0 && asked.2) }
-    ensures waited { result.waited ≡ ((asked.1 && rules.waits operation) && is_some (past.waiter seen.now.object (history_of seen.now).past)) }
-    ensures state { result.state ≡ past.state seen.now.object (history_of seen.now).past }
+    ensures waited { result.waited ≡ ((asked.1 && rules.waits operation) && is_some (past.waiter object (history_of seen.now).past)) }
+    ensures state { result.state ≡ past.state object (history_of seen.now).past }
 {
     let (actor, call, may_block) = asked;
     let (granted, line) = decided;
     let inside = is_inside(seen, actor);
-    let waited = seen.scan.waiter().is_some();
+    let waited = has_waiter(seen, object);
     SuspensionFacts {
-        version: seen.lists.len(),
+        version: version_of(seen),
         line,
         denied: !granted,
         blocking: inside && may_block,
         waited: call && waits(operation) && waited,
-        state: seen.scan.state(),
+        state: state_of(seen, object),
     }
 }
 
@@ -102,8 +105,7 @@ pub fn due_call(
     object: usize,
     operation: usize,
 ) -> Answer
-    requires seen { IsSeen seen.now }
-    requires aimed { seen.now.object ≡ object }
+    requires { IsSeen seen.now }
     ensures { result ≡ due.due_call (history_of seen.now) actor request.now object (catalogues.target seen.now.catalogue.now object operation) }
 {
     let callee = seen.catalogue.callee(object, operation);
@@ -112,10 +114,18 @@ pub fn due_call(
     match callee {
         Callee::Nowhere => Answer::Misuse,
         Callee::Protected(_, found, operation) => {
-            call_facts(seen, asked, operation.kind(), found.ceiling(), decided).answer()
+            call_facts(
+                seen,
+                asked,
+                object,
+                operation.kind(),
+                found.ceiling(),
+                decided,
+            )
+            .answer()
         }
         Callee::Suspension(_, _, operation) => {
-            suspension_facts(seen, asked, operation, decided).answer(operation)
+            suspension_facts(seen, asked, object, operation, decided).answer(operation)
         }
     }
 }
@@ -136,7 +146,6 @@ fn attached(catalogue: &Catalogue, line: usize) -> Option<Handler>
 pub fn due_fire(seen: &Seen, actor: usize) -> Answer
     requires seen { IsSeen seen.now }
     requires line { actor ≤ 10 }
-    requires aimed { IsAimedAt seen.now.object (catalogues.handler seen.now.catalogue.now (actor - 1)) }
     ensures { result ≡ due.due_fire (history_of seen.now) actor (catalogues.handler seen.now.catalogue.now (actor - 1)) }
 {
     match attached(seen.catalogue, actor.saturating_sub(1)) {

@@ -5,7 +5,7 @@ ghost use Rattle.rv_event.specs.declared.entry.Body.{Body};
 ghost use Rattle.rv_history.specs.Due as due;
 ghost use Rattle.rv_host.specs.Seen.{IsSeen, history_of};
 
-use crate::past::counts::is_halted;
+use crate::due::waits::is_halted;
 use crate::rules::exclusion::opens_at;
 use crate::rules::grant::decide_call;
 use crate::rules::queue::head_call;
@@ -37,13 +37,13 @@ fn after_end(seen: &Seen, object: usize, scalars: &Scalars) -> Next
     requires { IsSeen seen.now }
     ensures { result ≡ due.after_end (history_of seen.now) object scalars.now }
 {
-    if is_halted(seen.entries) {
+    if is_halted(seen) {
         return Next::Nothing;
     }
     if !opens_at(seen.catalogue, object, scalars) {
         return Next::Nothing;
     }
-    serve(seen, head_call(seen.scan.waiting(), object))
+    serve(seen, head_call(seen, object))
 }
 
 /// The answer to the end of a body.

@@ -1,30 +1,53 @@
 //! The answers to delays and to resumes, and the time.
 
-ghost use Rattle.std.specs.Prelude.{◌≡◌, ◌≤◌, length, int_le, pos};
+ghost use Rattle.std.specs.Prelude.{◌≡◌, ◌<◌, ◌^◌, int_le, pos};
 ghost use Rattle.rv_event.specs.Past as past;
 ghost use Rattle.rv_history.specs.Due as due;
-ghost use Rattle.rv_history.specs.History.{version};
+ghost use Rattle.rv_history.specs.History.{changes, version};
 ghost use Rattle.rv_history.specs.Rules as rules;
-ghost use Rattle.rv_host.specs.Aimed.{IsOn};
 ghost use Rattle.rv_host.specs.Facts.{resumed};
-ghost use Rattle.rv_host.specs.Found.{IsStanding};
 ghost use Rattle.rv_host.specs.Seen.{IsSeen, history_of};
 
 use crate::facts::{DelayFacts, ResumeFacts};
-use crate::past::counts::{clock, count_lists, is_halted};
-use crate::past::standing::{Standing, is_released};
 use crate::rules::blocking::is_inside;
+use crate::rules::exclusion::scalars_of;
 use crate::rules::fitting::innermost;
+use crate::rules::suspension::is_released;
 use crate::seen::Seen;
 use rv_event::entry::{Body, Stance};
 use rv_value::Scalars;
+
+/// How many list changes there were.
+pub fn version_of(seen: &Seen) -> usize
+    requires { IsSeen seen.now }
+    ensures { result ≡ version (history_of seen.now) }
+{
+    seen.present.version()
+}
+
+/// Whether the host is halted.
+pub fn is_halted(seen: &Seen) -> bool
+    requires { IsSeen seen.now }
+    ensures { result ≡ past.halted (history_of seen.now).past }
+{
+    seen.present.is_halted()
+}
+
+// The ticks so far, a number of 63 bits.
+fn ticks(seen: &Seen) -> u64
+    requires { IsSeen seen.now }
+    ensures value { result ≡ past.clock (history_of seen.now).past }
+    ensures within { result < 2 ^ 63 }
+{
+    seen.present.clock()
+}
 
 /// The ticks so far (D.8).
 pub fn time(seen: &Seen) -> i64
     requires { IsSeen seen.now }
     ensures { result ≡ pos (past.clock (history_of seen.now).past) }
 {
-    clock(seen.entries) as i64
+    ticks(seen) as i64
 }
 
 /// What the answer to a delay depends on.
@@ -35,7 +58,7 @@ pub fn delay_facts(seen: &Seen, actor: usize, until: i64) -> DelayFacts
     ensures over { result.over ≡ int_le until (pos (past.clock (history_of seen.now).past)) }
 {
     DelayFacts {
-        version: seen.lists.len(),
+        version: version_of(seen),
         blocking: is_inside(seen, actor),
         over: until <= time(seen),
     }
@@ -43,43 +66,54 @@ pub fn delay_facts(seen: &Seen, actor: usize, until: i64) -> DelayFacts
 
 // The scalars of the object that was handed over, which the actor holds.
 fn handed_scalars(seen: &Seen, body: Option<Body>) -> Scalars
-    requires seen { IsSeen seen.now }
-    requires aimed { IsOn seen.now.object body }
+    requires { IsSeen seen.now }
     ensures { result ≡ due.scalars_held (history_of seen.now) body }
 {
     match body {
         None => Scalars::new(),
-        Some(_) => seen.scan.scalars(),
+        Some(body) => scalars_of(seen, body.object),
     }
 }
 
 // What the answer to one that waits depends on.
 fn waiting(seen: &Seen, ready: bool) -> ResumeFacts
+    requires { IsSeen seen.now }
     ensures { resumed result ≡ due.or_waiting (history_of seen.now) ready }
 {
-    ResumeFacts::Waits(ready, is_halted(seen.entries))
+    ResumeFacts::Waits(ready, is_halted(seen))
+}
+
+// The version of the list at which an actor was last spoken of: for one that was dropped, that at
+// which it was found denied.
+fn version_then(seen: &Seen, actor: usize) -> usize
+    requires { IsSeen seen.now }
+    ensures { result ≡ changes (past.until_then actor (history_of seen.now).past) }
+{
+    seen.waiting.version_then(actor)
+}
+
+// At what an actor was left.
+fn stance_of(seen: &Seen, actor: usize) -> Stance
+    requires { IsSeen seen.now }
+    ensures { result ≡ past.stance actor (history_of seen.now).past }
+{
+    seen.present.stance(actor)
 }
 
 /// What the answer to a resume depends on.
-pub fn resume_facts(seen: &Seen, actor: usize, at: Standing) -> ResumeFacts
-    requires seen { IsSeen seen.now }
-    requires standing { IsStanding actor seen.now.entries.now at.stance at.before }
-    requires within { at.before ≤ length seen.now.entries.now }
-    requires aimed { IsOn seen.now.object (past.innermost (history_of seen.now).shapes actor (history_of seen.now).past) }
-    ensures { resumed result ≡ due.due_resume (history_of seen.now) actor at.stance }
+pub fn resume_facts(seen: &Seen, actor: usize) -> ResumeFacts
+    requires { IsSeen seen.now }
+    ensures { resumed result ≡ due.due_resume (history_of seen.now) actor (past.stance actor (history_of seen.now).past) }
 {
-    match at.stance {
+    match stance_of(seen, actor) {
         Stance::Free => ResumeFacts::Nothing,
         Stance::InQueue => waiting(seen, false),
         Stance::HandedOver => {
             let body = innermost(seen, actor);
             ResumeFacts::HandedOver(handed_scalars(seen, body))
         }
-        Stance::DroppedBy(line) => {
-            let version = count_lists(&seen.entries[..at.before]);
-            ResumeFacts::Dropped(line, version)
-        }
-        Stance::WaitsOn(object) => waiting(seen, is_released(seen.entries, actor, object)),
+        Stance::DroppedBy(line) => ResumeFacts::Dropped(line, version_then(seen, actor)),
+        Stance::WaitsOn(object) => waiting(seen, is_released(seen, actor, object)),
         Stance::WaitsUntil(until) => waiting(seen, until <= time(seen)),
         Stance::Gone => ResumeFacts::Nothing,
     }

@@ -4,16 +4,14 @@ ghost use Rattle.std.specs.Prelude.{◌≡◌, ◌&&◌, nat_lt, length};
 ghost use Rattle.rv_event.specs.Past as past;
 ghost use Rattle.rv_history.specs.Fitting as fitting;
 ghost use Rattle.rv_history.specs.Owed.{actors};
-ghost use Rattle.rv_host.specs.Modes.{mode_with};
 ghost use Rattle.rv_host.specs.Seen.{IsSeen, history_of};
 ghost use Rattle.rv_shape.specs.Catalogue as catalogues;
 ghost use Rattle.rv_shape.specs.Readers.{target_of};
 
-use crate::past::bodies::innermost_of;
-use crate::rules::blocking::{count_held, is_inside};
+use crate::rules::blocking::count_held;
 use crate::rules::values::{fit_exit, fit_parameters, fit_scalars};
 use crate::seen::Seen;
-use rv_event::entry::{Body, Exit, Mode, Request, Stance};
+use rv_event::entry::{Body, Exit, Mode, Request};
 use rv_prio::MOST_HELD;
 use rv_shape::actor::{Actor, Callee, FIRST_TASK};
 use rv_shape::catalogue::Catalogue;
@@ -23,32 +21,15 @@ pub fn innermost(seen: &Seen, actor: usize) -> Option<Body>
     requires { IsSeen seen.now }
     ensures { result ≡ past.innermost (history_of seen.now).shapes actor (history_of seen.now).past }
 {
-    innermost_of(seen.scan.bodies(), actor)
-}
-
-/// The mode of an actor that holds something or not, by its stance.
-pub fn mode_with(holds: bool, stance: Stance) -> Mode
-    ensures { result ≡ mode_with holds stance }
-{
-    match stance {
-        Stance::Free => if holds { Mode::InBody } else { Mode::Idle },
-        Stance::InQueue => Mode::Queued,
-        Stance::HandedOver => Mode::Handed,
-        Stance::DroppedBy(_) => Mode::Dropped,
-        Stance::WaitsOn(_) => Mode::Suspended,
-        Stance::WaitsUntil(_) => Mode::Delayed,
-        Stance::Gone => Mode::Ended,
-    }
+    seen.present.innermost(actor)
 }
 
 // The actor's mode.
-#[tactic(auto, using(crate::proofs::Modes::mode_is))]
-fn mode_of(seen: &Seen, actor: usize, stance: Stance) -> Mode
-    requires seen { IsSeen seen.now }
-    requires stance { stance ≡ past.stance actor (history_of seen.now).past }
+fn mode_of(seen: &Seen, actor: usize) -> Mode
+    requires { IsSeen seen.now }
     ensures { result ≡ past.mode (history_of seen.now).shapes actor (history_of seen.now).past }
 {
-    mode_with(is_inside(seen, actor), stance)
+    seen.present.mode(actor)
 }
 
 // Whether an actor in this mode may call.
@@ -212,13 +193,12 @@ fn fits_mode(seen: &Seen, actor: usize, request: &Request, mode: Mode) -> bool
 }
 
 /// Whether a request fits its actor.
-pub fn is_fitting(seen: &Seen, actor: usize, request: &Request, stance: Stance) -> bool
-    requires seen { IsSeen seen.now }
-    requires stance { stance ≡ past.stance actor (history_of seen.now).past }
+pub fn is_fitting(seen: &Seen, actor: usize, request: &Request) -> bool
+    requires { IsSeen seen.now }
     ensures { result ≡ fitting.fits (history_of seen.now) actor request.now }
 {
     if !is_known(seen.catalogue, actor) {
         return false;
     }
-    fits_mode(seen, actor, request, mode_of(seen, actor, stance))
+    fits_mode(seen, actor, request, mode_of(seen, actor))
 }

@@ -10,7 +10,7 @@ ghost use Rattle.rv_shape.specs.Catalogue as catalogues;
 ghost use Rattle.rv_shape.specs.Readers.{target_of};
 ghost use Rattle.rv_table.specs.Tables.{decided_at, granted_at};
 
-use crate::past::bodies::innermost_of;
+use crate::rules::fitting::innermost;
 use crate::seen::Seen;
 use rv_shape::actor::{Callee, FIRST_TASK};
 use rv_shape::catalogue::Catalogue;
@@ -43,7 +43,7 @@ fn subject(seen: &Seen, actor: usize) -> Option<usize>
     requires { IsSeen seen.now }
     ensures { IsNumber seen.now.catalogue.now (subjects.subject (history_of seen.now) actor) result }
 {
-    match innermost_of(seen.scan.bodies(), actor) {
+    match innermost(seen, actor) {
         None => home(seen.catalogue, actor),
         Some(body) => unit_at(seen.catalogue, body.object),
     }
