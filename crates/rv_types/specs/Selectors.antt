@@ -9,6 +9,8 @@ use Rattle.rv_names.specs.declared.declared.Declared.TheVariants as d
 use Rattle.rv_names.specs.Visible.{visible}
 use Rattle.rv_static.specs.declared.meaning.Meaning.{Meaning}
 use Rattle.rv_static.specs.declared.meaning.Meaning.TheVariants.{Subtype}
+use Rattle.rv_names.specs.declared.predefined.Predefined.TheVariants.{DefaultPriority}
+use Rattle.rv_outline.specs.Known.{priority_range}
 use Rattle.rv_outline.specs.declared.known.Known.{Known}
 use Rattle.rv_outline.specs.declared.known.Known.TheVariants as k
 use Rattle.rv_types.specs.declared.denoted.Denoted.{Denoted}
@@ -20,8 +22,10 @@ abbrev pub constant_range : Option Known → Option Range
 constant_range (Some (k.Constant r z)) = Some r
 constant_range known = None
 
+-- System.Default_Priority is a constant of the subtype Priority (13.7)
 abbrev pub declared_range : PointView → Option Declared → Option Range
 declared_range p (Some (d.Constant at)) = constant_range (known_in p at)
+declared_range p (Some (d.Predefined DefaultPriority)) = Some priority_range
 declared_range p found = None
 
 unfoldable pub constant_subtype : PointView → Name → Option Range

@@ -31,6 +31,14 @@ fn choice_place(one: &Choice) -> usize {
     }
 }
 
+// The place of the last value of a choice.
+fn last_place(one: &Choice) -> usize {
+    match one {
+        Choice::Range(_, high) => high.place(),
+        _ => choice_place(one),
+    }
+}
+
 // `others` stands alone, in the last alternative.
 fn others(at: usize, is_last: bool, gathered: &mut Gathered, faults: &mut Faults) {
     if !is_last || gathered.has_others {
@@ -53,8 +61,10 @@ fn gather(
         Ok(Covered::Others) => others(at, is_last, gathered, faults),
         Ok(Covered::Values(low, high)) => {
             if low <= high {
-                if low < range.low || range.high < high {
+                if low < range.low {
                     faults.tell(TypeFault::TooLarge(at));
+                } else if range.high < high {
+                    faults.tell(TypeFault::TooLarge(last_place(one)));
                 }
                 gathered.spans.push((low, high, at))?;
             }

@@ -7,7 +7,8 @@ ghost use Rattle.rv_names.specs.Scope.{OnlyDeclares};
 ghost use Rattle.rv_names.specs.Visible.{visible};
 ghost use Rattle.rv_types.specs.Blocks.{hidden, revealed};
 ghost use Rattle.rv_types.specs.BodiesOf.{point_in};
-ghost use Rattle.rv_types.specs.Selectors.{constant_subtype, declared_range};
+ghost use Rattle.rv_types.specs.Selectors.{constant_range, constant_subtype, declared_range};
+ghost use Rattle.rv_outline.specs.Known.{priority_range};
 ghost use Rattle.rv_types.specs.Points.{PointView, static_meaning, point_meaning, denotes, denoted_by, profile, profile_of, shows_times, local_at, known_in, noting, taking_slot, in_bounds as inside_bounds, with_loop_parameter};
 
 use crate::denoted::Denoted;
@@ -17,13 +18,13 @@ use crate::names::{
 use crate::refused::Refused;
 use crate::setting::Setting;
 use rv_names::declare::{Form, declare_all};
-use rv_names::{Declared, Scope};
+use rv_names::{Declared, Predefined, Scope};
 use rv_outline::known::Known;
 use rv_outline::outline::Outline;
 use rv_outline::point::meaning;
 use rv_outline::scopes::hide_all;
 use rv_shape::catalogue::Catalogue;
-use rv_shape::kind::{Parameter, Range};
+use rv_shape::kind::{Parameter, Range, ValueType};
 use rv_static::{Meaning, Meanings, TypeFault};
 use rv_tree::{Identifier, Name};
 use std::alloc::Global;
@@ -31,6 +32,27 @@ use std::marker::Model;
 
 // How many variables and loop parameters are open in a body (own).
 const MOST_VARIABLES: usize = 64;
+
+// The subtype Priority (13.7).
+fn priorities() -> Range
+    ensures { result ≡ priority_range }
+{
+    Range {
+        of: ValueType::Integer,
+        low: 1,
+        high: 30,
+    }
+}
+
+// The subtype of a constant with a static value.
+fn constant_range(known: Option<Known>) -> Option<Range>
+    ensures { result ≡ constant_range known }
+{
+    match known {
+        Some(Known::Constant(range, _)) => Some(range),
+        _ => None,
+    }
+}
 
 /// What is known of a declaration of a body, by the place of its identifier.
 #[derive(Clone, Copy)]
@@ -161,11 +183,9 @@ impl<'a> Point<'a> {
     fn declared_range(&self, found: Option<Declared>) -> Option<Range>
         ensures { result ≡ declared_range self.now found }
     {
-        let Some(Declared::Constant(at)) = found else {
-            return None;
-        };
-        match self.known(at) {
-            Some(Known::Constant(range, _)) => Some(range),
+        match found {
+            Some(Declared::Constant(at)) => constant_range(self.known(at)),
+            Some(Declared::Predefined(Predefined::DefaultPriority)) => Some(priorities()),
             _ => None,
         }
     }
