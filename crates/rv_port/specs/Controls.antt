@@ -76,7 +76,7 @@ LoadTold v shape Such r w =
 
 -- the bodies of a unit that was loaded as a shape alone: none (own)
 abbrev pub no_bodies_of : Shape → Code.UnitBodies
-no_bodies_of = without_bodies
+no_bodies_of = Code.without_bodies
 
 -- The history that a control begins with is that of the host, whose units have no bodies. (own)
 abbrev pub BeginsWith : History → List Event → Type 0
