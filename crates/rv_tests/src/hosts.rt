@@ -42,10 +42,10 @@ fn host(alloc: Global) -> Result<Host, Fail> {
 
 // A host of 40 entries with an object that has a function, a unit with a task, and a list that grants all.
 fn plant(alloc: Global) -> Result<Host, Fail> {
-    let mut host = host(alloc)?;
     let plant = unit(alloc, "unit Plant\nprotected Valve 20\nfunction Get 0 1\n")?;
     let nav = unit(alloc, "unit Nav\ntask Pilot 15\n")?;
     let list = listing(alloc, "allow * * *\n")?;
+    let mut host = host(alloc)?;
     host.load(&plant);
     host.load(&nav);
     host.set_list(&list);

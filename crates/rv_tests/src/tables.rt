@@ -37,32 +37,3 @@ fn the_last_line_that_matches_decides(rt: HostRuntime) -> Result<(), Fail> {
     assert!(rt; table.look(3, 1, 2) == (false, 0));
     Ok(())
 }
-
-#[test]
-fn a_unit_more_is_decided_by_the_same_list(rt: HostRuntime) -> Result<(), Fail> {
-    let alloc = rt.alloc();
-    let Ok(list) = read_list(alloc, "allow * * *\ndeny Tower Tower.Mast Raise\n") else {
-        return Err("list".into());
-    };
-    let Ok(tower) = read_shape(
-        alloc,
-        "unit Tower\ntask Guard 15\nprotected Mast 20\nprocedure Raise\n",
-    ) else {
-        return Err("tower".into());
-    };
-    let mut units = Catalogue::new(alloc);
-    if list.len() > MOST_LINES {
-        return Err("list".into());
-    }
-    let table = Table::build(alloc, &list, &units)?;
-    let more = table.with_unit(alloc, &list, &tower)?;
-    assert!(rt; table.look(1, 1, 1) == (false, 0));
-    assert!(rt; more.look(1, 1, 1) == (false, 2));
-    assert!(rt; more.look(0, 1, 1) == (true, 1));
-    if units.add(&tower).is_err() {
-        return Err("units".into());
-    }
-    assert!(rt; units.unit_of_object(1) == Some(1) && units.unit_of_object(2) == None);
-    assert!(rt; units.unit_of_task(11) == Some(1) && units.unit_of_task(12) == None);
-    Ok(())
-}
