@@ -1,6 +1,56 @@
-//! What the host's calls give that no script shows: its capacities. What its requests cost is shown by the rows `room_*`.
+//! What the host's calls give that no script shows: its capacities, a run of commands, a page of the journal. What its
+//! requests cost is shown by the rows `room_*`.
 
+use rv_access::{AccessList, read_list};
+use rv_event::entry::{Answer, Entry, Request};
+use rv_history::command::Command;
+use rv_host::answers::Answers;
 use rv_host::host::{Host, NewFault};
+use rv_host::pages::Page;
+use rv_shape::reading::read_shape;
+use rv_shape::shape::UnitShape;
+use rv_value::Args;
+use std::alloc::Global;
+use std::test::Fail;
+
+/// The actor of the one task, by the order of load.
+const PILOT: usize = 11;
+
+// The list of a line.
+fn listing(alloc: Global, text: &str) -> Result<AccessList, Fail> {
+    match read_list(alloc, text) {
+        Ok(list) => Ok(list),
+        Err(_) => Err("list".into()),
+    }
+}
+
+// The unit of a text.
+fn unit(alloc: Global, text: &str) -> Result<UnitShape, Fail> {
+    match read_shape(alloc, text) {
+        Ok(unit) => Ok(unit),
+        Err(_) => Err("unit".into()),
+    }
+}
+
+// A host of 40 entries.
+fn host(alloc: Global) -> Result<Host, Fail> {
+    match Host::new(alloc, 40) {
+        Ok(host) => Ok(host),
+        Err(_) => Err("host".into()),
+    }
+}
+
+// A host of 40 entries with an object that has a function, a unit with a task, and a list that grants all.
+fn plant(alloc: Global) -> Result<Host, Fail> {
+    let plant = unit(alloc, "unit Plant\nprotected Valve 20\nfunction Get 0 1\n")?;
+    let nav = unit(alloc, "unit Nav\ntask Pilot 15\n")?;
+    let list = listing(alloc, "allow * * *\n")?;
+    let mut host = host(alloc)?;
+    host.load(&plant);
+    host.load(&nav);
+    host.set_list(&list);
+    Ok(host)
+}
 
 #[test]
 fn hosts_have_16_to_2_20_entries(rt: HostRuntime) {
@@ -14,4 +64,32 @@ fn hosts_have_16_to_2_20_entries(rt: HostRuntime) {
             Err(fault) => assert!(rt; fault == NewFault::BadCapacity, "at {capacity}"),
         }
     }
+}
+
+#[test]
+fn runs_give_an_answer_a_command(rt: HostRuntime) -> Result<(), Fail> {
+    let alloc = rt.alloc();
+    let mut host = plant(alloc)?;
+    let commands = [
+        Command::Ask(PILOT, Request::Call(1, 1, Args::new())),
+        Command::RemoveLine(9),
+    ];
+    let mut answers = Answers::new(alloc);
+    host.run(&commands, &mut answers)?;
+    assert!(rt; answers.as_slice().len() == 2);
+    assert!(rt; answers.as_slice().get(1) == Some(&Answer::BadLine));
+    Ok(())
+}
+
+#[test]
+fn pages_have_words(rt: HostRuntime) -> Result<(), Fail> {
+    let alloc = rt.alloc();
+    let host = plant(alloc)?;
+    let mut page = Page::new(alloc);
+    host.entries(alloc, 2, &mut page)?;
+    assert!(rt; page.len() == 2);
+    let item = page.items().first().ok_or("item")?;
+    assert!(rt; item.words() == "Nav");
+    assert!(rt; item.entry() == Entry::Load);
+    Ok(())
 }
