@@ -1,3 +1,4 @@
 pub mod Joins
 pub mod Sends
 pub mod Doing
+pub mod Turns
