@@ -1,7 +1,7 @@
 //! One object, one queue, one stack, one suspension object, the lines.
 
 use rv_irq::{Handler, Lines, priority};
-use rv_object::{Action, Object, State};
+use rv_object::{Action, Object};
 use rv_prio::{Held, Stack};
 use rv_queue::{EntryQueue, Queue};
 use rv_suspend::SuspensionObject;
@@ -12,11 +12,10 @@ fn functions_share(rt: HostRuntime) {
     let mut object = Object::new(Scalars::from_slice(&[1, 2]));
     object.start(Action::Shared);
     object.start(Action::Shared);
-    assert!(rt; object.state() == State::Readers(2));
     assert!(rt; object.may_start(Action::Shared) && !object.may_start(Action::Exclusive(11)));
     object.finish(Action::Shared, Scalars::new());
     object.finish(Action::Shared, Scalars::new());
-    assert!(rt; object.state() == State::Free && object.scalars() == Scalars::from_slice(&[1, 2]));
+    assert!(rt; object.may_start(Action::Exclusive(11)) && object.scalars() == Scalars::from_slice(&[1, 2]));
 }
 
 #[test]
@@ -25,9 +24,9 @@ fn a_procedure_is_alone(rt: HostRuntime) {
     let mut object = Object::new(Scalars::from_slice(&[1, 2]));
     assert!(rt; object.may_start(Action::Shared) && object.may_start(writer));
     object.start(writer);
-    assert!(rt; object.state() == State::Writer(11) && !object.may_start(Action::Shared));
+    assert!(rt; !object.may_start(Action::Shared) && !object.may_start(Action::Exclusive(12)));
     object.finish(writer, Scalars::from_slice(&[3, 4]));
-    assert!(rt; object.state() == State::Free && object.scalars() == Scalars::from_slice(&[3, 4]));
+    assert!(rt; object.may_start(writer) && object.scalars() == Scalars::from_slice(&[3, 4]));
 }
 
 /// An object with ceiling 20, and one with 25.
@@ -46,12 +45,11 @@ const GAUGE: Held = Held {
 #[test]
 fn ceilings_are_inherited(rt: HostRuntime) {
     let mut stack = Stack::new();
-    assert!(rt; stack.is_empty() && stack.active(15) == 15 && !stack.above_ceiling(15, 15));
+    assert!(rt; stack.len() == 0 && stack.active(15) == 15);
     stack.push(GAUGE);
     stack.push(VALVE);
     assert!(rt; stack.len() == 2 && stack.active(15) == 25 && stack.active(30) == 30);
-    assert!(rt; stack.above_ceiling(15, 24) && !stack.above_ceiling(15, 25));
-    assert!(rt; stack.holds(1) && stack.holds(2) && !stack.holds(3) && !stack.is_full());
+    assert!(rt; stack.holds(1) && stack.holds(2) && !stack.holds(3));
 }
 
 #[test]
@@ -67,10 +65,10 @@ fn the_innermost_object_is_left_first(rt: HostRuntime) {
 #[test]
 fn an_entry_has_one_caller(rt: HostRuntime) {
     let mut queue = EntryQueue::new();
-    assert!(rt; queue.is_empty() && !queue.is_full() && !queue.due(true));
+    assert!(rt; queue.len() == 0 && !queue.is_full());
     assert!(rt; queue.head() == None && queue.leave() == None);
     queue.join(11);
-    assert!(rt; queue.is_full() && queue.due(true) && !queue.due(false));
+    assert!(rt; queue.is_full());
     assert!(rt; queue.len() == 1 && queue.head() == Some(11));
 }
 
