@@ -233,6 +233,8 @@ def main():
     numbered("the journal", journal)
     print(f"{soak.ticks} ticks, {soak.loaded} loads, {len(journal)} entries, of them {sum(' refused ' in line for line in journal)} refusals")
     print(f"the slowest answer took {soak.slowest:.3f} s")
+    grown = (soak.memory[-1] - soak.memory[0]) * 1024 // max(1, len(journal)) if soak.memory else 0
+    print(f"memory grew by {grown} bytes an entry")
     print(f"memory: {first} KiB at first, {', '.join(map(str, soak.memory))} at each twentieth, {last} at last")
     if not faults:
         replayed(program, journal, soak.texts)
