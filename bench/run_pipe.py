@@ -261,9 +261,30 @@ def refused(program):
         expect("a fault before the commands", (done.stdout.decode(), done.stderr.decode(), done.returncode), (out, err, 1))
 
 
+def at_once(program, script):
+    """What the program writes to an input that comes at once, and its status."""
+    done = subprocess.run([program, "run"], input=script, stdout=subprocess.PIPE, stderr=subprocess.PIPE, timeout=10 * LIMIT)
+    return done.stdout, done.stderr, done.returncode
+
+
+def edges(program):
+    """Where an input ends, and what is too long."""
+    list_line = b"1 operator list [] -> accepted 0\n"
+    expect("100,000 commands", at_once(program, b"@list\n@run\n" + 100_005 * b"frob\n"), (100_000 * b"bad command\n" + b"entries 2\n", b"", 0))
+    expect("no @run", at_once(program, b"@list\n"), (b"entries 2\n", b"", 0))
+    expect("a line that isn't UTF-8", at_once(program, b"@list\n@run\njournal 1\n\xff\ntick 1\n"), (list_line + b"entries 2\n", b"", 0))
+    expect("a last line without a line feed", at_once(program, b"@list\r\n@run\r\njournal 1"), (list_line + b"entries 2\n", b"", 0))
+    expect("a load without @end", at_once(program, b"@list\n@run\nload\npackage P is\nend P;\ntick 1\n"), (b"entries 2\n", b"", 0))
+    expect("a unit text too long", at_once(program, b"@list\n@run\nload\n" + 262_144 * b" " + b"\n@end\nquit\n"), (b"TooLong\nentries 2\n", b"", 0))
+    expect("a halt before the end", at_once(program, b"@run\nhalt\nquit\n"), (b"accepted 0\nentries 1\n", b"", 0))
+    late = b"@list\n@run\n" + b"#" * 16_777_210 + b"\njournal 1\n"
+    expect("what comes past the limit", at_once(program, late), (b"bad command\nentries 2\n", b"", 0))
+    expect("a script past the limit", at_once(program, b"@list\n" + b"#\n" * 8_388_608 + b"@run\n"), (b"", b"script line 1: TooLong\n", 1))
+
+
 def main():
     program = os.path.abspath(sys.argv[1]) if sys.argv[1:] else os.path.join(TOP, "crates/ravenhost/out/ravenhost")
-    for part in (commands, row, device, live, refused, closed):
+    for part in (commands, row, device, live, refused, closed, edges):
         try:
             part(program)
         except BrokenPipeError:

@@ -12,6 +12,8 @@ TEAMS = "ABCD"
 TASKS = 8
 LOADS = 50
 SEED = 16
+SLOWEST = 10  # the longest that an answer may take, in seconds
+MOST_BYTES = 1000  # how much memory may grow an entry: the journal's, which is reserved, comes into use as it fills
 
 PLANT = """with Ada.Synchronous_Task_Control; with Ada.Interrupts.Names;
 package P is
@@ -233,7 +235,11 @@ def main():
     numbered("the journal", journal)
     print(f"{soak.ticks} ticks, {soak.loaded} loads, {len(journal)} entries, of them {sum(' refused ' in line for line in journal)} refusals")
     print(f"the slowest answer took {soak.slowest:.3f} s")
+    grown = (soak.memory[-1] - soak.memory[0]) * 1024 // max(1, len(journal)) if soak.memory else 0
+    print(f"memory grew by {grown} bytes an entry")
     print(f"memory: {first} KiB at first, {', '.join(map(str, soak.memory))} at each twentieth, {last} at last")
+    expect_that("the slowest answer", soak.slowest < SLOWEST, f"{soak.slowest:.3f} s")
+    expect_that("the growth of memory", grown < MOST_BYTES, f"{grown} bytes an entry")
     if not faults:
         replayed(program, journal, soak.texts)
     print(f"{len(faults)} faults")
