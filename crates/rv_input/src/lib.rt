@@ -1,0 +1,9 @@
+//! Input that comes piece by piece, from a terminal or an open pipe: its lines are given as they
+//! come, and no more is waited for than a line needs.
+#![tactic(auto)]
+
+#[cfg(test)]
+mod coming;
+mod input;
+
+pub use input::{Input, InputFault, Preamble};

@@ -1,0 +1,133 @@
+//! The commands of the operator.
+
+use crate::hires::Hires;
+use crate::journal::not_written;
+use crate::loads::unit_of;
+use crate::raising::raise;
+use crate::session::Session;
+use crate::staffing::staff;
+use rv_event::entry::Answer;
+use rv_fault::{Failure, What, put};
+use rv_input::{Input, InputFault};
+use rv_shell::{LineFault, Next, Shell};
+use rv_turn::Worn;
+use rv_unit::Unit;
+use std::alloc::{AllocError, Global};
+use std::io::{Read, Write};
+use std::sync::Wait;
+
+/// Whether the run goes on.
+#[derive(Clone, Copy, Debug, PartialEq, Eq, Drop)]
+pub(crate) enum Goes {
+    /// The next command is read.
+    On,
+    /// No command is read any more.
+    Out,
+}
+
+// The run goes on where a word was written.
+fn said(written: Result<(), Failure>) -> Result<Goes, Failure> {
+    match written {
+        Ok(()) => Ok(Goes::On),
+        Err(failure) => Err(failure),
+    }
+}
+
+// The failure of an input.
+pub(crate) fn of_input(fault: InputFault) -> Failure {
+    match fault {
+        InputFault::Memory => Failure::Memory,
+        InputFault::Io(e) => Failure::Io(e),
+    }
+}
+
+// The words of what is wrong with a unit text.
+fn fault_line(alloc: Global, what: What) -> Result<String, AllocError> {
+    format!(in alloc; "{what}\n")
+}
+
+// Says what is wrong with a unit text, or that memory was refused.
+fn complain<W: Write>(alloc: Global, what: Option<What>, writer: &mut W) -> Result<Goes, Failure> {
+    let Some(what) = what else {
+        return said(put(writer, "nomemory\n"));
+    };
+    match fault_line(alloc, what) {
+        Ok(line) => said(put(writer, line.as_str())),
+        Err(_) => said(put(writer, "nomemory\n")),
+    }
+}
+
+// Says the answer to a load, and starts the threads of what was loaded.
+fn welcome<H: Hires, W: Write>(
+    hires: &H,
+    session: &mut Session,
+    answer: Result<Answer, Worn>,
+    writer: &mut W,
+) -> Result<Goes, Failure> {
+    let told = Shell::new(session.alloc).tell(&session.control, answer, writer);
+    match after(told, writer) {
+        Ok(Goes::On) => said(staff(hires, session, writer)),
+        done => done,
+    }
+}
+
+// Loads the unit of a text.
+fn load<T: Wait, H: Hires, W: Write>(
+    rt: &T,
+    hires: &H,
+    session: &mut Session,
+    text: &str,
+    writer: &mut W,
+) -> Result<Goes, Failure> {
+    match unit_of(session.alloc, session.control.catalogue(), text) {
+        Ok(Unit { shape, bodies }) => {
+            let answer = session.control.load(rt, shape, bodies);
+            welcome(hires, session, answer, writer)
+        }
+        Err(what) => complain(session.alloc, what, writer),
+    }
+}
+
+// Loads the unit of the text that follows; the end of input before its last line ends the run.
+fn load_next<T: Wait, H: Hires, R: Read, W: Write>(
+    rt: &T,
+    hires: &H,
+    session: &mut Session,
+    input: &mut Input,
+    reader: &mut R,
+    writer: &mut W,
+) -> Result<Goes, Failure> {
+    match input.unit_text(reader) {
+        Ok(Some(text)) => load(rt, hires, session, text.as_str(), writer),
+        Ok(None) => Ok(Goes::Out),
+        Err(fault) => Err(of_input(fault)),
+    }
+}
+
+// What comes after a command line that did this.
+fn after<W: Write>(next: Result<Next, LineFault>, writer: &mut W) -> Result<Goes, Failure> {
+    match next {
+        Ok(Next::Quit) | Err(LineFault::Worn) => Ok(Goes::Out),
+        Ok(_) => Ok(Goes::On),
+        Err(LineFault::NoMemory) => said(put(writer, "nomemory\n")),
+        Err(LineFault::Write) => Err(not_written()),
+    }
+}
+
+/// Carries out a command line.
+pub(crate) fn command<T: Wait, H: Hires, R: Read, W: Write>(
+    rt: &T,
+    hires: &H,
+    session: &mut Session,
+    input: &mut Input,
+    reader: &mut R,
+    writer: &mut W,
+    line: &str,
+) -> Result<Goes, Failure> {
+    let next = Shell::new(session.alloc).line(rt, &mut session.control, line, writer);
+    match next {
+        Ok(Next::Load) => load_next(rt, hires, session, input, reader, writer),
+        Ok(Next::Raise(line)) => said(raise(rt, session, line, writer)),
+        next => after(next, writer),
+    }
+}
