@@ -6,7 +6,7 @@ ghost use Rattle.rv_play.specs.Scripted.{outcome_of};
 ghost use Rattle.rv_check.specs.Checks.{KeepsRefused, outcome_of as checked};
 
 use rv_fault::Failure;
-use rv_run::Hires;
+use rv_staff::Hires;
 use std::alloc::Global;
 use std::io::{Read, Write};
 use std::sync::Wait;

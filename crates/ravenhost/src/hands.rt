@@ -1,21 +1,18 @@
 //! The threads of `run`: each runs a job that is boxed in `main`.
 
-ghost use Rattle.std.specs.Prelude.{◌≡◌, IfErr, OnOk};
-ghost use Rattle.rv_crew.specs.Crews.{with_started};
-ghost use Rattle.rv_run.specs.Hiring.{IsHireFault};
+ghost use Rattle.std.specs.Prelude.{◌≡◌};
+ghost use Rattle.rv_staff.specs.Hiring.{hired};
 
 use rv_crew::crew::{Crew, StartFault};
 use rv_crew::job::Job;
 use rv_port::port::Port;
-use rv_run::work::Work;
-use rv_run::{HireFault, Hires};
+use rv_staff::{HireFault, Hires, Work};
 use std::thread::Threads;
 
 /// Starts the thread of a job; where that fails, job and port are let go.
 pub fn start<R: Threads>(rt: &R, crew: &mut Crew, job: Job, port: Port) -> Result<(), HireFault>
     requires { port.actor ≡ job.actor }
-    ensures ok { OnOk result (crew.new ≡ with_started crew.old port) }
-    ensures err { IfErr result (λ fault. IsHireFault crew.old port crew.new fault) }
+    ensures { crew.new ≡ hired crew.old port result }
 {
     match crew.start(rt, job, port) {
         Ok(()) => Ok(()),
@@ -26,15 +23,17 @@ pub fn start<R: Threads>(rt: &R, crew: &mut Crew, job: Job, port: Port) -> Resul
 
 /// Starts threads by a closure of `main`, which boxes their jobs.
 #[derive(Drop)]
-pub struct Hands<F> {
+pub struct Hands {
     /// The closure.
-    pub begin: F,
+    pub begin: Box<dyn Fn(&mut Crew, Port, Work) -> Result<(), HireFault> + Send>,
+    pub ghost callable: { (crew : _) (port : _) (work : _) → pre begin crew port work },
+    pub ghost starts: { (crew : _) (port : _) (work : _) (result : _) (after : _)
+        → post begin crew port work result after → after.now ≡ hired crew.now port result },
 }
 
-impl<F: Fn(&mut Crew, Port, Work) -> Result<(), HireFault>> Hires for Hands<F> {
+impl Hires for Hands {
     fn hire(&self, crew: &mut Crew, port: Port, work: Work) -> Result<(), HireFault>
-        ensures ok { OnOk result (crew.new ≡ with_started crew.old port) }
-        ensures err { IfErr result (λ fault. IsHireFault crew.old port crew.new fault) }
+        ensures { crew.new ≡ hired crew.old port result }
     {
         (self.begin)(crew, port, work)
     }

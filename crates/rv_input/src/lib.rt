@@ -2,8 +2,6 @@
 //! come, and no more is waited for than a line needs.
 #![tactic(auto)]
 
-#[cfg(test)]
-mod coming;
 mod input;
 
-pub use input::{Input, InputFault, Preamble};
+pub use input::{Input, InputFault, MOST_BYTES, Preamble};

@@ -1,18 +1,16 @@
 //! The commands of the operator.
 
-use crate::hires::Hires;
 use crate::journal::not_written;
 use crate::loads::unit_of;
-use crate::raising::raise;
-use crate::session::Session;
-use crate::staffing::staff;
 use rv_event::entry::Answer;
-use rv_fault::{Failure, What, put};
+use rv_fault::{Failure, What};
 use rv_input::{Input, InputFault};
 use rv_shell::{LineFault, Next, Shell};
+use rv_staff::{Hires, Session, raise, say, start_threads};
 use rv_turn::Worn;
 use rv_unit::Unit;
 use std::alloc::{AllocError, Global};
+use std::io;
 use std::io::{Read, Write};
 use std::sync::Wait;
 
@@ -26,10 +24,10 @@ pub(crate) enum Goes {
 }
 
 // The run goes on where a word was written.
-fn said(written: Result<(), Failure>) -> Result<Goes, Failure> {
+fn said(written: io::Result<()>) -> Result<Goes, Failure> {
     match written {
         Ok(()) => Ok(Goes::On),
-        Err(failure) => Err(failure),
+        Err(e) => Err(Failure::Io(e)),
     }
 }
 
@@ -49,11 +47,11 @@ fn fault_line(alloc: Global, what: What) -> Result<String, AllocError> {
 // Says what is wrong with a unit text, or that memory was refused.
 fn complain<W: Write>(alloc: Global, what: Option<What>, writer: &mut W) -> Result<Goes, Failure> {
     let Some(what) = what else {
-        return said(put(writer, "nomemory\n"));
+        return said(say(writer, "nomemory\n"));
     };
     match fault_line(alloc, what) {
-        Ok(line) => said(put(writer, line.as_str())),
-        Err(_) => said(put(writer, "nomemory\n")),
+        Ok(line) => said(say(writer, line.as_str())),
+        Err(_) => said(say(writer, "nomemory\n")),
     }
 }
 
@@ -64,9 +62,11 @@ fn welcome<H: Hires, W: Write>(
     answer: Result<Answer, Worn>,
     writer: &mut W,
 ) -> Result<Goes, Failure> {
-    let told = Shell::new(session.alloc).tell(&session.control, answer, writer);
+    let told = session
+        .staff
+        .tell(&Shell::new(session.alloc), answer, writer);
     match after(told, writer) {
-        Ok(Goes::On) => said(staff(hires, session, writer)),
+        Ok(Goes::On) => said(start_threads(hires, session, writer)),
         done => done,
     }
 }
@@ -79,9 +79,9 @@ fn load<T: Wait, H: Hires, W: Write>(
     text: &str,
     writer: &mut W,
 ) -> Result<Goes, Failure> {
-    match unit_of(session.alloc, session.control.catalogue(), text) {
+    match unit_of(session.alloc, session.staff.catalogue(), text) {
         Ok(Unit { shape, bodies }) => {
-            let answer = session.control.load(rt, shape, bodies);
+            let answer = session.staff.load(rt, shape, bodies);
             welcome(hires, session, answer, writer)
         }
         Err(what) => complain(session.alloc, what, writer),
@@ -109,7 +109,7 @@ fn after<W: Write>(next: Result<Next, LineFault>, writer: &mut W) -> Result<Goes
     match next {
         Ok(Next::Quit) | Err(LineFault::Worn) => Ok(Goes::Out),
         Ok(_) => Ok(Goes::On),
-        Err(LineFault::NoMemory) => said(put(writer, "nomemory\n")),
+        Err(LineFault::NoMemory) => said(say(writer, "nomemory\n")),
         Err(LineFault::Write) => Err(not_written()),
     }
 }
@@ -124,7 +124,8 @@ pub(crate) fn command<T: Wait, H: Hires, R: Read, W: Write>(
     writer: &mut W,
     line: &str,
 ) -> Result<Goes, Failure> {
-    let next = Shell::new(session.alloc).line(rt, &mut session.control, line, writer);
+    let shell = Shell::new(session.alloc);
+    let next = session.staff.line(rt, &shell, line, writer);
     match next {
         Ok(Next::Load) => load_next(rt, hires, session, input, reader, writer),
         Ok(Next::Raise(line)) => said(raise(rt, session, line, writer)),

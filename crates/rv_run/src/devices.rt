@@ -1,6 +1,5 @@
 //! The devices of settings: each becomes a unit of one task, and a job for it.
 
-use crate::session::DeviceJob;
 use rv_event::entry::Answer;
 use rv_fault::{Failure, What, refused};
 use rv_port::control::Control;
@@ -9,6 +8,7 @@ use rv_shape::actor::{Callee, FIRST_TASK};
 use rv_shape::catalogue::Catalogue;
 use rv_shape::shape::UnitShape;
 use rv_shape::task::Task;
+use rv_staff::DeviceJob;
 use rv_turn::Worn;
 use std::alloc::{AllocError, Global};
 use std::sync::Wait;

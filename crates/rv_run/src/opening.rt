@@ -2,11 +2,12 @@
 
 use crate::devices::load_devices;
 use crate::loads::{list_section, load_section};
-use crate::session::Session;
 use rv_fault::{Failure, What, refused};
+use rv_host::host::Host;
 use rv_port::control::Control;
 use rv_script::{Opening, opening_of};
 use rv_settings::{Settings, SettingsFault, read_settings};
+use rv_staff::DeviceJob;
 use rv_text::{Section, Sections};
 use std::alloc::Global;
 use std::sync::Wait;
@@ -58,24 +59,26 @@ fn carry_out_all<R: Wait>(
     Ok(())
 }
 
-/// Carries out sections, and then loads the devices of settings that open at a line.
+/// Carries out sections, and then loads the devices of settings that open at a line, whose jobs are kept.
 pub(crate) fn prepare<R: Wait>(
     rt: &R,
-    session: &mut Session,
+    alloc: Global,
+    control: &mut Control,
+    jobs: &mut Vec<DeviceJob>,
     sections: Sections<'_>,
     line: usize,
     settings: &Settings,
 ) -> Result<(), Failure> {
-    let alloc = session.alloc;
-    match carry_out_all(rt, alloc, &mut session.control, sections) {
-        Ok(()) => load_devices(
-            rt,
-            alloc,
-            &mut session.control,
-            &mut session.devices,
-            line,
-            settings.devices(),
-        ),
+    match carry_out_all(rt, alloc, control, sections) {
+        Ok(()) => load_devices(rt, alloc, control, jobs, line, settings.devices()),
         Err(failure) => Err(failure),
     }
+}
+
+/// The control of a host without entries, which may have so many. None where memory was refused.
+pub(crate) fn control_of(alloc: Global, capacity: usize) -> Option<Control> {
+    let Ok(host) = Host::new(alloc, capacity) else {
+        return None;
+    };
+    Control::make(alloc, host).ok()
 }

@@ -1,8 +1,7 @@
 //! How threads are started: by whoever boxes their jobs.
 
-ghost use Rattle.std.specs.Prelude.{◌≡◌, IfErr, OnOk};
-ghost use Rattle.rv_crew.specs.Crews.{with_started};
-ghost use Rattle.rv_run.specs.Hiring.{IsHireFault};
+ghost use Rattle.std.specs.Prelude.{◌≡◌};
+ghost use Rattle.rv_staff.specs.Hiring.{hired};
 
 use crate::work::Work;
 use rv_crew::crew::Crew;
@@ -21,6 +20,5 @@ pub enum HireFault {
 pub trait Hires {
     /// Starts a thread that does the work of a port's actor.
     fn hire(&self, crew: &mut Crew, port: Port, work: Work) -> Result<(), HireFault>
-        ensures ok { OnOk result (crew.new ≡ with_started crew.old port) }
-        ensures err { IfErr result (λ fault. IsHireFault crew.old port crew.new fault) };
+        ensures { crew.new ≡ hired crew.old port result };
 }

@@ -1,0 +1,4 @@
+pub mod Hiring
+pub mod Staffs
+pub mod Ending
+pub mod Saying
