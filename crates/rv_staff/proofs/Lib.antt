@@ -1,1 +1,1 @@
-pub mod Staffing
+pub mod OneTurn

@@ -2,3 +2,4 @@ pub mod Hiring
 pub mod Staffs
 pub mod Ending
 pub mod Saying
+pub mod Giving

@@ -1,13 +1,13 @@
 //! A host that runs: its operator and the crew of its threads, which are of one turn.
 
-ghost use Rattle.std.specs.Prelude.{◌≡◌, IfErr, IfOk, IfSome, MatchResult};
+ghost use Rattle.std.specs.Prelude.{◌≡◌, Err, IfErr, IfOk, IfSome, MatchResult};
 ghost use Rattle.rv_text.specs.Words.{words};
 ghost use Rattle.rv_turn.specs.Passes.{IsWorn};
 ghost use Rattle.rv_port.specs.Events.{catalogue_of};
 ghost use Rattle.rv_port.specs.Ports.{pass_of};
-ghost use Rattle.rv_port.specs.Controls.{IsGiven, LoadTold};
+ghost use Rattle.rv_port.specs.Controls.{Brings, IsGiven, LoadTold};
 ghost use Rattle.rv_shell.specs.Orders.{order_of};
-ghost use Rattle.rv_shell.specs.Serving.{Serves};
+ghost use Rattle.rv_shell.specs.Serving.{Serves, Writes, answer_line};
 ghost use Rattle.rv_staff.specs.Ending.{Closes, Ended};
 ghost use Rattle.rv_staff.specs.Hiring.{hired};
 ghost use Rattle.rv_staff.specs.Staffs.{AreOf, no_crew};
@@ -52,6 +52,7 @@ impl Model for Staff {
 }
 
 // Joins a crew and closes its control. Gives how many entries the journal has.
+#[tactic(auto, using(crate::proofs::OneTurn::joined_turn, crate::proofs::OneTurn::closes))]
 fn close<R: Threads + Wait>(rt: &R, mut crew: Crew, control: Control) -> Option<usize>
     requires { AreOf control crew }
     ensures { IfSome result (Closes control crew) }
@@ -84,6 +85,7 @@ impl Staff {
     }
 
     /// Carries out a command line of the operator.
+    #[tactic(auto, using(crate::proofs::OneTurn::moved))]
     pub fn line<R: Wait, W: Write>(
         &mut self,
         rt: &R,
@@ -98,6 +100,7 @@ impl Staff {
     }
 
     /// Loads a unit as a text gives it.
+    #[tactic(auto, using(crate::proofs::OneTurn::moved, crate::proofs::OneTurn::loads_stay))]
     pub fn load<R: Wait>(
         &mut self,
         rt: &R,
@@ -106,7 +109,7 @@ impl Staff {
     ) -> Result<Answer, Worn>
         ensures told { MatchResult
             result
-            (λ r. LoadTold self.old.control shape (λ u. u ≡ bodies) r self.new.control)
+            (λ r. LoadTold self.old.control shape (λ u. Brings shape bodies u) r self.new.control)
             (λ _. IsWorn self.old.control self.new.control) }
         ensures crew { self.new.crew ≡ self.old.crew }
     {
@@ -119,11 +122,17 @@ impl Staff {
         shell: &Shell,
         answer: Result<Answer, Worn>,
         writer: &mut W,
-    ) -> Result<Next, LineFault> {
+    ) -> Result<Next, LineFault>
+        ensures { MatchResult
+            answer
+            (λ r. Writes (W.contents writer.old) (W.contents writer.new) (answer_line (catalogue_of self.now.control.seen) r) result)
+            (λ _. (result ≡ Err LineFault.Worn) × (W.contents writer.new ≡ W.contents writer.old)) }
+    {
         shell.tell(&self.control, answer, writer)
     }
 
     /// The port of an actor that may have one, and had none.
+    #[tactic(auto, using(crate::proofs::OneTurn::moved, crate::proofs::OneTurn::given_stays, crate::proofs::OneTurn::given_turn))]
     pub fn port(&mut self, actor: u64) -> Result<Port, PortFault>
         ensures given { IfOk result (λ p. IsGiven self.old.control actor self.new.control (pass_of p)) }
         ensures turn { IfOk result (λ p. p.turn ≡ self.new.control.turn) }
@@ -134,6 +143,7 @@ impl Staff {
     }
 
     /// Starts a thread that does some work on a port of this host.
+    #[tactic(auto, using(crate::proofs::OneTurn::hired_stay))]
     pub fn hire<H: Hires>(&mut self, hires: &H, port: Port, work: Work) -> Result<(), HireFault>
         requires { port.turn ≡ self.old.control.turn }
         ensures { self.new ≡ record self.old { crew = hired self.old.crew port result } }
@@ -142,6 +152,7 @@ impl Staff {
     }
 
     /// Halts the host and joins its threads, which have to end then. Gives how many entries the journal has.
+    #[tactic(auto, using(crate::proofs::OneTurn::moved, crate::proofs::OneTurn::halts_stay))]
     pub fn end<R: Threads + Wait>(self, rt: &R) -> Option<usize>
         ensures { IfSome result (Ended self) }
     {

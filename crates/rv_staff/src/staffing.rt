@@ -1,6 +1,7 @@
 //! Threads for the actors that have none yet.
 
-ghost use Rattle.std.specs.Prelude.{◌≡◌};
+ghost use Rattle.std.specs.Prelude.{◌≡◌, ℕ};
+ghost use Rattle.rv_staff.specs.Giving.{Gives, GivesOne};
 
 use crate::hires::{HireFault, Hires};
 use crate::saying::{NO_MEMORY, say, say_no_thread};
@@ -39,6 +40,7 @@ fn hire_line<H: Hires>(
     port: Port,
 ) -> Result<(), HireFault>
     requires { port.turn ≡ session.old.staff.control.turn }
+    ensures { session.new.staff.control ≡ session.old.staff.control }
 {
     if session.channels.reserve(1).is_err() {
         return Err(HireFault::NoMemory);
@@ -63,6 +65,7 @@ fn hire<H: Hires>(
     port: Port,
 ) -> Result<(), HireFault>
     requires { port.turn ≡ session.old.staff.control.turn }
+    ensures { session.new.staff.control ≡ session.old.staff.control }
 {
     if actor < FIRST_TASK {
         return hire_line(hires, session, actor.saturating_sub(1) as u8, port);
@@ -93,7 +96,9 @@ fn staff_one<H: Hires, W: Write>(
     session: &mut Session,
     actor: usize,
     writer: &mut W,
-) -> io::Result<()> {
+) -> io::Result<()>
+    ensures { GivesOne session.old.staff.control session.new.staff.control }
+{
     match session.staff.port(actor as u64) {
         Ok(port) => {
             let hired = hire(hires, session, actor, port);
@@ -110,7 +115,9 @@ pub fn start_threads<H: Hires, W: Write>(
     hires: &H,
     session: &mut Session,
     writer: &mut W,
-) -> io::Result<()> {
+) -> io::Result<()>
+    ensures { (count : ℕ) × Gives count session.old.staff.control session.new.staff.control }
+{
     let count = FIRST_TASK.saturating_add(session.staff.catalogue().tasks());
     for actor in 1..count {
         match staff_one(hires, session, actor, writer) {

@@ -37,9 +37,9 @@ load_stays : (v w : Passing) (shape : Shape) (Such : UnitBodies → Type 0) (r :
 load_stays v w shape Such r (inl told) = ap (λ (p : Passing). p.turn) told.2.2.same
 load_stays v w shape Such r (inr told) = ap (λ (p : Passing). p.turn) told.2.same
 
-pub loads_stay : (v w : Passing) (shape : Shape) (bodies : UnitBodies) (r : Result Answer Spent) → MatchResult r (λ a. LoadTold v shape (λ u. u ≡ bodies) a w) (λ x. IsWorn v w) → w.turn ≡ v.turn
-loads_stay v w shape bodies (Ok a) told = load_stays v w shape (λ u. u ≡ bodies) a told
-loads_stay v w shape bodies (Err x) worn = ap (λ (p : Passing). p.turn) worn.1
+pub loads_stay : (v w : Passing) (shape : Shape) (Such : UnitBodies → Type 0) (r : Result Answer Spent) → MatchResult r (λ a. LoadTold v shape Such a w) (λ x. IsWorn v w) → w.turn ≡ v.turn
+loads_stay v w shape Such (Ok a) told = load_stays v w shape Such a told
+loads_stay v w shape Such (Err x) worn = ap (λ (p : Passing). p.turn) worn.1
 
 -- a port that is given is of the same turn
 pub given_stays : (v w : Passing) (actor : ℕ) (port : Passing) → IsGiven v actor w port → w.turn ≡ v.turn
