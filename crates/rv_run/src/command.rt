@@ -1,5 +1,9 @@
 //! The commands of the operator.
 
+ghost use Rattle.std.specs.Prelude.{◌≡◌, ◌⊎◌, ℕ};
+ghost use Rattle.rv_staff.specs.Giving.{Gives};
+ghost use Rattle.rv_run.specs.Commanding.{Commands, Loads};
+
 use crate::journal::not_written;
 use crate::loads::unit_of;
 use rv_event::entry::Answer;
@@ -61,7 +65,9 @@ fn welcome<H: Hires, W: Write>(
     session: &mut Session,
     answer: Result<Answer, Worn>,
     writer: &mut W,
-) -> Result<Goes, Failure> {
+) -> Result<Goes, Failure>
+    ensures { (count : ℕ) × Gives count session.old.staff.control session.new.staff.control }
+{
     let told = session
         .staff
         .tell(&Shell::new(session.alloc), answer, writer);
@@ -78,7 +84,9 @@ fn load<T: Wait, H: Hires, W: Write>(
     session: &mut Session,
     text: &str,
     writer: &mut W,
-) -> Result<Goes, Failure> {
+) -> Result<Goes, Failure>
+    ensures { (session.new.staff.control ≡ session.old.staff.control) ⊎ Loads session.old.staff.control session.new.staff.control }
+{
     match unit_of(session.alloc, session.staff.catalogue(), text) {
         Ok(Unit { shape, bodies }) => {
             let answer = session.staff.load(rt, shape, bodies);
@@ -96,7 +104,9 @@ fn load_next<T: Wait, H: Hires, R: Read, W: Write>(
     input: &mut Input,
     reader: &mut R,
     writer: &mut W,
-) -> Result<Goes, Failure> {
+) -> Result<Goes, Failure>
+    ensures { (session.new.staff.control ≡ session.old.staff.control) ⊎ Loads session.old.staff.control session.new.staff.control }
+{
     match input.unit_text(reader) {
         Ok(Some(text)) => load(rt, hires, session, text.as_str(), writer),
         Ok(None) => Ok(Goes::Out),
@@ -123,7 +133,9 @@ pub(crate) fn command<T: Wait, H: Hires, R: Read, W: Write>(
     reader: &mut R,
     writer: &mut W,
     line: &str,
-) -> Result<Goes, Failure> {
+) -> Result<Goes, Failure>
+    ensures { Commands (W.contents writer.old) session.old.staff.control session.new.staff.control line.now }
+{
     let shell = Shell::new(session.alloc);
     let next = session.staff.line(rt, &shell, line, writer);
     match next {

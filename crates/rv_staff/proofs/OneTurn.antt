@@ -1,24 +1,25 @@
 -- Threads stay of one turn.
-use Rattle.std.proofs.Common.{◌≡◌, List, [], ◌∷◌, ◌++◌, map, Ok, Err, inl, inr, tt, refl, sym, ap, ◌∙◌, subst, MatchResult, length, ℕ}
+use Rattle.std.proofs.Common.{◌≡◌, List, [], ◌∷◌, ◌++◌, map, Ok, Err, inl, inr, refl, sym, ap, ◌∙◌, subst, MatchResult, ℕ, Option, Some, None, IfSome}
 use Rattle.std.specs.Prelude.{Result}
 use Rattle.atomic_table.specs.Seated.{TableId}
 use Rattle.rv_code.specs.declared.body.UnitBodies.{UnitBodies}
 use Rattle.rv_shape.specs.Shape.{Shape}
 use Rattle.rv_event.specs.declared.entry.Answer.{Answer}
+use Rattle.rv_event.specs.declared.entry.Request.TheVariants as asks
 use Rattle.rv_turn.specs.Histories.{Each}
 use Rattle.rv_turn.specs.Passes.{IsWorn}
 use Rattle.rv_turn.specs.declared.pass.Worn.{Worn as Spent}
 use Rattle.rv_port.specs.Traces.{Passing}
 use Rattle.rv_port.specs.Ports.{Porting, pass_of}
-use Rattle.rv_port.specs.Controls.{IsGiven, LoadTold}
+use Rattle.rv_port.specs.Controls.{IsGiven, LoadTold, Told}
 use Rattle.rv_crew.specs.Teams.{Owed, Team}
-use Rattle.rv_crew.specs.Crews.{IsClosedBy, Joins, told_of}
-use Rattle.rv_crew.specs.declared.crew.Closed.{Closed}
+use Rattle.rv_port.specs.declared.event.Ask.{Ask}
+use Rattle.rv_crew.specs.Crews.{Joins, told_of}
 use Rattle.rv_staff.specs.declared.hires.HireFault.{HireFault}
 use Rattle.rv_staff.specs.declared.hires.HireFault.TheVariants.{NoThread, NoMemory}
 use Rattle.rv_staff.specs.Hiring.{hired}
-use Rattle.rv_staff.specs.Staffs.{AreOf}
-use Rattle.rv_staff.specs.Ending.{Closes, Halts}
+use Rattle.rv_staff.specs.Staffs.{AreOf, Staffed}
+use Rattle.rv_staff.specs.Ending.{Closes, Ended, Halts, Leaves}
 
 -- What the operator does.
 
@@ -73,12 +74,21 @@ joined_turn control crew after are joins =
     subst (λ (l : List Porting). Each (λ (f : Porting). f.turn ≡ control.turn) l) (sym (joins.2 ∙ ap (λ (l : List Porting). l ++ joins.0) are.none_joined))
     (each_back control.turn joins.0 (subst (λ (l : List Owed). Each (λ (o : Owed). o.turn ≡ control.turn) l) (sym joins.1) are.one_turn))
 
-pub closes : (control : Passing) (crew after : Team) (closed : Closed) → AreOf control crew → Joins crew.joined crew.running after.joined
-    → after ≡ record { running = []; joined = after.joined; lost = crew.lost } → IsClosedBy after control closed → Closes control crew (length closed.host.past)
-closes control crew after closed are joins after_is left = record {
+pub closes : (control : Passing) (crew after : Team) (result : Option ℕ) → AreOf control crew → Joins crew.joined crew.running after.joined
+    → after ≡ record { running = []; joined = after.joined; lost = crew.lost } → IfSome result (Leaves control after) → IfSome result (Closes control crew)
+closes control crew after None are joins after_is leaves = leaves
+closes control crew after (Some entries) are joins after_is leaves = record {
   back = after.joined;
   joined = subst (λ (l : List Porting). Joins l crew.running after.joined) are.none_joined joins;
-  closed = closed;
-  left = subst (λ (t : Team). IsClosedBy t control closed) after_is left;
-  counted = refl;
+  leaves = subst (λ (t : Team). Leaves control t entries) after_is leaves;
 }
+
+-- The end.
+
+pub halted : (v w : Passing) (r : Result Answer Spent) → MatchResult r (λ a. Told v (Ask.Step asks.Halt) a w) (λ x. IsWorn v w) → Halts v w
+halted v w (Ok a) told = inl (a, told)
+halted v w (Err x) worn = inr worn
+
+pub ended : (staff : Staffed) (w : Passing) (result : Option ℕ) → Halts staff.control w → IfSome result (Closes w staff.crew) → IfSome result (Ended staff)
+ended staff w None halts closed = closed
+ended staff w (Some entries) halts closed = record { control = w; halted = halts; closes = closed }

@@ -16,14 +16,17 @@ use Rattle.rv_staff.specs.Staffs.{Staffed}
 abbrev pub Halts : Passing → Passing → Type 0
 Halts v w = ((answer : Answer) × Told v (Ask.Step asks.Halt) answer w) ⊎ IsWorn v w
 
--- Each thread is joined, and the host is that at the close of the control and of the ports that came back; its journal has so many
--- entries.
+-- The host is that at the close of the control and of the ports that came back; its journal has so many entries.
+pub record Leaves (control : Passing) (crew : Team) (entries : ℕ) : Type 0 where
+  pub closed : Closed
+  pub left : IsClosedBy crew control closed
+  pub counted : entries ≡ length closed.host.past
+
+-- each thread is joined, and then that is left
 pub record Closes (control : Passing) (crew : Team) (entries : ℕ) : Type 0 where
   pub back : List Porting
   pub joined : Joins [] crew.running back
-  pub closed : Closed
-  pub left : IsClosedBy (record { running = []; joined = back; lost = crew.lost }) control closed
-  pub counted : entries ≡ length closed.host.past
+  pub leaves : Leaves control (record { running = []; joined = back; lost = crew.lost }) entries
 
 -- the host is halted, and then closed
 pub record Ended (staff : Staffed) (entries : ℕ) : Type 0 where

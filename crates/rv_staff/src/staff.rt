@@ -1,14 +1,15 @@
 //! A host that runs: its operator and the crew of its threads, which are of one turn.
 
-ghost use Rattle.std.specs.Prelude.{◌≡◌, Err, IfErr, IfOk, IfSome, MatchResult};
+ghost use Rattle.std.specs.Prelude.{◌≡◌, [], Err, IfErr, IfOk, IfSome, MatchResult};
 ghost use Rattle.rv_text.specs.Words.{words};
+ghost use Rattle.rv_turn.specs.Histories.{Each};
 ghost use Rattle.rv_turn.specs.Passes.{IsWorn};
 ghost use Rattle.rv_port.specs.Events.{catalogue_of};
 ghost use Rattle.rv_port.specs.Ports.{pass_of};
 ghost use Rattle.rv_port.specs.Controls.{Brings, IsGiven, LoadTold};
 ghost use Rattle.rv_shell.specs.Orders.{order_of};
 ghost use Rattle.rv_shell.specs.Serving.{Serves, Writes, answer_line};
-ghost use Rattle.rv_staff.specs.Ending.{Closes, Ended};
+ghost use Rattle.rv_staff.specs.Ending.{Closes, Ended, Leaves};
 ghost use Rattle.rv_staff.specs.Hiring.{hired};
 ghost use Rattle.rv_staff.specs.Staffs.{AreOf, no_crew};
 
@@ -51,17 +52,25 @@ impl Model for Staff {
     ghost invariant = { λ s. AreOf s.control s.crew };
 }
 
+// Closes a control with a crew that is joined. Gives how many entries the journal has.
+fn leave<R: Wait>(rt: &R, crew: Crew, control: Control) -> Option<usize>
+    requires joined { crew.running ≡ [] }
+    requires turn { Each (λ f. f.turn ≡ control.turn) crew.joined }
+    ensures { IfSome result (Leaves control crew) }
+{
+    match crew.close(rt, control) {
+        Ok(closed) => Some(closed.host.used()),
+        Err(_) => None,
+    }
+}
+
 // Joins a crew and closes its control. Gives how many entries the journal has.
-#[tactic(auto, using(crate::proofs::OneTurn::joined_turn, crate::proofs::OneTurn::closes))]
 fn close<R: Threads + Wait>(rt: &R, mut crew: Crew, control: Control) -> Option<usize>
     requires { AreOf control crew }
     ensures { IfSome result (Closes control crew) }
 {
-    if crew.join_all(rt).is_err() {
-        return None;
-    }
-    match crew.close(rt, control) {
-        Ok(closed) => Some(closed.host.used()),
+    match crew.join_all(rt) {
+        Ok(()) => leave(rt, crew, control),
         Err(_) => None,
     }
 }
@@ -152,7 +161,6 @@ impl Staff {
     }
 
     /// Halts the host and joins its threads, which have to end then. Gives how many entries the journal has.
-    #[tactic(auto, using(crate::proofs::OneTurn::moved, crate::proofs::OneTurn::halts_stay))]
     pub fn end<R: Threads + Wait>(self, rt: &R) -> Option<usize>
         ensures { IfSome result (Ended self) }
     {
