@@ -78,6 +78,7 @@ fn welcome<H: Hires, W: Write>(
 }
 
 // Loads the unit of a text.
+#[tactic(auto, using(crate::proofs::Asked::loads_by))]
 fn load<T: Wait, H: Hires, W: Write>(
     rt: &T,
     hires: &H,
@@ -125,6 +126,7 @@ fn after<W: Write>(next: Result<Next, LineFault>, writer: &mut W) -> Result<Goes
 }
 
 /// Carries out a command line.
+#[tactic(auto, using(crate::proofs::Asked::behind_load, crate::proofs::Asked::behind_line))]
 pub(crate) fn command<T: Wait, H: Hires, R: Read, W: Write>(
     rt: &T,
     hires: &H,

@@ -1,5 +1,7 @@
 //! What stands before the commands: settings, units and lists, carried out in order.
 
+ghost use Rattle.std.specs.Prelude.{◌≡◌, []};
+
 use crate::devices::load_devices;
 use crate::loads::{list_section, load_section};
 use rv_fault::{Failure, What, refused};
@@ -75,10 +77,17 @@ pub(crate) fn prepare<R: Wait>(
     }
 }
 
+// The control of a new host.
+fn made(alloc: Global, host: Host) -> Option<Control>
+    requires { host.past ≡ [] }
+{
+    Control::make(alloc, host).ok()
+}
+
 /// The control of a host without entries, which may have so many. None where memory was refused.
 pub(crate) fn control_of(alloc: Global, capacity: usize) -> Option<Control> {
-    let Ok(host) = Host::new(alloc, capacity) else {
-        return None;
-    };
-    Control::make(alloc, host).ok()
+    match Host::new(alloc, capacity) {
+        Ok(host) => made(alloc, host),
+        Err(_) => None,
+    }
 }
