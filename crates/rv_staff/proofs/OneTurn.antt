@@ -10,7 +10,7 @@ use Rattle.rv_turn.specs.Histories.{Each}
 use Rattle.rv_turn.specs.Passes.{IsWorn}
 use Rattle.rv_turn.specs.declared.pass.Worn.{Worn as Spent}
 use Rattle.rv_port.specs.Traces.{Passing}
-use Rattle.rv_port.specs.Ports.{Porting, pass_of}
+use Rattle.rv_port.specs.Ports.{Porting}
 use Rattle.rv_port.specs.Controls.{IsGiven, LoadTold, Told}
 use Rattle.rv_crew.specs.Teams.{Owed, Team}
 use Rattle.rv_port.specs.declared.event.Ask.{Ask}
