@@ -52,7 +52,7 @@ performer_handles shapes a e = record { handled = λ line. by_zero line (eqb a 0
   by_zero line false f = by_test (nat_lt a 11) line f
 
 -- after an act, and after a note was met
-later_entry : (at seen : List Event) (v w : Passing) → StartsWith at v.seen
+pub later_entry : (at seen : List Event) (v w : Passing) → StartsWith at v.seen
     → ((w.seen ≡ at) × (w.own ≡ v.own)) ⊎ ((e : Event) × (by e ≡ v.actor) × (w.seen ≡ at ++ e ∷ []) × (w.own ≡ v.own ++ e ∷ [])) → StartsWith w.seen v.seen
 later_entry at seen v w p t = ⊎_elim (λ x. subst (λ (l : List Event). StartsWith l v.seen) (sym x.0) p)
     (λ x. subst (λ (l : List Event). StartsWith l v.seen) (sym x.2) (starts_both v.seen at (at ++ x.0 ∷ []) p (x.0 ∷ [], refl))) t

@@ -11,7 +11,7 @@ use Rattle.rv_turn.specs.Histories.{mine, StartsWith}
 use Rattle.rv_turn.specs.Passes.{Acted}
 use Rattle.rv_port.specs.Events.{by, history_at, catalogue_of}
 use Rattle.rv_port.specs.Acting.{entered, grown, Does, begun_by}
-use Rattle.rv_port.specs.Traces.{Passing, capacity_in, told, IsTold, asks_on, noted, noted_if, EachInVain, InVain, WoreOut, Went, Asked, Replied}
+use Rattle.rv_port.specs.Traces.{Passing, capacity_in, told, IsTold, asks_on, noted, noted_if, EachInVain, InVain, WoreOut, Went, Asked, Replied, RepliedOnce}
 use Rattle.rv_exec.specs.Asking.{stands}
 use Rattle.rv_turn.specs.Prefixes.{starts_self, starts_both}
 use Rattle.rv_port.specs.declared.event.Begun.{Begun}
@@ -266,9 +266,13 @@ worn_told v w q p = let so : w.own ≡ v.own = ap (λ (k : Passing). k.own) p.0.
 pub answer_told : (v w : Passing) (q : Request) (r t : Answer) (b : Begun) (lent : Option Lent) → Replied v q r b lent w → asks_on r ≡ false → t ≡ told r → Went v ((q, t) ∷ []) w
 answer_told v w q r t b lent x n is = subst (λ (z : Answer). Went v ((q, z) ∷ []) w) (sym is) (asked_went v w q r x.asked n)
 
+none_times : (v : Passing) (q : Request) → (in_vain_none v q).times ≡ []
+unfolding in_vain_none
+none_times v q = refl
+
 -- a step's reply
 abbrev pub IsReplied : Passing → Request → Reply → Passing → Type 0
-IsReplied v q (Gives.Answered r b lent) w = Replied v q r b lent w
+IsReplied v q (Gives.Answered r b lent) w = RepliedOnce v q r b lent w
 IsReplied v q (Gives.Read p) w = ⊥
 IsReplied v q Gives.Unread w = ⊥
 IsReplied v q (Gives.Bodies lent) w = ⊥
@@ -276,11 +280,14 @@ IsReplied v q (Gives.Bodies lent) w = ⊥
 -- one act by a step
 pub replied_step : (v w : Passing) (q : Request) (reply : Reply) → Acted by Does v (Wants.Step q) reply w → IsReplied v q reply w
 unfolding asked_act
-replied_step v w q (Gives.Answered r b lent) a = record {
-  asked = asked_act v w q r a.at a.about a.about_is a.later a.owned a.answer.0 a.answer.1.0.0 a.answer.1.0.1 a.entry a.owns a.some_left a.same;
-  begun_is = a.answer.1.1;
-  lent_is = a.answer.1.2;
-}
+replied_step v w q (Gives.Answered r b lent) a = (
+  record {
+    asked = asked_act v w q r a.at a.about a.about_is a.later a.owned a.answer.0 a.answer.1.0.0 a.answer.1.0.1 a.entry a.owns a.some_left a.same;
+    begun_is = a.answer.1.1;
+    lent_is = a.answer.1.2;
+  },
+  none_times v q,
+)
 replied_step v w q (Gives.Read p) a = absurd a.answer.1
 replied_step v w q Gives.Unread a = absurd a.answer.1
 replied_step v w q (Gives.Bodies lent) a = absurd a.answer.1

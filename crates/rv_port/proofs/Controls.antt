@@ -27,7 +27,7 @@ use Rattle.rv_exec.specs.declared.bodies.SharedUnit.{SharedUnit}
 use Rattle.rv_port.specs.Events.{by, events, log_of, history_at, first_or, first_of, rest_of, no_shape, shapes_of, with_shape, catalogue_of}
 use Rattle.rv_port.specs.Acting.{limits_of, entered, listed as listed_to, Does, Due, Loaded, Unloaded, Changed, IfOperator}
 use Rattle.rv_port.specs.Traces.{Passing}
-use Rattle.rv_port.specs.Controls.{listed, OperatorAlone, IsControl, IsOperators, Told, LoadTold, BeginsWith, no_bodies_of, answer_in}
+use Rattle.rv_port.specs.Controls.{listed, OperatorAlone, IsControl, IsOperators, Told, LoadTold, BeginsWith, numbered_as, BringsIf, Brings, no_bodies_of, answer_in}
 use Rattle.rv_port.specs.declared.event.Ask.{Ask}
 use Rattle.rv_port.specs.declared.event.Ask.TheVariants as Wants
 use Rattle.rv_port.specs.declared.event.Reply.{Reply}
@@ -118,6 +118,7 @@ pub keeps_of : (turn : TableId) (pass : Passing) (given : List ℕ) (catalogue :
 keeps_of turn pass given catalogue k = record {
   first = k.first;
   actor = k.operator;
+  limited = k.limited;
   opening = front_kept pass.base pass.own (ap (mine by 0) (sym k.owns) ∙ (twice pass.seen ∙ k.owns));
   owns = k.owns;
 }
@@ -153,6 +154,7 @@ opened turn h us l = record {
   operator = refl;
   given_is = refl;
   owns = sym (append-nil (mine by 0 (log_of h us)));
+  limited = refl;
   catalogue_is = sym (catalogue_log h us l);
 }
 
@@ -240,6 +242,7 @@ acted_control turn v w given catalogue more k same owns is =
       operator = actor;
       given_is = ap (λ (z : Passing). z.given) same ∙ k.given_is;
       owns = subst (λ (n : ℕ). mine by n w.seen ≡ w.base ++ w.own) actor owns;
+      limited = ap (λ (z : Passing). is_some z.about) same ∙ k.limited;
       catalogue_is = is;
     }
 
@@ -287,6 +290,13 @@ pub such_or_worn : (v w : Passing) (shape : Shape) (P Q : UnitBodies → Type 0)
 such_or_worn v w shape P Q (Ok r) such t = load_such v w shape P Q r such t
 such_or_worn v w shape P Q (Err e) such t = t
 
+-- the bodies that a load brings
+pub brings_given : (shape : Shape) (given unit : UnitBodies) → numbered_as shape (unit_view given) ≡ true → unit ≡ given → Brings shape given unit
+brings_given shape given unit e is = subst (λ (b : Bool). BringsIf b shape given unit) (sym e) is
+
+pub brings_none : (shape : Shape) (given unit : UnitBodies) → numbered_as shape (unit_view given) ≡ false → unit_view unit ≡ no_bodies_of shape → Brings shape given unit
+brings_none shape given unit e is = subst (λ (b : Bool). BringsIf b shape given unit) (sym e) is
+
 -- a load that there is no memory for
 pub none_or_worn : (v w : Passing) (shape : Shape) (P : UnitBodies → Type 0) (answer : Result Answer Worn)
     → MatchResult answer (λ r. Told v (Wants.LoadWithoutMemory shape) r w) (λ _. IsWorn v w) → MatchResult answer (λ r. LoadTold v shape P r w) (λ _. IsWorn v w)
@@ -305,6 +315,7 @@ port_kept turn v w p given catalogue actor acts k t =
       operator = zero;
       given_is = ap (λ (z : Passing). z.given) t.rest ∙ ap (λ (l : List ℕ). actor ∷ l) k.given_is;
       owns = owned ∙ sym (λ i. base i ++ own i);
+      limited = ap (λ (z : Passing). is_some z.about) t.rest ∙ k.limited;
       catalogue_is = k.catalogue_is ∙ same_catalogue v.seen w.seen (k.owns ∙ sym owned);
     }
 
@@ -352,3 +363,7 @@ port_handles turn v w p given catalogue actor acts k t e =
     let after : IsControl turn w (actor ∷ given) catalogue = port_kept turn v w p given catalogue actor acts k t in
     subst (λ (z : List Shape × ℕ). HasHandler z.0 z.1)
     (λ i. ((after.catalogue_is ∙ sym (ap (λ (z : Passing). catalogue_of z.seen) t.new_is)) i, sym (ap (λ (z : Passing). z.actor) t.new_is) i)) (performer_handles catalogue actor e)
+
+-- a port has the control's capacity
+pub port_limited : (turn : TableId) (v w p : Passing) (given : List ℕ) (catalogue : List Shape) (actor acts : ℕ) → IsControl turn v given catalogue → Parted by v actor acts w p → is_some p.about ≡ true
+port_limited turn v w p given catalogue actor acts k t = ap (λ (z : Passing). is_some z.about) t.new_is ∙ k.limited

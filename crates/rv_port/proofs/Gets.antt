@@ -3,7 +3,9 @@ use Rattle.std.proofs.Common.{◌≡◌, ℕ, Bool, true, false, if◌then◌els
 use Rattle.std.specs.Prelude.{ℤ, ◌&&◌, not, ◌-◌, nat_lt, is_some, slice_get}
 use Rattle.rv_event.specs.Recorded.{recorded}
 use Rattle.rv_event.specs.Past.{halted, innermost, stance, scalars, state, mode}
-use Rattle.rv_shape.specs.Catalogue.{OperationNumber, UnitTask, Operator, Line, who, task_of, all_tasks, Target, Nowhere, OnProtected, OnSuspension, target, is_function, handler}
+use Rattle.rv_shape.specs.Catalogue.{OperationNumber, UnitTask, Operator, Line, who, task_of, all_tasks, Site, Target, Nowhere, OnProtected, OnSuspension, target, is_function, is_entry, handles, handler}
+use Rattle.rv_shape.specs.declared.kind.Kind.{Kind}
+use Rattle.rv_shape.specs.declared.kind.Kind.TheVariants.{Function, Procedure, Entry as EntryKind, Handler}
 use Rattle.rv_event.specs.declared.entry.Body.{Body}
 use Rattle.rv_event.specs.declared.entry.Stance.{Stance}
 use Rattle.rv_event.specs.declared.entry.Stance.TheVariants.{Free, InQueue, HandedOver, DroppedBy, WaitsOn, WaitsUntil, Gone}
@@ -17,7 +19,8 @@ use Rattle.rv_event.specs.declared.entry.Answer.{Answer}
 use Rattle.rv_event.specs.declared.entry.Answer.TheVariants as Answers
 use Rattle.rv_history.specs.History.{History, version}
 use Rattle.rv_history.specs.Subject.{subject}
-use Rattle.rv_history.specs.Exclusion.{excluded, is_barred, full_queue}
+use Rattle.rv_history.specs.Exclusion.{excluded, is_barred, is_open, full_queue}
+use Rattle.rv_history.proofs.Handled.{handler_is}
 use Rattle.rv_history.specs.Rules.{decided, breaks}
 use Rattle.rv_history.specs.Fitting.{fits, idle_line}
 use Rattle.rv_history.specs.Owed.{actors}
@@ -26,19 +29,29 @@ use Rattle.rv_port.specs.Actors.{HasHandler}
 use Rattle.rv_history.specs.Due.{out, due, table, gate, within, enough, goes_on, judged, suspended, performed, due_call, due_fire, due_delay, due_end, end_of, due_resume, or_waiting}
 use Rattle.rv_port.specs.Reaching.{Performs}
 
+-- a call of an operation
+abbrev pub calls : Request → Bool
+calls (Call o p vs) = true
+calls q = false
+
+-- a delay
+abbrev pub delays : Request → Bool
+delays (DelayUntil time) = true
+delays q = false
+
 -- the answers that a request that performs something may get
-abbrev pub of_first : Answer → Bool
-of_first (Answers.Started s) = true
-of_first Answers.Queued = true
-of_first (Answers.Refused rule line version) = true
-of_first Answers.Suspended = true
-of_first Answers.Delayed = true
-of_first (Answers.Accepted n) = true
-of_first Answers.Misuse = true
-of_first Answers.Halted = true
-of_first Answers.Full = true
-of_first Answers.Busy = true
-of_first r = false
+abbrev pub of_first : Request → Answer → Bool
+of_first q (Answers.Started s) = true
+of_first q Answers.Queued = calls q
+of_first q (Answers.Refused rule line version) = true
+of_first q Answers.Suspended = calls q
+of_first q Answers.Delayed = delays q
+of_first q (Answers.Accepted n) = true
+of_first q Answers.Misuse = true
+of_first q Answers.Halted = true
+of_first q Answers.Full = true
+of_first q Answers.Busy = true
+of_first q r = false
 
 -- the answers that an end may get
 abbrev pub of_end : Answer → Bool
@@ -74,61 +87,88 @@ within_gets : (P : Answer → Bool) (room : Bool) (r : Answer) → P Answers.Ful
 within_gets P true r f p = p
 within_gets P false r f p = f
 
-judged_gets : (number line : ℕ) (values : List ℤ) (denied blocking reentry above busy barred full : Bool) → of_first (judged number line values denied blocking reentry above busy barred full) ≡ true
-judged_gets number line values true blocking reentry above busy barred full = refl
-judged_gets number line values false true reentry above busy barred full = refl
-judged_gets number line values false false true above busy barred full = refl
-judged_gets number line values false false false true busy barred full = refl
-judged_gets number line values false false false false true barred full = refl
-judged_gets number line values false false false false false true true = refl
-judged_gets number line values false false false false false true false = refl
-judged_gets number line values false false false false false false full = refl
+judged_gets : (o p : ℕ) (vs : List ℤ) (number line : ℕ) (values : List ℤ) (denied blocking reentry above busy barred full : Bool)
+    → of_first (Call o p vs) (judged number line values denied blocking reentry above busy barred full) ≡ true
+judged_gets o p vs number line values true blocking reentry above busy barred full = refl
+judged_gets o p vs number line values false true reentry above busy barred full = refl
+judged_gets o p vs number line values false false true above busy barred full = refl
+judged_gets o p vs number line values false false false true busy barred full = refl
+judged_gets o p vs number line values false false false false true barred full = refl
+judged_gets o p vs number line values false false false false false true true = refl
+judged_gets o p vs number line values false false false false false true false = refl
+judged_gets o p vs number line values false false false false false false full = refl
 
-suspended_gets : (number : ℕ) (blocking waited now : Bool) → of_first (suspended number blocking waited now) ≡ true
-suspended_gets number true waited now = refl
-suspended_gets number false true now = refl
-suspended_gets number false false true = refl
-suspended_gets number false false false = refl
+-- a handler has no barrier
+fired_gets : (number line : ℕ) (values : List ℤ) (denied blocking reentry above busy barred full : Bool) → barred ≡ false
+    → of_first Fire (judged number line values denied blocking reentry above busy barred full) ≡ true
+fired_gets number line values true blocking reentry above busy barred full e = refl
+fired_gets number line values false true reentry above busy barred full e = refl
+fired_gets number line values false false true above busy barred full e = refl
+fired_gets number line values false false false true busy barred full e = refl
+fired_gets number line values false false false false true barred full e = refl
+fired_gets number line values false false false false false true full e = absurd (cc e)
+fired_gets number line values false false false false false false full e = refl
 
-performed_gets : (number : ℕ) (blocking waited now : Bool) (wanted : SuspensionOperation) → of_first (performed number blocking waited now wanted) ≡ true
-performed_gets number blocking waited now SetTrue = refl
-performed_gets number blocking waited now SetFalse = refl
-performed_gets number blocking waited now CurrentState = refl
-performed_gets number blocking waited now SuspendUntilTrue = suspended_gets number blocking waited now
+suspended_gets : (o p : ℕ) (vs : List ℤ) (number : ℕ) (blocking waited now : Bool) → of_first (Call o p vs) (suspended number blocking waited now) ≡ true
+suspended_gets o p vs number true waited now = refl
+suspended_gets o p vs number false true now = refl
+suspended_gets o p vs number false false true = refl
+suspended_gets o p vs number false false false = refl
 
-due_call_gets : (h : History) (a : ℕ) (q : Request) (o : ℕ) (t : Target) → of_first (due_call h a q o t) ≡ true
-due_call_gets h a q o Nowhere = refl
-due_call_gets h a q o (OnProtected site) =
-    let called : Target = OnProtected site in
-    judged_gets (version h) (decided h (subject h a) called) (scalars h.shapes o h.past)
+performed_gets : (o p : ℕ) (vs : List ℤ) (number : ℕ) (blocking waited now : Bool) (wanted : SuspensionOperation) → of_first (Call o p vs) (performed number blocking waited now wanted) ≡ true
+performed_gets o p vs number blocking waited now SetTrue = refl
+performed_gets o p vs number blocking waited now SetFalse = refl
+performed_gets o p vs number blocking waited now CurrentState = refl
+performed_gets o p vs number blocking waited now SuspendUntilTrue = suspended_gets o p vs number blocking waited now
+
+due_call_gets : (h : History) (a o p : ℕ) (vs : List ℤ) (t : Target) → of_first (Call o p vs) (due_call h a (Call o p vs) o t) ≡ true
+due_call_gets h a o p vs Nowhere = refl
+due_call_gets h a o p vs (OnProtected site) =
+    let q : Request = Call o p vs in let called : Target = OnProtected site in
+    judged_gets o p vs (version h) (decided h (subject h a) called) (scalars h.shapes o h.past)
     (breaks h Rules.Grant a q o called) (breaks h Rules.Blocking a q o called) (breaks h Rules.Reentry a q o called) (breaks h Rules.Ceiling a q o called)
     (excluded h o (is_function site.operation.kind)) (is_barred h o site.operation.kind) (full_queue h o)
-due_call_gets h a q o (OnSuspension unit name wanted) =
-    let called : Target = OnSuspension unit name wanted in
-    if_gets of_first (breaks h Rules.Grant a q o called) _ _ refl
-    (performed_gets (version h) (breaks h Rules.Blocking a q o called) (breaks h Rules.Waiter a q o called) (state o h.past) wanted)
+due_call_gets h a o p vs (OnSuspension unit name wanted) =
+    let q : Request = Call o p vs in let called : Target = OnSuspension unit name wanted in
+    if_gets (of_first q) (breaks h Rules.Grant a q o called) _ _ refl
+    (performed_gets o p vs (version h) (breaks h Rules.Blocking a q o called) (breaks h Rules.Waiter a q o called) (state o h.past) wanted)
 
-due_fire_gets : (h : History) (a : ℕ) (n : Option OperationNumber) → is_some n ≡ true → of_first (due_fire h a n) ≡ true
-due_fire_gets h a None e = absurd (cc e)
-due_fire_gets h a (Some n) e = due_call_gets h a Fire n.object (target h.shapes n.object n.operation)
+handler_no_entry : (line : ℕ) (kind : Kind) → handles line kind ≡ true → is_entry kind ≡ false
+handler_no_entry line (Function range) e = refl
+handler_no_entry line Procedure e = refl
+handler_no_entry line (EntryKind barrier) e = absurd (cc e)
+handler_no_entry line (Handler on) e = refl
 
-delay_gets : (h : History) (blocking over : Bool) → of_first (due_delay h blocking over) ≡ true
-delay_gets h true over = refl
-delay_gets h false true = refl
-delay_gets h false false = refl
+fire_site : (h : History) (a o : ℕ) (site : Site) → is_entry site.operation.kind ≡ false → of_first Fire (due_call h a Fire o (OnProtected site)) ≡ true
+fire_site h a o site e =
+    let called : Target = OnProtected site in
+    fired_gets (version h) (decided h (subject h a) called) (scalars h.shapes o h.past)
+    (breaks h Rules.Grant a Fire o called) (breaks h Rules.Blocking a Fire o called) (breaks h Rules.Reentry a Fire o called) (breaks h Rules.Ceiling a Fire o called)
+    (excluded h o (is_function site.operation.kind)) (is_barred h o site.operation.kind) (full_queue h o) (ap (λ (b : Bool). b && not (is_open h o)) e)
+
+due_fire_gets : (h : History) (a line : ℕ) (n : Option OperationNumber) → handler h.shapes line ≡ n → is_some n ≡ true → of_first Fire (due_fire h a n) ≡ true
+due_fire_gets h a line None is e = absurd (cc e)
+due_fire_gets h a line (Some n) is e =
+    let k = handler_is h.shapes line n is in
+    ap (λ (t : Target). of_first Fire (due_call h a Fire n.object t)) k.at ∙ fire_site h a n.object k.site (handler_no_entry line k.site.operation.kind k.kind)
+
+delay_gets : (h : History) (time : ℤ) (blocking over : Bool) → of_first (DelayUntil time) (due_delay h blocking over) ≡ true
+delay_gets h time true over = refl
+delay_gets h time false true = refl
+delay_gets h time false false = refl
 
 -- what is due to a request that performs something, before the room is asked
-shut_gets : (h : History) (a : ℕ) (q : Request) → of_first (table h a q) ≡ true → of_first (out h a q) ≡ true
+shut_gets : (h : History) (a : ℕ) (q : Request) → of_first q (table h a q) ≡ true → of_first q (out h a q) ≡ true
 shut_gets h a q t =
-    within_gets of_first (enough h a q (recorded (due h a q))) (due h a q) refl
-    (gate_gets of_first (fits h a q) (halted h.past && not (goes_on q)) (table h a q) refl refl t)
+    within_gets (of_first q) (enough h a q (recorded (due h a q))) (due h a q) refl
+    (gate_gets (of_first q) (fits h a q) (halted h.past && not (goes_on q)) (table h a q) refl refl t)
 
 -- who is no line can't fire
 no_fire : (h : History) (a : ℕ) (task : Option UnitTask) (m : Mode) → idle_line (task_of task) m ≡ false
 no_fire h a None m = refl
 no_fire h a (Some t) m = refl
 
-misuse_gets : (room : Bool) (shut : Bool) (r : Answer) (fit : Bool) → fit ≡ false → of_first (within room (gate fit shut r)) ≡ true
+misuse_gets : (room : Bool) (shut : Bool) (r : Answer) (fit : Bool) → fit ≡ false → of_first Fire (within room (gate fit shut r)) ≡ true
 misuse_gets true shut r false e = refl
 misuse_gets false shut r false e = refl
 misuse_gets room shut r true e = absurd (cc e)
@@ -147,15 +187,15 @@ who_fires h a m e = by_zero (eqb a 0) refl where
   by_zero true z = refl
   by_zero false z = by_test (nat_lt a 11) e
 
-fire_gets : (h : History) (a : ℕ) (b : Bool) → b ≡ nat_lt a 11 → (b ≡ true → is_some (handler h.shapes (a - 1)) ≡ true) → of_first (out h a Fire) ≡ true
-fire_gets h a true is has = shut_gets h a Fire (due_fire_gets h a (handler h.shapes (a - 1)) (has refl))
+fire_gets : (h : History) (a : ℕ) (b : Bool) → b ≡ nat_lt a 11 → (b ≡ true → is_some (handler h.shapes (a - 1)) ≡ true) → of_first Fire (out h a Fire) ≡ true
+fire_gets h a true is has = shut_gets h a Fire (due_fire_gets h a (a - 1) (handler h.shapes (a - 1)) refl (has refl))
 fire_gets h a false is has =
     misuse_gets (enough h a Fire (recorded (due h a Fire))) (halted h.past && true) (table h a Fire) (fits h a Fire)
     (and_not (nat_lt a (actors h.shapes)) (idle_line (who h.shapes a) (mode h.shapes a h.past)) (who_fires h a (mode h.shapes a h.past) (sym is)))
 
-pub first_gets : (h : History) (a : ℕ) (q : Request) → HasHandler h.shapes a → Performs q → of_first (out h a q) ≡ true
-first_gets h a (Call o p vs) has t = shut_gets h a (Call o p vs) (due_call_gets h a (Call o p vs) o (target h.shapes o p))
-first_gets h a (DelayUntil time) has t = shut_gets h a (DelayUntil time) (delay_gets h _ _)
+pub first_gets : (h : History) (a : ℕ) (q : Request) → HasHandler h.shapes a → Performs q → of_first q (out h a q) ≡ true
+first_gets h a (Call o p vs) has t = shut_gets h a (Call o p vs) (due_call_gets h a o p vs (target h.shapes o p))
+first_gets h a (DelayUntil time) has t = shut_gets h a (DelayUntil time) (delay_gets h time _ _)
 first_gets h a Clock has t = shut_gets h a Clock refl
 first_gets h a Fire has t = fire_gets h a (nat_lt a 11) refl has.handled
 first_gets h a (Complete vs x) has t = absurd t

@@ -27,7 +27,6 @@ use Rattle.rv_history.specs.Due.{out, due, table, gate, within, enough, goes_on,
 use Rattle.rv_history.proofs.Answered.{answered}
 use Rattle.rv_turn.specs.Histories.{StartsWith}
 use Rattle.rv_port.specs.Events.{mark, marks, lists_of}
-use Rattle.rv_port.specs.Calls.{IsWait}
 use Rattle.rv_port.specs.Later.{lists_seen, version_seen, NoEarlierList}
 use Rattle.rv_port.specs.declared.event.Event.{Event}
 use Rattle.rv_port.specs.declared.event.Event.TheVariants.{Asks, Loads, Lists}
@@ -148,16 +147,9 @@ own_first : (b : Bool) (t s : Stance) → b ≡ true → is_handed t ≡ false �
 own_first true t s e n = n
 own_first false t s e n = absurd (cc e)
 
--- one that waits hasn't been handed the object yet
-pub waits_still : (a : ℕ) (q : Request) (wait : Recorded) (past : List Event) → IsWait wait → is_handed (stance a (marks (Asks a q wait ∷ past))) ≡ false
-waits_still a q Words.Queued past t = own_first (eqb a a) _ (stance a (marks past)) (itself a) (own_not_handed a q Words.Queued)
-waits_still a q Words.Suspended past t = own_first (eqb a a) _ (stance a (marks past)) (itself a) (own_not_handed a q Words.Suspended)
-waits_still a q Words.Delayed past t = own_first (eqb a a) _ (stance a (marks past)) (itself a) (own_not_handed a q Words.Delayed)
-waits_still a q Words.Started past t = absurd t
-waits_still a q (Words.Refused rule line version) past t = absurd t
-waits_still a q (Words.Done next) past t = absurd t
-waits_still a q Words.Woken past t = absurd t
-waits_still a q (Words.Accepted value) past t = absurd t
+-- one that was queued hasn't been handed the object yet
+pub waits_still : (a o p : ℕ) (vs : List ℤ) (past : List Event) → is_handed (stance a (marks (Asks a (Call o p vs) Words.Queued ∷ past))) ≡ false
+waits_still a o p vs past = own_first (eqb a a) _ (stance a (marks past)) (itself a) refl
 
 -- Drops
 
@@ -165,24 +157,17 @@ if_some : (b : Bool) (t : Stance) (past rest : List Entry) → b ≡ true → (i
 if_some true t past rest e = refl
 if_some false t past rest e = absurd (cc e)
 
-since_own : (a : ℕ) (q : Request) (wait : Recorded) (past : List Event) → IsWait wait → until_then a (marks (Asks a q wait ∷ past)) ≡ marks past
-since_own a q Words.Queued past t = if_some (eqb a a) (stance_of (Asked a q Words.Queued)) (marks past) (until_then a (marks past)) (itself a)
-since_own a q Words.Suspended past t = if_some (eqb a a) (stance_of (Asked a q Words.Suspended)) (marks past) (until_then a (marks past)) (itself a)
-since_own a q Words.Delayed past t = if_some (eqb a a) (stance_of (Asked a q Words.Delayed)) (marks past) (until_then a (marks past)) (itself a)
-since_own a q Words.Started past t = absurd t
-since_own a q (Words.Refused rule line version) past t = absurd t
-since_own a q (Words.Done next) past t = absurd t
-since_own a q Words.Woken past t = absurd t
-since_own a q (Words.Accepted value) past t = absurd t
+since_own : (a o p : ℕ) (vs : List ℤ) (past : List Event) → until_then a (marks (Asks a (Call o p vs) Words.Queued ∷ past)) ≡ marks past
+since_own a o p vs past = if_some (eqb a a) (stance_of (Asked a (Call o p vs) Words.Queued)) (marks past) (until_then a (marks past)) (itself a)
 
 either : (b : Bool) (n : ℕ) (one two : List Entry) → n ≤ changes one → n ≤ changes two → n ≤ changes (if b then one else two)
 either true n one two p q = p
 either false n one two p q = q
 
 -- a drop comes after the wait began
-pub dropped_later : (a : ℕ) (es : List Event) (q : Request) (wait : Recorded) (past : List Event) → IsWait wait → changes (marks past) ≤ changes (until_then a (marks (es ++ Asks a q wait ∷ past)))
-dropped_later a [] q wait past t = subst (λ (l : List Entry). changes (marks past) ≤ changes l) (sym (since_own a q wait past t)) (omega arith)
-dropped_later a (e ∷ es) q wait past t = either (is_some (said a (mark e))) _ _ _ (changes_more es (Asks a q wait ∷ past)) (dropped_later a es q wait past t)
+pub dropped_later : (a o p : ℕ) (vs : List ℤ) (es past : List Event) → changes (marks past) ≤ changes (until_then a (marks (es ++ Asks a (Call o p vs) Words.Queued ∷ past)))
+dropped_later a o p vs [] past = subst (λ (l : List Entry). changes (marks past) ≤ changes l) (sym (since_own a o p vs past)) (omega arith)
+dropped_later a o p vs (e ∷ es) past = either (is_some (said a (mark e))) _ _ _ (changes_more es (Asks a (Call o p vs) Words.Queued ∷ past)) (dropped_later a o p vs es past)
 
 -- What a resume is answered
 

@@ -4,7 +4,11 @@ pub mod Actors
 pub mod Asking
 pub mod Gets
 pub mod Later
+pub mod Resuming
 pub mod Performing
+pub mod Tying
 pub mod Controls
+pub mod Bodies
 pub mod Closings
 pub mod Texts
+pub mod Sends

@@ -2,7 +2,7 @@
 use Rattle.std.specs.Prelude.{◌≡◌, ◌⊎◌, ℕ, ℤ, ◌≤◌, nat_lt, Bool, true, false, List, [], ◌∷◌, ◌++◌, Option, Some, None}
 use Rattle.rv_code.specs.Bodies.{UnitBodies}
 use Rattle.rv_event.specs.declared.entry.Request.{Request}
-use Rattle.rv_event.specs.declared.entry.Request.TheVariants.{Complete, Resume, Quit}
+use Rattle.rv_event.specs.declared.entry.Request.TheVariants.{Call, Complete, Resume, DelayUntil, Quit}
 use Rattle.rv_event.specs.declared.entry.Exit.{Exit}
 use Rattle.rv_event.specs.declared.entry.Exit.TheVariants as Exits
 use Rattle.rv_event.specs.declared.entry.Answer.{Answer}
@@ -24,7 +24,7 @@ use Rattle.rv_turn.specs.Histories.{StartsWith}
 use Rattle.rv_port.specs.Traces.{Passing, Trace, noted, WoreOut, Went, Asked, asks_on}
 use Rattle.rv_port.specs.Acting.{IsLent}
 use Rattle.rv_port.specs.Bodies.{Runs}
-use Rattle.rv_port.specs.Reaching.{arguments_of, reads, values_of, plain_of, end_of, reached_by, waited_for}
+use Rattle.rv_port.specs.Reaching.{arguments_of, reads, values_of, plain_of, end_of, reached_by, waits_on, waited_for}
 
 -- the pass's own events have grown, if at all (own)
 abbrev pub Grown : Passing → Passing → Type 0
@@ -93,63 +93,75 @@ Performed v mark q reached w after =
     ⊎ ((r : Answer) × (u : Passing) × (x : Asked v q r u) × (asks_on r ≡ false)
     × Followed r x.at (called (catalogue_of x.at) v.actor q) u mark q reached w after)
 
+-- one request, asked once: none was in vain before (own)
+abbrev pub AskedOnce : Passing → Request → Answer → Passing → Type 0
+AskedOnce v q r w = (x : Asked v q r w) × (x.in_vain.times ≡ [])
+
 -- the end of a port: a line asks nothing, a task asks Quit, once, where an act is left (own)
 abbrev pub QuitBy : Bool → Passing → Passing → Type 0
 QuitBy true v w = w ≡ v
-QuitBy false v w = ((v.left ≡ 0) × (w ≡ v)) ⊎ ((r : Answer) × Asked v Quit r w)
+QuitBy false v w = ((v.left ≡ 0) × (w ≡ v)) ⊎ ((r : Answer) × AskedOnce v Quit r w)
 
 abbrev pub Quits : Passing → Passing → Type 0
 Quits v w = QuitBy (nat_lt v.actor first_task) v w
 
 -- What is reached, by the pass's own events
 
--- by what a request waits, as it is recorded (9.5.3, 9.6, D.10)
-abbrev pub IsWait : Recorded → Type 0
-IsWait Words.Queued = Unit {0}
-IsWait Words.Suspended = Unit {0}
-IsWait Words.Delayed = Unit {0}
-IsWait word = ⊥
+-- by what a request waits that starts no body, as it is recorded: a call of Suspend_Until_True, and a delay (9.6, D.10)
+abbrev pub IsPause : Request → Recorded → Type 0
+IsPause (Call object operation values) Words.Suspended = Unit {0}
+IsPause (DelayUntil time) Words.Delayed = Unit {0}
+IsPause q word = ⊥
 
--- the answer to the request is the last of the pass's own events, or after a wait that to its resume, and nothing else is
--- new (own)
+-- the answer to the request is the last of the pass's own events, or after a wait in a queue that to its resume, and nothing
+-- else is new (own)
 abbrev pub Answered : Passing → Request → Recorded → Passing → Type 0
 Answered v q word w =
     (w.own ≡ v.own ++ Asks v.actor q word ∷ [])
-    ⊎ ((wait : Recorded) × IsWait wait × (w.own ≡ v.own ++ Asks v.actor q wait ∷ Asks v.actor Resume word ∷ []))
+    ⊎ (w.own ≡ v.own ++ Asks v.actor q Words.Queued ∷ Asks v.actor Resume word ∷ [])
 
--- the call's own first events: it started, or it waited and was woken (own)
-abbrev pub Opens : ℕ → Request → List Event → Type 0
-Opens a q first =
-    (first ≡ Asks a q Words.Started ∷ [])
-    ⊎ ((wait : Recorded) × IsWait wait × (first ≡ Asks a q wait ∷ Asks a Resume Words.Woken ∷ []))
+-- the end of a body that hands its object over to an actor (9.5.3)
+abbrev pub HandsOver : ℕ → Event → Type 0
+HandsOver a e = (b : ℕ) × (r : Request) × (e ≡ Asks b r (Words.Done (HandedTo a)))
 
--- the start of an actor's call: its own entry, or the end of another's body that hands the object over to it (9.5.3)
-abbrev pub IsStart : ℕ → Request → Event → Type 0
-IsStart a q e = (e ≡ Asks a q Words.Started) ⊎ ((b : ℕ) × (r : Request) × (e ≡ Asks b r (Words.Done (HandedTo a))))
+-- A call's own first events, and the start of its body: it was answered Started, which is the start; or it waited in a queue
+-- and was woken, and the start is the end of another's body that handed the object over (9.5.1, 9.5.3)
+abbrev pub Opens : ℕ → Request → List Event → Event → Type 0
+Opens a q first start =
+    ((first ≡ Asks a q Words.Started ∷ []) × (start ≡ Asks a q Words.Started))
+    ⊎ ((first ≡ Asks a q Words.Queued ∷ Asks a Resume Words.Woken ∷ []) × HandsOver a start)
 
 -- this is new in what was seen (own)
 abbrev pub IsNew : Event → List Event → List Event → Type 0
 IsNew e before after = (more : List Event) × (rest : List Event) × (after ≡ before ++ (more ++ e ∷ rest))
 
+-- A body of the call has started, and asked this: the call's first events and what the body asked are the growth of the
+-- pass's own events, and the start is new in what was seen. (own)
+pub record InBody (v : Passing) (q : Request) (asked : Trace) (u : Passing) : Type 0 where
+  pub first : List Event
+  pub start : Event
+  pub opens : Opens v.actor q first start
+  pub is_new : IsNew start v.seen u.seen
+  pub own_is : u.own ≡ v.own ++ (first ++ noted v.actor asked)
+
 -- A body of the call ended by this exit: the call's first events, what the body asked, and the end are the growth of the
 -- pass's own events, and the start is new in what was seen. (own)
 pub record EndedBy (v : Passing) (q : Request) (exit : Exit) (w : Passing) : Type 0 where
   pub first : List Event
-  pub opens : Opens v.actor q first
+  pub start : Event
+  pub opens : Opens v.actor q first start
+  pub is_new : IsNew start v.seen w.seen
   pub asked : Trace
   pub scalars : List ℤ
   pub next : Next
   pub own_is : w.own ≡ v.own ++ (first ++ (noted v.actor asked ++ Asks v.actor (Complete scalars exit) (Words.Done next) ∷ []))
-  pub start : Event
-  pub is_start : IsStart v.actor q start
-  pub is_new : IsNew start v.seen w.seen
 
 -- an end with these values, or an answer without a body: Accepted, with the value that was read, or Woken (own)
 abbrev pub Back : Passing → Request → List ℤ → Passing → Type 0
 Back v q values w =
     EndedBy v q (Exits.Return values) w
     ⊎ (((value : ℤ) × (values ≡ values_of (reads q) value) × (w.own ≡ v.own ++ Asks v.actor q (Words.Accepted value) ∷ []))
-    ⊎ ((wait : Recorded) × IsWait wait × (values ≡ [])
+    ⊎ ((wait : Recorded) × IsPause q wait × (values ≡ [])
     × (w.own ≡ v.own ++ Asks v.actor q wait ∷ Asks v.actor Resume Words.Woken ∷ [])))
 
 -- the answer to the last ask stops the call: the host is halted or has no room, or a body's end doesn't fit (own)
@@ -159,19 +171,28 @@ stops_at request Answers.Full = true
 stops_at (Complete scalars exit) Answers.Misuse = true
 stops_at request answer = false
 
--- why a call stopped: no act was left, or the last ask was answered so, or the body itself exited by stopped (own)
-abbrev pub StoppedBy : Passing → Request → Passing → Type 0
-StoppedBy v q w =
-    (w.left ≡ 0)
-    ⊎ (((u : Passing) × (r : Request) × (d : Answer) × Asked u r d w × (stops_at r d ≡ true)) ⊎ EndedBy v q Exits.Stopped w)
+-- the last ask of a call: the request itself; its resume, where the answer was to wait; or the end of its body (own)
+abbrev pub LastAsk : Passing → Request → Passing → Request → Type 0
+LastAsk v q u r =
+    ((u ≡ v) × (r ≡ q))
+    ⊎ (((d : Answer) × Asked v q d u × (waits_on d ≡ true) × (r ≡ Resume))
+    ⊎ ((asked : Trace) × InBody v q asked u × (scalars : List ℤ) × (exit : Exit) × (r ≡ Complete scalars exit)))
+
+-- the last ask of a call found no act left, or its answer stops the call (own)
+pub record StoppedAsking (v : Passing) (q : Request) (w : Passing) : Type 0 where
+  pub asker : Passing
+  pub same : Stays v asker
+  pub request : Request
+  pub last : LastAsk v q asker request
+  pub reason : WoreOut asker request w ⊎ ((d : Answer) × Asked asker request d w × (stops_at request d ≡ true))
 
 -- What is reached, by the pass's own last event: a refusal is that very answer, by the list in force in what had been seen or
 -- by a later one; values and exceptions are those of the end of the call's body, or of an answer that starts none. Misuse
--- was the answer to the request or to its resume; a stop has its reason. (own)
+-- is the answer to the request, and nothing is new. A call stops at its last ask, or its body exited by stopped. (own)
 abbrev pub Tied : Passing → Request → Reached → Passing → Type 0
 Tied v q (Reaches.Refused rule line version) w =
     Answered v q (Words.Refused rule line version) w × (version_seen v.seen ≤ version)
 Tied v q (Reaches.Returned values) w = Back v q values w
 Tied v q (Reaches.Raised exception) w = (exit : Exit) × (reached_by exit ≡ Reaches.Raised exception) × EndedBy v q exit w
-Tied v q Reaches.Misuse w = Grown v w × (Asked v q Answers.Misuse w ⊎ ((u : Passing) × Asked u Resume Answers.Misuse w))
-Tied v q Reaches.Stopped w = Grown v w × StoppedBy v q w
+Tied v q Reaches.Misuse w = Asked v q Answers.Misuse w
+Tied v q Reaches.Stopped w = StoppedAsking v q w ⊎ EndedBy v q Exits.Stopped w

@@ -1,5 +1,5 @@
 -- What the control of a host behind a turn gives out. (own)
-use Rattle.std.specs.Prelude.{◌≡◌, ◌⊎◌, ℕ, length, map, ◌<◌, ◌≤◌, Bool, true, false, ◌==◌, ◌||◌, List, [], ◌∷◌, ◌++◌}
+use Rattle.std.specs.Prelude.{◌≡◌, ◌⊎◌, ℕ, length, map, is_some, ◌<◌, ◌≤◌, Bool, true, false, ◌==◌, ◌&&◌, ◌||◌, List, [], ◌∷◌, ◌++◌}
 use Rattle.atomic_table.specs.Seated.{TableId}
 use Rattle.rv_shape.specs.Shape.{Shape}
 use Rattle.rv_event.specs.declared.entry.Entry.{Entry}
@@ -78,6 +78,19 @@ LoadTold v shape Such r w =
 abbrev pub no_bodies_of : Shape → Code.UnitBodies
 no_bodies_of = Code.without_bodies
 
+-- A unit's bodies have as many objects and tasks as its shape, so that by the catalogue's numbers no unit's body is another's.
+-- (own)
+abbrev pub numbered_as : Shape → Code.UnitBodies → Bool
+numbered_as shape unit = (length unit.objects == length shape.objects) && (length unit.tasks == length shape.tasks)
+
+-- the bodies that a load brings: those given with the shape, where they are numbered as it is, else none (own)
+abbrev pub BringsIf : Bool → Shape → UnitBodies → UnitBodies → Type 0
+BringsIf true shape given unit = unit ≡ given
+BringsIf false shape given unit = unit_view unit ≡ no_bodies_of shape
+
+abbrev pub Brings : Shape → UnitBodies → UnitBodies → Type 0
+Brings shape given unit = BringsIf (numbered_as shape (unit_view given)) shape given unit
+
 -- The history that a control begins with is that of the host, whose units have no bodies. (own)
 abbrev pub BeginsWith : History → List Event → Type 0
 BeginsWith h log = (units : List UnitBodies) × (map unit_view units ≡ map no_bodies_of h.shapes) × (log ≡ log_of h units)
@@ -89,20 +102,23 @@ pub record IsControl (turn : TableId) (pass : Passing) (given : List ℕ) (catal
   pub operator : pass.actor ≡ 0
   pub given_is : pass.given ≡ given
   pub owns : mine by 0 pass.seen ≡ pass.base ++ pass.own
+  pub limited : is_some pass.about ≡ true
   pub catalogue_is : catalogue ≡ catalogue_of pass.seen
 
--- What every control keeps: it is the operator's, and its own events are the operator's in all that it has seen, behind those
+-- What every control keeps: it is the operator's, its capacity is known, and its own events are the operator's in all that it has seen, behind those
 -- that the host had at first, which are the operator's too. (own)
 pub record IsOperators (control : Passing) : Type 0 where
   pub first : control.first ≡ true
   pub actor : control.actor ≡ 0
+  pub limited : is_some control.about ≡ true
   pub opening : mine by 0 control.base ≡ control.base
   pub owns : mine by 0 control.seen ≡ control.base ++ control.own
 
--- What every port keeps, also one that is done: its own events are its actor's in all that it has seen, each once and in their
--- order. (own)
+-- What every port keeps, also one that is done: its capacity is known, and its own events are its actor's in all that it has
+-- seen, each once and in their order. (own)
 pub record IsPorts (port : Passing) : Type 0 where
   pub first : port.first ≡ false
+  pub limited : is_some port.about ≡ true
   pub base : port.base ≡ []
   pub owns : mine by port.actor port.seen ≡ port.own
 

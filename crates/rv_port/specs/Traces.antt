@@ -134,3 +134,7 @@ pub record Replied (v : Passing) (q : Request) (r : Answer) (begun : Begun) (len
   pub asked : Asked v q r w
   pub lent_is : IsLent asked.at (lent_view lent)
   pub begun_is : begun ≡ begun_by (catalogue_of asked.at) v.actor q r
+
+-- the same, asked once: none was in vain before (own)
+abbrev pub RepliedOnce : Passing → Request → Answer → Begun → Option Lent → Passing → Type 0
+RepliedOnce v q r begun lent w = (x : Replied v q r begun lent w) × (x.asked.in_vain.times ≡ [])

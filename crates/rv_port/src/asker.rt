@@ -1,10 +1,10 @@
 //! The asking part of a port.
 
-ghost use Rattle.std.specs.Prelude.{◌≡◌, ℕ, ◌++◌, ◌∷◌, [], IfSome, IfNone, false};
+ghost use Rattle.std.specs.Prelude.{◌≡◌, ℕ, ◌++◌, ◌∷◌, [], IfSome, IfNone, true, false, is_some};
 ghost use Rattle.rv_turn.specs.Histories.{mine};
 ghost use Rattle.rv_port.specs.Actors.{HasHandler};
 ghost use Rattle.rv_port.specs.Events.{by, catalogue_of};
-ghost use Rattle.rv_port.specs.Traces.{WoreOut, Went, Replied, IsTold, told, asks_on};
+ghost use Rattle.rv_port.specs.Traces.{WoreOut, Went, Replied, RepliedOnce, IsTold, told, asks_on};
 
 use crate::behind::Behind;
 use crate::bell::Bell;
@@ -24,6 +24,7 @@ pub(crate) struct Asker {
     // Whether bodies that were wanted couldn't be had.
     pub(crate) is_refused: bool,
     pub(crate) ghost given: { pass.first ≡ false },
+    pub(crate) ghost limited: { is_some pass.about ≡ true },
     pub(crate) ghost handles: { HasHandler (catalogue_of pass.seen) pass.actor },
     pub(crate) ghost owns: { mine by pass.actor pass.seen ≡ pass.base ++ pass.own },
 }
@@ -52,7 +53,7 @@ impl Asker {
         rt: &R,
         request: &Request,
     ) -> Option<(Answer, Begun, Option<Lent>)>
-        ensures some { IfSome result (λ r. Replied self.old.pass request.now r.0 r.1 r.2 self.new.pass) }
+        ensures some { IfSome result (λ r. RepliedOnce self.old.pass request.now r.0 r.1 r.2 self.new.pass) }
         ensures none { IfNone result ((self.new.pass ≡ self.old.pass) × (self.old.pass.left ≡ 0)) }
         ensures mark { self.new.is_refused ≡ self.old.is_refused }
     {

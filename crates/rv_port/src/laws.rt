@@ -6,7 +6,7 @@ ghost use Rattle.rv_history.specs.History.{History};
 ghost use Rattle.rv_history.specs.Legal.{Legal};
 ghost use Rattle.rv_turn.specs.Histories.{mine, StartsWith};
 ghost use Rattle.rv_port.specs.Events.{by, catalogue_of, history_at, log_of, units_in};
-ghost use Rattle.rv_port.specs.Later.{NoEarlierList};
+ghost use Rattle.rv_port.specs.Later.{NoEarlierList, KeepsBodies};
 ghost use Rattle.rv_port.specs.declared.event.Event.{Event};
 
 /// The catalogue is that of the operator's own events, whatever others add.
@@ -37,4 +37,10 @@ pub fn lists_are_never_forgotten()
 #[tactic(auto, using(crate::proofs::Closings::mine_later))]
 pub fn events_stay()
     ensures { (actor : ℕ) (seen log : List Event) → StartsWith log seen → StartsWith (mine by actor log) (mine by actor seen) }
+{}
+
+/// What a body runs by isn't lost: the bodies of a history keep their numbers in every history that begins with it. So a caller
+/// that was handed an object runs by the bodies of then, and those of units loaded since.
+pub fn bodies_stay()
+    ensures { (seen log : List Event) → StartsWith log seen → KeepsBodies seen log }
 {}

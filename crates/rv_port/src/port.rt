@@ -1,6 +1,6 @@
 //! Ports.
 
-ghost use Rattle.std.specs.Prelude.{◌≡◌, ◌++◌, List, [], false};
+ghost use Rattle.std.specs.Prelude.{◌≡◌, ◌++◌, List, [], true, false, is_some};
 ghost use Rattle.rv_turn.specs.Histories.{mine, StartsWith};
 ghost use Rattle.rv_turn.specs.Passes.{Meets};
 ghost use Rattle.rv_event.specs.declared.entry.Request.TheVariants as asks;
@@ -59,7 +59,7 @@ pub struct Finished {
 impl Model for Finished {
     ghost use Rattle.std.specs.Coded.{codes};
     ghost use Rattle.rv_port.specs.contracts.event.Event as e;
-    ghost use Rattle.std.specs.Prelude.{◌≡◌, ◌++◌, [], false};
+    ghost use Rattle.std.specs.Prelude.{◌≡◌, ◌++◌, [], true, false, is_some};
     ghost use Rattle.rv_turn.specs.Histories.{mine};
     ghost use Rattle.rv_port.specs.Events.{by};
     ghost use Rattle.rv_port.specs.Ports.{Porting, porting};
@@ -70,7 +70,7 @@ impl Model for Finished {
 
     ghost view = { λ f. porting f.pass f.is_refused };
 
-    ghost invariant = { λ f. (f.pass.first ≡ false) × (f.pass.base ≡ []) × (mine by f.pass.actor f.pass.seen ≡ f.pass.own) };
+    ghost invariant = { λ f. (f.pass.first ≡ false) × (is_some f.pass.about ≡ true) × (f.pass.base ≡ []) × (mine by f.pass.actor f.pass.seen ≡ f.pass.own) };
 }
 
 impl Finished {
@@ -100,6 +100,7 @@ impl Port {
     // The port of a new pass.
     pub(crate) fn new(pass: Pass<Behind>, bell: Arc<Bell, Global>) -> Port
         requires given { pass.first ≡ false }
+        requires limited { is_some pass.about ≡ true }
         requires fresh { pass.base ≡ [] }
         requires handles { HasHandler (catalogue_of pass.seen) pass.actor }
         requires owns { mine by pass.actor pass.seen ≡ pass.base ++ pass.own }

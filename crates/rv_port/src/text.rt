@@ -1,12 +1,14 @@
 //! The text of a port's task, run to its end.
 
-ghost use Rattle.std.specs.Prelude.{◌≡◌, Some};
+ghost use Rattle.std.specs.Prelude.{◌≡◌, Some, IfOk, OnErr};
 ghost use Rattle.rv_exec.specs.Bodies.{bodies_view};
-ghost use Rattle.rv_port.specs.Acting.{lent_view};
+ghost use Rattle.rv_turn.specs.Passes.{Acted, IsWorn};
+ghost use Rattle.rv_port.specs.Acting.{Does, lent_view};
+ghost use Rattle.rv_port.specs.Events.{by};
 ghost use Rattle.rv_port.specs.Traces.{Trace, Went};
-ghost use Rattle.rv_port.specs.Calls.{Stays};
+ghost use Rattle.rv_port.specs.Calls.{marked, Stays};
 ghost use Rattle.rv_port.specs.Ports.{pass_of};
-ghost use Rattle.rv_port.specs.Texts.{Borrows, TextRan, TextRuns, lent_in};
+ghost use Rattle.rv_port.specs.Texts.{TextRan, TextRuns};
 
 use crate::asker::Asker;
 use crate::event::{Ask, Lent, Reply};
@@ -17,23 +19,20 @@ use rv_exec::machine::{Machine, run_task};
 use rv_turn::Worn;
 use std::sync::Wait;
 
-// The bodies in a reply, where there is one.
-fn lent_in(answer: Result<Reply, Worn>) -> Option<Lent>
-    ensures { result ≡ lent_in answer }
-{
-    match answer {
-        Ok(Reply::Bodies(lent)) => lent,
-        _ => None,
-    }
-}
-
 impl Asker {
-    // The bodies of all units loaded so far.
-    fn borrow<R: Wait>(&mut self, rt: &R) -> Option<Lent>
-        ensures borrows { Borrows self.old.pass (lent_view result) self.new.pass }
+    // The bodies of all units loaded so far. Err where no act is left.
+    fn borrow<R: Wait>(&mut self, rt: &R) -> Result<Option<Lent>, Worn>
+        ensures borrows { IfOk result (λ lent. Acted by Does self.old.pass Ask.Bodies (Reply.Bodies lent) self.new.pass) }
+        ensures worn { OnErr result (IsWorn self.old.pass self.new.pass) }
         ensures mark { self.new.is_refused ≡ self.old.is_refused }
     {
-        lent_in(self.pass.act(rt, Ask::Bodies))
+        let Ok(reply) = self.pass.act(rt, Ask::Bodies) else {
+            return Err(Worn);
+        };
+        match reply {
+            Reply::Bodies(lent) => Ok(lent),
+            _ => unreachable!(),
+        }
     }
 
     // Runs the text of the actor's task, of these bodies.
@@ -45,11 +44,12 @@ impl Asker {
         run_task(&Machine { budget }, rt, bodies, actor, self)
     }
 
-    // Runs the text of the actor's task.
-    fn go_on<R: Wait>(&mut self, rt: &R, budget: u32) -> Exit
-        ensures { TextRan self.old.pass self.old.is_refused budget result self.new.pass self.new.is_refused }
+    // Runs the text of the actor's task by these bodies. Where they couldn't be had it asks nothing.
+    fn run_lent<R: Wait>(&mut self, rt: &R, lent: &Option<Lent>, budget: u32) -> Exit
+        ensures runs { (trace : Trace) × TextRuns (lent_view lent.now) self.old.pass.actor budget trace result × Went self.old.pass trace self.new.pass }
+        ensures mark { self.new.is_refused ≡ marked self.old.is_refused (lent_view lent.now) }
     {
-        match self.borrow(rt) {
+        match lent {
             Some(lent) => self.run_text(rt, &lent.bodies, budget),
             None => {
                 self.is_refused = true;
@@ -57,13 +57,25 @@ impl Asker {
             }
         }
     }
+
+    // Runs the text of the actor's task.
+    #[tactic(auto, using(crate::proofs::Texts::ran_lent))]
+    fn go_on<R: Wait>(&mut self, rt: &R, budget: u32) -> Exit
+        ensures { TextRan self.old.pass self.old.is_refused budget result self.new.pass self.new.is_refused }
+    {
+        let Ok(lent) = self.borrow(rt) else {
+            return Exit::Stopped;
+        };
+        self.run_lent(rt, &lent, budget)
+    }
 }
 
 impl Port {
     /// Runs the text of the port's task to its end (9.2, 9.3), by the bodies of the units loaded so
     /// far: its own body, which may make so many requests, 1 to 1,000,000, and each body that starts
-    /// for it. The last request is Quit, where the task's mode allows it. It takes a deep stack:
-    /// 128 MiB for the deepest bodies.
+    /// for it. The last request is Quit, where the task's mode allows it. Where no act is left it is
+    /// stopped at once; where the bodies have too many holders too, and the port is marked. It takes
+    /// a deep stack: 128 MiB for the deepest bodies.
     pub fn run_text<R: Wait>(&mut self, rt: &R, budget: u32) -> Exit
         ensures ran { TextRan (pass_of self.old) self.old.refused budget result (pass_of self.new) self.new.refused }
         ensures stays { Stays (pass_of self.old) (pass_of self.new) }

@@ -5,7 +5,7 @@ ghost use Rattle.std.specs.Arc.{arc_value};
 ghost use Rattle.rv_code.specs.BodyView.{unit_view};
 ghost use Rattle.rv_exec.specs.Bodies.{held, shared_view, units_of};
 ghost use Rattle.rv_turn.specs.Passes.{IsWorn};
-ghost use Rattle.rv_port.specs.Controls.{Told, LoadTold, no_bodies_of};
+ghost use Rattle.rv_port.specs.Controls.{Told, LoadTold, Brings, numbered_as, no_bodies_of};
 
 use super::{Control, told};
 use crate::event::Ask;
@@ -29,6 +29,13 @@ fn with_unit(alloc: Global, catalogue: &Catalogue, shape: &UnitShape) -> Option<
         Ok(()) => Some(copy),
         Err(_) => None,
     }
+}
+
+// Whether a unit's bodies have as many objects and tasks as its shape.
+fn is_numbered_as(shape: &UnitShape, bodies: &UnitBodies) -> bool
+    ensures { result ≡ numbered_as shape.now (unit_view bodies.now) }
+{
+    bodies.objects.len() == shape.objects().len() && bodies.tasks.len() == shape.tasks().len()
 }
 
 // The bodies of a unit that is loaded as a shape alone.
@@ -58,7 +65,9 @@ pub(crate) fn no_bodies_of_all(
 
 impl Control {
     /// Loads a unit as a text gives it: its shape, which was compiled against `catalogue`, and the
-    /// bodies of the same text. Ports run them from then on. Where it isn't accepted, it is dropped.
+    /// bodies of the same text. Ports run them from then on. Bodies that have another number of
+    /// objects or tasks than the shape are none of its own: then the shape is loaded alone. Where it
+    /// isn't accepted, it is dropped.
     pub fn load<R: Wait>(
         &mut self,
         rt: &R,
@@ -67,9 +76,12 @@ impl Control {
     ) -> Result<Answer, Worn>
         ensures { MatchResult
             result
-            (λ r. LoadTold self.old shape (λ u. u ≡ bodies) r self.new)
+            (λ r. LoadTold self.old shape (λ u. Brings shape bodies u) r self.new)
             (λ _. IsWorn self.old self.new) }
     {
+        if !is_numbered_as(&shape, &bodies) {
+            return self.load_shape(rt, shape);
+        }
         let Ok(unit) = SharedUnit::new(self.alloc, bodies) else {
             return self.load_nothing(rt, shape);
         };

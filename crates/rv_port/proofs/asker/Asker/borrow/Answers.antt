@@ -1,10 +1,5 @@
-use Rattle.std.proofs.Common.{Option, sym, subst}
-use Rattle.rv_port.specs.declared.event.Lent.{Lent}
 use Rattle.rv_port.specs.declared.event.Ask.TheVariants as Wants
-use Rattle.rv_port.specs.Acting.{lent_view}
-use Rattle.rv_port.specs.Texts.{Borrows}
 use Rattle.rv_port.proofs.Actors.{act_handles, act_owns}
-use Rattle.rv_port.proofs.Texts.{borrowed}
 use Rattle.rv_port.proofs.asker.Asker.borrow.Goals as goal
 
 pub invariant_of-self-clause-handles : goal.invariant_of-self-clause-handles
@@ -12,6 +7,3 @@ invariant_of-self-clause-handles g c = act_handles c.args.self.now.pass c.act.ne
 
 pub invariant_of-self-clause-owns : goal.invariant_of-self-clause-owns
 invariant_of-self-clause-owns g c = act_owns c.args.self.now.pass c.act.new.self Wants.Bodies _ c.args.self.now.owns c.act.ensures
-
-pub returns-clause-borrows : goal.returns-clause-borrows
-returns-clause-borrows g c = subst (λ (l : Option Lent). Borrows c.args.self.now.pass (lent_view l) c.act.new.self) (sym c.lent_in.ensures) (borrowed c.args.self.now.pass c.act.new.self c.act.result c.act.ensures)

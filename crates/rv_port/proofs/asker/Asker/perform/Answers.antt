@@ -1,4 +1,5 @@
-use Rattle.rv_port.proofs.Performing.{tied, performed_stays}
+use Rattle.rv_port.proofs.Performing.{performed_stays}
+use Rattle.rv_port.proofs.Tying.{tied}
 use Rattle.rv_port.proofs.asker.Asker.perform.Goals as goal
 
 pub returns-clause-tied : goal.returns-clause-tied

@@ -2,7 +2,7 @@ use Rattle.std.proofs.Common.{◌≡◌, true, rules, tests, ap, sym, ◌∙◌,
 use Rattle.rv_port.specs.Actors.{is_performer}
 use Rattle.rv_port.specs.Controls.{listed, IsControl}
 use Rattle.rv_port.proofs.Actors.{performer_some}
-use Rattle.rv_port.proofs.Controls.{not_given, port_kept, port_handles}
+use Rattle.rv_port.proofs.Controls.{not_given, port_kept, port_handles, port_limited}
 use Rattle.rv_port.proofs.control.Control.port.Goals as goal
 
 pub split-requires-clause-actor : goal.split-requires-clause-actor
@@ -17,3 +17,6 @@ pub invariant_of-self-in-Ok-split : goal.invariant_of-self-in-Ok-split
 invariant_of-self-in-Ok-split c =
     subst (λ (l : List ℕ). IsControl c.self.inside.turn c.split.new.self l c.self.inside.catalogue) (sym (c.put_first.ensures ∙ ap (λ (l : List ℕ). c.args.actor ∷ l) c.reserve.ensures.items))
     (port_kept _ _ _ _ _ _ c.args.actor _ c.self.invariant c.in-Ok-split.ensures.ok)
+
+pub new-requires-clause-limited : goal.new-requires-clause-limited
+new-requires-clause-limited c = port_limited _ _ _ _ _ _ c.args.actor _ c.self.invariant c.in-Ok-split.ensures.ok

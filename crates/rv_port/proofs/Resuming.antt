@@ -1,0 +1,334 @@
+-- One that waits and asks nothing else: what it is at, and what its resume can be answered.
+use Rattle.std.proofs.Common.{◌≡◌, ℕ, ◌<◌, Bool, true, false, eqb, if◌then◌else◌, List, [], ◌∷◌, ◌++◌, length, reverse, Option, Some, None, refl, sym, ap, ◌∙◌, subst, arith, length-append}
+use Rattle.std.specs.Prelude.{ℤ, ◌&&◌, ◌||◌, not, nat_lt, int_le, pos}
+use Rattle.std.specs.List.{list_any}
+use Rattle.std.proofs.lemmas.Bool.Decides.{nat_tests}
+use Rattle.std.proofs.lemmas.List.{reverse-append, reverse-reverse}
+use Rattle.rv_access.specs.Words.{Words as Words_of}
+use Rattle.rv_shape.specs.Shape.{Shape}
+use Rattle.rv_shape.specs.Catalogue.{first_of}
+use Rattle.rv_event.specs.Past.{clock, halted, held, if_named, is_own, mode_by, next_of, or_else, released, stance, stance_of}
+use Rattle.rv_event.specs.Recorded.{recorded}
+use Rattle.rv_event.specs.declared.entry.Body.{Body}
+use Rattle.rv_event.specs.declared.entry.Rule.{Rule}
+use Rattle.rv_event.specs.declared.entry.Answer.{Answer}
+use Rattle.rv_event.specs.declared.entry.Answer.TheVariants as Answers
+use Rattle.rv_event.specs.declared.entry.Stance.{Stance}
+use Rattle.rv_event.specs.declared.entry.Stance.TheVariants.{Free, InQueue, HandedOver, DroppedBy, WaitsOn, WaitsUntil, Gone}
+use Rattle.rv_event.specs.declared.entry.Entry.{Entry}
+use Rattle.rv_event.specs.declared.entry.Entry.TheVariants.{Asked, Load, ListChange}
+use Rattle.rv_event.specs.declared.entry.Request.{Request}
+use Rattle.rv_event.specs.declared.entry.Request.TheVariants.{Call, Complete, Resume, DelayUntil, Clock, Fire, Quit, Tick, Halt}
+use Rattle.rv_event.specs.declared.entry.Recorded.{Recorded}
+use Rattle.rv_event.specs.declared.entry.Recorded.TheVariants as Words
+use Rattle.rv_event.specs.declared.entry.Next.{Next}
+use Rattle.rv_event.specs.declared.entry.Next.TheVariants.{Nothing, HandedTo, Dropped}
+use Rattle.rv_history.specs.History.{History}
+use Rattle.rv_history.specs.Legal.{Legal, IsLegal}
+use Rattle.rv_history.specs.Fitting.{awaits, fits}
+use Rattle.rv_history.specs.Owed.{actors}
+use Rattle.rv_history.specs.Due.{out, due, table, gate, within, enough, goes_on, due_resume, or_waiting}
+use Rattle.rv_history.proofs.Frame.{stance_stays}
+use Rattle.rv_history.proofs.Silent.{is_queued, apart_while, known_actor}
+use Rattle.rv_turn.specs.Histories.{mine, StartsWith}
+use Rattle.rv_turn.specs.Prefixes.{mine-append}
+use Rattle.rv_port.specs.Events.{by, mark, marks, shapes_of, lists_of, history_at}
+use Rattle.rv_port.specs.Calls.{IsPause}
+use Rattle.rv_port.specs.declared.event.Event.{Event}
+use Rattle.rv_port.specs.declared.event.Event.TheVariants.{Asks, Loads, Lists}
+
+-- Nothing of the actor's own came since
+
+no_more : (xs ys : List Event) → xs ≡ xs ++ ys → ys ≡ []
+no_more xs [] e = refl
+no_more xs (y ∷ ys) e = absurd (omega (arith, ap length e, length-append xs (y ∷ ys)))
+
+pub none_since : (a : ℕ) (seen at own : List Event) (w : StartsWith at seen) → mine by a seen ≡ own → mine by a at ≡ own → mine by a w.0 ≡ []
+none_since a seen at own w e f = no_more own (mine by a w.0) (sym f ∙ (ap (mine by a) w.1 ∙ (mine-append by a seen w.0 ∙ ap (λ (l : List Event). l ++ mine by a w.0) e)))
+
+none_left : (xs ys : List Event) → xs ++ ys ≡ [] → xs ≡ []
+none_left [] ys e = refl
+none_left (x ∷ xs) ys e = absurd (omega (arith, ap length e))
+
+none_right : (xs ys : List Event) → xs ++ ys ≡ [] → ys ≡ []
+none_right [] ys e = e
+none_right (x ∷ xs) ys e = absurd (omega (arith, ap length e))
+
+not_one : (b : Bool) (e : Event) → (if b then e ∷ [] else []) ≡ [] → b ≡ false
+not_one true e f = absurd (omega (arith, ap length f))
+not_one false e f = refl
+
+neither : (b c : Bool) → b ≡ false → c ≡ false → (b || c) ≡ false
+neither true c e f = absurd (cc e)
+neither false c e f = f
+
+none_own : (a : ℕ) (es : List Event) → mine by a (reverse es) ≡ [] → list_any (is_own a) (marks es) ≡ false
+none_own a [] e = refl
+none_own a (Asks b q w ∷ es) e =
+    let parts : mine by a (reverse es) ++ mine by a (Asks b q w ∷ []) ≡ [] = sym (mine-append by a (reverse es) (Asks b q w ∷ [])) ∙ (ap (mine by a) (sym (reverse-append (Asks b q w ∷ []) es)) ∙ e) in
+    neither (eqb b a) (list_any (is_own a) (marks es)) (not_one (eqb b a) (Asks b q w) (none_right (mine by a (reverse es)) (mine by a (Asks b q w ∷ [])) parts))
+    (none_own a es (none_left (mine by a (reverse es)) (mine by a (Asks b q w ∷ [])) parts))
+none_own a (Loads s u ∷ es) e =
+    none_own a es (none_left (mine by a (reverse es)) (mine by a (Loads s u ∷ [])) (sym (mine-append by a (reverse es) (Loads s u ∷ [])) ∙ (ap (mine by a) (sym (reverse-append (Loads s u ∷ []) es)) ∙ e)))
+none_own a (Lists l ∷ es) e =
+    none_own a es (none_left (mine by a (reverse es)) (mine by a (Lists l ∷ [])) (sym (mine-append by a (reverse es) (Lists l ∷ [])) ∙ (ap (mine by a) (sym (reverse-append (Lists l ∷ []) es)) ∙ e)))
+
+-- What it is at
+
+-- in a queue, or named since
+abbrev pub in_queue : Stance → Bool
+in_queue InQueue = true
+in_queue HandedOver = true
+in_queue (DroppedBy line) = true
+in_queue s = false
+
+-- at a wait that starts no body
+abbrev pub paused : Stance → Bool
+paused (WaitsOn object) = true
+paused (WaitsUntil time) = true
+paused s = false
+
+-- at either
+abbrev pub waits : Stance → Bool
+waits Free = false
+waits Gone = false
+waits s = true
+
+pub queue_waits : (s : Stance) → in_queue s ≡ true → waits s ≡ true
+queue_waits InQueue e = refl
+queue_waits HandedOver e = refl
+queue_waits (DroppedBy line) e = refl
+queue_waits Free e = absurd (cc e)
+queue_waits (WaitsOn object) e = refl
+queue_waits (WaitsUntil time) e = refl
+queue_waits Gone e = absurd (cc e)
+
+pub pause_waits : (s : Stance) → paused s ≡ true → waits s ≡ true
+pause_waits InQueue e = refl
+pause_waits HandedOver e = refl
+pause_waits (DroppedBy line) e = refl
+pause_waits Free e = absurd (cc e)
+pause_waits (WaitsOn object) e = refl
+pause_waits (WaitsUntil time) e = refl
+pause_waits Gone e = absurd (cc e)
+
+if_none : (b : Bool) (s : Stance) → b ≡ false → (if b then Some s else None) ≡ None
+if_none true s e = absurd (cc e)
+if_none false s e = refl
+
+named_still : (next : Next) (a : ℕ) (own : Option Stance) (s : Stance) → own ≡ None → in_queue s ≡ true → in_queue (or_else (first_of (if_named a next) own) s) ≡ true
+named_still Nothing a own s e h = ap (λ (o : Option Stance). in_queue (or_else o s)) e ∙ h
+named_still (HandedTo m) a own s e h = by_test (eqb m a) where
+  by_test : (b : Bool) → in_queue (or_else (first_of (if b then Some HandedOver else None) own) s) ≡ true
+  by_test true = refl
+  by_test false = ap (λ (o : Option Stance). in_queue (or_else o s)) e ∙ h
+named_still (Dropped m line) a own s e h = by_test (eqb m a) where
+  by_test : (b : Bool) → in_queue (or_else (first_of (if b then Some (DroppedBy line) else None) own) s) ≡ true
+  by_test true = refl
+  by_test false = ap (λ (o : Option Stance). in_queue (or_else o s)) e ∙ h
+
+or_first : (b c : Bool) → (b || c) ≡ false → b ≡ false
+or_first true c e = e
+or_first false c e = refl
+
+or_second : (b c : Bool) → (b || c) ≡ false → c ≡ false
+or_second true c e = absurd (cc e)
+or_second false c e = e
+
+queue_stays : (a : ℕ) (later past : List Entry) → list_any (is_own a) later ≡ false → in_queue (stance a past) ≡ true → in_queue (stance a (later ++ past)) ≡ true
+queue_stays a [] past none h = h
+queue_stays a (Asked b r w ∷ later) past none h =
+    named_still (next_of (Asked b r w)) a (if eqb b a then Some (stance_of (Asked b r w)) else None) (stance a (later ++ past))
+    (if_none (eqb b a) (stance_of (Asked b r w)) (or_first (eqb b a) (list_any (is_own a) later) none))
+    (queue_stays a later past (or_second (eqb b a) (list_any (is_own a) later) none) h)
+queue_stays a (Load ∷ later) past none h = queue_stays a later past none h
+queue_stays a (ListChange ∷ later) past none h = queue_stays a later past none h
+
+itself : (a : ℕ) → eqb a a ≡ true
+itself a = grind (arith, nat_tests)
+
+own_now : (b : Bool) (t s : Stance) → b ≡ true → or_else (if b then Some t else None) s ≡ t
+own_now true t s e = refl
+own_now false t s e = absurd (cc e)
+
+-- right after a call was queued
+queued_now : (a o p : ℕ) (vs : List ℤ) (past : List Entry) → stance a (Asked a (Call o p vs) Words.Queued ∷ past) ≡ InQueue
+queued_now a o p vs past = own_now (eqb a a) InQueue (stance a past) (itself a)
+
+-- right after a pause began
+abbrev pause_of : Request → Stance
+pause_of (Call o p vs) = WaitsOn o
+pause_of (DelayUntil time) = WaitsUntil time
+pause_of q = Free
+
+paused_now : (a : ℕ) (q : Request) (wait : Recorded) (past : List Entry) → IsPause q wait → (stance a (Asked a q wait ∷ past) ≡ pause_of q) × (paused (pause_of q) ≡ true)
+paused_now a (Call o p vs) Words.Suspended past t = (own_now (eqb a a) (WaitsOn o) (stance a past) (itself a), refl)
+paused_now a (DelayUntil time) Words.Delayed past t = (own_now (eqb a a) (WaitsUntil time) (stance a past) (itself a), refl)
+paused_now a q wait past t = absurd t
+
+not_queued : (s : Stance) → paused s ≡ true → is_queued s ≡ false
+not_queued (WaitsOn object) e = refl
+not_queued (WaitsUntil time) e = refl
+not_queued Free e = refl
+not_queued InQueue e = absurd (cc e)
+not_queued HandedOver e = refl
+not_queued (DroppedBy line) e = refl
+not_queued Gone e = refl
+
+-- one that was queued is in the queue, or was named since
+pub still_in_queue : (a o p : ℕ) (vs : List ℤ) (later past : List Entry) → list_any (is_own a) later ≡ false → in_queue (stance a (later ++ Asked a (Call o p vs) Words.Queued ∷ past)) ≡ true
+still_in_queue a o p vs later past none = queue_stays a later (Asked a (Call o p vs) Words.Queued ∷ past) none (ap in_queue (queued_now a o p vs past))
+
+-- nobody names one at a pause
+pub still_paused : (c : ℕ) (shapes : List Shape) (lists : List (List Words_of)) (a : ℕ) (q : Request) (wait : Recorded) (later past : List Entry) → IsLegal c (later ++ Asked a q wait ∷ past) shapes lists → IsPause q wait → list_any (is_own a) later ≡ false
+    → paused (stance a (later ++ Asked a q wait ∷ past)) ≡ true
+still_paused c shapes lists a q wait later past legal is none =
+    let now = paused_now a q wait past is in
+    let at : paused (stance a (Asked a q wait ∷ past)) ≡ true = ap paused now.0 ∙ now.1 in
+    ap paused (stance_stays a later (Asked a q wait ∷ past) (apart_while c later (Asked a q wait ∷ past) shapes lists a legal (not_queued (stance a (Asked a q wait ∷ past)) at) none)) ∙ at
+
+-- What its resume can be answered
+
+-- it is no misuse
+abbrev pub is_sound : Answer → Bool
+is_sound Answers.Misuse = false
+is_sound r = true
+
+waiting_sound : (h : History) (ready : Bool) → is_sound (or_waiting h ready) ≡ true
+waiting_sound h true = refl
+waiting_sound h false = by_halt (halted h.past) where
+  by_halt : (b : Bool) → is_sound (if b then Answers.Halted else Answers.Waiting) ≡ true
+  by_halt true = refl
+  by_halt false = refl
+
+due_sound : (h : History) (a : ℕ) (s : Stance) → waits s ≡ true → is_sound (due_resume h a s) ≡ true
+due_sound h a Free e = absurd (cc e)
+due_sound h a InQueue e = waiting_sound h false
+due_sound h a HandedOver e = refl
+due_sound h a (DroppedBy line) e = refl
+due_sound h a (WaitsOn object) e = waiting_sound h (released a object h.past)
+due_sound h a (WaitsUntil time) e = waiting_sound h (int_le time (pos (clock h.past)))
+due_sound h a Gone e = absurd (cc e)
+
+open_sound : (room shut : Bool) (r : Answer) → is_sound r ≡ true → is_sound (within room (gate true shut r)) ≡ true
+open_sound true true r e = refl
+open_sound true false r e = e
+open_sound false shut r e = refl
+
+awaits_at : (bodies : List Body) (s : Stance) → waits s ≡ true → awaits (mode_by bodies s) ≡ true
+awaits_at bodies Free e = absurd (cc e)
+awaits_at bodies InQueue e = refl
+awaits_at bodies HandedOver e = refl
+awaits_at bodies (DroppedBy line) e = refl
+awaits_at bodies (WaitsOn object) e = refl
+awaits_at bodies (WaitsUntil time) e = refl
+awaits_at bodies Gone e = absurd (cc e)
+
+to_test : (n m : ℕ) → n < m → nat_lt n m ≡ true
+to_test n m less = grind (arith, nat_tests)
+
+both_true : (b c : Bool) → b ≡ true → c ≡ true → (b && c) ≡ true
+both_true true c e f = f
+both_true false c e f = absurd (cc e)
+
+busy : (h : History) (a : ℕ) → waits (stance a h.past) ≡ true → stance a h.past ≡ Free → ⊥
+busy h a e free = absurd (cc (sym (ap waits free) ∙ e))
+
+-- the resume of one that waits is no misuse
+pub resume_sound : (h : History) (a : ℕ) → Legal h → waits (stance a h.past) ≡ true → is_sound (out h a Resume) ≡ true
+resume_sound h a legal e =
+    let fit : fits h a Resume ≡ true = both_true (nat_lt a (actors h.shapes)) (awaits (mode_by (held h.shapes a h.past) (stance a h.past)))
+    (to_test a (actors h.shapes) (known_actor h a legal (busy h a e))) (awaits_at (held h.shapes a h.past) (stance a h.past) e) in
+    ap (λ (f : Bool). is_sound (within (enough h a Resume (recorded (due h a Resume))) (gate f (halted h.past && not (goes_on Resume)) (table h a Resume)))) fit
+    ∙ open_sound (enough h a Resume (recorded (due h a Resume))) (halted h.past && not (goes_on Resume)) (table h a Resume) (due_sound h a (stance a h.past) e)
+
+-- a property of what is due is one of the answer, where neither a refusal by the gate nor Full has it
+through : (P : Answer → Bool) → P Answers.Misuse ≡ false → P Answers.Halted ≡ false → P Answers.Full ≡ false → (room fit shut : Bool) (r : Answer) → P (within room (gate fit shut r)) ≡ true → P r ≡ true
+through P m h f true true true r e = absurd (cc (h, e))
+through P m h f true true false r e = e
+through P m h f true false shut r e = absurd (cc (m, e))
+through P m h f false fit shut r e = absurd (cc (f, e))
+
+resume_has : (P : Answer → Bool) → P Answers.Misuse ≡ false → P Answers.Halted ≡ false → P Answers.Full ≡ false → (h : History) (a : ℕ) → P (out h a Resume) ≡ true → P (due_resume h a (stance a h.past)) ≡ true
+resume_has P m k f h a e =
+    through P m k f (enough h a Resume (recorded (due h a Resume))) (fits h a Resume) (halted h.past && not (goes_on Resume)) (table h a Resume) e
+
+-- woken with no scalars
+abbrev pub is_plain : Answer → Bool
+is_plain (Answers.Woken None) = true
+is_plain r = false
+
+queue_not_plain : (h : History) → is_plain (or_waiting h false) ≡ false
+queue_not_plain h = by_halt (halted h.past) where
+  by_halt : (b : Bool) → is_plain (if b then Answers.Halted else Answers.Waiting) ≡ false
+  by_halt true = refl
+  by_halt false = refl
+
+plain_due : (h : History) (a : ℕ) (s : Stance) → in_queue s ≡ true → is_plain (due_resume h a s) ≡ false
+plain_due h a InQueue e = queue_not_plain h
+plain_due h a HandedOver e = refl
+plain_due h a (DroppedBy line) e = refl
+plain_due h a Free e = refl
+plain_due h a (WaitsOn object) e = absurd (cc e)
+plain_due h a (WaitsUntil time) e = absurd (cc e)
+plain_due h a Gone e = refl
+
+-- one that was queued is woken with scalars
+pub queue_wakes : {X : Type 0} (h : History) (a : ℕ) → in_queue (stance a h.past) ≡ true → out h a Resume ≡ Answers.Woken None → X
+queue_wakes h a e is = absurd (cc (resume_has is_plain refl refl refl h a (ap is_plain is), plain_due h a (stance a h.past) e))
+
+-- woken with scalars, or refused
+abbrev pub is_named : Answer → Bool
+is_named (Answers.Woken (Some scalars)) = true
+is_named (Answers.Refused rule line version) = true
+is_named r = false
+
+waiting_not_named : (h : History) (ready : Bool) → is_named (or_waiting h ready) ≡ false
+waiting_not_named h true = refl
+waiting_not_named h false = by_halt (halted h.past) where
+  by_halt : (b : Bool) → is_named (if b then Answers.Halted else Answers.Waiting) ≡ false
+  by_halt true = refl
+  by_halt false = refl
+
+named_due : (h : History) (a : ℕ) (s : Stance) → paused s ≡ true → is_named (due_resume h a s) ≡ false
+named_due h a InQueue e = absurd (cc e)
+named_due h a HandedOver e = absurd (cc e)
+named_due h a (DroppedBy line) e = absurd (cc e)
+named_due h a Free e = refl
+named_due h a (WaitsOn object) e = waiting_not_named h (released a object h.past)
+named_due h a (WaitsUntil time) e = waiting_not_named h (int_le time (pos (clock h.past)))
+named_due h a Gone e = refl
+
+-- one at a pause is woken with no scalars, and isn't refused
+pub pause_unnamed : {X : Type 0} (h : History) (a : ℕ) (r : Answer) → paused (stance a h.past) ≡ true → out h a Resume ≡ r → is_named r ≡ true → X
+pause_unnamed h a r e is named = absurd (cc (resume_has is_named refl refl refl h a (ap is_named is ∙ named), named_due h a (stance a h.past) e))
+
+-- Of events
+
+pub marks-append : (xs ys : List Event) → marks (xs ++ ys) ≡ marks xs ++ marks ys
+marks-append [] ys = refl
+marks-append (x ∷ xs) ys = ap (λ (l : List Entry). mark x ∷ l) (marks-append xs ys)
+
+-- a longer history backwards, from the last event of a shorter one
+back_from : (seen at front : List Event) (e : Event) (w : StartsWith at seen) → seen ≡ front ++ e ∷ [] → marks (reverse at) ≡ marks (reverse w.0) ++ mark e ∷ marks (reverse front)
+back_from seen at front e w is =
+    ap marks (ap reverse w.1 ∙ (reverse-append seen w.0 ∙ ap (λ (l : List Event). reverse w.0 ++ l) (ap reverse is ∙ reverse-append front (e ∷ [])))) ∙ marks-append (reverse w.0) (e ∷ reverse front)
+
+none_after : (a : ℕ) (seen at own : List Event) (w : StartsWith at seen) → mine by a seen ≡ own → mine by a at ≡ own → list_any (is_own a) (marks (reverse w.0)) ≡ false
+none_after a seen at own w e f = none_own a (reverse w.0) (ap (mine by a) (reverse-reverse w.0) ∙ none_since a seen at own w e f)
+
+-- one whose last event was to be queued
+pub in_queue_at : (c a : ℕ) (seen at own front : List Event) (o p : ℕ) (vs : List ℤ) (w : StartsWith at seen) → seen ≡ front ++ Asks a (Call o p vs) Words.Queued ∷ [] → mine by a seen ≡ own → mine by a at ≡ own
+    → in_queue (stance a (history_at c at).past) ≡ true
+in_queue_at c a seen at own front o p vs w is e f =
+    ap (λ (l : List Entry). in_queue (stance a l)) (back_from seen at front (Asks a (Call o p vs) Words.Queued) w is)
+    ∙ still_in_queue a o p vs (marks (reverse w.0)) (marks (reverse front)) (none_after a seen at own w e f)
+
+-- one whose last event was to begin a pause
+pub paused_at : (c a : ℕ) (seen at own front : List Event) (q : Request) (wait : Recorded) (w : StartsWith at seen) → seen ≡ front ++ Asks a q wait ∷ [] → mine by a seen ≡ own → mine by a at ≡ own
+    → IsPause q wait → Legal (history_at c at) → paused (stance a (history_at c at).past) ≡ true
+paused_at c a seen at own front q wait w is e f pause legal =
+    let back : marks (reverse at) ≡ marks (reverse w.0) ++ Asked a q wait ∷ marks (reverse front) = back_from seen at front (Asks a q wait) w is in
+    ap (λ (l : List Entry). paused (stance a l)) back
+    ∙ still_paused c (shapes_of (reverse at)) (lists_of (reverse at)) a q wait (marks (reverse w.0)) (marks (reverse front))
+    (subst (λ (l : List Entry). IsLegal c l (shapes_of (reverse at)) (lists_of (reverse at))) back legal) pause (none_after a seen at own w e f)

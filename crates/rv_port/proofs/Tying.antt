@@ -1,0 +1,419 @@
+-- What a call reached is tied to the pass's own events.
+use Rattle.std.proofs.Common.{◌≡◌, ◌⊎◌, ℕ, ◌≤◌, Bool, true, false, List, [], ◌∷◌, ◌++◌, reverse, Option, Some, None, refl, sym, ap, ◌∙◌, subst, inl, inr, ⊎_elim, append_assoc, arith}
+use Rattle.std.specs.Prelude.{ℤ}
+use Rattle.std.proofs.lemmas.List.{reverse-append, reverse-reverse}
+use Rattle.rv_code.specs.Bodies.{UnitBodies}
+use Rattle.rv_event.specs.Past.{stance, until_then}
+use Rattle.rv_event.specs.declared.entry.Request.{Request}
+use Rattle.rv_event.specs.declared.entry.Request.TheVariants.{Call, Complete, Resume, DelayUntil, Clock, Fire, Quit, Tick, Halt}
+use Rattle.rv_event.specs.declared.entry.Rule.{Rule}
+use Rattle.rv_event.specs.declared.entry.Exit.{Exit}
+use Rattle.rv_event.specs.declared.entry.Exit.TheVariants as Exits
+use Rattle.rv_event.specs.declared.entry.Next.{Next}
+use Rattle.rv_event.specs.declared.entry.Next.TheVariants.{HandedTo}
+use Rattle.rv_event.specs.declared.entry.Answer.{Answer}
+use Rattle.rv_event.specs.declared.entry.Answer.TheVariants as Answers
+use Rattle.rv_event.specs.declared.entry.Recorded.{Recorded}
+use Rattle.rv_event.specs.declared.entry.Recorded.TheVariants as Words
+use Rattle.rv_history.specs.Due.{out, goes_on}
+use Rattle.rv_history.specs.History.{changes}
+use Rattle.rv_history.specs.Legal.{Legal}
+use Rattle.rv_history.proofs.First.{names_first}
+use Rattle.rv_port.specs.declared.event.Begun.{Begun}
+use Rattle.rv_port.specs.declared.event.Event.{Event}
+use Rattle.rv_port.specs.declared.event.Event.TheVariants.{Asks}
+use Rattle.rv_port.specs.declared.reached.Reached.{Reached}
+use Rattle.rv_port.specs.declared.reached.Reached.TheVariants as Reaches
+use Rattle.rv_port.specs.Actors.{HasHandler}
+use Rattle.rv_port.specs.Events.{marks, history_at, catalogue_of, called}
+use Rattle.rv_port.specs.Later.{version_seen}
+use Rattle.rv_port.specs.Traces.{Passing, capacity_in, Trace, noted, WoreOut, Went, Asked, asks_on}
+use Rattle.rv_port.specs.Reaching.{Performs, arguments_of, reads, values_of, reached_by, end_of, waits_on, waited_for}
+use Rattle.rv_port.specs.Calls.{Wore, RanOn, Resumed, Waited, Followed, Performed, IsPause, Opens, IsNew, InBody, EndedBy, stops_at, StoppedAsking, Stays, Tied}
+use Rattle.rv_port.proofs.Actors.{handler_later}
+use Rattle.rv_port.proofs.Asking.{asked_later}
+use Rattle.rv_port.proofs.Gets.{calls, delays, of_first, first_gets, of_end, end_gets, of_resume, resume_gets}
+use Rattle.rv_port.proofs.Later.{version_later, is_handed, HandOverIn, handed_in, waits_still, dropped_later, refused_resume, woken_handed}
+use Rattle.rv_port.proofs.Performing.{asked_actor, stays_self, stays_both, went_stays, asked_stays}
+use Rattle.rv_port.proofs.Resuming.{in_queue, paused, waits, queue_waits, pause_waits, is_sound, is_named, in_queue_at, paused_at, resume_sound, queue_wakes, pause_unnamed}
+use Rattle.rv_turn.specs.Histories.{StartsWith, mine}
+use Rattle.rv_turn.specs.Prefixes.{starts_both}
+
+-- What is new
+
+-- what is new stays new
+new_later : (e : Event) (seen mid last : List Event) → IsNew e seen mid → StartsWith last mid → IsNew e seen last
+new_later e seen mid last t p =
+    (t.0, t.1 ++ p.0, p.1 ∙ (ap (λ (l : List Event). l ++ p.0) t.2 ∙ (append_assoc seen (t.0 ++ e ∷ t.1) p.0 ∙ ap (λ (l : List Event). seen ++ l) (append_assoc t.0 (e ∷ t.1) p.0))))
+
+-- what is new after a longer history is new after a shorter one
+new_sooner : (e : Event) (seen mid last : List Event) → StartsWith mid seen → IsNew e mid last → IsNew e seen last
+new_sooner e seen mid last p t =
+    (p.0 ++ t.0, t.1, t.2 ∙ (ap (λ (l : List Event). l ++ (t.0 ++ e ∷ t.1)) p.1 ∙ (append_assoc seen p.0 (t.0 ++ e ∷ t.1) ∙ ap (λ (l : List Event). seen ++ l) (sym (append_assoc p.0 t.0 (e ∷ t.1))))))
+
+-- the body of a call has started: the call's first events, and its start, which is new
+record Opened (v : Passing) (q : Request) (u : Passing) : Type 0 where
+  pub first : List Event
+  pub start : Event
+  pub opens : Opens v.actor q first start
+  pub is_new : IsNew start v.seen u.seen
+  pub own_is : u.own ≡ v.own ++ first
+  pub actor_is : u.actor ≡ v.actor
+  pub stays : Stays v u
+
+opened_at_once : (v u : Passing) (q : Request) (scalars : List ℤ) → Asked v q (Answers.Started scalars) u → Opened v q u
+opened_at_once v u q scalars x = record {
+  first = Asks v.actor q Words.Started ∷ [];
+  start = Asks v.actor q Words.Started;
+  opens = inl (refl, refl);
+  is_new = new_sooner (Asks v.actor q Words.Started) v.seen x.at u.seen x.from ([], [], x.seen_is);
+  own_is = x.own_is;
+  actor_is = asked_actor v u q _ x;
+  stays = asked_stays v u q _ x;
+}
+
+-- the first answer was to wait
+record Waits (v : Passing) (q : Request) (wait : Recorded) (u : Passing) : Type 0 where
+  pub answer : Answer
+  pub asked : Asked v q answer u
+  pub on : waits_on answer ≡ true
+  pub seen_is : u.seen ≡ asked.at ++ Asks v.actor q wait ∷ []
+  pub own_is : u.own ≡ v.own ++ Asks v.actor q wait ∷ []
+  pub actor_is : u.actor ≡ v.actor
+
+-- by its own number
+here : (v u : Passing) (q : Request) (wait : Recorded) (k : Waits v q wait u) → u.seen ≡ k.asked.at ++ Asks u.actor q wait ∷ []
+here v u q wait k = k.seen_is ∙ ap (λ (n : ℕ). k.asked.at ++ Asks n q wait ∷ []) (sym k.actor_is)
+
+-- both events of a wait
+both_own : (v u w : Passing) (q : Request) (wait word : Recorded) → Waits v q wait u → w.own ≡ u.own ++ Asks u.actor Resume word ∷ [] → w.own ≡ v.own ++ Asks v.actor q wait ∷ Asks v.actor Resume word ∷ []
+both_own v u w q wait word k e =
+    e ∙ ((λ i. k.own_is i ++ Asks (k.actor_is i) Resume word ∷ []) ∙ append_assoc v.own (Asks v.actor q wait ∷ []) (Asks v.actor Resume word ∷ []))
+
+-- a longer history backwards
+back_at : (v u : Passing) (q : Request) (wait : Recorded) (log : List Event) (k : Waits v q wait u) (p : StartsWith log u.seen) → reverse log ≡ reverse p.0 ++ Asks v.actor q wait ∷ reverse k.asked.at
+back_at v u q wait log k p =
+    ap reverse p.1 ∙ (reverse-append u.seen p.0 ∙ ap (λ (l : List Event). reverse p.0 ++ l) (ap reverse k.seen_is ∙ reverse-append k.asked.at (Asks v.actor q wait ∷ [])))
+
+opened_by_wait : (v u w : Passing) (o p : ℕ) (vs scalars : List ℤ) → Waits v (Call o p vs) Words.Queued u → Asked u Resume (Answers.Woken (Some scalars)) w → Opened v (Call o p vs) w
+opened_by_wait v u w o p vs scalars k x = record {
+  first = Asks v.actor q Words.Queued ∷ Asks v.actor Resume Words.Woken ∷ [];
+  start = start;
+  opens = inr (refl, (found.of, found.request, refl));
+  is_new = new_sooner start v.seen u.seen w.seen seen_more (new_later start u.seen x.at w.seen newly (subst (λ (l : List Event). StartsWith l x.at) (sym x.seen_is) (Asks u.actor Resume Words.Woken ∷ [], refl)));
+  own_is = both_own v u w q Words.Queued Words.Woken k x.own_is;
+  actor_is = asked_actor u w Resume _ x ∙ k.actor_is;
+  stays = stays_both v u w (asked_stays v u q _ k.asked) (asked_stays u w Resume _ x);
+} where
+  q : Request
+  q = Call o p vs
+
+  handed : is_handed (stance v.actor (marks (reverse x.from.0 ++ Asks v.actor q Words.Queued ∷ reverse k.asked.at))) ≡ true
+  handed = subst (λ (z : ℕ × List Event). is_handed (stance z.0 (marks z.1)) ≡ true) (λ i. (k.actor_is i, back_at v u q Words.Queued x.at k x.from i))
+      (woken_handed (history_at (capacity_in u.about) x.at) u.actor scalars (sym x.due_is))
+
+  found : HandOverIn v.actor (reverse x.from.0)
+  found = handed_in v.actor (reverse x.from.0) (Asks v.actor q Words.Queued ∷ reverse k.asked.at) (waits_still v.actor o p vs (reverse k.asked.at)) handed
+
+  start : Event
+  start = Asks found.of found.request (Words.Done (HandedTo v.actor))
+
+  forth : x.from.0 ≡ reverse found.older ++ start ∷ reverse found.newer
+  forth = sym (reverse-reverse x.from.0)
+      ∙ (ap reverse found.split ∙ (reverse-append found.newer (start ∷ found.older)
+      ∙ (ap (λ (l : List Event). l ++ reverse found.newer) (reverse-append (start ∷ []) found.older) ∙ append_assoc (reverse found.older) (start ∷ []) (reverse found.newer))))
+
+  newly : IsNew start u.seen x.at
+  newly = (reverse found.older, reverse found.newer, x.from.1 ∙ ap (λ (l : List Event). u.seen ++ l) forth)
+
+  seen_more : StartsWith u.seen v.seen
+  seen_more = asked_later v u q _ k.asked
+
+-- What a body that started came to
+
+record LastEnd (u : Passing) (exit : Exit) (w : Passing) : Type 0 where
+  pub asked : Trace
+  pub scalars : List ℤ
+  pub next : Next
+  pub own_is : w.own ≡ u.own ++ (noted u.actor asked ++ Asks u.actor (Complete scalars exit) (Words.Done next) ∷ [])
+  pub later : StartsWith w.seen u.seen
+
+-- its end was asked in vain
+record NoEnd (u w : Passing) : Type 0 where
+  pub asked : Trace
+  pub body : Passing
+  pub went : Went u asked body
+  pub scalars : List ℤ
+  pub exit : Exit
+  pub reason : WoreOut body (Complete scalars exit) w ⊎ ((d : Answer) × Asked body (Complete scalars exit) d w × (stops_at (Complete scalars exit) d ≡ true))
+
+abbrev RanTo : Passing → Reached → Passing → Type 0
+RanTo u (Reaches.Returned values) w = LastEnd u (Exits.Return values) w
+RanTo u (Reaches.Raised exception) w = (exit : Exit) × (reached_by exit ≡ Reaches.Raised exception) × LastEnd u exit w
+RanTo u Reaches.Stopped w = NoEnd u w ⊎ LastEnd u Exits.Stopped w
+RanTo u reached w = ⊥
+
+ended_by : (v u w : Passing) (q : Request) (exit : Exit) → Opened v q u → LastEnd u exit w → EndedBy v q exit w
+ended_by v u w q exit o t = record {
+  first = o.first;
+  start = o.start;
+  opens = o.opens;
+  is_new = new_later o.start v.seen u.seen w.seen o.is_new t.later;
+  asked = t.asked;
+  scalars = t.scalars;
+  next = t.next;
+  own_is = subst (λ (n : ℕ). w.own ≡ u.own ++ (noted n t.asked ++ Asks n (Complete t.scalars exit) (Words.Done t.next) ∷ [])) o.actor_is t.own_is
+      ∙ (ap (λ (l : List Event). l ++ (noted v.actor t.asked ++ Asks v.actor (Complete t.scalars exit) (Words.Done t.next) ∷ [])) o.own_is
+      ∙ append_assoc v.own o.first (noted v.actor t.asked ++ Asks v.actor (Complete t.scalars exit) (Words.Done t.next) ∷ []));
+}
+
+in_body : (v u k : Passing) (q : Request) (asked : Trace) → Opened v q u → Went u asked k → InBody v q asked k
+in_body v u k q asked o t = record {
+  first = o.first;
+  start = o.start;
+  opens = o.opens;
+  is_new = new_later o.start v.seen u.seen k.seen o.is_new t.later;
+  own_is = subst (λ (n : ℕ). k.own ≡ u.own ++ noted n asked) o.actor_is t.own
+      ∙ (ap (λ (l : List Event). l ++ noted v.actor asked) o.own_is ∙ append_assoc v.own o.first (noted v.actor asked));
+}
+
+no_end : (v u w : Passing) (q : Request) → Opened v q u → NoEnd u w → StoppedAsking v q w
+no_end v u w q o t = record {
+  asker = t.body;
+  same = stays_both v u t.body o.stays (went_stays u t.body t.asked t.went);
+  request = Complete t.scalars t.exit;
+  last = inr (inr (t.asked, in_body v u t.body q t.asked o t.went, t.scalars, t.exit, refl));
+  reason = t.reason;
+}
+
+tied_body : (v u w : Passing) (q : Request) (reached : Reached) → Opened v q u → RanTo u reached w → Tied v q reached w
+tied_body v u w q (Reaches.Returned values) o t = inl (ended_by v u w q (Exits.Return values) o t)
+tied_body v u w q (Reaches.Raised e) o t = (t.0, t.1, ended_by v u w q t.0 o t.2)
+tied_body v u w q Reaches.Stopped o t = ⊎_elim (λ none. inl (no_end v u w q o none)) (λ l. inr (ended_by v u w q Exits.Stopped o l)) t
+tied_body v u w q (Reaches.Refused rule line version) o t = absurd t
+tied_body v u w q Reaches.Misuse o t = absurd t
+
+done_last : (u w : Passing) (trace : Trace) (k : Passing) (scalars : List ℤ) (exit : Exit) (next : Next) → Went u trace k → Asked k (Complete scalars exit) (Answers.Done next) w → LastEnd u exit w
+done_last u w trace k scalars exit next p x = record {
+  asked = trace;
+  scalars = scalars;
+  next = next;
+  own_is = x.own_is ∙ ((λ i. p.own i ++ Asks (ap (λ (z : Passing). z.actor) p.same i) (Complete scalars exit) (Words.Done next) ∷ [])
+      ∙ append_assoc u.own (noted u.actor trace) (Asks u.actor (Complete scalars exit) (Words.Done next) ∷ []));
+  later = starts_both u.seen k.seen w.seen p.later (asked_later k w _ _ x);
+}
+
+by_exit : (u w : Passing) (exit : Exit) → LastEnd u exit w → RanTo u (reached_by exit) w
+by_exit u w (Exits.Return values) t = t
+by_exit u w (Exits.Raise e) t = (Exits.Raise e, refl, t)
+by_exit u w Exits.Overrun t = (Exits.Overrun, refl, t)
+by_exit u w Exits.Stopped t = inr t
+
+-- the answer to its end stops the call
+stopped_end : (u w : Passing) (trace : Trace) (k : Passing) (scalars : List ℤ) (exit : Exit) (d : Answer) → Went u trace k → Asked k (Complete scalars exit) d w → stops_at (Complete scalars exit) d ≡ true → NoEnd u w
+stopped_end u w trace k scalars exit d p x e = record { asked = trace; body = k; went = p; scalars = scalars; exit = exit; reason = inr (d, x, e) }
+
+ran_end : (u w : Passing) (trace : Trace) (k : Passing) (scalars : List ℤ) (exit : Exit) (d : Answer) → Went u trace k → Asked k (Complete scalars exit) d w → of_end d ≡ true → RanTo u (end_of d exit) w
+ran_end u w trace k scalars exit (Answers.Done next) p x e = by_exit u w exit (done_last u w trace k scalars exit next p x)
+ran_end u w trace k scalars exit Answers.Misuse p x e = inl (stopped_end u w trace k scalars exit Answers.Misuse p x refl)
+ran_end u w trace k scalars exit Answers.Full p x e = inl (stopped_end u w trace k scalars exit Answers.Full p x refl)
+ran_end u w trace k scalars exit (Answers.Refused rule line version) p x e = absurd (cc e)
+ran_end u w trace k scalars exit (Answers.Accepted value) p x e = absurd (cc e)
+ran_end u w trace k scalars exit (Answers.Woken s) p x e = absurd (cc e)
+ran_end u w trace k scalars exit (Answers.Started s) p x e = absurd (cc e)
+ran_end u w trace k scalars exit Answers.Queued p x e = absurd (cc e)
+ran_end u w trace k scalars exit Answers.Suspended p x e = absurd (cc e)
+ran_end u w trace k scalars exit Answers.Delayed p x e = absurd (cc e)
+ran_end u w trace k scalars exit Answers.Halted p x e = absurd (cc e)
+ran_end u w trace k scalars exit Answers.Busy p x e = absurd (cc e)
+ran_end u w trace k scalars exit Answers.Waiting p x e = absurd (cc e)
+ran_end u w trace k scalars exit Answers.Unattached p x e = absurd (cc e)
+ran_end u w trace k scalars exit Answers.BadLine p x e = absurd (cc e)
+ran_end u w trace k scalars exit Answers.OutOfMemory p x e = absurd (cc e)
+
+ended_so : (v w : Passing) (scalars : List ℤ) (exit : Exit) (d : Answer) → Asked v (Complete scalars exit) d w → of_end d ≡ true
+ended_so v w scalars exit d x = ap of_end x.due_is ∙ end_gets (history_at (capacity_in v.about) x.at) v.actor scalars exit
+
+ran_to : (u w : Passing) (bodies : Option UnitBodies) (b : Begun) (scalars arguments : List ℤ) (reached : Reached) → RanOn bodies u b scalars arguments reached w → RanTo u reached w
+ran_to u w bodies b scalars arguments reached n =
+    ⊎_elim (λ wore. subst (λ (z : Reached). RanTo u z w) (sym wore.1) (inl (record { asked = n.trace; body = n.body; went = n.went; scalars = n.ended.scalars; exit = n.ended.exit; reason = inl wore.0 })))
+    (λ t. subst (λ (z : Reached). RanTo u z w) (sym t.3) (ran_end u w n.trace n.body n.ended.scalars n.ended.exit t.0 n.went t.1 (ended_so n.body w n.ended.scalars n.ended.exit t.0 t.1))) n.end_is
+
+-- What a call came to
+
+stopped_first : (v w : Passing) (q : Request) (d : Answer) → Asked v q d w → stops_at q d ≡ true → StoppedAsking v q w
+stopped_first v w q d x e = record { asker = v; same = stays_self v; request = q; last = inl (refl, refl); reason = inr (d, x, e) }
+
+stopped_then : (v u w : Passing) (q : Request) (wait : Recorded) (d : Answer) → Waits v q wait u → Asked u Resume d w → stops_at Resume d ≡ true → StoppedAsking v q w
+stopped_then v u w q wait d k x e =
+    record { asker = u; same = asked_stays v u q k.answer k.asked; request = Resume; last = inr (inl (k.answer, k.asked, k.on, refl)); reason = inr (d, x, e) }
+
+tied_wore : (v w : Passing) (q : Request) (reached : Reached) → Wore v q reached w → Tied v q reached w
+tied_wore v w q reached t = subst (λ (z : Reached). Tied v q z w) (sym t.1) (inl (record { asker = v; same = stays_self v; request = q; last = inl (refl, refl); reason = inl t.0 }))
+
+as_told : (v u w : Passing) (m n : Bool) (q : Request) (to reached : Reached) → Tied v q to u → (w ≡ u) × (n ≡ m) × (reached ≡ to) → Tied v q reached w
+as_told v u w m n q to reached is t = subst (λ (z : Reached × Passing). Tied v q z.0 z.1) (λ i. (sym t.2 i, sym t.0 i)) is
+
+-- the version of a refusal at once
+refused_at : (v u : Passing) (q : Request) (rule : Rule) (line version : ℕ) → goes_on q ≡ false → Asked v q (Answers.Refused rule line version) u → version_seen v.seen ≤ version
+refused_at v u q rule line version g x =
+    let is : version ≡ version_seen x.at = (names_first (history_at (capacity_in v.about) x.at) v.actor q rule line version g (sym x.due_is)).version_is in
+    let more : version_seen v.seen ≤ version_seen x.at = version_later v.seen x.at x.from in omega (arith, is, more)
+
+-- and that of one after a wait
+refused_then : (v u w : Passing) (o p : ℕ) (vs : List ℤ) (rule : Rule) (line version : ℕ) → Waits v (Call o p vs) Words.Queued u → Asked u Resume (Answers.Refused rule line version) w → version_seen v.seen ≤ version
+refused_then v u w o p vs rule line version k x = omega (arith, is, drop, more) where
+  past : List Event
+  past = reverse x.from.0 ++ Asks v.actor (Call o p vs) Words.Queued ∷ reverse k.asked.at
+
+  is : version ≡ changes (until_then v.actor (marks past))
+  is = refused_resume (history_at (capacity_in u.about) x.at) u.actor rule line version (sym x.due_is)
+      ∙ (λ i. changes (until_then (k.actor_is i) (marks (back_at v u (Call o p vs) Words.Queued x.at k x.from i))))
+
+  drop : changes (marks (reverse k.asked.at)) ≤ changes (until_then v.actor (marks past))
+  drop = dropped_later v.actor o p vs (reverse x.from.0) (reverse k.asked.at)
+
+  more : changes (marks (reverse v.seen)) ≤ changes (marks (reverse k.asked.at))
+  more = version_later v.seen k.asked.at k.asked.from
+
+-- it is in the queue, or was named since
+queue_at : (v u k : Passing) (o p : ℕ) (vs : List ℤ) (r : Answer) → Waits v (Call o p vs) Words.Queued u → (x : Asked u Resume r k) → in_queue (stance u.actor (history_at (capacity_in u.about) x.at).past) ≡ true
+queue_at v u k o p vs r a x = in_queue_at (capacity_in u.about) u.actor u.seen x.at (u.base ++ u.own) a.asked.at o p vs x.from (here v u (Call o p vs) Words.Queued a) a.asked.owns x.owned
+
+-- it is still at its pause
+pause_at : (v u k : Passing) (q : Request) (wait : Recorded) (r : Answer) → Waits v q wait u → IsPause q wait → (x : Asked u Resume r k) → paused (stance u.actor (history_at (capacity_in u.about) x.at).past) ≡ true
+pause_at v u k q wait r a pause x = paused_at (capacity_in u.about) u.actor u.seen x.at (u.base ++ u.own) a.asked.at q wait x.from (here v u q wait a) a.asked.owns x.owned pause x.legal
+
+-- the resume of one that waits is no misuse
+no_misuse : {X : Type 0} (u k : Passing) (x : Asked u Resume Answers.Misuse k) → waits (stance u.actor (history_at (capacity_in u.about) x.at).past) ≡ true → X
+no_misuse u k x e = absurd (cc (ap is_sound x.due_is ∙ resume_sound (history_at (capacity_in u.about) x.at) u.actor x.legal e))
+
+tied_queue : (v u k w : Passing) (m f : Bool) (o p : ℕ) (vs : List ℤ) (r : Answer) (log : List Event) (reached : Reached) → Waits v (Call o p vs) Words.Queued u → Asked u Resume r k → of_resume r ≡ true → asks_on r ≡ false
+    → Resumed r log k m (Call o p vs) reached w f → Tied v (Call o p vs) reached w
+tied_queue v u k w m f o p vs (Answers.Woken (Some s)) log reached a x e n t =
+    tied_body v k w (Call o p vs) reached (opened_by_wait v u k o p vs s a x) (ran_to k w t.0 (waited_for (Call o p vs)) s vs reached t.3)
+tied_queue v u k w m f o p vs (Answers.Woken None) log reached a x e n t = queue_wakes (history_at (capacity_in u.about) x.at) u.actor (queue_at v u k o p vs (Answers.Woken None) a x) (sym x.due_is)
+tied_queue v u k w m f o p vs (Answers.Refused rule line version) log reached a x e n t =
+    as_told v k w m f (Call o p vs) (Reaches.Refused rule line version) reached (inr (both_own v u k (Call o p vs) Words.Queued (Words.Refused rule line version) a x.own_is), refused_then v u k o p vs rule line version a x) t
+tied_queue v u k w m f o p vs Answers.Misuse log reached a x e n t = no_misuse u k x (queue_waits _ (queue_at v u k o p vs Answers.Misuse a x))
+tied_queue v u k w m f o p vs Answers.Halted log reached a x e n t = as_told v k w m f (Call o p vs) Reaches.Stopped reached (inl (stopped_then v u k (Call o p vs) Words.Queued Answers.Halted a x refl)) t
+tied_queue v u k w m f o p vs Answers.Full log reached a x e n t = as_told v k w m f (Call o p vs) Reaches.Stopped reached (inl (stopped_then v u k (Call o p vs) Words.Queued Answers.Full a x refl)) t
+tied_queue v u k w m f o p vs Answers.Waiting log reached a x e n t = absurd (cc n)
+tied_queue v u k w m f o p vs (Answers.Started s) log reached a x e n t = absurd (cc e)
+tied_queue v u k w m f o p vs (Answers.Done d) log reached a x e n t = absurd (cc e)
+tied_queue v u k w m f o p vs (Answers.Accepted value) log reached a x e n t = absurd (cc e)
+tied_queue v u k w m f o p vs Answers.Queued log reached a x e n t = absurd (cc e)
+tied_queue v u k w m f o p vs Answers.Suspended log reached a x e n t = absurd (cc e)
+tied_queue v u k w m f o p vs Answers.Delayed log reached a x e n t = absurd (cc e)
+tied_queue v u k w m f o p vs Answers.Busy log reached a x e n t = absurd (cc e)
+tied_queue v u k w m f o p vs Answers.Unattached log reached a x e n t = absurd (cc e)
+tied_queue v u k w m f o p vs Answers.BadLine log reached a x e n t = absurd (cc e)
+tied_queue v u k w m f o p vs Answers.OutOfMemory log reached a x e n t = absurd (cc e)
+
+tied_pause : (v u k w : Passing) (m f : Bool) (q : Request) (wait : Recorded) (r : Answer) (log : List Event) (reached : Reached) → Waits v q wait u → IsPause q wait → Asked u Resume r k → of_resume r ≡ true → asks_on r ≡ false
+    → Resumed r log k m q reached w f → Tied v q reached w
+tied_pause v u k w m f q wait (Answers.Woken (Some s)) log reached a h x e n t =
+    pause_unnamed (history_at (capacity_in u.about) x.at) u.actor (Answers.Woken (Some s)) (pause_at v u k q wait (Answers.Woken (Some s)) a h x) (sym x.due_is) refl
+tied_pause v u k w m f q wait (Answers.Woken None) log reached a h x e n t = as_told v k w m f q (Reaches.Returned []) reached (inr (inr (wait, h, refl, both_own v u k q wait Words.Woken a x.own_is))) t
+tied_pause v u k w m f q wait (Answers.Refused rule line version) log reached a h x e n t =
+    pause_unnamed (history_at (capacity_in u.about) x.at) u.actor (Answers.Refused rule line version) (pause_at v u k q wait (Answers.Refused rule line version) a h x) (sym x.due_is) refl
+tied_pause v u k w m f q wait Answers.Misuse log reached a h x e n t = no_misuse u k x (pause_waits _ (pause_at v u k q wait Answers.Misuse a h x))
+tied_pause v u k w m f q wait Answers.Halted log reached a h x e n t = as_told v k w m f q Reaches.Stopped reached (inl (stopped_then v u k q wait Answers.Halted a x refl)) t
+tied_pause v u k w m f q wait Answers.Full log reached a h x e n t = as_told v k w m f q Reaches.Stopped reached (inl (stopped_then v u k q wait Answers.Full a x refl)) t
+tied_pause v u k w m f q wait Answers.Waiting log reached a h x e n t = absurd (cc n)
+tied_pause v u k w m f q wait (Answers.Started s) log reached a h x e n t = absurd (cc e)
+tied_pause v u k w m f q wait (Answers.Done d) log reached a h x e n t = absurd (cc e)
+tied_pause v u k w m f q wait (Answers.Accepted value) log reached a h x e n t = absurd (cc e)
+tied_pause v u k w m f q wait Answers.Queued log reached a h x e n t = absurd (cc e)
+tied_pause v u k w m f q wait Answers.Suspended log reached a h x e n t = absurd (cc e)
+tied_pause v u k w m f q wait Answers.Delayed log reached a h x e n t = absurd (cc e)
+tied_pause v u k w m f q wait Answers.Busy log reached a h x e n t = absurd (cc e)
+tied_pause v u k w m f q wait Answers.Unattached log reached a h x e n t = absurd (cc e)
+tied_pause v u k w m f q wait Answers.BadLine log reached a h x e n t = absurd (cc e)
+tied_pause v u k w m f q wait Answers.OutOfMemory log reached a h x e n t = absurd (cc e)
+
+wore_then : (v u w : Passing) (q : Request) (wait : Recorded) (reached : Reached) → Waits v q wait u → Wore u Resume reached w → Tied v q reached w
+wore_then v u w q wait reached k t = subst (λ (z : Reached). Tied v q z w) (sym t.1)
+    (inl (record { asker = u; same = asked_stays v u q k.answer k.asked; request = Resume; last = inr (inl (k.answer, k.asked, k.on, refl)); reason = inl t.0 }))
+
+resumed_so : (u k : Passing) (r : Answer) → Asked u Resume r k → of_resume r ≡ true
+resumed_so u k r x = ap of_resume x.due_is ∙ resume_gets (history_at (capacity_in u.about) x.at) u.actor
+
+-- a call that was queued
+after_queue : (v u w : Passing) (m f : Bool) (q : Request) (reached : Reached) → calls q ≡ true → Waits v q Words.Queued u → Waited u m q reached w f → Tied v q reached w
+after_queue v u w m f (Call o p vs) reached c a t = ⊎_elim (λ wore. wore_then v u w (Call o p vs) Words.Queued reached a wore.0)
+    (λ x. tied_queue v u x.1 w m f o p vs x.0 x.2.at reached a x.2 (resumed_so u x.1 x.0 x.2) x.3 x.4) t
+after_queue v u w m f (DelayUntil time) reached c a t = absurd (cc c)
+after_queue v u w m f Clock reached c a t = absurd (cc c)
+after_queue v u w m f Fire reached c a t = absurd (cc c)
+after_queue v u w m f (Complete vs x) reached c a t = absurd (cc c)
+after_queue v u w m f Resume reached c a t = absurd (cc c)
+after_queue v u w m f Quit reached c a t = absurd (cc c)
+after_queue v u w m f (Tick n) reached c a t = absurd (cc c)
+after_queue v u w m f Halt reached c a t = absurd (cc c)
+
+-- one that paused
+after_pause : (v u w : Passing) (m f : Bool) (q : Request) (wait : Recorded) (reached : Reached) → IsPause q wait → Waits v q wait u → Waited u m q reached w f → Tied v q reached w
+after_pause v u w m f q wait reached h a t = ⊎_elim (λ wore. wore_then v u w q wait reached a wore.0)
+    (λ x. tied_pause v u x.1 w m f q wait x.0 x.2.at reached a h x.2 (resumed_so u x.1 x.0 x.2) x.3 x.4) t
+
+suspends : (q : Request) → calls q ≡ true → IsPause q Words.Suspended
+suspends (Call o p vs) e = tt
+suspends (DelayUntil time) e = absurd (cc e)
+suspends Clock e = absurd (cc e)
+suspends Fire e = absurd (cc e)
+suspends (Complete vs x) e = absurd (cc e)
+suspends Resume e = absurd (cc e)
+suspends Quit e = absurd (cc e)
+suspends (Tick n) e = absurd (cc e)
+suspends Halt e = absurd (cc e)
+
+delayed : (q : Request) → delays q ≡ true → IsPause q Words.Delayed
+delayed (DelayUntil time) e = tt
+delayed (Call o p vs) e = absurd (cc e)
+delayed Clock e = absurd (cc e)
+delayed Fire e = absurd (cc e)
+delayed (Complete vs x) e = absurd (cc e)
+delayed Resume e = absurd (cc e)
+delayed Quit e = absurd (cc e)
+delayed (Tick n) e = absurd (cc e)
+delayed Halt e = absurd (cc e)
+
+tied_followed : (v u w : Passing) (m f : Bool) (q : Request) (r : Answer) (log : List Event) (b : Begun) (reached : Reached) → goes_on q ≡ false → of_first q r ≡ true → asks_on r ≡ false → Asked v q r u
+    → Followed r log b u m q reached w f → Tied v q reached w
+tied_followed v u w m f q (Answers.Started s) log b reached g e n x t = tied_body v u w q reached (opened_at_once v u q s x) (ran_to u w t.0 b s (arguments_of q) reached t.3)
+tied_followed v u w m f q Answers.Queued log b reached g e n x t =
+    after_queue v u w m f q reached e (record { answer = Answers.Queued; asked = x; on = refl; seen_is = x.seen_is; own_is = x.own_is; actor_is = asked_actor v u q _ x }) t
+tied_followed v u w m f q Answers.Suspended log b reached g e n x t =
+    after_pause v u w m f q Words.Suspended reached (suspends q e) (record { answer = Answers.Suspended; asked = x; on = refl; seen_is = x.seen_is; own_is = x.own_is; actor_is = asked_actor v u q _ x }) t
+tied_followed v u w m f q Answers.Delayed log b reached g e n x t =
+    after_pause v u w m f q Words.Delayed reached (delayed q e) (record { answer = Answers.Delayed; asked = x; on = refl; seen_is = x.seen_is; own_is = x.own_is; actor_is = asked_actor v u q _ x }) t
+tied_followed v u w m f q (Answers.Refused rule line version) log b reached g e n x t = as_told v u w m f q (Reaches.Refused rule line version) reached (inl x.own_is, refused_at v u q rule line version g x) t
+tied_followed v u w m f q (Answers.Accepted value) log b reached g e n x t = as_told v u w m f q (Reaches.Returned (values_of (reads q) value)) reached (inr (inl (value, refl, x.own_is))) t
+tied_followed v u w m f q Answers.Misuse log b reached g e n x t = as_told v u w m f q Reaches.Misuse reached x t
+tied_followed v u w m f q Answers.Halted log b reached g e n x t = as_told v u w m f q Reaches.Stopped reached (inl (stopped_first v u q Answers.Halted x refl)) t
+tied_followed v u w m f q Answers.Full log b reached g e n x t = as_told v u w m f q Reaches.Stopped reached (inl (stopped_first v u q Answers.Full x refl)) t
+tied_followed v u w m f q Answers.Busy log b reached g e n x t = absurd (cc n)
+tied_followed v u w m f q (Answers.Woken s) log b reached g e n x t = absurd (cc e)
+tied_followed v u w m f q (Answers.Done d) log b reached g e n x t = absurd (cc e)
+tied_followed v u w m f q Answers.Waiting log b reached g e n x t = absurd (cc e)
+tied_followed v u w m f q Answers.Unattached log b reached g e n x t = absurd (cc e)
+tied_followed v u w m f q Answers.BadLine log b reached g e n x t = absurd (cc e)
+tied_followed v u w m f q Answers.OutOfMemory log b reached g e n x t = absurd (cc e)
+
+stops_on_halt : (q : Request) → Performs q → goes_on q ≡ false
+stops_on_halt (Call o p vs) t = refl
+stops_on_halt (DelayUntil time) t = refl
+stops_on_halt Clock t = refl
+stops_on_halt Fire t = refl
+stops_on_halt (Complete vs x) t = absurd t
+stops_on_halt Resume t = absurd t
+stops_on_halt Quit t = absurd t
+stops_on_halt (Tick n) t = absurd t
+stops_on_halt Halt t = absurd t
+
+-- one performance, by a line that has its handler or by a task
+pub tied : (v w : Passing) (m f : Bool) (q : Request) (reached : Reached) → HasHandler (catalogue_of v.seen) v.actor → Performs q → Performed v m q reached w f → Tied v q reached w
+tied v w m f q reached has p t = ⊎_elim (λ wore. tied_wore v w q reached wore.0)
+    (λ x. tied_followed v x.1 w m f q x.0 x.2.at (called (catalogue_of x.2.at) v.actor q) reached (stops_on_halt q p)
+    (ap (of_first q) x.2.due_is ∙ first_gets (history_at (capacity_in v.about) x.2.at) v.actor q (handler_later v.seen x.2.at v.actor x.2.from has) p) x.3 x.2 x.4) t
