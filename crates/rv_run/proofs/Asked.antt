@@ -1,13 +1,11 @@
 -- What commands ask of the host.
-use Rattle.std.proofs.Common.{◌≡◌, List, ℕ, Ok, Err, inl, inr, refl, MatchResult}
+use Rattle.std.proofs.Common.{◌≡◌, List, ℕ, Ok, Err, inl, inr, refl}
 use Rattle.std.specs.Prelude.{Result, ◌⊎◌}
 use Rattle.rv_code.specs.declared.body.UnitBodies.{UnitBodies}
 use Rattle.rv_shape.specs.Shape.{Shape}
 use Rattle.rv_event.specs.declared.entry.Answer.{Answer}
-use Rattle.rv_turn.specs.Passes.{IsWorn}
 use Rattle.rv_turn.specs.declared.pass.Worn.{Worn}
 use Rattle.rv_port.specs.Traces.{Passing}
-use Rattle.rv_port.specs.Controls.{Brings, LoadTold}
 use Rattle.rv_text.specs.Words.{words}
 use Rattle.rv_shell.specs.Orders.{order_of}
 use Rattle.rv_shell.specs.Serving.{Serves, Written}
@@ -15,11 +13,11 @@ use Rattle.rv_shell.specs.declared.shell.Next.TheVariants as Nexts
 use Rattle.rv_shell.specs.declared.shell.Next.{Next}
 use Rattle.rv_shell.specs.declared.shell.LineFault.{LineFault}
 use Rattle.rv_staff.specs.Giving.{Gives}
-use Rattle.rv_run.specs.Commanding.{Commands, Follows, Loads}
+use Rattle.rv_run.specs.Commanding.{Commands, Follows, Loads, LoadsIn}
 
 -- a unit was loaded, and ports were given
 pub loads_by : (v u w : Passing) (shape : Shape) (bodies : UnitBodies) (answer : Result Answer Worn)
-    → MatchResult answer (λ r. LoadTold v shape (λ b. Brings shape bodies b) r u) (λ x. IsWorn v u) → (count : ℕ) × Gives count u w → (w ≡ v) ⊎ Loads v w
+    → LoadsIn v shape bodies answer u → (count : ℕ) × Gives count u w → (w ≡ v) ⊎ Loads v w
 loads_by v u w shape bodies answer told given = inr record {
   shape = shape;
   bodies = bodies;

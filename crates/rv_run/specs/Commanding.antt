@@ -1,5 +1,5 @@
 -- What a command of the operator asks of the host. (own)
-use Rattle.std.specs.Prelude.{◌≡◌, ◌⊎◌, ℕ, List, Option, MatchResult, Result, Ok, Err}
+use Rattle.std.specs.Prelude.{◌≡◌, ◌⊎◌, ℕ, List, Option, Result, Ok, Err}
 use Rattle.rv_code.specs.declared.body.UnitBodies.{UnitBodies}
 use Rattle.rv_shape.specs.Shape.{Shape}
 use Rattle.rv_event.specs.declared.entry.Answer.{Answer}
@@ -15,13 +15,18 @@ use Rattle.rv_shell.specs.declared.shell.LineFault.{LineFault}
 use Rattle.rv_text.specs.Words.{words}
 use Rattle.rv_staff.specs.Giving.{Gives}
 
+-- a load is answered, or no act is left for it
+abbrev pub LoadsIn : Passing → Shape → UnitBodies → Result Answer Worn → Passing → Type 0
+LoadsIn v shape bodies (Ok answer) w = LoadTold v shape (λ u. Brings shape bodies u) answer w
+LoadsIn v shape bodies (Err worn) w = IsWorn v w
+
 -- one unit is loaded, and then ports are given
 pub record Loads (v w : Passing) : Type 0 where
   pub shape : Shape
   pub bodies : UnitBodies
   pub answer : Result Answer Worn
   pub between : Passing
-  pub told : MatchResult answer (λ r. LoadTold v shape (λ u. Brings shape bodies u) r between) (λ x. IsWorn v between)
+  pub told : LoadsIn v shape bodies answer between
   pub count : ℕ
   pub given : Gives count between w
 

@@ -2,13 +2,15 @@
 
 ghost use Rattle.std.specs.Prelude.{◌≡◌, ◌⊎◌, ℕ};
 ghost use Rattle.rv_staff.specs.Giving.{Gives};
-ghost use Rattle.rv_run.specs.Commanding.{Commands, Loads};
+ghost use Rattle.rv_run.specs.Commanding.{Commands, Loads, LoadsIn};
 
 use crate::journal::not_written;
 use crate::loads::unit_of;
+use rv_code::UnitBodies;
 use rv_event::entry::Answer;
 use rv_fault::{Failure, What};
 use rv_input::{Input, InputFault};
+use rv_shape::shape::UnitShape;
 use rv_shell::{LineFault, Next, Shell};
 use rv_staff::{Hires, Session, raise, say, start_threads};
 use rv_turn::Worn;
@@ -77,6 +79,21 @@ fn welcome<H: Hires, W: Write>(
     }
 }
 
+// Loads a unit.
+fn load_unit<T: Wait>(
+    rt: &T,
+    session: &mut Session,
+    shape: UnitShape,
+    bodies: UnitBodies,
+) -> Result<Answer, Worn>
+    ensures { LoadsIn session.old.staff.control shape bodies result session.new.staff.control }
+{
+    match session.staff.load(rt, shape, bodies) {
+        Ok(answer) => Ok(answer),
+        Err(worn) => Err(worn),
+    }
+}
+
 // Loads the unit of a text.
 #[tactic(auto, using(crate::proofs::Asked::loads_by))]
 fn load<T: Wait, H: Hires, W: Write>(
@@ -90,7 +107,7 @@ fn load<T: Wait, H: Hires, W: Write>(
 {
     match unit_of(session.alloc, session.staff.catalogue(), text) {
         Ok(Unit { shape, bodies }) => {
-            let answer = session.staff.load(rt, shape, bodies);
+            let answer = load_unit(rt, session, shape, bodies);
             welcome(hires, session, answer, writer)
         }
         Err(what) => complain(session.alloc, what, writer),
