@@ -1,6 +1,8 @@
 //! The threads of `run`: each runs a job that is boxed in `main`.
 
+ghost use Rattle.std.specs.Coded.{codes};
 ghost use Rattle.std.specs.Prelude.{◌≡◌};
+ghost use Rattle.rv_port.specs.contracts.event.Event as e;
 ghost use Rattle.rv_staff.specs.Hiring.{hired};
 
 use rv_crew::crew::{Crew, StartFault};
@@ -28,7 +30,7 @@ pub struct Hands {
     pub begin: Box<dyn Fn(&mut Crew, Port, Work) -> Result<(), HireFault> + Send>,
     pub ghost callable: { (crew : _) (port : _) (work : _) → pre begin crew port work },
     pub ghost starts: { (crew : _) (port : _) (work : _) (result : _) (after : _)
-        → post begin crew port work result after → after.now ≡ hired crew.now port result },
+        → post begin crew port work result after → after.now ≡ hired crew.now port result } by { Prim.hlevel (codes, e.the_row.coded) },
 }
 
 impl Hires for Hands {
