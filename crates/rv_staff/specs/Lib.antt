@@ -3,3 +3,4 @@ pub mod Staffs
 pub mod Ending
 pub mod Saying
 pub mod Giving
+pub mod Working

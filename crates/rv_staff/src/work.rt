@@ -1,6 +1,7 @@
 //! What the threads of a run do.
 
 ghost use Rattle.std.specs.Prelude.{◌≡◌};
+ghost use Rattle.rv_staff.specs.Working.{Works};
 
 use crossbeam_channel::Receiver;
 use rv_crew::tasks::{device, line_task, text_task};
@@ -20,6 +21,7 @@ pub enum Work {
 
 /// Does the work of an actor, and finishes its port.
 pub fn perform<R: Wait>(rt: &R, port: Port, work: Work) -> Finished
+    ensures works { Works work port result }
     ensures turn { result.turn ≡ port.turn }
     ensures actor { result.actor ≡ port.actor }
 {
