@@ -5,7 +5,7 @@ ghost use Rattle.clap.specs.Words.{app_of, new_app, rule_of, subcommand_rows_of,
 ghost use Rattle.clap.specs.Walk.{Row, Text};
 ghost use Rattle.clap.specs.declared.builder.command.Command.TheViews.{out-Command as fields_of};
 ghost use Rattle.ravenhost.specs.declared.chosen.Unchosen.TheVariants as Unchosen;
-ghost use Rattle.ravenhost.specs.Choices.{Chooses, Lacks, Names, flag_rule, line_of, program};
+ghost use Rattle.ravenhost.specs.Choices.{Chooses, Lacks, Names, NamesNone, flag_rule, line_of, program};
 
 use clap::error::ErrorKind;
 use clap::{Arg, ArgAction, ArgMatches, Command, Error};
@@ -18,6 +18,8 @@ pub enum Choice {
     Play(bool),
     /// Look at the sections of a script; where the flag is set, its fault is explained.
     Check(bool),
+    /// Run a host, with a thread for each actor, and serve the operator's commands.
+    Run,
 }
 
 /// Why the words of a command line choose nothing.
@@ -59,6 +61,16 @@ fn subcommand<'a>(
     Command::new(alloc, name).about(about).arg(flag)
 }
 
+// The subcommand `run`, which has no flag.
+fn run_subcommand<'a>(alloc: Global) -> Command<'a>
+    ensures app { app_of result ≡ new_app (codes "run") }
+    ensures local { (fields_of result).has_globals ≡ false }
+{
+    Command::new(alloc, "run").about(
+        "Run the host of a script from standard input, and serve the commands that follow its line @run",
+    )
+}
+
 // The command line that the program takes.
 fn command<'a>(alloc: Global) -> Result<Command<'a>, AllocError>
     ensures { IfOk result (λ c. app_of c ≡ program) }
@@ -90,7 +102,8 @@ fn command<'a>(alloc: Global) -> Result<Command<'a>, AllocError>
         .version(VERSION)
         .subcommand_required(true)
         .subcommand(play)?
-        .subcommand(check)
+        .subcommand(check)?
+        .subcommand(run_subcommand(alloc))
 }
 
 // What a command line that was read chooses.
@@ -98,7 +111,7 @@ fn choice_of(matches: &ArgMatches<'_>) -> Option<Choice>
     ensures found { IfSome result (λ choice. (found : Text × List Row)
         × (subcommand_rows_of matches.now ≡ Some found) × Names found choice) }
     ensures none { IfNone result ((found : Text × List Row) → subcommand_rows_of matches.now ≡ Some found
-        → (found.0 ≡ codes "play" → ⊥) × (found.0 ≡ codes "check" → ⊥)) }
+        → NamesNone found) }
 {
     let (name, words) = matches.subcommand()?;
     if name == "play" {
@@ -106,6 +119,9 @@ fn choice_of(matches: &ArgMatches<'_>) -> Option<Choice>
     }
     if name == "check" {
         return Some(Choice::Check(words.get_flag("explain")));
+    }
+    if name == "run" {
+        return Some(Choice::Run);
     }
     None
 }

@@ -6,8 +6,11 @@ ghost use Rattle.rv_play.specs.Scripted.{outcome_of};
 ghost use Rattle.rv_check.specs.Checks.{KeepsRefused, outcome_of as checked};
 
 use rv_fault::Failure;
+use rv_staff::Hires;
 use std::alloc::Global;
 use std::io::{Read, Write};
+use std::sync::Wait;
+use std::thread::Threads;
 
 /// Carries out the script that a reader gives, and writes its journal: the line of each entry and,
 /// where all is asked for, of each answer that isn't recorded.
@@ -47,4 +50,15 @@ pub fn check_kept<R: Read, W: Write>(
     ensures kept { IfErr result.1 (λ failure. KeepsRefused (R.remaining reader.old) result.0.items failure) }
 {
     rv_check::check::check_kept(alloc, reader, writer)
+}
+
+/// Runs the host of the script that a reader gives, and serves the commands that follow it.
+pub fn run<T: Threads + Wait, H: Hires, R: Read, W: Write>(
+    rt: &T,
+    hires: &H,
+    alloc: Global,
+    reader: &mut R,
+    writer: &mut W,
+) -> Result<(), Failure> {
+    rv_run::run::run(rt, hires, alloc, reader, writer)
 }

@@ -5,8 +5,8 @@ ghost use Rattle.ravenhost.specs.Status.{status_of};
 
 use rv_fault::Failure;
 
-/// The status where no thread can be started.
-pub const NO_THREAD: u8 = 3;
+/// The status where memory or a thread is refused before anything is done.
+pub const NO_MEANS: u8 = 3;
 
 /// Why the program ends before its work is done.
 #[derive(Drop)]

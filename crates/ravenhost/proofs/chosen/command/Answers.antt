@@ -14,4 +14,6 @@ returns c =
     let top_is : app_of c.subcommand_required.result ≡ alone = ap app_of_fields c.subcommand_required.ensures ∙ ap (on_top (λ s. record s { subcommand_required = true })) version in
     let one : app_of c.in_ok-subcommand.field-0 ≡ with_subcommand alone (flagged (codes "play") (codes "all")).top =
     c.in_ok-subcommand.ensures.shape c.in_ok-play.ensures.local ∙ ap₂ with_subcommand top_is (ap (λ (a : App). a.top) play_is) in
-    IfOk-weaker c.subcommand-4.result _ _ (λ r h. h.shape c.in_ok-check.ensures.local ∙ ap₂ with_subcommand one (ap (λ (a : App). a.top) check_is)) c.subcommand-4.ensures
+    let two : app_of c.in_ok-subcommand-2.field-0 ≡ with_subcommand (with_subcommand alone (flagged (codes "play") (codes "all")).top) (flagged (codes "check") (codes "explain")).top =
+    c.in_ok-subcommand-2.ensures.shape c.in_ok-check.ensures.local ∙ ap₂ with_subcommand one (ap (λ (a : App). a.top) check_is) in
+    IfOk-weaker c.subcommand-5.result _ _ (λ r h. h.shape c.run_subcommand.ensures.local ∙ ap₂ with_subcommand two (ap (λ (a : App). a.top) c.run_subcommand.ensures.app)) c.subcommand-5.ensures

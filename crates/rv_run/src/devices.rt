@@ -1,0 +1,116 @@
+//! The devices of settings: each becomes a unit of one task, and a job for it.
+
+use rv_event::entry::Answer;
+use rv_fault::{Failure, What, refused};
+use rv_port::control::Control;
+use rv_settings::Device;
+use rv_shape::actor::{Callee, FIRST_TASK};
+use rv_shape::catalogue::Catalogue;
+use rv_shape::shape::UnitShape;
+use rv_shape::task::Task;
+use rv_staff::DeviceJob;
+use rv_turn::Worn;
+use std::alloc::{AllocError, Global};
+use std::sync::Wait;
+
+// Whether an operation is called without values.
+fn is_plain(catalogue: &Catalogue, object: usize, operation: usize) -> bool {
+    match catalogue.callee(object, operation) {
+        Callee::Protected(_, _, called) => called.parameters().is_empty(),
+        Callee::Suspension(_, _, _) => true,
+        Callee::Nowhere => false,
+    }
+}
+
+// What a device calls: the numbers of an object and of an operation without parameters.
+fn called_by(catalogue: &Catalogue, device: &Device) -> Option<(usize, usize)> {
+    let object = catalogue.find_object(device.object())?;
+    let operation = catalogue.find_operation(object, device.operation())?;
+    if !is_plain(catalogue, object, operation) {
+        return None;
+    }
+    Some((object, operation))
+}
+
+// The unit that a device is.
+fn shape_of(alloc: Global, device: &Device) -> Result<UnitShape, AllocError> {
+    let name = String::from_str(alloc, device.unit())?;
+    let task = String::from_str(alloc, device.task())?;
+    let mut tasks = Vec::new(alloc);
+    tasks.push(Task::new(task, device.priority() as usize))?;
+    Ok(UnitShape::new(name, tasks, Vec::new(alloc)))
+}
+
+// The unit and the job of a device, whose settings open at a line.
+fn fitting(
+    alloc: Global,
+    catalogue: &Catalogue,
+    line: usize,
+    device: &Device,
+) -> Result<(UnitShape, DeviceJob), Failure> {
+    let Some((object, operation)) = called_by(catalogue, device) else {
+        return Err(refused(line, What::UnknownName));
+    };
+    let Ok(shape) = shape_of(alloc, device) else {
+        return Err(Failure::Memory);
+    };
+    if let Some(fault) = catalogue.shape_fits(&shape) {
+        return Err(refused(line, What::Shape(fault)));
+    }
+    let job = DeviceJob {
+        actor: FIRST_TASK.saturating_add(catalogue.tasks()),
+        object,
+        operation,
+        calls: device.calls(),
+    };
+    Ok((shape, job))
+}
+
+// Keeps the job of a device that was answered so.
+fn keep(
+    jobs: &mut Vec<DeviceJob>,
+    job: DeviceJob,
+    answer: Result<Answer, Worn>,
+) -> Result<(), Failure> {
+    match answer {
+        Ok(Answer::OutOfMemory) => Err(Failure::Memory),
+        Ok(Answer::Accepted(_)) => match jobs.push(job) {
+            Ok(()) => Ok(()),
+            Err(_) => Err(Failure::Memory),
+        },
+        _ => Ok(()),
+    }
+}
+
+// Loads a device.
+fn load_device<R: Wait>(
+    rt: &R,
+    alloc: Global,
+    control: &mut Control,
+    jobs: &mut Vec<DeviceJob>,
+    line: usize,
+    device: &Device,
+) -> Result<(), Failure> {
+    match fitting(alloc, control.catalogue(), line, device) {
+        Ok((shape, job)) => keep(jobs, job, control.load_shape(rt, shape)),
+        Err(failure) => Err(failure),
+    }
+}
+
+/// Loads devices, in order, up to the first that doesn't fit. Their settings open at a line.
+pub(crate) fn load_devices<R: Wait>(
+    rt: &R,
+    alloc: Global,
+    control: &mut Control,
+    jobs: &mut Vec<DeviceJob>,
+    line: usize,
+    devices: &[Device],
+) -> Result<(), Failure> {
+    for device in devices {
+        match load_device(rt, alloc, control, jobs, line, device) {
+            Ok(()) => {}
+            Err(failure) => return Err(failure),
+        }
+    }
+    Ok(())
+}

@@ -1,0 +1,94 @@
+-- Threads stay of one turn.
+use Rattle.std.proofs.Common.{◌≡◌, List, [], ◌∷◌, ◌++◌, map, Ok, Err, inl, inr, refl, sym, ap, ◌∙◌, subst, MatchResult, ℕ, Option, Some, None, IfSome}
+use Rattle.std.specs.Prelude.{Result}
+use Rattle.atomic_table.specs.Seated.{TableId}
+use Rattle.rv_code.specs.declared.body.UnitBodies.{UnitBodies}
+use Rattle.rv_shape.specs.Shape.{Shape}
+use Rattle.rv_event.specs.declared.entry.Answer.{Answer}
+use Rattle.rv_event.specs.declared.entry.Request.TheVariants as asks
+use Rattle.rv_turn.specs.Histories.{Each}
+use Rattle.rv_turn.specs.Passes.{IsWorn}
+use Rattle.rv_turn.specs.declared.pass.Worn.{Worn as Spent}
+use Rattle.rv_port.specs.Traces.{Passing}
+use Rattle.rv_port.specs.Ports.{Porting}
+use Rattle.rv_port.specs.Controls.{IsGiven, LoadTold, Told}
+use Rattle.rv_crew.specs.Teams.{Owed, Team}
+use Rattle.rv_port.specs.declared.event.Ask.{Ask}
+use Rattle.rv_crew.specs.Crews.{Joins, told_of}
+use Rattle.rv_staff.specs.declared.hires.HireFault.{HireFault}
+use Rattle.rv_staff.specs.declared.hires.HireFault.TheVariants.{NoThread, NoMemory}
+use Rattle.rv_staff.specs.Hiring.{hired}
+use Rattle.rv_staff.specs.Staffs.{AreOf, Staffed}
+use Rattle.rv_staff.specs.Ending.{Closes, Ended, Halts, Leaves}
+
+-- What the operator does.
+
+-- the turn stays
+pub moved : (v w : Passing) (crew : Team) → w.turn ≡ v.turn → AreOf v crew → AreOf w crew
+moved v w crew same are = record {
+  none_joined = are.none_joined;
+  one_turn = subst (λ (t : TableId). Each (λ (o : Owed). o.turn ≡ t) crew.running) (sym same) are.one_turn;
+}
+
+pub halts_stay : (v w : Passing) → Halts v w → w.turn ≡ v.turn
+halts_stay v w (inl told) = ap (λ (p : Passing). p.turn) told.1.2.same
+halts_stay v w (inr worn) = ap (λ (p : Passing). p.turn) worn.1
+
+load_stays : (v w : Passing) (shape : Shape) (Such : UnitBodies → Type 0) (r : Answer) → LoadTold v shape Such r w → w.turn ≡ v.turn
+load_stays v w shape Such r (inl told) = ap (λ (p : Passing). p.turn) told.2.2.same
+load_stays v w shape Such r (inr told) = ap (λ (p : Passing). p.turn) told.2.same
+
+pub loads_stay : (v w : Passing) (shape : Shape) (Such : UnitBodies → Type 0) (r : Result Answer Spent) → MatchResult r (λ a. LoadTold v shape Such a w) (λ x. IsWorn v w) → w.turn ≡ v.turn
+loads_stay v w shape Such (Ok a) told = load_stays v w shape Such a told
+loads_stay v w shape Such (Err x) worn = ap (λ (p : Passing). p.turn) worn.1
+
+-- a port that is given is of the same turn
+pub given_stays : (v w : Passing) (actor : ℕ) (port : Passing) → IsGiven v actor w port → w.turn ≡ v.turn
+given_stays v w actor port given = ap (λ (p : Passing). p.turn) given.parted.rest
+
+pub given_turn : (v w : Passing) (actor : ℕ) (port : Passing) → IsGiven v actor w port → port.turn ≡ w.turn
+given_turn v w actor port given = ap (λ (p : Passing). p.turn) given.parted.new_is ∙ sym (given_stays v w actor port given)
+
+-- What is started.
+
+each_last : {X : Type 0} (P : X → Type 0) (xs : List X) (x : X) → Each P xs → P x → Each P (xs ++ x ∷ [])
+each_last P [] x all last = (last, tt)
+each_last P (y ∷ ys) x all last = (all.0, each_last P ys x all.1 last)
+
+pub hired_stay : (control : Passing) (crew : Team) (port : Porting) (result : Result (Unit {0}) HireFault) → port.turn ≡ control.turn → AreOf control crew → AreOf control (hired crew port result)
+hired_stay control crew port (Ok x) same are = record {
+  none_joined = are.none_joined;
+  one_turn = each_last (λ (o : Owed). o.turn ≡ control.turn) crew.running (told_of port) are.one_turn same;
+}
+hired_stay control crew port (Err NoThread) same are = record { none_joined = are.none_joined; one_turn = are.one_turn }
+hired_stay control crew port (Err NoMemory) same are = are
+
+-- What is joined.
+
+each_back : (t : TableId) (back : List Porting) → Each (λ (o : Owed). o.turn ≡ t) (map told_of back) → Each (λ (f : Porting). f.turn ≡ t) back
+each_back t [] all = tt
+each_back t (f ∷ fs) all = (all.0, each_back t fs all.1)
+
+pub joined_turn : (control : Passing) (crew : Team) (after : List Porting) → AreOf control crew → Joins crew.joined crew.running after → Each (λ (f : Porting). f.turn ≡ control.turn) after
+joined_turn control crew after are joins =
+    subst (λ (l : List Porting). Each (λ (f : Porting). f.turn ≡ control.turn) l) (sym (joins.2 ∙ ap (λ (l : List Porting). l ++ joins.0) are.none_joined))
+    (each_back control.turn joins.0 (subst (λ (l : List Owed). Each (λ (o : Owed). o.turn ≡ control.turn) l) (sym joins.1) are.one_turn))
+
+pub closes : (control : Passing) (crew after : Team) (result : Option ℕ) → AreOf control crew → Joins crew.joined crew.running after.joined
+    → after ≡ record { running = []; joined = after.joined; lost = crew.lost } → IfSome result (Leaves control after) → IfSome result (Closes control crew)
+closes control crew after None are joins after_is leaves = leaves
+closes control crew after (Some entries) are joins after_is leaves = record {
+  back = after.joined;
+  joined = subst (λ (l : List Porting). Joins l crew.running after.joined) are.none_joined joins;
+  leaves = subst (λ (t : Team). Leaves control t entries) after_is leaves;
+}
+
+-- The end.
+
+pub halted : (v w : Passing) (r : Result Answer Spent) → MatchResult r (λ a. Told v (Ask.Step asks.Halt) a w) (λ x. IsWorn v w) → Halts v w
+halted v w (Ok a) told = inl (a, told)
+halted v w (Err x) worn = inr worn
+
+pub ended : (staff : Staffed) (w : Passing) (result : Option ℕ) → Halts staff.control w → IfSome result (Closes w staff.crew) → IfSome result (Ended staff)
+ended staff w None halts closed = closed
+ended staff w (Some entries) halts closed = record { control = w; halted = halts; closes = closed }

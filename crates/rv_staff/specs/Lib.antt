@@ -1,0 +1,6 @@
+pub mod Hiring
+pub mod Staffs
+pub mod Ending
+pub mod Saying
+pub mod Giving
+pub mod Working

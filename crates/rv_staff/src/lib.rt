@@ -1,0 +1,18 @@
+//! The threads of a host that runs: which actors get one, what each does, and how they end.
+#![tactic(auto)]
+
+mod hires;
+mod raising;
+mod saying;
+mod session;
+mod staff;
+mod staffing;
+mod work;
+
+pub use hires::{HireFault, Hires};
+pub use raising::raise;
+pub use saying::say;
+pub use session::{DeviceJob, Session};
+pub use staff::Staff;
+pub use staffing::start_threads;
+pub use work::{Work, perform};

@@ -1,0 +1,48 @@
+//! What is said to the operator.
+
+ghost use Rattle.std.specs.Prelude.{◌≡◌, ◌++◌, ◌∷◌, [], codes, IfOk, string_bytes};
+ghost use Rattle.rv_shape.specs.Printed.{actor_text};
+ghost use Rattle.rv_shape.specs.Readers.{who_of};
+ghost use Rattle.rv_staff.specs.Saying.{Says, SaysNoThread};
+
+use rv_script::write_whole;
+use rv_shape::actor::Actor;
+use rv_shape::catalogue::Catalogue;
+use std::alloc::{AllocError, Global};
+use std::io;
+use std::io::Write;
+
+/// What is said where memory is wanted.
+pub(crate) const NO_MEMORY: &str = "nomemory\n";
+
+/// Writes a text. After a failure a prefix of it is written.
+pub fn say<W: Write>(writer: &mut W, text: &str) -> io::Result<()>
+    ensures { Says (W.contents writer.old) (W.contents writer.new) text.now result }
+{
+    match write_whole(writer, text.as_bytes()) {
+        Ok(()) => Ok(()),
+        Err(e) => Err(e),
+    }
+}
+
+// What is said of an actor that has no thread.
+fn no_thread(alloc: Global, who: &Actor) -> Result<String, AllocError>
+    ensures { IfOk result (λ line. string_bytes line ≡ codes "no thread " ++ actor_text (who_of who.now) ++ 10 ∷ []) }
+{
+    format!(in alloc; "no thread {who}\n")
+}
+
+/// Says that there is no thread for an actor.
+pub(crate) fn say_no_thread<W: Write>(
+    alloc: Global,
+    catalogue: &Catalogue,
+    actor: usize,
+    writer: &mut W,
+) -> io::Result<()>
+    ensures { SaysNoThread (W.contents writer.old) (W.contents writer.new) catalogue.now actor result }
+{
+    match no_thread(alloc, &catalogue.who(actor)) {
+        Ok(text) => say(writer, text.as_str()),
+        Err(_) => say(writer, NO_MEMORY),
+    }
+}

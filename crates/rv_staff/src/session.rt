@@ -1,0 +1,78 @@
+//! The session: a host that runs, and what the operator needs to reach its threads.
+
+ghost use Rattle.std.specs.Prelude.{◌≡◌, IfSome};
+ghost use Rattle.rv_staff.specs.Ending.{Ended};
+ghost use Rattle.rv_staff.specs.Staffs.{no_crew};
+
+use crate::staff::Staff;
+use crossbeam_channel::Sender;
+use rv_port::control::Control;
+use std::alloc::Global;
+use std::sync::Wait;
+use std::thread::Threads;
+
+/// What the thread of a device does.
+#[derive(Clone, Copy, Drop)]
+pub struct DeviceJob {
+    /// The number of its actor.
+    pub actor: usize,
+    /// The number of the object that it calls.
+    pub object: usize,
+    /// The number of the operation.
+    pub operation: usize,
+    /// How often it calls.
+    pub calls: u32,
+}
+
+/// The channel of a line.
+#[derive(Drop)]
+pub(crate) struct LineChannel {
+    /// The number of the line, 0 .. 9.
+    pub line: u8,
+    /// Where its raises go.
+    pub sender: Sender<u8>,
+}
+
+/// A host that runs.
+#[derive(Drop)]
+pub struct Session {
+    pub alloc: Global,
+    pub staff: Staff,
+    /// The lines that have a thread.
+    pub(crate) channels: Vec<LineChannel>,
+    /// The devices that were loaded.
+    pub devices: Vec<DeviceJob>,
+    /// How many requests a task's own body may make.
+    pub budget: u32,
+}
+
+impl Session {
+    /// A session on a host, whose threads aren't started yet.
+    pub fn new(alloc: Global, control: Control, devices: Vec<DeviceJob>, budget: u32) -> Session
+        ensures staff { result.staff ≡ record { control = control; crew = no_crew } }
+        ensures devices { result.devices ≡ devices }
+        ensures budget { result.budget ≡ budget }
+    {
+        Session {
+            alloc,
+            staff: Staff::new(alloc, control),
+            channels: Vec::new(alloc),
+            devices,
+            budget,
+        }
+    }
+
+    /// Halts the host, closes the channels of its lines and joins its threads, which have to end then. Gives how many
+    /// entries the journal has; none where memory was refused.
+    pub fn end<R: Threads + Wait>(self, rt: &R) -> Option<usize>
+        ensures { IfSome result (Ended self.staff) }
+    {
+        let Session {
+            staff,
+            channels,
+            ..
+        } = self;
+        drop(channels);
+        staff.end(rt)
+    }
+}

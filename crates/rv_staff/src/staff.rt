@@ -1,0 +1,171 @@
+//! A host that runs: its operator and the crew of its threads, which are of one turn.
+
+ghost use Rattle.std.specs.Prelude.{◌≡◌, [], Err, IfErr, IfOk, IfSome, MatchResult};
+ghost use Rattle.rv_text.specs.Words.{words};
+ghost use Rattle.rv_turn.specs.Histories.{Each};
+ghost use Rattle.rv_turn.specs.Passes.{IsWorn};
+ghost use Rattle.rv_port.specs.Events.{catalogue_of};
+ghost use Rattle.rv_port.specs.Ports.{pass_of};
+ghost use Rattle.rv_port.specs.Controls.{Brings, IsGiven, LoadTold};
+ghost use Rattle.rv_shell.specs.Orders.{order_of};
+ghost use Rattle.rv_shell.specs.Serving.{Serves, Writes, answer_line};
+ghost use Rattle.rv_staff.specs.Ending.{Closes, Ended, Leaves};
+ghost use Rattle.rv_staff.specs.Hiring.{hired};
+ghost use Rattle.rv_staff.specs.Staffs.{AreOf, no_crew};
+
+use crate::hires::{HireFault, Hires};
+use crate::work::Work;
+use rv_code::UnitBodies;
+use rv_crew::crew::Crew;
+use rv_event::entry::Answer;
+use rv_port::control::Control;
+use rv_port::fault::PortFault;
+use rv_port::port::Port;
+use rv_shape::catalogue::Catalogue;
+use rv_shape::shape::UnitShape;
+use rv_shell::{LineFault, Next, Shell};
+use rv_turn::Worn;
+use std::alloc::Global;
+use std::io::Write;
+use std::marker::Model;
+use std::sync::Wait;
+use std::thread::Threads;
+
+/// A host that runs: its operator and the crew of its threads. Each thread has a port of this control, and none was joined.
+#[derive(Drop)]
+pub struct Staff {
+    control: Control,
+    crew: Crew,
+}
+
+impl Model for Staff {
+    ghost use Rattle.std.specs.Coded.{codes};
+    ghost use Rattle.rv_port.specs.contracts.event.Event as e;
+    ghost use Rattle.rv_staff.specs.Staffs.{AreOf, Staffed};
+
+    ghost Value = { Staffed };
+
+    ghost coded = { Prim.hlevel (codes, e.the_row.coded) };
+
+    ghost view = { λ s. record { control = s.control; crew = s.crew } };
+
+    ghost invariant = { λ s. AreOf s.control s.crew };
+}
+
+// Closes a control with a crew that is joined. Gives how many entries the journal has.
+fn leave<R: Wait>(rt: &R, crew: Crew, control: Control) -> Option<usize>
+    requires joined { crew.running ≡ [] }
+    requires turn { Each (λ f. f.turn ≡ control.turn) crew.joined }
+    ensures { IfSome result (Leaves control crew) }
+{
+    match crew.close(rt, control) {
+        Ok(closed) => Some(closed.host.used()),
+        Err(_) => None,
+    }
+}
+
+// Joins a crew and closes its control. Gives how many entries the journal has.
+fn close<R: Threads + Wait>(rt: &R, mut crew: Crew, control: Control) -> Option<usize>
+    requires { AreOf control crew }
+    ensures { IfSome result (Closes control crew) }
+{
+    match crew.join_all(rt) {
+        Ok(()) => leave(rt, crew, control),
+        Err(_) => None,
+    }
+}
+
+impl Staff {
+    /// A host without threads.
+    pub fn new(alloc: Global, control: Control) -> Staff
+        ensures { result ≡ record { control = control; crew = no_crew } }
+    {
+        Staff {
+            control,
+            crew: Crew::new(alloc),
+        }
+    }
+
+    /// The units that were loaded.
+    pub fn catalogue(&self) -> &Catalogue
+        ensures { result.now ≡ catalogue_of self.now.control.seen }
+    {
+        self.control.catalogue()
+    }
+
+    /// Carries out a command line of the operator.
+    #[tactic(auto, using(crate::proofs::OneTurn::moved))]
+    pub fn line<R: Wait, W: Write>(
+        &mut self,
+        rt: &R,
+        shell: &Shell,
+        line: &str,
+        writer: &mut W,
+    ) -> Result<Next, LineFault>
+        ensures serves { Serves (W.contents writer.old) (W.contents writer.new) self.old.control self.new.control (order_of (words line.now)) result }
+        ensures crew { self.new.crew ≡ self.old.crew }
+    {
+        shell.line(rt, &mut self.control, line, writer)
+    }
+
+    /// Loads a unit as a text gives it.
+    #[tactic(auto, using(crate::proofs::OneTurn::moved, crate::proofs::OneTurn::loads_stay))]
+    pub fn load<R: Wait>(
+        &mut self,
+        rt: &R,
+        shape: UnitShape,
+        bodies: UnitBodies,
+    ) -> Result<Answer, Worn>
+        ensures told { MatchResult
+            result
+            (λ r. LoadTold self.old.control shape (λ u. Brings shape bodies u) r self.new.control)
+            (λ _. IsWorn self.old.control self.new.control) }
+        ensures crew { self.new.crew ≡ self.old.crew }
+    {
+        self.control.load(rt, shape, bodies)
+    }
+
+    /// Writes the answer to a request of the operator.
+    pub fn tell<W: Write>(
+        &self,
+        shell: &Shell,
+        answer: Result<Answer, Worn>,
+        writer: &mut W,
+    ) -> Result<Next, LineFault>
+        ensures { MatchResult
+            answer
+            (λ r. Writes (W.contents writer.old) (W.contents writer.new) (answer_line (catalogue_of self.now.control.seen) r) result)
+            (λ _. (result ≡ Err LineFault.Worn) × (W.contents writer.new ≡ W.contents writer.old)) }
+    {
+        shell.tell(&self.control, answer, writer)
+    }
+
+    /// The port of an actor that may have one, and had none.
+    #[tactic(auto, using(crate::proofs::OneTurn::moved, crate::proofs::OneTurn::given_stays, crate::proofs::OneTurn::given_turn))]
+    pub fn port(&mut self, actor: u64) -> Result<Port, PortFault>
+        ensures given { IfOk result (λ p. IsGiven self.old.control actor self.new.control (pass_of p)) }
+        ensures turn { IfOk result (λ p. p.turn ≡ self.new.control.turn) }
+        ensures err { IfErr result (λ fault. self.new.control ≡ self.old.control) }
+        ensures crew { self.new.crew ≡ self.old.crew }
+    {
+        self.control.port(actor)
+    }
+
+    /// Starts a thread that does some work on a port of this host.
+    #[tactic(auto, using(crate::proofs::OneTurn::hired_stay))]
+    pub fn hire<H: Hires>(&mut self, hires: &H, port: Port, work: Work) -> Result<(), HireFault>
+        requires { port.turn ≡ self.old.control.turn }
+        ensures { self.new ≡ record self.old { crew = hired self.old.crew port result } }
+    {
+        hires.hire(&mut self.crew, port, work)
+    }
+
+    /// Halts the host and joins its threads, which have to end then. Gives how many entries the journal has.
+    pub fn end<R: Threads + Wait>(self, rt: &R) -> Option<usize>
+        ensures { IfSome result (Ended self) }
+    {
+        let Staff { mut control, crew } = self;
+        let _ = control.halt(rt);
+        close(rt, crew, control)
+    }
+}

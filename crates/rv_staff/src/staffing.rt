@@ -1,0 +1,129 @@
+//! Threads for the actors that have none yet.
+
+ghost use Rattle.std.specs.Prelude.{◌≡◌, ℕ};
+ghost use Rattle.rv_staff.specs.Giving.{Gives, GivesOne};
+
+use crate::hires::{HireFault, Hires};
+use crate::saying::{NO_MEMORY, say, say_no_thread};
+use crate::session::{DeviceJob, LineChannel, Session};
+use crate::work::Work;
+use crossbeam_channel::unbounded;
+use rv_port::fault::PortFault;
+use rv_port::port::Port;
+use rv_shape::actor::FIRST_TASK;
+use std::io;
+use std::io::Write;
+
+// The job of a device, if the actor is one.
+fn device_of(jobs: &[DeviceJob], actor: usize) -> Option<DeviceJob> {
+    for job in jobs {
+        if job.actor == actor {
+            return Some(*job);
+        }
+    }
+    None
+}
+
+// What the thread of a task does: that of its device, or else its text.
+fn work_of(session: &Session, actor: usize) -> Work {
+    match device_of(session.devices.as_slice(), actor) {
+        Some(job) => Work::Device(job.object, job.operation, job.calls),
+        None => Work::Text(session.budget),
+    }
+}
+
+// A thread for a line, with a channel for its raises.
+fn hire_line<H: Hires>(
+    hires: &H,
+    session: &mut Session,
+    line: u8,
+    port: Port,
+) -> Result<(), HireFault>
+    requires { port.turn ≡ session.old.staff.control.turn }
+    ensures { session.new.staff.control ≡ session.old.staff.control }
+{
+    if session.channels.reserve(1).is_err() {
+        return Err(HireFault::NoMemory);
+    }
+    let Ok((sender, receiver)) = unbounded(session.alloc) else {
+        return Err(HireFault::NoMemory);
+    };
+    match session.staff.hire(hires, port, Work::Line(receiver)) {
+        Ok(()) => {
+            session.channels.push_reserved(LineChannel { line, sender });
+            Ok(())
+        }
+        Err(fault) => Err(fault),
+    }
+}
+
+// A thread for an actor on its port.
+fn hire<H: Hires>(
+    hires: &H,
+    session: &mut Session,
+    actor: usize,
+    port: Port,
+) -> Result<(), HireFault>
+    requires { port.turn ≡ session.old.staff.control.turn }
+    ensures { session.new.staff.control ≡ session.old.staff.control }
+{
+    if actor < FIRST_TASK {
+        return hire_line(hires, session, actor.saturating_sub(1) as u8, port);
+    }
+    let work = work_of(session, actor);
+    session.staff.hire(hires, port, work)
+}
+
+// Says why an actor has no thread, if it should have one.
+fn explain<W: Write>(
+    session: &Session,
+    actor: usize,
+    hired: Result<(), HireFault>,
+    writer: &mut W,
+) -> io::Result<()> {
+    match hired {
+        Ok(()) => Ok(()),
+        Err(HireFault::NoThread) => {
+            say_no_thread(session.alloc, session.staff.catalogue(), actor, writer)
+        }
+        Err(HireFault::NoMemory) => say(writer, NO_MEMORY),
+    }
+}
+
+// A thread for an actor, if it may have a port and had none.
+fn staff_one<H: Hires, W: Write>(
+    hires: &H,
+    session: &mut Session,
+    actor: usize,
+    writer: &mut W,
+) -> io::Result<()>
+    ensures { GivesOne session.old.staff.control session.new.staff.control }
+{
+    match session.staff.port(actor as u64) {
+        Ok(port) => {
+            let hired = hire(hires, session, actor, port);
+            explain(session, actor, hired, writer)
+        }
+        Err(PortFault::NoMemory) => say(writer, NO_MEMORY),
+        Err(_) => Ok(()),
+    }
+}
+
+/// Starts a thread for each task and attached line that had no port yet, in the order of their
+/// numbers, and says for which none could be started.
+pub fn start_threads<H: Hires, W: Write>(
+    hires: &H,
+    session: &mut Session,
+    writer: &mut W,
+) -> io::Result<()>
+    ensures { (count : ℕ) × Gives count session.old.staff.control session.new.staff.control }
+{
+    let count = FIRST_TASK.saturating_add(session.staff.catalogue().tasks());
+    for actor in 1..count {
+        match staff_one(hires, session, actor, writer) {
+            Ok(()) => {}
+            Err(e) => return Err(e),
+        }
+    }
+    Ok(())
+}
