@@ -1,3 +1,3 @@
 pub mod Joins
-pub mod Sends
 pub mod Doing
+pub mod Turns

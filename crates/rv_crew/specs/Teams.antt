@@ -1,6 +1,7 @@
 -- What contracts see of a crew. (own)
-use Rattle.std.specs.Prelude.{ℕ, List}
+use Rattle.std.specs.Prelude.{◌≡◌, ℕ, List}
 use Rattle.atomic_table.specs.Seated.{TableId}
+use Rattle.rv_turn.specs.Histories.{Each}
 use Rattle.rv_port.specs.Ports.{Porting}
 
 -- what a thread owes: a port of this turn and this actor (own)
@@ -15,3 +16,9 @@ pub record Team : Type 0 where
   pub joined : List Porting
   -- the actors whose ports were lost with their jobs
   pub lost : List ℕ
+
+-- All ports of a crew are of one turn, those that are out and those that came back: what `close` asks of a crew that is
+-- joined. (own)
+pub record IsOfTurn (turn : TableId) (crew : Team) : Type 0 where
+  pub out : Each (λ owed. owed.turn ≡ turn) crew.running
+  pub back : Each (λ port. port.turn ≡ turn) crew.joined

@@ -3,4 +3,5 @@
 
 pub mod crew;
 pub mod job;
+pub mod laws;
 pub mod tasks;

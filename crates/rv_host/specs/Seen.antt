@@ -1,5 +1,5 @@
 -- A history, and what is kept of it (own).
-use Rattle.std.specs.Prelude.{◌<◌, ◌≤◌, ◌^◌, reverse}
+use Rattle.std.specs.Prelude.{◌<◌, ◌≤◌, ◌^◌}
 use Rattle.rv_event.specs.Past.{clock}
 use Rattle.rv_host.specs.declared.seen.Seen.{Seen}
 use Rattle.rv_history.specs.History.{History, last_list}
@@ -13,7 +13,7 @@ abbrev pub history_of : Seen → History
 history_of seen =
     record {
       capacity = seen.capacity;
-      past = reverse seen.entries.now;
+      past = seen.journal.now.past;
       shapes = seen.catalogue.now;
       lists =
           seen.lists.now;
@@ -22,10 +22,10 @@ history_of seen =
 -- that history is legal, of a capacity that hosts have, and its clock is a number of 63 bits; the fields stand for it, and
 -- the table is of the last of its lists over what is loaded
 pub record IsSeen (seen : Seen) : Type 0 where
-  pub legal : IsLegal seen.capacity (reverse seen.entries.now) seen.catalogue.now seen.lists.now
+  pub legal : IsLegal seen.capacity seen.journal.now.past seen.catalogue.now seen.lists.now
   pub least : 1 ≤ seen.capacity
   pub most : seen.capacity ≤ 2 ^ 20
-  pub timely : clock (reverse seen.entries.now) < 2 ^ 63
-  pub is_present : IsPresent seen.catalogue.now (reverse seen.entries.now) seen.present.now
-  pub is_waiting : IsWaiting (reverse seen.entries.now) seen.waiting.now
+  pub timely : clock seen.journal.now.past < 2 ^ 63
+  pub is_present : IsPresent seen.catalogue.now seen.journal.now.past seen.present.now
+  pub is_waiting : IsWaiting seen.journal.now.past seen.waiting.now
   pub tabled : IsTable (last_list seen.lists.now) seen.catalogue.now seen.table.now

@@ -6,7 +6,6 @@
 
 mod answering;
 pub mod answers;
-mod counts;
 mod due;
 mod facts;
 pub mod host;

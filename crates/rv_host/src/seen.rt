@@ -2,19 +2,19 @@
 //! list in force.
 
 use rv_access::AccessList;
-use rv_event::entry::Entry;
+use rv_journal::journal::Journal;
 use rv_present::Present;
 use rv_shape::catalogue::Catalogue;
 use rv_table::Table;
 use rv_waiting::waiting::Waiting;
 
-/// A history, and what is kept of it. The entries and the lists only name the history: no question
-/// walks over them.
+/// A history, and what is kept of it. The journal and the lists only name the history: no question
+/// reads them.
 #[derive(Clone, Copy)]
 pub struct Seen<'a> {
     pub capacity: usize,
     pub catalogue: &'a Catalogue,
-    pub entries: &'a [Entry],
+    pub journal: &'a Journal,
     pub lists: &'a [AccessList],
     pub table: &'a Table,
     pub present: &'a Present,

@@ -381,9 +381,9 @@ fn parts<'a>(
 {
     let around = scope.current();
     scope.set_current(Some(unit.name.at));
+    faults.set_unit(Some(unit));
     aspects(&unit.aspects, scope, faults);
     protected_rules(unit, faults);
-    faults.set_unit(Some(unit));
     members(unit, scope, faults)?;
     faults.set_unit(None);
     scope.set_current(around);

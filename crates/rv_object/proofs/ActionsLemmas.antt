@@ -1,5 +1,5 @@
 -- What the state of an object says of the actions under way.
-use Rattle.std.proofs.Common.{◌≡◌, ℕ, zero, suc, ◌+◌, ◌<◌, [], ◌∷◌, length, Bool, true, false, refl, sym, ap, ◌∙◌, arith}
+use Rattle.std.proofs.Common.{◌≡◌, ℕ, zero, suc, ◌<◌, [], ◌∷◌, length, Bool, true, false, refl, sym, ap, arith}
 use Rattle.std.specs.Prelude.{drop, replicate}
 use Rattle.std.proofs.lemmas.Bool.Decides.{nat_tests}
 use Rattle.std.proofs.lemmas.List.{length-replicate}
@@ -7,7 +7,7 @@ use Rattle.rv_object.specs.declared.action.Action.{Action}
 use Rattle.rv_object.specs.declared.action.Action.TheVariants.{Shared, Exclusive}
 use Rattle.rv_object.specs.declared.action.State.{State}
 use Rattle.rv_object.specs.declared.action.State.TheVariants.{Free, Readers, Writer}
-use Rattle.rv_object.specs.Actions.{IsCounted, actions_of, excludes, is_under_way, same_action, state_of}
+use Rattle.rv_object.specs.Actions.{IsCounted, actions_of, excludes, is_under_way, same_action}
 
 pub excludes-shared : (n : ℕ) → excludes (replicate n Shared) Shared ≡ false
 excludes-shared zero = refl
@@ -16,12 +16,6 @@ excludes-shared (suc n) = excludes-shared n
 pub excludes-exclusive : (n actor : ℕ) → 0 < n → excludes (replicate n Shared) (Exclusive actor) ≡ true
 excludes-exclusive zero actor some = absurd (omega arith)
 excludes-exclusive (suc n) actor some = refl
-
-pub state_of-actions_of : (state : State) → IsCounted state → state_of (actions_of state) ≡ state
-state_of-actions_of Free counted = refl
-state_of-actions_of (Readers zero) counted = absurd (omega arith)
-state_of-actions_of (Readers (suc n)) counted = ap Readers (ap (λ k. k + 1) (length-replicate n Shared) ∙ omega arith)
-state_of-actions_of (Writer actor) counted = refl
 
 -- where an exclusive action may start, nothing is under way
 pub actions_of-free : (state : State) (actor : ℕ) → IsCounted state → excludes (actions_of state) (Exclusive actor) ≡ false → actions_of state ≡ []

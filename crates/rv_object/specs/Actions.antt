@@ -1,5 +1,5 @@
 -- The protected actions under way on an object, the newest first.
-use Rattle.std.specs.Prelude.{◌≡◌, ◌==◌, ◌&&◌, ◌+◌, ◌<◌, ◌⊎◌, ℕ, ℤ, Bool, true, false, not, List, [], ◌∷◌, length, replicate}
+use Rattle.std.specs.Prelude.{◌==◌, ◌&&◌, ◌<◌, ℤ, Bool, true, false, not, List, [], ◌∷◌, replicate}
 use Rattle.std.specs.List.{list_any}
 use Rattle.rv_object.specs.declared.action.Action.{Action}
 use Rattle.rv_object.specs.declared.action.Action.TheVariants.{Shared, Exclusive}
@@ -30,16 +30,6 @@ same_action (Exclusive actor) (Exclusive other) = actor == other
 -- such an action is among those under way (own)
 abbrev pub is_under_way : Action → List Action → Bool
 is_under_way action under_way = list_any (same_action action) under_way
-
--- the actions under way are all shared, or there is one alone (9.5.1)
-abbrev pub IsOrderly : List Action → Type 0
-IsOrderly actions = (actions ≡ replicate (length actions) Shared) ⊎ ((actor : ℕ) × (actions ≡ Exclusive actor ∷ []))
-
--- who is in those actions (own)
-abbrev pub state_of : List Action → State
-state_of [] = Free
-state_of (Shared ∷ actions) = Readers (length actions + 1)
-state_of (Exclusive actor ∷ actions) = Writer actor
 
 -- the actions that a state stands for (own)
 abbrev pub actions_of : State → List Action

@@ -1,7 +1,7 @@
 //! A protected object that starts and finishes protected actions.
 
 ghost use Rattle.std.specs.Prelude.{◌≡◌, ◌<◌, [], ◌∷◌, false, length, not, replicate, true};
-ghost use Rattle.rv_object.specs.Actions.{IsOrderly, excludes, is_under_way, scalars_after, state_of};
+ghost use Rattle.rv_object.specs.Actions.{excludes, is_under_way, scalars_after};
 
 use crate::action::{Action, State};
 use rv_value::Scalars;
@@ -41,14 +41,6 @@ impl Object {
             state: State::Free,
             scalars,
         }
-    }
-
-    /// Who is in a protected action on the object.
-    pub fn state(&self) -> State
-        ensures value { result ≡ state_of self.now.actions }
-        ensures orderly { IsOrderly self.now.actions }
-    {
-        self.state
     }
 
     /// The values of the components.

@@ -6,9 +6,9 @@ ghost use Rattle.rv_present.specs.Calls.{AreCalls};
 ghost use Rattle.rv_present.specs.Known.{AreBelow};
 ghost use Rattle.rv_present.specs.Limits.{most_actors};
 
-use crate::entries::queued_by;
 use crate::stacks::MOST_ACTORS;
 use rv_event::entry::{Body, Entry};
+use rv_event::one_entry::queued_by;
 use std::alloc::{AllocError, Global};
 use std::marker::Model;
 

@@ -7,8 +7,8 @@ ghost use Rattle.rv_history.specs.History.{changes};
 ghost use Rattle.rv_history.specs.Owed as owed;
 ghost use Rattle.rv_present.specs.Counts.{AreCounts};
 
-use crate::entries::{halts, is_list, ticks};
 use rv_event::entry::Entry;
+use rv_event::one_entry::{halts, is_list, ticks};
 
 /// What entries come to that concern no actor and no object.
 #[derive(Drop)]

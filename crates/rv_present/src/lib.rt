@@ -6,7 +6,6 @@
 mod bodies;
 mod calls;
 mod counts;
-mod entries;
 mod new_objects;
 mod objects;
 mod present;

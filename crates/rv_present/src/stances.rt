@@ -8,9 +8,9 @@ ghost use Rattle.rv_present.specs.Limits.{most_actors};
 ghost use Rattle.rv_present.specs.Stances.{due_at, dues_by, noted};
 ghost use Rattle.rv_shape.specs.Catalogue.{first_task};
 
-use crate::entries::{next_of, stance_of};
 use crate::stacks::MOST_ACTORS;
 use rv_event::entry::{Entry, Next, Stance};
+use rv_event::one_entry::{next_of, stance_of};
 use rv_shape::actor::FIRST_TASK;
 use std::alloc::{AllocError, Global};
 use std::marker::Model;

@@ -1,6 +1,6 @@
 //! The objects that an actor holds, one within the other.
 
-ghost use Rattle.std.specs.Prelude.{◌≡◌, ◌==◌, ◌<◌, ◌≤◌, [], ◌∷◌, drop, length, slice_get, IsTrue, ◌↔◌};
+ghost use Rattle.std.specs.Prelude.{◌≡◌, ◌==◌, ◌<◌, ◌≤◌, [], ◌∷◌, drop, length, slice_get};
 ghost use Rattle.std.specs.List.{list_any};
 ghost use Rattle.rv_prio.specs.Priority.{active_priority};
 
@@ -48,21 +48,6 @@ impl Stack {
         self.held.len()
     }
 
-    /// Whether nothing is held.
-    pub fn is_empty(&self) -> bool
-        ensures { IsTrue result ↔ (self.now ≡ []) }
-    {
-        self.held.is_empty()
-    }
-
-    /// Whether one more object would be too many.
-    pub fn is_full(&self) -> bool
-        ensures full { IsTrue result ↔ (length self.now ≡ MOST_HELD) }
-        ensures within { length self.now ≤ MOST_HELD }
-    {
-        self.held.is_full()
-    }
-
     /// Adds an object as the innermost. There must be room.
     pub fn push(&mut self, held: Held)
         requires { length self.old < MOST_HELD }
@@ -103,14 +88,6 @@ impl Stack {
             priority = priority.max(held.ceiling);
         }
         priority
-    }
-
-    /// Whether the active priority of an actor with this base priority is above a ceiling. A call on an object with
-    /// that ceiling is then an error (ISO/IEC 8652:2012, D.3).
-    pub fn above_ceiling(&self, base: usize, ceiling: usize) -> bool
-        ensures { IsTrue result ↔ (ceiling < active_priority base self.now) }
-    {
-        ceiling < self.active(base)
     }
 }
 

@@ -48,13 +48,6 @@ impl<const LIMIT: usize> Queue<LIMIT> {
         self.callers.len()
     }
 
-    /// Whether nobody waits.
-    pub fn is_empty(&self) -> bool
-        ensures { IsTrue result ↔ (self.now ≡ []) }
-    {
-        self.callers.is_empty()
-    }
-
     /// Whether one more caller would make the queue longer than its limit.
     pub fn is_full(&self) -> bool
         ensures full { IsTrue result ↔ (length self.now ≡ LIMIT) }
@@ -84,12 +77,5 @@ impl<const LIMIT: usize> Queue<LIMIT> {
         ensures rest { self.new ≡ drop 1 self.old }
     {
         self.callers.pop_at(0)
-    }
-
-    /// Whether a caller is due to be served: the barrier is open and somebody waits (9.5.3).
-    pub fn due(&self, barrier_open: bool) -> bool
-        ensures { IsTrue result ↔ (IsTrue barrier_open × (0 < length self.now)) }
-    {
-        barrier_open && !self.is_empty()
     }
 }

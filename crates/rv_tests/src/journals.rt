@@ -61,6 +61,14 @@ fn tick_of(entry: Option<&Entry>) -> Option<i64> {
     }
 }
 
+// Copies the ticks from a number on. The journal is dropped before a fault is told: each way out beside it is dear to prove.
+fn copy_from(alloc: Global, from: usize, page: &mut Vec<Entry>) -> Result<(), Fail> {
+    let journal = ticks(alloc)?;
+    let copied = journal.copy(alloc, from, page);
+    drop(journal);
+    Ok(copied?)
+}
+
 // Whether a page has so many entries, which begin and end with these ticks.
 fn has_page(
     alloc: Global,
@@ -69,10 +77,9 @@ fn has_page(
     first: Option<i64>,
     last: Option<i64>,
 ) -> Result<bool, Fail> {
-    let journal = ticks(alloc)?;
     let mut page = Vec::new(alloc);
     page.push(Entry::Load)?;
-    journal.copy(alloc, from, &mut page)?;
+    copy_from(alloc, from, &mut page)?;
     Ok(page.len() == count && tick_of(page.first()) == first && tick_of(page.last()) == last)
 }
 

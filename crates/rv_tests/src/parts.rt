@@ -1,81 +1,83 @@
 //! One object, one queue, one stack, one suspension object, the lines.
 
 use rv_irq::{Handler, Lines, priority};
-use rv_object::{Action, Object, State};
+use rv_object::{Action, Object};
 use rv_prio::{Held, Stack};
 use rv_queue::{EntryQueue, Queue};
 use rv_suspend::SuspensionObject;
 use rv_value::Scalars;
 
 #[test]
-fn functions_share_and_a_procedure_is_alone(rt: HostRuntime) {
+fn functions_share(rt: HostRuntime) {
+    let mut object = Object::new(Scalars::from_slice(&[1, 2]));
+    object.start(Action::Shared);
+    object.start(Action::Shared);
+    assert!(rt; object.may_start(Action::Shared) && !object.may_start(Action::Exclusive(11)));
+    object.finish(Action::Shared, Scalars::new());
+    object.finish(Action::Shared, Scalars::new());
+    assert!(rt; object.may_start(Action::Exclusive(11)) && object.scalars() == Scalars::from_slice(&[1, 2]));
+}
+
+#[test]
+fn a_procedure_is_alone(rt: HostRuntime) {
     let writer = Action::Exclusive(11);
     let mut object = Object::new(Scalars::from_slice(&[1, 2]));
     assert!(rt; object.may_start(Action::Shared) && object.may_start(writer));
-    object.start(Action::Shared);
-    object.start(Action::Shared);
-    assert_eq!(rt; object.state(), State::Readers(2));
-    assert!(rt; object.may_start(Action::Shared) && !object.may_start(writer));
-    object.finish(Action::Shared, Scalars::new());
-    object.finish(Action::Shared, Scalars::new());
-    assert_eq!(rt; object.state(), State::Free);
-    assert_eq!(rt; object.scalars(), Scalars::from_slice(&[1, 2]));
     object.start(writer);
-    assert_eq!(rt; object.state(), State::Writer(11));
     assert!(rt; !object.may_start(Action::Shared) && !object.may_start(Action::Exclusive(12)));
     object.finish(writer, Scalars::from_slice(&[3, 4]));
-    assert_eq!(rt; object.state(), State::Free);
-    assert_eq!(rt; object.scalars(), Scalars::from_slice(&[3, 4]));
+    assert!(rt; object.may_start(writer) && object.scalars() == Scalars::from_slice(&[3, 4]));
 }
+
+/// An object with ceiling 20, and one with 25.
+const VALVE: Held = Held {
+    object: 1,
+    operation: 2,
+    ceiling: 20,
+};
+
+const GAUGE: Held = Held {
+    object: 2,
+    operation: 1,
+    ceiling: 25,
+};
 
 #[test]
 fn ceilings_are_inherited(rt: HostRuntime) {
     let mut stack = Stack::new();
-    assert!(rt; stack.is_empty() && !stack.above_ceiling(15, 15));
-    assert_eq!(rt;
-        (stack.innermost(), stack.pop(), stack.active(15)),
-        (None, None, 15)
-    );
-    let valve = Held {
-        object: 1,
-        operation: 2,
-        ceiling: 20,
-    };
-    let gauge = Held {
-        object: 2,
-        operation: 1,
-        ceiling: 25,
-    };
-    stack.push(gauge);
-    stack.push(valve);
-    assert_eq!(rt;
-        (stack.len(), stack.innermost(), stack.active(15)),
-        (2, Some(valve), 25)
-    );
-    assert!(rt;
-        stack.above_ceiling(15, 24) && !stack.above_ceiling(15, 25) && stack.active(30) == 30
-    );
-    assert!(rt; stack.holds(1) && stack.holds(2) && !stack.holds(3) && !stack.is_full());
-    assert_eq!(rt;
-        (stack.pop(), stack.innermost()),
-        (Some(valve), Some(gauge))
-    );
+    assert!(rt; stack.len() == 0 && stack.active(15) == 15);
+    stack.push(GAUGE);
+    stack.push(VALVE);
+    assert!(rt; stack.len() == 2 && stack.active(15) == 25 && stack.active(30) == 30);
+    assert!(rt; stack.holds(1) && stack.holds(2) && !stack.holds(3));
+}
+
+#[test]
+fn the_innermost_object_is_left_first(rt: HostRuntime) {
+    let mut stack = Stack::new();
+    assert!(rt; stack.innermost() == None && stack.pop() == None);
+    stack.push(GAUGE);
+    stack.push(VALVE);
+    assert!(rt; stack.innermost() == Some(VALVE) && stack.pop() == Some(VALVE));
+    assert!(rt; stack.innermost() == Some(GAUGE));
+}
+
+#[test]
+fn an_entry_has_one_caller(rt: HostRuntime) {
+    let mut queue = EntryQueue::new();
+    assert!(rt; queue.len() == 0 && !queue.is_full());
+    assert!(rt; queue.head() == None && queue.leave() == None);
+    queue.join(11);
+    assert!(rt; queue.is_full());
+    assert!(rt; queue.len() == 1 && queue.head() == Some(11));
 }
 
 #[test]
 fn callers_leave_in_the_order_in_which_they_joined(rt: HostRuntime) {
-    let mut entry_queue = EntryQueue::new();
-    assert!(rt; entry_queue.is_empty() && !entry_queue.is_full() && !entry_queue.due(true));
-    assert_eq!(rt; (entry_queue.head(), entry_queue.leave()), (None, None));
-    entry_queue.join(11);
-    assert!(rt; entry_queue.is_full() && entry_queue.due(true) && !entry_queue.due(false));
-    assert_eq!(rt; (entry_queue.len(), entry_queue.head()), (1, Some(11)));
-
     let mut longer: Queue<3> = Queue::new();
     longer.join(12);
     longer.join(11);
-    assert!(rt; !longer.is_full());
-    assert_eq!(rt; (longer.leave(), longer.head()), (Some(12), Some(11)));
+    assert!(rt; !longer.is_full() && longer.leave() == Some(12) && longer.head() == Some(11));
 }
 
 #[test]
@@ -104,10 +106,9 @@ fn lines_have_one_handler(rt: HostRuntime) {
             operation: 1,
         },
     );
-    assert!(rt;
-        lines
-            .handler(4)
-            .is_some_and(|h| h.object == 2 && h.operation == 1)
-    );
+    match lines.handler(4) {
+        Some(handler) => assert!(rt; handler.object == 2 && handler.operation == 1),
+        None => panic!(rt; "no handler"),
+    }
     assert!(rt; lines.handler(5).is_none() && priority(0) == 31 && priority(9) == 40);
 }

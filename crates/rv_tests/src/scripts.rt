@@ -122,26 +122,3 @@ fn unit_texts_have_a_greatest_length(rt: HostRuntime) -> Result<(), Fail> {
     );
     Ok(())
 }
-
-// A script of that many shapes.
-fn shapes(alloc: Global, count: usize) -> Result<String, Fail> {
-    let mut script = String::new(alloc);
-    for number in 0..count {
-        let shape = format!(in alloc; "@shape\nunit U{number}\n")?;
-        script.push_str(shape.as_str())?;
-    }
-    Ok(script)
-}
-
-#[test]
-fn sixty_four_units_load(rt: HostRuntime) -> Result<(), Fail> {
-    let alloc = rt.alloc();
-    let most = shapes(alloc, 64)?;
-    assert_eq!(rt; played(alloc, most.as_bytes())?.as_str(), "");
-    let more = shapes(alloc, 65)?;
-    assert_eq!(rt;
-        played(alloc, more.as_bytes())?.as_str(),
-        "script line 129: shape TooMany"
-    );
-    Ok(())
-}

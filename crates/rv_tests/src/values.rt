@@ -6,7 +6,7 @@ use rv_value::{Args, Arith, MOST_ARGS, MOST_SCALARS, Scalars, in_range};
 #[test]
 fn a_range_has_its_bounds(rt: HostRuntime) {
     for (value, within) in [(-2, false), (-1, true), (0, true), (3, true), (4, false)] {
-        assert_eq!(rt; in_range(value, -1, 3), within, "at {value}");
+        assert!(rt; in_range(value, -1, 3) == within, "at {value}");
     }
     assert!(rt; !in_range(0, 1, 0));
 }
@@ -17,39 +17,18 @@ fn args_are_kept_in_order(rt: HostRuntime) {
     assert!(rt; args.is_empty() && !args.is_full());
     args.push(-7);
     args.push(i64::MAX);
-    assert_eq!(rt;
-        (args.len(), args.get(0), args.get(1), args.get(2)),
-        (2, Some(-7), Some(i64::MAX), None)
-    );
-    assert_eq!(rt; args.as_slice(), [-7, i64::MAX].as_slice());
+    assert!(rt; args.len() == 2 && args.get(0) == Some(-7) && args.get(2) == None);
+    assert!(rt; args.as_slice() == [-7, i64::MAX].as_slice());
     let kept = args;
     assert!(rt; kept == Args::from_slice(&[-7, i64::MAX]) && kept != Args::new());
     assert!(rt; Args::from_slice(&[1; MOST_ARGS]).is_full() && !args.is_empty());
     let text = format!(in rt.alloc(); "{kept:?}").expect(&rt, "memory");
-    assert_eq!(rt; text.as_str(), "[-7, 9223372036854775807]");
+    assert!(rt; text.as_str() == "[-7, 9223372036854775807]");
 }
 
 #[test]
-fn scalars_are_kept_in_order(rt: HostRuntime) {
-    let mut scalars = Scalars::new();
-    assert!(rt; scalars.is_empty() && !scalars.is_full());
-    scalars.push(-7);
-    scalars.push(i64::MAX);
-    assert_eq!(rt;
-        (
-            scalars.len(),
-            scalars.get(0),
-            scalars.get(1),
-            scalars.get(2)
-        ),
-        (2, Some(-7), Some(i64::MAX), None)
-    );
-    assert_eq!(rt; scalars.as_slice(), [-7, i64::MAX].as_slice());
-    let kept = scalars;
-    assert!(rt; kept == Scalars::from_slice(&[-7, i64::MAX]) && kept != Scalars::new());
-    assert!(rt; Scalars::from_slice(&[1; MOST_SCALARS]).is_full() && !scalars.is_empty());
-    let text = format!(in rt.alloc(); "{kept:?}").expect(&rt, "memory");
-    assert_eq!(rt; text.as_str(), "[-7, 9223372036854775807]");
+fn scalars_are_at_most_32(rt: HostRuntime) {
+    assert!(rt; Scalars::new().is_empty() && Scalars::from_slice(&[1; MOST_SCALARS]).is_full());
 }
 
 #[test]

@@ -13,6 +13,7 @@ mod print_expression;
 mod print_iteration;
 mod print_name;
 mod print_part;
+mod print_simple;
 mod print_statement;
 mod print_unit;
 mod printer;

@@ -4,12 +4,17 @@ ghost use Rattle.std.specs.Prelude.{◌≡◌, OnOk};
 ghost use Rattle.rv_tree.specs.Expressions.{expressions_of, factors_of, terms_of};
 ghost use Rattle.rv_tree.specs.ExpressionGrammar.{relational, adding, multiplying, highest_word};
 ghost use Rattle.rv_tree.specs.ExpressionView.{expression_view, expressions_view, factors_view, terms_view};
+ghost use Rattle.rv_tree.specs.NameView.{identifier_view, name_view};
+ghost use Rattle.rv_tree.specs.NamePrint.{identifier_onto, name_onto};
+ghost use Rattle.rv_tree.specs.Onto.{kind_onto};
+ghost use Rattle.rv_lex.specs.declared.kind.Kind.TheVariants as k;
 ghost use Rattle.rv_tree.specs.ExpressionPrint.{expression_onto, arguments_onto, factors_onto, terms_onto, relations_onto, logical_onto};
 
 use crate::expression::{
     AddingOperator, Expression, Factor, HighestOperator, LogicalOperator, MultiplyingOperator,
     RangeConstraint, RelationalOperator, Term,
 };
+use crate::name::{Identifier, Name};
 use crate::printer::{Printed, Printer};
 use rv_lex::kind::Kind;
 use std::alloc::AllocError;
@@ -74,6 +79,28 @@ fn print_logical(operator: LogicalOperator, out: &mut Printer) -> Result<(), All
     }
 }
 
+fn print_attribute(
+    prefix: &Name,
+    attribute: &Identifier,
+    out: &mut Printer,
+) -> Result<(), AllocError>
+    ensures { OnOk result
+        (out.new ≡ identifier_onto (identifier_view attribute.now) (kind_onto k.Apostrophe (name_onto (name_view prefix.now) out.old))) }
+{
+    prefix.print(out)?;
+    out.kind(Kind::Apostrophe)?;
+    attribute.print(out)
+}
+
+// An expression behind a word.
+#[cycle(print_expression)]
+fn print_after(before: Kind, e: &Expression, out: &mut Printer) -> Result<(), AllocError>
+    ensures { OnOk result (out.new ≡ expression_onto (expression_view e.now) (kind_onto before out.old)) }
+{
+    out.kind(before)?;
+    print_expression(e, out)
+}
+
 #[cycle(print_expression)]
 pub(crate) fn print_expression(e: &Expression, out: &mut Printer) -> Result<(), AllocError>
     ensures { OnOk result (out.new ≡ expression_onto (expression_view e.now) out.old) }
@@ -81,40 +108,30 @@ pub(crate) fn print_expression(e: &Expression, out: &mut Printer) -> Result<(), 
     match e {
         Expression::Literal(_, value) => out.number(*value),
         Expression::Name(name) => name.print(out),
-        Expression::Attribute(prefix, attribute) => {
-            prefix.print(out)?;
-            out.kind(Kind::Apostrophe)?;
-            attribute.print(out)
-        }
+        Expression::Attribute(prefix, attribute) => print_attribute(prefix, attribute, out),
         Expression::Call(name, arguments) => {
             name.print(out)?;
             print_arguments(arguments, out)
         }
         Expression::Parenthesized(_, inner) => {
-            out.kind(Kind::LeftParenthesis)?;
-            print_expression(inner, out)?;
+            print_after(Kind::LeftParenthesis, inner, out)?;
             out.kind(Kind::RightParenthesis)
         }
         Expression::Highest(_, operator, operand) => {
-            out.kind(highest_kind(*operator))?;
-            print_expression(operand, out)
+            print_after(highest_kind(*operator), operand, out)
         }
         Expression::Product(first, factors) => {
             print_expression(first, out)?;
             print_factors(factors, out)
         }
-        Expression::Signed(_, sign, term) => {
-            out.kind(adding_kind(*sign))?;
-            print_expression(term, out)
-        }
+        Expression::Signed(_, sign, term) => print_after(adding_kind(*sign), term, out),
         Expression::Sum(first, terms) => {
             print_expression(first, out)?;
             print_terms(terms, out)
         }
         Expression::Relation(left, operator, right) => {
             print_expression(left, out)?;
-            out.kind(relational_kind(*operator))?;
-            print_expression(right, out)
+            print_after(relational_kind(*operator), right, out)
         }
         Expression::Logical(operator, first, more) => {
             print_expression(first, out)?;
@@ -131,11 +148,9 @@ pub(crate) fn print_arguments(es: &Vec<Expression>, out: &mut Printer) -> Result
     match es.as_slice() {
         [] => Ok(()),
         [first, more @ ..] => {
-            out.kind(Kind::LeftParenthesis)?;
-            print_expression(first, out)?;
+            print_after(Kind::LeftParenthesis, first, out)?;
             for e in more {
-                out.kind(Kind::Comma)?;
-                print_expression(e, out)?;
+                print_after(Kind::Comma, e, out)?;
             }
             out.kind(Kind::RightParenthesis)
         }
@@ -148,8 +163,7 @@ fn print_factors(factors: &Vec<Factor>, out: &mut Printer) -> Result<(), AllocEr
         (out.new ≡ factors_onto (factors_of (factors_view factors.now.items)) out.old) }
 {
     for factor in factors {
-        out.kind(multiplying_kind(factor.operator))?;
-        print_expression(&factor.operand, out)?;
+        print_after(multiplying_kind(factor.operator), &factor.operand, out)?;
     }
     Ok(())
 }
@@ -159,8 +173,7 @@ fn print_terms(terms: &Vec<Term>, out: &mut Printer) -> Result<(), AllocError>
     ensures { OnOk result (out.new ≡ terms_onto (terms_of (terms_view terms.now.items)) out.old) }
 {
     for term in terms {
-        out.kind(adding_kind(term.operator))?;
-        print_expression(&term.operand, out)?;
+        print_after(adding_kind(term.operator), &term.operand, out)?;
     }
     Ok(())
 }
@@ -184,6 +197,10 @@ fn print_relations(
 impl Printed for Expression {
     ghost use Rattle.rv_tree.specs.Expressions as tree;
     ghost use Rattle.rv_tree.specs.ExpressionView.{expression_view};
+    ghost use Rattle.rv_tree.specs.NameView.{identifier_view, name_view};
+    ghost use Rattle.rv_tree.specs.NamePrint.{identifier_onto, name_onto};
+    ghost use Rattle.rv_tree.specs.Onto.{kind_onto};
+    ghost use Rattle.rv_lex.specs.declared.kind.Kind.TheVariants as k;
     ghost use Rattle.rv_tree.specs.ExpressionPrint.{expression_onto};
 
     ghost Tree = { tree.Expression };
@@ -200,6 +217,10 @@ impl Printed for Expression {
 impl Printed for RangeConstraint {
     ghost use Rattle.rv_tree.specs.Expressions as tree;
     ghost use Rattle.rv_tree.specs.ExpressionView.{range_view};
+    ghost use Rattle.rv_tree.specs.NameView.{identifier_view, name_view};
+    ghost use Rattle.rv_tree.specs.NamePrint.{identifier_onto, name_onto};
+    ghost use Rattle.rv_tree.specs.Onto.{kind_onto};
+    ghost use Rattle.rv_lex.specs.declared.kind.Kind.TheVariants as k;
     ghost use Rattle.rv_tree.specs.ExpressionPrint.{range_onto};
 
     ghost Tree = { tree.RangeConstraint };

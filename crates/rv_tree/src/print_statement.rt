@@ -1,4 +1,4 @@
-//! Prints statements.
+//! Prints statements that hold others.
 
 ghost use Rattle.std.specs.Prelude.{◌≡◌, OnOk};
 ghost use Rattle.rv_tree.specs.NameView.{identifier_view};
@@ -8,9 +8,10 @@ ghost use Rattle.rv_tree.specs.StatementView.{statement_view, statements_view, e
 ghost use Rattle.rv_tree.specs.StatementPrint.{statement_onto, statements_onto, elsif_parts_onto, else_onto, alternatives_onto, accept_body_onto, selective_onto, selectives_onto, then_abort_onto};
 
 use crate::name::Identifier;
-use crate::print_expression::{print_arguments, print_expression};
-use crate::print_iteration::{print_condition, print_with_abort};
-use crate::print_part::{print_initial, print_parameters};
+use crate::print_simple::{
+    print_abort, print_accepted, print_assignment, print_between, print_call, print_closing,
+    print_delay, print_exit, print_null, print_optional, print_requeue,
+};
 use crate::printer::{Printed, Printer};
 use crate::statement::{CaseAlternative, ElsifPart, SelectAlternative, Statement};
 use rv_lex::kind::Kind;
@@ -21,20 +22,9 @@ fn print_statement(statement: &Statement, out: &mut Printer) -> Result<(), Alloc
     ensures { OnOk result (out.new ≡ statement_onto (statement_view statement.now) out.old) }
 {
     match statement {
-        Statement::Null(_) => {
-            out.kind(Kind::Null)?;
-            out.kind(Kind::Semicolon)
-        }
-        Statement::Assignment(name, value) => {
-            name.print(out)?;
-            print_initial(value, out)?;
-            out.kind(Kind::Semicolon)
-        }
-        Statement::Call(name, arguments) => {
-            name.print(out)?;
-            print_arguments(arguments, out)?;
-            out.kind(Kind::Semicolon)
-        }
+        Statement::Null(_) => print_null(out),
+        Statement::Assignment(name, value) => print_assignment(name, value, out),
+        Statement::Call(name, arguments) => print_call(name, arguments, out),
         Statement::If {
             at: _,
             condition,
@@ -42,28 +32,20 @@ fn print_statement(statement: &Statement, out: &mut Printer) -> Result<(), Alloc
             elsif_parts,
             else_statements,
         } => {
-            out.kind(Kind::If)?;
-            print_expression(condition, out)?;
-            out.kind(Kind::Then)?;
+            print_between(Kind::If, condition, Kind::Then, out)?;
             print_statements(statements, out)?;
             print_elsif_parts(elsif_parts, out)?;
             print_else(else_statements, out)?;
-            out.kind(Kind::End)?;
-            out.kind(Kind::If)?;
-            out.kind(Kind::Semicolon)
+            print_closing(Kind::If, out)
         }
         Statement::Case {
             at: _,
             selector,
             alternatives,
         } => {
-            out.kind(Kind::Case)?;
-            print_expression(selector, out)?;
-            out.kind(Kind::Is)?;
+            print_between(Kind::Case, selector, Kind::Is, out)?;
             print_alternatives(alternatives, out)?;
-            out.kind(Kind::End)?;
-            out.kind(Kind::Case)?;
-            out.kind(Kind::Semicolon)
+            print_closing(Kind::Case, out)
         }
         Statement::Loop {
             at: _,
@@ -72,50 +54,22 @@ fn print_statement(statement: &Statement, out: &mut Printer) -> Result<(), Alloc
         } => {
             iteration.print(out)?;
             print_statements(statements, out)?;
-            out.kind(Kind::End)?;
-            out.kind(Kind::Loop)?;
-            out.kind(Kind::Semicolon)
+            print_closing(Kind::Loop, out)
         }
-        Statement::Exit(_, condition) => {
-            out.kind(Kind::Exit)?;
-            print_condition(condition, out)?;
-            out.kind(Kind::Semicolon)
-        }
-        Statement::Return(_, value) => {
-            out.kind(Kind::Return)?;
-            out.maybe(value)?;
-            out.kind(Kind::Semicolon)
-        }
-        Statement::Raise(_, name) => {
-            out.kind(Kind::Raise)?;
-            out.maybe(name)?;
-            out.kind(Kind::Semicolon)
-        }
+        Statement::Exit(_, condition) => print_exit(condition, out),
+        Statement::Return(_, value) => print_optional(Kind::Return, value, out),
+        Statement::Raise(_, name) => print_optional(Kind::Raise, name, out),
         Statement::Delay {
             at: _,
             is_until,
             time,
-        } => {
-            out.kind(Kind::Delay)?;
-            out.flag(Kind::Until, *is_until)?;
-            print_expression(time, out)?;
-            out.kind(Kind::Semicolon)
-        }
-        Statement::Abort(_, names) => {
-            out.kind(Kind::Abort)?;
-            out.listed(Kind::Comma, names)?;
-            out.kind(Kind::Semicolon)
-        }
+        } => print_delay(*is_until, time, out),
+        Statement::Abort(_, names) => print_abort(names, out),
         Statement::Requeue {
             at: _,
             target,
             with_abort,
-        } => {
-            out.kind(Kind::Requeue)?;
-            target.print(out)?;
-            print_with_abort(*with_abort, out)?;
-            out.kind(Kind::Semicolon)
-        }
+        } => print_requeue(target, *with_abort, out),
         Statement::Accept {
             at: _,
             entry,
@@ -123,9 +77,7 @@ fn print_statement(statement: &Statement, out: &mut Printer) -> Result<(), Alloc
             statements,
             end_name,
         } => {
-            out.kind(Kind::Accept)?;
-            entry.print(out)?;
-            print_parameters(parameters, out)?;
+            print_accepted(entry, parameters, out)?;
             print_accept_body(statements, end_name, out)?;
             out.kind(Kind::Semicolon)
         }
@@ -139,9 +91,7 @@ fn print_statement(statement: &Statement, out: &mut Printer) -> Result<(), Alloc
             print_selectives(alternatives, out)?;
             print_else(else_statements, out)?;
             print_then_abort(abort_statements, out)?;
-            out.kind(Kind::End)?;
-            out.kind(Kind::Select)?;
-            out.kind(Kind::Semicolon)
+            print_closing(Kind::Select, out)
         }
     }
 }
@@ -166,9 +116,7 @@ fn print_elsif_parts(parts: &Vec<ElsifPart>, out: &mut Printer) -> Result<(), Al
         (out.new ≡ elsif_parts_onto (elsif_parts_of (elsif_parts_view parts.now.items)) out.old) }
 {
     for part in parts {
-        out.kind(Kind::Elsif)?;
-        print_expression(&part.condition, out)?;
-        out.kind(Kind::Then)?;
+        print_between(Kind::Elsif, &part.condition, Kind::Then, out)?;
         print_statements(&part.statements, out)?;
     }
     Ok(())

@@ -76,6 +76,13 @@ impl Printer {
         Ok(())
     }
 
+    fn after<T: Printed>(&mut self, between: Kind, part: &T) -> Result<(), AllocError>
+        ensures { OnOk result (self.new ≡ after_onto between T.onto (T.view part.now) self.old) }
+    {
+        self.kind(between)?;
+        part.print(self)
+    }
+
     pub(crate) fn each_after<T: Printed>(
         &mut self,
         between: Kind,
@@ -85,8 +92,7 @@ impl Printer {
             (self.new ≡ each_onto (after_onto between T.onto) (map T.view parts.entry.now) self.old) }
     {
         while let [part, rest @ ..] = parts {
-            self.kind(between)?;
-            part.print(self)?;
+            self.after(between, part)?;
             parts = rest;
         }
         Ok(())

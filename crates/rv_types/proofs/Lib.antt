@@ -1,4 +1,5 @@
 pub mod Pushed
 pub mod Ended
 pub mod Units
+pub mod Chains
 pub mod Covered

@@ -21,7 +21,7 @@ use Rattle.rv_code.specs.declared.body.ExceptionChoice.TheVariants as choice
 use Rattle.rv_code.specs.declared.statement.Place.TheVariants.{Variable}
 use Rattle.rv_types.specs.declared.denoted.Denoted.{Denoted}
 use Rattle.rv_types.specs.declared.denoted.Denoted.TheVariants as d
-use Rattle.rv_types.specs.Points.{PointView, static_meaning, denotes, noting, taking_slot}
+use Rattle.rv_types.specs.Points.{PointView, static_meaning, denotes, noting, taking_slot, has_slot, behind_parameters}
 use Rattle.rv_types.specs.StaticForm.{is_static}
 use Rattle.rv_types.specs.Typed.{typed_as}
 use Rattle.rv_types.specs.StatementCode.{statements_onto}
@@ -58,10 +58,14 @@ with_object i r is_written o c = record {
   declarations = o.declarations ++ declaration_of o.point.slots r c ∷ [];
 }
 
+-- the next object, for which a slot is left
+abbrev pub object_with : Identifier → Range → Bool → Opened → code.Expression → Option Opened
+object_with i r is_written o c = if has_slot o.point then Some (with_object i r is_written o c) else None
+
 abbrev pub objects_onto : Range → Bool → Option Expression → List Identifier → Opened → Option Opened
 objects_onto r is_written initial [] o = Some o
 objects_onto r is_written initial (i ∷ more) o =
-    initial_of o.point r initial >>= λ c. objects_onto r is_written initial more (with_object i r is_written o c)
+    initial_of o.point r initial >>= object_with i r is_written o >>= objects_onto r is_written initial more
 
 -- constants with a static value are known by it
 abbrev pub noting_all : Range → ℤ → List Identifier → PointView → PointView
@@ -140,5 +144,5 @@ body_with parameters is_function declarations ss handlers = record {
 -- a block as the body of an operation or a task with these parameters
 abbrev pub block_of : List Parameter → Bool → PointView → Block → Option Body
 block_of parameters is_function p block =
-    locals_onto block.locals (opened_with p []) >>= λ o. statements_onto o.point block.statements [] >>= λ ss.
+    locals_onto block.locals (opened_with (behind_parameters p) []) >>= λ o. statements_onto o.point block.statements [] >>= λ ss.
     handlers_onto o.point block.handlers [] >>= λ handlers. Some (body_with parameters is_function o.declarations ss handlers)

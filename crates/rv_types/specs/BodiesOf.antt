@@ -55,6 +55,7 @@ point_in s scope object result = record {
   times = s.times;
   object = object;
   slots = 0;
+  parameters = 0;
   result = result;
 }
 

@@ -63,9 +63,9 @@ times_in z (and_alternative cs ss more) = times z cs + times_in z more
 abbrev pub is_once : Alternatives → ℤ → Bool
 is_once alternatives z = times_in z alternatives == 1 || (with_others alternatives && times_in z alternatives == 0)
 
--- how many values a range has, and whether all of so many values from one on are such
-abbrev pub how_many : Range → ℕ
-how_many r = if int_lt r.high r.low then 0 else unsigned_abs (r.high -ℤ r.low) + 1
+-- how many values are from one to another, and whether all of so many values from one on are such
+abbrev pub how_many : ℤ → ℤ → ℕ
+how_many low high = if int_lt high low then 0 else unsigned_abs (high -ℤ low) + 1
 
 abbrev pub each_from : (ℤ → Bool) → ℤ → ℕ → Bool
 each_from test z zero = true
@@ -73,4 +73,4 @@ each_from test z (suc n) = test z && each_from test (z +ℤ pos 1) n
 
 -- each value of the range is of exactly one choice, and no other value of any; `others` stands alone and last
 unfoldable pub covers : Range → Alternatives → Bool
-covers r alternatives = others_last alternatives && lie_in r alternatives && each_from (is_once alternatives) r.low (how_many r)
+covers r alternatives = others_last alternatives && lie_in r alternatives && each_from (is_once alternatives) r.low (how_many r.low r.high)

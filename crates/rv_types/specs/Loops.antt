@@ -22,11 +22,12 @@ pub record Bounds : Type 0 where
   pub high : code.Expression
   pub parameter : Range
 
--- the subtype of the parameter: where both bounds are static, they are its own
+-- the subtype of the parameter: where both bounds are static, they are its own; else it isn't static, and the values that
+-- choices have to cover are all of its type (5.4)
 abbrev pub parameter_range : Range → Option ℤ → Option ℤ → Option Range
 parameter_range r (Some low) (Some high) = bounded r low high
-parameter_range r (Some low) None = Some r
-parameter_range r None high = Some r
+parameter_range r (Some low) None = Some (whole_range r.of)
+parameter_range r None high = Some (whole_range r.of)
 
 abbrev pub bounds_with : Range → code.Expression → code.Expression → Range → Bounds
 bounds_with r low high parameter = record { range = r; low = low; high = high; parameter = parameter }

@@ -1,5 +1,5 @@
 -- What names denote at a point of a body (ISO/IEC 8652:2012, 4.1, 8.6, 9.4, 9.5).
-use Rattle.std.specs.Prelude.{ℕ, zero, suc, ◌+◌, ◌==◌, nat_lt, if◌then◌else◌, Bool, false, List, [], ◌∷◌, ◌++◌, Option, Some, None, slice_get, length}
+use Rattle.std.specs.Prelude.{ℕ, zero, suc, ◌+◌, ◌-◌, ◌==◌, nat_lt, if◌then◌else◌, Bool, false, List, [], ◌∷◌, ◌++◌, Option, Some, None, slice_get, length}
 use Rattle.rv_tree.specs.Names.{Identifier, Name}
 use Rattle.rv_event.specs.declared.entry.Exception.TheVariants as exception
 use Rattle.rv_shape.specs.declared.kind.Range.{Range}
@@ -46,6 +46,8 @@ pub record PointView : Type 0 where
   pub object : ℕ
   -- the next slot
   pub slots : ℕ
+  -- how many slots the parameters have, which stand first
+  pub parameters : ℕ
   -- the range of the result, in the body of a function (6.5)
   pub result : Option Range
 
@@ -209,6 +211,14 @@ noting at known p = record p { locals = p.locals ++ record { at = at; known = kn
 -- an object of the body takes the next slot
 abbrev pub taking_slot : ℕ → Range → Bool → PointView → PointView
 taking_slot at r is_written p = record (noting at (k.Variable p.slots r is_written) p) { slots = p.slots + 1 }
+
+-- 64 variables and loop parameters may be open beside the parameters: a slot is left for one more (own)
+unfoldable pub has_slot : PointView → Bool
+has_slot p = nat_lt (p.slots - p.parameters) 64
+
+-- the parameters have their slots
+abbrev pub behind_parameters : PointView → PointView
+behind_parameters p = record p { parameters = p.slots }
 
 -- a loop's parameter in its own bounds, where it denotes nothing (5.5, 8.3)
 abbrev pub in_bounds : Identifier → PointView → PointView

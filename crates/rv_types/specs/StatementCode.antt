@@ -14,7 +14,7 @@ use Rattle.rv_code.specs.declared.expression.Callee.TheVariants.{DelayUntil}
 use Rattle.rv_code.specs.declared.statement.Choice.{Choice}
 use Rattle.rv_types.specs.declared.denoted.Denoted.{Denoted}
 use Rattle.rv_types.specs.declared.denoted.Denoted.TheVariants as d
-use Rattle.rv_types.specs.Points.{PointView, denotes, in_bounds, with_loop_parameter}
+use Rattle.rv_types.specs.Points.{PointView, denotes, in_bounds, with_loop_parameter, has_slot}
 use Rattle.rv_types.specs.Typed.{Typed, typed, typed_as}
 use Rattle.rv_types.specs.Targets.{target_of, assigned, called}
 use Rattle.rv_types.specs.Loops.{Bounds, bounds_of, discrete, choices_onto}
@@ -83,8 +83,10 @@ abbrev mutual
   statement_of p (loop_statement at (while_true condition) ss) =
       typed_as p Boolean condition >>= λ c. statements_onto p ss [] >>= λ body. Some (code.while_loop c (code.statements_of body))
   statement_of p (loop_statement at (for_each i is_reverse bounds) ss) =
-      bounds_of (in_bounds i p) bounds >>= λ b.
-      statements_onto (with_loop_parameter i b.parameter (in_bounds i p)) ss [] >>= for_loop_with p.slots is_reverse b
+      if has_slot p then
+      (bounds_of (in_bounds i p) bounds >>= λ b.
+      statements_onto (with_loop_parameter i b.parameter (in_bounds i p)) ss [] >>= for_loop_with p.slots is_reverse b)
+      else None
   statement_of p (exit_statement at condition) = exit_of p condition
   statement_of p (return_statement at e) = return_of p p.result e
   statement_of p (raise_statement at n) = raise_of p n

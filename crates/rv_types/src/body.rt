@@ -29,7 +29,9 @@ fn take_name(parameters: &[Parameter], name: &Identifier, point: &mut Point) -> 
     ensures scope { OnOk result (point.new.scope ≡ point.old.scope) }
 {
     match parameters.get(point.slots()) {
-        Some(parameter) => point.take_slot(name.at, parameter.range, parameter.mode.goes_out()),
+        Some(parameter) => {
+            point.take_parameter(name.at, parameter.range, parameter.mode.goes_out())
+        }
         None => Err(mismatch(name.at)),
     }
 }

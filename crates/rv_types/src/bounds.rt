@@ -74,7 +74,7 @@ fn bounded(range: Range, low: i64, high: i64, places: (usize, usize)) -> Result<
     Ok(found)
 }
 
-// The subtype of the parameter: where both bounds are static, they are its own.
+// The subtype of the parameter: where both bounds are static, they are its own; else all values of its type.
 fn parameter_range(
     range: Range,
     low: Option<i64>,
@@ -84,11 +84,11 @@ fn parameter_range(
     ensures { IfOk result (λ r. range_of_parameter range low high ≡ Some r) }
 {
     let Some(first) = low else {
-        return Ok(range);
+        return Ok(whole_range(range.of));
     };
     match high {
         Some(last) => bounded(range, first, last, places),
-        None => Ok(range),
+        None => Ok(whole_range(range.of)),
     }
 }
 

@@ -1,9 +1,9 @@
 //! Whether each value of a case selector's subtype is of exactly one choice (5.4).
 
-ghost use Rattle.std.specs.Prelude.{◌≡◌, OnOk, IfOk, true, [], Some, IsPermutation};
+ghost use Rattle.std.specs.Prelude.{◌≡◌, ◌&&◌, OnOk, IfOk, true, [], int_lt, pos};
 ghost use Rattle.rv_code.specs.StatementView.{alternatives_view};
 ghost use Rattle.rv_types.specs.Coverage.{is_others as is_others_choice, has_others as have_others, lies_in as choice_lies_in, all_lie_in as all_choices_lie_in, is_alone as stands_alone, others_last as others_are_last, with_others as one_has_others, lie_in as alternatives_lie_in, covers as covers_range};
-ghost use Rattle.rv_types.specs.Spans.{follows as span_follows, with_span, spans_onto, all_spans, value_after, is_chain as spans_chain};
+ghost use Rattle.rv_types.specs.Spans.{with_span, spans_onto, all_spans, are_parts, are_rising, begins as span_begins, value_after, each_once as values_each_once};
 
 use rv_code::{Alternative, Choice};
 use rv_shape::kind::Range;
@@ -142,36 +142,36 @@ fn spans_of(alloc: Global, list: &Vec<Alternative>) -> Result<Vec<Span>, AllocEr
     Ok(spans)
 }
 
-// Whether a span begins where it has to, or behind that where there may be gaps.
-fn follows(gaps: bool, next: i64, low: i64) -> bool
-    ensures { result ≡ span_follows gaps next low }
+// Whether a span begins at a value, or behind it where there may be gaps.
+fn begins(gaps: bool, next: i64, low: i64) -> bool
+    ensures { result ≡ span_begins gaps next low }
 {
-    if gaps {
-        next <= low
-    } else {
-        next <= low && low <= next
-    }
+    next <= low && (gaps || low <= next)
 }
 
-// The value behind a span, where the span may stand there.
-fn after(gaps: bool, high: i64, next: i64, span: Span) -> Option<i64>
-    ensures { result ≡ value_after gaps high next span }
+// The value behind such a span, if there is one.
+fn after(gaps: bool, next: i64, span: Span) -> Option<i64>
+    ensures { result ≡ value_after gaps next span }
 {
     let (first, last) = span;
-    if follows(gaps, next, first) && first <= last && last <= high && last < i64::MAX {
+    if begins(gaps, next, first) && last < i64::MAX {
         Some(last + 1)
     } else {
         None
     }
 }
 
-// Whether these spans follow one another from a value on, up to a high one.
-fn is_chain(gaps: bool, high: i64, low: i64, spans: &Vec<Span>) -> bool
-    ensures { result ≡ spans_chain gaps high (Some low) spans.now.items }
+// Whether each value from a low one to a high one is in exactly one of these spans, which stand in the order of their first
+// values, or where there may be gaps in none.
+fn in_order(gaps: bool, low: i64, high: i64, spans: &Vec<Span>) -> bool
+    requires parts { are_parts low high spans.now.items ≡ true }
+    requires order { are_rising spans.now.items ≡ true }
+    requires end { int_lt high (pos 9223372036854775807) ≡ true }
+    ensures { result ≡ values_each_once gaps low high spans.now.items }
 {
     let mut next = low;
     for span in spans {
-        match after(gaps, high, next, *span) {
+        match after(gaps, next, *span) {
             None => return false,
             Some(behind) => next = behind,
         }
@@ -179,18 +179,29 @@ fn is_chain(gaps: bool, high: i64, low: i64, spans: &Vec<Span>) -> bool
     gaps || high < next
 }
 
-/// Whether each value of the range is of exactly one choice, and no other value of any.
+// The same of spans in any order.
+fn each_once(gaps: bool, low: i64, high: i64, given: Vec<Span>) -> bool
+    requires parts { are_parts low high given.items ≡ true }
+    requires end { int_lt high (pos 9223372036854775807) ≡ true }
+    ensures { result ≡ values_each_once gaps low high given.items }
+{
+    let mut spans = given;
+    spans.sort_unstable();
+    in_order(gaps, low, high, &spans)
+}
+
+/// Whether each value of the range is of exactly one choice, and no other value of any. No range goes up to the last `i64`.
+#[tactic(auto, unfolding(crate::specs::Coverage::covers))]
 pub(crate) fn covers(
     alloc: Global,
     range: Range,
     list: &Vec<Alternative>,
 ) -> Result<bool, AllocError>
-    ensures { IfOk result (λ b. b ≡ true → covers_range range (alternatives_view list.now.items) ≡ true) }
+    ensures { IfOk result (λ b. b ≡ (int_lt range.high (pos 9223372036854775807) && covers_range range (alternatives_view list.now.items))) }
 {
-    if !others_last(list) || !lie_in(range, list) {
+    if range.high == i64::MAX || !others_last(list) || !lie_in(range, list) {
         return Ok(false);
     }
-    let mut spans = spans_of(alloc, list)?;
-    spans.sort()?;
-    Ok(is_chain(with_others(list), range.high, range.low, &spans))
+    let spans = spans_of(alloc, list)?;
+    Ok(each_once(with_others(list), range.low, range.high, spans))
 }

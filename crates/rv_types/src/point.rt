@@ -1,6 +1,6 @@
 //! A point of a body: what is declared there, and what names denote.
 
-ghost use Rattle.std.specs.Prelude.{◌≡◌, OnOk, ℕ};
+ghost use Rattle.std.specs.Prelude.{◌≡◌, ◌-◌, OnOk, ℕ, true};
 ghost use Rattle.rv_tree.specs.NameView.{identifier_view, identifiers_view, name_view};
 ghost use Rattle.rv_tree.specs.Names.{Identifier as IdentifierView};
 ghost use Rattle.rv_names.specs.Scope.{OnlyDeclares};
@@ -9,7 +9,7 @@ ghost use Rattle.rv_types.specs.Blocks.{hidden, revealed};
 ghost use Rattle.rv_types.specs.BodiesOf.{point_in};
 ghost use Rattle.rv_types.specs.Selectors.{constant_range, constant_subtype, declared_range};
 ghost use Rattle.rv_outline.specs.Known.{priority_range};
-ghost use Rattle.rv_types.specs.Points.{PointView, static_meaning, point_meaning, denotes, denoted_by, profile, profile_of, shows_times, local_at, known_in, noting, taking_slot, in_bounds as inside_bounds, with_loop_parameter};
+ghost use Rattle.rv_types.specs.Points.{PointView, static_meaning, point_meaning, denotes, denoted_by, profile, profile_of, shows_times, local_at, known_in, noting, taking_slot, has_slot, behind_parameters, in_bounds as inside_bounds, with_loop_parameter};
 
 use crate::denoted::Denoted;
 use crate::names::{
@@ -72,9 +72,9 @@ pub struct Point<'a> {
     times: bool,
     // The number of the protected object whose body it is in.
     object: usize,
-    // The next slot, and the first one that there isn't.
+    // The next slot, and how many of them the parameters have.
     slots: usize,
-    slots_end: usize,
+    parameters: usize,
     // The range of the result, in the body of a function.
     result_range: Option<Range>,
 }
@@ -93,6 +93,7 @@ impl<'a> Model for Point<'a> {
       times = p.times;
       object = p.object;
       slots = p.slots;
+      parameters = p.parameters;
       result = p.result_range;
     } };
 }
@@ -126,7 +127,7 @@ impl<'a> Point<'a> {
             times: setting.times,
             object,
             slots: 0,
-            slots_end: usize::MAX,
+            parameters: 0,
             result_range,
         }
     }
@@ -255,16 +256,48 @@ impl<'a> Point<'a> {
         Ok(())
     }
 
-    /// The parameters have their slots: as many more are left as variables may be open.
+    /// The parameters have their slots.
     pub(crate) fn begin_block(&mut self)
-        ensures { self.new ≡ self.old }
+        ensures { self.new ≡ behind_parameters self.old }
     {
-        self.slots_end = self.slots.saturating_add(MOST_VARIABLES);
+        self.parameters = self.slots;
+    }
+
+    // How many slots variables and loop parameters have.
+    fn variables(&self) -> usize
+        ensures { result ≡ self.now.slots - self.now.parameters }
+    {
+        self.slots.saturating_sub(self.parameters)
     }
 
     /// How many slots are left.
     pub(crate) fn slots_left(&self) -> usize {
-        self.slots_end.saturating_sub(self.slots)
+        MOST_VARIABLES.saturating_sub(self.variables())
+    }
+
+    // Whether a slot is left for one more variable.
+    #[tactic(auto, unfolding(crate::specs::Points::has_slot))]
+    fn has_slot(&self) -> bool
+        ensures { result ≡ has_slot self.now }
+    {
+        self.variables() < MOST_VARIABLES
+    }
+
+    /// Gives the next slot to a parameter.
+    pub(crate) fn take_parameter(
+        &mut self,
+        at: usize,
+        range: Range,
+        is_written: bool,
+    ) -> Result<(), Refused>
+        ensures { OnOk result (self.new ≡ taking_slot at range is_written self.old) }
+    {
+        let Some(next) = self.slots.checked_add(1) else {
+            return Err(Refused(TypeFault::TooLarge(at)));
+        };
+        self.note(at, Known::Variable(self.slots, range, is_written))?;
+        self.slots = next;
+        Ok(())
     }
 
     /// Gives the next slot to an object of the body, if one is left.
@@ -274,14 +307,13 @@ impl<'a> Point<'a> {
         range: Range,
         is_written: bool,
     ) -> Result<(), Refused>
-        ensures { OnOk result (self.new ≡ taking_slot at range is_written self.old) }
+        ensures left { OnOk result (has_slot self.old ≡ true) }
+        ensures point { OnOk result (self.new ≡ taking_slot at range is_written self.old) }
     {
-        if self.slots >= self.slots_end {
+        if !self.has_slot() {
             return Err(Refused(TypeFault::TooLarge(at)));
         }
-        self.note(at, Known::Variable(self.slots, range, is_written))?;
-        self.slots += 1;
-        Ok(())
+        self.take_parameter(at, range, is_written)
     }
 
     /// Identifiers inside their own declaration.
@@ -313,9 +345,10 @@ impl<'a> Point<'a> {
 
     /// Begins a loop, in whose bounds its parameter denotes nothing; a slot must be left for it.
     pub(crate) fn begin_bounds(&mut self, parameter: &Identifier) -> Result<(), Refused>
-        ensures { OnOk result (self.new ≡ inside_bounds (identifier_view parameter.now) self.old) }
+        ensures left { OnOk result (has_slot self.old ≡ true) }
+        ensures point { OnOk result (self.new ≡ inside_bounds (identifier_view parameter.now) self.old) }
     {
-        if self.slots >= self.slots_end {
+        if !self.has_slot() {
             return Err(Refused(TypeFault::TooLarge(parameter.at)));
         }
         self.scope.enter()?;
@@ -329,7 +362,7 @@ impl<'a> Point<'a> {
     {
         self.scope
             .declare(parameter, Some(Declared::LoopParameter(parameter.at)))?;
-        self.take_slot(parameter.at, range, false)
+        self.take_parameter(parameter.at, range, false)
     }
 
     /// Ends a loop.

@@ -5,3 +5,4 @@ pub mod Queueing
 pub mod Numbers
 pub mod Telling
 pub mod Releasing
+pub mod Marks

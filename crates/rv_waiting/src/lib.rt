@@ -7,7 +7,6 @@
 //! dropped, its stance says.
 #![tactic(auto)]
 
-pub mod named;
 mod queues;
 mod suspensions;
 mod versions;

@@ -9,25 +9,12 @@ ghost use Rattle.rv_history.specs.History.{History};
 ghost use Rattle.rv_waiting.specs.Limits.{most_places};
 ghost use Rattle.rv_waiting.specs.Queues.{AreQueues, CanJoin, Moves, callers, joined_by, left_by};
 
-use rv_event::entry::{Body, Entry, Recorded, Request};
+use rv_event::entry::{Body, Entry};
+use rv_event::one_entry::queued_by;
 use rv_queue::EntryQueue;
 use rv_shape::catalogue::MOST_OBJECTS;
 use std::alloc::{AllocError, Global};
 use std::marker::Model;
-
-// The call that an entry put into a queue.
-fn queued_by(entry: &Entry) -> Option<Body>
-    ensures { result ≡ past.queued_by entry.now }
-{
-    match *entry {
-        Entry::Asked(actor, Request::Call(object, operation, _), Recorded::Queued) => Some(Body {
-            actor,
-            object,
-            operation,
-        }),
-        _ => None,
-    }
-}
 
 // An empty queue for each number of an object.
 fn all_empty(alloc: Global) -> Result<Vec<EntryQueue>, AllocError>

@@ -9,8 +9,8 @@ ghost use Rattle.rv_waiting.specs.Limits.{most_actors};
 ghost use Rattle.rv_waiting.specs.Versions as versions;
 ghost use Rattle.rv_waiting.specs.Versions.{AreVersions, version_then, with_version};
 
-use crate::named::named;
 use rv_event::entry::Entry;
+use rv_event::one_entry::named;
 use rv_shape::actor::FIRST_TASK;
 use rv_shape::catalogue::MOST_TASKS;
 use std::alloc::{AllocError, Global};

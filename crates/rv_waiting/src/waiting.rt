@@ -120,20 +120,4 @@ impl Waiting {
         self.suspensions.note(entry);
         self.versions.note(entry, version);
     }
-
-    /// One load more: it leaves all as it was.
-    pub fn note_load(&mut self)
-        ensures { (history : List Entry) → IsWaiting history self.old →
-            IsWaiting (Entry.Load ∷ history) self.new }
-    {
-        let _ = &self.queues;
-    }
-
-    /// One list change more: a queued call stays where it is, though the new list may deny it.
-    pub fn note_list(&mut self)
-        ensures { (history : List Entry) → IsWaiting history self.old →
-            IsWaiting (Entry.ListChange ∷ history) self.new }
-    {
-        let _ = &self.queues;
-    }
 }

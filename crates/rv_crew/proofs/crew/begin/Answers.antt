@@ -2,7 +2,7 @@ use denote.Param.Object as object
 use denote.Param.Send.{sendable}
 use Rattle.std.proofs.Crossing.{crosses, dyn_box_send}
 use Rattle.rv_crew.specs.contracts.crew.begin.dyn-1 as boxed
-use Rattle.rv_crew.proofs.Sends.{port_send, finished_send}
+use Rattle.rv_port.proofs.Sends.{port_send, finished_send}
 use Rattle.rv_crew.proofs.crew.begin.Goals as goal
 
 -- the boxed job and the port go to the thread

@@ -8,4 +8,4 @@ pub for_loop-returns-clause-point : goal.for_loop-returns-clause-point
 for_loop-returns-clause-point t c =
     c.end_loop.ensures c.args.point.now (identifier_view c.args.parameter.now) c.in_ok-range.field-0.parameter
     (c.in_ok-statements.ensures.point ∙ c.in_ok-begin_loop.ensures
-    ∙ ap (λ (p : PointView). with_loop_parameter (identifier_view c.args.parameter.now) c.in_ok-range.field-0.parameter p) c.in_ok-begin_bounds.ensures)
+    ∙ ap (λ (p : PointView). with_loop_parameter (identifier_view c.args.parameter.now) c.in_ok-range.field-0.parameter p) c.in_ok-begin_bounds.ensures.point)

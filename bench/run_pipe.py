@@ -1,0 +1,279 @@
+#!/usr/bin/env python3
+"""Drives the built `ravenhost run` over an open pipe as a person would: commands one by one, each answer read before the
+next is written. Says what it saw that the documents don't allow, and ends with 1 then. Needs nothing but Python.
+
+    bench/run_pipe.py [PROGRAM]        the program is crates/ravenhost/out/ravenhost where none is named
+"""
+import os
+import re
+import subprocess
+import sys
+import threading
+import time
+
+TOP = os.path.dirname(os.path.dirname(os.path.abspath(__file__)))
+LIMIT = 60  # the longest that an answer may take, in seconds
+
+PLANT = """with Ada.Interrupts.Names;
+package Plant is
+   protected Valve with Priority => 20 is
+      function Get return Integer;
+      procedure Set (N : in Integer);
+   private
+      Level : Integer := 0;
+   end Valve;
+   protected Alarm with Interrupt_Priority => 35 is
+      function Count return Integer;
+      procedure Trip with Attach_Handler => Ada.Interrupts.Names.Int_4;
+   private
+      Trips : Integer := 0;
+   end Alarm;
+end Plant;
+package body Plant is
+   protected body Valve is
+      function Get return Integer is begin return Level; end Get;
+      procedure Set (N : in Integer) is begin Level := N; end Set;
+   end Valve;
+   protected body Alarm is
+      function Count return Integer is begin return Trips; end Count;
+      procedure Trip is begin Trips := Trips + 1; end Trip;
+   end Alarm;
+end Plant;
+"""
+
+# A task that makes a call at each tick, until the call is denied.
+LOOPER = """with Ada.Real_Time; with Host; with Plant;
+package %s is
+   task Pilot;
+end %s;
+package body %s is
+   task body Pilot is
+      X    : Integer := 0;
+      Next : Ada.Real_Time.Time := Ada.Real_Time.Clock;
+   begin
+      loop
+         X := (X + 1) mod 100;
+         Plant.Valve.Set (X);
+         Next := Next + Ada.Real_Time.Milliseconds (1);
+         delay until Next;
+      end loop;
+   exception
+      when Host.Access_Denied => null;
+   end Pilot;
+end %s;
+"""
+
+
+def unit(text):
+    return "@unit\n" + text
+
+
+def looper(name):
+    return LOOPER % (name, name, name, name)
+
+
+class Run:
+    """A run of the program with its input and output in hand."""
+
+    def __init__(self, program, script, **how):
+        self.process = subprocess.Popen([program, "run"], stdin=subprocess.PIPE, stdout=subprocess.PIPE,
+                                        stderr=subprocess.PIPE, **how)
+        self.send(script)
+
+    def send(self, text):
+        self.process.stdin.write(text.encode())
+        self.process.stdin.flush()
+
+    def line(self):
+        """The next line of the output, or what there is of it at its end."""
+        watch = threading.Timer(LIMIT, self.process.kill)
+        watch.start()
+        try:
+            return self.process.stdout.readline().decode()
+        finally:
+            watch.cancel()
+
+    def ask(self, command):
+        """The answer to a command of one line."""
+        self.send(command + "\n")
+        return self.line().rstrip("\n")
+
+    def page(self, start):
+        """The lines of `journal START`; a command that answers at once tells where they end."""
+        self.send(f"journal {start}\nmark\n")
+        lines = []
+        while (line := self.line()) not in ("bad command\n", ""):
+            lines.append(line.rstrip("\n"))
+        return lines
+
+    def journal(self):
+        """The journal so far."""
+        lines = []
+        while page := self.page(len(lines) + 1):
+            lines += page
+        return lines
+
+    def end(self, command="quit\n"):
+        """Ends the run. Gives what it wrote since, what it wrote to standard error, and its status."""
+        if command:
+            self.send(command)
+        out, err = self.process.communicate(timeout=LIMIT)
+        return out.decode(), err.decode(), self.process.returncode
+
+
+faults = []
+
+
+def expect(what, seen, due):
+    if seen != due:
+        faults.append(what)
+        print(f"{what}: {seen!r} in place of {due!r}")
+
+
+def expect_that(what, holds, seen=""):
+    if not holds:
+        faults.append(what)
+        print(f"{what}: {seen}")
+
+
+def until(what, test):
+    """Waits until a test gives something."""
+    end = time.monotonic() + LIMIT
+    while time.monotonic() < end:
+        if seen := test():
+            return seen
+        time.sleep(0.02)
+    expect_that(what, False, "it didn't come")
+    return None
+
+
+def numbered(what, journal):
+    for number, line in enumerate(journal, 1):
+        if not line.startswith(f"{number} ") or " -> " not in line:
+            expect_that(what, False, f"entry {number} is {line!r}")
+            return
+
+
+def commands(program):
+    """The commands of an operator alone, byte for byte."""
+    run = Run(program, "@list\nallow * * *\n@run\n")
+    expect("journal 1", run.ask("journal 1"), "1 operator list [allow * * *] -> accepted 0")
+    expect("tick 3", run.ask("tick 3"), "accepted 0")
+    expect("journal 2", run.ask("journal 2"), "2 operator tick 3 -> accepted 0")
+    for command, answer in (("", "bad command"), ("journal 0", "bad command"), ("frob", "bad command"),
+                            ("remove 7", "badline"), ("tick 0", "misuse"), ("append allow x", "list BadWord at line 1"),
+                            ("append allow a b c", "list BadName at line 1"), ("append # note", "bad command"),
+                            ("raise 3", "unattached"), ("raise 10", "bad command"),
+                            ("append deny * * *", "accepted 0"), ("replace 2 allow * * *", "accepted 0")):
+        expect(command, run.ask(command), answer)
+    run.send("load\npackage Q is\nend;\n@end\n")
+    expect_that("load of a bad text", re.match(r"(parse|names) \w+ at \d+$|restriction", run.line()))
+    expect("halt", run.ask("halt"), "accepted 0")
+    expect("a tick behind the halt", run.ask("tick 1"), "halted")
+    expect("quit", run.end(), ("entries 5\n", "", 0))
+
+
+def row(program):
+    """The same all at once, by a file."""
+    script = "@list\nallow * * *\n@run\njournal 1\ntick 3\njournal 2\nquit\n"
+    done = subprocess.run([program, "run"], input=script.encode(), stdout=subprocess.PIPE, timeout=LIMIT)
+    due = "1 operator list [allow * * *] -> accepted 0\naccepted 0\n2 operator tick 3 -> accepted 0\nentries 3\n"
+    expect("the commands at once", (done.stdout.decode(), done.returncode), (due, 0))
+
+
+def device(program):
+    """A device that calls three times."""
+    settings = ('@host.toml\n[[device]]\nunit = "Dev"\ntask = "Main"\npriority = 15\nobject = "Plant.Valve"\n'
+                'operation = "Get"\ncalls = 3\n')
+    run = Run(program, settings + unit(PLANT) + "@list\nallow * * *\n@run\n")
+    until("the device", lambda: any("finish" in line for line in run.journal()))
+    call = ["Dev.Main call Plant.Valve Get -> started", "Dev.Main end : return 0 -> done"]
+    due = ["operator load Plant -> accepted 0", "operator list [allow * * *] -> accepted 0",
+           "operator load Dev -> accepted 0", *3 * call, "Dev.Main finish -> accepted 0"]
+    expect("the device's journal", run.journal(), [f"{n} {line}" for n, line in enumerate(due, 1)])
+    expect("quit", run.end(), ("entries 11\n", "", 0))
+
+
+def of(journal, actor):
+    return [line.split(" ", 2)[2] for line in journal if line.split(" ", 2)[1] == actor]
+
+
+def ticking(run, what, test):
+    """Ticks until a test of the journal gives something."""
+    def again():
+        expect("tick", run.ask("tick 1"), "accepted 0")
+        return test(run.journal())
+    return until(what, again)
+
+
+def live(program):
+    """A unit is let in while others run, a right is taken away while its task loops on it, lines are raised."""
+    run = Run(program, unit(PLANT) + unit(looper("Nav")) + "@list\nallow * * *\n@run\n")
+    ticking(run, "Nav runs", lambda journal: len(of(journal, "Nav.Pilot")) > 20)
+    run.send("load\n" + looper("Guest") + "@end\n")
+    expect("load beside running tasks", run.line(), "accepted 0\n")
+    ticking(run, "Guest runs", lambda journal: len(of(journal, "Guest.Pilot")) > 20)
+    expect("raise of an attached line", run.ask("raise 4"), "raised")
+    expect("raise of another", run.ask("raise 5"), "unattached")
+    expect("append", run.ask("append deny Nav Plant.Valve Set"), "accepted 0")
+    ticking(run, "Nav ends", lambda journal: of(journal, "Nav.Pilot")[-1].startswith("finish"))
+    ticking(run, "Guest goes on", lambda journal: len(of(journal, "Guest.Pilot")) > 60)
+    journal = run.journal()
+    numbered("the journal", journal)
+    denial = [line.split(" -> ")[1] for line in of(journal, "Nav.Pilot") if line.startswith("call")][-1]
+    expect("Nav's denial", denial, "refused 1 line 2 version 2")
+    place = [number for number, line in enumerate(journal) if "deny Nav" in line][0]
+    late = [line for line in of(journal[place:], "Nav.Pilot") if line.startswith("call") and "started" in line]
+    expect("calls of Nav that start behind the change", late, [])
+    expect("what the line does", of(journal, "Int_4"), ["fire -> started", "end 1 : return -> done"])
+    out, err, status = run.end()
+    expect_that("quit in the midst", re.fullmatch(r"entries \d+\n", out) and not err and status == 0, (out, err, status))
+
+
+def midst(program, how, due):
+    """An end in the midst of running tasks."""
+    free = looper("Nav").replace("delay until Next;", "null;")
+    run = Run(program, unit(PLANT) + unit(free) + unit(looper("Guest")) + "@list\nallow * * *\n@run\n")
+    until("they run", lambda: of(run.page(1), "Nav.Pilot"))
+    out, err, status = run.end(how)
+    expect_that(f"the end by {how!r}", re.fullmatch(due, out) and not err and status == 0, (out[-200:], err, status))
+
+
+def closed(program):
+    """A closed standard output ends the run with 4, and its threads are joined."""
+    run = Run(program, unit(PLANT) + unit(looper("Nav")) + "@list\nallow * * *\n@run\n")
+    expect("tick", run.ask("tick 1"), "accepted 0")
+    run.process.stdout.close()
+    run.send("tick 1\n")
+    run.process.stdin.close()
+    run.process.stdout = None
+    expect("the status behind a closed output", run.process.wait(timeout=LIMIT), 4)
+    run.process.stderr.close()
+
+
+def refused(program):
+    """A fault before the commands."""
+    for script, out, err in ((unit("package P is\nend P\n") + "@run\ntick 1\n", "", "script line 1: parse Unexpected at 19\n"),
+                             ("@list\nallow * * *\n@shape\nunit P\n@run\n", "1 operator list [allow * * *] -> accepted 0\n",
+                              "script line 3: BadSection\n"),
+                             ("tick 1\n@run\n", "", "script line 1: BadSection\n")):
+        done = subprocess.run([program, "run"], input=script.encode(), stdout=subprocess.PIPE, stderr=subprocess.PIPE, timeout=LIMIT)
+        expect("a fault before the commands", (done.stdout.decode(), done.stderr.decode(), done.returncode), (out, err, 1))
+
+
+def main():
+    program = os.path.abspath(sys.argv[1]) if sys.argv[1:] else os.path.join(TOP, "crates/ravenhost/out/ravenhost")
+    for part in (commands, row, device, live, refused, closed):
+        try:
+            part(program)
+        except BrokenPipeError:
+            expect_that(part.__name__, False, "the program ended before its input did")
+    midst(program, "quit\n", r"entries \d+\n")
+    midst(program, "", r"entries \d+\n")
+    midst(program, "journal 1\nquit\n", r"(\d+ .* -> .*\n)+entries \d+\n")
+    print(f"{len(faults)} faults")
+    return 1 if faults else 0
+
+
+if __name__ == "__main__":
+    sys.exit(main())

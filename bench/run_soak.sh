@@ -1,0 +1,12 @@
+#!/usr/bin/env bash
+# Lets the built `ravenhost run` run for so many seconds (600): 32 tasks with texts in four units, and four lines with
+# handlers, while the operator ticks, raises, changes the list and loads units. Then halts it, reads its journal in pages,
+# and replays that entry by entry by `ravenhost play`, which has to print the same journal. Says how much memory it took,
+# and what stalled. Ends with 1 where something is wrong. It is no test. It needs python3.
+#
+#     bench/run_soak.sh [SECONDS [PROGRAM]]
+set -eu
+
+cd "$(dirname "$(readlink -f "$0")")/.."
+[ -n "${2:-}" ] || ./ravenhost play <examples/bodies.raven >/dev/null
+PYTHONDONTWRITEBYTECODE=1 exec python3 bench/run_soak.py "${1:-600}" "${2:-crates/ravenhost/out/ravenhost}"

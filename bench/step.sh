@@ -1,0 +1,185 @@
+#!/usr/bin/env bash
+# Measures a step of a host (a call of a function, and its end): on a new host, after a million entries, with one and with 512
+# lines of the list, with one and with 64 units, beside a push of 64 bytes, a lock, and where gnatmake is there the same call
+# under GNAT's Ravenscar with ceilings; a change of a whole list; what a host of the largest journal touches; and, where
+# ravenhost is built, a script of 16 MiB of changes of the list. Then it counts allocations: a step must take none. It is no
+# test but of that. A number of rounds may be given, of which the least counts. The first time it takes some minutes to prove
+# and build. It needs rt, python3 (3.9 or newer) and a C compiler. Statuses: 0 done, 1 a step takes memory, 127 a tool is missing.
+set -eu
+
+missing() {
+    echo "bench/step.sh: $1 is missing" >&2
+    exit 127
+}
+for tool in rt cc nproc cut; do
+    command -v "$tool" >/dev/null || missing "$tool"
+done
+python3 -c 'import resource, sys; sys.exit(sys.version_info < (3, 9))' 2>/dev/null || missing "python3 (3.9 or newer)"
+[ -r /proc/loadavg ] || missing /proc/loadavg
+
+top=$(dirname "$(readlink -f "$0")")/..
+folder=$(mktemp -d)
+trap 'rm -rf "$folder"' EXIT
+cd "$top/crates/step_bench"
+if ! rt run -- reserve 0 >"$folder/log" 2>&1 </dev/null; then
+    cat "$folder/log" >&2
+    exit 1
+fi
+echo "$(nproc) cores, load $(cut -d ' ' -f 1 /proc/loadavg) before the first run"
+out/step_bench table "${1:-5}" >"$folder/table"
+
+# The same call under GNAT: a function of a protected object with a ceiling, without a host.
+if command -v gnatmake >/dev/null; then
+    mkdir "$folder/gnat"
+    cat >"$folder/gnat/gnat.adc" <<'ADA'
+pragma Profile (Ravenscar);
+ADA
+    cat >"$folder/gnat/plant.ads" <<'ADA'
+package Plant is
+   protected Valve with Priority => 20 is
+      function Get return Integer;
+   private
+      Level : Integer := 0;
+   end Valve;
+end Plant;
+ADA
+    cat >"$folder/gnat/plant.adb" <<'ADA'
+package body Plant is
+   protected body Valve is
+      function Get return Integer is (Level);
+   end Valve;
+end Plant;
+ADA
+    cat >"$folder/gnat/call.adb" <<'ADA'
+with Ada.Real_Time; use Ada.Real_Time;
+with Ada.Text_IO;
+with GNAT.OS_Lib;
+with Plant;
+procedure Call with Priority => 15 is
+   Calls : constant := 100_000;
+   Least : Time_Span := Time_Span_Last;
+   Sum   : Integer := 0;
+begin
+   for Batch in 1 .. 20 loop
+      declare
+         Start : constant Time := Clock;
+         Taken : Time_Span;
+      begin
+         for I in 1 .. Calls loop
+            Sum := Sum + Plant.Valve.Get;
+         end loop;
+         Taken := Clock - Start;
+         if Taken < Least then
+            Least := Taken;
+         end if;
+      end;
+   end loop;
+   Ada.Text_IO.Put_Line (Integer'Image (Sum) & Long_Float'Image (Long_Float (To_Duration (Least)) * 1.0E9 / Long_Float (Calls)));
+   --  Under the profile no task ends, nor does the one of the environment.
+   GNAT.OS_Lib.OS_Exit (0);
+end Call;
+ADA
+    if (cd "$folder/gnat" && gnatmake -q -O2 -gnat2012 call.adb) >"$folder/log" 2>&1; then
+        timeout 60 "$folder/gnat/call" | cut -d ' ' -f 3- >"$folder/gnat.ns"
+    else
+        cat "$folder/log" >&2
+    fi
+fi
+
+python3 - "$folder" "$top" <<'EOF'
+import os, resource, subprocess, sys, time
+
+folder, top = sys.argv[1:]
+heads, *rows = [line.split()[1:] for line in open(f"{folder}/table")]
+least = {head: min(float(row[place]) for row in rows) for place, head in enumerate(heads)}
+step = least["step"]
+
+
+def told(what, ns, aim):
+    print(f"{what:<62} {ns:>9.1f} ns  {ns / step:>7.2f}  {aim}")
+
+
+print(f"the least of {len(rows)} rounds of 20 batches                                    time  to the first")
+told("a step: one unit, one line, a new host", step, "aim: at most 100 ns")
+told("a step after 1,000,000 entries", least["far"], "aim: within 1.3")
+told("a step with 64 units, 256 objects of 16 operations", least["units"], "aim: within 1.3")
+told("a step with 512 lines, of which the first decides", least["lines"], "aim: within 1.3")
+told("a step with both", least["both"], "")
+told("a push of 64 bytes into reserved memory", least["push"], "")
+told("a Mutex taken, a number written, and let go", least["lock"], "")
+if os.path.exists(f"{folder}/gnat.ns"):
+    told("a call of a function under GNAT's Ravenscar with ceilings", float(open(f"{folder}/gnat.ns").read()), "(to two steps)")
+else:
+    print("gnatmake isn't there: no call under GNAT")
+print(f"a whole list of 512 lines set over 64 units, 256 objects of 16 operations: {least['list'] / 1e6:.1f} ms (aim: 50)")
+
+subprocess.run(["out/step_bench", "reserve", "0"], stdout=subprocess.DEVNULL, check=True)
+peak = resource.getrusage(resource.RUSAGE_CHILDREN).ru_maxrss / 1024
+print(f"a new host of 1,048,576 entries, with the program: {peak:.0f} MiB touched (aim: 64)")
+
+program = f"{top}/crates/ravenhost/out/ravenhost"
+if os.access(program, os.X_OK):
+    line = b"operator replace 1 allow * * *\n"
+    head = b"@host.toml\ncapacity = 1048576\n@list\nallow * * *\n@steps\n"
+    script = head + line * ((16_777_216 - len(head)) // len(line))
+    start = time.monotonic()
+    journal = subprocess.run([program, "play"], input=script, stdout=subprocess.PIPE, check=True).stdout
+    seconds = time.monotonic() - start
+    print(f"a script of {len(script):,} bytes of changes of the list: {journal.count(b'->'):,} entries in {seconds:.1f} s")
+else:
+    print("ravenhost isn't built: no script of changes of the list")
+EOF
+
+cat >"$folder/count.c" <<'C'
+#define _GNU_SOURCE
+#include <dlfcn.h>
+#include <stdio.h>
+#include <stdlib.h>
+#include <unistd.h>
+
+/* Counts allocations, and writes at the end of a run how many there were, to descriptor 9. */
+static long calls;
+static void *next(const char *name) { return dlsym(RTLD_NEXT, name); }
+void *malloc(size_t size) {
+    static void *(*real)(size_t);
+    if (!real) real = next("malloc");
+    calls++;
+    return real(size);
+}
+void *realloc(void *old, size_t size) {
+    static void *(*real)(void *, size_t);
+    if (!real) real = next("realloc");
+    calls++;
+    return real(old, size);
+}
+void *aligned_alloc(size_t alignment, size_t size) {
+    static void *(*real)(size_t, size_t);
+    if (!real) real = next("aligned_alloc");
+    calls++;
+    return real(alignment, size);
+}
+int posix_memalign(void **found, size_t alignment, size_t size) {
+    static int (*real)(void **, size_t, size_t);
+    if (!real) real = next("posix_memalign");
+    calls++;
+    return real(found, alignment, size);
+}
+__attribute__((destructor)) static void end(void) {
+    char text[24];
+    int length = snprintf(text, sizeof text, "%ld\n", calls);
+    if (write(9, text, length) < 0) _exit(9);
+}
+C
+cc -O1 -shared -fPIC -o "$folder/count.so" "$folder/count.c" -ldl
+# How many allocations a run of so many calls with their ends makes.
+allocations() {
+    LD_PRELOAD=$folder/count.so out/step_bench step "$1" >"$folder/written" 9>"$folder/count"
+    cat "$folder/count"
+}
+few=$(allocations 1000)
+many=$(allocations 500000)
+if [ "$few" != "$many" ]; then
+    echo "1,000 calls with their ends make $few allocations, 500,000 make $many: a step takes memory"
+    exit 1
+fi
+echo "1,000 calls with their ends make $few allocations, and 500,000 as many: a step takes no memory"

@@ -1,0 +1,3 @@
+mod Told
+mod FirstLines
+mod Passing

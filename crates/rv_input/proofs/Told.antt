@@ -1,0 +1,70 @@
+-- What calls tell of what comes.
+use Rattle.std.proofs.Common.{◌≡◌, ℕ, zero, suc, ◌+◌, ◌-◌, ◌<◌, ◌≤◌, List, [], ◌∷◌, ◌++◌, Option, Some, None, MatchOption, length, take, drop, refl, sym, ap, ◌∙◌, subst, arith, length-drop}
+use Rattle.std.specs.Io.KnownBytes.{IsAtEnd, Keeps, prepend_known}
+use Rattle.rv_input.specs.Coming.{Reading, IfTold, GivesByte, coming}
+
+-- something is ahead
+pub some_ahead : (n : ℕ) (xs : List ℕ) → n < length xs → drop n xs ≡ [] → ⊥
+some_ahead n xs h e = let long = length-drop n xs in let none : length (drop n xs) ≡ 0 = ap length e in omega (arith, long, none, h)
+
+-- one call behind another
+pub told_both : (P Q R : List ℕ → List ℕ → Type 0) (a b c : Option (List ℕ)) → ((x y z : List ℕ) → P x y → Q y z → R x z) → IfTold a b P → IfTold b c Q → IfTold a c R
+told_both P Q R None b c f p q = tt
+told_both P Q R (Some x) None c f p q = absurd p
+told_both P Q R (Some x) (Some y) None f p q = absurd q
+told_both P Q R (Some x) (Some y) (Some z) f p q = f x y z p q
+
+-- the same call in other words
+pub told_as : (P Q : List ℕ → List ℕ → Type 0) (a b : Option (List ℕ)) → ((x y : List ℕ) → P x y → Q x y) → IfTold a b P → IfTold a b Q
+told_as P Q None b f p = tt
+told_as P Q (Some x) None f p = absurd p
+told_as P Q (Some x) (Some y) f p = f x y p
+
+-- the same call, of an answer in other words
+pub told_is : {X : Type 0} (F : X → List ℕ → List ℕ → Type 0) (a b : Option (List ℕ)) (o p : X) → o ≡ p → IfTold a b (F o) → IfTold a b (F p)
+told_is F a b o p e t = subst (λ z. IfTold a b (F z)) e t
+
+-- nothing was done
+pub told_none : (P : List ℕ → List ℕ → Type 0) (a : Option (List ℕ)) → ((x : List ℕ) → P x x) → IfTold a a P
+told_none P None f = tt
+told_none P (Some x) f = f x
+
+none_taken : (n : ℕ) (xs : List ℕ) → n ≡ 0 → take n xs ≡ []
+none_taken n xs e = rw e refl
+
+of_none : (n : ℕ) (xs : List ℕ) → xs ≡ [] → take n xs ≡ []
+of_none zero xs e = refl
+of_none (suc n) [] e = refl
+of_none (suc n) (x ∷ xs) e = absurd (cc e)
+
+-- past the greatest length nothing comes
+pub past_most : (most : ℕ) (v : Reading) (r : Option (List ℕ)) → most ≤ v.given → IfTold (coming most v r) (coming most v r) (GivesByte None)
+past_most most v None h = tt
+past_most most v (Some bs) h = let none : most - v.given ≡ 0 = omega (arith, h) in (none_taken _ _ none, none_taken _ _ none)
+
+-- at the end nothing comes
+pub at_end : (most : ℕ) (v w : Reading) (r s : Option (List ℕ)) → Keeps (prepend_known v.ahead r) (prepend_known w.ahead s) → w.ahead ≡ [] → IsAtEnd s → IfTold (coming most v r) (coming most w s) (GivesByte None)
+at_end most v w None s k a e = tt
+at_end most v w (Some xs) None k a e = absurd k
+at_end most v w (Some xs) (Some ys) k a e =
+    let none : w.ahead ++ ys ≡ [] = ap (λ (l : List ℕ). l ++ ys) a ∙ e in (of_none (most - v.given) _ (sym k ∙ none), of_none (most - w.given) _ none)
+
+first_taken : (k : ℕ) (byte : ℕ) (bs : List ℕ) → 0 < k → take k (byte ∷ bs) ≡ byte ∷ take (k - 1) bs
+first_taken zero byte bs h = absurd (omega (arith, h))
+first_taken (suc k) byte bs h = let same : suc k - 1 ≡ k = omega arith in rw same refl
+
+-- a byte that is ahead comes first
+pub byte_comes : (most byte : ℕ) (v w u : Reading) (r s : Option (List ℕ)) → Keeps (prepend_known v.ahead r) (prepend_known w.ahead s) → w.given ≡ v.given → w.ahead ≡ byte ∷ u.ahead → u.given ≡ w.given + 1 → v.given < most
+    → IfTold (coming most v r) (coming most u s) (GivesByte (Some byte))
+byte_comes most byte v w u None s k g a n h = tt
+byte_comes most byte v w u (Some xs) None k g a n h = absurd k
+byte_comes most byte v w u (Some xs) (Some ys) k g a n h =
+    let some : 0 < most - v.given = omega (arith, h) in
+    let same : most - v.given - 1 ≡ most - u.given = omega (arith, g, n) in
+    ap (take (most - v.given)) (sym k ∙ ap (λ (l : List ℕ). l ++ ys) a) ∙ first_taken (most - v.given) byte (u.ahead ++ ys) some ∙ ap (λ (i : ℕ). byte ∷ take i (u.ahead ++ ys)) same
+
+-- the next byte, or the end
+pub byte_told : (most : ℕ) (v w u : Reading) (r s : Option (List ℕ)) (b : Option ℕ) → Keeps (prepend_known v.ahead r) (prepend_known w.ahead s) → w.given ≡ v.given → (w.ahead ≡ [] → IsAtEnd s) → v.given < most
+    → MatchOption b ((w.ahead ≡ []) × (u ≡ w)) (λ byte. (w.ahead ≡ byte ∷ u.ahead) × (u.given ≡ w.given + 1)) → IfTold (coming most v r) (coming most u s) (GivesByte b)
+byte_told most v w u r s None k g e h t = subst (λ (z : Reading). IfTold (coming most v r) (coming most z s) (GivesByte None)) (sym t.1) (at_end most v w r s k t.0 (e t.0))
+byte_told most v w u r s (Some byte) k g e h t = byte_comes most byte v w u r s k g t.0 t.1 h

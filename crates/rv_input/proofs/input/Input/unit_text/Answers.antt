@@ -1,0 +1,19 @@
+use Rattle.std.proofs.Common.{◌≡◌, ◌++◌, ◌∷◌, [], false, None, ap, rules}
+use Rattle.std.specs.Prelude.{option_map, string_bytes}
+use Rattle.rv_input.specs.Coming.{GivesLine, is_end}
+use Rattle.rv_input.proofs.Told.{told_is}
+use Rattle.rv_input.proofs.Passing.{one_kept, no_end_comes}
+use Rattle.rv_input.proofs.input.Input.unit_text.Goals as goal
+
+pub loop-text-preserved : goal.loop-text-preserved
+loop-text-preserved g c =
+    let line = string_bytes c.in-Some.line in
+    let passes : is_end line ≡ false = search rules in
+    let whole : string_bytes c.keep_text.new.text ≡ string_bytes c.loop-text.text ++ (line ++ 10 ∷ []) = search rules in
+    let comes = told_is GivesLine _ _ _ _ (ap (λ o. option_map string_bytes o) c.in-Some.is) c.in_ok-line.ensures.comes in
+    one_kept _ _ _ _ line _ passes whole c.loop-text.invariant comes
+
+pub returns : goal.returns
+returns g c =
+    let comes = told_is GivesLine _ _ _ None (ap (λ o. option_map string_bytes o) c.in_default.is) c.in_ok-line.ensures.comes in
+    no_end_comes _ _ _ _ c.loop-text.invariant comes

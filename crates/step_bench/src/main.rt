@@ -1,0 +1,74 @@
+//! Measures steps of a host: a call of a function and its end, on small and large hosts, at the head of a journal and far
+//! into it; and the change of a whole list. `Mutex` and a push into a `Vec` stand beside.
+#![tactic(auto)]
+
+mod beside;
+mod plant;
+mod stepped;
+mod table;
+
+use plant::{Plant, host};
+use rv_host::host::Host;
+use std::alloc::Global;
+use std::process::ExitCode;
+use std::sync::Wait;
+use std::time::Clock;
+use std::{env, io};
+
+// The largest journal.
+const MOST_ENTRIES: usize = 1_048_576;
+
+// How many of so many calls a small host carries out. None where there is no memory.
+fn made(alloc: Global, calls: usize) -> Option<usize> {
+    let plant = Plant { units: 1, lines: 1 };
+    let mut host = host(alloc, MOST_ENTRIES, plant)?;
+    Some(stepped::calls(&mut host, plant.actor(), calls))
+}
+
+// The room of a new host of the largest journal. None where there is no memory.
+fn room(alloc: Global) -> Option<usize> {
+    match Host::new(alloc, MOST_ENTRIES) {
+        Ok(host) => Some(host.room()),
+        Err(_) => None,
+    }
+}
+
+// Prints a number, or nothing with the status of want of memory.
+fn print_number<R: Print>(rt: &R, number: Option<usize>) -> io::Result<ExitCode> {
+    let Some(number) = number else {
+        return Ok(ExitCode::from(3));
+    };
+    println!(rt; "{number}")?;
+    Ok(ExitCode::SUCCESS)
+}
+
+// Does what the command line names.
+fn print_task<R: Clock + Wait + Print>(
+    rt: &R,
+    alloc: Global,
+    task: &str,
+    number: usize,
+) -> io::Result<ExitCode> {
+    match task {
+        "table" => table::print(rt, alloc, number),
+        "step" => print_number(rt, made(alloc, number)),
+        "reserve" => print_number(rt, room(alloc)),
+        _ => Ok(ExitCode::from(2)),
+    }
+}
+
+fn main(rt: HostRuntime) -> io::Result<ExitCode> {
+    let Ok(words) = env::args(&rt) else {
+        return Ok(ExitCode::from(3));
+    };
+    let mut words = words.skip(1);
+    if let Some(task) = words.next() {
+        if let Some(number) = words.next() {
+            if let Ok(number) = number.as_str().parse::<usize>() {
+                return print_task(&rt, rt.alloc(), task.as_str(), number);
+            }
+        }
+    }
+    let _ = eprintln!(rt; "usage: step_bench table ROUNDS | step CALLS | reserve 0");
+    Ok(ExitCode::from(2))
+}

@@ -1,0 +1,48 @@
+//! Calls of a function with their ends, and what a step of them takes.
+
+use rv_event::entry::{Answer, Exit, Request};
+use rv_host::host::Host;
+use rv_value::{Args, Scalars};
+use std::time::{Clock, Instant};
+
+// How many calls are measured at a time. The least counts.
+const CALLS: usize = 1_000;
+
+const BATCHES: usize = 20;
+
+// One call and its end, and whether both were carried out.
+fn call(host: &mut Host, actor: usize) -> bool {
+    let started = host.step(actor, Request::Call(1, 1, Args::new()));
+    let exit = Exit::Return(Args::from_slice(&[0]));
+    let ended = host.step(actor, Request::Complete(Scalars::new(), exit));
+    matches!((started, ended), (Answer::Started(_), Answer::Done(_)))
+}
+
+/// Makes so many calls, each with its end, and gives how many were carried out.
+pub fn calls(host: &mut Host, actor: usize, count: usize) -> usize {
+    let mut made = 0usize;
+    for _ in 0..count {
+        if call(host, actor) {
+            made = made.saturating_add(1);
+        }
+    }
+    made
+}
+
+// What a batch takes in nanoseconds. None where a call wasn't carried out.
+fn batch<R: Clock>(rt: &R, host: &mut Host, actor: usize) -> Option<u64> {
+    let start = Instant::now(rt).ok()?;
+    let made = calls(host, actor, CALLS);
+    let nanos = u64::try_from(start.elapsed(rt).ok()?.as_nanos()).ok()?;
+    if made == CALLS { Some(nanos) } else { None }
+}
+
+/// The least that a step takes, in tenths of nanoseconds, over 20 batches of 1,000 calls with their ends. None where a call
+/// wasn't carried out.
+pub fn tenths_a_step<R: Clock>(rt: &R, host: &mut Host, actor: usize) -> Option<u64> {
+    let mut least = u64::MAX;
+    for _ in 0..BATCHES {
+        least = least.min(batch(rt, host, actor)?);
+    }
+    Some(least / (CALLS as u64 * 2 / 10))
+}

@@ -1,0 +1,111 @@
+//! The figures, a row for each round.
+
+use crate::beside;
+use crate::plant::{MOST_UNITS, Plant, host, list};
+use crate::stepped::{calls, tenths_a_step};
+use rv_access::{AccessList, MOST_LINES};
+use rv_event::entry::Answer;
+use rv_host::host::Host;
+use std::alloc::Global;
+use std::io;
+use std::io::ErrorKind;
+use std::process::ExitCode;
+use std::sync::Wait;
+use std::time::{Clock, Instant};
+
+// How far into the journal the second figure is taken, and the room for it.
+const FAR: usize = 1_000_000;
+
+const MOST_ENTRIES: usize = 1_048_576;
+
+// The room for the other figures.
+const ROOM: usize = 65_536;
+
+const SMALL: Plant = Plant { units: 1, lines: 1 };
+
+const WIDE: Plant = Plant {
+    units: MOST_UNITS,
+    lines: 1,
+};
+
+const LISTED: Plant = Plant {
+    units: 1,
+    lines: MOST_LINES,
+};
+
+const LARGE: Plant = Plant {
+    units: MOST_UNITS,
+    lines: MOST_LINES,
+};
+
+// A step on a new host of that plant.
+fn step<R: Clock>(rt: &R, alloc: Global, plant: Plant) -> Option<u64> {
+    let mut host = host(alloc, ROOM, plant)?;
+    tenths_a_step(rt, &mut host, plant.actor())
+}
+
+// Makes calls until there are a million entries.
+fn fill(host: &mut Host, actor: usize) {
+    let missing = FAR.saturating_sub(host.used());
+    let _ = calls(host, actor, missing / 2);
+}
+
+// A step far into the journal.
+fn far_step<R: Clock>(rt: &R, alloc: Global) -> Option<u64> {
+    let mut host = host(alloc, MOST_ENTRIES, SMALL)?;
+    fill(&mut host, SMALL.actor());
+    tenths_a_step(rt, &mut host, SMALL.actor())
+}
+
+// What setting this list takes, in tenths of nanoseconds.
+fn time_change<R: Clock>(rt: &R, host: &mut Host, list: &AccessList) -> Option<u64> {
+    let start = Instant::now(rt).ok()?;
+    let answer = host.set_list(list);
+    let nanos = u64::try_from(start.elapsed(rt).ok()?.as_nanos()).ok()?;
+    match answer {
+        Answer::Accepted(_) => Some(nanos.saturating_mul(10)),
+        _ => None,
+    }
+}
+
+// What a change of a whole list of 512 lines takes over the largest catalogue, in tenths of nanoseconds.
+fn list_change<R: Clock>(rt: &R, alloc: Global) -> Option<u64> {
+    let list = list(alloc, MOST_LINES)?;
+    let mut host = host(alloc, ROOM, LARGE)?;
+    time_change(rt, &mut host, &list)
+}
+
+// Prints a figure with a tenth.
+fn print_figure<R: Print>(rt: &R, figure: Option<u64>) -> io::Result<()> {
+    let Some(tenths) = figure else {
+        return Err(ErrorKind::OutOfMemory.into());
+    };
+    print!(rt; " {}.{}", tenths / 10, tenths % 10)
+}
+
+// Prints the figures of one round.
+fn print_row<R: Clock + Wait + Print>(rt: &R, alloc: Global, round: usize) -> io::Result<()> {
+    print!(rt; "{round}")?;
+    print_figure(rt, step(rt, alloc, SMALL))?;
+    print_figure(rt, far_step(rt, alloc))?;
+    print_figure(rt, step(rt, alloc, WIDE))?;
+    print_figure(rt, step(rt, alloc, LISTED))?;
+    print_figure(rt, step(rt, alloc, LARGE))?;
+    print_figure(rt, beside::push(rt, alloc))?;
+    print_figure(rt, beside::lock(rt))?;
+    print_figure(rt, list_change(rt, alloc))?;
+    println!(rt; "")
+}
+
+/// Prints so many rows under their heads, in nanoseconds.
+pub fn print<R: Clock + Wait + Print>(
+    rt: &R,
+    alloc: Global,
+    rounds: usize,
+) -> io::Result<ExitCode> {
+    println!(rt; "round step far units lines both push lock list")?;
+    for round in 0..rounds {
+        print_row(rt, alloc, round)?;
+    }
+    Ok(ExitCode::SUCCESS)
+}
