@@ -24,6 +24,14 @@ impl<'a> Read for Broken<'a> {
     }
 }
 
+// Whether a run ended with a failed read or write.
+fn is_io(outcome: &Result<(), Failure>) -> bool {
+    match outcome {
+        Err(Failure::Io(_)) => true,
+        _ => false,
+    }
+}
+
 // What is told of how a run ended.
 fn told(alloc: Global, outcome: &Result<(), Failure>) -> Result<String, Fail> {
     match outcome {
@@ -51,43 +59,46 @@ fn checked(alloc: Global, script: &[u8]) -> Result<String, Fail> {
 }
 
 #[test]
-fn failed_writes_leave_a_prefix(rt: HostRuntime) -> Result<(), Fail> {
+fn failed_writes_leave_a_prefix(rt: HostRuntime) {
     let alloc = rt.alloc();
     let mut reader = b"@shape\nunit Plant\n@list\n".as_slice();
     let mut room = [0u8; 40];
     let mut writer = room.as_mut_slice();
     let outcome = play(alloc, &mut reader, &mut writer, false);
-    assert_eq!(rt; told(alloc, &outcome)?.as_str(), "io");
+    assert!(rt; is_io(&outcome));
     assert!(rt; room.as_slice() == b"1 operator load Plant -> accepted 0\n2 op".as_slice());
-    Ok(())
 }
 
 #[test]
-fn failed_reads_are_told(rt: HostRuntime) -> Result<(), Fail> {
+fn failed_reads_are_told_by_play(rt: HostRuntime) {
     let alloc = rt.alloc();
     let mut reader = Broken { left: b"@list\n" };
     let mut written: Vec<u8> = Vec::new(alloc);
     let outcome = play(alloc, &mut reader, &mut written, false);
-    assert_eq!(rt; told(alloc, &outcome)?.as_str(), "io");
-    assert!(rt; written.is_empty());
+    assert!(rt; is_io(&outcome) && written.is_empty());
+}
+
+#[test]
+fn failed_reads_are_told_by_check(rt: HostRuntime) {
+    let alloc = rt.alloc();
     let mut reader = Broken { left: b"@list\n" };
+    let mut written: Vec<u8> = Vec::new(alloc);
     let outcome = check(alloc, &mut reader, &mut written);
-    assert_eq!(rt; told(alloc, &outcome)?.as_str(), "io");
-    assert!(rt; written.is_empty());
-    Ok(())
+    assert!(rt; is_io(&outcome) && written.is_empty());
 }
 
 #[test]
 fn scripts_have_a_greatest_length(rt: HostRuntime) -> Result<(), Fail> {
     let alloc = rt.alloc();
-    let mut script = vec![in alloc; b'\n'; MOST_BYTES]?;
-    assert_eq!(rt; played(alloc, script.as_slice())?.as_str(), "");
-    script.push(b'\n')?;
-    assert_eq!(rt;
-        played(alloc, script.as_slice())?.as_str(),
-        "script line 1: TooLong"
-    );
+    assert!(rt; is_told(alloc, MOST_BYTES, "")?);
+    assert!(rt; is_told(alloc, MOST_BYTES + 1, "script line 1: TooLong")?);
     Ok(())
+}
+
+// Whether this is told of a script of so many empty lines.
+fn is_told(alloc: Global, length: usize, wanted: &str) -> Result<bool, Fail> {
+    let script = vec![in alloc; b'\n'; length]?;
+    Ok(played(alloc, script.as_slice())?.as_str() == wanted)
 }
 
 #[test]
@@ -113,12 +124,13 @@ fn unit_of_length(alloc: Global, length: usize) -> Result<String, Fail> {
 #[test]
 fn unit_texts_have_a_greatest_length(rt: HostRuntime) -> Result<(), Fail> {
     let alloc = rt.alloc();
-    let most = unit_of_length(alloc, 262_144)?;
-    assert_eq!(rt; checked(alloc, most.as_bytes())?.as_str(), "");
-    let more = unit_of_length(alloc, 262_145)?;
-    assert_eq!(rt;
-        checked(alloc, more.as_bytes())?.as_str(),
-        "script line 1: TooLong"
-    );
+    assert!(rt; is_told_of_unit(alloc, 262_144, "")?);
+    assert!(rt; is_told_of_unit(alloc, 262_145, "script line 1: TooLong")?);
     Ok(())
+}
+
+// Whether this is told of a unit text of that length.
+fn is_told_of_unit(alloc: Global, length: usize, wanted: &str) -> Result<bool, Fail> {
+    let script = unit_of_length(alloc, length)?;
+    Ok(checked(alloc, script.as_bytes())?.as_str() == wanted)
 }

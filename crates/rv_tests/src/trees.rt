@@ -9,7 +9,7 @@ use damaged_texts::{
     DECLARATIONS, Damage, EXPRESSIONS, STATEMENTS, TEXTS,
 };
 use example_texts::{COMPARING_BARRIER, NAV, PLANT, TWO_ENTRIES, WHOLE_GRAMMAR};
-use nested_texts::nests;
+use nested_texts::{Nest, nests};
 use rv_lex::lexer::tokens;
 use rv_parse::{ParseFault, parse};
 use rv_tree::print;
@@ -25,24 +25,38 @@ fn fault_of(alloc: Global, text: &str) -> Option<ParseFault> {
 // The words of a text, a space before each and one at the end.
 fn spaced(alloc: Global, text: &str) -> Result<String, Fail> {
     let words = tokens(alloc, text)?;
-    let mut joined = String::new(alloc);
+    let mut joined = String::from_str(alloc, " ")?;
     for token in words.as_slice() {
-        joined.push_str(" ")?;
-        joined.push_str(token.text)?;
+        push_word(&mut joined, token.text)?;
     }
-    joined.push_str(" ")?;
     Ok(joined)
+}
+
+// Puts a word and a space behind a text.
+fn push_word(joined: &mut String, word: &str) -> Result<(), Fail> {
+    joined.push_str(word)?;
+    Ok(joined.push_str(" ")?)
+}
+
+// The words of the tree of a text.
+fn printed(alloc: Global, text: &str) -> Result<String, Fail> {
+    let tree = parse(alloc, text)?;
+    Ok(print(alloc, &tree)?)
+}
+
+// Whether a tree is printed with the words of its text, and they with themselves.
+fn is_printed_as_written(alloc: Global, text: &str) -> Result<bool, Fail> {
+    let words = spaced(alloc, text)?;
+    let once = printed(alloc, text)?;
+    let again = printed(alloc, once.as_str())?;
+    Ok(once.as_str() == words.as_str() && again.as_str() == once.as_str())
 }
 
 #[test]
 fn printed_trees_have_the_words_of_their_texts(rt: HostRuntime) -> Result<(), Fail> {
     let alloc = rt.alloc();
     for text in [PLANT, NAV, TWO_ENTRIES, COMPARING_BARRIER, WHOLE_GRAMMAR] {
-        let printed = print(alloc, &parse(alloc, text)?)?;
-        let words = spaced(alloc, text)?;
-        assert_eq!(rt; printed.as_str(), words.as_str());
-        let again = print(alloc, &parse(alloc, printed.as_str())?)?;
-        assert_eq!(rt; again.as_str(), printed.as_str());
+        assert!(rt; is_printed_as_written(alloc, text)?, "at {text}");
     }
     Ok(())
 }
@@ -52,13 +66,17 @@ fn cut_before_words(rt: &impl Abort, alloc: Global, text: &str) -> Result<(), Fa
     for token in tokens(alloc, text)?.as_slice() {
         let (front, rest) = text.split_at_checked(token.place).ok_or("cut")?;
         let cut = Some(ParseFault::Unexpected(front.len()));
-        assert_eq!(rt; fault_of(alloc, front), cut, "at {front}");
-        let before = format!(in alloc; "{front} ")?;
-        let renamed = format!(in alloc; "{front} renames {rest}")?;
-        let word = Some(ParseFault::Unexpected(before.len()));
-        assert_eq!(rt; fault_of(alloc, renamed.as_str()), word, "at {front}");
+        assert!(rt; fault_of(alloc, front) == cut, "at {front}");
+        assert!(rt; is_told_at_renames(alloc, front, rest)?, "at {front}");
     }
     Ok(())
+}
+
+// Whether `renames` between two parts of a text is told, where it stands.
+fn is_told_at_renames(alloc: Global, front: &str, rest: &str) -> Result<bool, Fail> {
+    let text = format!(in alloc; "{front} renames {rest}")?;
+    let place = front.len().saturating_add(1);
+    Ok(fault_of(alloc, text.as_str()) == Some(ParseFault::Unexpected(place)))
 }
 
 #[test]
@@ -77,10 +95,10 @@ fn told_at_the_word(
     damages: &[Damage],
 ) -> Result<(), Fail> {
     for (front, rest) in damages {
-        let front = format!(in alloc; "{before}{front}")?;
-        let text = format!(in alloc; "{front}{rest}")?;
-        let word = Some(ParseFault::Unexpected(front.len()));
-        assert_eq!(rt; fault_of(alloc, text.as_str()), word, "at {text}");
+        let text = format!(in alloc; "{before}{front}{rest}")?;
+        let place = before.len().saturating_add(front.len());
+        let word = Some(ParseFault::Unexpected(place));
+        assert!(rt; fault_of(alloc, text.as_str()) == word, "at {text}");
     }
     Ok(())
 }
@@ -99,20 +117,18 @@ fn damaged_texts_are_unexpected_at_the_word(rt: HostRuntime) -> Result<(), Fail>
 fn sixty_four_nest(rt: HostRuntime) -> Result<(), Fail> {
     let alloc = rt.alloc();
     for nest in nests() {
-        let text = nest.text(alloc, nest.most)?;
-        assert_eq!(rt; fault_of(alloc, text.as_str()), None, "at {nest:?}");
-        let front = nest.front(alloc, 64)?;
-        let told = Some(ParseFault::TooDeep(front.len()));
-        for more in [1, 10_000] {
-            let text = nest.text(alloc, nest.most.saturating_add(more))?;
-            assert_eq!(rt;
-                fault_of(alloc, text.as_str()),
-                told,
-                "{more} more at {nest:?}"
-            );
-        }
+        assert!(rt; fault_of_nest(alloc, &nest, 0)? == None, "at {nest:?}");
+        let told = Some(ParseFault::TooDeep(nest.front(alloc, 64)?.len()));
+        assert!(rt; fault_of_nest(alloc, &nest, 1)? == told, "at {nest:?}");
+        assert!(rt; fault_of_nest(alloc, &nest, 10_000)? == told, "at {nest:?}");
     }
     Ok(())
+}
+
+// The fault of a text with so many more open than there may be.
+fn fault_of_nest(alloc: Global, nest: &Nest, more: usize) -> Result<Option<ParseFault>, Fail> {
+    let text = nest.text(alloc, nest.most.saturating_add(more))?;
+    Ok(fault_of(alloc, text.as_str()))
 }
 
 // What a text may not have, one after another, in the place of each of its bytes.
@@ -125,11 +141,16 @@ fn judged_at_each_byte(rt: &impl Abort, alloc: Global, text: &str) -> Result<(),
         let (_, behind) = rest.split_at_checked(1).ok_or("cut")?;
         assert!(rt; fault_of(alloc, front) != Some(ParseFault::NoMemory));
         for other in BROKEN {
-            let broken = format!(in alloc; "{front}{other}{behind}")?;
-            assert!(rt; fault_of(alloc, broken.as_str()) != Some(ParseFault::NoMemory));
+            assert!(rt; has_verdict(alloc, front, other, behind)?, "at {front}");
         }
     }
     Ok(())
+}
+
+// Whether there is a verdict on a text of these parts.
+fn has_verdict(alloc: Global, front: &str, other: &str, behind: &str) -> Result<bool, Fail> {
+    let text = format!(in alloc; "{front}{other}{behind}")?;
+    Ok(fault_of(alloc, text.as_str()) != Some(ParseFault::NoMemory))
 }
 
 #[test]
