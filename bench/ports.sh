@@ -1,7 +1,7 @@
 #!/usr/bin/env bash
-# Measures a call through a port beside the same call of a host under a Mutex, and a hand-over between two ports beside a
-# Mutex with a Condvar. It is no test. A number of calls may be given: the host scans its journal at each step, so few calls
-# tell most of the port. The first time it takes some minutes to prove and build. It needs rt, nproc, cut and /proc.
+# Measures a call through a port beside the same call of a host under a Mutex, a hand-over between two ports beside a
+# Mutex with a Condvar, and a storm of eight ports under changes of the list. It is no test. A number of calls may be
+# given (500). The first time it takes some minutes to prove and build. It needs rt, nproc, cut and /proc.
 set -eu
 
 missing() {
@@ -21,4 +21,4 @@ if ! rt run -- 0 >"$log" 2>&1 </dev/null; then
     exit 1
 fi
 echo "$(nproc) cores, load $(cut -d ' ' -f 1 /proc/loadavg) before the first run"
-out/port_bench "${1:-20}"
+out/port_bench "${1:-500}"

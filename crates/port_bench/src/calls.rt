@@ -1,6 +1,6 @@
 //! Granted calls of a function: start, body and end.
 
-use crate::plant::{capacity_for, control, host};
+use crate::plant::{capacity_for, control, host, load_all};
 use crate::times::{StartLine, nanos_a_part, nanos_since};
 use rv_event::entry::{Answer, Exception, Exit, Request};
 use rv_host::host::Host;
@@ -33,24 +33,43 @@ fn time_port<R: Wait + Clock>(rt: &R, line: &StartLine, port: Port, calls: u64) 
     nanos_since(rt, start, all)
 }
 
-// The ports of so many tasks, of whom the first is actor 11.
-pub fn ports(alloc: Global, control: &mut Control, threads: u64) -> Option<Vec<Port>> {
-    let mut ports = Vec::new(alloc);
+// Gives the ports of so many tasks, of whom the first is actor 11.
+fn give_all(control: &mut Control, ports: &mut Vec<Port>, threads: u64) -> Option<()> {
     for number in 0..threads {
         let port = control.port(number.saturating_add(11)).ok()?;
         ports.push(port).ok()?;
     }
+    Some(())
+}
+
+/// The ports of so many tasks, of whom the first is actor 11.
+pub fn ports(alloc: Global, control: &mut Control, threads: u64) -> Option<Vec<Port>> {
+    let mut ports = Vec::new(alloc);
+    give_all(control, &mut ports, threads)?;
     Some(ports)
 }
 
-// What they take, each in a thread of its own.
-fn time_ports<R: Threads + Wait + Clock + Sync>(
+/// What so many calls of each port take, each in a thread of its own.
+pub fn time_ports<R: Threads + Wait + Clock + Sync>(
     rt: &R,
     line: &StartLine,
     ports: Vec<Port>,
     calls: u64,
 ) -> Option<Vec<Option<u64>>> {
     thread::map_vec(rt, ports, &|port| time_port(rt, line, port, calls)).ok()
+}
+
+// The same by tasks of this control.
+fn time_all<R: Threads + Wait + Clock + Sync>(
+    rt: &R,
+    alloc: Global,
+    control: &mut Control,
+    threads: u64,
+    calls: u64,
+) -> Option<Vec<Option<u64>>> {
+    load_all(rt, alloc, control)?;
+    let ports = ports(alloc, control, threads)?;
+    time_ports(rt, &StartLine::new(threads), ports, calls)
 }
 
 /// Nanoseconds a call through a port, each of so many threads with its own.
@@ -60,9 +79,8 @@ pub fn through_ports<R: Threads + Wait + Clock + Sync>(
     threads: u64,
     calls: u64,
 ) -> Option<u64> {
-    let mut control = control(rt, alloc, capacity_for(calls))?;
-    let ports = ports(alloc, &mut control, threads)?;
-    let taken = time_ports(rt, &StartLine::new(threads), ports, calls)?;
+    let mut control = control(alloc, capacity_for(calls))?;
+    let taken = time_all(rt, alloc, &mut control, threads, calls)?;
     nanos_a_part(&taken, calls)
 }
 

@@ -1,8 +1,9 @@
 //! Two threads that go on by turns.
 
 use crate::calls::ports;
-use crate::plant::{capacity_for, control};
+use crate::plant::{capacity_for, control, load_all};
 use crate::times::{StartLine, nanos_a_part, nanos_since};
+use rv_port::control::Control;
 use rv_port::port::Port;
 use rv_port::reached::Reached;
 use std::alloc::Global;
@@ -61,15 +62,26 @@ fn time_sides<R: Threads + Wait + Clock + Sync>(
     thread::map_vec(rt, sides, &|port| time_side(rt, line, port, turns)).ok()
 }
 
+// The same by tasks of this control.
+fn time_both<R: Threads + Wait + Clock + Sync>(
+    rt: &R,
+    alloc: Global,
+    control: &mut Control,
+    turns: u64,
+) -> Option<Vec<Option<u64>>> {
+    load_all(rt, alloc, control)?;
+    let sides = ports(alloc, control, 2)?;
+    time_sides(rt, &StartLine::new(2), sides, turns)
+}
+
 /// Nanoseconds a turn of a game between two ports: two hand-overs.
 pub fn between_ports<R: Threads + Wait + Clock + Sync>(
     rt: &R,
     alloc: Global,
     turns: u64,
 ) -> Option<u64> {
-    let mut control = control(rt, alloc, capacity_for(turns))?;
-    let sides = ports(alloc, &mut control, 2)?;
-    let taken = time_sides(rt, &StartLine::new(2), sides, turns)?;
+    let mut control = control(alloc, capacity_for(turns))?;
+    let taken = time_both(rt, alloc, &mut control, turns)?;
     nanos_a_part(&taken, turns)
 }
 

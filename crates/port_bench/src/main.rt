@@ -5,6 +5,7 @@
 mod calls;
 mod hand_over;
 mod plant;
+mod storm;
 mod times;
 
 use std::alloc::Global;
@@ -69,6 +70,15 @@ fn hand_over_costs<R: Threads + Wait + Clock + Sync>(
     Some(pair)
 }
 
+// The least of some storms, in nanoseconds.
+fn storm_costs<R: Threads + Wait + Clock + Sync>(rt: &R, alloc: Global, calls: u64) -> Option<u64> {
+    let mut least = u64::MAX;
+    for _ in 0..ROUNDS {
+        least = least.min(storm::nanos(rt, alloc, calls)?);
+    }
+    Some(least)
+}
+
 fn print_row<R: Print>(rt: &R, what: &str, threads: u64, pair: Option<Pair>) -> io::Result<()> {
     let Some(pair) = pair else {
         return Err(ErrorKind::OutOfMemory.into());
@@ -84,6 +94,17 @@ fn print_row<R: Print>(rt: &R, what: &str, threads: u64, pair: Option<Pair>) -> 
     )
 }
 
+fn print_storm<R: Print>(rt: &R, calls: u64, nanos: Option<u64>) -> io::Result<()> {
+    let Some(nanos) = nanos else {
+        return Err(ErrorKind::OutOfMemory.into());
+    };
+    let micros = nanos / 1000;
+    let ports = storm::PORTS;
+    println!(rt;
+        "storm: {ports} ports of {calls} calls each under {calls} list changes: {micros} us"
+    )
+}
+
 fn print_table<R: Threads + Wait + Clock + Print + Sync>(
     rt: &R,
     alloc: Global,
@@ -93,10 +114,10 @@ fn print_table<R: Threads + Wait + Clock + Print + Sync>(
         "ns, the least of {ROUNDS} runs of {calls} calls or turns a thread, each on a new journal"
     )?;
     println!(rt; "what      threads      port    beside  ratio")?;
-    for threads in [1, 4] {
-        print_row(rt, "call", threads, calls_cost(rt, alloc, threads, calls))?;
-    }
-    print_row(rt, "hand-over", 2, hand_over_costs(rt, alloc, calls))
+    print_row(rt, "call", 1, calls_cost(rt, alloc, 1, calls))?;
+    print_row(rt, "call", 4, calls_cost(rt, alloc, 4, calls))?;
+    print_row(rt, "hand-over", 2, hand_over_costs(rt, alloc, calls))?;
+    print_storm(rt, calls, storm_costs(rt, alloc, calls))
 }
 
 fn main(rt: HostRuntime) -> io::Result<ExitCode> {

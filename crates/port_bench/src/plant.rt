@@ -11,12 +11,13 @@ use std::sync::Wait;
 const PLANT: &str =
     "unit Plant\nprotected Valve 20\nfunction Get 0 100\nsuspension Ping\nsuspension Pong\n";
 
-const NAV: &str = "unit Nav\ntask One 15\ntask Two 15\ntask Three 15\ntask Four 15\n";
+const NAV: &str =
+    "unit Nav\ntask A 15\ntask B 15\ntask C 15\ntask D 15\ntask E 15\ntask F 15\ntask G 15\ntask H 15\n";
 
 const ALL: &str = "allow * * *\n";
 
 // Loads both units, and lets all call all.
-fn load_all(alloc: Global, host: &mut Host) -> Option<()> {
+fn load_host(alloc: Global, host: &mut Host) -> Option<()> {
     for text in [PLANT, NAV] {
         let shape = read_shape(alloc, text).ok()?;
         let _ = host.load(&shape);
@@ -27,15 +28,15 @@ fn load_all(alloc: Global, host: &mut Host) -> Option<()> {
 }
 
 /// A host with the function Get as operation 1 of object 1, the suspension objects 2 and 3, and
-/// the tasks 11 to 14, which may call all. None where there is no memory.
+/// the tasks 11 to 18, which may call all. None where there is no memory.
 pub fn host(alloc: Global, capacity: u64) -> Option<Host> {
     let mut host = Host::new(alloc, capacity as usize).ok()?;
-    load_all(alloc, &mut host)?;
+    load_host(alloc, &mut host)?;
     Some(host)
 }
 
-// The same behind a turn.
-fn load_behind<R: Wait>(rt: &R, alloc: Global, control: &mut Control) -> Option<()> {
+/// Makes a new host the same behind its turn.
+pub fn load_all<R: Wait>(rt: &R, alloc: Global, control: &mut Control) -> Option<()> {
     for text in [PLANT, NAV] {
         let shape = read_shape(alloc, text).ok()?;
         let _ = control.load_shape(rt, shape);
@@ -52,15 +53,15 @@ fn made(alloc: Global, host: Host) -> Option<Control>
     Control::make(alloc, host).ok()
 }
 
-/// The control of such a host.
-pub fn control<R: Wait>(rt: &R, alloc: Global, capacity: u64) -> Option<Control> {
-    let host = Host::new(alloc, capacity as usize).ok()?;
-    let mut control = made(alloc, host)?;
-    load_behind(rt, alloc, &mut control)?;
-    Some(control)
+/// The control of a new host without units.
+pub fn control(alloc: Global, capacity: u64) -> Option<Control> {
+    match Host::new(alloc, capacity as usize) {
+        Ok(host) => made(alloc, host),
+        Err(_) => None,
+    }
 }
 
-/// The room that so many calls or hand-overs of four threads need.
+/// The room that so many calls of eight threads need beside as many changes of the list.
 pub fn capacity_for(calls: u64) -> u64 {
-    calls.saturating_mul(16).saturating_add(200).min(1_048_576)
+    calls.saturating_mul(20).saturating_add(200).min(1_048_576)
 }

@@ -1,6 +1,6 @@
 use denote.Param.Send.{sendable}
 use Rattle.std.proofs.Crossing.{crosses}
-use Rattle.port_bench.proofs.Sends.{port_send}
+use Rattle.rv_port.proofs.Sends.{port_send}
 use Rattle.port_bench.proofs.calls.time_ports.Goals as goal
 
 -- each port goes to its thread
