@@ -15,7 +15,9 @@ fn functions_share(rt: HostRuntime) {
     assert!(rt; object.may_start(Action::Shared) && !object.may_start(Action::Exclusive(11)));
     object.finish(Action::Shared, Scalars::new());
     object.finish(Action::Shared, Scalars::new());
-    assert!(rt; object.may_start(Action::Exclusive(11)) && object.scalars() == Scalars::from_slice(&[1, 2]));
+    assert!(rt;
+        object.may_start(Action::Exclusive(11)) && object.scalars() == Scalars::from_slice(&[1, 2])
+    );
 }
 
 #[test]
