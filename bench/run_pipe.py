@@ -6,6 +6,7 @@ next is written. Says what it saw that the documents don't allow, and ends with 
 """
 import os
 import re
+import resource
 import subprocess
 import sys
 import threading
@@ -39,6 +40,22 @@ package body Plant is
       procedure Trip is begin Trips := Trips + 1; end Trip;
    end Alarm;
 end Plant;
+"""
+
+# A unit that attaches a line.
+LATE_LINE = """with Ada.Interrupts.Names;
+package Late is
+   protected Bell with Interrupt_Priority => 36 is
+      procedure Ring with Attach_Handler => Ada.Interrupts.Names.Int_5;
+   private
+      Rings : Integer := 0;
+   end Bell;
+end Late;
+package body Late is
+   protected body Bell is
+      procedure Ring is begin Rings := Rings + 1; end Ring;
+   end Bell;
+end Late;
 """
 
 # A task that makes a call at each tick, until the call is denied.
@@ -170,6 +187,8 @@ def commands(program):
     expect_that("load of a bad text", re.match(r"(parse|names) \w+ at \d+$|restriction", run.line()))
     expect("halt", run.ask("halt"), "accepted 0")
     expect("a tick behind the halt", run.ask("tick 1"), "halted")
+    run.send("load\n" + LATE_LINE + "@end\n")
+    expect("a load behind the halt", run.line(), "halted\n")
     expect("quit", run.end(), ("entries 5\n", "", 0))
 
 
@@ -194,6 +213,54 @@ def device(program):
     expect("quit", run.end(), ("entries 11\n", "", 0))
 
 
+def devices(unit_name="Dev", task="Main", target="Plant.Valve", operation="Get", calls=1):
+    """The settings of a device."""
+    return (f'[[device]]\nunit = "{unit_name}"\ntask = "{task}"\npriority = 15\nobject = "{target}"\noperation = "{operation}"\n'
+            f"calls = {calls}\n")
+
+
+def two_devices(program):
+    """Two devices come in their order, each with its calls."""
+    script = "@host.toml\n" + devices() + devices("More", "Other", calls=2)
+    run = Run(program, script + unit(PLANT) + "@list\nallow * * *\n@run\n")
+    until("both devices", lambda: sum("finish" in line for line in run.journal()) == 2)
+    journal = run.journal()
+    expect("the devices' loads", [line.split(" ", 2)[2] for line in journal if " load " in line],
+           [f"load {name} -> accepted 0" for name in ("Plant", "Dev", "More")])
+    for actor, calls in (("Dev.Main", 1), ("More.Other", 2)):
+        expect(f"calls of {actor}", sum(" -> started" in line for line in journal if f" {actor} call " in line), calls)
+    expect("quit", run.end(), (f"entries {len(journal)}\n", "", 0))
+
+
+def deepest(program):
+    """The deepest body runs on a thread of a run: the journal is that of the row in which it runs by `go`."""
+    data = os.path.join(TOP, "crates/rv_rows/data/body_deepest")
+    with open(data + ".raven") as script, open(data + ".journal") as journal:
+        text, due = script.read().split("@steps\n")[0], journal.read().splitlines()
+    run = Run(program, text + "@run\n")
+    until("the deepest body", lambda: any("finish" in line for line in run.journal()))
+    expect("the deepest body's journal", run.journal(), due)
+    expect("quit", run.end(), (f"entries {len(due)}\n", "", 0))
+
+
+def no_thread(program):
+    """Where the memory of a second stack isn't to be had, its actor has no thread, and the run goes on."""
+    most = 700 << 20
+    run = Run(program, unit(PLANT) + unit(looper("Nav")) + unit(looper("Guest")) + "@list\nallow * * *\n@run\n",
+              preexec_fn=lambda: resource.setrlimit(resource.RLIMIT_AS, (most, most)))
+    missing = []
+    while (line := run.ask("mark") if not missing else run.line().rstrip("\n")).startswith("no thread "):
+        missing.append(line.removeprefix("no thread "))
+    expect_that("actors without a thread", missing and set(missing) <= {"Int_4", "Nav.Pilot", "Guest.Pilot"}, missing)
+    expect("the command behind", line, "bad command")
+    expect("tick", run.ask("tick 1"), "accepted 0")
+    journal = run.journal()
+    for actor in missing:
+        expect(f"entries of {actor}, which has no thread", of(journal, actor), [])
+    out, err, status = run.end()
+    expect_that("quit without a thread", re.fullmatch(r"entries \d+\n", out) and not err and status == 0, (out, err, status))
+
+
 def of(journal, actor):
     return [line.split(" ", 2)[2] for line in journal if line.split(" ", 2)[1] == actor]
 
@@ -215,6 +282,10 @@ def live(program):
     ticking(run, "Guest runs", lambda journal: len(of(journal, "Guest.Pilot")) > 20)
     expect("raise of an attached line", run.ask("raise 4"), "raised")
     expect("raise of another", run.ask("raise 5"), "unattached")
+    run.send("load\n" + LATE_LINE + "@end\n")
+    expect("load of a unit with a line", run.line(), "accepted 0\n")
+    expect("raise of a line that came late", run.ask("raise 5"), "raised")
+    until("the late line fires", lambda: of(run.journal(), "Int_5"))
     expect("append", run.ask("append deny Nav Plant.Valve Set"), "accepted 0")
     ticking(run, "Nav ends", lambda journal: of(journal, "Nav.Pilot")[-1].startswith("finish"))
     ticking(run, "Guest goes on", lambda journal: len(of(journal, "Guest.Pilot")) > 60)
@@ -226,6 +297,7 @@ def live(program):
     late = [line for line in of(journal[place:], "Nav.Pilot") if line.startswith("call") and "started" in line]
     expect("calls of Nav that start behind the change", late, [])
     expect("what the line does", of(journal, "Int_4"), ["fire -> started", "end 1 : return -> done"])
+    expect("what the late line does", of(journal, "Int_5"), ["fire -> started", "end 1 : return -> done"])
     out, err, status = run.end()
     expect_that("quit in the midst", re.fullmatch(r"entries \d+\n", out) and not err and status == 0, (out, err, status))
 
@@ -251,12 +323,22 @@ def closed(program):
     run.process.stderr.close()
 
 
+def device_faults():
+    """Devices that can't be loaded, with the journal of what came before, and the fault at the line of the settings."""
+    plant = unit(PLANT) + "@run\n"
+    loaded = "1 operator load Plant -> accepted 0\n"
+    for device_text, fault in ((devices(target="Plant.Pump"), "UnknownName"), (devices(operation="Open"), "UnknownName"),
+                               (devices(operation="Set"), "UnknownName"), (devices("Plant"), "shape NameTaken")):
+        yield "@host.toml\n" + device_text + plant, loaded, f"script line 1: {fault}\n"
+
+
 def refused(program):
     """A fault before the commands."""
     for script, out, err in ((unit("package P is\nend P\n") + "@run\ntick 1\n", "", "script line 1: parse Unexpected at 19\n"),
                              ("@list\nallow * * *\n@shape\nunit P\n@run\n", "1 operator list [allow * * *] -> accepted 0\n",
                               "script line 3: BadSection\n"),
-                             ("tick 1\n@run\n", "", "script line 1: BadSection\n")):
+                             ("tick 1\n@run\n", "", "script line 1: BadSection\n"),
+                             *device_faults()):
         done = subprocess.run([program, "run"], input=script.encode(), stdout=subprocess.PIPE, stderr=subprocess.PIPE, timeout=LIMIT)
         expect("a fault before the commands", (done.stdout.decode(), done.stderr.decode(), done.returncode), (out, err, 1))
 
@@ -284,7 +366,7 @@ def edges(program):
 
 def main():
     program = os.path.abspath(sys.argv[1]) if sys.argv[1:] else os.path.join(TOP, "crates/ravenhost/out/ravenhost")
-    for part in (commands, row, device, live, refused, closed, edges):
+    for part in (commands, row, device, two_devices, deepest, live, no_thread, refused, closed, edges):
         try:
             part(program)
         except BrokenPipeError:

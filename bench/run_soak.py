@@ -12,8 +12,9 @@ TEAMS = "ABCD"
 TASKS = 8
 LOADS = 50
 SEED = 16
+LINES = 4
 SLOWEST = 10  # the longest that an answer may take, in seconds
-MOST_BYTES = 1000  # how much memory may grow an entry: the journal's, which is reserved, comes into use as it fills
+MOST_BYTES = 200  # how much memory may grow an entry: the journal's, which is reserved, comes into use as it fills
 
 PLANT = """with Ada.Synchronous_Task_Control; with Ada.Interrupts.Names;
 package P is
@@ -48,8 +49,8 @@ package body P is
       function G return Integer is begin return X; end G;
 %s   end L;
 end P;
-""" % ("".join(f"      procedure H{k} with Attach_Handler => Ada.Interrupts.Names.Int_{k};\n" for k in range(4)),
-       "".join(f"      procedure H{k} is begin X := (X + {k + 1}) mod 1000; end H{k};\n" for k in range(4)))
+""" % ("".join(f"      procedure H{k} with Attach_Handler => Ada.Interrupts.Names.Int_{k};\n" for k in range(LINES)),
+       "".join(f"      procedure H{k} is begin X := (X + {k + 1}) mod 1000; end H{k};\n" for k in range(LINES)))
 
 ACTION = """   protected body O is
       procedure G (K : in Integer) is
@@ -119,6 +120,7 @@ class Soak:
         script += "".join("@unit\n" + text for text in self.texts.values()) + "@list\nallow * * *\n@run\n"
         self.run = Run(program, script)
         self.denied = self.loaded = self.ticks = 0
+        self.raised = [0] * LINES
         self.slowest = 0.0
         self.memory = []
 
@@ -151,7 +153,9 @@ class Soak:
         pause, start = self.seconds / ticks, time.monotonic()
         for tick in range(1, ticks + 1):
             expect("tick", self.ask("tick 1"), "accepted 0")
-            expect("raise", self.ask(f"raise {self.random.randrange(4)}"), "raised")
+            line = self.random.randrange(LINES)
+            expect("raise", self.ask(f"raise {line}"), "raised")
+            self.raised[line] += 1
             if self.random.random() < 0.1:
                 self.change_list()
             if self.loaded < LOADS * tick // ticks:
@@ -209,7 +213,8 @@ def replayed(program, journal, texts):
 
 
 def all_went_on(journal, ticks):
-    """Each paced task acted at each tick: it delayed to a time past the last."""
+    """Each paced task acted at each tick: it delayed to a time past the last. Those that wait in the entry and on the
+    suspension object were woken to the end, too: in the last twentieth of the journal."""
     last = {}
     for line in journal:
         if " delay " in line:
@@ -218,6 +223,16 @@ def all_went_on(journal, ticks):
     expect("tasks that delay", len(last), len(TEAMS) * TASKS - 2)
     for actor, until in last.items():
         expect_that(f"{actor} stalled", until > ticks, f"its last delay is to {until} of {ticks}")
+    for actor in ("A.T7", "B.T7"):
+        woken = [number for number, line in enumerate(journal, 1) if f" {actor} resume -> woken" in line]
+        expect_that(f"{actor} stalled", woken and woken[-1] > len(journal) * 19 // 20,
+                    f"it was woken {len(woken)} times, at last by entry {woken[-1:]} of {len(journal)}")
+
+
+def all_fired(journal, raised):
+    """Each line fired as often as it was raised."""
+    for line, due in enumerate(raised):
+        expect(f"how often Int_{line} fired", sum(f" Int_{line} fire -> started" in entry for entry in journal), due)
 
 
 def main():
@@ -227,6 +242,7 @@ def main():
     soak.drive()
     before = soak.settle(1)
     all_went_on(before, soak.ticks)
+    all_fired(before, soak.raised)
     expect("halt", soak.ask("halt"), "accepted 0")
     journal = before + soak.settle(len(before) + 1)
     last = memory(soak.run.process)

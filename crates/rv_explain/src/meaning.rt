@@ -182,7 +182,7 @@ fn of_types(fault: TypeFault) -> Meaning {
             "6.1, 6.4.1",
         ),
         TypeFault::TooLarge(_) => standard(
-            "A static value isn't one of its subtype or type, or its divisor is 0.",
+            "A static value isn't one of its subtype or type, or its divisor is 0; or more than 64 variables are open in a body.",
             "3.5, 4.5, 4.9",
         ),
         TypeFault::BadChoice(_) => standard(
