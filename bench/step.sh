@@ -11,7 +11,7 @@ missing() {
     echo "bench/step.sh: $1 is missing" >&2
     exit 127
 }
-for tool in rt cc nproc cut; do
+for tool in rt cc nproc cut id; do
     command -v "$tool" >/dev/null || missing "$tool"
 done
 python3 -c 'import resource, sys; sys.exit(sys.version_info < (3, 9))' 2>/dev/null || missing "python3 (3.9 or newer)"
@@ -25,7 +25,7 @@ if ! rt run -- reserve 0 >"$folder/log" 2>&1 </dev/null; then
     cat "$folder/log" >&2
     exit 1
 fi
-echo "$(nproc) cores, load $(cut -d ' ' -f 1 /proc/loadavg) before the first run"
+echo "user $(id -u) (GNAT's ceilings cost what they cost only as root, 0), $(nproc) cores, load $(cut -d ' ' -f 1 /proc/loadavg) before the first run"
 out/step_bench table "${1:-5}" >"$folder/table"
 
 # The same call under GNAT: a function of a protected object with a ceiling, without a host.
