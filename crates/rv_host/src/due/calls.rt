@@ -97,7 +97,7 @@ fn suspension_facts(
     }
 }
 
-/// The answer to a call, or to a fired line, of this operation of the object.
+/// The answer to a call, or to a fired line, of this operation of the object that was scanned.
 pub fn due_call(
     seen: &Seen,
     actor: usize,
