@@ -1,20 +1,15 @@
 """What `check` must print."""
-import re
-
-from grammar import unit_name
 from grammar_words import TextFault
 from lists import ListFault, read_list
 from play import Fault, Outcome, outcome_of
 from settings import SettingsFault, read_settings
-from shapes import Catalogue, read_shape
-
-LONGEST_UNIT = 262_144  # bytes
+from shapes import Catalogue, Unit, read_shape
+from unit_texts import TooLong, UnitTexts
 
 
 class Checker:
-    def __init__(self, script: bytes) -> None:
-        self.texts = iter(re.split(r"(?m)^(?=@)", script.decode(errors="replace")))  # from each opening to the next
-        self.text = next(self.texts)
+    def __init__(self, script: bytes, told: bytes) -> None:
+        self.texts = UnitTexts(script, told)
         self.catalogue = Catalogue()
         self.output: list[str] = []
         self.is_begun = False
@@ -22,7 +17,7 @@ class Checker:
     def section(self, opening: str, lines: list[str], place: int) -> None:
         """Looks at the section that opens at that line of the script."""
         is_first, self.is_begun = not self.is_begun, True
-        self.text = next(self.texts).partition("\n")[2]
+        self.texts.next_section()
         try:
             if opening == "@host.toml" and is_first:
                 read_settings(lines)
@@ -34,6 +29,8 @@ class Checker:
                 self.unit(place)
             else:
                 raise Fault(place, "BadSection")
+        except TooLong:
+            raise Fault(place, "TooLong")
         except (ListFault, SettingsFault, TextFault) as fault:
             raise Fault(place, fault)
 
@@ -45,12 +42,12 @@ class Checker:
         self.output.append(f"shape {unit.name}: ok\n")
 
     def unit(self, place: int) -> None:
-        if len(self.text.encode()) > LONGEST_UNIT:
-            raise Fault(place, "TooLong")
-        self.output.append(f"unit {unit_name(self.text)}: ok\n")
+        name = self.texts.unit_name(place)
+        self.catalogue.add(Unit(name))
+        self.output.append(f"unit {name}: ok\n")
 
 
-def check(script: bytes) -> Outcome:
-    """What `ravenhost check` writes for a script, and its status."""
-    checker = Checker(script)
+def check(script: bytes, told: bytes = b"") -> Outcome:
+    """What `ravenhost check` writes for a script, and its status, where the program told this fault, if any."""
+    checker = Checker(script, told)
     return outcome_of(script, checker.output, checker.section)

@@ -32,9 +32,9 @@ class Difference(NamedTuple):
     how: str  # of HOWS
 
 
-def modelled(script: bytes, how: str) -> Outcome:
-    """What the model says to the script."""
-    return check(script) if how == "check" else play(script, how == "play --all")
+def modelled(script: bytes, how: str, program: Outcome) -> Outcome:
+    """What the model says to the script; the verdict of the static rules on a unit text is the program's."""
+    return check(script, program.fault) if how == "check" else play(script, how == "play --all", program.fault)
 
 
 def run(program: Path, script: bytes, how: str) -> Outcome:
@@ -91,7 +91,8 @@ def compare_kind(kind: str, program: Path, count: int, seed: int, found: dict[st
     counts: Counter[str] = Counter()
     runs = differing = 0
     for script, how in scripts(kind, count, seed):
-        outcome, model = run(program, script.text, how), modelled(script.text, how)
+        outcome = run(program, script.text, how)
+        model = modelled(script.text, how, outcome)
         expected = script.expected if script.expected and how == "play --all" else outcome
         counts += tally(outcome)
         runs += 1
@@ -124,13 +125,14 @@ def thinned(script: bytes, piece: bytes, differs: Callable[[bytes], bool]) -> by
 def shrunk(found: Difference, program: Path) -> Difference:
     """The same kind of difference with a smaller script, as far as it goes in so many runs: lines are left out, then words."""
     budget = iter(range(SHRINKING_RUNS))
-    outcomes = modelled(found.script.text, found.how), run(program, found.script.text, found.how)
-    name = signature(*outcomes)
+    outcome = run(program, found.script.text, found.how)
+    name = signature(modelled(found.script.text, found.how, outcome), outcome)
 
     def differs(script: bytes) -> bool:
         if next(budget, None) is None:
             return False
-        model, other = modelled(script, found.how), run(program, script, found.how)
+        other = run(program, script, found.how)
+        model = modelled(script, found.how, other)
         return model != other and signature(model, other) == name
 
     script = found.script.text
@@ -148,7 +150,8 @@ def shown(text: bytes) -> str:
 def report(name: str, found: Difference, program: Path) -> None:
     """Prints a script with what the model and the program say to it."""
     text = found.script.text
-    outcomes = {"model": modelled(text, found.how), "program": run(program, text, found.how)}
+    outcome = run(program, text, found.how)
+    outcomes = {"model": modelled(text, found.how, outcome), "program": outcome}
     if found.script.expected:
         outcomes["expected"] = found.script.expected
     print(f"\n=== {name}\n== a script of the kind {found.kind}, given to `{found.how}`:\n{shown(text)}")

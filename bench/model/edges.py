@@ -56,6 +56,7 @@ STEP_LINES = parts("""$T | $T call | $T call $O | $T call $O x | $T call $O 1x |
 | no.no halt | Int_0 fire | INT_9 fire | Int_3 fire x | Int_3 Fire | operator fire | no.no fire | Int_10 fire | operator.x fire
 | U.T call U.Q Suspend_Until_True | u.t call u.q SUSPEND_until_TRUE | U.T call U.Q Suspend_Until_True 0 | U.T call U.Q Current_State
 | U.T call U.Q Suspend | U.S call U.Q Set_True | operator call U.Q Set_True | Int_3 call U.Q Set_True""") \
+    + parts("$T go 2 | $T go 0 | $T go -1 | $T go x | $T go 1 1 | $T Go | operator go | no.no go | Int_3 go") \
     + ["\x0c", "\u00a0", "$T\x0bresume", " \t$T  \t resume\t", f"{TOO_LONG}.x resume", f"x.{LONG} resume", f"$T call $O {TOO_LONG}",
        f"$T end {'0 ' * 32}: return", f"$T end {'0 ' * 33}: return"]
 SHAPES_BASE = parts("""@shape | unit A | task T 3 | protected H 33 | scalar 0 1 0 | handler X 1 | handler Y 7 | @shape | unit B | task K 5
@@ -106,6 +107,7 @@ TEXTS = [
     "x\n@foo\n", "#\n@steps\n", "@list", "@shape", "@shape\n@steps\n", "@list\n@list\n", "@shape\nunit U", "@shape\nunit U\r", "@shape\nunit U\n\n",
     "@shape\n\nunit U\n", HEAD + "U.T\rresume\n", HEAD + "U.T resume\r\r\n", HEAD + "U.T resume\r", HEAD + "\r", HEAD + BODIES,
     HEAD + rows("@steps/U.T resume/@shape/unit V/@steps/@list/@steps/U.T call U.O Get"), HEAD + rows("V.T resume/@shape/unit V/task T 1"),
+    HEAD + rows("U.T call U.Q Suspend_Until_True/U.T go/U.S call U.Q Set_True/U.T go 2"),
     HEAD + rows("@shape/unit Operator/task T 1/@steps/OPERATOR.t resume"), HEAD + rows("operator append  /"),
     LISTED + "@steps\noperator append deny * * *\noperator remove 512\noperator append deny * * *\noperator append bad\n",
     LISTED + "\n#\nbad\n", "@list\nbad\n" + LISTED[6:] + "bad\n", "@list\nallow * * *\r", "@list\n#\x00\n\x00\n",

@@ -1,6 +1,6 @@
 """Whether a unit text is of the grammar (docs/GRAMMAR.md)."""
 from grammar_statements import Statements
-from grammar_words import END, words_of_text
+from grammar_words import END, Word, words_of_text
 
 
 class Parser(Statements):
@@ -173,8 +173,8 @@ class Parser(Statements):
         self.statements()
 
 
-def unit_name(text: str) -> str:
-    """The name of the unit of a text that is of the grammar; else the first fault."""
+def name_and_words(text: str) -> tuple[str, list[Word]]:
+    """The name of the unit of a text that is of the grammar, and the text's words; else the first fault."""
     words = words_of_text(text)
     Parser(words).text()
-    return next(words[place + 1].text for place, word in enumerate(words) if word.kind == "package")
+    return next(words[place + 1].text for place, word in enumerate(words) if word.kind == "package"), words

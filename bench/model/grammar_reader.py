@@ -1,7 +1,7 @@
 """Reading the words of a unit text: names, parameters and expressions."""
 from collections.abc import Callable
 
-from grammar_words import TextFault, Word
+from grammar_words import Word, fault_at
 
 MOST_OPEN = 64
 
@@ -19,7 +19,7 @@ class Reader:
         return place < len(self.words) and self.words[place].kind in kinds
 
     def refuse(self, fault: str = "Unexpected") -> None:
-        raise TextFault(f"parse {fault}", self.words[self.at].place)
+        raise fault_at(f"parse {fault}", self.words[self.at].place)
 
     def take(self, *kinds: str) -> None:
         """Reads words of these kinds, one after another."""

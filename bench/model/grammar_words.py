@@ -16,8 +16,11 @@ END = "end of text"
 
 
 class TextFault(Exception):
-    def __init__(self, fault: str, place: int) -> None:
-        super().__init__(f"{fault} at {place}")
+    """What is wrong with a text, and its place."""
+
+
+def fault_at(fault: str, place: int) -> TextFault:
+    return TextFault(f"{fault} at {place}")
 
 
 class Word(NamedTuple):
@@ -58,20 +61,20 @@ def words_of_text(text: str) -> list[Word]:
         if text.startswith("--", at):
             length = len(text[at:].partition("\n")[0])
         elif not letter.isascii():
-            raise TextFault("lex NotAscii", place)
+            raise fault_at("lex NotAscii", place)
         elif letter.isalpha():
             run = RUN.match(text, at)[0]
             if not is_identifier(run):
-                raise TextFault("lex BadIdentifier", place)
+                raise fault_at("lex BadIdentifier", place)
             kind, length = run.lower() if run.lower() in RESERVED else "name", len(run)
         elif letter.isdigit():
             kind, length = "number", literal_length(text, at)
             if length is None:
-                raise TextFault("lex BadLiteral", place)
+                raise fault_at("lex BadLiteral", place)
         elif letter not in " \t\n\r\v\f":
             delimiter = DELIMITER.match(text, at)
             if delimiter is None or text.startswith("**", at):
-                raise TextFault("lex BadCharacter", place)
+                raise fault_at("lex BadCharacter", place)
             kind, length = delimiter[0], len(delimiter[0])
         if kind:
             found.append(Word(kind, text[at:at + length], place))

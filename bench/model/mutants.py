@@ -14,8 +14,8 @@ from play import Outcome, play
 from readings import MUTANTS, Mutant
 from worked import worked_scripts
 
-MODEL = ("words", "lists", "settings", "shapes", "host", "steps", "play", "grammar_words", "grammar_reader", "grammar_statements", "grammar",
-         "check")
+MODEL = ("words", "lists", "settings", "shapes", "host", "steps", "grammar_words", "grammar_reader", "grammar_statements", "grammar",
+         "unit_texts", "play", "check")
 Says = Callable[[bytes], Outcome]
 MADE = {"worked": worked_scripts, "edges": edge_scripts, "texts": unit_scripts}
 HOWS = {"units": ("check",), "texts": ("check",), "edges": ("play", "check")}  # where it isn't play alone

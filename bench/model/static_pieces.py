@@ -1,6 +1,10 @@
 """Parts of unit texts for static_rules.py: good ones, and wrong ones with a ^ right before the place of their one fault.
 
-A part is a text for each slot of the frame, `slot: text`, with || between; $N stands for the unit's name."""
+A part is a text for each slot of the frame, `slot: text`, with || between; $N stands for the unit's name. A fault of the shape has no place."""
+
+# the task has four variables of 64, the protected object three components of 32
+SIXTY = ", ".join(f"V{number}" for number in range(1, 61))
+THIRTY = ", ".join(f"C{number}" for number in range(1, 31))
 
 FRAME = """$context
 package $N is
@@ -223,7 +227,13 @@ private: Z1 : Integer := 0; Z2 : ^Time; || bars: use Ada.Real_Time;""",
 locals: Z, ^Z : Integer := 1;
 spec: ^Limit : constant Integer := 3;
 private: ^level : Boolean := True;
-tasks: task Other with Priority => 3, ^Priority => 4; || bodies: task body Other is begin null; end Other;""",
+tasks: task Other with Priority => 3, ^Priority => 4; || bodies: task body Other is begin null; end Other;
+bodies: task body ^Pilot is begin null; end Pilot;
+bodies: protected body ^Gate is procedure Pass is begin null; end Pass; end Gate;
+operation_bodies: procedure ^Bump is begin null; end Bump;
+spec: subtype ^Small is Integer;
+tasks: task ^Pilot;
+operations: procedure More (Z, ^Z : Integer); || operation_bodies: procedure More (Z : Integer) is begin null; end More;""",
     "names WrongKind": """operations: ^procedure Extra;
 private: ^function Extra return Integer;
 tasks: ^task Other;
@@ -236,7 +246,16 @@ statements: ^Pilot;
 statements: ^A;
 statements: raise ^Limit;
 handlers: exception when ^Limit => null;
-locals: Z : ^Limit := 1;""",
+locals: Z : ^Limit := 1;
+operations: procedure Extra (Z : Integer); || operation_bodies: procedure ^Extra (Z : out Integer) is begin Z := 1; end Extra;
+operations: procedure Extra (Z : Integer); || operation_bodies: procedure ^Extra (Y : Integer) is begin null; end Extra;
+operations: procedure Extra (Z : Integer); || operation_bodies: procedure ^Extra (Z : Natural) is begin null; end Extra;
+operations: procedure Extra (Z : Integer); || operation_bodies: procedure ^Extra is begin null; end Extra;
+operations: function Extra return Integer; || operation_bodies: function ^Extra return Natural is begin return 1; end Extra;
+operations: procedure Extra; || operation_bodies: function ^Extra return Integer is begin return 1; end Extra;
+spec: pragma ^Priority (20);
+spec: pragma ^Interrupt_Priority;
+locals: pragma ^Priority (20);""",
     "names EndName": "pilot_end: ^Pilots\npilot_end: ^Valve\n"
                      "tasks: task Other is pragma Priority (3); end ^Pilot; "
                      "|| bodies: task body Other is begin null; end Other;\nbodies: task body Other is begin null; end ^Pilot; || tasks: task Other;",
@@ -268,7 +287,8 @@ spec: Z : constant Boolean := ^3;
 function: return ^True;
 barrier: ^Level
 barrier: ^Limit
-statements: case A is when ^True => null; when others => null; end case;""",
+statements: case A is when ^True => null; when others => null; end case;
+locals: ^Z : constant Small;""",
     "types ConstantWritten": """statements: ^Limit := 3;
 statements: $N.Valve.Bump; ^$N.Limit := 3;
 statements: for I in 1 .. 3 loop ^I := 2; end loop;
@@ -284,12 +304,24 @@ statements: Valve.Set (1, ^Limit);
 statements: for I in 1 .. 3 loop Valve.Set (1, ^I); end loop;
 statements: Valve.Wait (^(A));
 procedure: Set (1, ^X);
-entry: Set (N, ^Limit);""",
+entry: Set (N, ^Limit);
+operations: function Extra (^Z : out Integer) return Integer; || operation_bodies: function Extra (Z : out Integer) return Integer is begin Z := 1; return 1; end Extra;""",
     "types BadChoice": """statements: case A is when 1 => null; when ^1 => null; when others => null; end case;
 statements: case A is when 1 .. 5 => null; when ^3 => null; when others => null; end case;
 statements: case A is when 1 | ^1 => null; when others => null; end case;
-statements: case B is when True => null; when ^True => null; when others => null; end case;""",
-    "types TooLarge": """spec: Z : constant Integer := ^2147483647 + 1;
+statements: case B is when True => null; when ^True => null; when others => null; end case;
+statements: case ^A is when 1 => null; end case;
+statements: case ^S is when 0 .. 8 => null; end case;
+statements: case ^S is when 1 .. 4 | 6 .. 9 | 0 => null; end case;
+statements: case ^B is when True => null; end case;
+statements: case ^(S) is when 0 .. 9 => null; end case;
+statements: case ^Valve.Get is when 0 => null; end case;
+statements: case ^Small (A) is when 0 .. 8 => null; end case;
+statements: for I in 1 .. 3 loop case ^I is when 1 | 3 => null; end case; end loop;
+statements: case A is when ^others => null; when 1 => null; end case;
+statements: case A is when 1 | ^others => null; end case;
+statements: case A is when 1 => null; when ^others => null; when others => null; end case;""",
+    "types TooLarge": f"""spec: Z : constant Integer := ^2147483647 + 1;
 spec: Z : constant Integer := ^1 / 0;
 spec: Z : constant Integer := 1 + ^3 mod (Limit - 10);
 spec: Z : constant Small := ^10;
@@ -298,5 +330,20 @@ private: Z : Integer range 0 .. 3 := ^4;
 statements: A := ^2147483647 * 2;
 statements: A := A + (^Integer'Last + 1);
 tasks: task Other with Priority => ^41; || bodies: task body Other is begin null; end Other;
-tasks: task Other with Priority => ^0; || bodies: task body Other is begin null; end Other;""",
+tasks: task Other with Priority => ^0; || bodies: task body Other is begin null; end Other;
+locals: {SIXTY}, ^Last : Integer;""",
+    "types NotStatic": """statements: case A is when ^A => null; when others => null; end case;
+statements: case A is when 1 .. ^A => null; when others => null; end case;
+statements: case A is when ^Valve.Get => null; when others => null; end case;
+locals: Z : Integer range 0 .. ^A;
+spec: Z : constant Ada.Real_Time.Time := ^Ada.Real_Time.Clock;
+private: Z : Integer := ^Level;
+private: Z : Integer range 0 .. ^Level;""",
+    "shape TooMany": f"""private: {THIRTY} : Integer;
+operations: procedure Extra (V, W, X, Y, Z : Integer); || operation_bodies: procedure Extra (V, W, X, Y, Z : Integer) is begin null; end Extra;""",
+    "shape LineTaken": "operations: procedure Ring with Attach_Handler => Ada.Interrupts.Names.Int_3; "
+                       "procedure Chime with Attach_Handler => Ada.Interrupts.Names.Int_3; || operation_bodies: procedure Ring is begin null; end Ring; "
+                       "procedure Chime is begin null; end Chime; || context: with Ada.Interrupts.Names;",
+    "shape CeilingTooLow": "operations: procedure Ring with Attach_Handler => Ada.Interrupts.Names.Int_3; "
+                           "|| operation_bodies: procedure Ring is begin null; end Ring; || context: with Ada.Interrupts.Names;",
 }

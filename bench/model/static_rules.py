@@ -79,7 +79,8 @@ def draw(seed: int) -> Case:
     """A text of that number: an even one is right, an odd one wrong."""
     dice = random.Random(f"static {seed}")
     source, verdict, wrong = WRONG_PARTS[seed // 2 % len(WRONG_PARTS)]
-    chosen = [wrong] if seed % 2 else []
+    is_wrong = seed % 2 == 1
+    chosen = [wrong] if is_wrong else []
     for part in dice.sample(GOOD_PARTS[source], dice.randint(0, 12)):
         if fits(part, chosen):
             chosen.append(part)
@@ -88,6 +89,8 @@ def draw(seed: int) -> Case:
     if MARK in text:
         place = len(text[:text.index(MARK)].encode())
         return Case(source.BEFORE, text.replace(MARK, ""), f"{verdict} at {place}")
+    if is_wrong:  # a fault of the shape has no place
+        return Case(source.BEFORE, text, verdict)
     name = re.search(r"(?i)\bpackage\s(?:\s|--[^\n]*\n)*(\w+)", text)[1]
     return Case(source.BEFORE, text, f"unit {name}: ok")
 

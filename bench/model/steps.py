@@ -30,6 +30,11 @@ class Timed(NamedTuple):
     ticks: int
 
 
+class Goes(NamedTuple):
+    """What the actor's text asks next, over and over."""
+    times: int
+
+
 class Change(NamedTuple):
     """Of the list: append, remove or replace."""
     word: str
@@ -37,7 +42,7 @@ class Change(NamedTuple):
     lines: list[Line]
 
 
-Request = Call | End | Plain | Timed | Change
+Request = Call | End | Plain | Timed | Goes | Change
 
 
 def read_call(words: list[str]) -> Call:
@@ -65,6 +70,13 @@ def read_plain(word: str, words: list[str]) -> Plain:
 def read_timed(word: str, words: list[str]) -> Timed:
     ensure(len(words) == 1)
     return Timed(word, number(words[0]))
+
+
+def read_go(words: list[str]) -> Goes:
+    ensure(len(words) <= 1)
+    times = number(words[0]) if words else 1
+    ensure(times >= 1)
+    return Goes(times)
 
 
 def read_change(word: str, words: list[str]) -> Change:
@@ -95,6 +107,6 @@ def read_step(words: list[str]) -> tuple[str, Request]:
         return actor, read_plain(word, rest)
     if word in ("delay", "tick"):
         return actor, read_timed(word, rest)
-    forms = {"call": read_call, "end": read_end}
+    forms = {"call": read_call, "end": read_end, "go": read_go}
     ensure(word in forms)
     return actor, forms[word](rest)
