@@ -1,11 +1,11 @@
-//! What the host's calls give that no script shows: its capacities, a run of commands, a page of the journal. What its
-//! requests cost is shown by the rows `room_*`.
+//! What the host's calls give that no script shows: a run of commands, a page of the journal. Its capacities are shown by
+//! the rows `settings_capacity_*`, what its requests cost by `room_*`.
 
 use rv_access::{AccessList, read_list};
 use rv_event::entry::{Answer, Entry, Request};
 use rv_history::command::Command;
 use rv_host::answers::Answers;
-use rv_host::host::{Host, NewFault};
+use rv_host::host::Host;
 use rv_host::pages::Page;
 use rv_shape::reading::read_shape;
 use rv_shape::shape::UnitShape;
@@ -50,23 +50,6 @@ fn plant(alloc: Global) -> Result<Host, Fail> {
     host.load(&nav);
     host.set_list(&list);
     Ok(host)
-}
-
-// The fault of a host of that capacity, or `None` where it is made.
-fn fault_of(alloc: Global, capacity: usize) -> Option<NewFault> {
-    match Host::new(alloc, capacity) {
-        Ok(_) => None,
-        Err(fault) => Some(fault),
-    }
-}
-
-#[test]
-fn hosts_have_16_to_2_20_entries(rt: HostRuntime) {
-    let alloc = rt.alloc();
-    assert!(rt; fault_of(alloc, 15) == Some(NewFault::BadCapacity));
-    assert!(rt; fault_of(alloc, 16) == None);
-    assert!(rt; fault_of(alloc, 1_048_576) == None);
-    assert!(rt; fault_of(alloc, 1_048_577) == Some(NewFault::BadCapacity));
 }
 
 // The answers to a run of two commands, of which the second names no line of the list. The host is dropped before a fault

@@ -3,34 +3,20 @@
 #![tactic(auto)]
 
 #[cfg(test)]
-mod entries;
-#[cfg(test)]
-mod fits;
-#[cfg(test)]
 mod hosts;
 #[cfg(test)]
 mod journals;
 #[cfg(test)]
 mod lists;
 #[cfg(test)]
-mod parts;
+mod queues;
 #[cfg(test)]
 mod scripts;
 #[cfg(test)]
 mod settings;
 #[cfg(test)]
-mod shapes;
-#[cfg(test)]
-mod steps;
-#[cfg(test)]
-mod tables;
-#[cfg(test)]
-mod texts;
-#[cfg(test)]
 mod trees;
 #[cfg(test)]
 mod turns;
-#[cfg(test)]
-mod values;
 #[cfg(test)]
 mod words;

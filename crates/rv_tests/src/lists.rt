@@ -1,16 +1,8 @@
-//! What the definitions mean, on small lists. Lists of 512 and 513 lines are rows.
+//! What `decide` and changed lists give, each once. Texts that are lists or none, and lists of 512 and 513 lines, are rows.
 
-use rv_access::{AccessList, Line, ListFault, decide, read_line, read_list};
+use rv_access::{AccessList, Line, decide, read_line, read_list};
 use std::alloc::Global;
 use std::test::Fail;
-
-// The fault of a text, or `None` where it is a list.
-fn fault_of(alloc: Global, text: &str) -> Option<ListFault> {
-    match read_list(alloc, text) {
-        Ok(_) => None,
-        Err(fault) => Some(fault),
-    }
-}
 
 // The list of a text.
 fn listing(alloc: Global, text: &str) -> Result<AccessList, Fail> {
@@ -18,40 +10,6 @@ fn listing(alloc: Global, text: &str) -> Result<AccessList, Fail> {
         Ok(list) => Ok(list),
         Err(_) => Err("list".into()),
     }
-}
-
-// Whether a list has these words.
-fn has_words(alloc: Global, list: &AccessList, words: &str) -> bool {
-    match list.text(alloc) {
-        Ok(text) => text.as_str() == words,
-        Err(_) => false,
-    }
-}
-
-#[test]
-fn refuses_other_texts(rt: HostRuntime) {
-    for (text, fault) in [
-        ("\n# x\nALLOW * * *\n", ListFault::BadWord(3)),
-        ("allow a b c", ListFault::BadName(1)),
-        ("allow * * *\ndeny a", ListFault::BadWord(2)),
-        (" # x", ListFault::BadWord(1)),
-        ("allow * * * *", ListFault::BadWord(1)),
-        ("deny a_ * *", ListFault::BadName(1)),
-        ("deny * * a.b", ListFault::BadName(1)),
-    ] {
-        assert!(rt; fault_of(rt.alloc(), text) == Some(fault), "at {text:?}");
-    }
-}
-
-#[test]
-fn reads_lists(rt: HostRuntime) -> Result<(), Fail> {
-    let alloc = rt.alloc();
-    let text = " allow\tNav  Plant.Valve Get \r\n\n#deny\ndeny * PLANT.valve *";
-    let list = listing(alloc, text)?;
-    assert!(rt; list.len() == 2);
-    let words = "allow Nav Plant.Valve Get; deny * PLANT.valve *";
-    assert!(rt; has_words(alloc, &list, words));
-    Ok(())
 }
 
 #[test]

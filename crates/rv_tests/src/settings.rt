@@ -1,15 +1,7 @@
-//! Settings as they are read.
+//! The devices of settings, which `play` and `check` read and don't start.
 
-use rv_settings::{SettingsFault, read_settings};
+use rv_settings::read_settings;
 use std::test::Fail;
-
-#[test]
-fn settings_have_defaults(rt: HostRuntime) -> Result<(), Fail> {
-    let settings = read_settings(rt.alloc(), "").or(Err("settings"))?;
-    assert!(rt; settings.capacity() == 4096 && settings.budget() == 1000);
-    assert!(rt; settings.devices().is_empty());
-    Ok(())
-}
 
 #[test]
 fn settings_have_devices(rt: HostRuntime) -> Result<(), Fail> {
@@ -22,12 +14,4 @@ fn settings_have_devices(rt: HostRuntime) -> Result<(), Fail> {
     assert!(rt; device.priority() == 5 && device.calls() == 3);
     assert!(rt; device.object() == "Plant.Valve" && device.operation() == "Get");
     Ok(())
-}
-
-#[test]
-fn settings_are_refused(rt: HostRuntime) {
-    match read_settings(rt.alloc(), "capacity") {
-        Err(fault) => assert!(rt; fault == SettingsFault::NotToml),
-        Ok(_) => panic!(rt; "read"),
-    }
 }
