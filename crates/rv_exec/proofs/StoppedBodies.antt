@@ -1,5 +1,5 @@
 -- Bodies and tasks stop only by an answer.
-use Rattle.std.proofs.Common.{◌≡◌, ◌⊎◌, inl, inr, ℕ, zero, suc, ℤ, pos, List, [], ◌∷◌, Bool, true, false, cond, refl, sym, ap, ◌∙◌, subst, Option, Some, None, Result, Ok, Err}
+use Rattle.std.proofs.Common.{◌≡◌, ◌⊎◌, inl, inr, ℕ, zero, suc, ℤ, pos, List, [], ◌∷◌, Bool, true, false, cond, refl, sym, ap, ◌∙◌, subst, Option, Some, None, Ok, Err}
 use Rattle.std.specs.Prelude.{replicate}
 use Rattle.rv_event.specs.declared.entry.Answer.{Answer}
 use Rattle.rv_event.specs.declared.entry.Answer.TheVariants as answer
@@ -15,7 +15,6 @@ use Rattle.rv_code.specs.Statements.{Statements}
 use Rattle.rv_exec.specs.declared.activation.Activation.{Activation}
 use Rattle.rv_exec.specs.declared.end.Asked.{Asked}
 use Rattle.rv_exec.specs.declared.end.Asked.TheVariants as asked
-use Rattle.rv_exec.specs.declared.end.Cause.{Cause}
 use Rattle.rv_exec.specs.declared.end.Cause.TheVariants as cause
 use Rattle.rv_exec.specs.declared.end.End.{End}
 use Rattle.rv_exec.specs.declared.end.End.TheVariants as end
@@ -23,16 +22,16 @@ use Rattle.rv_exec.specs.declared.end.Reply.{Reply}
 use Rattle.rv_exec.specs.declared.end.Reply.TheVariants as reply
 use Rattle.rv_exec.specs.Asking.{Trace, Asking, ended, asking, and_then, Along}
 use Rattle.rv_exec.specs.Activations.{assigned, bound, opened, given_back}
-use Rattle.rv_exec.specs.Blocks.{elaborated, in_handler, raised, handling, handled_by, handled, block, function_outcome, procedure_outcome, outcome_of, closed, body_meaning, inner_at, performed, outer_at, exits, operation_run, world}
+use Rattle.rv_exec.specs.Blocks.{elaborated, in_handler, handling, handled, block, function_outcome, procedure_outcome, outcome_of, closed, body_meaning, inner_at, performed, outer_at, exits, world}
 use Rattle.rv_exec.specs.Bodies.{operation_of, task_of}
-use Rattle.rv_exec.specs.Calls.{Outcome, request_of, replied, resumed, settled, asks, is_past, reached, exit_of, seen, completed, end_of, completes}
+use Rattle.rv_exec.specs.Calls.{Outcome, request_of, replied, resumed, settled, asks, is_past, reached, exit_of, completed, end_of, completes}
 use Rattle.rv_exec.specs.Choices.{handler_of}
-use Rattle.rv_exec.specs.Expressions.{on_value, value}
-use Rattle.rv_exec.specs.Statements.{abandons, go_on, meanings}
-use Rattle.rv_exec.specs.Stops.{is_final, is_stopped, stops_at_once, EndsNot, Stops, unwinds, Unwinds, StopsIn, BodiesStopBy, TasksStopBy}
-use Rattle.rv_exec.specs.Tasks.{task_setting, is_stuck, quits, over, task_meaning, task_run}
-use Rattle.rv_exec.specs.World.{World, Run}
-use Rattle.rv_exec.proofs.Stopping.{by_stop, stopped_result, stopped_got, stopped_end, stopped_run, Sound, Quiet, Follows, sound_end, quiet_end, follows_end, sound_where, sound_if, sound_then, sound_in_run, sound_run, follows_run}
+use Rattle.rv_exec.specs.Expressions.{value}
+use Rattle.rv_exec.specs.Statements.{go_on, meanings}
+use Rattle.rv_exec.specs.Stops.{is_final, is_stopped, stops_at_once, EndsNot, Stops, unwinds, StopsIn, BodiesStopBy, TasksStopBy}
+use Rattle.rv_exec.specs.Tasks.{task_setting, quits, over, task_meaning}
+use Rattle.rv_exec.specs.World.{World}
+use Rattle.rv_exec.proofs.Stopping.{stopped_result, stopped_got, stopped_end, stopped_run, Sound, Quiet, Follows, sound_end, quiet_end, follows_end, sound_where, sound_if, sound_then, sound_in_run, sound_run, follows_run}
 use Rattle.rv_exec.proofs.StoppedValues.{SoundWorld, value_sound}
 use Rattle.rv_exec.proofs.StoppedStatements.{assigned_goes, statements_sound}
 

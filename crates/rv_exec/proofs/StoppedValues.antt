@@ -14,10 +14,9 @@ use Rattle.rv_value.specs.Arithmetic.{whole, divided, modulus}
 use Rattle.std.specs.Prelude.{pos, negsuc, neg_ℤ, unsigned_abs, ◌+ℤ◌, ◌-ℤ◌, ◌*ℤ◌}
 use Rattle.std.specs.Int.RustNames.{int_div, int_rem}
 use Rattle.rv_exec.specs.declared.activation.Activation.{Activation}
-use Rattle.rv_exec.specs.declared.end.Cause.{Cause}
 use Rattle.rv_exec.specs.declared.end.Cause.TheVariants as cause
-use Rattle.rv_exec.specs.Asking.{Asking, ended, and_then}
-use Rattle.rv_exec.specs.Operators.{checked, in_bounds, within, time, prefix_of, decides, result_of}
+use Rattle.rv_exec.specs.Asking.{Asking, and_then}
+use Rattle.rv_exec.specs.Operators.{checked, in_bounds, within, prefix_of, decides, result_of}
 use Rattle.rv_exec.specs.Activations.{joined, spent}
 use Rattle.rv_exec.specs.Calls.{Outcome, internal}
 use Rattle.rv_exec.specs.Expressions.{on_value, fails, returned, answered, asked_by, called_by, called, passing, given, value, linked, arguments}

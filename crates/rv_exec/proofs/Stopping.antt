@@ -1,10 +1,6 @@
 -- Stops of runs, one after another.
-use Rattle.std.proofs.Common.{◌≡◌, ◌⊎◌, inl, inr, List, [], ◌∷◌, ◌++◌, Bool, true, false, cond, refl, sym, ap, ◌∙◌, subst, Result, Ok, Err, ℤ}
-use Rattle.rv_event.specs.declared.entry.Answer.{Answer}
-use Rattle.rv_event.specs.declared.entry.Request.{Request}
+use Rattle.std.proofs.Common.{◌≡◌, inl, inr, [], ◌∷◌, ◌++◌, Bool, true, false, cond, refl, sym, ap, ◌∙◌, subst, Result, Ok, Err}
 use Rattle.rv_exec.specs.declared.activation.Activation.{Activation}
-use Rattle.rv_exec.specs.declared.end.Asked.{Asked}
-use Rattle.rv_exec.specs.declared.end.Asked.TheVariants as asked
 use Rattle.rv_exec.specs.declared.end.Cause.{Cause}
 use Rattle.rv_exec.specs.declared.end.Cause.TheVariants as cause
 use Rattle.rv_exec.specs.declared.end.End.{End}
@@ -12,7 +8,7 @@ use Rattle.rv_exec.specs.declared.end.End.TheVariants as end
 use Rattle.rv_exec.specs.Asking.{Trace, Asking, ended, asking, and_then, Along}
 use Rattle.rv_exec.specs.Expressions.{on_value, fails}
 use Rattle.rv_exec.specs.Statements.{abandons, go_on, again}
-use Rattle.rv_exec.specs.Stops.{Stops, StopsIn, Unwinds}
+use Rattle.rv_exec.specs.Stops.{StopsIn, Unwinds}
 use Rattle.rv_exec.specs.World.{Run}
 
 -- Which ends are stops
