@@ -24,7 +24,7 @@ use Rattle.rv_exec.specs.Asking.{Trace, Asking, ended, asking, and_then, Along}
 use Rattle.rv_exec.specs.Activations.{assigned, bound, opened, given_back}
 use Rattle.rv_exec.specs.Blocks.{elaborated, in_handler, handling, handled, block, function_outcome, procedure_outcome, outcome_of, closed, body_meaning, inner_at, performed, outer_at, exits, world}
 use Rattle.rv_exec.specs.Bodies.{operation_of, task_of}
-use Rattle.rv_exec.specs.Calls.{Outcome, request_of, replied, resumed, settled, asks, is_past, reached, exit_of, completed, end_of, completes}
+use Rattle.rv_exec.specs.Calls.{Outcome, internal, request_of, replied, resumed, settled, asks, is_past, reached, exit_of, completed, end_of, completes}
 use Rattle.rv_exec.specs.Choices.{handler_of}
 use Rattle.rv_exec.specs.Expressions.{value}
 use Rattle.rv_exec.specs.Statements.{go_on, meanings}
@@ -89,7 +89,7 @@ body_sound w k (Some body) values components steps =
     sound_then stopped_run stopped_got (block w body (opened (bound body.parameters 0 0 values (replicate 68 (pos 0))) components steps 0)) (closed body)
     (block_sound w k body (opened (bound body.parameters 0 0 values (replicate 68 (pos 0))) components steps 0)) (follows_closed body)
 
-inner_sound : (bodies : UnitBodies) (object : ℕ) (outer : Callee → List ℤ → Asking Outcome) → ((c : Callee) (values : List ℤ) → Sound stopped_result (outer c values)) → (nested operation : ℕ) (values components : List ℤ) (steps : ℕ) → Sound stopped_got (inner_at bodies object outer nested operation values components steps)
+inner_sound : (bodies : UnitBodies) (object : ℕ) (outer : Callee → List ℤ → Asking Outcome) → ((c : Callee) (values : List ℤ) → internal c ≡ None → Sound stopped_result (outer c values)) → (nested operation : ℕ) (values components : List ℤ) (steps : ℕ) → Sound stopped_got (inner_at bodies object outer nested operation values components steps)
 unfolding inner_at
 inner_sound bodies object outer f zero operation values components steps = sound_end stopped_got (Err cause.Overrun, (components, steps)) refl
 inner_sound bodies object outer f (suc nested) operation values components steps =
@@ -98,38 +98,37 @@ inner_sound bodies object outer f (suc nested) operation values components steps
 
 -- Requests
 
-
 final_or : {X : Type 0} (k : Bool) (r : Answer) → is_final r ≡ k → (is_final r ≡ false → X) → (is_final r ≡ true) ⊎ X
 final_or true r e f = inl e
 final_or false r e f = inr (f e)
 
-stops_first : (c : Callee) (values : List ℤ) (q : Request) (r : Answer) → request_of c values ≡ q → stops_at_once (replied c r) ≡ true → Stops q r
-stops_first c values q r e s = final_or (is_final r) r refl (λ f. inr (f, c, inl (values, sym e, s)))
+stops_first : (c : Callee) (values : List ℤ) (q : Request) (r : Answer) → internal c ≡ None → request_of c values ≡ q → stops_at_once (replied c r) ≡ true → Stops q r
+stops_first c values q r n e s = final_or (is_final r) r refl (λ f. inr (f, c, n, inl (values, sym e, s)))
 
-stops_later : (c : Callee) (q : Request) (r : Answer) → request.Resume ≡ q → is_stopped (resumed c r) ≡ true → Stops q r
-stops_later c q r e s = final_or (is_final r) r refl (λ f. inr (f, c, inr (sym e, s)))
+stops_later : (c : Callee) (q : Request) (r : Answer) → internal c ≡ None → request.Resume ≡ q → is_stopped (resumed c r) ≡ true → Stops q r
+stops_later c q r n e s = final_or (is_final r) r refl (λ f. inr (f, c, n, inr (sym e, s)))
 
 no_stop : {X : Type 0} → false ≡ true → X
 no_stop e = absurd (cc e)
 
-stops_resumed : (c : Callee) (trace : Trace) (what : Asked) → Along (asking request.Resume (λ r. ended (resumed c r))) trace what → is_stopped what ≡ true → StopsIn trace
-stops_resumed c [] what h s = absurd h
-stops_resumed c (pair ∷ []) what h s = inl (stops_later c pair.0 pair.1 h.0 (ap is_stopped h.1 ∙ s), tt)
-stops_resumed c (pair ∷ two ∷ more) what h s = absurd h.1
+stops_resumed : (c : Callee) (trace : Trace) (what : Asked) → internal c ≡ None → Along (asking request.Resume (λ r. ended (resumed c r))) trace what → is_stopped what ≡ true → StopsIn trace
+stops_resumed c [] what n h s = absurd h
+stops_resumed c (pair ∷ []) what n h s = inl (stops_later c pair.0 pair.1 n h.0 (ap is_stopped h.1 ∙ s), tt)
+stops_resumed c (pair ∷ two ∷ more) what n h s = absurd h.1
 
-stops_settled : (c : Callee) (values : List ℤ) (q : Request) (r : Answer) (how : Reply) (more : Trace) (what : Asked) → replied c r ≡ how → request_of c values ≡ q → Along (settled c how) more what → is_stopped what ≡ true → StopsIn ((q, r) ∷ more)
-stops_settled c values q r (reply.Settled other) [] what is e h s = inl (stops_first c values q r e (ap stops_at_once is ∙ (ap is_stopped h ∙ s)), tt)
-stops_settled c values q r (reply.Settled other) (pair ∷ more) what is e h s = absurd h
-stops_settled c values q r reply.Waits more what is e h s = inr (stops_resumed c more what h s)
+stops_settled : (c : Callee) (values : List ℤ) (q : Request) (r : Answer) (how : Reply) (more : Trace) (what : Asked) → internal c ≡ None → replied c r ≡ how → request_of c values ≡ q → Along (settled c how) more what → is_stopped what ≡ true → StopsIn ((q, r) ∷ more)
+stops_settled c values q r (reply.Settled other) [] what n is e h s = inl (stops_first c values q r n e (ap stops_at_once is ∙ (ap is_stopped h ∙ s)), tt)
+stops_settled c values q r (reply.Settled other) (pair ∷ more) what n is e h s = absurd h
+stops_settled c values q r reply.Waits more what n is e h s = inr (stops_resumed c more what n h s)
 
-asks_sound : (c : Callee) (values : List ℤ) → Sound is_stopped (asks c values)
-asks_sound c values [] what h s = absurd h
-asks_sound c values (pair ∷ more) what h s = stops_settled c values pair.0 pair.1 (replied c pair.1) more what refl h.0 h.1 s
+asks_sound : (c : Callee) (values : List ℤ) → internal c ≡ None → Sound is_stopped (asks c values)
+asks_sound c values n [] what h s = absurd h
+asks_sound c values n (pair ∷ more) what h s = stops_settled c values pair.0 pair.1 (replied c pair.1) more what n refl h.0 h.1 s
 
-reached_sound : (held : ℕ) (c : Callee) (values : List ℤ) → Sound is_stopped (reached held c values)
+reached_sound : (held : ℕ) (c : Callee) (values : List ℤ) → internal c ≡ None → Sound is_stopped (reached held c values)
 unfolding reached
-reached_sound held c values = sound_if (is_past held c) is_stopped (ended (asked.Abandoned (cause.Raised ProgramError))) (asks c values)
-    (sound_end is_stopped (asked.Abandoned (cause.Raised ProgramError)) refl) (asks_sound c values)
+reached_sound held c values n = sound_if (is_past held c) is_stopped (ended (asked.Abandoned (cause.Raised ProgramError))) (asks c values)
+    (sound_end is_stopped (asked.Abandoned (cause.Raised ProgramError)) refl) (asks_sound c values n)
 
 -- The ends of bodies
 
@@ -191,17 +190,17 @@ follows_performed perform f (asked.Abandoned (cause.Raised exception)) = sound_e
 follows_performed perform f (asked.Abandoned cause.Overrun) = sound_end stopped_result (Err cause.Overrun) refl
 follows_performed perform f (asked.Abandoned (cause.Stopped is_idle)) = quiet_end (Err (cause.Stopped is_idle))
 
-outer_sound : (bodies : UnitBodies) (held : ℕ) (c : Callee) (values : List ℤ) → Sound stopped_result (outer_at bodies held c values)
+outer_sound : (bodies : UnitBodies) (held : ℕ) (c : Callee) (values : List ℤ) → internal c ≡ None → Sound stopped_result (outer_at bodies held c values)
 unfolding outer_at
-outer_sound bodies zero c values =
-    sound_then is_stopped stopped_result (reached zero c values) (performed (λ object operation is_function components. ended (Err (cause.Raised ProgramError)))) (reached_sound zero c values)
+outer_sound bodies zero c values n =
+    sound_then is_stopped stopped_result (reached zero c values) (performed (λ object operation is_function components. ended (Err (cause.Raised ProgramError)))) (reached_sound zero c values n)
     (follows_performed (λ object operation is_function components. ended (Err (cause.Raised ProgramError))) (λ object operation is_function components. sound_end stopped_result (Err (cause.Raised ProgramError)) refl))
-outer_sound bodies (suc held) c values =
+outer_sound bodies (suc held) c values n =
     sound_then is_stopped stopped_result (reached (suc held) c values)
-    (performed (λ object operation is_function components. and_then (inner_at bodies object (outer_at bodies held) 65 operation values components 100000) (completes is_function))) (reached_sound (suc held) c values)
+    (performed (λ object operation is_function components. and_then (inner_at bodies object (outer_at bodies held) 65 operation values components 100000) (completes is_function))) (reached_sound (suc held) c values n)
     (follows_performed (λ object operation is_function components. and_then (inner_at bodies object (outer_at bodies held) 65 operation values components 100000) (completes is_function))
     (λ object operation is_function components. sound_then stopped_got stopped_result (inner_at bodies object (outer_at bodies held) 65 operation values components 100000) (completes is_function)
-    (inner_sound bodies object (outer_at bodies held) (λ d v. outer_sound bodies held d v) 65 operation values components 100000) (follows_completed is_function)))
+    (inner_sound bodies object (outer_at bodies held) (λ d v m. outer_sound bodies held d v m) 65 operation values components 100000) (follows_completed is_function)))
 
 -- Bodies, and tasks
 
@@ -223,7 +222,7 @@ follows_exits (Err (cause.Stopped is_idle), (components, steps)) = quiet_end (ex
 pub bodies_stop_by : BodiesStopBy
 bodies_stop_by bodies object operation values components left trace h =
     sound_then stopped_got stopped_ended (inner_at bodies object (outer_at bodies 15) 65 operation values components 100000) exits
-    (inner_sound bodies object (outer_at bodies 15) (λ c v. outer_sound bodies 15 c v) 65 operation values components 100000) follows_exits trace (exit.Stopped, left) h refl
+    (inner_sound bodies object (outer_at bodies 15) (λ c v n. outer_sound bodies 15 c v n) 65 operation values components 100000) follows_exits trace (exit.Stopped, left) h refl
 
 quit_sound : (x : Exit) → stopped_exit x ≡ false → Sound stopped_exit (asking request.Quit (λ r. ended x))
 quit_sound x e [] last h s = absurd h
@@ -248,8 +247,8 @@ follows_over body (e, a) =
 
 task_world : (bodies : UnitBodies) → SoundWorld (world bodies task_setting)
 task_world bodies = record {
-  inner = λ o v c s. inner_sound bodies 0 (outer_at bodies 16) (λ d u. outer_sound bodies 16 d u) 65 o v c s;
-  outer = λ c v. outer_sound bodies 16 c v;
+  inner = λ o v c s. inner_sound bodies 0 (outer_at bodies 16) (λ d u n. outer_sound bodies 16 d u n) 65 o v c s;
+  outer = λ c v n. outer_sound bodies 16 c v n;
 }
 
 task_sound : (bodies : UnitBodies) (o : Option Body) (requests : ℕ) → Sound stopped_exit (task_meaning bodies o requests)

@@ -87,6 +87,7 @@ each_sound is_reverse range slot body low high a g =
 module _ (w : World) (k : SoundWorld w) where
   mutual
     unfolding meaning
+
     statement_sound : (s : Statement) (a : Activation) → Sound stopped_run (meaning w s a)
     statement_sound null_statement a = sound_end stopped_run (end.Next, a) refl
     statement_sound (assign target e) a = sound_in_run (value w e a) (λ v b. ended (assigned target v b)) (value_sound w k e a) (λ v b. sound_end stopped_run (assigned target v b) (assigned_goes target v b))

@@ -67,7 +67,7 @@ result_goes operator.GreaterEqual v u = refl
 -- a world whose calls stop only by an answer
 pub record SoundWorld (w : World) : Type 0 where
   pub inner : (operation : ℕ) (values components : List ℤ) (steps : ℕ) → Sound stopped_got (w.inner operation values components steps)
-  pub outer : (c : Callee) (values : List ℤ) → Sound stopped_result (w.outer c values)
+  pub outer : (c : Callee) (values : List ℤ) → internal c ≡ None → Sound stopped_result (w.outer c values)
 
 follows_returned : (a : Activation) (got : Outcome × (List ℤ × ℕ)) → Follows (stopped_got got) stopped_got (returned a got)
 follows_returned a (outcome, (components, steps)) = follows_end (stopped_result outcome) stopped_got (outcome, record a { components = components; steps = steps }) refl
@@ -80,23 +80,24 @@ module _ (w : World) (k : SoundWorld w) where
   follows_answered : (a : Activation) (outcome : Outcome) → Follows (stopped_result outcome) stopped_got (answered w a outcome)
   follows_answered a outcome = follows_end (stopped_result outcome) stopped_got _ refl
 
-  asked_sound : (c : Callee) (values : List ℤ) (a : Activation) (o : Option Activation) → Sound stopped_got (asked_by w c values a o)
-  asked_sound c values a None = sound_end stopped_got _ refl
-  asked_sound c values a (Some b) = sound_then stopped_result stopped_got (w.outer c values) (answered w b) (k.outer c values) (follows_answered b)
+  asked_sound : (c : Callee) (values : List ℤ) (a : Activation) (o : Option Activation) → internal c ≡ None → Sound stopped_got (asked_by w c values a o)
+  asked_sound c values a None e = sound_end stopped_got _ refl
+  asked_sound c values a (Some b) e = sound_then stopped_result stopped_got (w.outer c values) (answered w b) (k.outer c values e) (follows_answered b)
 
-  called_so : (o : Option ℕ) (c : Callee) (values : List ℤ) (a : Activation) → Sound stopped_got (called_by w o c values a)
-  called_so (Some operation) c values a = sound_then stopped_got stopped_got (w.inner operation values a.components a.steps) (returned a) (k.inner operation values a.components a.steps) (follows_returned a)
-  called_so None c values a = asked_sound c values a (spent w.is_task a)
+  called_so : (o : Option ℕ) (c : Callee) (values : List ℤ) (a : Activation) → internal c ≡ o → Sound stopped_got (called_by w o c values a)
+  called_so (Some operation) c values a e = sound_then stopped_got stopped_got (w.inner operation values a.components a.steps) (returned a) (k.inner operation values a.components a.steps) (follows_returned a)
+  called_so None c values a e = asked_sound c values a (spent w.is_task a) e
 
   called_sound : (c : Callee) (values : List ℤ) (a : Activation) → Sound stopped_got (called w c values a)
   unfolding called
-  called_sound c values a = called_so (internal c) c values a
+  called_sound c values a = called_so (internal c) c values a refl
 
   pub passing_sound : (c : Callee) (what : Asking GotAll) → Sound stopped_got what → Sound stopped_got (passing w c what)
   passing_sound c what f = sound_value what (called w c) f (λ values a. called_sound c values a)
 
   mutual
     unfolding value
+
     pub value_sound : (e : Expression) (a : Activation) → Sound stopped_got (value w e a)
     value_sound (literal n) a = sound_end stopped_got _ refl
     value_sound (variable slot) a = sound_end stopped_got _ refl

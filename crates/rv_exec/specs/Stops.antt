@@ -1,5 +1,5 @@
 -- Why a run stops (own).
-use Rattle.std.specs.Prelude.{◌≡◌, ◌⊎◌, ℕ, ℤ, Bool, true, false, List, [], ◌∷◌}
+use Rattle.std.specs.Prelude.{◌≡◌, ◌⊎◌, ℕ, ℤ, Bool, true, false, List, [], ◌∷◌, None}
 use Rattle.rv_code.specs.declared.expression.Callee.{Callee}
 use Rattle.rv_code.specs.Bodies.{UnitBodies}
 use Rattle.rv_event.specs.declared.entry.Answer.{Answer}
@@ -14,7 +14,7 @@ use Rattle.rv_exec.specs.declared.end.Reply.{Reply}
 use Rattle.rv_exec.specs.declared.end.Reply.TheVariants as reply
 use Rattle.rv_exec.specs.Asking.{Trace, Along}
 use Rattle.rv_exec.specs.Blocks.{operation_run}
-use Rattle.rv_exec.specs.Calls.{request_of, replied, resumed}
+use Rattle.rv_exec.specs.Calls.{internal, request_of, replied, resumed}
 use Rattle.rv_exec.specs.Tasks.{task_run}
 
 -- the answers behind which nothing goes on, whatever was asked: the host is halted, or has no room
@@ -31,11 +31,12 @@ abbrev pub stops_at_once : Reply → Bool
 stops_at_once (reply.Settled what) = is_stopped what
 stops_at_once reply.Waits = false
 
--- an answer of a form that isn't given to such a request of a callee, or to its resume
+-- an answer of a form that the host doesn't give to such a request of a callee, or to its resume
 abbrev pub IsUnfit : Request → Answer → Type 0
 IsUnfit request answer =
     (is_final answer ≡ false)
     × (c : Callee)
+    × (internal c ≡ None)
     × (((values : List ℤ) × (request ≡ request_of c values) × (stops_at_once (replied c answer) ≡ true))
     ⊎ ((request ≡ requests.Resume) × (is_stopped (resumed c answer) ≡ true)))
 
