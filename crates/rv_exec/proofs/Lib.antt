@@ -8,3 +8,7 @@ pub mod Smaller
 pub mod BodyForms
 pub mod Steps
 pub mod Replays
+pub mod Stopping
+pub mod StoppedValues
+pub mod StoppedStatements
+pub mod StoppedBodies

@@ -11,3 +11,4 @@ pub mod Blocks
 pub mod Sizes
 pub mod Tasks
 pub mod Next
+pub mod Stops

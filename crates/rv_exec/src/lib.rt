@@ -7,6 +7,7 @@ pub mod asks;
 pub mod bodies;
 pub mod choices;
 pub mod end;
+pub mod laws;
 pub mod machine;
 pub mod operators;
 pub mod outcome;
