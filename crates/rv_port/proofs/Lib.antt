@@ -6,6 +6,7 @@ pub mod Gets
 pub mod Later
 pub mod Resuming
 pub mod Performing
+pub mod Stopped
 pub mod Tying
 pub mod Controls
 pub mod Bodies

@@ -3,6 +3,7 @@ use Rattle.std.proofs.Common.{◌≡◌, ◌⊎◌, ℕ, ◌≤◌, Bool, true, 
 use Rattle.std.specs.Prelude.{ℤ}
 use Rattle.std.proofs.lemmas.List.{reverse-append, reverse-reverse}
 use Rattle.rv_code.specs.Bodies.{UnitBodies}
+use Rattle.rv_exec.specs.Stops.{StopsIn}
 use Rattle.rv_event.specs.Past.{stance, until_then}
 use Rattle.rv_event.specs.declared.entry.Request.{Request}
 use Rattle.rv_event.specs.declared.entry.Request.TheVariants.{Call, Complete, Resume, DelayUntil, Clock, Fire, Quit, Tick, Halt}
@@ -29,12 +30,13 @@ use Rattle.rv_port.specs.Events.{marks, history_at, catalogue_of, called}
 use Rattle.rv_port.specs.Later.{version_seen}
 use Rattle.rv_port.specs.Traces.{Passing, capacity_in, Trace, noted, WoreOut, Went, Asked, asks_on}
 use Rattle.rv_port.specs.Reaching.{Performs, arguments_of, reads, values_of, reached_by, end_of, waits_on, waited_for}
-use Rattle.rv_port.specs.Calls.{Wore, RanOn, Resumed, Waited, Followed, Performed, IsPause, Opens, IsNew, InBody, EndedBy, stops_at, StoppedAsking, Stays, Tied}
+use Rattle.rv_port.specs.Calls.{Wore, RanOn, Resumed, Waited, Followed, Performed, IsPause, Opens, IsNew, InBody, EndedBy, stops_at, StoppedAsking, StoppedInside, Stays, Tied}
 use Rattle.rv_port.proofs.Actors.{handler_later}
 use Rattle.rv_port.proofs.Asking.{asked_later}
 use Rattle.rv_port.proofs.Gets.{calls, delays, of_first, first_gets, of_end, end_gets, of_resume, resume_gets}
 use Rattle.rv_port.proofs.Later.{version_later, is_handed, HandOverIn, handed_in, waits_still, dropped_later, refused_resume, woken_handed}
 use Rattle.rv_port.proofs.Performing.{asked_actor, stays_self, stays_both, went_stays, asked_stays}
+use Rattle.rv_port.proofs.Stopped.{StopAt, stop_at, runs_stop}
 use Rattle.rv_port.proofs.Resuming.{in_queue, paused, waits, queue_waits, pause_waits, is_sound, is_named, in_queue_at, paused_at, resume_sound, queue_wakes, pause_unnamed}
 use Rattle.rv_turn.specs.Histories.{StartsWith, mine}
 use Rattle.rv_turn.specs.Prefixes.{starts_both}
@@ -150,7 +152,7 @@ record NoEnd (u w : Passing) : Type 0 where
 abbrev RanTo : Passing → Reached → Passing → Type 0
 RanTo u (Reaches.Returned values) w = LastEnd u (Exits.Return values) w
 RanTo u (Reaches.Raised exception) w = (exit : Exit) × (reached_by exit ≡ Reaches.Raised exception) × LastEnd u exit w
-RanTo u Reaches.Stopped w = NoEnd u w ⊎ LastEnd u Exits.Stopped w
+RanTo u Reaches.Stopped w = NoEnd u w ⊎ ((t : LastEnd u Exits.Stopped w) × StopAt u t.asked)
 RanTo u reached w = ⊥
 
 ended_by : (v u w : Passing) (q : Request) (exit : Exit) → Opened v q u → LastEnd u exit w → EndedBy v q exit w
@@ -186,10 +188,27 @@ no_end v u w q o t = record {
   reason = t.reason;
 }
 
+stopped_inside : (v u w : Passing) (q : Request) → Opened v q u → (t : LastEnd u Exits.Stopped w) → StopAt u t.asked → StoppedInside v q w
+unfolding ended_by
+stopped_inside v u w q o t s = record {
+  ended = ended_by v u w q Exits.Stopped o t;
+  before = s.before;
+  asker = s.asker;
+  inside = in_body v u s.asker q s.before o s.went;
+  same = stays_both v u s.asker o.stays (went_stays u s.asker s.before s.went);
+  request = s.request;
+  answer = s.answer;
+  after = s.after;
+  reason = s.reason;
+  behind = s.behind;
+  unwinds = s.unwinds;
+  asked_is = s.asked_is;
+}
+
 tied_body : (v u w : Passing) (q : Request) (reached : Reached) → Opened v q u → RanTo u reached w → Tied v q reached w
 tied_body v u w q (Reaches.Returned values) o t = inl (ended_by v u w q (Exits.Return values) o t)
 tied_body v u w q (Reaches.Raised e) o t = (t.0, t.1, ended_by v u w q t.0 o t.2)
-tied_body v u w q Reaches.Stopped o t = ⊎_elim (λ none. inl (no_end v u w q o none)) (λ l. inr (ended_by v u w q Exits.Stopped o l)) t
+tied_body v u w q Reaches.Stopped o t = ⊎_elim (λ none. inl (no_end v u w q o none)) (λ l. inr (stopped_inside v u w q o l.0 l.1)) t
 tied_body v u w q (Reaches.Refused rule line version) o t = absurd t
 tied_body v u w q Reaches.Misuse o t = absurd t
 
@@ -203,33 +222,34 @@ done_last u w trace k scalars exit next p x = record {
   later = starts_both u.seen k.seen w.seen p.later (asked_later k w _ _ x);
 }
 
-by_exit : (u w : Passing) (exit : Exit) → LastEnd u exit w → RanTo u (reached_by exit) w
-by_exit u w (Exits.Return values) t = t
-by_exit u w (Exits.Raise e) t = (Exits.Raise e, refl, t)
-by_exit u w Exits.Overrun t = (Exits.Overrun, refl, t)
-by_exit u w Exits.Stopped t = inr t
+by_exit : (u w : Passing) (exit : Exit) (t : LastEnd u exit w) → (exit ≡ Exits.Stopped → StopAt u t.asked) → RanTo u (reached_by exit) w
+by_exit u w (Exits.Return values) t f = t
+by_exit u w (Exits.Raise e) t f = (Exits.Raise e, refl, t)
+by_exit u w Exits.Overrun t f = (Exits.Overrun, refl, t)
+by_exit u w Exits.Stopped t f = inr (t, f refl)
 
 -- the answer to its end stops the call
 stopped_end : (u w : Passing) (trace : Trace) (k : Passing) (scalars : List ℤ) (exit : Exit) (d : Answer) → Went u trace k → Asked k (Complete scalars exit) d w → stops_at (Complete scalars exit) d ≡ true → NoEnd u w
 stopped_end u w trace k scalars exit d p x e = record { asked = trace; body = k; went = p; scalars = scalars; exit = exit; reason = inr (d, x, e) }
 
-ran_end : (u w : Passing) (trace : Trace) (k : Passing) (scalars : List ℤ) (exit : Exit) (d : Answer) → Went u trace k → Asked k (Complete scalars exit) d w → of_end d ≡ true → RanTo u (end_of d exit) w
-ran_end u w trace k scalars exit (Answers.Done next) p x e = by_exit u w exit (done_last u w trace k scalars exit next p x)
-ran_end u w trace k scalars exit Answers.Misuse p x e = inl (stopped_end u w trace k scalars exit Answers.Misuse p x refl)
-ran_end u w trace k scalars exit Answers.Full p x e = inl (stopped_end u w trace k scalars exit Answers.Full p x refl)
-ran_end u w trace k scalars exit (Answers.Refused rule line version) p x e = absurd (cc e)
-ran_end u w trace k scalars exit (Answers.Accepted value) p x e = absurd (cc e)
-ran_end u w trace k scalars exit (Answers.Woken s) p x e = absurd (cc e)
-ran_end u w trace k scalars exit (Answers.Started s) p x e = absurd (cc e)
-ran_end u w trace k scalars exit Answers.Queued p x e = absurd (cc e)
-ran_end u w trace k scalars exit Answers.Suspended p x e = absurd (cc e)
-ran_end u w trace k scalars exit Answers.Delayed p x e = absurd (cc e)
-ran_end u w trace k scalars exit Answers.Halted p x e = absurd (cc e)
-ran_end u w trace k scalars exit Answers.Busy p x e = absurd (cc e)
-ran_end u w trace k scalars exit Answers.Waiting p x e = absurd (cc e)
-ran_end u w trace k scalars exit Answers.Unattached p x e = absurd (cc e)
-ran_end u w trace k scalars exit Answers.BadLine p x e = absurd (cc e)
-ran_end u w trace k scalars exit Answers.OutOfMemory p x e = absurd (cc e)
+ran_end : (u w : Passing) (trace : Trace) (k : Passing) (scalars : List ℤ) (exit : Exit) (d : Answer) → Went u trace k → Asked k (Complete scalars exit) d w → of_end d ≡ true → (exit ≡ Exits.Stopped → StopsIn trace) → RanTo u (end_of d exit) w
+unfolding done_last
+ran_end u w trace k scalars exit (Answers.Done next) p x e f = by_exit u w exit (done_last u w trace k scalars exit next p x) (λ is. stop_at u trace k (f is) p.steps)
+ran_end u w trace k scalars exit Answers.Misuse p x e f = inl (stopped_end u w trace k scalars exit Answers.Misuse p x refl)
+ran_end u w trace k scalars exit Answers.Full p x e f = inl (stopped_end u w trace k scalars exit Answers.Full p x refl)
+ran_end u w trace k scalars exit (Answers.Refused rule line version) p x e f = absurd (cc e)
+ran_end u w trace k scalars exit (Answers.Accepted value) p x e f = absurd (cc e)
+ran_end u w trace k scalars exit (Answers.Woken s) p x e f = absurd (cc e)
+ran_end u w trace k scalars exit (Answers.Started s) p x e f = absurd (cc e)
+ran_end u w trace k scalars exit Answers.Queued p x e f = absurd (cc e)
+ran_end u w trace k scalars exit Answers.Suspended p x e f = absurd (cc e)
+ran_end u w trace k scalars exit Answers.Delayed p x e f = absurd (cc e)
+ran_end u w trace k scalars exit Answers.Halted p x e f = absurd (cc e)
+ran_end u w trace k scalars exit Answers.Busy p x e f = absurd (cc e)
+ran_end u w trace k scalars exit Answers.Waiting p x e f = absurd (cc e)
+ran_end u w trace k scalars exit Answers.Unattached p x e f = absurd (cc e)
+ran_end u w trace k scalars exit Answers.BadLine p x e f = absurd (cc e)
+ran_end u w trace k scalars exit Answers.OutOfMemory p x e f = absurd (cc e)
 
 ended_so : (v w : Passing) (scalars : List ℤ) (exit : Exit) (d : Answer) → Asked v (Complete scalars exit) d w → of_end d ≡ true
 ended_so v w scalars exit d x = ap of_end x.due_is ∙ end_gets (history_at (capacity_in v.about) x.at) v.actor scalars exit
@@ -237,7 +257,7 @@ ended_so v w scalars exit d x = ap of_end x.due_is ∙ end_gets (history_at (cap
 ran_to : (u w : Passing) (bodies : Option UnitBodies) (b : Begun) (scalars arguments : List ℤ) (reached : Reached) → RanOn bodies u b scalars arguments reached w → RanTo u reached w
 ran_to u w bodies b scalars arguments reached n =
     ⊎_elim (λ wore. subst (λ (z : Reached). RanTo u z w) (sym wore.1) (inl (record { asked = n.trace; body = n.body; went = n.went; scalars = n.ended.scalars; exit = n.ended.exit; reason = inl wore.0 })))
-    (λ t. subst (λ (z : Reached). RanTo u z w) (sym t.3) (ran_end u w n.trace n.body n.ended.scalars n.ended.exit t.0 n.went t.1 (ended_so n.body w n.ended.scalars n.ended.exit t.0 t.1))) n.end_is
+    (λ t. subst (λ (z : Reached). RanTo u z w) (sym t.3) (ran_end u w n.trace n.body n.ended.scalars n.ended.exit t.0 n.went t.1 (ended_so n.body w n.ended.scalars n.ended.exit t.0 t.1) (runs_stop bodies b scalars arguments n.trace n.ended n.runs))) n.end_is
 
 -- What a call came to
 

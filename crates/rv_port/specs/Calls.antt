@@ -1,6 +1,7 @@
 -- What a call on a port did. (own)
 use Rattle.std.specs.Prelude.{◌≡◌, ◌⊎◌, ℕ, ℤ, ◌≤◌, nat_lt, Bool, true, false, List, [], ◌∷◌, ◌++◌, Option, Some, None}
 use Rattle.rv_code.specs.Bodies.{UnitBodies}
+use Rattle.rv_exec.specs.Stops.{IsUnfit, Unwinds}
 use Rattle.rv_event.specs.declared.entry.Request.{Request}
 use Rattle.rv_event.specs.declared.entry.Request.TheVariants.{Call, Complete, Resume, DelayUntil, Quit}
 use Rattle.rv_event.specs.declared.entry.Exit.{Exit}
@@ -21,7 +22,7 @@ use Rattle.rv_port.specs.declared.reached.Reached.TheVariants as Reaches
 use Rattle.rv_port.specs.Events.{catalogue_of, called}
 use Rattle.rv_port.specs.Later.{version_seen}
 use Rattle.rv_turn.specs.Histories.{StartsWith}
-use Rattle.rv_port.specs.Traces.{Passing, Trace, noted, WoreOut, Went, Asked, asks_on}
+use Rattle.rv_port.specs.Traces.{Passing, Trace, told, noted, WoreOut, Went, Asked, asks_on}
 use Rattle.rv_port.specs.Acting.{IsLent}
 use Rattle.rv_port.specs.Bodies.{Runs}
 use Rattle.rv_port.specs.Reaching.{arguments_of, reads, values_of, plain_of, end_of, reached_by, waits_on, waited_for}
@@ -186,13 +187,44 @@ pub record StoppedAsking (v : Passing) (q : Request) (w : Passing) : Type 0 wher
   pub last : LastAsk v q asker request
   pub reason : WoreOut asker request w ⊎ ((d : Answer) × Asked asker request d w × (stops_at request d ≡ true))
 
+-- the answers that stop a body: the host is halted or has no room, or the request doesn't fit (own)
+abbrev pub stops_within : Answer → Bool
+stops_within Answers.Halted = true
+stops_within Answers.Full = true
+stops_within Answers.Misuse = true
+stops_within answer = false
+
+-- Why a request within a body stopped it, which was told this: no act was left, or its answer stops bodies, or is of a form
+-- that isn't given to what was called. (own)
+abbrev pub StopsBody : Passing → Request → Answer → Passing → Type 0
+StopsBody v q r w =
+    (WoreOut v q w × (r ≡ Answers.Full))
+    ⊎ ((d : Answer) × Asked v q d w × (r ≡ told d) × ((stops_within d ≡ true) ⊎ IsUnfit q d))
+
+-- The call's body exited by stopped: so it, or a body inside it, was told behind what it had asked, and behind that come ends
+-- by stopped alone. (own)
+pub record StoppedInside (v : Passing) (q : Request) (w : Passing) : Type 0 where
+  pub ended : EndedBy v q Exits.Stopped w
+  pub before : Trace
+  pub asker : Passing
+  pub inside : InBody v q before asker
+  pub same : Stays v asker
+  pub request : Request
+  pub answer : Answer
+  pub after : Passing
+  pub reason : StopsBody asker request answer after
+  pub behind : Trace
+  pub unwinds : Unwinds behind
+  pub asked_is : ended.asked ≡ before ++ (request, answer) ∷ behind
+
 -- What is reached, by the pass's own last event: a refusal is that very answer, by the list in force in what had been seen or
 -- by a later one; values and exceptions are those of the end of the call's body, or of an answer that starts none. Misuse
--- is the answer to the request, and nothing is new. A call stops at its last ask, or its body exited by stopped. (own)
+-- is the answer to the request, and nothing is new. A call stops at its last ask, or by an answer to a request within its
+-- body. (own)
 abbrev pub Tied : Passing → Request → Reached → Passing → Type 0
 Tied v q (Reaches.Refused rule line version) w =
     Answered v q (Words.Refused rule line version) w × (version_seen v.seen ≤ version)
 Tied v q (Reaches.Returned values) w = Back v q values w
 Tied v q (Reaches.Raised exception) w = (exit : Exit) × (reached_by exit ≡ Reaches.Raised exception) × EndedBy v q exit w
 Tied v q Reaches.Misuse w = Asked v q Answers.Misuse w
-Tied v q Reaches.Stopped w = StoppedAsking v q w ⊎ EndedBy v q Exits.Stopped w
+Tied v q Reaches.Stopped w = StoppedAsking v q w ⊎ StoppedInside v q w
