@@ -360,7 +360,7 @@ def edges(program):
     expect("a unit text too long", at_once(program, b"@list\n@run\nload\n" + 262_144 * b" " + b"\n@end\nquit\n"), (b"TooLong\nentries 2\n", b"", 0))
     expect("a halt before the end", at_once(program, b"@run\nhalt\nquit\n"), (b"accepted 0\nentries 1\n", b"", 0))
     late = b"@list\n@run\n" + b"#" * 16_777_210 + b"\njournal 1\n"
-    expect("what comes past the limit", at_once(program, late), (b"bad command\nentries 2\n", b"", 0))
+    expect("a line that goes past the limit", at_once(program, late), (b"entries 2\n", b"", 0))
     expect("a script past the limit", at_once(program, b"@list\n" + b"#\n" * 8_388_608 + b"@run\n"), (b"", b"script line 1: TooLong\n", 1))
 
 

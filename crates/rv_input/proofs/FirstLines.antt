@@ -10,7 +10,7 @@ use lib.Seq.{take-append-add, drop-append-add, get_or-append_seam}
 use Rattle.rv_text.specs.Sections.{is_line_feed}
 use Rattle.rv_text.proofs.FirstParts.{lines_cut, lines_last}
 use Rattle.rv_input.proofs.Told.{told_both}
-use Rattle.rv_input.specs.Coming.{IfTold, GivesByte, Takes, ReadsAs, GivesLine, content}
+use Rattle.rv_input.specs.Coming.{IfTold, GivesByte, Takes, ReadsAs, GivesLine, content, most_bytes}
 
 -- no line feed is there
 abbrev pub NoFeed : List ℕ → Type 0
@@ -113,10 +113,15 @@ none_taken : (line old new : List ℕ) → line ≡ [] → Takes line old new �
 none_taken line old new e t = takes_none old new (sym e ∙ t.0, t.1)
 
 -- a line that is taken is given as its text
-pub takes_text : (line old new : List ℕ) (text : Option (List ℕ)) → ReadsAs line text → Takes line old new → GivesLine text old new
-takes_text line old new (Some text) is t = (takes_content line old new t is.0 ∙ ap (λ (l : List ℕ). l ∷ lines new) (sym is.1), t.1)
-takes_text line old new None (inl none) t = inl (none_taken line old new none t)
-takes_text line old new None (inr (some, bad)) t = inr (content line, takes_content line old new t some, bad)
+pub takes_text : (given : ℕ) (line old new : List ℕ) (text : Option (List ℕ)) → ReadsAs line text → Takes line old new → GivesLine given text old new
+takes_text given line old new (Some text) is t = (takes_content line old new t is.0 ∙ ap (λ (l : List ℕ). l ∷ lines new) (sym is.1), t.1)
+takes_text given line old new None (inl none) t = inl (none_taken line old new none t)
+takes_text given line old new None (inr (some, bad)) t = inr (content line, takes_content line old new t some, inl bad)
+
+-- a line with which the input has given too much
+pub takes_past : (given : ℕ) (line old new : List ℕ) → most_bytes < given → Takes line old new → GivesLine given None old new
+takes_past given [] old new past t = inl (takes_none old new t)
+takes_past given (x ∷ xs) old new past t = inr (content (x ∷ xs), takes_content (x ∷ xs) old new t (omega arith), inr past)
 
 -- a line feed comes behind a line
 pub line_ends : (a b c : Option (List ℕ)) (line whole : List ℕ) (byte : ℕ) → NoFeed line → byte ≡ 10 → whole ≡ line ++ byte ∷ [] → IfTold a b (λ old new. old ≡ line ++ new) → IfTold b c (GivesByte (Some byte)) → IfTold a c (Takes whole)

@@ -72,8 +72,8 @@ text_more : (body : List (List ℕ)) (line : List ℕ) → text_of (body ++ line
 text_more [] line = refl
 text_more (x ∷ xs) line = ap (λ (l : List ℕ). x ++ 10 ∷ l) (text_more xs line) ∙ sym (append_assoc x (10 ∷ text_of xs) (line ++ 10 ∷ []))
 
-kept : (bytes line whole old mid new : List ℕ) → Kept bytes old mid → GivesLine (Some line) mid new → is_end line ≡ false → whole ≡ bytes ++ (line ++ 10 ∷ []) → Kept whole old new
-kept bytes line whole old mid new p t e is = record {
+kept : (given : ℕ) (bytes line whole old mid new : List ℕ) → Kept bytes old mid → GivesLine given (Some line) mid new → is_end line ≡ false → whole ≡ bytes ++ (line ++ 10 ∷ []) → Kept whole old new
+kept given bytes line whole old mid new p t e is = record {
   body = p.body ++ line ∷ [];
   whole = p.whole ∙ (ap (λ (l : List (List ℕ)). p.body ++ l) t.0 ∙ sym (append_assoc p.body (line ∷ []) (lines new)));
   first = one_more is_end p.body line p.first e;
@@ -81,22 +81,22 @@ kept bytes line whole old mid new p t e is = record {
 }
 
 -- a line more
-pub one_kept : (a b c : Option (List ℕ)) (bytes line whole : List ℕ) → is_end line ≡ false → whole ≡ bytes ++ (line ++ 10 ∷ []) → IfTold a b (Kept bytes) → IfTold b c (GivesLine (Some line)) → IfTold a c (Kept whole)
-one_kept a b c bytes line whole e is p q = told_both (Kept bytes) (GivesLine (Some line)) (Kept whole) a b c (λ x y z first next. kept bytes line whole x y z first next e is) p q
+pub one_kept : (given : ℕ) (a b c : Option (List ℕ)) (bytes line whole : List ℕ) → is_end line ≡ false → whole ≡ bytes ++ (line ++ 10 ∷ []) → IfTold a b (Kept bytes) → IfTold b c (GivesLine given (Some line)) → IfTold a c (Kept whole)
+one_kept given a b c bytes line whole e is p q = told_both (Kept bytes) (GivesLine given (Some line)) (Kept whole) a b c (λ x y z first next. kept given bytes line whole x y z first next e is) p q
 
-end_found : (bytes line old mid new : List ℕ) → Kept bytes old mid → GivesLine (Some line) mid new → is_end line ≡ true → UpToEnd bytes old new
-end_found bytes line old mid new p t e = record { body = p.body; last = line; whole = p.whole ∙ ap (λ (l : List (List ℕ)). p.body ++ l) t.0; end = e; first = p.first; text = p.text }
+end_found : (given : ℕ) (bytes line old mid new : List ℕ) → Kept bytes old mid → GivesLine given (Some line) mid new → is_end line ≡ true → UpToEnd bytes old new
+end_found given bytes line old mid new p t e = record { body = p.body; last = line; whole = p.whole ∙ ap (λ (l : List (List ℕ)). p.body ++ l) t.0; end = e; first = p.first; text = p.text }
 
 -- the line `@end`
-pub end_comes : (a b c : Option (List ℕ)) (bytes line : List ℕ) → is_end line ≡ true → IfTold a b (Kept bytes) → IfTold b c (GivesLine (Some line)) → IfTold a c (GivesText (Some bytes))
-end_comes a b c bytes line e p q = told_both (Kept bytes) (GivesLine (Some line)) (GivesText (Some bytes)) a b c (λ x y z first next. end_found bytes line x y z first next e) p q
+pub end_comes : (given : ℕ) (a b c : Option (List ℕ)) (bytes line : List ℕ) → is_end line ≡ true → IfTold a b (Kept bytes) → IfTold b c (GivesLine given (Some line)) → IfTold a c (GivesText given (Some bytes))
+end_comes given a b c bytes line e p q = told_both (Kept bytes) (GivesLine given (Some line)) (GivesText given (Some bytes)) a b c (λ x y z first next. end_found given bytes line x y z first next e) p q
 
-end_missed : (bytes old mid new : List ℕ) → Kept bytes old mid → GivesLine None mid new → NoEnd old new
-end_missed bytes old mid new p (inl (none, end)) =
+end_missed : (given : ℕ) (bytes old mid new : List ℕ) → Kept bytes old mid → GivesLine given None mid new → NoEnd given old new
+end_missed given bytes old mid new p (inl (none, end)) =
     record { body = p.body; first = p.first; ends = inl (p.whole ∙ (ap (λ (l : List ℕ). p.body ++ lines l) none ∙ append-nil p.body), end) }
-end_missed bytes old mid new p (inr (line, is, bad)) =
+end_missed given bytes old mid new p (inr (line, is, bad)) =
     record { body = p.body; first = p.first; ends = inr (line, p.whole ∙ ap (λ (l : List (List ℕ)). p.body ++ l) is, bad) }
 
 -- the end without it
-pub no_end_comes : (a b c : Option (List ℕ)) (bytes : List ℕ) → IfTold a b (Kept bytes) → IfTold b c (GivesLine None) → IfTold a c (GivesText None)
-no_end_comes a b c bytes p q = told_both (Kept bytes) (GivesLine None) (GivesText None) a b c (λ x y z first next. end_missed bytes x y z first next) p q
+pub no_end_comes : (given : ℕ) (a b c : Option (List ℕ)) (bytes : List ℕ) → IfTold a b (Kept bytes) → IfTold b c (GivesLine given None) → IfTold a c (GivesText given None)
+no_end_comes given a b c bytes p q = told_both (Kept bytes) (GivesLine given None) (GivesText given None) a b c (λ x y z first next. end_missed given bytes x y z first next) p q

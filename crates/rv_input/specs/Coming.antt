@@ -14,7 +14,7 @@ pub record Reading : Type 0 where
 abbrev pub most_bytes : ℕ
 most_bytes = 16777216
 
--- one byte more tells that what stands before the commands is too long
+-- one byte more tells that what stands before the commands is too long, and that a line goes past that length
 abbrev pub most_before : ℕ
 most_before = 16777217
 
@@ -50,11 +50,15 @@ abbrev pub ReadsAs : List ℕ → Option (List ℕ) → Type 0
 ReadsAs line (Some text) = (0 < length line) × (text ≡ content line)
 ReadsAs line None = (line ≡ []) ⊎ ((0 < length line) × (IsUtf8 (content line) → ⊥))
 
+-- a line is as the end of input: it isn't UTF-8, or with it the input has given more than the greatest length
+abbrev pub IsNoLine : ℕ → List ℕ → Type 0
+IsNoLine given line = (IsUtf8 line → ⊥) ⊎ (most_bytes < given)
+
 -- the next line is given: the lines that came are this one and those that still come. None is given at the end, and none
--- for a line that isn't UTF-8
-abbrev pub GivesLine : Option (List ℕ) → List ℕ → List ℕ → Type 0
-GivesLine (Some line) old new = (lines old ≡ line ∷ lines new) × (new ≡ after_first is_line_feed old)
-GivesLine None old new = ((old ≡ []) × (new ≡ [])) ⊎ ((line : List ℕ) × (lines old ≡ line ∷ lines new) × (IsUtf8 line → ⊥))
+-- for a line that is as the end
+abbrev pub GivesLine : ℕ → Option (List ℕ) → List ℕ → List ℕ → Type 0
+GivesLine given (Some line) old new = (lines old ≡ line ∷ lines new) × (new ≡ after_first is_line_feed old)
+GivesLine given None old new = ((old ≡ []) × (new ≡ [])) ⊎ ((line : List ℕ) × (lines old ≡ line ∷ lines new) × IsNoLine given line)
 
 -- the lines `@run` and `@end`
 abbrev pub is_run : List ℕ → Bool
@@ -96,12 +100,12 @@ pub record UpToEnd (bytes old new : List ℕ) : Type 0 where
   pub first : NonePass is_end body
   pub text : bytes ≡ text_of body
 
--- No line `@end` comes before the end, or before a line that isn't UTF-8. (own)
-pub record NoEnd (old new : List ℕ) : Type 0 where
+-- No line `@end` comes before the end, or before a line that is as the end. (own)
+pub record NoEnd (given : ℕ) (old new : List ℕ) : Type 0 where
   pub body : List (List ℕ)
   pub first : NonePass is_end body
-  pub ends : ((lines old ≡ body) × (new ≡ [])) ⊎ ((line : List ℕ) × (lines old ≡ body ++ line ∷ lines new) × (IsUtf8 line → ⊥))
+  pub ends : ((lines old ≡ body) × (new ≡ [])) ⊎ ((line : List ℕ) × (lines old ≡ body ++ line ∷ lines new) × IsNoLine given line)
 
-abbrev pub GivesText : Option (List ℕ) → List ℕ → List ℕ → Type 0
-GivesText (Some text) old new = UpToEnd text old new
-GivesText None old new = NoEnd old new
+abbrev pub GivesText : ℕ → Option (List ℕ) → List ℕ → List ℕ → Type 0
+GivesText given (Some text) old new = UpToEnd text old new
+GivesText given None old new = NoEnd given old new

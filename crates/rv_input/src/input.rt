@@ -5,28 +5,17 @@ ghost use Rattle.std.specs.Io.KnownBytes.{Consumes, IsAtEnd, Keeps, prepend_know
 ghost use Rattle.std.specs.Str.Lines.{strip_carriage_return};
 ghost use Rattle.rv_input.specs.Coming.{IfTold, Takes, GivesByte, GivesLine, GivesBefore, GivesText, ReadsAs, coming, content, is_run, most_bytes, most_before};
 
+use crate::fault::InputFault;
+use crate::lines::{is_run, keep, keep_line, keep_text, text_line};
 use std::alloc::Global;
-use std::io;
 use std::io::Read;
 use std::marker::Model;
 
-/// The greatest length of an input, in bytes. What comes past it is as the end of input.
+/// The greatest length of an input, in bytes. A line that goes past it is as the end of input.
 pub const MOST_BYTES: usize = 16_777_216;
 
-// The line that ends the sections of a script and begins its commands.
-const RUN: &[u8] = b"@run";
-
-// What stands before the commands may be one byte longer, which tells that a script is too long.
+// One byte more is read: it tells that what stands before the commands is too long, and that a line goes past the length.
 const MOST_BEFORE: usize = MOST_BYTES + 1;
-
-/// Why an input gave no line.
-#[derive(Drop)]
-pub enum InputFault {
-    /// Memory was refused.
-    Memory,
-    /// A read failed.
-    Io(io::Error),
-}
 
 /// What stands before the commands.
 #[derive(Drop)]
@@ -53,88 +42,6 @@ impl Model for Input {
     ghost Value = { Reading };
 
     ghost view = { λ i. record { ahead = drop i.next i.ahead.items; given = i.given } };
-}
-
-// Puts a byte at the end of bytes.
-fn keep(bytes: &mut Vec<u8>, byte: u8) -> Result<(), InputFault>
-    ensures { IfOk result (λ _. bytes.new.items ≡ bytes.old.items ++ byte ∷ []) }
-{
-    match bytes.push(byte) {
-        Ok(()) => Ok(()),
-        Err(_) => Err(InputFault::Memory),
-    }
-}
-
-// Puts a line at the end of bytes.
-fn keep_line(bytes: &mut Vec<u8>, line: &[u8]) -> Result<(), InputFault>
-    ensures { IfOk result (λ _. bytes.new.items ≡ bytes.old.items ++ line.now) }
-{
-    match bytes.extend_from_slice(line) {
-        Ok(()) => Ok(()),
-        Err(_) => Err(InputFault::Memory),
-    }
-}
-
-// Puts a line at the end of a text, with a line feed.
-fn keep_text(text: &mut String, line: &str) -> Result<(), InputFault>
-    ensures { OnOk result (string_bytes text.new ≡ string_bytes text.old ++ (line.now ++ 10 ∷ [])) }
-{
-    if text.push_str(line).is_err() || text.push_str("\n").is_err() {
-        return Err(InputFault::Memory);
-    }
-    Ok(())
-}
-
-// A line of one's own.
-fn owned(alloc: Global, line: &str) -> Result<Option<String>, InputFault>
-    ensures { IfOk result (λ line'. option_map string_bytes line' ≡ Some line.now) }
-{
-    match String::from_str(alloc, line) {
-        Ok(line) => Ok(Some(line)),
-        Err(_) => Err(InputFault::Memory),
-    }
-}
-
-// A line without the carriage return at its end.
-fn stripped(line: &[u8]) -> &[u8]
-    ensures { result.now ≡ strip_carriage_return line.now }
-{
-    let len = line.len();
-    if len > 0 && line[len - 1] == b'\r' {
-        return &line[..len - 1];
-    }
-    line
-}
-
-// A line without its line feed and a carriage return before that.
-fn content(line: &[u8]) -> &[u8]
-    ensures { result.now ≡ content line.now }
-{
-    let len = line.len();
-    if len > 0 && line[len - 1] == b'\n' {
-        return stripped(&line[..len - 1]);
-    }
-    line
-}
-
-// Whether a line is `@run`.
-fn is_run(line: &[u8]) -> bool
-    ensures { result ≡ is_run (content line.now) }
-{
-    content(line) == RUN
-}
-
-// The text of a line; none where it has no bytes or isn't UTF-8.
-fn text_line(alloc: Global, line: &[u8]) -> Result<Option<String>, InputFault>
-    ensures { IfOk result (λ text. ReadsAs line.now (option_map string_bytes text)) }
-{
-    if line.len() == 0 {
-        return Ok(None);
-    }
-    match str::from_utf8(content(line)) {
-        Ok(text) => owned(alloc, text),
-        Err(_) => Ok(None),
-    }
 }
 
 impl Input {
@@ -244,15 +151,18 @@ impl Input {
     }
 
     /// The next line, without its line feed and a carriage return before that; none at the end of
-    /// input. A line that isn't UTF-8 is as the end of input.
+    /// input. A line that isn't UTF-8, or goes past the greatest length, is as the end of input.
     ///
     /// # Errors
     /// As the first read or growth that fails.
     pub fn line<R: Read>(&mut self, reader: &mut R) -> Result<Option<String>, InputFault>
         ensures given { IfOk result (λ line. IfSome line (λ _. (self.old.given < self.new.given) × (self.new.given ≤ most_bytes))) }
-        ensures comes { IfOk result (λ line. IfTold (coming most_bytes self.old (R.remaining reader.old)) (coming most_bytes self.new (R.remaining reader.new)) (GivesLine (option_map string_bytes line))) }
+        ensures comes { IfOk result (λ line. IfTold (coming most_before self.old (R.remaining reader.old)) (coming most_before self.new (R.remaining reader.new)) (GivesLine self.new.given (option_map string_bytes line))) }
     {
-        let raw = self.raw_line(reader, MOST_BYTES)?;
+        let raw = self.raw_line(reader, MOST_BEFORE)?;
+        if self.given > MOST_BYTES {
+            return Ok(None);
+        }
         let text = text_line(self.alloc, raw.as_slice())?;
         Ok(text)
     }
@@ -263,7 +173,7 @@ impl Input {
     /// # Errors
     /// As the first read or growth that fails.
     pub fn unit_text<R: Read>(&mut self, reader: &mut R) -> Result<Option<String>, InputFault>
-        ensures { IfOk result (λ text. IfTold (coming most_bytes self.old (R.remaining reader.old)) (coming most_bytes self.new (R.remaining reader.new)) (GivesText (option_map string_bytes text))) }
+        ensures { IfOk result (λ text. IfTold (coming most_before self.old (R.remaining reader.old)) (coming most_before self.new (R.remaining reader.new)) (GivesText self.new.given (option_map string_bytes text))) }
     {
         let mut text = String::new(self.alloc);
         while let Some(line) = self.line(reader)? {

@@ -2,6 +2,9 @@
 //! come, and no more is waited for than a line needs.
 #![tactic(auto)]
 
+mod fault;
 mod input;
+mod lines;
 
-pub use input::{Input, InputFault, MOST_BYTES, Preamble};
+pub use fault::InputFault;
+pub use input::{Input, MOST_BYTES, Preamble};

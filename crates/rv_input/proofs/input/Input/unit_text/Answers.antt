@@ -10,10 +10,10 @@ loop-text-preserved g c =
     let line = string_bytes c.in-Some.line in
     let passes : is_end line ≡ false = search rules in
     let whole : string_bytes c.keep_text.new.text ≡ string_bytes c.loop-text.text ++ (line ++ 10 ∷ []) = search rules in
-    let comes = told_is GivesLine _ _ _ _ (ap (λ o. option_map string_bytes o) c.in-Some.is) c.in_ok-line.ensures.comes in
-    one_kept _ _ _ _ line _ passes whole c.loop-text.invariant comes
+    let comes = told_is (GivesLine c.line.new.self.given) _ _ _ _ (ap (λ o. option_map string_bytes o) c.in-Some.is) c.in_ok-line.ensures.comes in
+    one_kept c.line.new.self.given _ _ _ _ line _ passes whole c.loop-text.invariant comes
 
 pub returns : goal.returns
 returns g c =
-    let comes = told_is GivesLine _ _ _ None (ap (λ o. option_map string_bytes o) c.in_default.is) c.in_ok-line.ensures.comes in
-    no_end_comes _ _ _ _ c.loop-text.invariant comes
+    let comes = told_is (GivesLine c.line.new.self.given) _ _ _ None (ap (λ o. option_map string_bytes o) c.in_default.is) c.in_ok-line.ensures.comes in
+    no_end_comes c.line.new.self.given _ _ _ _ c.loop-text.invariant comes
