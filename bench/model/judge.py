@@ -11,7 +11,7 @@ from judge_reader import read_text
 from judge_restrictions import first_violation
 from judge_scope import Scope
 from judge_shape import shape_of, shown, shown_of_shape
-from judge_tree import Text
+from judge_tree_declarations import Text
 from judge_types import Types
 from shapes import Catalogue, Unit
 

@@ -3,8 +3,9 @@ from collections.abc import Iterable
 
 from judge_library import Entity, declare
 from judge_scope import Members, Scope
-from judge_tree import (Block, Handler, Identifier, Name, Node, Objects, OperationBody, Operations, Parameter, Pragma, Protected, ProtectedBody,
-                        Subtype, Task, TaskBody)
+from judge_tree import Identifier, Name, Node
+from judge_tree_declarations import (Block, Handler, Objects, OperationBody, Operations, Parameter, Pragma, Protected, ProtectedBody,
+                                     Subtype, Task, TaskBody)
 from judge_uses import Uses
 from words import folded
 

@@ -1,7 +1,8 @@
 """Types of declarations: ranges, constants, components, priorities, lines (docs/UNITS.md; 3.2, 3.3, 3.5, C.3.1, D.1, D.3)."""
 from judge_library import INTEGER, LINES, Entity, Span
 from judge_static import Expressions, Typed
-from judge_tree import Aspect, Expression, Name, Named, Node, Objects, Operations, Parameter, Pragma, Protected, Range, Subtype, Task
+from judge_tree import Expression, Name, Named, Node, Range
+from judge_tree_declarations import Aspect, Objects, Operations, Parameter, Pragma, Protected, Subtype, Task
 from words import folded
 
 PRIORITY_RANGES = {"priority": (1, 40), "interrupt_priority": (31, 40)}

@@ -3,8 +3,8 @@ from collections.abc import Callable
 from typing import TypeVar
 
 from grammar_words import Word
-from judge_tree import (Attribute, Call, Expression, Identifier, Literal, Name, Named, Operation, Parameter, Parenthesised,
-                        Prefixed, Range)
+from judge_tree import Attribute, Call, Expression, Identifier, Literal, Name, Named, Operation, Parenthesised, Prefixed, Range
+from judge_tree_declarations import Parameter
 
 Found = TypeVar("Found")
 RELATIONS = ("=", "/=", "<", "<=", ">", ">=")

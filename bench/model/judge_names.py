@@ -2,8 +2,8 @@
 from judge_bodies import Bodies
 from judge_library import Entity
 from judge_scope import NotFound, Scope, with_named
-from judge_tree import (Context, Expression, Named, Node, Objects, Operations, Pragma, Protected, ProtectedBody, Subtype, Task, TaskBody,
-                        Text)
+from judge_tree import Expression, Named, Node
+from judge_tree_declarations import Context, Objects, Operations, Pragma, Protected, ProtectedBody, Subtype, Task, TaskBody, Text
 from words import folded
 
 PRIORITIES = ("priority", "interrupt_priority")

@@ -2,8 +2,9 @@
 from grammar import Parser
 from grammar_words import words_of_text
 from judge_statements import StatementReader
-from judge_tree import (Argument, Aspect, Block, Context, Handler, Identifier, Node, Objects, OperationBody, Operations, Pragma,
-                        Protected, ProtectedBody, Subtype, Task, TaskBody, Text)
+from judge_tree import Identifier, Node
+from judge_tree_declarations import (Argument, Aspect, Block, Context, Handler, Objects, OperationBody, Operations, Pragma, Protected,
+                                     ProtectedBody, Subtype, Task, TaskBody, Text)
 
 
 class TextReader(StatementReader):

@@ -1,8 +1,8 @@
 """The restrictions of the profile: what breaks them, in a unit text (docs/UNITS.md, D.13)."""
 from collections.abc import Iterator
 
-from judge_tree import (Abort, Attribute, Block, Context, Delay, Expression, Name, Named, Node, Objects, OperationBody, Operations,
-                        Protected, ProtectedBody, Requeue, Select, Subtype, Task, Text, nodes_in)
+from judge_tree import Abort, Attribute, Delay, Expression, Name, Named, Node, Requeue, Select, nodes_in
+from judge_tree_declarations import Block, Context, Objects, OperationBody, Operations, Protected, ProtectedBody, Subtype, Task, Text
 from words import folded
 
 ROWS = ("No_Abort_Statements", "No_Requeue_Statements", "No_Select_Statements", "No_Relative_Delay", "No_Local_Protected_Objects",

@@ -1,7 +1,8 @@
 """The shape of a unit text, and what other units see of a unit (9.4, C.3.1, D.1, D.3)."""
 from judge_declared import DEFAULT_CEILING, DEFAULT_TASK_PRIORITY, HANDLER_CEILING, Declarations
 from judge_library import INTEGER, Entity, Span, declare
-from judge_tree import Node, Objects, Protected, Task, Text
+from judge_tree import Node
+from judge_tree_declarations import Objects, Protected, Task, Text
 from shapes import SUSPENSION_OPERATIONS, Actor, Operation, Parameter, Range, Scalar, SharedObject, Unit
 
 OPERATIONS = ("function", "procedure", "entry")

@@ -2,8 +2,8 @@
 from judge_declared import Declarations
 from judge_library import BOOLEAN, TYPES, Entity, Span
 from judge_static import Typed
-from judge_tree import (Assignment, Block, Call, Case, Choice, Delay, Exit, Expression, If, Loop, Name, Named, Node, Objects, OperationBody,
-                        Protected, ProtectedBody, Range, Return, Subtype, Task, TaskBody, Text)
+from judge_tree import Assignment, Call, Case, Choice, Delay, Exit, Expression, If, Loop, Name, Named, Node, Range, Return
+from judge_tree_declarations import Block, Objects, OperationBody, Protected, ProtectedBody, Subtype, Task, TaskBody, Text
 from words import folded
 
 MOST_VARIABLES = 64
@@ -68,12 +68,15 @@ class Types(Declarations):
 
     def local(self, item: Objects) -> None:
         span = self.spanned(item.mark, item.range)
-        found = self.expected(item.value, span.type if span else None) if item.value else None
+        found = self.expression(item.value) if item.value else None
         if item.is_constant and item.value is None:
             self.tell(item.place, "Mismatch")
         for name in item.names:
             if not (item.is_constant and found and found.is_static):
                 self.opened(name.place)
+        if found and span and found.type != span.type:
+            self.tell(item.value.place, "Mismatch")
+            found = None
         self.initial(item, span, found, item.is_constant)
 
     def opened(self, place: int) -> None:
@@ -227,19 +230,29 @@ class Types(Declarations):
 
     def choice(self, choice: Choice, kind: str | None, span: Span | None, covered: list[tuple[int, int]]) -> bool:
         """Whether its values are known."""
+        chosen = self.chosen(choice, kind)
+        if chosen is None or chosen.low > chosen.high:
+            return chosen is not None
+        for bound, value in ((choice.low, chosen.low), (choice.high or choice.low, chosen.high)):
+            if span and not span.holds(value):
+                self.tell(bound.place, "TooLarge")
+        if any(chosen.low <= last and first <= chosen.high for first, last in covered):
+            self.tell(choice.place, "BadChoice")
+        covered.append((chosen.low, chosen.high))
+        return True
+
+    def chosen(self, choice: Choice, kind: str | None) -> Span | None:
+        """The values of a choice: of a subtype, or of static expressions."""
+        if isinstance(choice.low, Named) and choice.low.name.meaning.kind == "subtype":
+            span: Span | None = choice.low.name.meaning.span
+            if span and kind and span.type != kind:
+                self.tell(choice.place, "Mismatch")
+            return span if span and span.type == kind else None
         low = self.static(choice.low, kind)
         high = self.static(choice.high, kind) if choice.high else low
         if low is None or high is None or low.value is None or high.value is None:
-            return False
-        if low.value > high.value:
-            return True
-        for bound, value in ((choice.low, low.value), (choice.high, high.value)):
-            if bound and span and not span.holds(value):
-                self.tell(bound.place, "TooLarge")
-        if any(low.value <= last and first <= high.value for first, last in covered):
-            self.tell(choice.place, "BadChoice")
-        covered.append((low.value, high.value))
-        return True
+            return None
+        return Span(low.type, low.value, high.value)
 
 
 def covers(covered: list[tuple[int, int]], span: Span) -> bool:

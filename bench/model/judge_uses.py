@@ -4,8 +4,8 @@ from contextlib import contextmanager
 
 from judge_library import Entity
 from judge_scope import Members, NotFound, Region, Scope
-from judge_tree import (Accept, Assignment, Attribute, Call, Case, Delay, Exit, Expression, Identifier, If, Literal, Loop, Name, Named, Node,
-                        Operation, Parenthesised, Prefixed, Raise, Range, Return)
+from judge_tree import (Accept, Assignment, Attribute, Call, Case, Choice, Delay, Exit, Expression, Identifier, If, Literal, Loop, Name,
+                        Named, Node, Operation, Parenthesised, Prefixed, Raise, Range, Return)
 from words import folded
 
 VALUES = ("constant", "literal", "line", "variable", "component", "parameter", "loop parameter", "function")
@@ -117,10 +117,17 @@ class Uses:
         self.expression(item.selector)
         for alternative in item.alternatives:
             for choice in alternative.choices:
-                for bound in (choice.low, choice.high):
-                    if bound:
-                        self.expression(bound)
+                self.choice(choice)
             self.statements(alternative.statements)
+
+    def choice(self, choice: Choice) -> None:
+        """A choice may name a subtype, for all of its values (3.8.1)."""
+        if isinstance(choice.low, Named) and choice.high is None:
+            self.lookup(choice.low.name, "subtype", *VALUES)
+            return
+        for bound in (choice.low, choice.high):
+            if bound:
+                self.expression(bound)
 
     def loop(self, item: Loop) -> None:
         members: Members = {}
