@@ -41,6 +41,7 @@ class Bodies(Uses):
                 self.entities[name.place] = entity
                 if not declare(members, entity):
                     self.tell(name.place, "Duplicate")
+                    entity.has_body = True  # nothing more is asked of it
                 if isinstance(item, Protected):
                     self.declare_all(entity.members, item.shown, "component", entity)
                     self.declare_all(entity.members, item.hidden, "component", entity, True)
@@ -73,21 +74,21 @@ class Bodies(Uses):
             return found, self.mark(result)
 
     def completed(self, name: Identifier, members: Members, *kinds: str) -> Entity | None:
-        """The declaration in this region of which a body of that name is; else a fault is told."""
+        """The declaration in this region of which a body of that name is, best of its kind; else a fault is told."""
         others = members.get(folded(name.text), [])
         before = [entity for entity in others if entity.seen <= name.place]
         if not before:
             self.tell(name.place, "NotVisible" if others else "Unknown")
             return None
-        is_second = before[0].has_body
-        for entity in others:
-            entity.has_body = True
-        if is_second:
+        fitting = [entity for entity in before if entity.kind in kinds and not (entity.kind == "protected" and entity.owner)]
+        found = (fitting or before)[0]
+        if found.has_body:
             self.tell(name.place, "Duplicate")
-        if before[-1].kind not in kinds or before[-1].kind == "protected" and before[-1].owner:
+        found.has_body = True
+        if not fitting:
             self.tell(name.place, "WrongKind")
             return None
-        return before[-1]
+        return found
 
     def task_body(self, item: TaskBody) -> None:
         entity = self.completed(item.name, self.scope.unit.members, "task")
