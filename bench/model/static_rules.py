@@ -6,13 +6,14 @@ import re
 import subprocess
 import sys
 from collections import Counter
-from collections.abc import Iterator
+from collections.abc import Callable, Iterator
 from pathlib import Path
 from types import ModuleType
 from typing import NamedTuple
 
 import static_pairs
 import static_pieces
+from judge import Judge
 
 Part = dict[str, list[str]]  # texts for slots
 SHARED_SLOTS = {"context", "statements", "procedure", "function", "entry"}  # that several parts may fill
@@ -104,12 +105,19 @@ def verdict_of(program: Path, case: Case) -> str:
     return re.sub(r"^script line \d+: ", "", told[-1]) if told else "nothing"
 
 
-def compare(program: Path, cases: Iterator[Case], grammar_alone: bool) -> int:
-    """Asks the program of each text, and prints the smallest text of each kind of difference."""
+def judged(case: Case) -> str:
+    """What the judge, which reads the text whole, says of it."""
+    judge = Judge()
+    before = judge.verdict(case.before) if case.before else ": ok"
+    return judge.verdict(case.text) if before.endswith(": ok") else before
+
+
+def compare(ask: Callable[[Case], str], cases: Iterator[Case], grammar_alone: bool) -> int:
+    """Asks for a verdict on each text, and prints the smallest text of each kind of difference."""
     found: dict[tuple[str, str], tuple[Case, str]] = {}
     runs = differing = 0
     for case in cases:
-        told = verdict_of(program, case)
+        told = ask(case)
         runs += 1
         if told == case.verdict or grammar_alone and told.endswith(": ok"):
             continue
@@ -129,6 +137,7 @@ def main() -> int:
     parser.add_argument("--seed", metavar="S", type=int, default=0, help="the number of the first text")
     parser.add_argument("--write", metavar="DIR", type=Path, help="writes each text, behind that of which it speaks, and its verdict there")
     parser.add_argument("--program", metavar="PATH", type=Path, help="asks this program of each text")
+    parser.add_argument("--judge", action="store_true", help="asks the judge (judge.py) of each text")
     parser.add_argument("--grammar", action="store_true", help="takes an ok for any verdict: asks whether each text parses")
     arguments = parser.parse_args()
     cases = [draw(seed) for seed in range(arguments.seed, arguments.seed + arguments.texts)]
@@ -137,8 +146,11 @@ def main() -> int:
         for place, case in enumerate(cases):
             (arguments.write / f"{place:04d}.ada").write_text(case.before + case.text)
             (arguments.write / f"{place:04d}.verdict").write_text(case.verdict + "\n")
+    if arguments.judge and compare(judged, iter(cases), False):
+        return 1
     if arguments.program:
-        return compare(arguments.program.absolute(), iter(cases), arguments.grammar)
+        program = arguments.program.absolute()
+        return compare(lambda case: verdict_of(program, case), iter(cases), arguments.grammar)
     counts = Counter("unit ok" if case.verdict.endswith(": ok") else case.verdict.split(" at ")[0] for case in cases)
     print(f"{len(cases)} texts: " + ", ".join(f"{name} {times}" for name, times in sorted(counts.items())))
     return 0
