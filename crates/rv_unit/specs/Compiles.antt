@@ -1,6 +1,6 @@
 -- Which unit a text is over the loaded units, and why it is none (own). What is looked at first is told first: words, grammar,
 -- restrictions, names, types, shape.
-use Rattle.std.specs.Prelude.{◌≡◌, ◌⊎◌, ℕ, List, Some, None, Err}
+use Rattle.std.specs.Prelude.{◌≡◌, ◌⊎◌, ℕ, true, List, Some, None, Err}
 use Rattle.rv_shape.specs.Shape.{Shape}
 use Rattle.rv_shape.specs.Fits as fitting
 use Rattle.rv_tree.specs.Units.{UnitTree}
@@ -10,6 +10,9 @@ use Rattle.rv_parse.specs.declared.fault.ParseFault.{ParseFault}
 use Rattle.rv_parse.specs.declared.fault.ParseFault.TheVariants as Parses
 use Rattle.rv_restrict.specs.Conforms.{Conforms, IsFirst, violations}
 use Rattle.rv_names.specs.Bound.{AllBound, uses}
+use Rattle.rv_names.specs.Completed.{unit_is_completed}
+use Rattle.rv_names.specs.EndNames.{unit_ends}
+use Rattle.rv_names.specs.Jumps.{unit_is_placed}
 use Rattle.rv_outline.specs.Shapes.{shape_of}
 use Rattle.rv_code.specs.Bodies.{UnitBodies}
 use Rattle.rv_types.specs.BodiesOf.{bodies_of}
@@ -18,10 +21,17 @@ use Rattle.rv_static.specs.declared.fault.TypeFault.TheVariants as type
 use Rattle.rv_unit.specs.declared.fault.UnitFault.{UnitFault}
 use Rattle.rv_unit.specs.declared.fault.UnitFault.TheVariants.{Lex, Parse, Restriction, Names, Types, Shape as Fits, NoMemory}
 
--- a tree conforms to the profile (D.13), and each of its names is bound to the one declaration that is visible (8.3)
+-- a tree conforms to the profile (D.13), and its names are as they have to be
 pub record IsBound (shapes : List Shape) (tree : UnitTree) : Type 0 where
   pub conforms : Conforms tree
+  -- each name is bound to the one declaration that is visible (8.3)
   pub bound : AllBound (uses shapes tree)
+  -- each protected unit and each task of the package has a body (3.11.1)
+  pub completed : unit_is_completed tree ≡ true
+  -- each name after an `end` is the opening one
+  pub ends : unit_ends tree ≡ true
+  -- each `exit` stands in a loop, and each `raise` without a name in a handler (5.7, 11.3)
+  pub placed : unit_is_placed tree ≡ true
 
 -- and its declarations give this shape
 pub record HasShape (shapes : List Shape) (tree : UnitTree) (shape : Shape) : Type 0 where
