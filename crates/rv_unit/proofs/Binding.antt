@@ -1,0 +1,20 @@
+-- What the looks at restrictions and names find, put together.
+use Rattle.std.proofs.Common.{◌≡◌, true, List, subst, sym}
+use Rattle.rv_shape.specs.Shape.{Shape}
+use Rattle.rv_tree.specs.Units.{UnitTree}
+use Rattle.rv_restrict.specs.Conforms.{Conforms}
+use Rattle.rv_names.specs.Bound.{AllBound, uses}
+use Rattle.rv_names.specs.Completed.{unit_is_completed}
+use Rattle.rv_names.specs.EndNames.{unit_ends}
+use Rattle.rv_names.specs.Jumps.{unit_is_placed}
+use Rattle.rv_unit.specs.Compiles.{IsBound}
+
+-- for whatever is equal to the units and to the tree
+pub bound_as : (shapes others : List Shape) (tree other : UnitTree)
+    → others ≡ shapes → other ≡ tree
+    → Conforms tree → AllBound (uses shapes tree)
+    → unit_is_completed tree ≡ true → unit_ends tree ≡ true → unit_is_placed tree ≡ true
+    → IsBound others other
+bound_as shapes others tree other same_units same_tree conforms bound completed ends placed =
+    let here : IsBound shapes tree = record { conforms = conforms; bound = bound; completed = completed; ends = ends; placed = placed } in
+    subst (λ (units : List Shape). IsBound units other) (sym same_units) (subst (λ (t : UnitTree). IsBound shapes t) (sym same_tree) here)
