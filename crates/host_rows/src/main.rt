@@ -1,0 +1,105 @@
+//! Compares the host that keeps fields with one that looks back over its entries at each request, over commands
+//! drawn from fixed seeds: each answer, and at the end each entry. It ends with status 1 at the first difference,
+//! which it prints. It also prints pages of a long journal.
+#![tactic(auto)]
+
+mod compared;
+mod counts;
+mod drawn;
+mod pages;
+mod scan;
+mod told;
+
+use compared::{Run, is_journal, run_both};
+use counts::Counts;
+use rv_host::host::Host;
+use scan::Scan;
+use std::alloc::Global;
+use std::io;
+use std::process::ExitCode;
+
+// How many runs there are, each with a seed of its own.
+const RUNS: u64 = 40;
+
+// How many entries the hosts of a seed have room for: in one run of five few, so that they come to an end.
+fn capacity_of(seed: u64) -> usize {
+    match seed % 5 {
+        0 => 40,
+        1 if seed % 10 == 1 => 100,
+        _ => 1_000,
+    }
+}
+
+// Prints a difference.
+fn print_difference<R: Print>(rt: &R, seed: u64, run: &Run, words: &str) -> io::Result<()> {
+    let step = run.requests.saturating_add(run.changes);
+    println!(rt; "seed {seed}, step {step}: {words}")
+}
+
+// Prints what became of a run, and says whether nothing differed.
+fn print_run<R: Print>(
+    rt: &R,
+    seed: u64,
+    run: &Run,
+    scan: &Scan,
+    is_journal: bool,
+) -> io::Result<bool> {
+    if let Some(words) = &run.difference {
+        print_difference(rt, seed, run, words.as_str())?;
+        return Ok(false);
+    }
+    if !is_journal {
+        print_difference(rt, seed, run, "the journals differ")?;
+        return Ok(false);
+    }
+    let requests = run.requests;
+    let changes = run.changes;
+    let units = scan.catalogue().shapes().len();
+    let objects = scan.catalogue().objects();
+    let entries = scan.entries().len();
+    println!(rt;
+        "seed {seed}: {units} units, {objects} objects, {requests} requests, {changes} loads and list changes, {entries} entries"
+    )?;
+    Ok(true)
+}
+
+// Runs a seed. None where something differed.
+fn run_seed<R: Print>(
+    rt: &R,
+    alloc: Global,
+    counts: &mut Counts,
+    seed: u64,
+) -> io::Result<Option<Run>> {
+    let capacity = capacity_of(seed);
+    let Ok(mut host) = Host::new(alloc, capacity) else {
+        return Err(io::Error::from(io::ErrorKind::OutOfMemory));
+    };
+    let mut scan = Scan::new(alloc, capacity);
+    let run = run_both(alloc, &mut host, &mut scan, counts, seed)?;
+    let is_journal = is_journal(alloc, &host, &scan)?;
+    if print_run(rt, seed, &run, &scan, is_journal)? {
+        Ok(Some(run))
+    } else {
+        Ok(None)
+    }
+}
+
+fn main(rt: HostRuntime) -> io::Result<ExitCode> {
+    let alloc = rt.alloc();
+    let mut counts = Counts::new();
+    let mut requests = 0usize;
+    let mut changes = 0usize;
+    for seed in 1..RUNS + 1 {
+        let Some(run) = run_seed(&rt, alloc, &mut counts, seed)? else {
+            return Ok(ExitCode::from(1));
+        };
+        requests = requests.saturating_add(run.requests);
+        changes = changes.saturating_add(run.changes);
+    }
+    counts.print(&rt)?;
+    pages::print(&rt, alloc)?;
+    println!(rt;
+        "{requests} requests, {changes} loads and list changes: equal answers and journals"
+    )?;
+    Ok(ExitCode::SUCCESS)
+}
