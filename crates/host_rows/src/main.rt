@@ -63,6 +63,24 @@ fn print_run<R: Print>(
     Ok(true)
 }
 
+// Runs a seed on new hosts. None where something differed.
+fn run_on<R: Print>(
+    rt: &R,
+    alloc: Global,
+    host: &mut Host,
+    scan: &mut Scan,
+    counts: &mut Counts,
+    seed: u64,
+) -> io::Result<Option<Run>> {
+    let run = run_both(alloc, host, scan, counts, seed)?;
+    let is_journal = is_journal(alloc, host, scan)?;
+    if print_run(rt, seed, &run, scan, is_journal)? {
+        Ok(Some(run))
+    } else {
+        Ok(None)
+    }
+}
+
 // Runs a seed. None where something differed.
 fn run_seed<R: Print>(
     rt: &R,
@@ -71,16 +89,12 @@ fn run_seed<R: Print>(
     seed: u64,
 ) -> io::Result<Option<Run>> {
     let capacity = capacity_of(seed);
-    let Ok(mut host) = Host::new(alloc, capacity) else {
-        return Err(io::Error::from(io::ErrorKind::OutOfMemory));
-    };
-    let mut scan = Scan::new(alloc, capacity);
-    let run = run_both(alloc, &mut host, &mut scan, counts, seed)?;
-    let is_journal = is_journal(alloc, &host, &scan)?;
-    if print_run(rt, seed, &run, &scan, is_journal)? {
-        Ok(Some(run))
-    } else {
-        Ok(None)
+    match Host::new(alloc, capacity) {
+        Ok(mut host) => {
+            let mut scan = Scan::new(alloc, capacity);
+            run_on(rt, alloc, &mut host, &mut scan, counts, seed)
+        }
+        Err(_) => Err(io::Error::from(io::ErrorKind::OutOfMemory)),
     }
 }
 

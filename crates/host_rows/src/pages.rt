@@ -9,15 +9,19 @@ use std::io;
 // How many ticks there are.
 const TICKS: i64 = 300;
 
-// A host with these ticks. None where there is no memory, or one wasn't accepted.
-fn ticked(alloc: Global) -> Option<Host> {
-    let mut host = Host::new(alloc, 400).ok()?;
-    for number in 1..TICKS + 1 {
-        if host.step(0, Request::Tick(number)) != Answer::Accepted(0) {
-            return None;
+// Lets these ticks go by, and says whether that was accepted.
+fn is_ticked(host: &mut Host, ticks: i64) -> bool {
+    let answer = host.step(0, Request::Tick(ticks));
+    matches!(answer, Answer::Accepted(_))
+}
+
+// Lets ticks go by, one entry after another, as long as they are accepted.
+fn tick_all(host: &mut Host) {
+    for ticks in 1..TICKS + 1 {
+        if !is_ticked(host, ticks) {
+            return;
         }
     }
-    Some(host)
 }
 
 // How many ticks an entry lets go by.
@@ -48,14 +52,27 @@ fn page_at(alloc: Global, host: &Host, from: usize) -> Result<String, AllocError
     page_text(alloc, &page)
 }
 
-/// Prints the pages from these numbers on.
-pub fn print<R: Print>(rt: &R, alloc: Global) -> io::Result<()> {
-    let Some(host) = ticked(alloc) else {
-        return Err(io::Error::from(io::ErrorKind::OutOfMemory));
-    };
-    for from in [1, 250, 251, 290, 300, 301, 0] {
-        let page = page_at(alloc, &host, from)?;
-        println!(rt; "entries from {from}: {page}")?;
+// Prints the page from this number on.
+fn print_page<R: Print>(rt: &R, alloc: Global, host: &Host, from: usize) -> io::Result<()> {
+    let page = page_at(alloc, host, from)?;
+    println!(rt; "entries from {from}: {page}")
+}
+
+// Prints the pages from these numbers on.
+fn print_pages<R: Print>(rt: &R, alloc: Global, host: &Host) -> io::Result<()> {
+    for from in &[1usize, 250, 251, 290, 300, 301, 0] {
+        print_page(rt, alloc, host, *from)?;
     }
     Ok(())
+}
+
+/// Prints pages of the journal.
+pub fn print<R: Print>(rt: &R, alloc: Global) -> io::Result<()> {
+    match Host::new(alloc, 400) {
+        Ok(mut host) => {
+            tick_all(&mut host);
+            print_pages(rt, alloc, &host)
+        }
+        Err(_) => Err(io::Error::from(io::ErrorKind::OutOfMemory)),
+    }
 }
