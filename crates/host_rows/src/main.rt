@@ -23,9 +23,9 @@ const RUNS: u64 = 40;
 
 // How many entries the hosts of a seed have room for: in one run of five few, so that they come to an end.
 fn capacity_of(seed: u64) -> usize {
-    match seed % 5 {
+    match seed % 10 {
         0 => 40,
-        1 if seed % 10 == 1 => 100,
+        5 => 100,
         _ => 1_000,
     }
 }

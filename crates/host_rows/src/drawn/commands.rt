@@ -46,6 +46,12 @@ fn append(
     }
 }
 
+// A number of a line, or now and then of none; the first, which mostly allows all, is seldom drawn.
+fn line_number(numbers: &mut Numbers, lines: usize) -> usize {
+    let low = if numbers.chance(10) { 0 } else { 2 };
+    numbers.between(low, lines.saturating_add(1))
+}
+
 // A line in the place of one, which there may not be.
 fn replace(
     alloc: Global,
@@ -53,7 +59,7 @@ fn replace(
     units: usize,
     lines: usize,
 ) -> Result<Option<Command>, AllocError> {
-    let number = numbers.below(lines.saturating_add(2));
+    let number = line_number(numbers, lines);
     match line(alloc, numbers, units)? {
         Some(line) => Ok(Some(Command::ReplaceLine(number, line))),
         None => Ok(None),
@@ -69,10 +75,10 @@ fn change(
     let units = scan.catalogue().shapes().len();
     let lines = scan.in_force().len();
     match numbers.below(8) {
-        0 | 1 => set(alloc, numbers, units),
-        2 | 3 => append(alloc, numbers, units),
+        0 => set(alloc, numbers, units),
+        1..=3 => append(alloc, numbers, units),
         4 | 5 => replace(alloc, numbers, units, lines),
-        _ => Ok(Some(Command::RemoveLine(numbers.below(lines.saturating_add(2))))),
+        _ => Ok(Some(Command::RemoveLine(line_number(numbers, lines)))),
     }
 }
 

@@ -62,7 +62,7 @@ pub fn line(
     numbers: &mut Numbers,
     units: usize,
 ) -> Result<Option<Line>, AllocError> {
-    let text = text_of(alloc, numbers, units, 40)?;
+    let text = text_of(alloc, numbers, units, 25)?;
     Ok(read_line(alloc, text.as_str()).ok())
 }
 
@@ -74,11 +74,11 @@ pub fn list(
     units: usize,
 ) -> Result<Option<AccessList>, AllocError> {
     let mut text = String::new(alloc);
-    if numbers.chance(90) {
+    if numbers.chance(97) {
         text.push_str("allow * * *\n")?;
     }
     for _ in 0..numbers.below(8) {
-        let line = text_of(alloc, numbers, units, 25)?;
+        let line = text_of(alloc, numbers, units, 20)?;
         writeln!(text, "{line}")?;
     }
     Ok(read_list(alloc, text.as_str()).ok())

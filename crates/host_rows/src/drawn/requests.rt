@@ -11,10 +11,13 @@ use rv_shape::actor::{Callee, FIRST_TASK};
 use rv_shape::object::{Object, Operation};
 use rv_value::{Args, Scalars};
 
-// A number of an operation of so many, or now and then one more than there are.
+// A number of an operation of so many, often the third, which mostly is the entry, or now and then one more than
+// there are.
 fn operation_of(numbers: &mut Numbers, operations: usize) -> usize {
     if numbers.chance(2) {
         operations.saturating_add(1)
+    } else if numbers.chance(30) {
+        operations.min(3)
     } else {
         numbers.between(1, operations)
     }
@@ -101,7 +104,7 @@ fn any(numbers: &mut Numbers, seen: &Seen, actor: usize) -> Request {
 fn within(numbers: &mut Numbers, seen: &Seen, actor: usize) -> Request {
     match numbers.below(20) {
         0 => delay(numbers, seen),
-        1..=7 => call(numbers, seen),
+        1..=4 => call(numbers, seen),
         _ => end(numbers, seen, actor),
     }
 }
@@ -135,8 +138,8 @@ fn someone(numbers: &mut Numbers, seen: &Seen) -> usize {
     let tasks = seen.catalogue.tasks();
     match numbers.below(20) {
         0 => 0,
-        1 | 2 => numbers.between(1, FIRST_TASK - 1),
-        3 if numbers.chance(20) => numbers.between(FIRST_TASK, 80).saturating_add(tasks),
+        1 => numbers.between(1, FIRST_TASK - 1),
+        2 if numbers.chance(20) => numbers.between(FIRST_TASK, 80).saturating_add(tasks),
         _ => FIRST_TASK.saturating_add(numbers.below(tasks)),
     }
 }
