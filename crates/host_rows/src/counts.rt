@@ -31,6 +31,9 @@ const KINDS: [&str; 24] = [
     "nomemory",
 ];
 
+// The place of want of memory, which alone need not come.
+const NO_MEMORY: usize = 23;
+
 // The place of a rule among the kinds.
 fn place_of_rule(rule: Rule) -> usize {
     match rule {
@@ -71,7 +74,7 @@ fn place_of(answer: &Answer) -> usize {
         Answer::Waiting => 20,
         Answer::Unattached => 21,
         Answer::BadLine => 22,
-        Answer::OutOfMemory => 23,
+        Answer::OutOfMemory => NO_MEMORY,
     }
 }
 
@@ -92,6 +95,16 @@ impl Counts {
         if let Some(count) = self.counts.get_mut(place_of(answer)) {
             *count = count.saturating_add(1);
         }
+    }
+
+    /// A kind that never came, other than want of memory.
+    pub fn missing(&self) -> Option<&'static str> {
+        for place in 0..NO_MEMORY {
+            if self.counts[place] == 0 {
+                return Some(KINDS[place]);
+            }
+        }
+        None
     }
 
     /// Prints a line for each kind.

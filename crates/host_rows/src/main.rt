@@ -1,6 +1,7 @@
 //! Compares the host that keeps fields with one that looks back over its entries at each request, over commands
 //! drawn from fixed seeds: each answer, and at the end each entry. It ends with status 1 at the first difference,
-//! which it prints. It also prints pages of a long journal.
+//! which it prints, or where a kind of answer never came, and with status 3 where memory is refused. It also prints
+//! pages of a long journal.
 #![tactic(auto)]
 
 mod compared;
@@ -98,22 +99,46 @@ fn run_seed<R: Print>(
     }
 }
 
-fn main(rt: HostRuntime) -> io::Result<ExitCode> {
-    let alloc = rt.alloc();
-    let mut counts = Counts::new();
+// Runs all seeds. False where something differed.
+fn run_all<R: Print>(rt: &R, alloc: Global, counts: &mut Counts) -> io::Result<bool> {
     let mut requests = 0usize;
     let mut changes = 0usize;
     for seed in 1..RUNS + 1 {
-        let Some(run) = run_seed(&rt, alloc, &mut counts, seed)? else {
-            return Ok(ExitCode::from(1));
+        let Some(run) = run_seed(rt, alloc, counts, seed)? else {
+            return Ok(false);
         };
         requests = requests.saturating_add(run.requests);
         changes = changes.saturating_add(run.changes);
     }
-    counts.print(&rt)?;
-    pages::print(&rt, alloc)?;
     println!(rt;
         "{requests} requests, {changes} loads and list changes: equal answers and journals"
     )?;
-    Ok(ExitCode::SUCCESS)
+    Ok(true)
+}
+
+// Compares and prints. False where something differed, or a kind of answer never came.
+fn compare<R: Print>(rt: &R, alloc: Global) -> io::Result<bool> {
+    let mut counts = Counts::new();
+    if !run_all(rt, alloc, &mut counts)? {
+        return Ok(false);
+    }
+    counts.print(rt)?;
+    pages::print(rt, alloc)?;
+    if let Some(kind) = counts.missing() {
+        println!(rt; "never answered: {kind}")?;
+        return Ok(false);
+    }
+    Ok(true)
+}
+
+fn main(rt: HostRuntime) -> io::Result<ExitCode> {
+    match compare(&rt, rt.alloc()) {
+        Ok(true) => Ok(ExitCode::SUCCESS),
+        Ok(false) => Ok(ExitCode::from(1)),
+        Err(e) if e.kind() == io::ErrorKind::OutOfMemory => {
+            let _ = eprintln!(rt; "host_rows: no memory");
+            Ok(ExitCode::from(3))
+        }
+        Err(e) => Err(e),
+    }
 }

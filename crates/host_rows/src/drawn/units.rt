@@ -13,10 +13,22 @@ pub const MOST_OBJECTS: usize = 3;
 /// The most operations of a drawn object.
 pub const MOST_OPERATIONS: usize = 5;
 
+// The priority of every second task and the ceiling of every second object without a handler: it often is both.
+const COMMON: usize = 16;
+
+// A priority or a ceiling, every second time the common one.
+fn level(numbers: &mut Numbers, low: usize, high: usize) -> usize {
+    if numbers.chance(50) {
+        COMMON
+    } else {
+        numbers.between(low, high)
+    }
+}
+
 // Adds one to three tasks.
 fn put_tasks(text: &mut String, numbers: &mut Numbers) -> Result<(), AllocError> {
     for task in 1..numbers.between(2, 4) {
-        let priority = numbers.between(1, 22);
+        let priority = level(numbers, 1, 22);
         write!(text, "task T{task} {priority}\n")?;
     }
     Ok(())
@@ -75,8 +87,11 @@ fn put_protected(
     object: usize,
     line: Option<usize>,
 ) -> Result<(), AllocError> {
-    let low = if line.is_some() { 31 } else { 12 };
-    let ceiling = numbers.between(low, 40);
+    let ceiling = if line.is_some() {
+        numbers.between(31, 40)
+    } else {
+        level(numbers, 12, 40)
+    };
     let start = numbers.below(2);
     write!(
         text,
