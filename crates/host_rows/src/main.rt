@@ -20,7 +20,7 @@ use std::io;
 use std::process::ExitCode;
 
 // How many runs there are, each with a seed of its own.
-const RUNS: u64 = 40;
+const RUNS: u64 = 80;
 
 // How many entries the hosts of a seed have room for: in one run of five few, so that they come to an end.
 fn capacity_of(seed: u64) -> usize {
@@ -99,35 +99,44 @@ fn run_seed<R: Print>(
     }
 }
 
-// Runs all seeds. False where something differed.
-fn run_all<R: Print>(rt: &R, alloc: Global, counts: &mut Counts) -> io::Result<bool> {
+/// How many commands were answered alike.
+#[derive(Clone, Copy)]
+struct Totals {
+    requests: usize,
+    changes: usize,
+}
+
+// Runs all seeds. None where something differed.
+fn run_all<R: Print>(rt: &R, alloc: Global, counts: &mut Counts) -> io::Result<Option<Totals>> {
     let mut requests = 0usize;
     let mut changes = 0usize;
     for seed in 1..RUNS + 1 {
         let Some(run) = run_seed(rt, alloc, counts, seed)? else {
-            return Ok(false);
+            return Ok(None);
         };
         requests = requests.saturating_add(run.requests);
         changes = changes.saturating_add(run.changes);
     }
-    println!(rt;
-        "{requests} requests, {changes} loads and list changes: equal answers and journals"
-    )?;
-    Ok(true)
+    Ok(Some(Totals { requests, changes }))
 }
 
 // Compares and prints. False where something differed, or a kind of answer never came.
 fn compare<R: Print>(rt: &R, alloc: Global) -> io::Result<bool> {
     let mut counts = Counts::new();
-    if !run_all(rt, alloc, &mut counts)? {
+    let Some(totals) = run_all(rt, alloc, &mut counts)? else {
         return Ok(false);
-    }
+    };
     counts.print(rt)?;
     pages::print(rt, alloc)?;
     if let Some(kind) = counts.missing() {
         println!(rt; "never answered: {kind}")?;
         return Ok(false);
     }
+    let requests = totals.requests;
+    let changes = totals.changes;
+    println!(rt;
+        "{requests} requests, {changes} loads and list changes: equal answers and journals"
+    )?;
     Ok(true)
 }
 

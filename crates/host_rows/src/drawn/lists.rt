@@ -27,10 +27,15 @@ fn put_object(text: &mut String, numbers: &mut Numbers, units: usize) -> Result<
     }
 }
 
-// Adds which operation.
-fn put_operation(text: &mut String, numbers: &mut Numbers) -> Result<(), AllocError> {
+// Adds which operation: a denied one is often the third, which mostly is the entry, and never all.
+fn put_operation(
+    text: &mut String,
+    numbers: &mut Numbers,
+    is_denied: bool,
+) -> Result<(), AllocError> {
     let operation = numbers.between(1, MOST_OPERATIONS);
     match numbers.below(8) {
+        0..=3 if is_denied => text.push_str(" op3"),
         0..=3 => text.push_str(" *"),
         4 => text.push_str(" suspend_until_true"),
         _ => write!(text, " op{operation}"),
@@ -44,15 +49,12 @@ fn text_of(
     units: usize,
     percent: usize,
 ) -> Result<String, AllocError> {
-    let verb = if numbers.chance(percent) {
-        "deny"
-    } else {
-        "allow"
-    };
+    let is_denied = numbers.chance(percent);
+    let verb = if is_denied { "deny" } else { "allow" };
     let mut text = String::from_str(alloc, verb)?;
     put_caller(&mut text, numbers, units)?;
     put_object(&mut text, numbers, units)?;
-    put_operation(&mut text, numbers)?;
+    put_operation(&mut text, numbers, is_denied)?;
     Ok(text)
 }
 
@@ -62,7 +64,7 @@ pub fn line(
     numbers: &mut Numbers,
     units: usize,
 ) -> Result<Option<Line>, AllocError> {
-    let text = text_of(alloc, numbers, units, 25)?;
+    let text = text_of(alloc, numbers, units, 40)?;
     Ok(read_line(alloc, text.as_str()).ok())
 }
 
@@ -78,7 +80,7 @@ pub fn list(
         text.push_str("allow * * *\n")?;
     }
     for _ in 0..numbers.below(8) {
-        let line = text_of(alloc, numbers, units, 20)?;
+        let line = text_of(alloc, numbers, units, 35)?;
         writeln!(text, "{line}")?;
     }
     Ok(read_list(alloc, text.as_str()).ok())

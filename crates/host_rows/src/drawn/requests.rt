@@ -43,9 +43,17 @@ fn call_suspension(numbers: &mut Numbers, object: usize) -> Request {
     Request::Call(object, operation, Args::new())
 }
 
+// A number of an object, often of the one that was waited for last.
+fn object_of(numbers: &mut Numbers, seen: &Seen) -> usize {
+    match seen.waiting.as_slice().last() {
+        Some(waiting) if numbers.chance(30) => waiting.object,
+        _ => numbers.between(1, seen.catalogue.objects()),
+    }
+}
+
 // A call, of what there is most times.
 fn call(numbers: &mut Numbers, seen: &Seen) -> Request {
-    let object = numbers.between(1, seen.catalogue.objects());
+    let object = object_of(numbers, seen);
     match seen.catalogue.object(object) {
         Some((_, Object::Protected(found))) => call_protected(numbers, object, found.operations()),
         Some((_, Object::Suspension(_))) => call_suspension(numbers, object),
