@@ -1,6 +1,6 @@
 //! Drawn commands.
 
-use crate::drawn::lists::{line, list};
+use crate::drawn::lists::{denial, line, list};
 use crate::drawn::numbers::Numbers;
 use crate::drawn::requests::request;
 use crate::drawn::units::unit;
@@ -46,6 +46,15 @@ fn append(
     }
 }
 
+// A line appended that denies a call that waits, if one does.
+fn deny(alloc: Global, scan: &Scan) -> Result<Option<Command>, AllocError> {
+    let seen = scan.seen()?;
+    match denial(alloc, &seen)? {
+        Some(line) => Ok(Some(Command::AppendLine(line))),
+        None => Ok(None),
+    }
+}
+
 // A number of a line, or now and then of none; the first, which mostly allows all, is seldom drawn.
 fn line_number(numbers: &mut Numbers, lines: usize) -> usize {
     let low = if numbers.chance(10) { 0 } else { 2 };
@@ -66,7 +75,7 @@ fn replace(
     }
 }
 
-// A change of the list.
+// A change of the list, of which the first sets it whole.
 fn change(
     alloc: Global,
     numbers: &mut Numbers,
@@ -74,10 +83,14 @@ fn change(
 ) -> Result<Option<Command>, AllocError> {
     let units = scan.catalogue().shapes().len();
     let lines = scan.in_force().len();
-    match numbers.below(8) {
+    if scan.lists().is_empty() {
+        return set(alloc, numbers, units);
+    }
+    match numbers.below(10) {
         0 => set(alloc, numbers, units),
         1..=3 => append(alloc, numbers, units),
         4 | 5 => replace(alloc, numbers, units, lines),
+        6 | 7 => deny(alloc, scan),
         _ => Ok(Some(Command::RemoveLine(line_number(numbers, lines)))),
     }
 }

@@ -2,7 +2,9 @@
 
 use crate::drawn::numbers::Numbers;
 use crate::drawn::units::{MOST_OBJECTS, MOST_OPERATIONS};
+use crate::scan::seen::Seen;
 use rv_access::{AccessList, Line, read_line, read_list};
+use rv_shape::object::Object;
 use std::alloc::{AllocError, Global};
 use std::fmt::Write;
 
@@ -64,7 +66,20 @@ pub fn line(
     numbers: &mut Numbers,
     units: usize,
 ) -> Result<Option<Line>, AllocError> {
-    let text = text_of(alloc, numbers, units, 40)?;
+    let text = text_of(alloc, numbers, units, 60)?;
+    Ok(read_line(alloc, text.as_str()).ok())
+}
+
+/// A line that denies the third operation of the object that was waited for last, which is its entry. None where
+/// nobody waits.
+pub fn denial(alloc: Global, seen: &Seen) -> Result<Option<Line>, AllocError> {
+    let Some(waiting) = seen.waiting.as_slice().last() else {
+        return Ok(None);
+    };
+    let Some((shape, Object::Protected(object))) = seen.catalogue.object(waiting.object) else {
+        return Ok(None);
+    };
+    let text = format!(in alloc; "deny * {}.{} op3", shape.name(), object.name())?;
     Ok(read_line(alloc, text.as_str()).ok())
 }
 
