@@ -1,0 +1,125 @@
+//! Drawn commands.
+
+use crate::drawn::lists::{denial, line, list};
+use crate::drawn::numbers::Numbers;
+use crate::drawn::requests::request;
+use crate::drawn::units::unit;
+use crate::scan::Scan;
+use rv_event::entry::Request;
+use rv_history::command::Command;
+use std::alloc::{AllocError, Global};
+
+// How many units are loaded at most.
+const MOST_UNITS: usize = 8;
+
+// The load of the next unit, or now and then of one of a name that is taken.
+fn load(alloc: Global, numbers: &mut Numbers, scan: &Scan) -> Result<Option<Command>, AllocError> {
+    let loaded = scan.catalogue().shapes().len();
+    let number = if numbers.chance(90) {
+        loaded.saturating_add(1)
+    } else {
+        loaded
+    };
+    match unit(alloc, numbers, number)? {
+        Some(shape) => Ok(Some(Command::Load(shape))),
+        None => Ok(None),
+    }
+}
+
+// A list set whole.
+fn set(alloc: Global, numbers: &mut Numbers, units: usize) -> Result<Option<Command>, AllocError> {
+    match list(alloc, numbers, units)? {
+        Some(list) => Ok(Some(Command::SetList(list))),
+        None => Ok(None),
+    }
+}
+
+// A line appended.
+fn append(
+    alloc: Global,
+    numbers: &mut Numbers,
+    units: usize,
+) -> Result<Option<Command>, AllocError> {
+    match line(alloc, numbers, units)? {
+        Some(line) => Ok(Some(Command::AppendLine(line))),
+        None => Ok(None),
+    }
+}
+
+// A line appended that denies a call that waits, if one does.
+fn deny(alloc: Global, scan: &Scan) -> Result<Option<Command>, AllocError> {
+    let seen = scan.seen()?;
+    match denial(alloc, &seen)? {
+        Some(line) => Ok(Some(Command::AppendLine(line))),
+        None => Ok(None),
+    }
+}
+
+// A number of a line, or now and then of none; the first, which mostly allows all, is seldom drawn.
+fn line_number(numbers: &mut Numbers, lines: usize) -> usize {
+    let low = if numbers.chance(10) { 0 } else { 2 };
+    numbers.between(low, lines.saturating_add(1))
+}
+
+// A line in the place of one, which there may not be.
+fn replace(
+    alloc: Global,
+    numbers: &mut Numbers,
+    units: usize,
+    lines: usize,
+) -> Result<Option<Command>, AllocError> {
+    let number = line_number(numbers, lines);
+    match line(alloc, numbers, units)? {
+        Some(line) => Ok(Some(Command::ReplaceLine(number, line))),
+        None => Ok(None),
+    }
+}
+
+// A change of the list, of which the first sets it whole.
+fn change(
+    alloc: Global,
+    numbers: &mut Numbers,
+    scan: &Scan,
+) -> Result<Option<Command>, AllocError> {
+    let units = scan.catalogue().shapes().len();
+    let lines = scan.in_force().len();
+    if scan.lists().is_empty() {
+        return set(alloc, numbers, units);
+    }
+    match numbers.below(10) {
+        0 => set(alloc, numbers, units),
+        1..=3 => append(alloc, numbers, units),
+        4 | 5 => replace(alloc, numbers, units, lines),
+        6 | 7 => deny(alloc, scan),
+        _ => Ok(Some(Command::RemoveLine(line_number(numbers, lines)))),
+    }
+}
+
+// A request, or the halt, which comes late in a run.
+fn ask(numbers: &mut Numbers, scan: &Scan, is_late: bool) -> Result<Option<Command>, AllocError> {
+    if is_late && numbers.chance(3) {
+        return Ok(Some(Command::Ask(0, Request::Halt)));
+    }
+    let seen = scan.seen()?;
+    let (actor, request) = request(numbers, &seen);
+    Ok(Some(Command::Ask(actor, request)))
+}
+
+/// The next command of a run. None where nothing was drawn.
+pub fn command(
+    alloc: Global,
+    numbers: &mut Numbers,
+    scan: &Scan,
+    is_late: bool,
+) -> Result<Option<Command>, AllocError> {
+    let loaded = scan.catalogue().shapes().len();
+    if loaded == 0 || (loaded < MOST_UNITS && numbers.chance(3)) {
+        return load(alloc, numbers, scan);
+    }
+    let percent = if scan.lists().is_empty() { 15 } else { 6 };
+    if numbers.chance(percent) {
+        change(alloc, numbers, scan)
+    } else {
+        ask(numbers, scan, is_late)
+    }
+}

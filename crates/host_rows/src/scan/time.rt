@@ -1,0 +1,34 @@
+//! The clock (D.8), the halt, and the version of the list.
+
+use rv_event::entry::Entry;
+use rv_event::one_entry::{halts, is_list, ticks};
+
+/// The ticks so far.
+pub fn clock(entries: &[Entry]) -> i64 {
+    let mut clock = 0u64;
+    for entry in entries {
+        clock = clock.saturating_add(ticks(entry));
+    }
+    i64::try_from(clock).unwrap_or(i64::MAX)
+}
+
+/// Whether there is an accepted halt.
+pub fn is_halted(entries: &[Entry]) -> bool {
+    for entry in entries {
+        if halts(entry) {
+            return true;
+        }
+    }
+    false
+}
+
+/// How many list changes there are.
+pub fn count_lists(entries: &[Entry]) -> usize {
+    let mut count = 0usize;
+    for entry in entries {
+        if is_list(entry) {
+            count = count.saturating_add(1);
+        }
+    }
+    count
+}
