@@ -9,8 +9,11 @@ use Rattle.rv_fault.specs.declared.failure.Failure.{Failure}
 use Rattle.rv_input.specs.Coming.{Reading, IfTold, GivesLine, coming, most_before}
 use Rattle.rv_run.specs.declared.command.Goes.{Goes}
 use Rattle.rv_run.specs.declared.command.Goes.TheVariants.{On, Out}
+use Rattle.rv_fault.specs.Written.{Puts}
 use Rattle.rv_staff.specs.Giving.{Gives}
-use Rattle.rv_run.specs.Commanding.{Commands, Ends, GoesOn, IsReadFault, IsWriteFault, Served, ServesAll, ServesNext, Standing, StartsAndGoesOn, most_commands}
+use Rattle.rv_staff.specs.Ending.{Ended}
+use Rattle.rv_staff.specs.Staffs.{Staffed}
+use Rattle.rv_run.specs.Commanding.{Commands, Ends, Finishes, GoesOn, IsReadFault, IsWriteFault, RunsSession, Served, ServesAll, ServesNext, Standing, StartsAndGoesOn, entries_line, most_commands}
 
 -- nothing is a prefix
 pub nothing_written : (old : Written) (text : List ℕ) → WritesPrefix old old text
@@ -90,3 +93,21 @@ module _ (runs : Bool) (old mid : Written) (i : Reading) (r : Option (List ℕ))
     stays = refl;
     goes = inr (refl, fails);
   }
+
+-- The end
+
+pub length_told : (staff : Staffed) (x : Unit {0}) (old new : Written) (entries : ℕ) (result : Result (Unit {0}) Failure)
+    → Ended staff entries → Puts old new (entries_line entries) result → Finishes staff (Ok x) old new result
+length_told staff x old new entries result ended told = inl (entries, ended, told)
+
+pub session_run : (runs : Bool) (a : Standing) (staff : Staffed) (mid new : Written) (i : Reading) (r : Option (List ℕ))
+    (served result : Result (Unit {0}) Failure)
+    → StartsAndGoesOn runs a (record { written = mid; input = i; left = r; control = staff.control }) served
+    → Finishes staff served mid new result → RunsSession runs a new result
+session_run runs a staff mid new i r served result goes ends = record {
+  last = record { written = mid; input = i; left = r; control = staff.control };
+  served = served;
+  goes = goes;
+  crew = staff.crew;
+  ends = ends;
+}
