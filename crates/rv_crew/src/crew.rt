@@ -138,6 +138,11 @@ impl Crew {
         if self.running.reserve(1).is_err() || self.lost.reserve(1).is_err() {
             return Err(StartFault::NoMemory(job, port));
         }
+        // Room for what comes back, too: so no thread is left behind for want of memory when they are joined.
+        let coming = self.running.len().saturating_add(1);
+        if self.joined.reserve(coming).is_err() {
+            return Err(StartFault::NoMemory(job, port));
+        }
         let actor = port.actor();
         match begin(rt, job, port) {
             Some(thread) => {

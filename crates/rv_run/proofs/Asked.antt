@@ -7,7 +7,6 @@ use Rattle.rv_event.specs.declared.entry.Answer.{Answer}
 use Rattle.rv_turn.specs.declared.pass.Worn.{Worn}
 use Rattle.rv_port.specs.Traces.{Passing}
 use Rattle.rv_text.specs.Words.{words}
-use Rattle.rv_shell.specs.Orders.{order_of}
 use Rattle.rv_shell.specs.Serving.{Serves, Written}
 use Rattle.rv_shell.specs.declared.shell.Next.TheVariants as Nexts
 use Rattle.rv_shell.specs.declared.shell.Next.{Next}
@@ -29,7 +28,7 @@ loads_by v u w shape bodies answer told given = inr record {
 }
 
 -- a line that says load
-pub behind_load : (before written : Written) (v u w : Passing) (line : List ℕ) → Serves before written v u (order_of (words line)) (Ok Nexts.Load) → (w ≡ u) ⊎ Loads u w → Commands before v w line
+pub behind_load : (before written : Written) (v u w : Passing) (line : List ℕ) → Serves before written v u (words line) (Ok Nexts.Load) → (w ≡ u) ⊎ Loads u w → Commands before v w line
 behind_load before written v u w line served loaded = record { written = written; between = u; next = Ok Nexts.Load; served = served; follows = loaded }
 
 -- another line
@@ -40,5 +39,5 @@ follows_all v (Ok (Nexts.Raise line)) = refl
 follows_all v (Ok Nexts.Quit) = refl
 follows_all v (Err fault) = refl
 
-pub behind_line : (before written : Written) (v u : Passing) (line : List ℕ) (next : Result Next LineFault) → Serves before written v u (order_of (words line)) next → Commands before v u line
+pub behind_line : (before written : Written) (v u : Passing) (line : List ℕ) (next : Result Next LineFault) → Serves before written v u (words line) next → Commands before v u line
 behind_line before written v u line next served = record { written = written; between = u; next = next; served = served; follows = follows_all u next }

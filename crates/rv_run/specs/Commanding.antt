@@ -7,7 +7,6 @@ use Rattle.rv_turn.specs.Passes.{IsWorn}
 use Rattle.rv_turn.specs.declared.pass.Worn.{Worn}
 use Rattle.rv_port.specs.Traces.{Passing}
 use Rattle.rv_port.specs.Controls.{Brings, LoadTold}
-use Rattle.rv_shell.specs.Orders.{order_of}
 use Rattle.rv_shell.specs.Serving.{Serves, Written}
 use Rattle.rv_shell.specs.declared.shell.Next.TheVariants as Nexts
 use Rattle.rv_shell.specs.declared.shell.Next.{Next}
@@ -43,5 +42,5 @@ pub record Commands (before : Written) (v w : Passing) (line : List ℕ) : Type 
   pub written : Written
   pub between : Passing
   pub next : Result Next LineFault
-  pub served : Serves before written v between (order_of (words line)) next
+  pub served : Serves before written v between (words line) next
   pub follows : Follows between w next

@@ -17,7 +17,8 @@ use Rattle.rv_shell.specs.declared.shell.LineFault.{LineFault}
 use Rattle.rv_shell.specs.declared.shell.LineFault.TheVariants.{NoMemory, Write, Worn}
 use Rattle.rv_shell.specs.declared.order.Order.{Order}
 use Rattle.rv_shell.specs.declared.order.Order.TheVariants as Orders
-use Rattle.rv_shell.specs.Serving.{Written, Writes, RequestsOrWorn, ReadsOrWorn, Obeys, Serves, answer_line, page_text}
+use Rattle.rv_shell.specs.Orders.{order_of}
+use Rattle.rv_shell.specs.Serving.{Written, Writes, RequestsOrWorn, ReadsOrWorn, Obeys, Carries, Serves, answer_line, page_text}
 
 -- a request was told, and its answer is written
 pub asks_by : (old new : Written) (v w : Passing) (ask : Ask) (answer : Answer) (result : Result Next LineFault)
@@ -76,7 +77,10 @@ obeys_turn old new v w Orders.Load result obeys = ap (λ (p : Passing). p.turn) 
 obeys_turn old new v w (Orders.Journal from) result obeys = pages_turn old new v w from result obeys
 obeys_turn old new v w Orders.Quit result obeys = ap (λ (p : Passing). p.turn) obeys.0
 
-pub serves_turn : (old new : Written) (v w : Passing) (order : Option Order) (result : Result Next LineFault) → Serves old new v w order result → w.turn ≡ v.turn
-serves_turn old new v w order result (inl none) = ap (λ (p : Passing). p.turn) none.0
-serves_turn old new v w (Some order) result (inr obeys) = obeys_turn old new v w order result obeys
-serves_turn old new v w None result (inr says) = ap (λ (p : Passing). p.turn) says.0
+carries_turn : (old new : Written) (v w : Passing) (order : Option Order) (result : Result Next LineFault) → Carries old new v w order result → w.turn ≡ v.turn
+carries_turn old new v w (Some order) result obeys = obeys_turn old new v w order result obeys
+carries_turn old new v w None result says = ap (λ (p : Passing). p.turn) says.0
+
+pub serves_turn : (old new : Written) (v w : Passing) (words : List (List ℕ)) (result : Result Next LineFault) → Serves old new v w words result → w.turn ≡ v.turn
+serves_turn old new v w words result (inl none) = ap (λ (p : Passing). p.turn) none.0
+serves_turn old new v w words result (inr carries) = carries_turn old new v w (order_of words) result carries

@@ -21,6 +21,7 @@ use Rattle.rv_port.specs.Controls.{Told, PageFailed}
 use Rattle.rv_port.specs.declared.fault.PageFault.TheVariants as PageFaults
 use Rattle.rv_port.specs.declared.event.Ask.{Ask}
 use Rattle.rv_port.specs.declared.event.Reply.TheVariants as Gives
+use Rattle.rv_shell.specs.Orders.{order_of, own_order}
 use Rattle.rv_shell.specs.declared.order.Order.{Order}
 use Rattle.rv_shell.specs.declared.order.Order.TheVariants as Orders
 use Rattle.rv_shell.specs.declared.shell.Next.{Next}
@@ -109,9 +110,9 @@ WritesOnly old new v w text result = (w ≡ v) × Writes old new text result
 abbrev pub TellsCaller : Written → Written → Passing → Passing → Next → Result Next LineFault → Type 0
 TellsCaller old new v w next result = (w ≡ v) × (new ≡ old) × (result ≡ Ok next)
 
--- nothing is asked or written for want of memory
-abbrev pub LacksMemory : Written → Written → Passing → Passing → Result Next LineFault → Type 0
-LacksMemory old new v w result = (w ≡ v) × (new ≡ old) × (result ≡ Err NoMemory)
+-- nothing is asked or written for want of memory to read the words; `load`, `quit`, `raise K` and `journal FROM` are read without
+abbrev pub LacksMemory : Written → Written → Passing → Passing → List (List ℕ) → Result Next LineFault → Type 0
+LacksMemory old new v w words result = (w ≡ v) × (new ≡ old) × (result ≡ Err NoMemory) × (own_order words ≡ None)
 
 -- a request with a line of the list, or what is wrong with that line
 abbrev pub WithLine : Written → Written → Passing → Passing → Result Words ListFault → (Words → Ask) → Result Next LineFault → Type 0
@@ -135,6 +136,6 @@ abbrev pub Carries : Written → Written → Passing → Passing → Option Orde
 Carries old new v w (Some order) result = Obeys old new v w order result
 Carries old new v w None result = (w ≡ v) × Prints old new (codes "bad command" ++ 10 ∷ []) result
 
--- there was no memory to read the line, and nothing is asked or written; else the line is carried out
-abbrev pub Serves : Written → Written → Passing → Passing → Option Order → Result Next LineFault → Type 0
-Serves old new v w order result = LacksMemory old new v w result ⊎ Carries old new v w order result
+-- there was no memory to read the words of a line, and nothing is asked or written; else the line is carried out
+abbrev pub Serves : Written → Written → Passing → Passing → List (List ℕ) → Result Next LineFault → Type 0
+Serves old new v w words result = LacksMemory old new v w words result ⊎ Carries old new v w (order_of words) result

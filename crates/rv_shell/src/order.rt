@@ -1,6 +1,6 @@
 //! What a command line asks.
 
-ghost use Rattle.std.specs.Prelude.{◌≡◌, ◌∷◌, []};
+ghost use Rattle.std.specs.Prelude.{◌≡◌, ◌∷◌, [], None, OnErr};
 ghost use Rattle.rv_step.specs.StepText.{Gives};
 ghost use Rattle.rv_shell.specs.Orders.{order_of, own_order, of_step, raise_of, journal_of};
 ghost use Rattle.rv_text.specs.Words.{words};
@@ -111,7 +111,8 @@ fn own_order(line: &str) -> Option<Order>
 /// What a command line asks: `append LINE`, `remove N`, `replace N LINE`, `tick N`, `halt`, `raise K`, `load`,
 /// `journal FROM` or `quit`. `BadStep` where it is none of them.
 pub fn order_of(alloc: Global, line: &str) -> Result<Order, StepError>
-    ensures { Gives result (order_of (words line.now)) }
+    ensures gives { Gives result (order_of (words line.now)) }
+    ensures stepped { OnErr result (own_order (words line.now) ≡ None) }
 {
     if let Some(order) = own_order(line) {
         return Ok(order);

@@ -6,7 +6,6 @@ ghost use Rattle.rv_event.specs.declared.entry.Request.TheVariants as asks;
 ghost use Rattle.rv_port.specs.Events.{catalogue_of};
 ghost use Rattle.rv_port.specs.declared.event.Ask.{Ask};
 ghost use Rattle.rv_step.specs.Lookup.{line_number};
-ghost use Rattle.rv_shell.specs.Orders.{order_of as order_words};
 ghost use Rattle.rv_shell.specs.Serving.{RequestsOrWorn, Obeys, Prints, ReadsOrWorn, Serves, Writes, answer_line, fault_line};
 
 use crate::order::{Order, order_of};
@@ -269,7 +268,7 @@ impl Shell {
         line: &str,
         writer: &mut W,
     ) -> Result<Next, LineFault>
-        ensures serves { Serves (W.contents writer.old) (W.contents writer.new) control.old control.new (order_words (words line.now)) result }
+        ensures serves { Serves (W.contents writer.old) (W.contents writer.new) control.old control.new (words line.now) result }
         ensures turn { control.new.turn ≡ control.old.turn }
     {
         match order_of(self.alloc, line) {

@@ -1,24 +1,24 @@
 -- Threads stay of one turn.
-use Rattle.std.proofs.Common.{◌≡◌, List, [], ◌∷◌, ◌++◌, map, Ok, Err, inl, inr, refl, sym, ap, ◌∙◌, subst, MatchResult, ℕ, Option, Some, None, IfSome}
+use Rattle.std.proofs.Common.{◌≡◌, List, [], ◌++◌, ◌∷◌, Ok, Err, inl, inr, refl, sym, ap, ◌∙◌, subst, MatchResult, ℕ, Option, Some, None, IfSome}
 use Rattle.std.specs.Prelude.{Result}
 use Rattle.atomic_table.specs.Seated.{TableId}
 use Rattle.rv_code.specs.declared.body.UnitBodies.{UnitBodies}
 use Rattle.rv_shape.specs.Shape.{Shape}
 use Rattle.rv_event.specs.declared.entry.Answer.{Answer}
 use Rattle.rv_event.specs.declared.entry.Request.TheVariants as asks
-use Rattle.rv_turn.specs.Histories.{Each}
 use Rattle.rv_turn.specs.Passes.{IsWorn}
 use Rattle.rv_turn.specs.declared.pass.Worn.{Worn as Spent}
 use Rattle.rv_port.specs.Traces.{Passing}
 use Rattle.rv_port.specs.Ports.{Porting}
 use Rattle.rv_port.specs.Controls.{IsGiven, LoadTold, Told}
-use Rattle.rv_crew.specs.Teams.{Owed, Team}
+use Rattle.rv_crew.specs.Teams.{Team, IsOfTurn}
 use Rattle.rv_port.specs.declared.event.Ask.{Ask}
-use Rattle.rv_crew.specs.Crews.{Joins, told_of}
+use Rattle.rv_crew.specs.Crews.{Joins}
+use Rattle.rv_crew.proofs.Turns.{none_of_turn, started_of_turn, lost_of_turn}
 use Rattle.rv_staff.specs.declared.hires.HireFault.{HireFault}
 use Rattle.rv_staff.specs.declared.hires.HireFault.TheVariants.{NoThread, NoMemory}
 use Rattle.rv_staff.specs.Hiring.{hired}
-use Rattle.rv_staff.specs.Staffs.{AreOf, Staffed}
+use Rattle.rv_staff.specs.Staffs.{AreOf, Staffed, no_crew}
 use Rattle.rv_staff.specs.Ending.{Closes, Ended, Halts, Leaves}
 
 -- What the operator does.
@@ -27,7 +27,7 @@ use Rattle.rv_staff.specs.Ending.{Closes, Ended, Halts, Leaves}
 pub moved : (v w : Passing) (crew : Team) → w.turn ≡ v.turn → AreOf v crew → AreOf w crew
 moved v w crew same are = record {
   none_joined = are.none_joined;
-  one_turn = subst (λ (t : TableId). Each (λ (o : Owed). o.turn ≡ t) crew.running) (sym same) are.one_turn;
+  one_turn = subst (λ (t : TableId). IsOfTurn t crew) (sym same) are.one_turn;
 }
 
 pub halts_stay : (v w : Passing) → Halts v w → w.turn ≡ v.turn
@@ -51,28 +51,18 @@ given_turn v w actor port given = ap (λ (p : Passing). p.turn) given.parted.new
 
 -- What is started.
 
-each_last : {X : Type 0} (P : X → Type 0) (xs : List X) (x : X) → Each P xs → P x → Each P (xs ++ x ∷ [])
-each_last P [] x all last = (last, tt)
-each_last P (y ∷ ys) x all last = (all.0, each_last P ys x all.1 last)
+pub none_are : (control : Passing) → AreOf control no_crew
+none_are control = record { none_joined = refl; one_turn = none_of_turn control.turn [] }
 
 pub hired_stay : (control : Passing) (crew : Team) (port : Porting) (result : Result (Unit {0}) HireFault) → port.turn ≡ control.turn → AreOf control crew → AreOf control (hired crew port result)
 hired_stay control crew port (Ok x) same are = record {
   none_joined = are.none_joined;
-  one_turn = each_last (λ (o : Owed). o.turn ≡ control.turn) crew.running (told_of port) are.one_turn same;
+  one_turn = started_of_turn control.turn crew port are.one_turn same;
 }
-hired_stay control crew port (Err NoThread) same are = record { none_joined = are.none_joined; one_turn = are.one_turn }
+hired_stay control crew port (Err NoThread) same are = record { none_joined = are.none_joined; one_turn = lost_of_turn control.turn crew (crew.lost ++ port.actor ∷ []) are.one_turn }
 hired_stay control crew port (Err NoMemory) same are = are
 
 -- What is joined.
-
-each_back : (t : TableId) (back : List Porting) → Each (λ (o : Owed). o.turn ≡ t) (map told_of back) → Each (λ (f : Porting). f.turn ≡ t) back
-each_back t [] all = tt
-each_back t (f ∷ fs) all = (all.0, each_back t fs all.1)
-
-pub joined_turn : (control : Passing) (crew : Team) (after : List Porting) → AreOf control crew → Joins crew.joined crew.running after → Each (λ (f : Porting). f.turn ≡ control.turn) after
-joined_turn control crew after are joins =
-    subst (λ (l : List Porting). Each (λ (f : Porting). f.turn ≡ control.turn) l) (sym (joins.2 ∙ ap (λ (l : List Porting). l ++ joins.0) are.none_joined))
-    (each_back control.turn joins.0 (subst (λ (l : List Owed). Each (λ (o : Owed). o.turn ≡ control.turn) l) (sym joins.1) are.one_turn))
 
 pub closes : (control : Passing) (crew after : Team) (result : Option ℕ) → AreOf control crew → Joins crew.joined crew.running after.joined
     → after ≡ record { running = []; joined = after.joined; lost = crew.lost } → IfSome result (Leaves control after) → IfSome result (Closes control crew)

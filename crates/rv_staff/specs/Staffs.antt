@@ -1,8 +1,7 @@
 -- What contracts see of a host that runs. (own)
 use Rattle.std.specs.Prelude.{◌≡◌, []}
-use Rattle.rv_turn.specs.Histories.{Each}
 use Rattle.rv_port.specs.Traces.{Passing}
-use Rattle.rv_crew.specs.Teams.{Team}
+use Rattle.rv_crew.specs.Teams.{Team, IsOfTurn}
 
 -- its operator, and the crew of its threads
 pub record Staffed : Type 0 where
@@ -16,4 +15,4 @@ no_crew = record { running = []; joined = []; lost = [] }
 -- each thread has a port of this control, and none was joined
 pub record AreOf (control : Passing) (crew : Team) : Type 0 where
   pub none_joined : crew.joined ≡ []
-  pub one_turn : Each (λ o. o.turn ≡ control.turn) crew.running
+  pub one_turn : IsOfTurn control.turn crew

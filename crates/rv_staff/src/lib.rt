@@ -1,6 +1,7 @@
 //! The threads of a host that runs: which actors get one, what each does, and how they end.
 #![tactic(auto)]
 
+mod hands;
 mod hires;
 mod raising;
 mod saying;
@@ -9,9 +10,10 @@ mod staff;
 mod staffing;
 mod work;
 
+pub use hands::{Hands, start};
 pub use hires::{HireFault, Hires};
 pub use raising::raise;
-pub use saying::say;
+pub use saying::{NO_MEMORY, say};
 pub use session::{DeviceJob, Session};
 pub use staff::Staff;
 pub use staffing::start_threads;

@@ -13,7 +13,7 @@ use std::io;
 use std::io::Write;
 
 /// What is said where memory is wanted.
-pub(crate) const NO_MEMORY: &str = "nomemory\n";
+pub const NO_MEMORY: &str = "nomemory\n";
 
 /// Writes a text. After a failure a prefix of it is written.
 pub fn say<W: Write>(writer: &mut W, text: &str) -> io::Result<()>

@@ -7,7 +7,6 @@ ghost use Rattle.rv_turn.specs.Passes.{IsWorn};
 ghost use Rattle.rv_port.specs.Events.{catalogue_of};
 ghost use Rattle.rv_port.specs.Ports.{pass_of};
 ghost use Rattle.rv_port.specs.Controls.{Brings, IsGiven, LoadTold};
-ghost use Rattle.rv_shell.specs.Orders.{order_of};
 ghost use Rattle.rv_shell.specs.Serving.{Serves, Writes, answer_line};
 ghost use Rattle.rv_staff.specs.Ending.{Closes, Ended, Leaves};
 ghost use Rattle.rv_staff.specs.Hiring.{hired};
@@ -77,6 +76,7 @@ fn close<R: Threads + Wait>(rt: &R, mut crew: Crew, control: Control) -> Option<
 
 impl Staff {
     /// A host without threads.
+    #[tactic(auto, using(crate::proofs::OneTurn::none_are))]
     pub fn new(alloc: Global, control: Control) -> Staff
         ensures { result ≡ record { control = control; crew = no_crew } }
     {
@@ -102,7 +102,7 @@ impl Staff {
         line: &str,
         writer: &mut W,
     ) -> Result<Next, LineFault>
-        ensures serves { Serves (W.contents writer.old) (W.contents writer.new) self.old.control self.new.control (order_of (words line.now)) result }
+        ensures serves { Serves (W.contents writer.old) (W.contents writer.new) self.old.control self.new.control (words line.now) result }
         ensures crew { self.new.crew ≡ self.old.crew }
     {
         shell.line(rt, &mut self.control, line, writer)

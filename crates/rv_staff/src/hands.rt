@@ -1,14 +1,15 @@
-//! The threads of `run`: each runs a job that is boxed in `main`.
+//! The threads of a program: each runs a job that is boxed in its `main`.
 
 ghost use Rattle.std.specs.Coded.{codes};
 ghost use Rattle.std.specs.Prelude.{◌≡◌};
 ghost use Rattle.rv_port.specs.contracts.event.Event as e;
 ghost use Rattle.rv_staff.specs.Hiring.{hired};
 
+use crate::hires::{HireFault, Hires};
+use crate::work::Work;
 use rv_crew::crew::{Crew, StartFault};
 use rv_crew::job::Job;
 use rv_port::port::Port;
-use rv_staff::{HireFault, Hires, Work};
 use std::thread::Threads;
 
 /// Starts the thread of a job; where that fails, job and port are let go.
