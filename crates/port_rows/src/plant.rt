@@ -1,0 +1,70 @@
+//! What all games are played on.
+ghost use Rattle.std.specs.Prelude.{◌≡◌, []};
+
+use crate::bodies::bodies;
+use rv_access::read_list;
+use rv_host::host::Host;
+use rv_port::control::Control;
+use rv_shape::reading::read_shape;
+use std::alloc::Global;
+use std::sync::Wait;
+
+/// Object 1, Valve: 1 Get, 2 Put, 3 Wait, 4 Poke. Object 2, Desk: 1 Next, 2 Look.
+const PLANT: &str = "unit Plant
+protected Valve 20
+scalar 0 1 0
+scalar 0 9999 4
+function Get 0 9999
+procedure Put in 0 9999
+entry Wait 1 out 0 9999
+procedure Poke
+protected Desk 20
+scalar 0 9999 0
+procedure Next out 0 9999
+procedure Look
+";
+
+/// Object 3, Bell, a suspension object. Object 4, Latch, without bodies: 1 Trip, the handler of line 4, and 2 Shut. Tasks 11
+/// to 14.
+const DEVICE: &str = "unit Device
+suspension Bell
+protected Latch 35
+handler Trip 4
+procedure Shut
+task One 15
+task Two 15
+task Three 15
+task Four 15
+";
+
+/// Everybody may call everything.
+const LIST: &str = "allow * * *\n";
+
+// How many entries the journal of a game has room for.
+const CAPACITY: usize = 2000;
+
+// The control of a new host.
+fn made(alloc: Global, host: Host) -> Option<Control>
+    requires { host.past ≡ [] }
+{
+    Control::make(alloc, host).ok()
+}
+
+/// The control of a new host without units.
+pub fn empty(alloc: Global) -> Option<Control> {
+    match Host::new(alloc, CAPACITY) {
+        Ok(host) => made(alloc, host),
+        Err(_) => None,
+    }
+}
+
+/// Loads both units, and lets everybody call everything: three entries.
+pub fn load<R: Wait>(rt: &R, alloc: Global, control: &mut Control) -> Option<()> {
+    let plant = read_shape(alloc, PLANT).ok()?;
+    let _ = control.load(rt, plant, bodies(alloc).ok()?);
+    let device = read_shape(alloc, DEVICE).ok()?;
+    let _ = control.load_shape(rt, device);
+    let list = read_list(alloc, LIST).ok()?;
+    let _ = control.set_list(rt, list);
+    Some(())
+}
