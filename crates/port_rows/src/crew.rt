@@ -20,6 +20,8 @@ fn carry_out_all<R: Wait>(
     steps: &[Step],
     port: &mut Port,
 ) -> Result<Told, AllocError> {
+    port.keeps();
+    port.own_is_mine();
     let actor = port.actor();
     let mut told = Told::new(alloc, actor)?;
     for step in steps {
@@ -39,10 +41,9 @@ fn work<R: Wait>(
     mut port: Port,
 ) -> Option<Told> {
     let told = carry_out_all(rt, alloc, flag, steps, &mut port).ok();
-    if port.finish(rt).is_refused() {
-        return None;
-    }
-    told
+    let is_refused = port.finish(rt).is_refused();
+    flag.be_done();
+    if is_refused { None } else { told }
 }
 
 // What each port was told, in a thread of its own.
@@ -91,10 +92,11 @@ fn play_at_once<R: Threads + Wait + Sync>(
     control: &mut Control,
     operator: &mut Operator,
 ) -> Option<Vec<Option<Told>>> {
+    let count = ports.len() as u64;
     let (told, ()) = thread::join(
         rt,
         move || work_all(rt, alloc, flag, steps, ports),
-        move || operator.carry_out_all(rt, flag, steps, control),
+        move || operator.carry_out_all(rt, flag, steps, count, control),
     );
     told
 }

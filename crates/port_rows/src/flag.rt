@@ -10,10 +10,11 @@ const TURNS: u64 = 20_000_000;
 // How long a gate stays closed behind its flag, in turns of its loop, so that others come.
 const LINGERING: u64 = 200;
 
-/// A count that threads put up and wait for.
+/// A count that threads put up and wait for, and how many ports are done.
 #[derive(Drop)]
 pub struct Flag {
     count: AtomicU64,
+    done: AtomicU64,
     late: AtomicU64,
 }
 
@@ -22,6 +23,7 @@ impl Flag {
     pub fn new() -> Flag {
         Flag {
             count: AtomicU64::new(0),
+            done: AtomicU64::new(0),
             late: AtomicU64::new(0),
         }
     }
@@ -31,15 +33,30 @@ impl Flag {
         let _ = self.count.fetch_add(1, Ordering::SeqCst);
     }
 
-    /// Waits until it counts so many, or for so many turns; then it is late.
-    pub fn wait_for(&self, count: u64) {
+    /// A port is done.
+    pub fn be_done(&self) {
+        let _ = self.done.fetch_add(1, Ordering::SeqCst);
+    }
+
+    // Waits until one of its counts is so high, or for so many turns; then it is late.
+    fn reach(&self, counted: &AtomicU64, count: u64) {
         for _ in 0..TURNS {
-            if self.count.load(Ordering::SeqCst) >= count {
+            if counted.load(Ordering::SeqCst) >= count {
                 return;
             }
             thread::yield_now();
         }
         self.be_late();
+    }
+
+    /// Waits until it counts so many.
+    pub fn wait_for(&self, count: u64) {
+        self.reach(&self.count, count);
+    }
+
+    /// Waits until so many ports are done.
+    pub fn wait_for_ports(&self, count: u64) {
+        self.reach(&self.done, count);
     }
 
     /// From now on something came too late.

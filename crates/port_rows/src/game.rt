@@ -5,6 +5,7 @@ use crate::flag::Flag;
 use crate::journal::{entries_of, has_replies};
 use crate::operator::Operator;
 use crate::plant::{empty, load};
+use crate::run::is_as_run;
 use crate::step::{Step, actors_of, steps_of};
 use crate::told::Told;
 use rv_event::entry::Entry;
@@ -78,6 +79,8 @@ fn play_steps<R: Threads + Wait + Sync>(
     let entries = entries_of(rt, alloc, control).ok()?;
     put_all(&told, &entries, text).ok()?;
     put_operator(&operator, &entries, text).ok()?;
+    let is_as_run = is_as_run(alloc, &entries)?;
+    write!(text, " as in one run: {is_as_run};").ok()?;
     if flag.is_late() {
         text.push_str(" late;").ok()?;
     }

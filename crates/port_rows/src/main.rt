@@ -2,8 +2,8 @@
 //! that no steps can tell, and tells of each in a line what was seen. Each wait of a game has a limit of turns.
 #![tactic(auto)]
 
+mod alone;
 mod bodies;
-mod closing;
 mod crew;
 mod example;
 mod flag;
@@ -11,12 +11,10 @@ mod game;
 mod journal;
 mod operator;
 mod plant;
-mod registered;
-mod revoke;
+mod run;
 mod shown;
 mod step;
 mod told;
-mod turned;
 mod work;
 
 use rv_text::open_script;
@@ -52,8 +50,7 @@ fn main(rt: HostRuntime) -> io::Result<()> {
     let alloc = rt.alloc();
     let file = fs::read_to_string(&rt, "games")?;
     play_all(&rt, alloc, file.as_str())?;
-    tell(&rt, "told_revoke", revoke::told_revoke(&rt, alloc))?;
-    tell(&rt, "closing", closing::closed(&rt, alloc))?;
-    tell(&rt, "as_the_host", turned::as_the_host(&rt, alloc))?;
+    tell(&rt, "told_revoke", alone::told_revoke(&rt, alloc))?;
+    tell(&rt, "closing", alone::closed(&rt, alloc))?;
     tell(&rt, "example", shown::example(&rt, alloc))
 }

@@ -78,18 +78,24 @@ impl Operator {
         }
     }
 
-    /// Carries out the operator's steps.
+    /// Carries out the operator's steps, and waits until so many ports are done. Where one is late it halts the host, which
+    /// ends each wait.
     pub fn carry_out_all<R: Wait>(
         &mut self,
         rt: &R,
         flag: &Flag,
         steps: &[Step],
+        ports: u64,
         control: &mut Control,
     ) {
         for step in steps {
             if step.actor == 0 && !self.carry_out(rt, flag, control, step) {
                 self.is_refused = true;
             }
+        }
+        flag.wait_for_ports(ports);
+        if flag.is_late() {
+            let _ = control.halt(rt);
         }
     }
 }
