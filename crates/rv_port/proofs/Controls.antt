@@ -24,7 +24,8 @@ use Rattle.rv_code.specs.BodyView.{unit_view}
 use Rattle.rv_code.specs.declared.body.UnitBodies.{UnitBodies}
 use Rattle.rv_exec.specs.Bodies.{held}
 use Rattle.rv_exec.specs.declared.bodies.SharedUnit.{SharedUnit}
-use Rattle.rv_port.specs.Events.{by, events, log_of, history_at, first_or, first_of, rest_of, no_shape, shapes_of, with_shape, catalogue_of}
+use Rattle.rv_exec.specs.declared.bodies.Bodies.{Bodies}
+use Rattle.rv_port.specs.Events.{by, events, log_of, log_in, history_at, first_or, first_of, rest_of, no_shape, shapes_of, with_shape, catalogue_of}
 use Rattle.rv_port.specs.Acting.{limits_of, entered, listed as listed_to, Does, Due, Loaded, Unloaded, Changed, IfOperator}
 use Rattle.rv_port.specs.Traces.{Passing}
 use Rattle.rv_port.specs.Controls.{listed, OperatorAlone, IsControl, IsOperators, Told, LoadTold, BeginsWith, numbered_as, BringsIf, Brings, no_bodies_of, answer_in}
@@ -333,6 +334,10 @@ pub opened_by : (turn : TableId) (pass : Passing) (given : List ℕ) (catalogue 
     → IsControl turn pass given catalogue
 opened_by turn pass given catalogue h us l is none same =
     subst (λ (z : Passing × List ℕ × List Shape). IsControl turn z.0 z.1 z.2) (λ i. (sym is i, sym none i, sym same i)) (opened turn h us l)
+
+-- the opening view of this host, behind whatever it stands
+pub opens_on : (turn : TableId) (pass : Passing) (h k : History) (b d : Bodies) → h ≡ k → b ≡ d → pass ≡ opening_of turn (limits_of h) by (log_in h b) → pass ≡ opening_of turn (limits_of k) by (log_in k d)
+opens_on turn pass h k b d here same is = is ∙ (λ i. opening_of turn (limits_of (here i)) by (log_in (here i) (same i)))
 
 -- what a control begins with
 pub begins : (turn : TableId) (pass : Passing) (h : History) (us : List UnitBodies) → map unit_view us ≡ map no_bodies_of h.shapes → pass ≡ opening_of turn (limits_of h) by (log_of h us)

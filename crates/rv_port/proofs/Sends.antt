@@ -8,7 +8,7 @@ use Rattle.std.specs.contracts.impls.GlobalAllocator.TheImpl.{ghosts}
 use Rattle.std.specs.contracts.vec.Vec as vec
 use Rattle.std.specs.contracts.option.Option as option
 use Rattle.std.specs.contracts.sync.Arc as arc
-use Rattle.std.proofs.Crossing.{crosses}
+use Rattle.std.proofs.Crossing.{crosses, Box-send}
 use Rattle.std.proofs.alloc.Global.TheSendSync as global_crosses
 use Rattle.std.below.std_heap.proofs.GlobalAllocator.TheSendSync as heap_crosses
 use Rattle.std.proofs.vec.Vec.TheSendSync as vec_crosses
@@ -31,6 +31,7 @@ use Rattle.rv_code.proofs.statement.Target.TheSendSync as target_crosses
 use Rattle.rv_code.proofs.body.ExceptionChoice.TheSendSync as choice_crosses
 use Rattle.rv_exec.specs.contracts.bodies.SharedUnit as shared
 use Rattle.rv_exec.specs.contracts.bodies.Bodies as bodies
+use Rattle.rv_host.specs.contracts.host.Host as host
 use Rattle.rv_host.proofs.host.Host.TheSendSync as host_crosses
 use Rattle.rv_port.specs.contracts.behind.Behind as behind
 use Rattle.rv_port.specs.contracts.behind.BehindCounted.TheImpl.{ghosts as counted}
@@ -126,7 +127,7 @@ pub bodies_arc_send : IsSend (arc.the_row bodies.the_row global.the_row ghosts)
 bodies_arc_send = arc_crosses.the_send bodies.the_row global.the_row ghosts bodies_send global_crosses.the_send bodies_sync global_crosses.the_sync heap_crosses.the_frees
 
 behind_send : IsSend behind.the_row
-behind_send = recorded_send (behind.the_field).row _ _ (behind.the_type).to_one (struct_send (shape behind.the_type) (global_crosses.the_field_send, (host_crosses.the_send, (bodies_arc_send, tt))))
+behind_send = recorded_send (behind.the_field).row _ _ (behind.the_type).to_one (struct_send (shape behind.the_type) (global_crosses.the_field_send, (Box-send host.the_row host_crosses.the_send, (bodies_arc_send, tt))))
 
 bell_arc_send : IsSend (arc.the_row bell.the_row global.the_row ghosts)
 bell_arc_send = arc_crosses.the_send bell.the_row global.the_row ghosts bell_crosses.the_send global_crosses.the_send bell_crosses.the_sync global_crosses.the_sync heap_crosses.the_frees

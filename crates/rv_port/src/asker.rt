@@ -77,14 +77,12 @@ impl Asker {
         ensures mark { self.new.is_refused ≡ self.old.is_refused }
     {
         for _ in rt.forever() {
-            let rings = self.bell.rings(rt);
+            let rings = self.bell.rings();
             let Some((answer, begun, lent)) = self.try_ask(rt, request) else {
                 return None;
             };
             if !must_wait(&answer) {
-                if answer.recorded().is_some() {
-                    self.bell.ring(rt);
-                }
+                self.bell.tell(&answer);
                 return Some((answer, begun, lent));
             }
             self.bell.wait_past(rt, rings);

@@ -1,6 +1,6 @@
 //! The host behind the turn.
 
-ghost use Rattle.std.specs.Prelude.{◌≡◌, ℕ, ◌++◌, ◌∷◌, [], length, IfOk, IfSome, Some, None};
+ghost use Rattle.std.specs.Prelude.{◌≡◌, ℕ, ◌++◌, ◌∷◌, [], length, IfOk, IfErr, IfSome, Some, None};
 ghost use Rattle.std.specs.Arc.{arc_value};
 ghost use Rattle.rv_exec.specs.Bodies.{bodies_view, units_of, held};
 ghost use Rattle.rv_port.specs.Events.{log_in, called, begun_at};
@@ -17,17 +17,17 @@ use rv_shape::actor::Callee;
 use rv_shape::catalogue::Catalogue;
 use rv_shape::shape::UnitShape;
 use rv_turn::Counted;
-use std::alloc::{AllocError, Global};
+use std::alloc::{AllocError, AllocFailed, Global};
 use std::sync::Arc;
 
 /// The host, as what threads act on one at a time, and the bodies of its units, of which each load
-/// brings those of one.
+/// brings those of one. The host is in a box, since an act moves this value twice.
 #[derive(Drop)]
 pub struct Behind {
     pub(crate) alloc: Global,
-    pub(crate) host: Host,
+    pub(crate) host: Box<Host>,
     pub(crate) bodies: Arc<Bodies, Global>,
-    pub(crate) ghost brought: { length (units_of (arc_value bodies)) ≡ length host.shapes },
+    pub(crate) ghost brought: { length (units_of (arc_value bodies)) ≡ length host.value.shapes },
 }
 
 // No operation.
@@ -97,6 +97,26 @@ fn grown(
 }
 
 impl Behind {
+    /// A host and the bodies of its units. Where there is no memory the host comes back.
+    pub(crate) fn boxed(
+        alloc: Global,
+        host: Host,
+        bodies: Arc<Bodies, Global>,
+    ) -> Result<Behind, Host>
+        requires { length (units_of (arc_value bodies)) ≡ length host.shapes }
+        ensures ok { IfOk result (λ b. (b.host.value ≡ host) × (arc_value b.bodies ≡ arc_value bodies)) }
+        ensures err { IfErr result (λ h. h ≡ host) }
+    {
+        match Box::new(alloc, host) {
+            Ok(host) => Ok(Behind {
+                alloc,
+                host,
+                bodies,
+            }),
+            Err(AllocFailed { value }) => Err(value),
+        }
+    }
+
     // The bodies. None where there are too many holders of them.
     fn share(&self) -> Option<Lent>
         ensures { IfSome result (λ l. bodies_view (arc_value l.bodies) ≡ bodies_view (arc_value self.now.bodies)) }
@@ -119,7 +139,7 @@ impl Behind {
 
     // The bodies, for a text.
     fn give_bodies(&self, actor: u64) -> Reply
-        ensures { Does (limits_of self.now.host) (log_in self.now.host (arc_value self.now.bodies)) actor Ask.Bodies result (log_in self.now.host (arc_value self.now.bodies)) }
+        ensures { Does (limits_of self.now.host.value) (log_in self.now.host.value (arc_value self.now.bodies)) actor Ask.Bodies result (log_in self.now.host.value (arc_value self.now.bodies)) }
     {
         self.host.replays();
         Reply::Bodies(self.share())
@@ -128,24 +148,26 @@ impl Behind {
     // A request.
     #[tactic(auto, using(crate::proofs::Doing::brought_step))]
     fn step(&mut self, actor: u64, request: Request) -> Reply
-        ensures does { Does (limits_of self.old.host) (log_in self.old.host (arc_value self.old.bodies)) actor (Ask.Step request) result (log_in self.new.host (arc_value self.new.bodies)) }
-        ensures about { self.new.host.capacity ≡ self.old.host.capacity }
+        ensures does { Does (limits_of self.old.host.value) (log_in self.old.host.value (arc_value self.old.bodies)) actor (Ask.Step request) result (log_in self.new.host.value (arc_value self.new.bodies)) }
+        ensures about { self.new.host.value.capacity ≡ self.old.host.value.capacity }
     {
-        self.host.replays();
-        let answer = self.host.step(actor as usize, request);
-        let begun = begun_by(self.host.catalogue(), actor as usize, &request, &answer);
+        let host = &mut *self.host;
+        host.replays();
+        let answer = host.step(actor as usize, request);
+        let begun = begun_by(host.catalogue(), actor as usize, &request, &answer);
         let lent = self.lend(&answer);
         Reply::Answered(answer, begun, lent)
     }
 
     // A page.
     fn read(&mut self, actor: u64, from: usize) -> Reply
-        ensures does { Does (limits_of self.old.host) (log_in self.old.host (arc_value self.old.bodies)) actor (Ask.Read from) result (log_in self.new.host (arc_value self.new.bodies)) }
-        ensures about { self.new.host.capacity ≡ self.old.host.capacity }
+        ensures does { Does (limits_of self.old.host.value) (log_in self.old.host.value (arc_value self.old.bodies)) actor (Ask.Read from) result (log_in self.new.host.value (arc_value self.new.bodies)) }
+        ensures about { self.new.host.value.capacity ≡ self.old.host.value.capacity }
     {
-        self.host.replays();
+        let host = &*self.host;
+        host.replays();
         let mut page = Page::new(self.alloc);
-        match self.host.entries(self.alloc, from, &mut page) {
+        match host.entries(self.alloc, from, &mut page) {
             Ok(()) => Reply::Read(page),
             Err(_) => Reply::Unread,
         }
@@ -153,8 +175,8 @@ impl Behind {
 
     // A load by the operator. The memory of its bodies is taken before its entry is added.
     fn load(&mut self, shape: &UnitShape, unit: SharedUnit) -> Answer
-        ensures does { Loaded self.old.host.capacity (log_in self.old.host (arc_value self.old.bodies)) shape.now (held unit) result (log_in self.new.host (arc_value self.new.bodies)) }
-        ensures about { self.new.host.capacity ≡ self.old.host.capacity }
+        ensures does { Loaded self.old.host.value.capacity (log_in self.old.host.value (arc_value self.old.bodies)) shape.now (held unit) result (log_in self.new.host.value (arc_value self.new.bodies)) }
+        ensures about { self.new.host.value.capacity ≡ self.old.host.value.capacity }
     {
         self.host.replays();
         let Ok(bodies) = grown(self.alloc, &self.bodies, unit) else {
@@ -170,11 +192,12 @@ impl Behind {
 
     // A load by the operator, for which there is no memory.
     fn load_without_memory(&mut self, shape: &UnitShape) -> Answer
-        ensures does { Unloaded self.old.host.capacity (log_in self.old.host (arc_value self.old.bodies)) shape.now result (log_in self.new.host (arc_value self.new.bodies)) }
-        ensures about { self.new.host.capacity ≡ self.old.host.capacity }
+        ensures does { Unloaded self.old.host.value.capacity (log_in self.old.host.value (arc_value self.old.bodies)) shape.now result (log_in self.new.host.value (arc_value self.new.bodies)) }
+        ensures about { self.new.host.value.capacity ≡ self.old.host.value.capacity }
     {
-        self.host.replays();
-        let due = self.host.due_load(shape);
+        let host = &*self.host;
+        host.replays();
+        let due = host.due_load(shape);
         if due.recorded().is_some() {
             return Answer::OutOfMemory;
         }
@@ -183,8 +206,8 @@ impl Behind {
 
     // A list change by the operator, whole.
     fn set_list(&mut self, list: &AccessList) -> Answer
-        ensures does { Changed self.old.host.capacity (log_in self.old.host (arc_value self.old.bodies)) (Whole list.now) result (log_in self.new.host (arc_value self.new.bodies)) }
-        ensures about { self.new.host.capacity ≡ self.old.host.capacity }
+        ensures does { Changed self.old.host.value.capacity (log_in self.old.host.value (arc_value self.old.bodies)) (Whole list.now) result (log_in self.new.host.value (arc_value self.new.bodies)) }
+        ensures about { self.new.host.value.capacity ≡ self.old.host.value.capacity }
     {
         self.host.replays();
         self.host.set_list(list)
@@ -192,8 +215,8 @@ impl Behind {
 
     // A line more.
     fn append_line(&mut self, line: &Line) -> Answer
-        ensures does { Changed self.old.host.capacity (log_in self.old.host (arc_value self.old.bodies)) (Append line.now) result (log_in self.new.host (arc_value self.new.bodies)) }
-        ensures about { self.new.host.capacity ≡ self.old.host.capacity }
+        ensures does { Changed self.old.host.value.capacity (log_in self.old.host.value (arc_value self.old.bodies)) (Append line.now) result (log_in self.new.host.value (arc_value self.new.bodies)) }
+        ensures about { self.new.host.value.capacity ≡ self.old.host.value.capacity }
     {
         self.host.replays();
         self.host.append_line(line)
@@ -201,8 +224,8 @@ impl Behind {
 
     // A line less.
     fn remove_line(&mut self, number: usize) -> Answer
-        ensures does { Changed self.old.host.capacity (log_in self.old.host (arc_value self.old.bodies)) (Remove number) result (log_in self.new.host (arc_value self.new.bodies)) }
-        ensures about { self.new.host.capacity ≡ self.old.host.capacity }
+        ensures does { Changed self.old.host.value.capacity (log_in self.old.host.value (arc_value self.old.bodies)) (Remove number) result (log_in self.new.host.value (arc_value self.new.bodies)) }
+        ensures about { self.new.host.value.capacity ≡ self.old.host.value.capacity }
     {
         self.host.replays();
         self.host.remove_line(number)
@@ -210,8 +233,8 @@ impl Behind {
 
     // Another line in the place of one.
     fn replace_line(&mut self, number: usize, line: &Line) -> Answer
-        ensures does { Changed self.old.host.capacity (log_in self.old.host (arc_value self.old.bodies)) (Replace number line.now) result (log_in self.new.host (arc_value self.new.bodies)) }
-        ensures about { self.new.host.capacity ≡ self.old.host.capacity }
+        ensures does { Changed self.old.host.value.capacity (log_in self.old.host.value (arc_value self.old.bodies)) (Replace number line.now) result (log_in self.new.host.value (arc_value self.new.bodies)) }
+        ensures about { self.new.host.value.capacity ≡ self.old.host.value.capacity }
     {
         self.host.replays();
         self.host.replace_line(number, line)
@@ -219,8 +242,8 @@ impl Behind {
 
     // What the operator asks.
     fn operate(&mut self, ask: Ask) -> Reply
-        ensures does { Does (limits_of self.old.host) (log_in self.old.host (arc_value self.old.bodies)) 0 ask result (log_in self.new.host (arc_value self.new.bodies)) }
-        ensures about { self.new.host.capacity ≡ self.old.host.capacity }
+        ensures does { Does (limits_of self.old.host.value) (log_in self.old.host.value (arc_value self.old.bodies)) 0 ask result (log_in self.new.host.value (arc_value self.new.bodies)) }
+        ensures about { self.new.host.value.capacity ≡ self.old.host.value.capacity }
     {
         self.host.replays();
         match ask {
@@ -243,8 +266,8 @@ impl Behind {
     // What another actor asks.
     fn serve(&mut self, actor: u64, ask: Ask) -> Reply
         requires { actor ≡ 0 → ⊥ }
-        ensures does { Does (limits_of self.old.host) (log_in self.old.host (arc_value self.old.bodies)) actor ask result (log_in self.new.host (arc_value self.new.bodies)) }
-        ensures about { self.new.host.capacity ≡ self.old.host.capacity }
+        ensures does { Does (limits_of self.old.host.value) (log_in self.old.host.value (arc_value self.old.bodies)) actor ask result (log_in self.new.host.value (arc_value self.new.bodies)) }
+        ensures about { self.new.host.value.capacity ≡ self.old.host.value.capacity }
     {
         self.host.replays();
         match ask {
@@ -275,9 +298,9 @@ impl Counted for Behind {
 
     type About = Limits;
 
-    ghost history = { λ b. log_in b.host (arc_value b.bodies) };
+    ghost history = { λ b. log_in b.host.value (arc_value b.bodies) };
 
-    ghost about = { λ b. limits_of b.host };
+    ghost about = { λ b. limits_of b.host.value };
 
     ghost actor_of = { by };
 

@@ -54,10 +54,12 @@ impl Asker {
         plain(false, &answer)
     }
 
-    // One performance, by its parts.
+    // One performance, by its parts. Only what rings the bell ends a wait, so a resume before it does
+    // would be in vain.
     fn go<R: Wait, G: Gate<R>>(&mut self, rt: &R, gate: &G, request: &Request) -> Reached
         ensures { Performed self.old.pass self.old.is_refused request.now result self.new.pass self.new.is_refused }
     {
+        let rings = self.bell.rings();
         let Some(given) = self.insist(rt, request) else {
             return Reached::Stopped;
         };
@@ -67,6 +69,7 @@ impl Asker {
             return self.run_on(rt, gate, lent, &begun, &scalars, &args);
         }
         if is_wait(&answer) {
+            self.bell.wait_past(rt, rings);
             return self.resume(rt, gate, request);
         }
         plain(reads(request), &answer)

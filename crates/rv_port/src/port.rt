@@ -280,9 +280,7 @@ fn ask_quit<R: Wait>(rt: &R, asker: &mut Asker)
     }
     if let Some(given) = asker.try_ask(rt, &Request::Quit) {
         let (answer, _begun, _lent) = given;
-        if answer.recorded().is_some() {
-            asker.bell.ring(rt);
-        }
+        asker.bell.tell(&answer);
     }
 }
 

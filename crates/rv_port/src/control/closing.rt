@@ -52,6 +52,7 @@ impl Control {
         take_passes(&mut passes, finished);
         let Control { turn, pass, .. } = self;
         let Behind { host, .. } = turn.close(rt, pass, passes);
+        let host = Box::into_inner(host);
         host.replays();
         Ok(host)
     }

@@ -1,11 +1,16 @@
-use Rattle.std.proofs.Common.{ap, ◌∙◌}
+use Rattle.std.proofs.Common.{ap, subst, ◌∙◌}
+use Rattle.rv_history.specs.History.{History}
+use Rattle.rv_history.specs.Due.{out}
+use Rattle.rv_history.specs.Legal.{Legal, after}
 use Rattle.std.specs.Arc.{arc_value}
 use Rattle.rv_port.specs.Acting.{begun_by}
 use Rattle.rv_port.proofs.Doing.{stepped, step_shapes}
 use Rattle.rv_port.proofs.behind.Behind.step.Goals as goal
 
 pub returns-clause-does : goal.returns-clause-does
-returns-clause-does c = let s = c.args.self.now in let h = s.host in
-    stepped h _ (arc_value s.bodies) c.args.actor c.args.request _ _ _ c.replays.ensures.legal s.brought c.step-answer.ensures.answer c.step-answer.ensures.history
+returns-clause-does c = let s = c.args.self.now in let h = s.host.value in let e = c.deref_mut-host.ensures.value in
+    let history = c.step-answer.ensures.history ∙ ap (λ (z : History). after z c.args.actor c.args.request c.step-answer.result) e in
+    stepped h _ (arc_value s.bodies) c.args.actor c.args.request _ _ _ (subst Legal e c.replays.ensures.legal) s.brought
+    (c.step-answer.ensures.answer ∙ ap (λ (z : History). out z c.args.actor c.args.request) e) history
     (c.begun_by-begun.ensures ∙ ap (λ z. begun_by z c.args.actor c.args.request c.step-answer.result) c.catalogue.ensures)
-    (step_shapes h _ c.args.actor c.args.request _ c.step-answer.ensures.history) c.lend-lent.ensures
+    (step_shapes h _ c.args.actor c.args.request _ history) c.lend-lent.ensures
