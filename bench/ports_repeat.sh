@@ -1,0 +1,51 @@
+#!/usr/bin/env bash
+# Plays the games of crates/port_rows, ports in threads, again and again while all processors are busy, and says how many
+# rounds ended within a minute each with each game as due. How often may be given (200). It proves nothing; a round that
+# stalls has a port that was not woken. The first time it takes some minutes to prove and build. It needs rt, nproc, seq, cmp
+# and timeout.
+set -eu
+
+missing() {
+    echo "bench/ports_repeat.sh: $1 is missing" >&2
+    exit 127
+}
+for tool in rt nproc seq cmp timeout; do
+    command -v "$tool" >/dev/null || missing "$tool"
+done
+
+cd "$(dirname "$(readlink -f "$0")")/../crates/port_rows"
+log=$(mktemp)
+busy=()
+stop() {
+    rm -f "$log"
+    for pid in "${busy[@]}"; do
+        kill "$pid" 2>/dev/null || true
+    done
+}
+trap stop EXIT
+if ! rt run >"$log" 2>&1 </dev/null; then
+    cat "$log" >&2
+    exit 1
+fi
+program=$PWD/out/port_rows
+due=$PWD/stdout
+cd data
+for _ in $(seq "$(nproc)"); do
+    (while :; do :; done) &
+    busy+=("$!")
+done
+wanted=${1:-200}
+as_due=0
+stalled=0
+start=$(date +%s)
+for _ in $(seq "$wanted"); do
+    status=0
+    timeout 60 "$program" >"$log" 2>&1 || status=$?
+    if [ "$status" -eq 124 ]; then
+        stalled=$((stalled + 1))
+    elif [ "$status" -eq 0 ] && cmp -s "$log" "$due"; then
+        as_due=$((as_due + 1))
+    fi
+done
+echo "$wanted rounds in $(($(date +%s) - start)) s: $as_due as due, $stalled stalled"
+[ "$as_due" = "$wanted" ]
