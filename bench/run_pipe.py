@@ -229,7 +229,7 @@ def two_devices(program):
            [f"load {name} -> accepted 0" for name in ("Plant", "Dev", "More")])
     for actor, calls in (("Dev.Main", 1), ("More.Other", 2)):
         expect(f"calls of {actor}", sum(" -> started" in line for line in journal if f" {actor} call " in line), calls)
-    expect("quit", run.end(), (f"entries {len(journal)}\n", "", 0))
+    expect("quit", run.end(), (f"entries {len(journal) + 1}\n", "", 0))
 
 
 def deepest(program):
@@ -240,7 +240,7 @@ def deepest(program):
     run = Run(program, text + "@run\n")
     until("the deepest body", lambda: any("finish" in line for line in run.journal()))
     expect("the deepest body's journal", run.journal(), due)
-    expect("quit", run.end(), (f"entries {len(due)}\n", "", 0))
+    expect("quit", run.end(), (f"entries {len(due) + 1}\n", "", 0))
 
 
 def no_thread(program):
