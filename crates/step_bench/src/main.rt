@@ -3,6 +3,7 @@
 #![tactic(auto)]
 
 mod beside;
+mod kinds;
 mod plant;
 mod stepped;
 mod table;
@@ -23,6 +24,13 @@ fn made(alloc: Global, calls: usize) -> Option<usize> {
     let plant = Plant { units: 1, lines: 1 };
     let mut host = host(alloc, MOST_ENTRIES, plant)?;
     Some(stepped::calls(&mut host, plant.actor(), calls))
+}
+
+// How many rounds of steps of each kind go as is due. None where there is no memory.
+fn rounds(alloc: Global, count: usize) -> Option<usize> {
+    let mut host = kinds::host(alloc, MOST_ENTRIES)?;
+    let count = i64::try_from(count).ok()?;
+    Some(kinds::rounds(&mut host, count))
 }
 
 // The room of a new host of the largest journal. None where there is no memory.
@@ -52,6 +60,7 @@ fn print_task<R: Clock + Wait + Print>(
     match task {
         "table" => table::print(rt, alloc, number),
         "step" => print_number(rt, made(alloc, number)),
+        "kinds" => print_number(rt, rounds(alloc, number)),
         "reserve" => print_number(rt, room(alloc)),
         _ => Ok(ExitCode::from(2)),
     }
@@ -69,6 +78,6 @@ fn main(rt: HostRuntime) -> io::Result<ExitCode> {
             }
         }
     }
-    let _ = eprintln!(rt; "usage: step_bench table ROUNDS | step CALLS | reserve 0");
+    let _ = eprintln!(rt; "usage: step_bench table ROUNDS | step CALLS | kinds ROUNDS | reserve 0");
     Ok(ExitCode::from(2))
 }

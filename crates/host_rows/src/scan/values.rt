@@ -1,7 +1,7 @@
 //! Whether values fit the parameters, the result or the components that they are for (6.2, 6.5, 9.4).
 
 use rv_event::entry::Exit;
-use rv_shape::kind::{Component, Kind, Parameter, Range};
+use rv_shape::kind::{Component, Kind, Parameter, ParameterMode, Range};
 
 // Whether there is a value at this place, and it is in the range.
 fn is_at(values: &[i64], place: usize, range: Range) -> bool {
@@ -11,11 +11,27 @@ fn is_at(values: &[i64], place: usize, range: Range) -> bool {
     }
 }
 
-/// Whether there is one value in range for each parameter that takes one in, and no other.
-pub fn fit_inward(parameters: &[Parameter], values: &[i64]) -> bool {
+// Which way values go: in with a call, or out with a return.
+#[derive(Clone, Copy)]
+enum Way {
+    In,
+    Out,
+}
+
+impl Way {
+    fn takes(self, mode: ParameterMode) -> bool {
+        match self {
+            Way::In => mode.goes_in(),
+            Way::Out => mode.goes_out(),
+        }
+    }
+}
+
+// Whether there is one value in range for each parameter that has one this way, and no other.
+fn fit(way: Way, parameters: &[Parameter], values: &[i64]) -> bool {
     let mut place = 0usize;
     for parameter in parameters {
-        if parameter.mode.goes_in() {
+        if way.takes(parameter.mode) {
             if !is_at(values, place, parameter.range) {
                 return false;
             }
@@ -25,18 +41,9 @@ pub fn fit_inward(parameters: &[Parameter], values: &[i64]) -> bool {
     place == values.len()
 }
 
-// The same for each parameter that gives one back.
-fn fit_outward(parameters: &[Parameter], values: &[i64]) -> bool {
-    let mut place = 0usize;
-    for parameter in parameters {
-        if parameter.mode.goes_out() {
-            if !is_at(values, place, parameter.range) {
-                return false;
-            }
-            place = place.saturating_add(1);
-        }
-    }
-    place == values.len()
+/// Whether there is one value in range for each parameter that takes one in, and no other.
+pub fn fit_inward(parameters: &[Parameter], values: &[i64]) -> bool {
+    fit(Way::In, parameters, values)
 }
 
 /// Whether the values of a return are those of the operation.
@@ -46,7 +53,7 @@ pub fn fit_exit(kind: Kind, parameters: &[Parameter], exit: &Exit) -> bool {
     };
     match kind {
         Kind::Function(range) => is_at(values.as_slice(), 0, range) && values.len() == 1,
-        _ => fit_outward(parameters, values.as_slice()),
+        _ => fit(Way::Out, parameters, values.as_slice()),
     }
 }
 
