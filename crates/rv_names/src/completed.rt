@@ -1,4 +1,4 @@
-//! Each protected unit and each task of the package has a body (3.11.1, 9.1, 9.4).
+//! Each protected unit, each operation of one and each task of the package has a body (3.11.1, 9.1, 9.4).
 //!
 //! Declarations are looked at in the order of the text, so that the first fault is the one at the least place.
 
@@ -9,7 +9,9 @@ ghost use Rattle.rv_tree.specs.DeclarationView.{declaration_view};
 ghost use Rattle.rv_tree.specs.UnitView.{body_item_view, unit_view};
 ghost use Rattle.rv_names.specs.Completed.{wants_among, item_wants_among, unit_is_completed, with_body, with_bodies, is_in};
 
-use crate::fault::NameFault;
+use crate::completed_operations::missing_operation;
+use crate::completion::{Completion, Kind};
+use crate::fault::{NameFault, earlier};
 use crate::region::Region;
 use rv_tree::declaration::Declaration;
 use rv_tree::name::Identifier;
@@ -38,73 +40,137 @@ fn body_names(alloc: Global, items: &Vec<BodyItem>) -> Result<Region, AllocError
     Ok(names)
 }
 
-// The fault of a declaration, whose first token stands at this place, without a body.
-fn body_fault(at: usize, declared: &Identifier, names: &Region) -> Option<NameFault>
-    ensures { result ≡ None → is_in names.now (identifier_view declared.now).text ≡ true }
-{
-    if names.find(declared.text.as_str()).is_some() {
-        None
-    } else {
-        Some(NameFault::WrongKind(at))
+// What a package declares, beside what it declared before.
+fn declare(
+    alloc: Global,
+    declaration: &Declaration,
+    found: &mut Completion,
+) -> Result<(), AllocError> {
+    match declaration {
+        Declaration::Pragma(_) => Ok(()),
+        Declaration::Subtype {
+            at: _,
+            name,
+            mark: _,
+            range: _,
+        } => found.declare(alloc, name),
+        Declaration::Protected(unit) => found.want(alloc, Kind::Protected, &unit.name),
+        Declaration::Task(task) => found.want(alloc, Kind::Task, &task.name),
+        Declaration::Variable { names, mark: _ } => found.declare_all(alloc, names),
+        Declaration::Constant {
+            names,
+            mark: _,
+            value: _,
+        } => found.declare_all(alloc, names),
     }
 }
 
-fn declaration_fault(declaration: &Declaration, names: &Region) -> Option<NameFault>
+fn complete(alloc: Global, item: &BodyItem, found: &mut Completion) -> Result<(), AllocError> {
+    match item {
+        BodyItem::Declaration(declaration) => declare(alloc, declaration, found),
+        BodyItem::Protected(body) => found.complete(Kind::Protected, &body.name),
+        BodyItem::Task(body) => found.complete(Kind::Task, &body.name),
+    }
+}
+
+// What the package declares, and which of it has a body.
+fn package(alloc: Global, tree: &UnitTree) -> Result<Completion, AllocError> {
+    let mut found = Completion::new(alloc);
+    for declaration in &tree.specification.declarations {
+        declare(alloc, declaration, &mut found)?;
+    }
+    for item in &tree.body.items {
+        complete(alloc, item, &mut found)?;
+    }
+    Ok(found)
+}
+
+// The fault of a declaration, whose first token stands at this place, without a body. Of a second one of its name no body
+// is asked, but it is a fault by itself.
+fn body_fault(
+    at: usize,
+    declared: &Identifier,
+    names: &Region,
+    found: &Completion,
+) -> Option<NameFault>
+    ensures { result ≡ None → is_in names.now (identifier_view declared.now).text ≡ true }
+{
+    let has_body = names.find(declared.text.as_str()).is_some();
+    if !has_body && !found.is_first(declared) {
+        return Some(NameFault::Duplicate(declared.at));
+    }
+    if !has_body || found.lacks_body(declared) {
+        return Some(NameFault::WrongKind(at));
+    }
+    None
+}
+
+fn declaration_fault(
+    declaration: &Declaration,
+    names: &Region,
+    found: &Completion,
+) -> Option<NameFault>
     ensures { result ≡ None → wants_among (is_in names.now) (declaration_view declaration.now) ≡ true }
 {
     match declaration {
-        Declaration::Protected(unit) => body_fault(unit.at, &unit.name, names),
-        Declaration::Task(task) => body_fault(task.at, &task.name, names),
+        Declaration::Protected(unit) => body_fault(unit.at, &unit.name, names, found),
+        Declaration::Task(task) => body_fault(task.at, &task.name, names, found),
         _ => None,
     }
 }
 
-fn declarations_fault(list: &Vec<Declaration>, names: &Region) -> Option<NameFault>
+fn declarations_fault(
+    list: &Vec<Declaration>,
+    names: &Region,
+    found: &Completion,
+) -> Option<NameFault>
     ensures { result ≡ None → list_all (wants_among (is_in names.now)) (map declaration_view list.now.items) ≡ true }
 {
     for one in list {
-        if let Some(fault) = declaration_fault(one, names) {
+        if let Some(fault) = declaration_fault(one, names, found) {
             return Some(fault);
         }
     }
     None
 }
 
-fn item_fault(item: &BodyItem, names: &Region) -> Option<NameFault>
+fn item_fault(item: &BodyItem, names: &Region, found: &Completion) -> Option<NameFault>
     ensures { result ≡ None → item_wants_among (is_in names.now) (body_item_view item.now) ≡ true }
 {
     match item {
-        BodyItem::Declaration(declaration) => declaration_fault(declaration, names),
+        BodyItem::Declaration(declaration) => declaration_fault(declaration, names, found),
         _ => None,
     }
 }
 
-fn items_fault(list: &Vec<BodyItem>, names: &Region) -> Option<NameFault>
+fn items_fault(list: &Vec<BodyItem>, names: &Region, found: &Completion) -> Option<NameFault>
     ensures { result ≡ None → list_all (item_wants_among (is_in names.now)) (map body_item_view list.now.items) ≡ true }
 {
     for one in list {
-        if let Some(fault) = item_fault(one, names) {
+        if let Some(fault) = item_fault(one, names, found) {
             return Some(fault);
         }
     }
     None
 }
 
-// The first declaration whose name isn't among those of bodies.
-fn bodiless(tree: &UnitTree, names: &Region) -> Option<NameFault>
+// The first declaration of the package without a body.
+fn bodiless(tree: &UnitTree, names: &Region, found: &Completion) -> Option<NameFault>
     requires { names.now ≡ with_bodies (unit_view tree.now).body.items [] }
     ensures { result ≡ None → unit_is_completed (unit_view tree.now) ≡ true }
 {
-    match declarations_fault(&tree.specification.declarations, names) {
+    match declarations_fault(&tree.specification.declarations, names, found) {
         Some(fault) => Some(fault),
-        None => items_fault(&tree.body.items, names),
+        None => items_fault(&tree.body.items, names, found),
     }
 }
 
-/// The first declaration without a body. Err where memory was refused.
+/// The fault of the first declaration without a body. Err where memory was refused.
 pub(crate) fn missing_body(alloc: Global, tree: &UnitTree) -> Result<Option<NameFault>, AllocError>
     ensures { IfOk result (λ fault. fault ≡ None → unit_is_completed (unit_view tree.now) ≡ true) }
 {
     let names = body_names(alloc, &tree.body.items)?;
-    Ok(bodiless(tree, &names))
+    let found = package(alloc, tree)?;
+    let unit = bodiless(tree, &names, &found);
+    Ok(earlier(unit, missing_operation(alloc, tree)?))
 }

@@ -12,6 +12,8 @@
 
 mod body;
 mod completed;
+mod completed_operations;
+mod completion;
 mod context;
 mod declaration;
 pub mod declare;
@@ -20,6 +22,7 @@ mod end_names;
 mod expression;
 pub mod fault;
 mod find;
+mod firsts;
 mod jumps;
 mod marks;
 mod members;

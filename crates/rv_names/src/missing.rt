@@ -235,6 +235,17 @@ impl<'a> Around<'a> {
         }
     }
 
+    // The fault of a name, at this place, whose part behind a point isn't visible. What a protected type declares has a name
+    // for its objects alone.
+    fn invisible_part(&self, scope: &Scope, prefix: Declared, part: &str, at: usize) -> NameFault {
+        if let Declared::ProtectedType(declared, number) = prefix {
+            if !scope.is_current(declared) && self.has_later_member(number, part) {
+                return NameFault::WrongKind(at);
+            }
+        }
+        unseen(at, self.knows_behind(scope, prefix, part))
+    }
+
     // The fault of a name that isn't visible.
     fn invisible(&self, scope: &Scope, name: &Name) -> NameFault {
         let at = name.first.at;
@@ -246,7 +257,7 @@ impl<'a> Around<'a> {
             let part = identifier.text.as_str();
             match scope.selected(found, part) {
                 Some(next) => found = next,
-                None => return unseen(at, self.knows_behind(scope, found, part)),
+                None => return self.invisible_part(scope, found, part, at),
             }
         }
         NameFault::Unknown(at)

@@ -1,4 +1,4 @@
-//! Which declarations have a body, and whether it is that of its declaration (6.3, 7.2, 9.1, 9.4).
+//! No declaration has two bodies, and a body is that of its declaration (6.3, 7.2, 9.1, 9.4).
 
 ghost use Rattle.std.specs.Prelude.{◌≡◌, OnOk};
 
@@ -31,15 +31,6 @@ fn note(
     bodies.declare(alloc, name, None)
 }
 
-// A declaration whose first token stands at this place has a body.
-fn has_body(at: usize, declared: &Identifier, bodies: &Region, faults: &mut Faults)
-    ensures { faults.new ≡ faults.old }
-{
-    if bodies.find(declared.text.as_str()).is_none() {
-        faults.tell(NameFault::WrongKind(at));
-    }
-}
-
 /// No protected unit and no task of the package has two bodies.
 pub(crate) fn package_bodies(
     alloc: Global,
@@ -59,7 +50,8 @@ pub(crate) fn package_bodies(
     Ok(())
 }
 
-fn body_name(body: &OperationBody) -> &Identifier {
+/// The name of a body.
+pub(crate) fn body_name(body: &OperationBody) -> &Identifier {
     match body {
         OperationBody::Function {
             at: _,
@@ -84,28 +76,7 @@ fn body_name(body: &OperationBody) -> &Identifier {
     }
 }
 
-fn operation_has_body(operation: &OperationDeclaration, bodies: &Region, faults: &mut Faults)
-    ensures { faults.new ≡ faults.old }
-{
-    match operation {
-        OperationDeclaration::Pragma(_) => {}
-        OperationDeclaration::Function {
-            at,
-            name,
-            parameters: _,
-            mark: _,
-        } => has_body(*at, name, bodies, faults),
-        OperationDeclaration::Procedure {
-            at,
-            name,
-            parameters: _,
-            aspects: _,
-        } => has_body(*at, name, bodies, faults),
-        OperationDeclaration::Entry(entry) => has_body(entry.at, &entry.name, bodies, faults),
-    }
-}
-
-/// Each operation of a protected unit has one body, with its parameters and its result.
+/// No operation of a protected unit has two bodies, and each body has the parameters and the result of its declaration.
 pub(crate) fn unit_bodies(
     unit: &ProtectedUnit,
     body: &ProtectedBody,
@@ -119,16 +90,6 @@ pub(crate) fn unit_bodies(
     for one in &body.operations {
         note(alloc, body_name(one), &mut bodies, faults)?;
         conforms(alloc, unit, one, faults)?;
-    }
-    for operation in &unit.operations {
-        operation_has_body(operation, &bodies, faults);
-    }
-    if let Some(elements) = &unit.private {
-        for element in elements {
-            if let ProtectedElement::Operation(operation) = element {
-                operation_has_body(operation, &bodies, faults);
-            }
-        }
     }
     Ok(())
 }
