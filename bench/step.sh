@@ -2,9 +2,10 @@
 # Measures a step of a host (a call of a function, and its end): on a new host, after a million entries, with one and with 512
 # lines of the list, with one and with 64 units, beside a push of 64 bytes, a lock, and where gnatmake is there the same call
 # under GNAT's Ravenscar with ceilings; a change of a whole list; what a host of the largest journal touches; and, where
-# ravenhost is built, a script of 16 MiB of changes of the list. Then it counts allocations: a step must take none. It is no
+# ravenhost is built, a script of 16 MiB of changes of the list. Then it counts allocations: a step must take none, of whatever kind. It is no
 # test but of that. A number of rounds may be given, of which the least counts. The first time it takes some minutes to prove
-# and build. It needs rt, python3 (3.9 or newer) and a C compiler. Statuses: 0 done, 1 a step takes memory, 127 a tool is missing.
+# and build. It needs rt, python3 (3.9 or newer) and a C compiler. Statuses: 0 done, 1 a step takes memory or
+# isn't answered as is due, 127 a tool is missing.
 set -eu
 
 missing() {
@@ -171,15 +172,28 @@ __attribute__((destructor)) static void end(void) {
 }
 C
 cc -O1 -shared -fPIC -o "$folder/count.so" "$folder/count.c" -ldl
-# How many allocations a run of so many calls with their ends makes.
+# How many allocations a run of the program makes.
 allocations() {
-    LD_PRELOAD=$folder/count.so out/step_bench step "$1" >"$folder/written" 9>"$folder/count"
+    LD_PRELOAD=$folder/count.so out/step_bench "$@" >"$folder/written" 9>"$folder/count"
     cat "$folder/count"
 }
-few=$(allocations 1000)
-many=$(allocations 500000)
+few=$(allocations step 1000)
+many=$(allocations step 500000)
 if [ "$few" != "$many" ]; then
     echo "1,000 calls with their ends make $few allocations, 500,000 make $many: a step takes memory"
     exit 1
 fi
 echo "1,000 calls with their ends make $few allocations, and 500,000 as many: a step takes no memory"
+
+# Rounds of steps of each kind, with each answer that they get while there is room.
+few=$(allocations kinds 10)
+many=$(allocations kinds 20000)
+if [ "$(cat "$folder/written")" != 20000 ]; then
+    echo "of 20,000 rounds of steps of each kind $(cat "$folder/written") went as is due"
+    exit 1
+fi
+if [ "$few" != "$many" ]; then
+    echo "10 rounds of steps of each kind make $few allocations, 20,000 make $many: a step takes memory"
+    exit 1
+fi
+echo "10 rounds of steps of each kind make $few allocations, and 20,000 as many: none of them takes memory"

@@ -98,9 +98,16 @@ fn get() -> Request {
     call(VALVE, 3)
 }
 
-fn end(scalars: &[i64], values: &[i64]) -> Request {
-    let exit = Exit::Return(Args::from_slice(values));
-    Request::Complete(Scalars::from_slice(scalars), exit)
+// The end of the function's body.
+fn got() -> Request {
+    let exit = Exit::Return(Args::from_slice(&[0]));
+    Request::Complete(Scalars::new(), exit)
+}
+
+// The end of another body, which leaves this scalar.
+fn end(scalar: i64) -> Request {
+    let exit = Exit::Return(Args::new());
+    Request::Complete(Scalars::from_slice(&[scalar]), exit)
 }
 
 // Whether a request gets this answer, which is recorded.
@@ -118,7 +125,7 @@ fn bodies(host: &mut Host) -> bool {
     let raised = Exit::Raise(Exception::ProgramError);
     let raise = Request::Complete(Scalars::from_slice(&[0]), raised);
     gets(host, PILOT, get(), Recorded::Started)
-        && gets(host, PILOT, end(&[], &[0]), Recorded::Done(Next::Nothing))
+        && gets(host, PILOT, got(), Recorded::Done(Next::Nothing))
         && gets(host, PILOT, open(), Recorded::Started)
         && gets(host, PILOT, raise, Recorded::Done(Next::Nothing))
 }
@@ -147,9 +154,9 @@ fn refusals(host: &mut Host) -> bool {
 // The body opens the barrier, and the object goes to the caller that waits.
 fn handed(host: &mut Host) -> bool {
     let due = Recorded::Done(Next::HandedTo(WAITER));
-    gets(host, PILOT, end(&[1], &[]), due)
+    gets(host, PILOT, end(1), due)
         && gets(host, WAITER, Request::Resume, Recorded::Woken)
-        && gets(host, WAITER, end(&[0], &[]), Recorded::Done(Next::Nothing))
+        && gets(host, WAITER, end(0), Recorded::Done(Next::Nothing))
 }
 
 // A task suspends itself, a second one is refused, and the first goes on.
@@ -165,7 +172,7 @@ fn suspended(host: &mut Host) -> bool {
 // An interrupt with a handler and one without.
 fn fired(host: &mut Host) -> bool {
     gets(host, RING, Request::Fire, Recorded::Started)
-        && gets(host, RING, end(&[5], &[]), Recorded::Done(Next::Nothing))
+        && gets(host, RING, end(5), Recorded::Done(Next::Nothing))
         && stays(host, UNATTACHED, Request::Fire, Answer::Unattached)
         && stays(host, PILOT, Request::Fire, Answer::Misuse)
 }
