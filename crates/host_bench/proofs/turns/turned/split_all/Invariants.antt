@@ -1,6 +1,6 @@
 use Rattle.std.proofs.Common.{◌≡◌, ◌≤◌, true}
 use Rattle.rv_turn.specs.Histories.{Each}
-use Rattle.turn_bench.proofs.turned.split_all.Given as goal
+use Rattle.host_bench.proofs.turns.turned.split_all.Given as goal
 
 abbrev pub invariant-loop-number : goal.invariant-loop-number
 invariant-loop-number l = record {

@@ -1,7 +1,7 @@
 //! What an act costs by each kind of hold.
-use crate::ledger::Ledger;
-use crate::load::Load;
-use crate::locked::{Awaited, Locked};
+use crate::turns::ledger::Ledger;
+use crate::turns::load::Load;
+use crate::turns::locked::{Awaited, Locked};
 use rv_turn::Pass;
 use std::alloc::Global;
 use std::io;

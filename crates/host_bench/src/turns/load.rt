@@ -1,5 +1,5 @@
 //! One load of acts, and how long it takes.
-use crate::hold::Hold;
+use crate::turns::hold::Hold;
 use std::alloc::Global;
 use std::io::ErrorKind;
 use std::sync::Wait;

@@ -1,6 +1,6 @@
 //! Ledgers under a lock.
-use crate::hold::Hold;
-use crate::ledger::Ledger;
+use crate::turns::hold::Hold;
+use crate::turns::ledger::Ledger;
 use rv_turn::Counted;
 use std::alloc::Global;
 use std::sync::{Arc, Condvar, Mutex, Wait};

@@ -1,7 +1,7 @@
 use Rattle.std.proofs.Common.{◌+◌, ◌≤◌, ap, sym, subst, arith, ◌∙◌}
 use Rattle.rv_turn.specs.Histories.{Each}
-use Rattle.turn_bench.proofs.Actors.{not_among, each_below}
-use Rattle.turn_bench.proofs.turned.split_all.Goals as goal
+use Rattle.host_bench.proofs.Actors.{not_among, each_below}
+use Rattle.host_bench.proofs.turns.turned.split_all.Goals as goal
 
 pub split-requires-clause-actor : goal.split-requires-clause-actor
 split-requires-clause-actor c = (omega arith, not_among _ _ c.loop-number.invariant.below)

@@ -1,8 +1,8 @@
 //! Ledgers behind a turn.
 ghost use Rattle.std.specs.Prelude.{◌≡◌, true, []};
 
-use crate::hold::Hold;
-use crate::ledger::Ledger;
+use crate::turns::hold::Hold;
+use crate::turns::ledger::Ledger;
 use rv_turn::{Pass, Turn};
 use std::alloc::Global;
 use std::sync::Wait;

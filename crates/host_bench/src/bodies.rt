@@ -1,6 +1,5 @@
-//! Measures how many statement steps a second `run_body` takes on a loop of assignments with arithmetic. It asks
-//! nothing of any host.
-#![tactic(auto)]
+//! How many statement steps a second `run_body` takes on a loop of assignments with arithmetic. It asks nothing of any
+//! host.
 
 mod counting;
 
@@ -9,9 +8,10 @@ use rv_exec::bodies::Bodies;
 use rv_exec::machine::run_body;
 use rv_exec::replay::Replay;
 use rv_value::{Args, Scalars};
+use std::alloc::Global;
+use std::io;
 use std::process::ExitCode;
 use std::time::{Clock, Instant};
-use std::{env, io};
 
 // The statement steps of one run.
 const STEPS: u64 = 99_998;
@@ -49,21 +49,13 @@ fn least_nanos<R: Clock>(rt: &R, bodies: &Bodies, runs: u64) -> io::Result<u64> 
     Ok(least)
 }
 
-fn main(rt: HostRuntime) -> io::Result<ExitCode> {
-    let runs = match env::args(&rt)?.nth(1) {
-        Some(word) => word.as_str().parse::<u64>().ok(),
-        None => None,
-    };
-    let Some(runs) = runs else {
-        let _ = eprintln!(rt; "usage: exec_bench RUNS");
-        return Ok(ExitCode::from(2));
-    };
-    let bodies = counting::bodies(rt.alloc())?;
-    let nanos = least_nanos(&rt, &bodies, runs)?;
+/// Runs a body so often, and prints the rate.
+pub fn print_rate<R: Clock + Print>(rt: &R, alloc: Global, runs: u64) -> io::Result<ExitCode> {
+    let bodies = counting::bodies(alloc)?;
+    let nanos = least_nanos(rt, &bodies, runs)?;
     let steps = runs.saturating_mul(STEPS);
     let rate = steps.saturating_mul(1000) / nanos.max(1);
-    println!(rt;
-        "{rate} million statement steps a second: {steps} steps in {nanos} ns, the least of {ROUNDS} rounds"
-    )?;
+    print!(rt; "{rate} million statement steps a second: ")?;
+    println!(rt; "{steps} steps in {nanos} ns, the least of {ROUNDS} rounds")?;
     Ok(ExitCode::SUCCESS)
 }
