@@ -43,6 +43,7 @@ cat >"$folder/refuse.c" <<'C'
 #include <dlfcn.h>
 #include <errno.h>
 #include <stdlib.h>
+#include <sys/syscall.h>
 #include <unistd.h>
 
 /* Refuses the call of that number. At the end of a run it writes how many blocks are left to descriptor 9, and before them
@@ -56,6 +57,10 @@ static int is_refused(void) {
     return ++calls == refused;
 }
 static void *next(const char *name) { return dlsym(RTLD_NEXT, name); }
+__attribute__((noreturn)) static void leave(int status) {
+    syscall(SYS_exit_group, status);
+    __builtin_unreachable();
+}
 static void *got(void *block) {
     if (block) left++;
     return block;
@@ -99,11 +104,16 @@ static void put(long number) {
     int i = 20;
     do digits[--i] = '0' + number % 10;
     while (number /= 10);
-    if (write(9, digits + i, 20 - i) < 0 || write(9, "\n", 1) < 0) _exit(9);
+    if (write(9, digits + i, 20 - i) < 0 || write(9, "\n", 1) < 0) leave(9);
 }
-__attribute__((destructor)) static void end(void) {
-    if (calls < refused && write(9, "none ", 5) < 0) _exit(9);
+static void tell(void) {
+    if (calls < refused && write(9, "none ", 5) < 0) leave(9);
     put(left);
+}
+/* A program with threads ends by this call, behind which no destructor runs. */
+void _exit(int status) {
+    tell();
+    leave(status);
 }
 C
 cc -O1 -shared -fPIC -o "$folder/refuse.so" "$folder/refuse.c" -ldl
