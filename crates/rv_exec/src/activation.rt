@@ -12,11 +12,15 @@ use rv_value::{Args, Scalars};
 /// The steps of a body, and of a task's own body between two requests; the limit is our own.
 pub const MOST_STEPS: u32 = 100_000;
 
+/// A body between two statements: its parameters and variables, and the components of the object that it holds.
 #[derive(Drop)]
 pub struct Activation {
+    /// Parameters and variables, each in its slot; 0 where nothing was put yet.
     pub slots: [i64; MOST_SLOTS],
     pub components: Scalars,
+    /// How many steps may still be taken, at most `MOST_STEPS`.
     pub steps: u32,
+    /// How many requests may still be made.
     pub requests: u32,
 }
 
@@ -56,6 +60,7 @@ pub fn value_at(values: Args, index: usize) -> i64
 }
 
 impl Activation {
+    /// What stands in a slot; 0 past the last.
     pub fn variable(&self, slot: usize) -> i64
         ensures { result ≡ slice_index_or self.now.slots slot (pos 0) }
     {
@@ -66,6 +71,7 @@ impl Activation {
         }
     }
 
+    /// The component of that index, from 0; 0 past the last.
     pub fn component(&self, index: usize) -> i64
         ensures { result ≡ slice_index_or self.now.components index (pos 0) }
     {
@@ -77,6 +83,7 @@ impl Activation {
         }
     }
 
+    /// Puts a value into a slot. Past the last nothing changes.
     pub fn put_slot(&mut self, slot: usize, value: i64)
         ensures { self.new ≡ put_slot slot value self.old }
     {

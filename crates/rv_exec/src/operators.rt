@@ -18,6 +18,7 @@ fn truth(value: bool) -> i64
     if value { 1 } else { 0 }
 }
 
+/// Whether a value of type Boolean is True: True is kept as 1, False as 0.
 pub fn is_true(value: i64) -> bool
     ensures { result ≡ is_true value }
 {

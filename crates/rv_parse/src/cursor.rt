@@ -35,6 +35,7 @@ impl<'a> Cursor<'a> {
         Cursor { tokens, end }
     }
 
+    /// How many tokens are left.
     pub fn len(&self) -> usize
         ensures { result ≡ length self.now }
     {
@@ -111,6 +112,7 @@ impl<'a> Cursor<'a> {
         }
     }
 
+    /// Takes the next token, if there is one.
     pub fn skip(&mut self)
         ensures { self.new ≡ spec.next self.old }
     {

@@ -21,6 +21,7 @@ use std::alloc::{AllocError, Global};
 /// How many parentheses may be open one inside another.
 pub const MAX_OPEN: usize = 64;
 
+/// The rules of an expression at a depth: `expression` reads one inside parentheses (4.4).
 #[derive(Clone, Copy)]
 pub struct Grammar<F> {
     pub alloc: Global,
@@ -111,6 +112,7 @@ impl<F: Fn(Global, &mut Cursor<'_>, usize) -> Result<Expression, ParseFault>> Gr
     }
 
     // "(" expr {"," expr} ")"
+    /// The arguments of a call or a conversion, in parentheses, at least one (6.4).
     pub fn arguments(&self, tokens: &mut Cursor<'_>) -> Result<Vec<Expression>, ParseFault>
         requires { Nests self.now.depth (F.pre self.now.expression) (F.post self.now.expression) }
         ensures { Reads (λ v. expressions_view v.items) (rules.arguments (rules.opening self.now.depth) (rules.inside self.now.depth) tokens.old) result tokens.new }

@@ -25,6 +25,7 @@ use std::alloc::Global;
 /// How many statements may be open one inside another.
 pub const MAX_STATEMENTS: usize = 64;
 
+/// The rules of a compound statement at a depth: `statement` reads one inside it (5.1).
 #[derive(Clone, Copy)]
 pub struct Nested<F> {
     pub alloc: Global,

@@ -13,6 +13,7 @@ pub enum LogicalOperator {
     OrElse,
 }
 
+/// What two simple expressions are compared by (4.5.2).
 #[derive(Clone, Copy, Debug, PartialEq, Eq)]
 pub enum RelationalOperator {
     Equal,
@@ -30,6 +31,7 @@ pub enum AddingOperator {
     Minus,
 }
 
+/// What joins two factors (4.5.5).
 #[derive(Clone, Copy, Debug, PartialEq, Eq)]
 pub enum MultiplyingOperator {
     Times,
@@ -61,6 +63,7 @@ pub struct Term {
     pub operand: Expression,
 }
 
+/// An expression, with each operator at its precedence (4.4). A place is the index of a byte in the text.
 #[cycle(expression)]
 #[derive(Drop)]
 pub enum Expression {
