@@ -18,6 +18,7 @@ cat >"$folder/refuse.c" <<'C'
 #include <dlfcn.h>
 #include <errno.h>
 #include <stdlib.h>
+#include <sys/syscall.h>
 #include <unistd.h>
 
 /* Refuses the call of that number; at the end of a run that didn't come to it, writes `none` to descriptor 9. */
@@ -54,8 +55,16 @@ int posix_memalign(void **found, size_t alignment, size_t size) {
     if (is_refused()) return ENOMEM;
     return real(found, alignment, size);
 }
-__attribute__((destructor)) static void end(void) {
-    if (calls < refused && write(9, "none\n", 5) < 0) _exit(9);
+static void tell(void) {
+    if (calls < refused && write(9, "none\n", 5) < 0) syscall(SYS_exit_group, 9);
+}
+__attribute__((destructor)) static void end(void) { tell(); }
+
+/* A program with threads ends by this. */
+void _exit(int status) {
+    tell();
+    syscall(SYS_exit_group, status);
+    __builtin_unreachable();
 }
 C
 cc -O1 -shared -fPIC -o "$folder/refuse.so" "$folder/refuse.c" -ldl

@@ -53,6 +53,7 @@ REASONS = (
     Reason("use of a unit is refused (own)", "^names WrongKind", "", r"\buse\s+Plant\b"),
     Reason("a barrier in parentheses is no component's name (own)", "^restriction Simple_Barriers", "", r"\bwhen\s*\(\s*Ready\s*\)"),
     Reason("an aspect that isn't known is refused (own): GNAT warns", "^names Unknown", "", r"\bwith\s+Foo\b"),
+    Reason("a procedure that a protected body alone has is refused (own)", "^names Unknown", "", r"\bprocedure\s+Extra\s+is\s+begin\b"),
 )
 
 

@@ -73,8 +73,13 @@ impl Ends {
     }
 }
 
-// A byte that stands in the place of this one.
+// A byte that stands in the place of this one. No digit takes another's place: `go 0000000000000000001` would be carried out
+// for years.
 fn other_byte(at: usize, byte: u8) -> u8 {
     let other = OTHERS[at % 13];
-    if other == byte { b'a' } else { other }
+    if other == byte || (other.is_ascii_digit() && byte.is_ascii_digit()) {
+        b'a'
+    } else {
+        other
+    }
 }
