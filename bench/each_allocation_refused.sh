@@ -1,9 +1,9 @@
 #!/usr/bin/env bash
 # Refuses each allocation of `ravenhost check --explain` in turn, on examples/checked.raven and on unit texts of rv_rows: those
 # that are taken, and for each fault of names and types one that is refused. Each run must end with status 3, want of memory,
-# and must have written a front of the whole output; or with the whole output and the status that it has with memory, where
-# the allocation was a reservation that `collect` of the kit does without. Scripts may be given instead. It needs a C compiler, for a library of
-# a few lines that stands before malloc.
+# and must have written a front of the whole output; or with the whole output and the status that it has with memory: that is
+# due where a fault of types was known and only the look for one at an earlier place wanted memory. Scripts may be given
+# instead. It needs a C compiler, for a library of a few lines that stands before malloc.
 set -eu
 command -v cc >/dev/null || {
     echo "bench/each_allocation_refused.sh: cc is missing" >&2
