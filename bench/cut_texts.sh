@@ -2,7 +2,7 @@
 # Cuts each script of rv_rows before each of its bytes, and replaces each of its bytes once; looks at each of these scripts
 # (`check`) and plays it, and says how many runs came to which end. Each has to be done or refused; a run that ends the
 # process, or that fails, fails this. rv_rows does it, one process for each processor with scripts of its own; two scripts of
-# 60 kB take by far the longest, some twenty minutes each. It needs rt; the first time it takes over half an hour more to prove and build.
+# 60 kB take by far the longest, an hour and more each. It needs rt; the first time it takes over half an hour more to prove and build.
 set -eu
 for tool in rt awk nproc stat; do
     command -v "$tool" >/dev/null || { echo "bench/cut_texts.sh: $tool is missing" >&2; exit 127; }
