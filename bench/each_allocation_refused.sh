@@ -1,8 +1,8 @@
 #!/usr/bin/env bash
 # Refuses each allocation of `ravenhost check --explain` in turn, on examples/checked.raven and on unit texts of rv_rows: those
 # that are taken, and for each fault of names and types one that is refused. Each run must end with status 3, want of memory,
-# and must have written a front of the whole output; or with the whole output and the status that it has with memory: that is
-# due where a fault of types was known and only the look for one at an earlier place wanted memory. Scripts may be given
+# and must have written a front of the whole output; or with the whole output and the status that it has with memory, which
+# was seen on texts with a fault of types alone, and is counted. Scripts may be given
 # instead. It needs a C compiler, for a library of a few lines that stands before malloc.
 set -eu
 command -v cc >/dev/null || {
