@@ -15,19 +15,6 @@ use std::io::Write;
 use std::sync::Wait;
 use std::thread::Threads;
 
-// A crew with one thread, which runs a job on a port.
-fn begun<R: Threads>(rt: &R, alloc: Global, job: Job, port: Port) -> Option<Crew>
-    requires { port.actor ≡ job.actor }
-    ensures { IfSome result (λ crew. IsOfTurn port.turn crew) }
-{
-    starts_keep_the_turn();
-    let mut crew = Crew::new(alloc);
-    match crew.start(rt, job, port) {
-        Ok(()) => Some(crew),
-        Err(_) => None,
-    }
-}
-
 // Joins a crew whose ports are of a control, writes the journal and closes the crew.
 fn closed<R: Threads + Wait, W: Write>(
     rt: &R,
@@ -70,10 +57,8 @@ pub fn play<R: Threads + Wait + AllocGlobal + Print>(
     requires actor { port.actor ≡ job.actor }
     requires turn { port.turn ≡ control.turn }
 {
-    match begun(rt, rt.alloc(), job, port) {
-        Some(crew) => closed(rt, rt.alloc(), crew, control, &mut io::writer(rt)),
-        None => None,
-    }
+    let crew = joined_by(rt, Crew::new(rt.alloc()), job, port)?;
+    closed(rt, rt.alloc(), crew, control, &mut io::writer(rt))
 }
 
 /// The same of two jobs at once, each in a thread of its own.
@@ -90,9 +75,7 @@ pub fn play_both<R: Threads + Wait + AllocGlobal + Print>(
     requires turn { port.turn ≡ control.turn }
     requires same { other.turn ≡ control.turn }
 {
-    let crew = begun(rt, rt.alloc(), first, port)?;
-    match joined_by(rt, crew, second, other) {
-        Some(crew) => closed(rt, rt.alloc(), crew, control, &mut io::writer(rt)),
-        None => None,
-    }
+    let crew = joined_by(rt, Crew::new(rt.alloc()), first, port)?;
+    let crew = joined_by(rt, crew, second, other)?;
+    closed(rt, rt.alloc(), crew, control, &mut io::writer(rt))
 }

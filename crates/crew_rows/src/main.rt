@@ -14,9 +14,17 @@ use rv_crew::job::Job;
 use rv_crew::tasks::device;
 use rv_port::port::{Finished, Port};
 use std::process::ExitCode;
+use std::sync::Wait;
 
 // How often the device calls.
 const CALLS: u32 = 3;
+
+// The job of the device: it calls the first operation of the first object.
+fn calls<R: Wait>(rt: &R, port: Port) -> Finished
+    ensures { (result.turn ≡ port.turn) × (result.actor ≡ port.actor) }
+{
+    device(rt, port, 1, 1, CALLS)
+}
 
 // Tells whose ports came back, and whose were lost. Whether there was a crew to be closed.
 fn told<R: Print>(rt: &R, closed: Option<Closed>) -> bool {
@@ -39,7 +47,7 @@ fn main(rt: HostRuntime) -> ExitCode {
     let actor = port.actor();
     let job = move |port: Port| -> Finished
         ensures { (result.turn ≡ port.turn) × (result.actor ≡ port.actor) }
-    { device(&rt, port, 1, 1, CALLS) };
+    { calls(&rt, port) };
     let Ok(run) = Box::new(rt.alloc(), job) else {
         return ExitCode::FAILURE;
     };
