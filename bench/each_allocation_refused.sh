@@ -1,9 +1,8 @@
 #!/usr/bin/env bash
 # Refuses each allocation of `ravenhost check --explain` in turn, on examples/checked.raven and on unit texts of rv_rows: those
 # that are taken, and for each fault of names and types one that is refused. Each run must end with status 3, want of memory,
-# and must have written a front of the whole output; or with the whole output and the status that it has with memory, which
-# was seen on texts with a fault of types alone, and is counted. Scripts may be given
-# instead. It needs a C compiler, for a library of a few lines that stands before malloc.
+# and must have written a front of the whole output. Scripts may be given instead. It needs a C compiler, for a library of a
+# few lines that stands before malloc.
 set -eu
 command -v cc >/dev/null || {
     echo "bench/each_allocation_refused.sh: cc is missing" >&2
@@ -80,10 +79,6 @@ refuse_each() {
         REFUSED=$number LD_PRELOAD=$folder/refuse.so "$program" check --explain <"$script" \
             >"$folder/written" 2>"$folder/error" 9>"$folder/none" || status=$?
         if [ -s "$folder/none" ]; then break; fi
-        if [ "$status" -eq "$due" ] && cmp -s "$folder/written" "$folder/whole"; then
-            spared=$((spared + 1))
-            continue
-        fi
         if [ "$status" -ne 3 ]; then
             echo "$script: allocation $number refused: status $status"
             exit 1
@@ -109,6 +104,6 @@ if [ $# -eq 0 ]; then
         set -- "$@" "${first%.fault}.raven"
     done
 fi
-all=0 spared=0
+all=0
 for script in "$@"; do refuse_each "$script"; done
-echo "$# scripts, $all allocations, each refused: $spared were done without, else status 3 and a front of the output"
+echo "$# scripts, $all allocations, each refused: status 3 and a front of the output"

@@ -10,6 +10,29 @@ const OTHERS: [u8; 13] = [
     b'@', b'(', b')', b';', b':', b'\'', b' ', b'\n', b'-', b'_', b'9', 0, 200,
 ];
 
+/// A share of the places of a script: each place of so many, from this one on. So several processes can share the work.
+#[derive(Clone, Copy)]
+pub struct Share {
+    first: usize,
+    of: usize,
+}
+
+impl Share {
+    /// The share of this number, from 0, of so many. None where there is no such share.
+    pub fn new(number: usize, of: usize) -> Option<Share> {
+        if number < of {
+            Some(Share { first: number, of })
+        } else {
+            None
+        }
+    }
+
+    // Whether a place is of it.
+    fn has(self, at: usize) -> bool {
+        at.checked_rem(self.of) == Some(self.first)
+    }
+}
+
 /// How many runs over scripts came to which end.
 #[derive(Clone, Copy)]
 pub struct Ends {
@@ -50,23 +73,32 @@ impl Ends {
         self.note(play(alloc, &mut reader, &mut written, true));
     }
 
-    /// A script is run cut before each of its bytes.
-    pub fn run_cut(&mut self, alloc: Global, script: &[u8]) {
+    /// A script is run cut before each of its bytes that are of a share.
+    pub fn run_cut(&mut self, alloc: Global, script: &[u8], share: Share) {
         for end in 0..script.len() {
-            self.run(alloc, &script[..end]);
+            if share.has(end) {
+                self.run(alloc, &script[..end]);
+            }
         }
     }
 
-    /// A script is run with each of its bytes replaced in turn.
-    pub fn run_damaged(&mut self, alloc: Global, script: &[u8]) -> Result<(), AllocError> {
+    /// A script is run with each of its bytes that are of a share replaced in turn.
+    pub fn run_damaged(
+        &mut self,
+        alloc: Global,
+        script: &[u8],
+        share: Share,
+    ) -> Result<(), AllocError> {
         let mut damaged = script.to_vec(alloc)?;
         for (at, byte) in script.iter().enumerate() {
-            if let Some(place) = damaged.get_mut(at) {
-                *place = other_byte(at, *byte);
-            }
-            self.run(alloc, damaged.as_slice());
-            if let Some(place) = damaged.get_mut(at) {
-                *place = *byte;
+            if share.has(at) {
+                if let Some(place) = damaged.get_mut(at) {
+                    *place = other_byte(at, *byte);
+                }
+                self.run(alloc, damaged.as_slice());
+                if let Some(place) = damaged.get_mut(at) {
+                    *place = *byte;
+                }
             }
         }
         Ok(())

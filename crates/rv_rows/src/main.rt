@@ -5,13 +5,13 @@
 //! else it is played, with answers that aren't recorded, and `NAME.journal` is what has to be written.
 //! `NAME.fault` is the fault that has to be told, where there is one, and `NAME.explained` what has to be said below it.
 //!
-//! With a word on its command line it cuts and damages each script instead, and says how many runs came to which end
-//! (`bench/cut_texts.sh`).
+//! With two numbers on its command line, which of how many shares, it cuts and damages each script instead, at the places of
+//! that share, and says how many runs came to which end (`bench/cut_texts.sh`).
 #![tactic(auto)]
 
 mod cut;
 
-use cut::Ends;
+use cut::{Ends, Share};
 use rv_check::check::check;
 use rv_explain::explain;
 use rv_fault::Failure;
@@ -116,15 +116,15 @@ fn names_of(rt: &HostRuntime) -> io::Result<Vec<String>> {
     Ok(names)
 }
 
-/// Runs each script cut before each of its bytes, and with each of its bytes replaced.
-fn cut_all(rt: &HostRuntime) -> io::Result<()> {
+/// Runs each script cut before each of its bytes, and with each of its bytes replaced, at the places of a share.
+fn cut_all(rt: &HostRuntime, share: Share) -> io::Result<()> {
     let alloc = rt.alloc();
     let mut cut = Ends::new();
     let mut damaged = Ends::new();
     for name in names_of(rt)? {
         let script = bytes_of(rt, name.as_str(), "raven")?.unwrap_or(Vec::new(alloc));
-        cut.run_cut(alloc, script.as_slice());
-        damaged.run_damaged(alloc, script.as_slice())?;
+        cut.run_cut(alloc, script.as_slice(), share);
+        damaged.run_damaged(alloc, script.as_slice(), share)?;
     }
     println!(rt;
         "cut: {} done, {} refused, {} failed",
@@ -145,14 +145,23 @@ fn tell_all(rt: &HostRuntime) -> io::Result<()> {
     Ok(())
 }
 
-/// Does what the command line asks: any word runs the scripts cut and damaged.
+/// The share that two words of the command line give.
+fn share_of(number: &str, of: &str) -> io::Result<Share> {
+    let share = match (number.parse(), of.parse()) {
+        (Ok(number), Ok(of)) => Share::new(number, of),
+        _ => None,
+    };
+    share.ok_or(io::Error::from(io::ErrorKind::InvalidInput))
+}
+
+/// Does what the command line asks: with two numbers it runs the scripts cut and damaged.
 fn run(rt: HostRuntime) -> io::Result<()> {
     let mut words = env::args(&rt)?;
     let _name = words.next();
-    if words.next().is_some() {
-        return cut_all(&rt);
+    match (words.next(), words.next()) {
+        (Some(number), Some(of)) => cut_all(&rt, share_of(number.as_str(), of.as_str())?),
+        _ => tell_all(&rt),
     }
-    tell_all(&rt)
 }
 
 // The bodies of a script run on a thread whose stack holds the deepest of them.

@@ -32,7 +32,7 @@ pub enum TypeFault {
 }
 
 impl TypeFault {
-    // Its place, and its number among the faults at one place.
+    // Its place, and its number among the faults at one place. Want of memory comes before all: it is told where it occurs.
     fn order(self) -> (usize, usize) {
         match self {
             TypeFault::Mismatch(at) => (at, 1),
@@ -41,7 +41,7 @@ impl TypeFault {
             TypeFault::BadMode(at) => (at, 4),
             TypeFault::TooLarge(at) => (at, 5),
             TypeFault::BadChoice(at) => (at, 6),
-            TypeFault::NoMemory => (usize::MAX, 7),
+            TypeFault::NoMemory => (0, 0),
         }
     }
 
@@ -53,7 +53,7 @@ impl TypeFault {
     }
 }
 
-/// The fault at the least place of those told so far, of several there the one of the least number.
+/// The fault at the least place of those told so far, of several there the one of the least number; `NoMemory` before all.
 ///
 /// Contracts see whether one was told.
 #[derive(Drop)]

@@ -8,7 +8,7 @@ ghost use Rattle.rv_code.specs.BodyView.{unit_view};
 ghost use Rattle.rv_types.specs.BodiesOf.{is_real_time as is_times, names_times as names_are_times, item_times as item_is_times, context_times as context_is_times, setting_of, body_scope, bodies_of};
 
 use crate::declarations::declare_all_of;
-use crate::refused::Refused;
+use crate::refused::{Refused, least};
 use crate::setting::Setting;
 use crate::text_order::look_in_order;
 use crate::unit::{items, no_bodies};
@@ -120,13 +120,13 @@ fn bodies(alloc: Global, named: &Named, outline: &Outline) -> Result<UnitBodies,
     Ok(compiled)
 }
 
-// The fault of the bodies that stands first in the text, where this one was met.
+// The fault of the bodies that stands first in the text, where this one was met; want of memory before all.
 fn first_of_bodies(alloc: Global, named: &Named, outline: &Outline, met: Refused) -> Refused
     requires { outline.now ≡ outlined named.now.catalogue.now (tree_view named.now.tree.now) }
 {
     match look(alloc, named, outline) {
         Ok(()) => met,
-        Err(first) => first,
+        Err(first) => least(met, first),
     }
 }
 
@@ -147,7 +147,8 @@ fn look(alloc: Global, named: &Named, outline: &Outline) -> Result<(), Refused>
 /// Checks the types of a text whose names are bound, and compiles its bodies.
 ///
 /// # Errors
-/// The fault at the least place: at one place the first in the order of `TypeFault`. `NoMemory` where memory was refused.
+/// The fault at the least place: at one place the first in the order of `TypeFault`. `NoMemory` wherever memory was refused,
+/// whatever is wrong besides.
 pub fn check_types(alloc: Global, named: &Named) -> Result<Checked, TypeFault>
     ensures shape { IfOk result (λ c. shape_of named.now.catalogue.now (tree_view named.now.tree.now) ≡ Some c.shape) }
     ensures bodies { IfOk result (λ c. bodies_of named.now.catalogue.now (tree_view named.now.tree.now) ≡ Some (unit_view c.bodies)) }

@@ -24,7 +24,7 @@ pub(crate) fn mismatch(at: usize) -> Refused {
     Refused(TypeFault::Mismatch(at))
 }
 
-// The one of two that is told: that at the lesser place, and at one place the lesser.
+// The one of two that is told: want of memory, else that at the lesser place, and at one place the lesser.
 pub(crate) fn least(one: Refused, other: Refused) -> Refused {
     let mut faults = Faults::new();
     faults.tell(one.0);
