@@ -2,5 +2,6 @@ pub mod Seen
 pub mod Numbered
 pub mod Attached
 pub mod Facts
+pub mod Decisions
 pub mod Pages
 pub mod Given

@@ -1,38 +1,43 @@
-//! The answer that is due to a request, before the room is asked.
+//! What is decided of a request, before the room is asked, and the scalars that go with the answer.
 
 pub mod calls;
 pub mod ends;
 pub mod waits;
 
-ghost use Rattle.std.specs.Prelude.{◌≡◌, true};
+ghost use Rattle.std.specs.Prelude.{◌≡◌, ◌-◌, option_copied, true};
 ghost use Rattle.rv_history.specs.Due as due;
 ghost use Rattle.rv_history.specs.Fitting as fitting;
+ghost use Rattle.rv_host.specs.Decisions.{answer_with, scalars_for, scalars_of_body, scalars_of_called};
 ghost use Rattle.rv_host.specs.Seen.{IsSeen, history_of};
+ghost use Rattle.rv_shape.specs.Catalogue as catalogues;
 
+use crate::decision::Decision;
 use crate::due::calls::{due_call, due_fire};
 use crate::due::ends::due_end;
 use crate::due::waits::{delay_facts, is_halted, resume_facts, time};
+use crate::rules::exclusion::scalars_of;
 use crate::rules::fitting::{innermost, is_fitting};
 use crate::seen::Seen;
-use rv_event::entry::{Answer, Request};
+use rv_event::entry::{Body, Request};
+use rv_value::Scalars;
 
-// The answer to a request that fits.
+// What is decided of a request that fits.
 #[tactic(auto, using(crate::proofs::Fits::fires_line))]
-fn answer_fitting(seen: &Seen, actor: usize, request: &Request) -> Answer
+fn decide_fitting(seen: &Seen, actor: usize, request: &Request) -> Decision
     requires seen { IsSeen seen.now }
     requires fits { fitting.fits (history_of seen.now) actor request.now ≡ true }
-    ensures { result ≡ due.table (history_of seen.now) actor request.now }
+    ensures { answer_with (scalars_for (history_of seen.now) actor request.now) result ≡ due.table (history_of seen.now) actor request.now }
 {
     match request {
         Request::Call(object, operation, _) => due_call(seen, actor, request, *object, *operation),
         Request::Complete(scalars, _) => due_end(seen, innermost(seen, actor), scalars),
-        Request::Resume => resume_facts(seen, actor).answer(),
-        Request::DelayUntil(until) => delay_facts(seen, actor, *until).answer(),
-        Request::Clock => Answer::Accepted(time(seen)),
+        Request::Resume => resume_facts(seen, actor).decision(),
+        Request::DelayUntil(until) => delay_facts(seen, actor, *until).decision(),
+        Request::Clock => Decision::Accepted(time(seen)),
         Request::Fire => due_fire(seen, actor),
-        Request::Quit => Answer::Accepted(0),
-        Request::Tick(_) => Answer::Accepted(0),
-        Request::Halt => Answer::Accepted(0),
+        Request::Quit => Decision::Accepted(0),
+        Request::Tick(_) => Decision::Accepted(0),
+        Request::Halt => Decision::Accepted(0),
     }
 }
 
@@ -48,16 +53,51 @@ fn goes_on(request: &Request) -> bool
     }
 }
 
-/// The answer that is due to a request, before the room is asked.
-pub fn answer_due(seen: &Seen, actor: usize, request: &Request) -> Answer
+/// What is decided of a request, before the room is asked: with the scalars that go with it, the answer that is due.
+pub fn decision_due(seen: &Seen, actor: usize, request: &Request) -> Decision
     requires { IsSeen seen.now }
-    ensures { result ≡ due.due (history_of seen.now) actor request.now }
+    ensures { answer_with (scalars_for (history_of seen.now) actor request.now) result ≡ due.due (history_of seen.now) actor request.now }
 {
     if !is_fitting(seen, actor, request) {
-        return Answer::Misuse;
+        return Decision::Misuse;
     }
     if is_halted(seen) && !goes_on(request) {
-        return Answer::Halted;
+        return Decision::Halted;
     }
-    answer_fitting(seen, actor, request)
+    decide_fitting(seen, actor, request)
+}
+
+// The scalars of the object that a line's handler is of.
+fn scalars_fired<'a>(seen: &Seen<'a>, line: usize) -> Option<&'a Scalars>
+    requires { IsSeen seen.now }
+    ensures { option_copied result ≡ scalars_of_called (history_of seen.now) (catalogues.handler seen.now.catalogue.now line) }
+{
+    match seen.catalogue.handler(line) {
+        Some((object, _)) => Some(scalars_of(seen, object)),
+        None => None,
+    }
+}
+
+// The scalars of the object of a body.
+fn scalars_held<'a>(seen: &Seen<'a>, body: Option<Body>) -> Option<&'a Scalars>
+    requires { IsSeen seen.now }
+    ensures { option_copied result ≡ scalars_of_body (history_of seen.now) body }
+{
+    match body {
+        Some(body) => Some(scalars_of(seen, body.object)),
+        None => None,
+    }
+}
+
+/// The scalars that go with the answer to a request, if it starts a body or wakes its actor in one.
+pub fn scalars_due<'a>(seen: &Seen<'a>, actor: usize, request: &Request) -> Option<&'a Scalars>
+    requires { IsSeen seen.now }
+    ensures { option_copied result ≡ scalars_for (history_of seen.now) actor request.now }
+{
+    match request {
+        Request::Call(object, _, _) => Some(scalars_of(seen, *object)),
+        Request::Fire => scalars_fired(seen, actor.saturating_sub(1)),
+        Request::Resume => scalars_held(seen, innermost(seen, actor)),
+        _ => None,
+    }
 }

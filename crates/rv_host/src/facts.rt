@@ -1,23 +1,23 @@
-//! What the answer to a request depends on, and the answer that follows: whoever finds these facts,
-//! by a scan or otherwise, has the answer from here.
+//! What the answer to a request depends on, and what is decided by it: whoever finds these facts,
+//! by a scan or otherwise, has the decision from here.
 
-ghost use Rattle.std.specs.Prelude.{◌≡◌, None, if◌then◌else◌};
+ghost use Rattle.std.specs.Prelude.{◌≡◌, None, List, ℤ, Option, if◌then◌else◌};
 ghost use Rattle.rv_event.specs.declared.entry.Answer.TheVariants as answers;
 ghost use Rattle.rv_event.specs.declared.entry.Rule.TheVariants as rule;
 ghost use Rattle.rv_history.specs.Due as due;
+ghost use Rattle.rv_host.specs.Decisions.{answer_with, or_none};
 ghost use Rattle.rv_host.specs.Facts.{resumed};
 
-use rv_event::entry::{Answer, Rule};
+use crate::decision::Decision;
+use rv_event::entry::Rule;
 use rv_shape::suspension::SuspensionOperation;
-use rv_value::Scalars;
 
 /// Of a call of a protected operation, or of a fired line: the version of the list and the line that
-/// decides, the object's scalars, and the tests, in the order of the rules.
+/// decides, and the tests, in the order of the rules.
 #[derive(Clone, Copy, Drop)]
 pub struct CallFacts {
     pub version: usize,
     pub line: usize,
-    pub scalars: Scalars,
     pub denied: bool,
     pub blocking: bool,
     pub reentry: bool,
@@ -28,32 +28,33 @@ pub struct CallFacts {
 }
 
 impl CallFacts {
-    /// The answer.
-    pub fn answer(&self) -> Answer
-        ensures { result ≡ due.judged self.now.version self.now.line self.now.scalars self.now.denied self.now.blocking self.now.reentry self.now.above self.now.busy self.now.barred self.now.full }
+    /// What is decided.
+    pub fn decision(&self) -> Decision
+        ensures { (given : Option (List ℤ)) → answer_with given result
+            ≡ due.judged self.now.version self.now.line (or_none given) self.now.denied self.now.blocking self.now.reentry self.now.above self.now.busy self.now.barred self.now.full }
     {
         if self.denied {
-            return Answer::Refused(Rule::Grant, self.line, self.version);
+            return Decision::Refused(Rule::Grant, self.line, self.version);
         }
         if self.blocking {
-            return Answer::Refused(Rule::Blocking, 0, self.version);
+            return Decision::Refused(Rule::Blocking, 0, self.version);
         }
         if self.reentry {
-            return Answer::Refused(Rule::Reentry, 0, self.version);
+            return Decision::Refused(Rule::Reentry, 0, self.version);
         }
         if self.above {
-            return Answer::Refused(Rule::Ceiling, 0, self.version);
+            return Decision::Refused(Rule::Ceiling, 0, self.version);
         }
         if self.busy {
-            return Answer::Busy;
+            return Decision::Busy;
         }
         if !self.barred {
-            return Answer::Started(self.scalars);
+            return Decision::Started;
         }
         if self.full {
-            Answer::Refused(Rule::Queue, 0, self.version)
+            Decision::Refused(Rule::Queue, 0, self.version)
         } else {
-            Answer::Queued
+            Decision::Queued
         }
     }
 }
@@ -70,36 +71,37 @@ pub struct SuspensionFacts {
 }
 
 impl SuspensionFacts {
-    /// The answer to a call of this operation.
-    pub fn answer(&self, operation: SuspensionOperation) -> Answer
-        ensures { result ≡ (if self.now.denied then answers.Refused rule.Grant self.now.line self.now.version
+    /// What is decided of a call of this operation.
+    pub fn decision(&self, operation: SuspensionOperation) -> Decision
+        ensures { (given : Option (List ℤ)) → answer_with given result
+            ≡ (if self.now.denied then answers.Refused rule.Grant self.now.line self.now.version
             else due.performed self.now.version self.now.blocking self.now.waited self.now.state operation) }
     {
         if self.denied {
-            return Answer::Refused(Rule::Grant, self.line, self.version);
+            return Decision::Refused(Rule::Grant, self.line, self.version);
         }
         match operation {
-            SuspensionOperation::SetTrue => Answer::Accepted(0),
-            SuspensionOperation::SetFalse => Answer::Accepted(0),
-            SuspensionOperation::CurrentState => Answer::Accepted(one_or_none(self.state)),
+            SuspensionOperation::SetTrue => Decision::Accepted(0),
+            SuspensionOperation::SetFalse => Decision::Accepted(0),
+            SuspensionOperation::CurrentState => Decision::Accepted(one_or_none(self.state)),
             SuspensionOperation::SuspendUntilTrue => self.suspended(),
         }
     }
 
     // The answer to Suspend_Until_True that the list grants.
-    fn suspended(&self) -> Answer
-        ensures { result ≡ due.suspended self.now.version self.now.blocking self.now.waited self.now.state }
+    fn suspended(&self) -> Decision
+        ensures { (given : Option (List ℤ)) → answer_with given result ≡ due.suspended self.now.version self.now.blocking self.now.waited self.now.state }
     {
         if self.blocking {
-            return Answer::Refused(Rule::Blocking, 0, self.version);
+            return Decision::Refused(Rule::Blocking, 0, self.version);
         }
         if self.waited {
-            return Answer::Refused(Rule::Waiter, 0, self.version);
+            return Decision::Refused(Rule::Waiter, 0, self.version);
         }
         if self.state {
-            Answer::Accepted(0)
+            Decision::Accepted(0)
         } else {
-            Answer::Suspended
+            Decision::Suspended
         }
     }
 }
@@ -121,18 +123,19 @@ pub struct DelayFacts {
 }
 
 impl DelayFacts {
-    /// The answer.
-    pub fn answer(&self) -> Answer
-        ensures { result ≡ (if self.now.blocking then answers.Refused rule.Blocking 0 self.now.version
+    /// What is decided.
+    pub fn decision(&self) -> Decision
+        ensures { (given : Option (List ℤ)) → answer_with given result
+            ≡ (if self.now.blocking then answers.Refused rule.Blocking 0 self.now.version
             else (if self.now.over then due.nothing_more else answers.Delayed)) }
     {
         if self.blocking {
-            return Answer::Refused(Rule::Blocking, 0, self.version);
+            return Decision::Refused(Rule::Blocking, 0, self.version);
         }
         if self.over {
-            Answer::Accepted(0)
+            Decision::Accepted(0)
         } else {
-            Answer::Delayed
+            Decision::Delayed
         }
     }
 }
@@ -142,8 +145,8 @@ impl DelayFacts {
 pub enum ResumeFacts {
     /// The actor waits for nothing.
     Nothing,
-    /// It was handed an object, which has these scalars.
-    HandedOver(Scalars),
+    /// It was handed an object.
+    HandedOver,
     /// It was dropped, by this line at this version of the list.
     Dropped(usize, usize),
     /// It waits: whether it is ready, and whether the host is halted.
@@ -151,29 +154,30 @@ pub enum ResumeFacts {
 }
 
 impl ResumeFacts {
-    /// The answer.
-    pub fn answer(&self) -> Answer
-        ensures { result ≡ resumed self.now }
+    /// What is decided.
+    pub fn decision(&self) -> Decision
+        ensures { (given : Option (List ℤ)) → answer_with given result ≡ resumed given self.now }
     {
         match *self {
-            ResumeFacts::Nothing => Answer::Misuse,
-            ResumeFacts::HandedOver(scalars) => Answer::Woken(Some(scalars)),
-            ResumeFacts::Dropped(line, version) => Answer::Refused(Rule::Grant, line, version),
+            ResumeFacts::Nothing => Decision::Misuse,
+            ResumeFacts::HandedOver => Decision::HandedOver,
+            ResumeFacts::Dropped(line, version) => Decision::Refused(Rule::Grant, line, version),
             ResumeFacts::Waits(ready, halted) => or_waiting(ready, halted),
         }
     }
 }
 
 // Woken where it is ready; else Waiting, and on a halted host Halted.
-fn or_waiting(ready: bool, halted: bool) -> Answer
-    ensures { result ≡ (if ready then answers.Woken None else (if halted then answers.Halted else answers.Waiting)) }
+fn or_waiting(ready: bool, halted: bool) -> Decision
+    ensures { (given : Option (List ℤ)) → answer_with given result
+        ≡ (if ready then answers.Woken None else (if halted then answers.Halted else answers.Waiting)) }
 {
     if ready {
-        return Answer::Woken(None);
+        return Decision::Woken;
     }
     if halted {
-        Answer::Halted
+        Decision::Halted
     } else {
-        Answer::Waiting
+        Decision::Waiting
     }
 }

@@ -44,10 +44,10 @@ impl Object {
     }
 
     /// The values of the components.
-    pub fn scalars(&self) -> Scalars
-        ensures { result ≡ self.now.scalars }
+    pub fn scalars(&self) -> &Scalars
+        ensures { result.now ≡ self.now.scalars }
     {
-        self.scalars
+        &self.scalars
     }
 
     /// Whether a protected action may start: none is under way, or it and those under way are all of functions
@@ -70,15 +70,15 @@ impl Object {
 
     /// Finishes a protected action, which must be under way. An exclusive one leaves the given values in the
     /// components, a shared one leaves them as they were.
-    pub fn finish(&mut self, action: Action, scalars: Scalars)
+    pub fn finish(&mut self, action: Action, scalars: &Scalars)
         requires { is_under_way action self.old.actions ≡ true }
         ensures actions { self.old.actions ≡ action ∷ self.new.actions }
         ensures alike { self.old.actions ≡ replicate (length self.old.actions) action }
-        ensures scalars { self.new.scalars ≡ scalars_after action self.old.scalars scalars }
+        ensures scalars { self.new.scalars ≡ scalars_after action self.old.scalars scalars.now }
     {
         self.state = self.state.finished();
         if let Action::Exclusive(_) = action {
-            self.scalars = scalars;
+            self.scalars = *scalars;
         }
     }
 }

@@ -89,7 +89,7 @@ impl Objects {
               scalars = scalars_after action (slice_index_or self.old object idle).scalars scalars.now;
             }) }
     {
-        self.items[object].finish(action, *scalars);
+        self.items[object].finish(action, scalars);
     }
 
     /// Puts a new object, with its first scalars and nobody in it.

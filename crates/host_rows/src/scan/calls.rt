@@ -13,6 +13,7 @@ use rv_host::facts::{CallFacts, SuspensionFacts};
 use rv_shape::actor::Callee;
 use rv_shape::kind::Kind;
 use rv_shape::suspension::SuspensionOperation;
+use rv_value::Scalars;
 
 /// A call, or a line that is fired and calls its handler.
 #[derive(Clone, Copy)]
@@ -30,17 +31,16 @@ fn call_facts(
     kind: Kind,
     ceiling: usize,
     decided: (bool, usize),
+    scalars: &Scalars,
 ) -> CallFacts {
-    let scalars = scalars_of(seen, asked.object);
     let bodies = seen.bodies.as_slice();
     let (granted, line) = decided;
     let inside = 0 < count_held(bodies, asked.actor);
     let holding = is_holding(bodies, asked.actor, asked.object);
-    let open = is_open(seen.catalogue, asked.object, &scalars);
+    let open = is_open(seen.catalogue, asked.object, scalars);
     CallFacts {
         version: count_lists(seen.entries),
         line,
-        scalars,
         denied: !granted,
         blocking: inside && kind.is_entry() && !asked.is_fired,
         reentry: holding && !asked.is_fired,
@@ -79,10 +79,20 @@ pub fn answer_call(seen: &Seen, asked: Asked) -> Answer {
     match callee {
         Callee::Nowhere => Answer::Misuse,
         Callee::Protected(_, object, operation) => {
-            call_facts(seen, asked, operation.kind(), object.ceiling(), decided).answer()
+            let scalars = scalars_of(seen, asked.object);
+            let facts = call_facts(
+                seen,
+                asked,
+                operation.kind(),
+                object.ceiling(),
+                decided,
+                &scalars,
+            );
+            facts.decision().answer(Some(&scalars))
         }
         Callee::Suspension(_, _, operation) => {
-            suspension_facts(seen, asked, operation, decided).answer(operation)
+            let facts = suspension_facts(seen, asked, operation, decided);
+            facts.decision(operation).answer(None)
         }
     }
 }

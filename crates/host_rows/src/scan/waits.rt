@@ -17,7 +17,7 @@ pub fn answer_delay(seen: &Seen, actor: usize, until: i64) -> Answer {
         blocking: 0 < count_held(seen.bodies.as_slice(), actor),
         over: until <= clock(seen.entries),
     };
-    facts.answer()
+    facts.decision().answer(None)
 }
 
 // The scalars of the object that an actor was handed.
@@ -43,12 +43,12 @@ pub fn answer_resume(seen: &Seen, actor: usize) -> Answer {
     let facts = match stance(seen.entries, actor) {
         Stance::Free | Stance::Gone => ResumeFacts::Nothing,
         Stance::InQueue => ResumeFacts::Waits(false, halted),
-        Stance::HandedOver => ResumeFacts::HandedOver(handed(seen, actor)),
+        Stance::HandedOver => ResumeFacts::HandedOver,
         Stance::DroppedBy(line) => ResumeFacts::Dropped(line, version_then(seen, actor)),
         Stance::WaitsOn(object) => {
             ResumeFacts::Waits(is_released(seen.entries, actor, object), halted)
         }
         Stance::WaitsUntil(until) => ResumeFacts::Waits(until <= clock(seen.entries), halted),
     };
-    facts.answer()
+    facts.decision().answer(Some(&handed(seen, actor)))
 }

@@ -1,6 +1,6 @@
-//! The answers to calls and to fired lines.
+//! What is decided of calls and of fired lines.
 
-ghost use Rattle.std.specs.Prelude.{◌≡◌, ◌&&◌, ◌<◌, ◌≤◌, ◌-◌, nat_lt, not, is_some, option_map};
+ghost use Rattle.std.specs.Prelude.{◌≡◌, ◌&&◌, ◌<◌, ◌≤◌, ◌-◌, nat_lt, not, is_some, option_map, List, ℤ, Option, Some};
 ghost use Rattle.rv_event.specs.Past as past;
 ghost use Rattle.rv_history.specs.Due as due;
 ghost use Rattle.rv_history.specs.Exclusion as exclusion;
@@ -8,19 +8,21 @@ ghost use Rattle.rv_history.specs.History.{version};
 ghost use Rattle.rv_history.specs.Rules as rules;
 ghost use Rattle.rv_history.specs.Subject as subjects;
 ghost use Rattle.rv_host.specs.Attached.{number_of};
+ghost use Rattle.rv_host.specs.Decisions.{answer_with, scalars_of_called};
 ghost use Rattle.rv_host.specs.Seen.{IsSeen, history_of};
 ghost use Rattle.rv_shape.specs.Catalogue as catalogues;
 
+use crate::decision::Decision;
 use crate::due::waits::version_of;
 use crate::facts::{CallFacts, SuspensionFacts};
 use crate::rules::blocking::{is_call, is_holding, is_inside, may_block, waits};
 use crate::rules::ceiling::is_above;
-use crate::rules::exclusion::{is_busy, is_closed, scalars_of};
+use crate::rules::exclusion::{is_busy, is_closed};
 use crate::rules::grant::decide_call;
 use crate::rules::queue::is_full;
 use crate::rules::suspension::{has_waiter, state_of};
 use crate::seen::Seen;
-use rv_event::entry::{Answer, Request};
+use rv_event::entry::Request;
 use rv_irq::{Handler, Lines};
 use rv_shape::actor::Callee;
 use rv_shape::catalogue::Catalogue;
@@ -40,7 +42,6 @@ fn call_facts(
     requires { IsSeen seen.now }
     ensures version { result.version ≡ version (history_of seen.now) }
     ensures line { result.line ≡ decided.1 }
-    ensures scalars { result.scalars ≡ past.scalars (history_of seen.now).shapes object (history_of seen.now).past }
     ensures denied { result.denied ≡ not decided.0 }
     ensures blocking { result.blocking ≡ (rules.holds_any (history_of seen.now) asked.0 && asked.2) }
     ensures reentry { result.reentry ≡ (asked.1 && rules.holds (history_of seen.now) asked.0 object) }
@@ -56,7 +57,6 @@ fn call_facts(
     CallFacts {
         version: version_of(seen),
         line,
-        scalars: scalars_of(seen, object),
         denied: !granted,
         blocking: inside && may_block,
         reentry: call && holding,
@@ -97,22 +97,23 @@ fn suspension_facts(
     }
 }
 
-/// The answer to a call, or to a fired line, of this operation of the object that was scanned.
+/// What is decided of a call, or of a fired line, of this operation of the object.
 pub fn due_call(
     seen: &Seen,
     actor: usize,
     request: &Request,
     object: usize,
     operation: usize,
-) -> Answer
+) -> Decision
     requires { IsSeen seen.now }
-    ensures { result ≡ due.due_call (history_of seen.now) actor request.now object (catalogues.target seen.now.catalogue.now object operation) }
+    ensures { answer_with (Some (past.scalars (history_of seen.now).shapes object (history_of seen.now).past)) result
+        ≡ due.due_call (history_of seen.now) actor request.now object (catalogues.target seen.now.catalogue.now object operation) }
 {
     let callee = seen.catalogue.callee(object, operation);
     let decided = decide_call(seen, actor, object, operation, &callee);
     let asked = (actor, is_call(request), may_block(request, &callee));
     match callee {
-        Callee::Nowhere => Answer::Misuse,
+        Callee::Nowhere => Decision::Misuse,
         Callee::Protected(_, found, operation) => {
             call_facts(
                 seen,
@@ -122,10 +123,10 @@ pub fn due_call(
                 found.ceiling(),
                 decided,
             )
-            .answer()
+            .decision()
         }
         Callee::Suspension(_, _, operation) => {
-            suspension_facts(seen, asked, object, operation, decided).answer(operation)
+            suspension_facts(seen, asked, object, operation, decided).decision(operation)
         }
     }
 }
@@ -142,14 +143,15 @@ fn attached(catalogue: &Catalogue, line: usize) -> Option<Handler>
     lines.handler(line)
 }
 
-/// The answer to a fired line: its handler is called, if it has one (C.3).
-pub fn due_fire(seen: &Seen, actor: usize) -> Answer
+/// What is decided of a fired line: its handler is called, if it has one (C.3).
+pub fn due_fire(seen: &Seen, actor: usize) -> Decision
     requires seen { IsSeen seen.now }
     requires line { actor ≤ 10 }
-    ensures { result ≡ due.due_fire (history_of seen.now) actor (catalogues.handler seen.now.catalogue.now (actor - 1)) }
+    ensures { answer_with (scalars_of_called (history_of seen.now) (catalogues.handler seen.now.catalogue.now (actor - 1))) result
+        ≡ due.due_fire (history_of seen.now) actor (catalogues.handler seen.now.catalogue.now (actor - 1)) }
 {
     match attached(seen.catalogue, actor.saturating_sub(1)) {
-        None => Answer::Unattached,
+        None => Decision::Unattached,
         Some(handler) => due_call(
             seen,
             actor,

@@ -1,16 +1,18 @@
-//! The answers to ends of bodies.
+//! What is decided of ends of bodies.
 
-ghost use Rattle.std.specs.Prelude.{◌≡◌, slice_get, List};
+ghost use Rattle.std.specs.Prelude.{◌≡◌, slice_get, List, ℤ, Option};
 ghost use Rattle.rv_event.specs.declared.entry.Body.{Body};
 ghost use Rattle.rv_history.specs.Due as due;
+ghost use Rattle.rv_host.specs.Decisions.{answer_with};
 ghost use Rattle.rv_host.specs.Seen.{IsSeen, history_of};
 
+use crate::decision::Decision;
 use crate::due::waits::is_halted;
 use crate::rules::exclusion::opens_at;
 use crate::rules::grant::decide_call;
 use crate::rules::queue::head_call;
 use crate::seen::Seen;
-use rv_event::entry::{Answer, Body, Next};
+use rv_event::entry::{Body, Next};
 use rv_shape::actor::Callee;
 use rv_value::Scalars;
 
@@ -46,22 +48,22 @@ fn after_end(seen: &Seen, object: usize, scalars: &Scalars) -> Next
     serve(seen, head_call(seen, object))
 }
 
-/// The answer to the end of a body.
-pub fn due_end(seen: &Seen, body: Option<Body>, scalars: &Scalars) -> Answer
+/// What is decided of the end of a body.
+pub fn due_end(seen: &Seen, body: Option<Body>, scalars: &Scalars) -> Decision
     requires { IsSeen seen.now }
-    ensures { result ≡ due.due_end (history_of seen.now) scalars.now body }
+    ensures { (given : Option (List ℤ)) → answer_with given result ≡ due.due_end (history_of seen.now) scalars.now body }
 {
     let Some(body) = body else {
-        return Answer::Misuse;
+        return Decision::Misuse;
     };
     match seen.catalogue.callee(body.object, body.operation) {
         Callee::Protected(_, _, found) => {
             if found.kind().is_function() {
-                return Answer::Done(Next::Nothing);
+                return Decision::Done(Next::Nothing);
             }
-            Answer::Done(after_end(seen, body.object, scalars))
+            Decision::Done(after_end(seen, body.object, scalars))
         }
-        Callee::Nowhere => Answer::Misuse,
-        Callee::Suspension(_, _, _) => Answer::Misuse,
+        Callee::Nowhere => Decision::Misuse,
+        Callee::Suspension(_, _, _) => Decision::Misuse,
     }
 }

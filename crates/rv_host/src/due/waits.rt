@@ -1,21 +1,19 @@
-//! The answers to delays and to resumes, and the time.
+//! What delays and resumes depend on, and the time.
 
-ghost use Rattle.std.specs.Prelude.{◌≡◌, ◌<◌, ◌^◌, int_le, pos};
+ghost use Rattle.std.specs.Prelude.{◌≡◌, ◌<◌, ◌^◌, List, ℤ, Option, int_le, pos};
 ghost use Rattle.rv_event.specs.Past as past;
 ghost use Rattle.rv_history.specs.Due as due;
 ghost use Rattle.rv_history.specs.History.{changes, version};
 ghost use Rattle.rv_history.specs.Rules as rules;
+ghost use Rattle.rv_host.specs.Decisions.{scalars_of_body};
 ghost use Rattle.rv_host.specs.Facts.{resumed};
 ghost use Rattle.rv_host.specs.Seen.{IsSeen, history_of};
 
 use crate::facts::{DelayFacts, ResumeFacts};
 use crate::rules::blocking::is_inside;
-use crate::rules::exclusion::scalars_of;
-use crate::rules::fitting::innermost;
 use crate::rules::suspension::is_released;
 use crate::seen::Seen;
-use rv_event::entry::{Body, Stance};
-use rv_value::Scalars;
+use rv_event::entry::Stance;
 
 /// How many list changes there were.
 pub fn version_of(seen: &Seen) -> usize
@@ -64,21 +62,10 @@ pub fn delay_facts(seen: &Seen, actor: usize, until: i64) -> DelayFacts
     }
 }
 
-// The scalars of the object that was handed over, which the actor holds.
-fn handed_scalars(seen: &Seen, body: Option<Body>) -> Scalars
-    requires { IsSeen seen.now }
-    ensures { result ≡ due.scalars_held (history_of seen.now) body }
-{
-    match body {
-        None => Scalars::new(),
-        Some(body) => scalars_of(seen, body.object),
-    }
-}
-
 // What the answer to one that waits depends on.
 fn waiting(seen: &Seen, ready: bool) -> ResumeFacts
     requires { IsSeen seen.now }
-    ensures { resumed result ≡ due.or_waiting (history_of seen.now) ready }
+    ensures { (given : Option (List ℤ)) → resumed given result ≡ due.or_waiting (history_of seen.now) ready }
 {
     ResumeFacts::Waits(ready, is_halted(seen))
 }
@@ -103,15 +90,13 @@ fn stance_of(seen: &Seen, actor: usize) -> Stance
 /// What the answer to a resume depends on.
 pub fn resume_facts(seen: &Seen, actor: usize) -> ResumeFacts
     requires { IsSeen seen.now }
-    ensures { resumed result ≡ due.due_resume (history_of seen.now) actor (past.stance actor (history_of seen.now).past) }
+    ensures { resumed (scalars_of_body (history_of seen.now) (past.innermost (history_of seen.now).shapes actor (history_of seen.now).past)) result
+        ≡ due.due_resume (history_of seen.now) actor (past.stance actor (history_of seen.now).past) }
 {
     match stance_of(seen, actor) {
         Stance::Free => ResumeFacts::Nothing,
         Stance::InQueue => waiting(seen, false),
-        Stance::HandedOver => {
-            let body = innermost(seen, actor);
-            ResumeFacts::HandedOver(handed_scalars(seen, body))
-        }
+        Stance::HandedOver => ResumeFacts::HandedOver,
         Stance::DroppedBy(line) => ResumeFacts::Dropped(line, version_then(seen, actor)),
         Stance::WaitsOn(object) => waiting(seen, is_released(seen, actor, object)),
         Stance::WaitsUntil(until) => waiting(seen, until <= time(seen)),
