@@ -2,8 +2,8 @@
 # Cuts each script of rv_rows before each of its bytes, and replaces each of its bytes once; looks at each of these scripts
 # (`check`) and plays it, and says how many runs came to which end. Each has to be done or refused; a run that ends the
 # process, or that fails, fails this. rv_rows does it, one process for each processor with its share of the places. Scripts may
-# be given instead. It takes some three processor hours, most of them for two scripts of 60 kB. It needs rt; the first time it
-# takes over half an hour more to prove and build.
+# be given instead. It takes over an hour of processor time, most of it for two scripts of some 40 kB. It needs rt; the first
+# time it takes over half an hour more to prove and build.
 set -eu
 for tool in rt awk nproc; do
     command -v "$tool" >/dev/null || { echo "bench/cut_texts.sh: $tool is missing" >&2; exit 127; }
