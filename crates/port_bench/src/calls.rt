@@ -1,8 +1,11 @@
 //! Granted calls of a function: start, body and end.
 
-use crate::plant::{capacity_for, control, host, load_all};
+use crate::plant::{bodies, capacity_for, control, host, load_all};
 use crate::times::{StartLine, nanos_a_part, nanos_since};
-use rv_event::entry::{Answer, Exception, Exit, Request};
+use rv_event::entry::{Answer, Request};
+use rv_exec::bodies::Bodies;
+use rv_exec::machine::run_body;
+use rv_exec::replay::Replay;
 use rv_host::host::Host;
 use rv_port::control::Control;
 use rv_port::port::Port;
@@ -19,7 +22,7 @@ fn call_all<R: Wait>(rt: &R, port: &mut Port, calls: u64) -> bool {
     let mut all = true;
     for _ in 0..calls {
         let reached = port.call(rt, 1, 1, Args::new());
-        all = all && matches!(reached, Reached::Raised(_));
+        all = all && matches!(reached, Reached::Returned(_));
     }
     all
 }
@@ -80,35 +83,56 @@ pub fn through_ports<R: Threads + Wait + Clock + Sync>(
     calls: u64,
 ) -> Option<u64> {
     let mut control = control(alloc, capacity_for(calls))?;
-    let taken = time_all(rt, alloc, &mut control, threads, calls)?;
-    nanos_a_part(&taken, calls)
+    let taken = time_all(rt, alloc, &mut control, threads, calls);
+    nanos_a_part(taken, calls)
 }
 
-// One call of a host under a lock: its start, and its end.
-fn call_locked<R: Wait>(rt: &R, host: &Mutex<Host>, actor: u64) -> bool {
-    let actor = actor as usize;
-    let started = host.lock(rt).step(actor, Request::Call(1, 1, Args::new()));
-    let exit = Exit::Raise(Exception::ProgramError);
-    let ended = host
-        .lock(rt)
-        .step(actor, Request::Complete(Scalars::new(), exit));
-    matches!((started, ended), (Answer::Started(_), Answer::Done(_)))
+// One call of a host under a lock: its start, its body without the lock, and its end.
+fn call_locked<R: Wait>(rt: &R, host: &Mutex<Host>, bodies: &Bodies, actor: u64) -> bool {
+    let call = Request::Call(1, 1, Args::new());
+    let started = host.lock(rt).step(actor as usize, call);
+    let Answer::Started(scalars) = started else {
+        return false;
+    };
+    let mut nobody = Replay {
+        answers: &[],
+        asked: None,
+    };
+    let ended = run_body(&(), bodies, 1, 1, scalars, Args::new(), &mut nobody);
+    let end = Request::Complete(Scalars::new(), ended.exit);
+    let done = host.lock(rt).step(actor as usize, end);
+    matches!(done, Answer::Done(_))
 }
 
-// So many calls of a host under a lock, and what they take.
+// So many calls of a host under a lock, and whether each was carried out.
+fn call_all_locked<R: Wait>(
+    rt: &R,
+    host: &Mutex<Host>,
+    bodies: &Bodies,
+    actor: u64,
+    calls: u64,
+) -> bool {
+    let mut all = true;
+    for _ in 0..calls {
+        all = call_locked(rt, host, bodies, actor) && all;
+    }
+    all
+}
+
+// What they take.
 fn time_lock<R: Wait + Clock>(
     rt: &R,
+    alloc: Global,
     line: &StartLine,
     host: &Mutex<Host>,
     actor: u64,
     calls: u64,
 ) -> Option<u64> {
+    let mut own = Bodies::new(alloc);
+    own.add(bodies(alloc).ok()?).ok()?;
     line.wait();
     let start = Instant::now(rt).ok()?;
-    let mut all = true;
-    for _ in 0..calls {
-        all = call_locked(rt, host, actor) && all;
-    }
+    let all = call_all_locked(rt, host, &own, actor, calls);
     nanos_since(rt, start, all)
 }
 
@@ -134,7 +158,7 @@ pub fn under_mutex<R: Threads + Wait + Clock + Sync>(
     let taken = thread::map_vec(
         rt,
         actors,
-        &|actor| { time_lock(rt, &line, &host, actor, calls) },
+        &|actor| { time_lock(rt, alloc, &line, &host, actor, calls) },
     );
-    nanos_a_part(&taken.ok()?, calls)
+    nanos_a_part(taken.ok(), calls)
 }

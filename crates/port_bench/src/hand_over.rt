@@ -81,8 +81,8 @@ pub fn between_ports<R: Threads + Wait + Clock + Sync>(
     turns: u64,
 ) -> Option<u64> {
     let mut control = control(alloc, capacity_for(turns))?;
-    let taken = time_both(rt, alloc, &mut control, turns)?;
-    nanos_a_part(&taken, turns)
+    let taken = time_both(rt, alloc, &mut control, turns);
+    nanos_a_part(taken, turns)
 }
 
 /// A ball under a lock.
@@ -138,5 +138,5 @@ pub fn by_condvar<R: Threads + Wait + Clock + Sync>(
         sides,
         &|begins| { time_throws(rt, &line, &court, begins, turns) },
     );
-    nanos_a_part(&taken.ok()?, turns)
+    nanos_a_part(taken.ok(), turns)
 }

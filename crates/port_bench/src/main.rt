@@ -8,6 +8,7 @@ mod plant;
 mod storm;
 mod times;
 
+use crate::times::Spread;
 use std::alloc::Global;
 use std::io::ErrorKind;
 use std::process::ExitCode;
@@ -16,30 +17,59 @@ use std::thread::Threads;
 use std::time::Clock;
 use std::{env, io};
 
-// How often each load is run. The least counts.
+// How often each load is run.
 const ROUNDS: u64 = 25;
 
-/// What a load takes by ports and by locks, in nanoseconds.
+/// What a load takes by ports and by locks.
 #[derive(Clone, Copy)]
 struct Pair {
-    port: u64,
-    beside: u64,
+    port: Spread,
+    beside: Spread,
 }
 
-impl Pair {
-    // The least of two measurements, each by its own.
-    fn least(self, port: u64, beside: u64) -> Pair {
-        Pair {
-            port: self.port.min(port),
-            beside: self.beside.min(beside),
+/// The runs of a load by ports and by locks, in nanoseconds a call or a turn.
+#[derive(Drop)]
+struct Runs {
+    port: Vec<u64>,
+    beside: Vec<u64>,
+}
+
+impl Runs {
+    fn new(alloc: Global) -> Runs {
+        Runs {
+            port: Vec::new(alloc),
+            beside: Vec::new(alloc),
         }
+    }
+
+    fn add(&mut self, port: u64, beside: u64) -> Option<()> {
+        self.port.push(port).ok()?;
+        self.beside.push(beside).ok()
+    }
+
+    fn pair(self) -> Option<Pair> {
+        let Runs { port, beside } = self;
+        let port = Spread::of(port);
+        let beside = Spread::of(beside);
+        Some(Pair {
+            port: port?,
+            beside: beside?,
+        })
     }
 }
 
-const NOTHING: Pair = Pair {
-    port: u64::MAX,
-    beside: u64::MAX,
-};
+// One run of calls, by ports and by a lock.
+fn call_both<R: Threads + Wait + Clock + Sync>(
+    rt: &R,
+    alloc: Global,
+    threads: u64,
+    calls: u64,
+    runs: &mut Runs,
+) -> Option<()> {
+    let port = calls::through_ports(rt, alloc, threads, calls)?;
+    let mutex = calls::under_mutex(rt, alloc, threads, calls)?;
+    runs.add(port, mutex)
+}
 
 fn calls_cost<R: Threads + Wait + Clock + Sync>(
     rt: &R,
@@ -47,13 +77,23 @@ fn calls_cost<R: Threads + Wait + Clock + Sync>(
     threads: u64,
     calls: u64,
 ) -> Option<Pair> {
-    let mut pair = NOTHING;
+    let mut runs = Runs::new(alloc);
     for _ in 0..ROUNDS {
-        let port = calls::through_ports(rt, alloc, threads, calls)?;
-        let mutex = calls::under_mutex(rt, alloc, threads, calls)?;
-        pair = pair.least(port, mutex);
+        call_both(rt, alloc, threads, calls, &mut runs)?;
     }
-    Some(pair)
+    runs.pair()
+}
+
+// One run of hand-overs, by ports and by a lock.
+fn hand_over_both<R: Threads + Wait + Clock + Sync>(
+    rt: &R,
+    alloc: Global,
+    turns: u64,
+    runs: &mut Runs,
+) -> Option<()> {
+    let ports = hand_over::between_ports(rt, alloc, turns)?;
+    let condvar = hand_over::by_condvar(rt, alloc, turns)?;
+    runs.add(ports, condvar)
 }
 
 fn hand_over_costs<R: Threads + Wait + Clock + Sync>(
@@ -61,13 +101,11 @@ fn hand_over_costs<R: Threads + Wait + Clock + Sync>(
     alloc: Global,
     turns: u64,
 ) -> Option<Pair> {
-    let mut pair = NOTHING;
+    let mut runs = Runs::new(alloc);
     for _ in 0..ROUNDS {
-        let ports = hand_over::between_ports(rt, alloc, turns)?;
-        let condvar = hand_over::by_condvar(rt, alloc, turns)?;
-        pair = pair.least(ports, condvar);
+        hand_over_both(rt, alloc, turns, &mut runs)?;
     }
-    Some(pair)
+    runs.pair()
 }
 
 // The least of some storms, in nanoseconds.
@@ -79,18 +117,27 @@ fn storm_costs<R: Threads + Wait + Clock + Sync>(rt: &R, alloc: Global, calls: u
     Some(least)
 }
 
+fn tenths(port: u64, beside: u64) -> u64 {
+    port.saturating_mul(10) / beside.max(1)
+}
+
 fn print_row<R: Print>(rt: &R, what: &str, threads: u64, pair: Option<Pair>) -> io::Result<()> {
-    let Some(pair) = pair else {
+    let Some(Pair { port, beside }) = pair else {
         return Err(ErrorKind::OutOfMemory.into());
     };
-    let tenths = pair.port.saturating_mul(10) / pair.beside.max(1);
+    let least = tenths(port.least, beside.least);
+    let median = tenths(port.median, beside.median);
+    print!(rt;
+        "{what:<9} {:>7} {:>9} {:>9}",
+        threads, port.least, beside.least
+    )?;
+    print!(rt; " {:>5}.{}", least / 10, least % 10)?;
     println!(rt;
-        "{what:<9} {:>7} {:>9} {:>9} {:>5}.{}",
-        threads,
-        pair.port,
-        pair.beside,
-        tenths / 10,
-        tenths % 10
+        " {:>9} {:>9} {:>5}.{}",
+        port.median,
+        beside.median,
+        median / 10,
+        median % 10
     )
 }
 
@@ -111,9 +158,9 @@ fn print_table<R: Threads + Wait + Clock + Print + Sync>(
     calls: u64,
 ) -> io::Result<()> {
     println!(rt;
-        "ns, the least of {ROUNDS} runs of {calls} calls or turns a thread, each on a new journal"
+        "ns, of {ROUNDS} runs of {calls} calls or turns a thread, each on a new journal: the least, and the median"
     )?;
-    println!(rt; "what      threads      port    beside  ratio")?;
+    println!(rt; "what      threads      port    beside   ratio      port    beside   ratio")?;
     print_row(rt, "call", 1, calls_cost(rt, alloc, 1, calls))?;
     print_row(rt, "call", 4, calls_cost(rt, alloc, 4, calls))?;
     print_row(rt, "hand-over", 2, hand_over_costs(rt, alloc, calls))?;

@@ -2,10 +2,11 @@
 ghost use Rattle.std.specs.Prelude.{◌≡◌, []};
 
 use rv_access::read_list;
+use rv_code::{Body, Expression, ObjectBodies, Statement, UnitBodies};
 use rv_host::host::Host;
 use rv_port::control::Control;
 use rv_shape::reading::read_shape;
-use std::alloc::Global;
+use std::alloc::{AllocError, Global};
 use std::sync::Wait;
 
 const PLANT: &str =
@@ -35,12 +36,42 @@ pub fn host(alloc: Global, capacity: u64) -> Option<Host> {
     Some(host)
 }
 
-/// Makes a new host the same behind its turn.
-pub fn load_all<R: Wait>(rt: &R, alloc: Global, control: &mut Control) -> Option<()> {
-    for text in [PLANT, NAV] {
-        let shape = read_shape(alloc, text).ok()?;
-        let _ = control.load_shape(rt, shape);
+// `return 1`, as the body of Get.
+fn body(alloc: Global) -> Result<Body, AllocError> {
+    let mut statements = Vec::new(alloc);
+    statements.push(Statement::ReturnValue(Expression::Value(1)))?;
+    Ok(Body {
+        parameters: Vec::new(alloc),
+        is_function: true,
+        declarations: Vec::new(alloc),
+        statements,
+        handlers: Vec::new(alloc),
+    })
+}
+
+/// The bodies of the unit of object 1: Get, and no operation of the suspension objects.
+pub fn bodies(alloc: Global) -> Result<UnitBodies, AllocError> {
+    let mut operations = Vec::new(alloc);
+    operations.push(body(alloc)?)?;
+    let mut objects = Vec::new(alloc);
+    objects.push(ObjectBodies { operations })?;
+    for _ in 0..2 {
+        objects.push(ObjectBodies {
+            operations: Vec::new(alloc),
+        })?;
     }
+    Ok(UnitBodies {
+        objects,
+        tasks: Vec::new(alloc),
+    })
+}
+
+/// Makes a new host the same behind its turn, with the bodies.
+pub fn load_all<R: Wait>(rt: &R, alloc: Global, control: &mut Control) -> Option<()> {
+    let plant = read_shape(alloc, PLANT).ok()?;
+    let _ = control.load(rt, plant, bodies(alloc).ok()?);
+    let nav = read_shape(alloc, NAV).ok()?;
+    let _ = control.load_shape(rt, nav);
     let list = read_list(alloc, ALL).ok()?;
     let _ = control.set_list(rt, list);
     Some(())

@@ -56,10 +56,7 @@ fn storm<R: Threads + Wait + Clock + Sync>(
         move || change_all(rt, alloc, control, calls),
     );
     let (taken, all) = both;
-    match taken {
-        Some(taken) => all && nanos_a_part(&taken, calls).is_some(),
-        None => false,
-    }
+    all && nanos_a_part(taken, calls).is_some()
 }
 
 // What a storm takes whose ports are of this control.

@@ -42,8 +42,8 @@ pub fn nanos_since<R: Clock>(rt: &R, start: Instant, all: bool) -> Option<u64> {
     Some(seconds.saturating_add(u64::from(taken.subsec_nanos())))
 }
 
-/// The most of what threads took, by so many parts. None where one failed.
-pub fn nanos_a_part(taken: &[Option<u64>], parts: u64) -> Option<u64> {
+// The most of what threads took. None where one failed.
+fn most(taken: &[Option<u64>]) -> Option<u64> {
     let mut most = 0u64;
     for one in taken {
         let Some(nanos) = one else {
@@ -51,5 +51,32 @@ pub fn nanos_a_part(taken: &[Option<u64>], parts: u64) -> Option<u64> {
         };
         most = most.max(*nanos);
     }
-    Some(most / parts.max(1))
+    Some(most)
+}
+
+/// The most of what threads took, by so many parts. None where one failed.
+pub fn nanos_a_part(taken: Option<Vec<Option<u64>>>, parts: u64) -> Option<u64> {
+    let Some(taken) = taken else {
+        return None;
+    };
+    Some(most(&taken)? / parts.max(1))
+}
+
+/// What the runs of a load took, in nanoseconds.
+#[derive(Clone, Copy)]
+pub struct Spread {
+    pub least: u64,
+    pub median: u64,
+}
+
+impl Spread {
+    /// Of some runs. None where there are none.
+    pub fn of(runs: Vec<u64>) -> Option<Spread> {
+        let mut runs = runs;
+        runs.sort().ok()?;
+        Some(Spread {
+            least: *runs.first()?,
+            median: *runs.get(runs.len() / 2)?,
+        })
+    }
 }

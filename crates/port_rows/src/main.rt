@@ -9,6 +9,7 @@ mod example;
 mod flag;
 mod game;
 mod journal;
+mod letter;
 mod operator;
 mod plant;
 mod run;
@@ -50,7 +51,7 @@ fn main(rt: HostRuntime) -> io::Result<()> {
     let alloc = rt.alloc();
     let file = fs::read_to_string(&rt, "games")?;
     play_all(&rt, alloc, file.as_str())?;
-    tell(&rt, "told_revoke", alone::told_revoke(&rt, alloc))?;
+    tell(&rt, "told_revoke", letter::told_revoke(&rt, alloc))?;
     tell(&rt, "closing", alone::closed(&rt, alloc))?;
     tell(&rt, "example", shown::example(&rt, alloc))
 }

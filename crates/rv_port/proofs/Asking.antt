@@ -8,10 +8,13 @@ use Rattle.rv_event.specs.declared.entry.Recorded.{Recorded}
 use Rattle.rv_history.specs.Due.{out}
 use Rattle.rv_history.specs.Legal.{Legal}
 use Rattle.rv_turn.specs.Histories.{mine, StartsWith}
-use Rattle.rv_turn.specs.Passes.{Acted}
+use Rattle.rv_turn.specs.Passes.{Acted, IsWorn}
 use Rattle.rv_port.specs.Events.{by, history_at, catalogue_of}
 use Rattle.rv_port.specs.Acting.{entered, grown, Does, begun_by}
-use Rattle.rv_port.specs.Traces.{Passing, capacity_in, told, IsTold, asks_on, noted, noted_if, EachInVain, InVain, WoreOut, Went, Asked, Replied, RepliedOnce}
+use Rattle.rv_port.specs.Traces.{Passing, capacity_in, told, IsTold, asks_on, noted, noted_if, EachInVain, InVain, WoreOut, Went, Asked, Replied}
+use Rattle.rv_port.specs.Replies.{ReplyOnce, ReplyTo, is_vain}
+use Rattle.std.specs.Prelude.{Result, Ok, Err, MatchResult}
+use Rattle.rv_turn.specs.declared.pass.Worn.{Worn}
 use Rattle.rv_exec.specs.Asking.{stands}
 use Rattle.rv_turn.specs.Prefixes.{starts_self, starts_both}
 use Rattle.rv_port.specs.declared.event.Begun.{Begun}
@@ -270,15 +273,8 @@ none_times : (v : Passing) (q : Request) → (in_vain_none v q).times ≡ []
 unfolding in_vain_none
 none_times v q = refl
 
--- a step's reply
-abbrev pub IsReplied : Passing → Request → Reply → Passing → Type 0
-IsReplied v q (Gives.Answered r b lent) w = RepliedOnce v q r b lent w
-IsReplied v q (Gives.Read p) w = ⊥
-IsReplied v q Gives.Unread w = ⊥
-IsReplied v q (Gives.Bodies lent) w = ⊥
-
 -- one act by a step
-pub replied_step : (v w : Passing) (q : Request) (reply : Reply) → Acted by Does v (Wants.Step q) reply w → IsReplied v q reply w
+pub replied_step : (v w : Passing) (q : Request) (reply : Reply) → Acted by Does v (Wants.Step q) reply w → ReplyOnce v q reply w
 unfolding asked_act
 replied_step v w q (Gives.Answered r b lent) a = (
   record {
@@ -300,3 +296,37 @@ replied_after v u w q r b lent p x = record {
   lent_is = x.lent_is;
   begun_is = x.begun_is ∙ ap (λ (n : ℕ). begun_by (catalogue_of x.asked.at) n q r) (ap (λ (k : Passing). k.actor) p.same);
 }
+
+-- one act of a port
+pub replied_act : (v w : Passing) (q : Request) (asked : Result Reply Worn) → MatchResult asked (λ reply. Acted by Does v (Wants.Step q) reply w) (λ _. IsWorn v w)
+    → MatchResult asked (λ reply. ReplyOnce v q reply w) (λ _. IsWorn v w)
+replied_act v w q (Ok reply) a = replied_step v w q reply a
+replied_act v w q (Err worn) a = a
+
+-- the request is made again
+pub vain_again : (v u w : Passing) (q : Request) (asked : Result Reply Worn) → InVain v q u → MatchResult asked (λ reply. ReplyOnce u q reply w) (λ _. IsWorn u w) → is_vain asked ≡ true
+    → InVain v q w
+vain_again v u w q (Ok (Gives.Answered r b lent)) p x e = in_vain_more v u w q r p x.0.asked e
+vain_again v u w q (Ok (Gives.Read page)) p x e = absurd x
+vain_again v u w q (Ok Gives.Unread) p x e = absurd x
+vain_again v u w q (Ok (Gives.Bodies lent)) p x e = absurd x
+vain_again v u w q (Err worn) p x e = absurd (cc e)
+
+-- the request isn't made again
+pub settled : (v u w : Passing) (q : Request) (asked : Result Reply Worn) → InVain v q u → MatchResult asked (λ reply. ReplyOnce u q reply w) (λ _. IsWorn u w) → is_vain asked ≡ false
+    → MatchResult asked (λ reply. ReplyTo v q reply w) (λ _. WoreOut v q w)
+settled v u w q (Ok (Gives.Answered r b lent)) p x e = (replied_after v u w q r b lent p x.0, e)
+settled v u w q (Ok (Gives.Read page)) p x e = absurd x
+settled v u w q (Ok Gives.Unread) p x e = absurd x
+settled v u w q (Ok (Gives.Bodies lent)) p x e = absurd x
+settled v u w q (Err worn) p x e = subst (λ (z : Passing). WoreOut v q z) (sym x.1) (p, x.0)
+
+-- the answer that was handed on
+pub replied_of : (v w : Passing) (q : Request) (asked : Result Reply Worn) (reply : Reply) (r : Answer) (b : Begun) (lent : Option Lent)
+    → MatchResult asked (λ reply. ReplyTo v q reply w) (λ _. WoreOut v q w) → asked ≡ Ok reply → reply ≡ Gives.Answered r b lent → Replied v q r b lent w × (asks_on r ≡ false)
+replied_of v w q asked reply r b lent x is e =
+    subst (λ (z : Reply). ReplyTo v q z w) e (subst (λ (z : Result Reply Worn). MatchResult z (λ reply. ReplyTo v q reply w) (λ _. WoreOut v q w)) is x)
+
+-- no answer was
+pub worn_of : (v w : Passing) (q : Request) (asked : Result Reply Worn) (worn : Worn) → MatchResult asked (λ reply. ReplyTo v q reply w) (λ _. WoreOut v q w) → asked ≡ Err worn → WoreOut v q w
+worn_of v w q asked worn x is = subst (λ (z : Result Reply Worn). MatchResult z (λ reply. ReplyTo v q reply w) (λ _. WoreOut v q w)) is x

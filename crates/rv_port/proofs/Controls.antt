@@ -1,232 +1,34 @@
--- Who was given a port, and what a control begins with.
-use Rattle.std.proofs.Common.{◌≡◌, ℕ, ◌+◌, ◌<◌, ◌≤◌, Bool, true, false, eqb, List, [], ◌∷◌, ◌++◌, reverse, if◌then◌else◌, ap, sym, refl, ◌∙◌, eq-eqb, ⊎_elim, inl, inr, map, length, arith, subst}
-use Rattle.std.specs.Prelude.{◌||◌, ◌-◌, is_some, Option, Some, None, Result, Ok, Err, MatchResult}
+-- What the calls of a control leave.
+use Rattle.std.proofs.Common.{◌≡◌, ℕ, ◌+◌, Bool, true, false, eqb, List, [], ◌∷◌, ◌++◌, if◌then◌else◌, ap, sym, refl, ◌∙◌, ⊎_elim, inl, inr, map, length, arith, subst}
+use Rattle.std.specs.Prelude.{◌-◌, is_some, Some, Result, Ok, Err, MatchResult}
 use Rattle.rv_turn.specs.declared.pass.Worn.{Worn}
-use Rattle.std.proofs.lemmas.Bool.{ne_eqb}
-use Rattle.std.proofs.lemmas.List.{reverse-append, append-nil}
 use Rattle.atomic_table.specs.Seated.{TableId}
-use Rattle.rv_access.specs.Words.{Words}
 use Rattle.rv_shape.specs.Shape.{Shape}
-use Rattle.rv_event.specs.declared.entry.Entry.{Entry}
-use Rattle.rv_event.specs.declared.entry.Entry.TheVariants.{Asked, Load, ListChange}
+use Rattle.rv_event.specs.declared.entry.Entry.TheVariants.{Load}
 use Rattle.rv_history.specs.Legal.{Legal}
 use Rattle.rv_history.specs.History.{History}
-use Rattle.rv_turn.specs.Histories.{mine, Has}
-use Rattle.rv_turn.specs.Prefixes.{mine-append}
+use Rattle.rv_turn.specs.Histories.{mine}
 use Rattle.rv_turn.specs.Passes.{opening_of, Acted, IsWorn, Parted}
 use Rattle.rv_event.specs.Recorded.{recorded}
-use Rattle.rv_event.specs.declared.entry.Request.{Request}
 use Rattle.rv_event.specs.declared.entry.Answer.{Answer}
-use Rattle.rv_event.specs.declared.entry.Recorded.{Recorded}
-use Rattle.rv_history.specs.History.{force}
-use Rattle.rv_history.specs.Lists.{Change, Whole, Append, Remove, Replace, changed}
 use Rattle.rv_code.specs.BodyView.{unit_view}
 use Rattle.rv_code.specs.declared.body.UnitBodies.{UnitBodies}
 use Rattle.rv_exec.specs.Bodies.{held}
 use Rattle.rv_exec.specs.declared.bodies.SharedUnit.{SharedUnit}
 use Rattle.rv_exec.specs.declared.bodies.Bodies.{Bodies}
-use Rattle.rv_port.specs.Events.{by, events, log_of, log_in, history_at, first_or, first_of, rest_of, no_shape, shapes_of, with_shape, catalogue_of}
-use Rattle.rv_port.specs.Acting.{limits_of, entered, listed as listed_to, Does, Due, Loaded, Unloaded, Changed, IfOperator}
+use Rattle.rv_port.specs.Events.{by, log_of, log_in, rest_of, catalogue_of}
+use Rattle.rv_port.specs.Acting.{limits_of, Does, Due, Loaded, IfOperator}
 use Rattle.rv_port.specs.Traces.{Passing}
-use Rattle.rv_port.specs.Controls.{listed, OperatorAlone, IsControl, IsOperators, Told, LoadTold, BeginsWith, numbered_as, BringsIf, Brings, no_bodies_of, answer_in}
+use Rattle.rv_port.specs.Controls.{IsControl, Told, LoadTold, BeginsWith, numbered_as, BringsIf, Brings, no_bodies_of, answer_in}
 use Rattle.rv_port.specs.declared.event.Ask.{Ask}
 use Rattle.rv_port.specs.declared.event.Ask.TheVariants as Wants
 use Rattle.rv_port.specs.declared.event.Reply.{Reply}
 use Rattle.rv_port.specs.declared.event.Reply.TheVariants as Gives
 use Rattle.rv_port.specs.declared.event.Event.{Event}
-use Rattle.rv_port.specs.declared.event.Event.TheVariants.{Asks, Loads, Lists}
+use Rattle.rv_port.specs.declared.event.Event.TheVariants.{Loads}
 use Rattle.rv_port.specs.Actors.{is_performer, HasHandler}
-use Rattle.rv_port.proofs.Actors.{shapes-append, catalogue-append, performer_handles}
-use Rattle.rv_port.proofs.Doing.{catalogue_log}
-
-or_left : (b c : Bool) → (b || c) ≡ false → b ≡ false
-or_left true c e = e
-or_left false c e = λ i. false
-
-or_right : (b c : Bool) → (b || c) ≡ false → c ≡ false
-or_right true c e = absurd (cc e)
-or_right false c e = e
-
-pub not_given : (a : ℕ) (l : List ℕ) → listed a l ≡ false → Has a l → ⊥
-not_given a [] e h = h
-not_given a (x ∷ xs) e h = ⊎_elim (λ is. absurd (cc (eq-eqb x a is, or_left (eqb x a) (listed a xs) e))) (λ t. not_given a xs (or_right (eqb x a) (listed a xs) e) t) h
-
-if_not : (b : Bool) (e : Event) → b ≡ false → (if b then e ∷ [] else []) ≡ []
-if_not true e h = absurd (cc h)
-if_not false e h = refl
-
-one_back : (a : ℕ) (e : Event) (es : List Event) → mine by a (reverse es) ≡ [] → 0 < a → by e ≡ 0 → mine by a (reverse (e ∷ es)) ≡ []
-one_back a e es h some is =
-    let no : eqb (by e) a ≡ false = ne_eqb (by e) a (λ same. absurd (omega (arith, same, is, some))) in
-    ap (mine by a) (reverse-append (e ∷ []) es) ∙ (mine-append by a (reverse es) (e ∷ []) ∙ (λ i. h i ++ if_not (eqb (by e) a) e no i))
-
-pub alone_back : (past : List Entry) (ss : List Shape) (us : List UnitBodies) (ls : List (List Words)) (a : ℕ) → 0 < a → OperatorAlone past → mine by a (reverse (events past ss us ls)) ≡ []
-alone_back [] ss us ls a some t = refl
-alone_back (Asked b q w ∷ past) ss us ls a some t = one_back a (Asks b q w) (events past ss us ls) (alone_back past ss us ls a some t.1) some t.0
-alone_back (Load ∷ past) ss us ls a some t =
-    one_back a (Loads (first_or no_shape ss) (first_of us)) (events past (rest_of ss) (rest_of us) ls) (alone_back past (rest_of ss) (rest_of us) ls a some t) some refl
-alone_back (ListChange ∷ past) ss us ls a some t = one_back a (Lists (first_or [] ls)) (events past ss us (rest_of ls)) (alone_back past ss us (rest_of ls) a some t) some refl
-
-pub alone_mine : (h : History) (us : List UnitBodies) → OperatorAlone h.past → (a : ℕ) → 0 < a → mine by a (log_of h us) ≡ []
-alone_mine h us t a some = alone_back h.past (reverse h.shapes) (reverse us) (reverse h.lists) a some t
-
--- the events of the operator alone
-mine_if : (b : Bool) (e : Event) (es : List Event) → b ≡ true → (if b then e ∷ es else es) ≡ e ∷ es
-mine_if true e es is = refl
-mine_if false e es is = absurd (cc is)
-
-one_kept : (e : Event) (es : List Event) → mine by 0 (reverse es) ≡ reverse es → by e ≡ 0 → mine by 0 (reverse (e ∷ es)) ≡ reverse (e ∷ es)
-one_kept e es h is =
-    ap (mine by 0) (reverse-append (e ∷ []) es) ∙ (mine-append by 0 (reverse es) (e ∷ []) ∙ ((λ i. h i ++ mine_if (eqb (by e) 0) e [] (eq-eqb (by e) 0 is) i) ∙ sym (reverse-append (e ∷ []) es)))
-
-all_back : (past : List Entry) (ss : List Shape) (us : List UnitBodies) (ls : List (List Words)) → OperatorAlone past → mine by 0 (reverse (events past ss us ls)) ≡ reverse (events past ss us ls)
-all_back [] ss us ls t = refl
-all_back (Asked b q w ∷ past) ss us ls t = one_kept (Asks b q w) (events past ss us ls) (all_back past ss us ls t.1) t.0
-all_back (Load ∷ past) ss us ls t = one_kept (Loads (first_or no_shape ss) (first_of us)) (events past (rest_of ss) (rest_of us) ls) (all_back past (rest_of ss) (rest_of us) ls t) refl
-all_back (ListChange ∷ past) ss us ls t = one_kept (Lists (first_or [] ls)) (events past ss us (rest_of ls)) (all_back past ss us (rest_of ls) t) refl
-
-pub begins_alone : (turn : TableId) (pass : Passing) (h : History) (us : List UnitBodies) → OperatorAlone h.past → pass ≡ opening_of turn (limits_of h) by (log_of h us) → pass.base ≡ pass.seen
-begins_alone turn pass h us t is =
-    ap (λ (z : Passing). z.base) is ∙ (all_back h.past (reverse h.shapes) (reverse us) (reverse h.lists) t ∙ sym (ap (λ (z : Passing). z.seen) is))
-
--- the operator's events of a list are the operator's
-twice_if : (b : Bool) (e : Event) (es : List Event) → eqb (by e) 0 ≡ b → mine by 0 es ≡ es → mine by 0 (if b then e ∷ es else es) ≡ (if b then e ∷ es else es)
-twice_if true e es is h = mine_if (eqb (by e) 0) e (mine by 0 es) is ∙ ap (λ (l : List Event). e ∷ l) h
-twice_if false e es is h = h
-
-twice : (es : List Event) → mine by 0 (mine by 0 es) ≡ mine by 0 es
-twice [] = refl
-twice (e ∷ es) = twice_if (eqb (by e) 0) e (mine by 0 es) refl (twice es)
-
-length_if : (b : Bool) (e : Event) (es : List Event) (n : ℕ) → length es ≤ n → length (if b then e ∷ es else es) ≤ n + 1
-length_if true e es n less = omega (arith, less)
-length_if false e es n less = omega (arith, less)
-
-length_mine : (es : List Event) → length (mine by 0 es) ≤ length es
-length_mine [] = omega arith
-length_mine (e ∷ es) = let one : length (mine by 0 (e ∷ es)) ≤ length es + 1 = length_if (eqb (by e) 0) e (mine by 0 es) (length es) (length_mine es) in omega (arith, one)
-
-own_if : (b : Bool) (e : Event) (es fs : List Event) → length es ≤ length fs → (if b then e ∷ es else es) ≡ e ∷ fs → (b ≡ true) × (es ≡ fs)
-own_if true e es fs less is = (refl, ap rest_of is)
-own_if false e es fs less is = absurd (omega (arith, less, ap length is))
-
-front_kept : (xs ys : List Event) → mine by 0 (xs ++ ys) ≡ xs ++ ys → mine by 0 xs ≡ xs
-front_kept [] ys h = refl
-front_kept (x ∷ xs) ys h = let own = own_if (eqb (by x) 0) x (mine by 0 (xs ++ ys)) (xs ++ ys) (length_mine (xs ++ ys)) h in
-    mine_if (eqb (by x) 0) x (mine by 0 xs) own.0 ∙ ap (λ (l : List Event). x ∷ l) (front_kept xs ys own.1)
-
-pub keeps_of : (turn : TableId) (pass : Passing) (given : List ℕ) (catalogue : List Shape) → IsControl turn pass given catalogue → IsOperators pass
-keeps_of turn pass given catalogue k = record {
-  first = k.first;
-  actor = k.operator;
-  limited = k.limited;
-  opening = front_kept pass.base pass.own (ap (mine by 0) (sym k.owns) ∙ (twice pass.seen ∙ k.owns));
-  owns = k.owns;
-}
-
--- the catalogue is that of the operator's own events
-
-shapes_first : (e : Event) (es : List Event) → shapes_of (reverse (e ∷ es)) ≡ with_shape e [] ++ shapes_of (reverse es)
-shapes_first e es = ap shapes_of (reverse-append (e ∷ []) es) ∙ shapes-append (reverse es) (e ∷ [])
-
-shapes_if : (b : Bool) (e : Event) (es : List Event) (ss : List Shape) → (b ≡ false → with_shape e [] ≡ []) → shapes_of (reverse es) ≡ ss
-    → shapes_of (reverse (if b then e ∷ es else es)) ≡ with_shape e [] ++ ss
-shapes_if true e es ss none same = shapes_first e es ∙ ap (λ (z : List Shape). with_shape e [] ++ z) same
-shapes_if false e es ss none same = same ∙ ap (λ (z : List Shape). z ++ ss) (sym (none refl))
-
-none_here : (e : Event) → eqb (by e) 0 ≡ false → with_shape e [] ≡ []
-none_here (Asks a q w) h = refl
-none_here (Loads s u) h = absurd (cc h)
-none_here (Lists l) h = refl
-
-pub catalogue_mine : (log : List Event) → catalogue_of (mine by 0 log) ≡ catalogue_of log
-catalogue_mine [] = refl
-catalogue_mine (e ∷ es) = shapes_if (eqb (by e) 0) e (mine by 0 es) (shapes_of (reverse es)) (none_here e) (catalogue_mine es) ∙ sym (shapes_first e es)
-
--- two histories with the same events of the operator have one catalogue
-pub same_catalogue : (one two : List Event) → mine by 0 one ≡ mine by 0 two → catalogue_of one ≡ catalogue_of two
-same_catalogue one two e = sym (catalogue_mine one) ∙ (ap catalogue_of e ∙ catalogue_mine two)
-
--- a new control
-pub opened : (turn : TableId) (h : History) (us : List UnitBodies) → Legal h → IsControl turn (opening_of turn (limits_of h) by (log_of h us)) [] h.shapes
-opened turn h us l = record {
-  here = refl;
-  first = refl;
-  operator = refl;
-  given_is = refl;
-  owns = sym (append-nil (mine by 0 (log_of h us)));
-  limited = refl;
-  catalogue_is = sym (catalogue_log h us l);
-}
-
--- an ask that loads nothing leaves the catalogue
-abbrev pub LoadsNothing : Ask → Type 0
-LoadsNothing (Wants.Load shape unit) = ⊥
-LoadsNothing ask = Unit {0}
-
-with_event : (log : List Event) (e : Event) → catalogue_of (log ++ e ∷ []) ≡ catalogue_of log ++ catalogue_of (e ∷ [])
-with_event log e = catalogue-append log (e ∷ [])
-
-none_more : (log : List Event) (ss : List Shape) → ss ≡ [] → catalogue_of log ++ ss ≡ catalogue_of log
-none_more log ss e = ap (λ (z : List Shape). catalogue_of log ++ z) e ∙ append-nil (catalogue_of log)
-
-entered_catalogue : (word : Option Recorded) (log : List Event) (a : ℕ) (q : Request) (after : List Event) → after ≡ entered log a q word → catalogue_of after ≡ catalogue_of log
-entered_catalogue None log a q after e = ap catalogue_of e
-entered_catalogue (Some w) log a q after e = ap catalogue_of e ∙ (with_event log (Asks a q w) ∙ none_more log (catalogue_of (Asks a q w ∷ [])) refl)
-
-listed_catalogue : (list : Option (List Words)) (log after : List Event) → after ≡ listed_to log list → catalogue_of after ≡ catalogue_of log
-listed_catalogue None log after e = ap catalogue_of e
-listed_catalogue (Some l) log after e = ap catalogue_of e ∙ (with_event log (Lists l) ∙ none_more log (catalogue_of (Lists l ∷ [])) refl)
-
-changed_catalogue : (b : Bool) (list : Option (List Words)) (log after : List Event) → after ≡ (if b then listed_to log list else log) → catalogue_of after ≡ catalogue_of log
-changed_catalogue true list log after e = listed_catalogue list log after e
-changed_catalogue false list log after e = ap catalogue_of e
-
-change_catalogue : (b : Bool) (c : ℕ) (log : List Event) (change : Change) (r : Answer) (after : List Event) → IfOperator b (Changed c log change r after) r log after → catalogue_of after ≡ catalogue_of log
-change_catalogue true c log change r after d = changed_catalogue (is_some (recorded r)) (changed (force (history_at c log)) change) log after d.1
-change_catalogue false c log change r after d = ap catalogue_of d.1
-
-unload_catalogue : (b : Bool) (c : ℕ) (log : List Event) (shape : Shape) (r : Answer) (after : List Event) → IfOperator b (Unloaded c log shape r after) r log after → catalogue_of after ≡ catalogue_of log
-unload_catalogue true c log shape r after d = ap catalogue_of d.2
-unload_catalogue false c log shape r after d = ap catalogue_of d.1
-
-due_catalogue : (c : ℕ) (log : List Event) (a : ℕ) (ask : Ask) (reply : Reply) (after : List Event) → LoadsNothing ask → Due c log a ask reply after → catalogue_of after ≡ catalogue_of log
-due_catalogue c log a (Wants.Step q) (Gives.Answered r b lent) after n d = entered_catalogue (recorded r) log a q after d.0.1
-due_catalogue c log a (Wants.Load shape unit) (Gives.Answered r b lent) after n d = absurd n
-due_catalogue c log a (Wants.LoadWithoutMemory shape) (Gives.Answered r b lent) after n d = unload_catalogue (eqb a 0) c log shape r after d
-due_catalogue c log a (Wants.SetList list) (Gives.Answered r b lent) after n d = change_catalogue (eqb a 0) c log (Whole list) r after d
-due_catalogue c log a (Wants.AppendLine line) (Gives.Answered r b lent) after n d = change_catalogue (eqb a 0) c log (Append line) r after d
-due_catalogue c log a (Wants.RemoveLine k) (Gives.Answered r b lent) after n d = change_catalogue (eqb a 0) c log (Remove k) r after d
-due_catalogue c log a (Wants.ReplaceLine k line) (Gives.Answered r b lent) after n d = change_catalogue (eqb a 0) c log (Replace k line) r after d
-due_catalogue c log a (Wants.Read from) (Gives.Read p) after n d = ap catalogue_of d.1
-due_catalogue c log a (Wants.Read from) Gives.Unread after n d = ap catalogue_of d
-due_catalogue c log a (Wants.Read from) (Gives.Answered r b lent) after n d = absurd d
-due_catalogue c log a (Wants.Step q) (Gives.Read p) after n d = absurd d
-due_catalogue c log a (Wants.Step q) Gives.Unread after n d = absurd d
-due_catalogue c log a (Wants.Load shape unit) (Gives.Read p) after n d = absurd d
-due_catalogue c log a (Wants.Load shape unit) Gives.Unread after n d = absurd d
-due_catalogue c log a (Wants.LoadWithoutMemory shape) (Gives.Read p) after n d = absurd d
-due_catalogue c log a (Wants.LoadWithoutMemory shape) Gives.Unread after n d = absurd d
-due_catalogue c log a (Wants.SetList list) (Gives.Read p) after n d = absurd d
-due_catalogue c log a (Wants.SetList list) Gives.Unread after n d = absurd d
-due_catalogue c log a (Wants.AppendLine line) (Gives.Read p) after n d = absurd d
-due_catalogue c log a (Wants.AppendLine line) Gives.Unread after n d = absurd d
-due_catalogue c log a (Wants.RemoveLine k) (Gives.Read p) after n d = absurd d
-due_catalogue c log a (Wants.RemoveLine k) Gives.Unread after n d = absurd d
-due_catalogue c log a (Wants.ReplaceLine k line) (Gives.Read p) after n d = absurd d
-due_catalogue c log a (Wants.ReplaceLine k line) Gives.Unread after n d = absurd d
-due_catalogue c log a (Wants.Step q) (Gives.Bodies lent) after n d = absurd d
-due_catalogue c log a (Wants.Load shape unit) (Gives.Bodies lent) after n d = absurd d
-due_catalogue c log a (Wants.LoadWithoutMemory shape) (Gives.Bodies lent) after n d = absurd d
-due_catalogue c log a (Wants.SetList list) (Gives.Bodies lent) after n d = absurd d
-due_catalogue c log a (Wants.AppendLine line) (Gives.Bodies lent) after n d = absurd d
-due_catalogue c log a (Wants.RemoveLine k) (Gives.Bodies lent) after n d = absurd d
-due_catalogue c log a (Wants.ReplaceLine k line) (Gives.Bodies lent) after n d = absurd d
-due_catalogue c log a (Wants.Read from) (Gives.Bodies lent) after n d = absurd d
-due_catalogue c log a Wants.Bodies (Gives.Answered r b lent) after n d = absurd d
-due_catalogue c log a Wants.Bodies (Gives.Read p) after n d = absurd d
-due_catalogue c log a Wants.Bodies Gives.Unread after n d = absurd d
-due_catalogue c log a Wants.Bodies (Gives.Bodies lent) after n d = ap catalogue_of d.1
+use Rattle.rv_port.proofs.Actors.{performer_handles}
+use Rattle.rv_port.proofs.Catalogues.{same_catalogue, opened, LoadsNothing, with_event, due_catalogue}
 
 -- the catalogue of the history that an ask of the operator was answered on
 at_catalogue : (turn : TableId) (v : Passing) (given : List ℕ) (catalogue : List Shape) (log : List Event) → IsControl turn v given catalogue → mine by v.actor log ≡ v.base ++ v.own → catalogue ≡ catalogue_of log

@@ -30,7 +30,7 @@ use Rattle.rv_exec.specs.declared.bodies.Bodies.{Bodies}
 use Rattle.rv_exec.specs.declared.bodies.SharedUnit.{SharedUnit}
 use Rattle.rv_port.specs.declared.event.Lent.{Lent}
 use Rattle.rv_port.specs.Events.{events, back_of, log_of, log_in, history_at, catalogue_of}
-use Rattle.rv_port.specs.Acting.{entered, listed, changed_to, Loaded, Unloaded, Changed, IfOperator, IsLent, lent_view, Due, Does, limits_of, begun_by}
+use Rattle.rv_port.specs.Acting.{entered, changes, listed, changed_to, Loaded, Unloaded, Changed, IfOperator, IsLent, lent_view, Due, Does, limits_of, begun_by}
 use Rattle.rv_port.specs.declared.event.Begun.{Begun}
 use Rattle.rv_port.specs.declared.event.Ask.{Ask}
 use Rattle.rv_port.specs.declared.event.Ask.TheVariants as Wants
@@ -207,20 +207,14 @@ pub does_ask : (h : History) (us : List UnitBodies) (a : ℕ) (ask wanted : Ask)
 does_ask h us a ask wanted reply after is l d = subst (λ (z : Ask). Does (limits_of h) (log_of h us) a z reply after) (sym is) (legal_log h us l, d)
 
 -- what only the operator may ask
-abbrev pub IsOperators : Ask → Type 0
-IsOperators (Wants.Step q) = ⊥
-IsOperators (Wants.Read from) = ⊥
-IsOperators Wants.Bodies = ⊥
-IsOperators ask = Unit {0}
-
 misused : (b : Bool) (does : Type 0) (log : List Event) → b ≡ false → IfOperator b does Misuse log log
 misused true does log e = absurd (cc e)
 misused false does log e = (refl, refl)
 
-misused_due : (c : ℕ) (log : List Event) (a : ℕ) (ask : Ask) (b : Begun) → IsOperators ask → eqb a 0 ≡ false → Due c log a ask (Gives.Answered Misuse b None) log
-misused_due c log a (Wants.Step q) b t e = absurd t
-misused_due c log a (Wants.Read from) b t e = absurd t
-misused_due c log a Wants.Bodies b t e = absurd t
+misused_due : (c : ℕ) (log : List Event) (a : ℕ) (ask : Ask) (b : Begun) → changes ask ≡ true → eqb a 0 ≡ false → Due c log a ask (Gives.Answered Misuse b None) log
+misused_due c log a (Wants.Step q) b t e = absurd (cc t)
+misused_due c log a (Wants.Read from) b t e = absurd (cc t)
+misused_due c log a Wants.Bodies b t e = absurd (cc t)
 misused_due c log a (Wants.Load s unit) b t e = misused (eqb a 0) _ log e
 misused_due c log a (Wants.LoadWithoutMemory s) b t e = misused (eqb a 0) _ log e
 misused_due c log a (Wants.SetList s) b t e = misused (eqb a 0) _ log e
@@ -228,10 +222,6 @@ misused_due c log a (Wants.AppendLine s) b t e = misused (eqb a 0) _ log e
 misused_due c log a (Wants.RemoveLine s) b t e = misused (eqb a 0) _ log e
 misused_due c log a (Wants.ReplaceLine n s) b t e = misused (eqb a 0) _ log e
 
-not_zero : (a : ℕ) → (a ≡ 0 → ⊥) → eqb a 0 ≡ false
-not_zero a n = ne_eqb a 0 n
-
-pub does_misuse : (h : History) (us : List UnitBodies) (a : ℕ) (ask wanted : Ask) (b : Begun) → ask ≡ wanted → IsOperators wanted → Legal h → (a ≡ 0 → ⊥)
+pub does_misuse : (h : History) (us : List UnitBodies) (a : ℕ) (ask : Ask) (b : Begun) → changes ask ≡ true → Legal h → (a ≡ 0 → ⊥)
     → Does (limits_of h) (log_of h us) a ask (Gives.Answered Misuse b None) (log_of h us)
-does_misuse h us a ask wanted b is t l n =
-    does_ask h us a ask wanted (Gives.Answered Misuse b None) (log_of h us) is l (misused_due h.capacity (log_of h us) a wanted b t (not_zero a n))
+does_misuse h us a ask b t l n = (legal_log h us l, misused_due h.capacity (log_of h us) a ask b t (ne_eqb a 0 n))

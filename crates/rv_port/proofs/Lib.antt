@@ -7,7 +7,11 @@ pub mod Later
 pub mod Resuming
 pub mod Performing
 pub mod Stopped
+pub mod Opening
+pub mod Ending
 pub mod Tying
+pub mod Operators
+pub mod Catalogues
 pub mod Controls
 pub mod Bodies
 pub mod Closings

@@ -8,7 +8,13 @@ use Rattle.rv_event.specs.declared.entry.Answer.TheVariants as Answers
 use Rattle.rv_port.specs.declared.event.Event.{Event}
 use Rattle.rv_port.specs.declared.reached.Reached.{Reached}
 use Rattle.rv_port.specs.Events.{catalogue_of, called}
-use Rattle.rv_port.specs.Traces.{Passing, Trace, InVain, Went, Asked, Replied, RepliedOnce, asks_on}
+use Rattle.rv_port.specs.Traces.{Passing, Trace, InVain, Went, Asked, Replied, asks_on}
+use Rattle.rv_port.specs.Replies.{ReplyOnce}
+use Rattle.std.specs.Prelude.{Result, Ok, Err, MatchResult}
+use Rattle.rv_turn.specs.Passes.{IsWorn}
+use Rattle.rv_turn.specs.declared.pass.Worn.{Worn}
+use Rattle.rv_port.specs.declared.event.Reply.{Reply}
+use Rattle.rv_port.specs.declared.event.Reply.TheVariants as Gives
 use Rattle.rv_port.specs.Acting.{begun_by, lent_view}
 use Rattle.rv_code.specs.Bodies.{UnitBodies}
 use Rattle.rv_port.specs.declared.event.Lent.{Lent}
@@ -64,6 +70,54 @@ waited v u w m k f q r b lent reached x calm e same t = inr (
   calm,
   wait_followed r x.asked.at (called (catalogue_of x.asked.at) v.actor q) u w m f q reached e (subst (λ (z : Bool). Waited u z q reached w f) same t),
 )
+
+-- the answer starts a body
+abbrev pub starts : Answer → Bool
+starts (Answers.Started s) = true
+starts r = false
+
+-- the object was handed over
+abbrev pub hands : Answer → Bool
+hands (Answers.Woken (Some s)) = true
+hands r = false
+
+not_started : (r : Answer) (s : List ℤ) → starts r ≡ false → r ≡ Answers.Started s → ⊥
+not_started r s e is = absurd (cc (e, is))
+
+-- nothing started, and nobody waits
+pub first_plain : (v u : Passing) (m f : Bool) (q : Request) (r : Answer) (b : Begun) (lent : Option Lent) (reached : Reached) → Replied v q r b lent u → asks_on r ≡ false → f ≡ m → starts r ≡ false → waits_on r ≡ false
+    → reached ≡ plain_of (reads q) r → Performed v m q reached u f
+first_plain v u m f q r b lent reached x calm k un e p = inr (
+  r,
+  u,
+  x.asked,
+  calm,
+  plainly r x.asked.at (called (catalogue_of x.asked.at) v.actor q) u m f q reached k (λ s is. not_started r s un is) e p,
+)
+
+resumed_plain : (r : Answer) (log : List Event) (u : Passing) (m f : Bool) (q : Request) (reached : Reached) → f ≡ m → hands r ≡ false → reached ≡ plain_of false r → Resumed r log u m q reached u f
+resumed_plain (Answers.Woken (Some s)) log u m f q reached k un p = absurd (cc un)
+resumed_plain (Answers.Woken None) log u m f q reached k un p = (refl, k, p)
+resumed_plain (Answers.Started s) log u m f q reached k un p = (refl, k, p)
+resumed_plain Answers.Queued log u m f q reached k un p = (refl, k, p)
+resumed_plain (Answers.Refused rule line version) log u m f q reached k un p = (refl, k, p)
+resumed_plain (Answers.Done n) log u m f q reached k un p = (refl, k, p)
+resumed_plain Answers.Suspended log u m f q reached k un p = (refl, k, p)
+resumed_plain Answers.Delayed log u m f q reached k un p = (refl, k, p)
+resumed_plain (Answers.Accepted n) log u m f q reached k un p = (refl, k, p)
+resumed_plain Answers.Misuse log u m f q reached k un p = (refl, k, p)
+resumed_plain Answers.Halted log u m f q reached k un p = (refl, k, p)
+resumed_plain Answers.Full log u m f q reached k un p = (refl, k, p)
+resumed_plain Answers.Busy log u m f q reached k un p = (refl, k, p)
+resumed_plain Answers.Waiting log u m f q reached k un p = (refl, k, p)
+resumed_plain Answers.Unattached log u m f q reached k un p = (refl, k, p)
+resumed_plain Answers.BadLine log u m f q reached k un p = (refl, k, p)
+resumed_plain Answers.OutOfMemory log u m f q reached k un p = (refl, k, p)
+
+-- a caller that waited wasn't handed the object
+pub not_woken : (v u : Passing) (m f : Bool) (q : Request) (r : Answer) (b : Begun) (lent : Option Lent) (reached : Reached) → Replied v Resume r b lent u → asks_on r ≡ false → f ≡ m → hands r ≡ false → reached ≡ plain_of false r
+    → Waited v m q reached u f
+not_woken v u m f q r b lent reached x calm k un p = inr (r, u, x.asked, calm, resumed_plain r x.asked.at u m f q reached k un p)
 
 -- a body was started
 pub started : (v u w : Passing) (m n : Bool) (q : Request) (r : Answer) (b : Begun) (lent : Option Lent) (scalars arguments : List ℤ) (reached : Reached) → Replied v q r b lent u → asks_on r ≡ false → r ≡ Answers.Started scalars
@@ -213,6 +267,10 @@ pub quits_stays : (v w : Passing) → Quits v w → Stays v w
 quits_stays v w t = quit_stays (nat_lt v.actor 11) v w t
 
 -- a task asked once
-pub quit_by : (b : Bool) (v w : Passing) (r : Answer) (begun : Begun) (lent : Option Lent) → b ≡ false → RepliedOnce v Quit r begun lent w → QuitBy b v w
-quit_by true v w r begun lent e x = absurd (cc e)
-quit_by false v w r begun lent e x = inr (r, (x.0.asked, x.1))
+pub quit_by : (b : Bool) (v w : Passing) (asked : Result Reply Worn) → b ≡ false → MatchResult asked (λ reply. ReplyOnce v Quit reply w) (λ _. IsWorn v w) → QuitBy b v w
+quit_by true v w asked e x = absurd (cc e)
+quit_by false v w (Ok (Gives.Answered r begun lent)) e x = inr (r, (x.0.asked, x.1))
+quit_by false v w (Ok (Gives.Read page)) e x = absurd x
+quit_by false v w (Ok Gives.Unread) e x = absurd x
+quit_by false v w (Ok (Gives.Bodies lent)) e x = absurd x
+quit_by false v w (Err worn) e x = inl x

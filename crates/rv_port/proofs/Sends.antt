@@ -1,5 +1,5 @@
--- A port, one that is done, and a control may go to another thread, with all that they own. Who spawns threads with them names
--- these lemmas.
+-- A port, one that is done, a note and a control may go to another thread, with all that they own. Who spawns threads with
+-- them names these lemmas.
 use denote.RattleType.{RattleType}
 use denote.Param.Send.{IsSend, IsSync, sendable, plain_send, plain_sync, recorded_send, recorded_sync, struct_send, struct_sync}
 use denote.Struct.Declared.{shape}
@@ -46,8 +46,11 @@ use Rattle.rv_port.specs.contracts.port.Port as port
 use Rattle.rv_port.specs.contracts.port.Port.TheInside as port_inside
 use Rattle.rv_port.specs.contracts.port.Finished as finished
 use Rattle.rv_port.specs.contracts.port.Finished.TheInside as finished_inside
+use Rattle.rv_port.specs.contracts.note.Note as note
+use Rattle.rv_port.specs.contracts.note.Note.TheInside as note_inside
 use Rattle.rv_port.specs.contracts.control.Control as control
 use Rattle.rv_port.specs.contracts.control.Control.TheInside as control_inside
+use Rattle.rv_turn.proofs.notes.Note.TheSendSync as note_crosses
 use Rattle.rv_turn.proofs.pass.Pass.TheSendSync as pass_crosses
 use Rattle.rv_turn.proofs.turn.Turn.TheSendSync as turn_crosses
 
@@ -146,6 +149,12 @@ finished_inside_send = recorded_send (finished_inside.the_field).row _ _ (finish
 
 pub finished_send : IsSend finished.the_row
 finished_send = search (finished_inside_send, sendable)
+
+note_inside_send : IsSend note_inside.the_row
+note_inside_send = recorded_send (note_inside.the_field).row _ _ (note_inside.the_type).to_one (struct_send (shape note_inside.the_type) (note_crosses.the_send behind.the_row ask.the_row reply.the_row event.the_row limits.the_row counted behind_send, tt))
+
+pub note_send : IsSend note.the_row
+note_send = search (note_inside_send, sendable)
 
 control_inside_send : IsSend control_inside.the_row
 control_inside_send = recorded_send (control_inside.the_field).row _ _ (control_inside.the_type).to_one (struct_send (shape control_inside.the_type) (global_crosses.the_field_send, (turn_crosses.the_send behind.the_row ask.the_row reply.the_row event.the_row limits.the_row counted behind_send, (pass_crosses.the_send behind.the_row ask.the_row reply.the_row event.the_row limits.the_row counted behind_send, (bell_arc_send, (list_send _ (plain_send _ _ _ _ _), (catalogue_crosses.the_send, tt)))))))

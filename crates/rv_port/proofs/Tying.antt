@@ -1,24 +1,16 @@
 -- What a call reached is tied to the pass's own events.
-use Rattle.std.proofs.Common.{◌≡◌, ◌⊎◌, ℕ, ◌≤◌, Bool, true, false, List, [], ◌∷◌, ◌++◌, reverse, Option, Some, None, refl, sym, ap, ◌∙◌, subst, inl, inr, ⊎_elim, append_assoc, arith}
+use Rattle.std.proofs.Common.{◌≡◌, ◌⊎◌, ℕ, ◌≤◌, Bool, true, false, List, [], ◌∷◌, ◌++◌, reverse, Some, None, refl, sym, ap, ◌∙◌, subst, inl, inr, ⊎_elim, arith}
 use Rattle.std.specs.Prelude.{ℤ}
-use Rattle.std.proofs.lemmas.List.{reverse-append, reverse-reverse}
-use Rattle.rv_code.specs.Bodies.{UnitBodies}
-use Rattle.rv_exec.specs.Stops.{StopsIn}
 use Rattle.rv_event.specs.Past.{stance, until_then}
 use Rattle.rv_event.specs.declared.entry.Request.{Request}
 use Rattle.rv_event.specs.declared.entry.Request.TheVariants.{Call, Complete, Resume, DelayUntil, Clock, Fire, Quit, Tick, Halt}
 use Rattle.rv_event.specs.declared.entry.Rule.{Rule}
-use Rattle.rv_event.specs.declared.entry.Exit.{Exit}
-use Rattle.rv_event.specs.declared.entry.Exit.TheVariants as Exits
-use Rattle.rv_event.specs.declared.entry.Next.{Next}
-use Rattle.rv_event.specs.declared.entry.Next.TheVariants.{HandedTo}
 use Rattle.rv_event.specs.declared.entry.Answer.{Answer}
 use Rattle.rv_event.specs.declared.entry.Answer.TheVariants as Answers
 use Rattle.rv_event.specs.declared.entry.Recorded.{Recorded}
 use Rattle.rv_event.specs.declared.entry.Recorded.TheVariants as Words
-use Rattle.rv_history.specs.Due.{out, goes_on}
+use Rattle.rv_history.specs.Due.{goes_on}
 use Rattle.rv_history.specs.History.{changes}
-use Rattle.rv_history.specs.Legal.{Legal}
 use Rattle.rv_history.proofs.First.{names_first}
 use Rattle.rv_port.specs.declared.event.Begun.{Begun}
 use Rattle.rv_port.specs.declared.event.Event.{Event}
@@ -28,236 +20,16 @@ use Rattle.rv_port.specs.declared.reached.Reached.TheVariants as Reaches
 use Rattle.rv_port.specs.Actors.{HasHandler}
 use Rattle.rv_port.specs.Events.{marks, history_at, catalogue_of, called}
 use Rattle.rv_port.specs.Later.{version_seen}
-use Rattle.rv_port.specs.Traces.{Passing, capacity_in, Trace, noted, WoreOut, Went, Asked, asks_on}
-use Rattle.rv_port.specs.Reaching.{Performs, arguments_of, reads, values_of, reached_by, end_of, waits_on, waited_for}
-use Rattle.rv_port.specs.Calls.{Wore, RanOn, Resumed, Waited, Followed, Performed, IsPause, Opens, IsNew, InBody, EndedBy, stops_at, StoppedAsking, StoppedInside, Stays, Tied}
+use Rattle.rv_port.specs.Traces.{Passing, capacity_in, Asked, asks_on}
+use Rattle.rv_port.specs.Reaching.{Performs, arguments_of, reads, values_of, waited_for}
+use Rattle.rv_port.specs.Calls.{Wore, Resumed, Waited, Followed, Performed, IsPause, stops_at, StoppedAsking, Tied}
 use Rattle.rv_port.proofs.Actors.{handler_later}
-use Rattle.rv_port.proofs.Asking.{asked_later}
-use Rattle.rv_port.proofs.Gets.{calls, delays, of_first, first_gets, of_end, end_gets, of_resume, resume_gets}
-use Rattle.rv_port.proofs.Later.{version_later, is_handed, HandOverIn, handed_in, waits_still, dropped_later, refused_resume, woken_handed}
-use Rattle.rv_port.proofs.Performing.{asked_actor, stays_self, stays_both, went_stays, asked_stays}
-use Rattle.rv_port.proofs.Stopped.{StopAt, stop_at, runs_stop}
-use Rattle.rv_port.proofs.Resuming.{in_queue, paused, waits, queue_waits, pause_waits, is_sound, is_named, in_queue_at, paused_at, resume_sound, queue_wakes, pause_unnamed}
-use Rattle.rv_turn.specs.Histories.{StartsWith, mine}
-use Rattle.rv_turn.specs.Prefixes.{starts_both}
-
--- What is new
-
--- what is new stays new
-new_later : (e : Event) (seen mid last : List Event) → IsNew e seen mid → StartsWith last mid → IsNew e seen last
-new_later e seen mid last t p =
-    (t.0, t.1 ++ p.0, p.1 ∙ (ap (λ (l : List Event). l ++ p.0) t.2 ∙ (append_assoc seen (t.0 ++ e ∷ t.1) p.0 ∙ ap (λ (l : List Event). seen ++ l) (append_assoc t.0 (e ∷ t.1) p.0))))
-
--- what is new after a longer history is new after a shorter one
-new_sooner : (e : Event) (seen mid last : List Event) → StartsWith mid seen → IsNew e mid last → IsNew e seen last
-new_sooner e seen mid last p t =
-    (p.0 ++ t.0, t.1, t.2 ∙ (ap (λ (l : List Event). l ++ (t.0 ++ e ∷ t.1)) p.1 ∙ (append_assoc seen p.0 (t.0 ++ e ∷ t.1) ∙ ap (λ (l : List Event). seen ++ l) (sym (append_assoc p.0 t.0 (e ∷ t.1))))))
-
--- the body of a call has started: the call's first events, and its start, which is new
-record Opened (v : Passing) (q : Request) (u : Passing) : Type 0 where
-  pub first : List Event
-  pub start : Event
-  pub opens : Opens v.actor q first start
-  pub is_new : IsNew start v.seen u.seen
-  pub own_is : u.own ≡ v.own ++ first
-  pub actor_is : u.actor ≡ v.actor
-  pub stays : Stays v u
-
-opened_at_once : (v u : Passing) (q : Request) (scalars : List ℤ) → Asked v q (Answers.Started scalars) u → Opened v q u
-opened_at_once v u q scalars x = record {
-  first = Asks v.actor q Words.Started ∷ [];
-  start = Asks v.actor q Words.Started;
-  opens = inl (refl, refl);
-  is_new = new_sooner (Asks v.actor q Words.Started) v.seen x.at u.seen x.from ([], [], x.seen_is);
-  own_is = x.own_is;
-  actor_is = asked_actor v u q _ x;
-  stays = asked_stays v u q _ x;
-}
-
--- the first answer was to wait
-record Waits (v : Passing) (q : Request) (wait : Recorded) (u : Passing) : Type 0 where
-  pub answer : Answer
-  pub asked : Asked v q answer u
-  pub on : waits_on answer ≡ true
-  pub seen_is : u.seen ≡ asked.at ++ Asks v.actor q wait ∷ []
-  pub own_is : u.own ≡ v.own ++ Asks v.actor q wait ∷ []
-  pub actor_is : u.actor ≡ v.actor
-
--- by its own number
-here : (v u : Passing) (q : Request) (wait : Recorded) (k : Waits v q wait u) → u.seen ≡ k.asked.at ++ Asks u.actor q wait ∷ []
-here v u q wait k = k.seen_is ∙ ap (λ (n : ℕ). k.asked.at ++ Asks n q wait ∷ []) (sym k.actor_is)
-
--- both events of a wait
-both_own : (v u w : Passing) (q : Request) (wait word : Recorded) → Waits v q wait u → w.own ≡ u.own ++ Asks u.actor Resume word ∷ [] → w.own ≡ v.own ++ Asks v.actor q wait ∷ Asks v.actor Resume word ∷ []
-both_own v u w q wait word k e =
-    e ∙ ((λ i. k.own_is i ++ Asks (k.actor_is i) Resume word ∷ []) ∙ append_assoc v.own (Asks v.actor q wait ∷ []) (Asks v.actor Resume word ∷ []))
-
--- a longer history backwards
-back_at : (v u : Passing) (q : Request) (wait : Recorded) (log : List Event) (k : Waits v q wait u) (p : StartsWith log u.seen) → reverse log ≡ reverse p.0 ++ Asks v.actor q wait ∷ reverse k.asked.at
-back_at v u q wait log k p =
-    ap reverse p.1 ∙ (reverse-append u.seen p.0 ∙ ap (λ (l : List Event). reverse p.0 ++ l) (ap reverse k.seen_is ∙ reverse-append k.asked.at (Asks v.actor q wait ∷ [])))
-
-opened_by_wait : (v u w : Passing) (o p : ℕ) (vs scalars : List ℤ) → Waits v (Call o p vs) Words.Queued u → Asked u Resume (Answers.Woken (Some scalars)) w → Opened v (Call o p vs) w
-opened_by_wait v u w o p vs scalars k x = record {
-  first = Asks v.actor q Words.Queued ∷ Asks v.actor Resume Words.Woken ∷ [];
-  start = start;
-  opens = inr (refl, (found.of, found.request, refl));
-  is_new = new_sooner start v.seen u.seen w.seen seen_more (new_later start u.seen x.at w.seen newly (subst (λ (l : List Event). StartsWith l x.at) (sym x.seen_is) (Asks u.actor Resume Words.Woken ∷ [], refl)));
-  own_is = both_own v u w q Words.Queued Words.Woken k x.own_is;
-  actor_is = asked_actor u w Resume _ x ∙ k.actor_is;
-  stays = stays_both v u w (asked_stays v u q _ k.asked) (asked_stays u w Resume _ x);
-} where
-  q : Request
-  q = Call o p vs
-
-  handed : is_handed (stance v.actor (marks (reverse x.from.0 ++ Asks v.actor q Words.Queued ∷ reverse k.asked.at))) ≡ true
-  handed = subst (λ (z : ℕ × List Event). is_handed (stance z.0 (marks z.1)) ≡ true) (λ i. (k.actor_is i, back_at v u q Words.Queued x.at k x.from i))
-      (woken_handed (history_at (capacity_in u.about) x.at) u.actor scalars (sym x.due_is))
-
-  found : HandOverIn v.actor (reverse x.from.0)
-  found = handed_in v.actor (reverse x.from.0) (Asks v.actor q Words.Queued ∷ reverse k.asked.at) (waits_still v.actor o p vs (reverse k.asked.at)) handed
-
-  start : Event
-  start = Asks found.of found.request (Words.Done (HandedTo v.actor))
-
-  forth : x.from.0 ≡ reverse found.older ++ start ∷ reverse found.newer
-  forth = sym (reverse-reverse x.from.0)
-      ∙ (ap reverse found.split ∙ (reverse-append found.newer (start ∷ found.older)
-      ∙ (ap (λ (l : List Event). l ++ reverse found.newer) (reverse-append (start ∷ []) found.older) ∙ append_assoc (reverse found.older) (start ∷ []) (reverse found.newer))))
-
-  newly : IsNew start u.seen x.at
-  newly = (reverse found.older, reverse found.newer, x.from.1 ∙ ap (λ (l : List Event). u.seen ++ l) forth)
-
-  seen_more : StartsWith u.seen v.seen
-  seen_more = asked_later v u q _ k.asked
-
--- What a body that started came to
-
-record LastEnd (u : Passing) (exit : Exit) (w : Passing) : Type 0 where
-  pub asked : Trace
-  pub scalars : List ℤ
-  pub next : Next
-  pub own_is : w.own ≡ u.own ++ (noted u.actor asked ++ Asks u.actor (Complete scalars exit) (Words.Done next) ∷ [])
-  pub later : StartsWith w.seen u.seen
-
--- its end was asked in vain
-record NoEnd (u w : Passing) : Type 0 where
-  pub asked : Trace
-  pub body : Passing
-  pub went : Went u asked body
-  pub scalars : List ℤ
-  pub exit : Exit
-  pub reason : WoreOut body (Complete scalars exit) w ⊎ ((d : Answer) × Asked body (Complete scalars exit) d w × (stops_at (Complete scalars exit) d ≡ true))
-
-abbrev RanTo : Passing → Reached → Passing → Type 0
-RanTo u (Reaches.Returned values) w = LastEnd u (Exits.Return values) w
-RanTo u (Reaches.Raised exception) w = (exit : Exit) × (reached_by exit ≡ Reaches.Raised exception) × LastEnd u exit w
-RanTo u Reaches.Stopped w = NoEnd u w ⊎ ((t : LastEnd u Exits.Stopped w) × StopAt u t.asked)
-RanTo u reached w = ⊥
-
-ended_by : (v u w : Passing) (q : Request) (exit : Exit) → Opened v q u → LastEnd u exit w → EndedBy v q exit w
-ended_by v u w q exit o t = record {
-  first = o.first;
-  start = o.start;
-  opens = o.opens;
-  is_new = new_later o.start v.seen u.seen w.seen o.is_new t.later;
-  asked = t.asked;
-  scalars = t.scalars;
-  next = t.next;
-  own_is = subst (λ (n : ℕ). w.own ≡ u.own ++ (noted n t.asked ++ Asks n (Complete t.scalars exit) (Words.Done t.next) ∷ [])) o.actor_is t.own_is
-      ∙ (ap (λ (l : List Event). l ++ (noted v.actor t.asked ++ Asks v.actor (Complete t.scalars exit) (Words.Done t.next) ∷ [])) o.own_is
-      ∙ append_assoc v.own o.first (noted v.actor t.asked ++ Asks v.actor (Complete t.scalars exit) (Words.Done t.next) ∷ []));
-}
-
-in_body : (v u k : Passing) (q : Request) (asked : Trace) → Opened v q u → Went u asked k → InBody v q asked k
-in_body v u k q asked o t = record {
-  first = o.first;
-  start = o.start;
-  opens = o.opens;
-  is_new = new_later o.start v.seen u.seen k.seen o.is_new t.later;
-  own_is = subst (λ (n : ℕ). k.own ≡ u.own ++ noted n asked) o.actor_is t.own
-      ∙ (ap (λ (l : List Event). l ++ noted v.actor asked) o.own_is ∙ append_assoc v.own o.first (noted v.actor asked));
-}
-
-no_end : (v u w : Passing) (q : Request) → Opened v q u → NoEnd u w → StoppedAsking v q w
-no_end v u w q o t = record {
-  asker = t.body;
-  same = stays_both v u t.body o.stays (went_stays u t.body t.asked t.went);
-  request = Complete t.scalars t.exit;
-  last = inr (inr (t.asked, in_body v u t.body q t.asked o t.went, t.scalars, t.exit, refl));
-  reason = t.reason;
-}
-
-stopped_inside : (v u w : Passing) (q : Request) → Opened v q u → (t : LastEnd u Exits.Stopped w) → StopAt u t.asked → StoppedInside v q w
-unfolding ended_by
-stopped_inside v u w q o t s = record {
-  ended = ended_by v u w q Exits.Stopped o t;
-  before = s.before;
-  asker = s.asker;
-  inside = in_body v u s.asker q s.before o s.went;
-  same = stays_both v u s.asker o.stays (went_stays u s.asker s.before s.went);
-  request = s.request;
-  answer = s.answer;
-  after = s.after;
-  reason = s.reason;
-  behind = s.behind;
-  unwinds = s.unwinds;
-  asked_is = s.asked_is;
-}
-
-tied_body : (v u w : Passing) (q : Request) (reached : Reached) → Opened v q u → RanTo u reached w → Tied v q reached w
-tied_body v u w q (Reaches.Returned values) o t = inl (ended_by v u w q (Exits.Return values) o t)
-tied_body v u w q (Reaches.Raised e) o t = (t.0, t.1, ended_by v u w q t.0 o t.2)
-tied_body v u w q Reaches.Stopped o t = ⊎_elim (λ none. inl (no_end v u w q o none)) (λ l. inr (stopped_inside v u w q o l.0 l.1)) t
-tied_body v u w q (Reaches.Refused rule line version) o t = absurd t
-tied_body v u w q Reaches.Misuse o t = absurd t
-
-done_last : (u w : Passing) (trace : Trace) (k : Passing) (scalars : List ℤ) (exit : Exit) (next : Next) → Went u trace k → Asked k (Complete scalars exit) (Answers.Done next) w → LastEnd u exit w
-done_last u w trace k scalars exit next p x = record {
-  asked = trace;
-  scalars = scalars;
-  next = next;
-  own_is = x.own_is ∙ ((λ i. p.own i ++ Asks (ap (λ (z : Passing). z.actor) p.same i) (Complete scalars exit) (Words.Done next) ∷ [])
-      ∙ append_assoc u.own (noted u.actor trace) (Asks u.actor (Complete scalars exit) (Words.Done next) ∷ []));
-  later = starts_both u.seen k.seen w.seen p.later (asked_later k w _ _ x);
-}
-
-by_exit : (u w : Passing) (exit : Exit) (t : LastEnd u exit w) → (exit ≡ Exits.Stopped → StopAt u t.asked) → RanTo u (reached_by exit) w
-by_exit u w (Exits.Return values) t f = t
-by_exit u w (Exits.Raise e) t f = (Exits.Raise e, refl, t)
-by_exit u w Exits.Overrun t f = (Exits.Overrun, refl, t)
-by_exit u w Exits.Stopped t f = inr (t, f refl)
-
--- the answer to its end stops the call
-stopped_end : (u w : Passing) (trace : Trace) (k : Passing) (scalars : List ℤ) (exit : Exit) (d : Answer) → Went u trace k → Asked k (Complete scalars exit) d w → stops_at (Complete scalars exit) d ≡ true → NoEnd u w
-stopped_end u w trace k scalars exit d p x e = record { asked = trace; body = k; went = p; scalars = scalars; exit = exit; reason = inr (d, x, e) }
-
-ran_end : (u w : Passing) (trace : Trace) (k : Passing) (scalars : List ℤ) (exit : Exit) (d : Answer) → Went u trace k → Asked k (Complete scalars exit) d w → of_end d ≡ true → (exit ≡ Exits.Stopped → StopsIn trace) → RanTo u (end_of d exit) w
-unfolding done_last
-ran_end u w trace k scalars exit (Answers.Done next) p x e f = by_exit u w exit (done_last u w trace k scalars exit next p x) (λ is. stop_at u trace k (f is) p.steps)
-ran_end u w trace k scalars exit Answers.Misuse p x e f = inl (stopped_end u w trace k scalars exit Answers.Misuse p x refl)
-ran_end u w trace k scalars exit Answers.Full p x e f = inl (stopped_end u w trace k scalars exit Answers.Full p x refl)
-ran_end u w trace k scalars exit (Answers.Refused rule line version) p x e f = absurd (cc e)
-ran_end u w trace k scalars exit (Answers.Accepted value) p x e f = absurd (cc e)
-ran_end u w trace k scalars exit (Answers.Woken s) p x e f = absurd (cc e)
-ran_end u w trace k scalars exit (Answers.Started s) p x e f = absurd (cc e)
-ran_end u w trace k scalars exit Answers.Queued p x e f = absurd (cc e)
-ran_end u w trace k scalars exit Answers.Suspended p x e f = absurd (cc e)
-ran_end u w trace k scalars exit Answers.Delayed p x e f = absurd (cc e)
-ran_end u w trace k scalars exit Answers.Halted p x e f = absurd (cc e)
-ran_end u w trace k scalars exit Answers.Busy p x e f = absurd (cc e)
-ran_end u w trace k scalars exit Answers.Waiting p x e f = absurd (cc e)
-ran_end u w trace k scalars exit Answers.Unattached p x e f = absurd (cc e)
-ran_end u w trace k scalars exit Answers.BadLine p x e f = absurd (cc e)
-ran_end u w trace k scalars exit Answers.OutOfMemory p x e f = absurd (cc e)
-
-ended_so : (v w : Passing) (scalars : List ℤ) (exit : Exit) (d : Answer) → Asked v (Complete scalars exit) d w → of_end d ≡ true
-ended_so v w scalars exit d x = ap of_end x.due_is ∙ end_gets (history_at (capacity_in v.about) x.at) v.actor scalars exit
-
-ran_to : (u w : Passing) (bodies : Option UnitBodies) (b : Begun) (scalars arguments : List ℤ) (reached : Reached) → RanOn bodies u b scalars arguments reached w → RanTo u reached w
-ran_to u w bodies b scalars arguments reached n =
-    ⊎_elim (λ wore. subst (λ (z : Reached). RanTo u z w) (sym wore.1) (inl (record { asked = n.trace; body = n.body; went = n.went; scalars = n.ended.scalars; exit = n.ended.exit; reason = inl wore.0 })))
-    (λ t. subst (λ (z : Reached). RanTo u z w) (sym t.3) (ran_end u w n.trace n.body n.ended.scalars n.ended.exit t.0 n.went t.1 (ended_so n.body w n.ended.scalars n.ended.exit t.0 t.1) (runs_stop bodies b scalars arguments n.trace n.ended n.runs))) n.end_is
+use Rattle.rv_port.proofs.Gets.{calls, delays, of_first, first_gets, of_resume, resume_gets}
+use Rattle.rv_port.proofs.Later.{version_later, dropped_later, refused_resume}
+use Rattle.rv_port.proofs.Performing.{asked_actor, stays_self, asked_stays}
+use Rattle.rv_port.proofs.Resuming.{in_queue, paused, waits, queue_waits, pause_waits, is_sound, in_queue_at, paused_at, resume_sound, queue_wakes, pause_unnamed}
+use Rattle.rv_port.proofs.Opening.{here, opened_at_once, Waits, both_own, back_at, opened_by_wait}
+use Rattle.rv_port.proofs.Ending.{tied_body, ran_to}
 
 -- What a call came to
 

@@ -74,7 +74,14 @@ Changed c log change r after =
     MayLackMemory (due_change (history_at c log) change) r
     × (after ≡ changed_to log (changed (force (history_at c log)) change) r)
 
--- what only the operator may ask: to another it is Misuse, and changes nothing (own)
+-- what only the operator may ask: a load, or a change of the list (own)
+abbrev pub changes : Ask → Bool
+changes (Wants.Step q) = false
+changes (Wants.Read from) = false
+changes Wants.Bodies = false
+changes ask = true
+
+-- to another it is Misuse, and changes nothing (own)
 abbrev pub IfOperator : Bool → Type 0 → Answer → List Event → List Event → Type 0
 IfOperator true does r log after = does
 IfOperator false does r log after = (r ≡ Answers.Misuse) × (after ≡ log)

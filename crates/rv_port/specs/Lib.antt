@@ -2,6 +2,7 @@ pub mod Events
 pub mod Acting
 pub mod Actors
 pub mod Traces
+pub mod Replies
 pub mod Composing
 pub mod Reaching
 pub mod Later

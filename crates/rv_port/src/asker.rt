@@ -1,17 +1,19 @@
 //! The asking part of a port.
 
-ghost use Rattle.std.specs.Prelude.{◌≡◌, ℕ, ◌++◌, ◌∷◌, [], IfSome, IfNone, true, false, is_some};
+ghost use Rattle.std.specs.Prelude.{◌≡◌, ℕ, ◌++◌, ◌∷◌, [], MatchResult, true, false, is_some};
 ghost use Rattle.rv_turn.specs.Histories.{mine};
+ghost use Rattle.rv_turn.specs.Passes.{IsWorn};
 ghost use Rattle.rv_port.specs.Actors.{HasHandler};
 ghost use Rattle.rv_port.specs.Events.{by, catalogue_of};
-ghost use Rattle.rv_port.specs.Traces.{WoreOut, Went, Replied, RepliedOnce, IsTold, told, asks_on};
+ghost use Rattle.rv_port.specs.Traces.{WoreOut, Went, IsTold, told};
+ghost use Rattle.rv_port.specs.Replies.{ReplyOnce, ReplyTo, is_vain};
 
 use crate::behind::Behind;
 use crate::bell::Bell;
-use crate::event::{Ask, Begun, Lent, Reply};
+use crate::event::{Ask, Reply};
 use rv_event::entry::{Answer, Request};
 use rv_exec::outward::Outward;
-use rv_turn::Pass;
+use rv_turn::{Pass, Worn};
 use std::alloc::Global;
 use std::sync::{Arc, Wait};
 
@@ -30,60 +32,58 @@ pub(crate) struct Asker {
 }
 
 // Whether the request is to be made again.
-fn must_wait(answer: &Answer) -> bool
-    ensures { result ≡ asks_on answer.now }
+fn must_wait(asked: &Result<Reply, Worn>) -> bool
+    ensures { result ≡ is_vain asked.now }
 {
-    matches!(answer, Answer::Busy | Answer::Waiting)
+    matches!(
+        asked,
+        Ok(Reply::Answered(Answer::Busy | Answer::Waiting, _, _))
+    )
 }
 
 // What a body is told of an answer.
-fn told_of(answer: Answer) -> Answer
-    ensures { result ≡ told answer }
+fn told_of(answer: &Answer) -> Answer
+    ensures { result ≡ told answer.now }
 {
-    match answer {
+    match *answer {
         Answer::Misuse => Answer::Full,
         other => other,
     }
 }
 
 impl Asker {
-    /// Asks once. None where no act is left.
-    pub(crate) fn try_ask<R: Wait>(
-        &mut self,
-        rt: &R,
-        request: &Request,
-    ) -> Option<(Answer, Begun, Option<Lent>)>
-        ensures some { IfSome result (λ r. RepliedOnce self.old.pass request.now r.0 r.1 r.2 self.new.pass) }
-        ensures none { IfNone result ((self.new.pass ≡ self.old.pass) × (self.old.pass.left ≡ 0)) }
+    /// Asks once. Err where no act is left. A reply is large, so it is handed on whole.
+    pub(crate) fn try_ask<R: Wait>(&mut self, rt: &R, request: &Request) -> Result<Reply, Worn>
+        ensures reply { MatchResult
+            result
+            (λ reply. ReplyOnce self.old.pass request.now reply self.new.pass)
+            (λ _. IsWorn self.old.pass self.new.pass) }
         ensures mark { self.new.is_refused ≡ self.old.is_refused }
     {
-        let Ok(reply) = self.pass.act(rt, Ask::Step(*request)) else {
-            return None;
-        };
-        match reply {
-            Reply::Answered(answer, begun, lent) => Some((answer, begun, lent)),
-            _ => unreachable!(),
+        self.pass.act(rt, Ask::Step(*request))
+    }
+
+    /// Rings for those who may go on after what was asked.
+    pub(crate) fn tell(&self, asked: &Result<Reply, Worn>) {
+        if let Ok(Reply::Answered(answer, _, _)) = asked {
+            self.bell.tell(answer);
         }
     }
 
-    /// Asks, and again at each ring while the answer is Busy or Waiting. None where no act is left.
-    pub(crate) fn insist<R: Wait>(
-        &mut self,
-        rt: &R,
-        request: &Request,
-    ) -> Option<(Answer, Begun, Option<Lent>)>
-        ensures some { IfSome result (λ r. Replied self.old.pass request.now r.0 r.1 r.2 self.new.pass × (asks_on r.0 ≡ false)) }
-        ensures none { IfNone result (WoreOut self.old.pass request.now self.new.pass) }
+    /// Asks, and again at each ring while the answer is Busy or Waiting. Err where no act is left.
+    pub(crate) fn insist<R: Wait>(&mut self, rt: &R, request: &Request) -> Result<Reply, Worn>
+        ensures reply { MatchResult
+            result
+            (λ reply. ReplyTo self.old.pass request.now reply self.new.pass)
+            (λ _. WoreOut self.old.pass request.now self.new.pass) }
         ensures mark { self.new.is_refused ≡ self.old.is_refused }
     {
         for _ in rt.forever() {
             let rings = self.bell.rings();
-            let Some((answer, begun, lent)) = self.try_ask(rt, request) else {
-                return None;
-            };
-            if !must_wait(&answer) {
-                self.bell.tell(&answer);
-                return Some((answer, begun, lent));
+            let asked = self.try_ask(rt, request);
+            if !must_wait(&asked) {
+                self.tell(&asked);
+                return asked;
             }
             self.bell.wait_past(rt, rings);
         }
@@ -96,10 +96,13 @@ impl Asker {
         ensures told { IsTold result }
         ensures mark { self.new.is_refused ≡ self.old.is_refused }
     {
-        let Some(given) = self.insist(rt, request) else {
+        let asked = self.insist(rt, request);
+        let Ok(reply) = &asked else {
             return Answer::Full;
         };
-        let (answer, _begun, _lent) = given;
+        let Reply::Answered(answer, _, _) = reply else {
+            unreachable!()
+        };
         told_of(answer)
     }
 }

@@ -10,7 +10,7 @@ ghost use Rattle.rv_port.specs.Later.{NoEarlierList, KeepsBodies};
 ghost use Rattle.rv_port.specs.declared.event.Event.{Event};
 
 /// The catalogue is that of the operator's own events, whatever others add.
-#[tactic(auto, using(crate::proofs::Controls::catalogue_mine))]
+#[tactic(auto, using(crate::proofs::Catalogues::catalogue_mine))]
 pub fn catalogue_is_the_operators()
     ensures { (log : List Event) → catalogue_of (mine by 0 log) ≡ catalogue_of log }
 {}

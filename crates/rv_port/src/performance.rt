@@ -7,7 +7,7 @@ ghost use Rattle.rv_port.specs.Reaching.{Performs};
 
 use crate::asker::Asker;
 use crate::body::run;
-use crate::event::{Begun, Lent};
+use crate::event::{Begun, Lent, Reply};
 use crate::gate::Gate;
 use crate::reached::{Reached, arguments_of, ended_as, is_wait, plain, reads, waited_for};
 use rv_event::entry::{Answer, Request};
@@ -20,38 +20,44 @@ impl Asker {
         &mut self,
         rt: &R,
         gate: &G,
-        lent: Option<Lent>,
+        lent: &Option<Lent>,
         begun: &Begun,
         scalars: &Scalars,
         args: &Args,
     ) -> Reached
-        ensures ran { RanOn (lent_view lent) self.old.pass begun.now scalars.now args.now result self.new.pass }
-        ensures mark { self.new.is_refused ≡ marked self.old.is_refused (lent_view lent) }
+        ensures ran { RanOn (lent_view lent.now) self.old.pass begun.now scalars.now args.now result self.new.pass }
+        ensures mark { self.new.is_refused ≡ marked self.old.is_refused (lent_view lent.now) }
     {
-        let ended = run(rt, self, &lent, begun, scalars, args);
+        let ended = run(rt, self, lent, begun, scalars, args);
         gate.pass(rt);
         let request = Request::Complete(ended.scalars, ended.exit);
-        let Some(given) = self.insist(rt, &request) else {
+        let asked = self.insist(rt, &request);
+        let Ok(reply) = &asked else {
             return Reached::Stopped;
         };
-        let (answer, _begun, _lent) = given;
-        ended_as(&answer, &ended.exit)
+        let Reply::Answered(answer, _, _) = reply else {
+            unreachable!()
+        };
+        ended_as(answer, &ended.exit)
     }
 
     // Waits for what a request came to.
     fn resume<R: Wait, G: Gate<R>>(&mut self, rt: &R, gate: &G, request: &Request) -> Reached
         ensures { Waited self.old.pass self.old.is_refused request.now result self.new.pass self.new.is_refused }
     {
-        let Some(given) = self.insist(rt, &Request::Resume) else {
+        let asked = self.insist(rt, &Request::Resume);
+        let Ok(reply) = &asked else {
             return Reached::Stopped;
         };
-        let (answer, _begun, lent) = given;
+        let Reply::Answered(answer, _, lent) = reply else {
+            unreachable!()
+        };
         if let Answer::Woken(Some(scalars)) = answer {
             let begun = waited_for(request);
             let args = arguments_of(request);
-            return self.run_on(rt, gate, lent, &begun, &scalars, &args);
+            return self.run_on(rt, gate, lent, &begun, scalars, &args);
         }
-        plain(false, &answer)
+        plain(false, answer)
     }
 
     // One performance, by its parts. Only what rings the bell ends a wait, so a resume before it does
@@ -60,19 +66,22 @@ impl Asker {
         ensures { Performed self.old.pass self.old.is_refused request.now result self.new.pass self.new.is_refused }
     {
         let rings = self.bell.rings();
-        let Some(given) = self.insist(rt, request) else {
+        let asked = self.insist(rt, request);
+        let Ok(reply) = &asked else {
             return Reached::Stopped;
         };
-        let (answer, begun, lent) = given;
+        let Reply::Answered(answer, begun, lent) = reply else {
+            unreachable!()
+        };
         if let Answer::Started(scalars) = answer {
             let args = arguments_of(request);
-            return self.run_on(rt, gate, lent, &begun, &scalars, &args);
+            return self.run_on(rt, gate, lent, begun, scalars, &args);
         }
-        if is_wait(&answer) {
+        if is_wait(answer) {
             self.bell.wait_past(rt, rings);
             return self.resume(rt, gate, request);
         }
-        plain(reads(request), &answer)
+        plain(reads(request), answer)
     }
 
     /// One performance of a request.

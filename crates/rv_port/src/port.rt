@@ -1,12 +1,14 @@
 //! Ports.
 
+mod finishing;
+
 ghost use Rattle.std.specs.Prelude.{◌≡◌, ◌++◌, List, [], true, false, is_some};
 ghost use Rattle.rv_turn.specs.Histories.{mine, StartsWith};
 ghost use Rattle.rv_turn.specs.Passes.{Meets};
 ghost use Rattle.rv_event.specs.declared.entry.Request.TheVariants as asks;
 ghost use Rattle.rv_port.specs.Actors.{HasHandler};
 ghost use Rattle.rv_port.specs.Events.{by, catalogue_of};
-ghost use Rattle.rv_port.specs.Calls.{Quits, Stays, Tied};
+ghost use Rattle.rv_port.specs.Calls.{Stays, Tied};
 ghost use Rattle.rv_port.specs.Ports.{porting, pass_of, PerformedBy};
 ghost use Rattle.rv_port.specs.Controls.{IsPorts};
 ghost use Rattle.rv_port.specs.Later.{NoEarlierList};
@@ -19,7 +21,6 @@ use crate::gate::{Gate, Open};
 use crate::note::Note;
 use crate::reached::Reached;
 use rv_event::entry::Request;
-use rv_shape::actor::FIRST_TASK;
 use rv_turn::Pass;
 use rv_value::Args;
 use std::alloc::Global;
@@ -251,44 +252,4 @@ impl Port {
         let Note { note } = note;
         self.asker.pass.meet(note);
     }
-
-    /// Lets go of the port: a task quits, where it may; a line asks nothing. An answer Misuse, and
-    /// want of an act, change nothing.
-    pub fn finish<R: Wait>(self, rt: &R) -> Finished
-        ensures quits { Quits (pass_of self) (pass_of result) }
-        ensures stays { Stays (pass_of self) (pass_of result) }
-        ensures mark { result.refused ≡ self.refused }
-    {
-        let Port { mut asker } = self;
-        quit(rt, &mut asker);
-        let Asker {
-            pass,
-            bell: _,
-            is_refused,
-        } = asker;
-        Finished { pass, is_refused }
-    }
-}
-
-// Asks for the end of a task, and tells those who wait; a line has none.
-fn ask_quit<R: Wait>(rt: &R, asker: &mut Asker)
-    ensures quits { Quits asker.old.pass asker.new.pass }
-    ensures mark { asker.new.is_refused ≡ asker.old.is_refused }
-{
-    if asker.pass.actor() < FIRST_TASK as u64 {
-        return;
-    }
-    if let Some(given) = asker.try_ask(rt, &Request::Quit) {
-        let (answer, _begun, _lent) = given;
-        asker.bell.tell(&answer);
-    }
-}
-
-// The same. The port stays what it was.
-fn quit<R: Wait>(rt: &R, asker: &mut Asker)
-    ensures quits { Quits asker.old.pass asker.new.pass }
-    ensures stays { Stays asker.old.pass asker.new.pass }
-    ensures mark { asker.new.is_refused ≡ asker.old.is_refused }
-{
-    ask_quit(rt, asker);
 }

@@ -1,7 +1,7 @@
 use Rattle.std.proofs.Common.{subst}
 use Rattle.rv_port.specs.Traces.{Passing}
 use Rattle.rv_port.specs.Controls.{IsOperators}
-use Rattle.rv_port.proofs.Controls.{keeps_of}
+use Rattle.rv_port.proofs.Operators.{keeps_of}
 use Rattle.rv_port.proofs.control.Control.keeps.Goals as goal
 
 pub returns : goal.returns

@@ -2,7 +2,8 @@ use Rattle.std.proofs.Common.{◌≡◌, true, rules, tests, ap, sym, ◌∙◌,
 use Rattle.rv_port.specs.Actors.{is_performer}
 use Rattle.rv_port.specs.Controls.{listed, IsControl}
 use Rattle.rv_port.proofs.Actors.{performer_some}
-use Rattle.rv_port.proofs.Controls.{not_given, port_kept, port_handles, port_limited}
+use Rattle.rv_port.proofs.Operators.{not_given}
+use Rattle.rv_port.proofs.Controls.{port_kept, port_handles, port_limited}
 use Rattle.rv_port.proofs.control.Control.port.Goals as goal
 
 pub split-requires-clause-actor : goal.split-requires-clause-actor

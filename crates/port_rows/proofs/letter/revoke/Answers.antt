@@ -1,6 +1,6 @@
 use Rattle.std.proofs.Common.{◌≡◌, ◌∙◌}
 use Rattle.port_rows.proofs.Turns.{told_turn}
-use Rattle.port_rows.proofs.alone.revoke.Goals as goal
+use Rattle.port_rows.proofs.letter.revoke.Goals as goal
 
 pub returns : goal.returns
 returns g c =

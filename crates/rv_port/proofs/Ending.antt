@@ -1,0 +1,157 @@
+-- What a body that started came to.
+use Rattle.std.proofs.Common.{◌≡◌, ◌⊎◌, ℕ, true, List, [], ◌∷◌, ◌++◌, Option, refl, sym, ap, ◌∙◌, subst, inl, inr, ⊎_elim, append_assoc}
+use Rattle.std.specs.Prelude.{ℤ}
+use Rattle.rv_code.specs.Bodies.{UnitBodies}
+use Rattle.rv_exec.specs.Stops.{StopsIn}
+use Rattle.rv_event.specs.declared.entry.Request.{Request}
+use Rattle.rv_event.specs.declared.entry.Request.TheVariants.{Complete}
+use Rattle.rv_event.specs.declared.entry.Exit.{Exit}
+use Rattle.rv_event.specs.declared.entry.Exit.TheVariants as Exits
+use Rattle.rv_event.specs.declared.entry.Next.{Next}
+use Rattle.rv_event.specs.declared.entry.Answer.{Answer}
+use Rattle.rv_event.specs.declared.entry.Answer.TheVariants as Answers
+use Rattle.rv_event.specs.declared.entry.Recorded.TheVariants as Words
+use Rattle.rv_port.specs.declared.event.Begun.{Begun}
+use Rattle.rv_port.specs.declared.event.Event.{Event}
+use Rattle.rv_port.specs.declared.event.Event.TheVariants.{Asks}
+use Rattle.rv_port.specs.declared.reached.Reached.{Reached}
+use Rattle.rv_port.specs.declared.reached.Reached.TheVariants as Reaches
+use Rattle.rv_port.specs.Events.{history_at}
+use Rattle.rv_port.specs.Traces.{Passing, capacity_in, Trace, noted, WoreOut, Went, Asked}
+use Rattle.rv_port.specs.Reaching.{reached_by, end_of}
+use Rattle.rv_port.specs.Calls.{RanOn, InBody, EndedBy, stops_at, StoppedAsking, StoppedInside, Tied}
+use Rattle.rv_port.proofs.Asking.{asked_later}
+use Rattle.rv_port.proofs.Gets.{of_end, end_gets}
+use Rattle.rv_port.proofs.Performing.{stays_both, went_stays}
+use Rattle.rv_port.proofs.Stopped.{StopAt, stop_at, runs_stop}
+use Rattle.rv_turn.specs.Histories.{StartsWith}
+use Rattle.rv_turn.specs.Prefixes.{starts_both}
+use Rattle.rv_port.proofs.Opening.{new_later, Opened}
+
+-- What a body that started came to
+
+pub record LastEnd (u : Passing) (exit : Exit) (w : Passing) : Type 0 where
+  pub asked : Trace
+  pub scalars : List ℤ
+  pub next : Next
+  pub own_is : w.own ≡ u.own ++ (noted u.actor asked ++ Asks u.actor (Complete scalars exit) (Words.Done next) ∷ [])
+  pub later : StartsWith w.seen u.seen
+
+-- its end was asked in vain
+pub record NoEnd (u w : Passing) : Type 0 where
+  pub asked : Trace
+  pub body : Passing
+  pub went : Went u asked body
+  pub scalars : List ℤ
+  pub exit : Exit
+  pub reason : WoreOut body (Complete scalars exit) w ⊎ ((d : Answer) × Asked body (Complete scalars exit) d w × (stops_at (Complete scalars exit) d ≡ true))
+
+abbrev RanTo : Passing → Reached → Passing → Type 0
+RanTo u (Reaches.Returned values) w = LastEnd u (Exits.Return values) w
+RanTo u (Reaches.Raised exception) w = (exit : Exit) × (reached_by exit ≡ Reaches.Raised exception) × LastEnd u exit w
+RanTo u Reaches.Stopped w = NoEnd u w ⊎ ((t : LastEnd u Exits.Stopped w) × StopAt u t.asked)
+RanTo u reached w = ⊥
+
+ended_by : (v u w : Passing) (q : Request) (exit : Exit) → Opened v q u → LastEnd u exit w → EndedBy v q exit w
+ended_by v u w q exit o t = record {
+  first = o.first;
+  start = o.start;
+  opens = o.opens;
+  is_new = new_later o.start v.seen u.seen w.seen o.is_new t.later;
+  asked = t.asked;
+  scalars = t.scalars;
+  next = t.next;
+  own_is = subst (λ (n : ℕ). w.own ≡ u.own ++ (noted n t.asked ++ Asks n (Complete t.scalars exit) (Words.Done t.next) ∷ [])) o.actor_is t.own_is
+      ∙ (ap (λ (l : List Event). l ++ (noted v.actor t.asked ++ Asks v.actor (Complete t.scalars exit) (Words.Done t.next) ∷ [])) o.own_is
+      ∙ append_assoc v.own o.first (noted v.actor t.asked ++ Asks v.actor (Complete t.scalars exit) (Words.Done t.next) ∷ []));
+}
+
+in_body : (v u k : Passing) (q : Request) (asked : Trace) → Opened v q u → Went u asked k → InBody v q asked k
+in_body v u k q asked o t = record {
+  first = o.first;
+  start = o.start;
+  opens = o.opens;
+  is_new = new_later o.start v.seen u.seen k.seen o.is_new t.later;
+  own_is = subst (λ (n : ℕ). k.own ≡ u.own ++ noted n asked) o.actor_is t.own
+      ∙ (ap (λ (l : List Event). l ++ noted v.actor asked) o.own_is ∙ append_assoc v.own o.first (noted v.actor asked));
+}
+
+no_end : (v u w : Passing) (q : Request) → Opened v q u → NoEnd u w → StoppedAsking v q w
+no_end v u w q o t = record {
+  asker = t.body;
+  same = stays_both v u t.body o.stays (went_stays u t.body t.asked t.went);
+  request = Complete t.scalars t.exit;
+  last = inr (inr (t.asked, in_body v u t.body q t.asked o t.went, t.scalars, t.exit, refl));
+  reason = t.reason;
+}
+
+stopped_inside : (v u w : Passing) (q : Request) → Opened v q u → (t : LastEnd u Exits.Stopped w) → StopAt u t.asked → StoppedInside v q w
+unfolding ended_by
+stopped_inside v u w q o t s = record {
+  ended = ended_by v u w q Exits.Stopped o t;
+  before = s.before;
+  asker = s.asker;
+  inside = in_body v u s.asker q s.before o s.went;
+  same = stays_both v u s.asker o.stays (went_stays u s.asker s.before s.went);
+  request = s.request;
+  answer = s.answer;
+  after = s.after;
+  reason = s.reason;
+  behind = s.behind;
+  unwinds = s.unwinds;
+  asked_is = s.asked_is;
+}
+
+pub tied_body : (v u w : Passing) (q : Request) (reached : Reached) → Opened v q u → RanTo u reached w → Tied v q reached w
+tied_body v u w q (Reaches.Returned values) o t = inl (ended_by v u w q (Exits.Return values) o t)
+tied_body v u w q (Reaches.Raised e) o t = (t.0, t.1, ended_by v u w q t.0 o t.2)
+tied_body v u w q Reaches.Stopped o t = ⊎_elim (λ none. inl (no_end v u w q o none)) (λ l. inr (stopped_inside v u w q o l.0 l.1)) t
+tied_body v u w q (Reaches.Refused rule line version) o t = absurd t
+tied_body v u w q Reaches.Misuse o t = absurd t
+
+done_last : (u w : Passing) (trace : Trace) (k : Passing) (scalars : List ℤ) (exit : Exit) (next : Next) → Went u trace k → Asked k (Complete scalars exit) (Answers.Done next) w → LastEnd u exit w
+done_last u w trace k scalars exit next p x = record {
+  asked = trace;
+  scalars = scalars;
+  next = next;
+  own_is = x.own_is ∙ ((λ i. p.own i ++ Asks (ap (λ (z : Passing). z.actor) p.same i) (Complete scalars exit) (Words.Done next) ∷ [])
+      ∙ append_assoc u.own (noted u.actor trace) (Asks u.actor (Complete scalars exit) (Words.Done next) ∷ []));
+  later = starts_both u.seen k.seen w.seen p.later (asked_later k w _ _ x);
+}
+
+by_exit : (u w : Passing) (exit : Exit) (t : LastEnd u exit w) → (exit ≡ Exits.Stopped → StopAt u t.asked) → RanTo u (reached_by exit) w
+by_exit u w (Exits.Return values) t f = t
+by_exit u w (Exits.Raise e) t f = (Exits.Raise e, refl, t)
+by_exit u w Exits.Overrun t f = (Exits.Overrun, refl, t)
+by_exit u w Exits.Stopped t f = inr (t, f refl)
+
+-- the answer to its end stops the call
+stopped_end : (u w : Passing) (trace : Trace) (k : Passing) (scalars : List ℤ) (exit : Exit) (d : Answer) → Went u trace k → Asked k (Complete scalars exit) d w → stops_at (Complete scalars exit) d ≡ true → NoEnd u w
+stopped_end u w trace k scalars exit d p x e = record { asked = trace; body = k; went = p; scalars = scalars; exit = exit; reason = inr (d, x, e) }
+
+ran_end : (u w : Passing) (trace : Trace) (k : Passing) (scalars : List ℤ) (exit : Exit) (d : Answer) → Went u trace k → Asked k (Complete scalars exit) d w → of_end d ≡ true → (exit ≡ Exits.Stopped → StopsIn trace) → RanTo u (end_of d exit) w
+unfolding done_last
+ran_end u w trace k scalars exit (Answers.Done next) p x e f = by_exit u w exit (done_last u w trace k scalars exit next p x) (λ is. stop_at u trace k (f is) p.steps)
+ran_end u w trace k scalars exit Answers.Misuse p x e f = inl (stopped_end u w trace k scalars exit Answers.Misuse p x refl)
+ran_end u w trace k scalars exit Answers.Full p x e f = inl (stopped_end u w trace k scalars exit Answers.Full p x refl)
+ran_end u w trace k scalars exit (Answers.Refused rule line version) p x e f = absurd (cc e)
+ran_end u w trace k scalars exit (Answers.Accepted value) p x e f = absurd (cc e)
+ran_end u w trace k scalars exit (Answers.Woken s) p x e f = absurd (cc e)
+ran_end u w trace k scalars exit (Answers.Started s) p x e f = absurd (cc e)
+ran_end u w trace k scalars exit Answers.Queued p x e f = absurd (cc e)
+ran_end u w trace k scalars exit Answers.Suspended p x e f = absurd (cc e)
+ran_end u w trace k scalars exit Answers.Delayed p x e f = absurd (cc e)
+ran_end u w trace k scalars exit Answers.Halted p x e f = absurd (cc e)
+ran_end u w trace k scalars exit Answers.Busy p x e f = absurd (cc e)
+ran_end u w trace k scalars exit Answers.Waiting p x e f = absurd (cc e)
+ran_end u w trace k scalars exit Answers.Unattached p x e f = absurd (cc e)
+ran_end u w trace k scalars exit Answers.BadLine p x e f = absurd (cc e)
+ran_end u w trace k scalars exit Answers.OutOfMemory p x e f = absurd (cc e)
+
+ended_so : (v w : Passing) (scalars : List ℤ) (exit : Exit) (d : Answer) → Asked v (Complete scalars exit) d w → of_end d ≡ true
+ended_so v w scalars exit d x = ap of_end x.due_is ∙ end_gets (history_at (capacity_in v.about) x.at) v.actor scalars exit
+
+pub ran_to : (u w : Passing) (bodies : Option UnitBodies) (b : Begun) (scalars arguments : List ℤ) (reached : Reached) → RanOn bodies u b scalars arguments reached w → RanTo u reached w
+ran_to u w bodies b scalars arguments reached n =
+    ⊎_elim (λ wore. subst (λ (z : Reached). RanTo u z w) (sym wore.1) (inl (record { asked = n.trace; body = n.body; went = n.went; scalars = n.ended.scalars; exit = n.ended.exit; reason = inl wore.0 })))
+    (λ t. subst (λ (z : Reached). RanTo u z w) (sym t.3) (ran_end u w n.trace n.body n.ended.scalars n.ended.exit t.0 n.went t.1 (ended_so n.body w n.ended.scalars n.ended.exit t.0 t.1) (runs_stop bodies b scalars arguments n.trace n.ended n.runs))) n.end_is

@@ -1,0 +1,81 @@
+//! The control gives out ports.
+
+ghost use Rattle.std.specs.Prelude.{◌≡◌, ◌<◌, ◌∷◌, false, IfOk, IfErr, OnErr, vec_len};
+ghost use Rattle.std.specs.Vec.{vec_capacity};
+ghost use Rattle.rv_port.specs.Events.{catalogue_of};
+ghost use Rattle.rv_port.specs.Actors.{is_performer};
+ghost use Rattle.rv_port.specs.Ports.{pass_of};
+ghost use Rattle.rv_port.specs.Controls.{listed, IsGiven, IsPortFault};
+
+use super::{Control, PORT_ACTS};
+use crate::fault::PortFault;
+use crate::port::Port;
+use rv_shape::actor::Actor;
+use rv_shape::catalogue::Catalogue;
+use rv_turn::SplitFault;
+use std::sync::Arc;
+
+// Whether a number stands in a list.
+fn is_listed(numbers: &[u64], number: u64) -> bool
+    ensures { result ≡ listed number numbers.now }
+{
+    match numbers.split_first() {
+        None => false,
+        Some((first, rest)) => *first == number || is_listed(rest, number),
+    }
+}
+
+// Puts a number before the others, where there is room.
+fn put_first(numbers: &mut Vec<u64>, number: u64)
+    requires { vec_len numbers.old < vec_capacity numbers.old }
+    ensures { numbers.new.items ≡ number ∷ numbers.old.items }
+{
+    match numbers.insert(0, number) {
+        Ok(()) => {}
+        Err(_) => unreachable!(),
+    }
+}
+
+// Whether the actor may have a port.
+fn is_performer(catalogue: &Catalogue, actor: u64) -> bool
+    ensures { result ≡ is_performer catalogue.now actor }
+{
+    match catalogue.who(actor as usize) {
+        Actor::Operator | Actor::Nobody => false,
+        Actor::Line(line) => catalogue.handler(line).is_some(),
+        Actor::Task(_, _) => true,
+    }
+}
+
+impl Control {
+    /// The port of an actor that may have one, and had none.
+    pub fn port(&mut self, actor: u64) -> Result<Port, PortFault>
+        ensures ok { IfOk result (λ p. IsGiven self.old actor self.new (pass_of p) × (p.refused ≡ false)) }
+        ensures fault { IfErr result (λ f. IsPortFault actor self.old.given (catalogue_of self.old.seen) self.old.left f) }
+        ensures err { OnErr result (self.new ≡ self.old) }
+    {
+        if is_listed(&self.given, actor) {
+            return Err(PortFault::Taken);
+        }
+        if !is_performer(&self.catalogue, actor) {
+            return Err(PortFault::NoActor);
+        }
+        if self.pass.left() < PORT_ACTS {
+            return Err(PortFault::Worn);
+        }
+        let Ok(bell) = Arc::try_clone(&self.bell) else {
+            return Err(PortFault::NoMemory);
+        };
+        if self.given.reserve(1).is_err() {
+            return Err(PortFault::NoMemory);
+        }
+        match self.pass.split(actor, PORT_ACTS) {
+            Ok(pass) => {
+                put_first(&mut self.given, actor);
+                Ok(Port::new(pass, bell))
+            }
+            Err(SplitFault::TooFew) => Err(PortFault::Worn),
+            Err(SplitFault::NoMemory) => Err(PortFault::NoMemory),
+        }
+    }
+}
