@@ -45,24 +45,6 @@ struct Letter<J: Room> {
 /// Where a letter is left.
 type Inbox<J> = Mutex<Option<Letter<J>>>;
 
-/// A port on its way to its thread.
-#[derive(Drop)]
-struct Caller<J: Room> {
-    port: Port,
-    of: PhantomData<J>,
-    ghost here: { port.turn ≡ J.turn },
-}
-
-/// A control on its way to its thread, with the lines that are to come.
-#[derive(Drop)]
-struct Operator<J: Room> {
-    control: Control,
-    first: Line,
-    second: Line,
-    of: PhantomData<J>,
-    ghost here: { control.turn ≡ J.turn },
-}
-
 // A line by which nobody may call anything.
 fn deny(alloc: Global) -> Option<Line> {
     read_line(alloc, "deny * * *").ok()
@@ -87,23 +69,23 @@ fn letter_of<J: Room>(control: &mut Control) -> Letter<J>
     }
 }
 
-// Waits until the port was answered, takes the grant away, and leaves a letter.
+// Waits until the port was answered, takes the grant away, and leaves a letter. None where there was no memory.
 fn revoke_and_write<J: Room, R: Wait>(
     rt: &R,
+    alloc: Global,
     flag: &Flag,
     inbox: &Inbox<J>,
-    operator: Operator<J>,
-) {
-    let Operator {
-        mut control,
-        first,
-        second,
-        ..
-    } = operator;
+    control: &mut Control,
+) -> Option<()>
+    requires { control.old.turn ≡ J.turn }
+{
+    let first = deny(alloc)?;
+    let second = deny(alloc)?;
     flag.wait_for(1);
-    revoke(rt, &mut control, first, second);
-    *inbox.lock(rt) = Some(letter_of::<J>(&mut control));
+    revoke(rt, control, first, second);
+    *inbox.lock(rt) = Some(letter_of::<J>(control));
     flag.put_up();
+    Some(())
 }
 
 // Waits for a letter, is told what stands in it, and calls Get. None where no letter came.
@@ -126,9 +108,10 @@ fn call_twice<J: Room, R: Wait>(
     rt: &R,
     flag: &Flag,
     inbox: &Inbox<J>,
-    caller: Caller<J>,
-) -> Option<(Reached, Reached)> {
-    let Caller { mut port, .. } = caller;
+    mut port: Port,
+) -> Option<(Reached, Reached)>
+    requires { port.turn ≡ J.turn }
+{
     let granted = get(rt, &mut port);
     flag.put_up();
     let later = call_told::<J, R>(rt, flag, inbox, &mut port)?;
@@ -138,41 +121,25 @@ fn call_twice<J: Room, R: Wait>(
 // Both at once, each in a thread of its own.
 fn play_at_once<J: Room + Send + Sync, R: Threads + Wait + Sync>(
     rt: &R,
-    operator: Operator<J>,
-    caller: Caller<J>,
-) -> Option<(Reached, Reached)> {
+    alloc: Global,
+    control: &mut Control,
+    port: Port,
+) -> Option<(Reached, Reached)>
+    requires { (control.old.turn ≡ J.turn) × (port.turn ≡ J.turn) }
+{
     let inbox: Inbox<J> = Mutex::new(None);
     let flag = Flag::new();
     let (inbox, flag) = (&inbox, &flag);
-    let (reached, ()) = thread::join(
+    let (reached, _) = thread::join(
         rt,
-        move || call_twice::<J, R>(rt, flag, inbox, caller),
-        move || revoke_and_write::<J, R>(rt, flag, inbox, operator),
+        move ||
+            requires { port.turn ≡ J.turn }
+        { call_twice::<J, R>(rt, flag, inbox, port) },
+        move ||
+            requires { control.now.turn ≡ J.turn }
+        { revoke_and_write::<J, R>(rt, alloc, flag, inbox, control) },
     );
     reached
-}
-
-// The same of a control and its port.
-fn play<J: Room + Send + Sync, R: Threads + Wait + Sync>(
-    rt: &R,
-    control: Control,
-    port: Port,
-    first: Line,
-    second: Line,
-) -> Option<(Reached, Reached)>
-    requires { (control.turn ≡ J.turn) × (port.turn ≡ J.turn) }
-{
-    let operator = Operator {
-        control,
-        first,
-        second,
-        of: PhantomData,
-    };
-    let caller = Caller {
-        port,
-        of: PhantomData,
-    };
-    play_at_once::<J, R>(rt, operator, caller)
 }
 
 // What the calls came to, in words.
@@ -188,10 +155,8 @@ fn text_of(alloc: Global, granted: &Reached, later: &Reached) -> Result<String, 
 /// away and leaves a letter. The port is told what stands in it, and its next call is judged by the
 /// list of version 4.
 pub fn told_revoke<R: Threads + Wait + Sync>(rt: &R, alloc: Global) -> Option<String> {
-    let first = deny(alloc)?;
-    let second = deny(alloc)?;
     let mut control = empty(alloc)?;
     let port = given(rt, alloc, &mut control)?;
-    let (granted, later) = play::<Brand, R>(rt, control, port, first, second)?;
+    let (granted, later) = play_at_once::<Brand, R>(rt, alloc, &mut control, port)?;
     text_of(alloc, &granted, &later).ok()
 }

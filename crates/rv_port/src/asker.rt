@@ -52,15 +52,20 @@ fn told_of(answer: &Answer) -> Answer
 }
 
 impl Asker {
-    /// Asks once. Err where no act is left. A reply is large, so it is handed on whole.
-    pub(crate) fn try_ask<R: Wait>(&mut self, rt: &R, request: &Request) -> Result<Reply, Worn>
+    /// Asks once. Err where no act is left. A reply is large, so it is put where it is read.
+    pub(crate) fn try_ask<R: Wait>(
+        &mut self,
+        rt: &R,
+        request: &Request,
+        asked: &mut Result<Reply, Worn>,
+    )
         ensures reply { MatchResult
-            result
+            asked.new
             (λ reply. ReplyOnce self.old.pass request.now reply self.new.pass)
             (λ _. IsWorn self.old.pass self.new.pass) }
         ensures mark { self.new.is_refused ≡ self.old.is_refused }
     {
-        self.pass.act(rt, Ask::Step(*request))
+        *asked = self.pass.act(rt, Ask::Step(*request));
     }
 
     /// Rings for those who may go on after what was asked.
@@ -71,19 +76,24 @@ impl Asker {
     }
 
     /// Asks, and again at each ring while the answer is Busy or Waiting. Err where no act is left.
-    pub(crate) fn insist<R: Wait>(&mut self, rt: &R, request: &Request) -> Result<Reply, Worn>
+    pub(crate) fn insist<R: Wait>(
+        &mut self,
+        rt: &R,
+        request: &Request,
+        asked: &mut Result<Reply, Worn>,
+    )
         ensures reply { MatchResult
-            result
+            asked.new
             (λ reply. ReplyTo self.old.pass request.now reply self.new.pass)
             (λ _. WoreOut self.old.pass request.now self.new.pass) }
         ensures mark { self.new.is_refused ≡ self.old.is_refused }
     {
         for _ in rt.forever() {
             let rings = self.bell.rings();
-            let asked = self.try_ask(rt, request);
-            if !must_wait(&asked) {
-                self.tell(&asked);
-                return asked;
+            self.try_ask(rt, request, asked);
+            if !must_wait(asked) {
+                self.tell(asked);
+                return;
             }
             self.bell.wait_past(rt, rings);
         }
@@ -96,7 +106,8 @@ impl Asker {
         ensures told { IsTold result }
         ensures mark { self.new.is_refused ≡ self.old.is_refused }
     {
-        let asked = self.insist(rt, request);
+        let mut asked = Err(Worn);
+        self.insist(rt, request, &mut asked);
         let Ok(reply) = &asked else {
             return Answer::Full;
         };

@@ -191,6 +191,9 @@ impl Counted for Behind {
     ghost adds = { adds };
 
     fn act(&mut self, actor: u64, ask: Ask) -> Reply {
+        if let Ask::Step(request) = &ask {
+            return self.step(actor, request);
+        }
         if !is_change(&ask) {
             return self.answer(actor, &ask);
         }

@@ -11,6 +11,7 @@ use crate::event::{Begun, Lent, Reply};
 use crate::gate::Gate;
 use crate::reached::{Reached, arguments_of, ended_as, is_wait, plain, reads, waited_for};
 use rv_event::entry::{Answer, Request};
+use rv_turn::Worn;
 use rv_value::{Args, Scalars};
 use std::sync::Wait;
 
@@ -31,7 +32,8 @@ impl Asker {
         let ended = run(rt, self, lent, begun, scalars, args);
         gate.pass(rt);
         let request = Request::Complete(ended.scalars, ended.exit);
-        let asked = self.insist(rt, &request);
+        let mut asked = Err(Worn);
+        self.insist(rt, &request, &mut asked);
         let Ok(reply) = &asked else {
             return Reached::Stopped;
         };
@@ -45,7 +47,8 @@ impl Asker {
     fn resume<R: Wait, G: Gate<R>>(&mut self, rt: &R, gate: &G, request: &Request) -> Reached
         ensures { Waited self.old.pass self.old.is_refused request.now result self.new.pass self.new.is_refused }
     {
-        let asked = self.insist(rt, &Request::Resume);
+        let mut asked = Err(Worn);
+        self.insist(rt, &Request::Resume, &mut asked);
         let Ok(reply) = &asked else {
             return Reached::Stopped;
         };
@@ -66,7 +69,8 @@ impl Asker {
         ensures { Performed self.old.pass self.old.is_refused request.now result self.new.pass self.new.is_refused }
     {
         let rings = self.bell.rings();
-        let asked = self.insist(rt, request);
+        let mut asked = Err(Worn);
+        self.insist(rt, request, &mut asked);
         let Ok(reply) = &asked else {
             return Reached::Stopped;
         };

@@ -8,6 +8,7 @@ use super::{Finished, Port};
 use crate::asker::Asker;
 use rv_event::entry::Request;
 use rv_shape::actor::FIRST_TASK;
+use rv_turn::Worn;
 use std::sync::Wait;
 
 // Asks for the end of a task, and tells those who wait; a line has none.
@@ -18,7 +19,8 @@ fn ask_quit<R: Wait>(rt: &R, asker: &mut Asker)
     if asker.pass.actor() < FIRST_TASK as u64 {
         return;
     }
-    let asked = asker.try_ask(rt, &Request::Quit);
+    let mut asked = Err(Worn);
+    asker.try_ask(rt, &Request::Quit, &mut asked);
     asker.tell(&asked);
 }
 

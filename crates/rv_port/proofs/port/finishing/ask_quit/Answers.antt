@@ -5,4 +5,4 @@ use Rattle.rv_port.proofs.port.finishing.ask_quit.Goals as goal
 
 pub returns-clause-quits : goal.returns-clause-quits
 returns-clause-quits g c = let is : nat_lt c.args.asker.now.pass.actor 11 ≡ false = search (rules, tests) in
-    quit_by (nat_lt c.args.asker.now.pass.actor 11) c.args.asker.now.pass c.try_ask-asked.new.self.pass c.try_ask-asked.result is c.try_ask-asked.ensures.reply
+    quit_by (nat_lt c.args.asker.now.pass.actor 11) c.args.asker.now.pass c.try_ask.new.self.pass c.try_ask.new.asked is c.try_ask.ensures.reply
