@@ -1,6 +1,7 @@
 //! What each actor is at, and what all owe by it.
 
 ghost use Rattle.std.specs.Prelude.{◌≡◌, ◌<◌, ◌≤◌, ◌+◌, ◌*◌, length, replicate, slice_index_or, slice_set, IfOk};
+ghost use Rattle.rv_event.specs.Lent.{whole};
 ghost use Rattle.rv_event.specs.declared.entry.Stance.{Stance};
 ghost use Rattle.rv_history.specs.Owed as owed;
 ghost use Rattle.rv_present.specs.Known.{AreBelow};
@@ -9,7 +10,7 @@ ghost use Rattle.rv_present.specs.Stances.{due_at, dues_by, noted};
 ghost use Rattle.rv_shape.specs.Catalogue.{first_task};
 
 use crate::stacks::MOST_ACTORS;
-use rv_event::entry::{Entry, Next, Stance};
+use rv_event::entry::{EntryRef, Next, Stance};
 use rv_event::one_entry::{next_of, stance_of};
 use rv_shape::actor::FIRST_TASK;
 use std::alloc::{AllocError, Global};
@@ -194,10 +195,10 @@ impl Stances {
     }
 
     /// What all would owe after one more entry.
-    pub fn dues_after(&self, entry: &Entry) -> usize
-        ensures { result ≡ dues_by (noted entry.now self.now.stances) self.now.actors }
+    pub fn dues_after(&self, entry: &EntryRef) -> usize
+        ensures { result ≡ dues_by (noted (whole entry.now) self.now.stances) self.now.actors }
     {
-        let Entry::Asked(actor, _, _) = *entry else {
+        let EntryRef::Asked(actor, _, _) = *entry else {
             return self.dues;
         };
         match next_of(entry) {
@@ -227,11 +228,11 @@ impl Stances {
     }
 
     /// One more entry.
-    pub fn note(&mut self, entry: &Entry)
-        requires { AreBelow most_actors entry.now }
-        ensures { self.new ≡ record self.old { stances = noted entry.now self.old.stances } }
+    pub fn note(&mut self, entry: &EntryRef)
+        requires { AreBelow most_actors (whole entry.now) }
+        ensures { self.new ≡ record self.old { stances = noted (whole entry.now) self.old.stances } }
     {
-        let Entry::Asked(actor, _, _) = *entry else {
+        let EntryRef::Asked(actor, _, _) = *entry else {
             return;
         };
         self.set(actor, stance_of(entry));
