@@ -4,9 +4,9 @@ ghost use Rattle.std.specs.Prelude.{◌≡◌, ◌<◌, ◌≤◌, ◌+◌, ◌*
 ghost use Rattle.rv_event.specs.Lent.{whole};
 ghost use Rattle.rv_event.specs.declared.entry.Stance.{Stance};
 ghost use Rattle.rv_history.specs.Owed as owed;
-ghost use Rattle.rv_present.specs.Known.{AreBelow};
+ghost use Rattle.rv_present.specs.Known.{AreBelow, IsNamedBelow};
 ghost use Rattle.rv_present.specs.Limits.{most_actors};
-ghost use Rattle.rv_present.specs.Stances.{due_at, dues_by, noted};
+ghost use Rattle.rv_present.specs.Stances.{due_at, dues_by, noted, settled};
 ghost use Rattle.rv_shape.specs.Catalogue.{first_task};
 
 use crate::stacks::MOST_ACTORS;
@@ -68,6 +68,18 @@ fn dues_by(stances: &[Stance], actors: usize) -> usize
         dues += due_at(actor, stances[actor]);
     }
     dues
+}
+
+// What an entry does to a queue.
+fn settle(stances: &mut Vec<Stance>, next: Next)
+    requires { IsNamedBelow (length stances.old.items) next }
+    ensures { stances.new.items ≡ settled next stances.old.items }
+{
+    match next {
+        Next::Nothing => {}
+        Next::HandedTo(actor) => stances[actor] = Stance::HandedOver,
+        Next::Dropped(actor, line) => stances[actor] = Stance::DroppedBy(line),
+    }
 }
 
 /// What each actor that there can be is at, how many actors there are, and what these owe by it.
@@ -218,28 +230,17 @@ impl Stances {
         }
     }
 
-    // One is at something else from now on.
-    fn set(&mut self, actor: usize, stance: Stance)
-        requires { actor < most_actors }
-        ensures { self.new ≡ record self.old { stances = slice_set self.old.stances actor stance } }
-    {
-        self.dues = self.dues_with(actor, stance);
-        self.items[actor] = stance;
-    }
-
-    /// One more entry.
-    pub fn note(&mut self, entry: &EntryRef)
-        requires { AreBelow most_actors (whole entry.now) }
+    /// One more entry, and what all owe after it.
+    pub fn note(&mut self, entry: &EntryRef, dues: usize)
+        requires below { AreBelow most_actors (whole entry.now) }
+        requires dues { dues ≡ dues_by (noted (whole entry.now) self.old.stances) self.old.actors }
         ensures { self.new ≡ record self.old { stances = noted (whole entry.now) self.old.stances } }
     {
         let EntryRef::Asked(actor, _, _) = *entry else {
             return;
         };
-        self.set(actor, stance_of(entry));
-        match next_of(entry) {
-            Next::Nothing => {}
-            Next::HandedTo(named) => self.set(named, Stance::HandedOver),
-            Next::Dropped(named, line) => self.set(named, Stance::DroppedBy(line)),
-        }
+        self.items[actor] = stance_of(entry);
+        settle(&mut self.items, next_of(entry));
+        self.dues = dues;
     }
 }

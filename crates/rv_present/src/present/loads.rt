@@ -51,6 +51,7 @@ impl Present {
             IsPresent catalogue.now (Entry.Load ∷ before) self.new }
     {
         self.grow(catalogue);
-        self.note(catalogue, &EntryRef::Load);
+        let change = self.change_of(catalogue, &EntryRef::Load);
+        self.note(catalogue, &EntryRef::Load, &change);
     }
 }
