@@ -98,6 +98,7 @@ fn suspension_facts(
 }
 
 /// What is decided of a call, or of a fired line, of this operation of the object.
+#[inline(always)]
 pub fn due_call(
     seen: &Seen,
     actor: usize,
