@@ -87,6 +87,7 @@ impl Bodies {
     }
 
     /// What an entry ends and starts.
+    #[inline(always)]
     pub fn note(&mut self, catalogue: &Catalogue, entry: &EntryRef, start: Option<Body>)
         requires { (bodies : List Body) × IsReady catalogue.now bodies self.old (whole entry.now) start }
         ensures same { (length self.new.stacks ≡ length self.old.stacks) ×
@@ -147,6 +148,7 @@ impl Bodies {
     }
 
     // What an entry ends.
+    #[inline(always)]
     fn end_if(&mut self, catalogue: &Catalogue, entry: &EntryRef)
         requires { (bodies : List Body) × IsBodies catalogue.now bodies self.old }
         ensures same { (length self.new.stacks ≡ length self.old.stacks) ×

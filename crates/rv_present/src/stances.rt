@@ -207,6 +207,7 @@ impl Stances {
     }
 
     /// What all would owe after one more entry.
+    #[inline(always)]
     pub fn dues_after(&self, entry: &EntryRef) -> usize
         ensures { result ≡ dues_by (noted (whole entry.now) self.now.stances) self.now.actors }
     {
