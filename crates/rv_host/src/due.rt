@@ -4,10 +4,10 @@ pub mod calls;
 pub mod ends;
 pub mod waits;
 
-ghost use Rattle.std.specs.Prelude.{◌≡◌, ◌-◌, option_copied, true};
+ghost use Rattle.std.specs.Prelude.{◌≡◌, ◌-◌, true};
 ghost use Rattle.rv_history.specs.Due as due;
 ghost use Rattle.rv_history.specs.Fitting as fitting;
-ghost use Rattle.rv_host.specs.Decisions.{answer_with, scalars_for, scalars_of_body, scalars_of_called};
+ghost use Rattle.rv_host.specs.Decisions.{answer_with, or_none, scalars_for, scalars_of_body, scalars_of_called};
 ghost use Rattle.rv_host.specs.Seen.{IsSeen, history_of};
 ghost use Rattle.rv_shape.specs.Catalogue as catalogues;
 
@@ -67,37 +67,37 @@ pub fn decision_due(seen: &Seen, actor: usize, request: &Request) -> Decision
     decide_fitting(seen, actor, request)
 }
 
-// The scalars of the object that a line's handler is of.
-fn scalars_fired<'a>(seen: &Seen<'a>, line: usize) -> Option<&'a Scalars>
+// The scalars of the object that a line's handler is of, none where it has no handler.
+fn scalars_fired<'a>(seen: &Seen<'a>, line: usize) -> &'a Scalars
     requires { IsSeen seen.now }
-    ensures { option_copied result ≡ scalars_of_called (history_of seen.now) (catalogues.handler seen.now.catalogue.now line) }
+    ensures { result.now ≡ or_none (scalars_of_called (history_of seen.now) (catalogues.handler seen.now.catalogue.now line)) }
 {
     match seen.catalogue.handler(line) {
-        Some((object, _)) => Some(scalars_of(seen, object)),
-        None => None,
+        Some((object, _)) => scalars_of(seen, object),
+        None => seen.present.no_scalars(),
     }
 }
 
-// The scalars of the object of a body.
-fn scalars_held<'a>(seen: &Seen<'a>, body: Option<Body>) -> Option<&'a Scalars>
+// The scalars of the object of a body, none where there is no body.
+fn scalars_held<'a>(seen: &Seen<'a>, body: Option<Body>) -> &'a Scalars
     requires { IsSeen seen.now }
-    ensures { option_copied result ≡ scalars_of_body (history_of seen.now) body }
+    ensures { result.now ≡ or_none (scalars_of_body (history_of seen.now) body) }
 {
     match body {
-        Some(body) => Some(scalars_of(seen, body.object)),
-        None => None,
+        Some(body) => scalars_of(seen, body.object),
+        None => seen.present.no_scalars(),
     }
 }
 
-/// The scalars that go with the answer to a request, if it starts a body or wakes its actor in one.
-pub fn scalars_due<'a>(seen: &Seen<'a>, actor: usize, request: &Request) -> Option<&'a Scalars>
+/// The scalars that go with the answer to a request, if it starts a body or wakes its actor in one; else none.
+pub fn scalars_due<'a>(seen: &Seen<'a>, actor: usize, request: &Request) -> &'a Scalars
     requires { IsSeen seen.now }
-    ensures { option_copied result ≡ scalars_for (history_of seen.now) actor request.now }
+    ensures { result.now ≡ or_none (scalars_for (history_of seen.now) actor request.now) }
 {
     match request {
-        Request::Call(object, _, _) => Some(scalars_of(seen, *object)),
+        Request::Call(object, _, _) => scalars_of(seen, *object),
         Request::Fire => scalars_fired(seen, actor.saturating_sub(1)),
         Request::Resume => scalars_held(seen, innermost(seen, actor)),
-        _ => None,
+        _ => seen.present.no_scalars(),
     }
 }

@@ -36,6 +36,7 @@ use Rattle.rv_history.proofs.Waits.{legal_waits}
 use Rattle.rv_present.specs.Bodies.{CanStart}
 use Rattle.rv_present.specs.Known.{AreBelow, IsNamedBelow}
 use Rattle.rv_present.specs.Present.{IsNext}
+use Rattle.rv_present.specs.declared.present.Change.{Change}
 use Rattle.rv_present.specs.declared.present.Present.{Present}
 use Rattle.rv_present.proofs.Starting.{starts_free}
 
@@ -150,10 +151,10 @@ few_changes (Asked a r w ∷ past) = omega (arith, few_changes past)
 few_changes (Load ∷ past) = omega (arith, few_changes past)
 few_changes (ListChange ∷ past) = omega (arith, few_changes past)
 
-pub next_known : {shapes : List Shape} {e : Entry} {p : Present} → IsNext shapes e p → AreBelow 75 e
+pub next_known : {shapes : List Shape} {e : Entry} {x : Change} {p : Present} → IsNext shapes e x p → AreBelow 75 e
 next_known {shapes} {e} k = known_below k.capacity k.past shapes k.lists e 75 k.legal k.is_present.few_actors
 
-pub next_few : {shapes : List Shape} {e : Entry} {p : Present} (k : IsNext shapes e p) → length k.past ≤ 1048575
+pub next_few : {shapes : List Shape} {e : Entry} {x : Change} {p : Present} (k : IsNext shapes e x p) → length k.past ≤ 1048575
 next_few {shapes} {e} k = omega (arith, few_bodies k.capacity (e ∷ k.past) shapes k.lists k.legal k.least, k.most)
 
 -- entries and all that is owed

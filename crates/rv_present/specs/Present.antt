@@ -4,12 +4,13 @@ use Rattle.rv_access.specs.Words.{Words}
 use Rattle.rv_object.specs.Actions.{ObjectView}
 use Rattle.rv_shape.specs.Catalogue.{all_objects}
 use Rattle.rv_shape.specs.Shape.{Shape}
-use Rattle.rv_event.specs.Past.{under_way, scalars}
+use Rattle.rv_event.specs.Past.{started, under_way, scalars}
 use Rattle.rv_event.specs.declared.entry.Entry.{Entry}
 use Rattle.rv_event.specs.declared.entry.Entry.TheVariants.{Load}
 use Rattle.rv_history.specs.History.{History}
 use Rattle.rv_history.specs.Legal.{IsLegal}
-use Rattle.rv_history.specs.Owed.{actors}
+use Rattle.rv_history.specs.Owed.{actors, dues, each}
+use Rattle.rv_present.specs.declared.present.Change.{Change}
 use Rattle.rv_present.specs.declared.present.Present.{Present}
 use Rattle.rv_present.specs.Bodies.{IsBodies}
 use Rattle.rv_present.specs.Calls.{AreCalls}
@@ -53,8 +54,13 @@ pub record Stands (shapes : List Shape) (present : Present) : Type 0 where
   pub most : capacity ≤ 2 ^ 20
   pub is_present : IsPresent shapes past present
 
--- and the entry is the next of a legal history
-pub record IsNext (shapes : List Shape) (entry : Entry) (present : Present) : Type 0 where
+-- what an entry changes after these: the body that it starts, and what all owe once it stands, beside their open starts
+pub record IsChange (shapes : List Shape) (past : List Entry) (entry : Entry) (change : Change) : Type 0 where
+  pub start_is : change.start ≡ started shapes past entry
+  pub dues_are : change.dues ≡ each (actors shapes) (dues (entry ∷ past))
+
+-- and the entry, which changes this, is the next of a legal history
+pub record IsNext (shapes : List Shape) (entry : Entry) (change : Change) (present : Present) : Type 0 where
   pub capacity : ℕ
   pub past : List Entry
   pub lists : List (List Words)
@@ -62,6 +68,7 @@ pub record IsNext (shapes : List Shape) (entry : Entry) (present : Present) : Ty
   pub least : 1 ≤ capacity
   pub most : capacity ≤ 2 ^ 20
   pub is_present : IsPresent shapes past present
+  pub is_change : IsChange shapes past entry change
 
 -- it is the present before the last of these units was loaded
 pub record IsBeforeLoad (shapes : List Shape) (present : Present) : Type 0 where

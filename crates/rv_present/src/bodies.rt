@@ -1,6 +1,7 @@
 //! The bodies under way, by actor and by object.
 
 ghost use Rattle.std.specs.Prelude.{◌≡◌, ◌<◌, ◌≤◌, ◌+◌, ◌∷◌, ◌^◌, List, [], ℕ, Some, false, length, slice_index_or, replicate, IfOk};
+ghost use Rattle.rv_event.specs.Lent.{whole};
 ghost use Rattle.rv_event.specs.Past as past;
 ghost use Rattle.rv_event.specs.declared.entry.Body.{Body};
 ghost use Rattle.rv_object.specs.Actions.{excludes};
@@ -13,7 +14,7 @@ ghost use Rattle.rv_shape.specs.Shape.{Shape};
 
 use crate::objects::Objects;
 use crate::stacks::Stacks;
-use rv_event::entry::{Body, Entry, Request};
+use rv_event::entry::{Body, EntryRef, Request};
 use rv_object::Action;
 use rv_prio::Held;
 use rv_shape::catalogue::Catalogue;
@@ -86,15 +87,16 @@ impl Bodies {
     }
 
     /// What an entry ends and starts.
-    pub fn note(&mut self, catalogue: &Catalogue, entry: &Entry, start: Option<Body>)
-        requires { (bodies : List Body) × IsReady catalogue.now bodies self.old entry.now start }
+    #[inline(always)]
+    pub fn note(&mut self, catalogue: &Catalogue, entry: &EntryRef, start: Option<Body>)
+        requires { (bodies : List Body) × IsReady catalogue.now bodies self.old (whole entry.now) start }
         ensures same { (length self.new.stacks ≡ length self.old.stacks) ×
             (length self.new.objects ≡ length self.old.objects) }
         ensures kept { (bodies : List Body) → IsBodies catalogue.now bodies self.old →
-            IsBodies catalogue.now (past.begun start (past.closed (past.ended entry.now) bodies)) self.new }
+            IsBodies catalogue.now (past.begun start (past.closed (past.ended (whole entry.now)) bodies)) self.new }
         ensures scalars { (bodies : List Body) → IsBodies catalogue.now bodies self.old → (o : ℕ) →
             (slice_index_or self.new.objects o idle).scalars
-            ≡ left_after catalogue.now o bodies entry.now (slice_index_or self.old.objects o idle).scalars }
+            ≡ left_after catalogue.now o bodies (whole entry.now) (slice_index_or self.old.objects o idle).scalars }
     {
         self.end_if(catalogue, entry);
         if let Some(body) = start {
@@ -146,18 +148,19 @@ impl Bodies {
     }
 
     // What an entry ends.
-    fn end_if(&mut self, catalogue: &Catalogue, entry: &Entry)
+    #[inline(always)]
+    fn end_if(&mut self, catalogue: &Catalogue, entry: &EntryRef)
         requires { (bodies : List Body) × IsBodies catalogue.now bodies self.old }
         ensures same { (length self.new.stacks ≡ length self.old.stacks) ×
             (length self.new.objects ≡ length self.old.objects) }
         ensures kept { (bodies : List Body) → IsBodies catalogue.now bodies self.old →
-            IsBodies catalogue.now (past.closed (past.ended entry.now) bodies) self.new }
+            IsBodies catalogue.now (past.closed (past.ended (whole entry.now)) bodies) self.new }
         ensures scalars { (bodies : List Body) → IsBodies catalogue.now bodies self.old → (o : ℕ) →
             (slice_index_or self.new.objects o idle).scalars
-            ≡ left_after catalogue.now o bodies entry.now (slice_index_or self.old.objects o idle).scalars }
+            ≡ left_after catalogue.now o bodies (whole entry.now) (slice_index_or self.old.objects o idle).scalars }
     {
         match entry {
-            Entry::Asked(actor, Request::Complete(given, _), _) => {
+            EntryRef::Asked(actor, Request::Complete(given, _), _) => {
                 self.end(catalogue, *actor, given);
             }
             _ => {}

@@ -1,13 +1,14 @@
 //! The last queued call of each actor.
 
 ghost use Rattle.std.specs.Prelude.{◌≡◌, ◌<◌, List, ◌∷◌, length, replicate, slice_index_or, None, IfOk};
+ghost use Rattle.rv_event.specs.Lent.{whole};
 ghost use Rattle.rv_event.specs.declared.entry.Entry.{Entry};
 ghost use Rattle.rv_present.specs.Calls.{AreCalls};
 ghost use Rattle.rv_present.specs.Known.{AreBelow};
 ghost use Rattle.rv_present.specs.Limits.{most_actors};
 
 use crate::stacks::MOST_ACTORS;
-use rv_event::entry::{Body, Entry};
+use rv_event::entry::{Body, EntryRef};
 use rv_event::one_entry::queued_by;
 use std::alloc::{AllocError, Global};
 use std::marker::Model;
@@ -54,11 +55,11 @@ impl Calls {
 
     /// One more entry.
     #[tactic(auto, using(crate::proofs::Calling::calls_kept, crate::proofs::Calling::calls_set))]
-    pub fn note(&mut self, entry: &Entry)
-        requires { AreBelow (length self.old) entry.now }
+    pub fn note(&mut self, entry: &EntryRef)
+        requires { AreBelow (length self.old) (whole entry.now) }
         ensures same { length self.new ≡ length self.old }
         ensures kept { (past : List Entry) → AreCalls past self.old →
-            AreCalls (entry.now ∷ past) self.new }
+            AreCalls (whole entry.now ∷ past) self.new }
     {
         if let Some(call) = queued_by(entry) {
             self.items[call.actor] = Some(call);

@@ -1,13 +1,14 @@
 //! How many entries and list changes there were, the clock, and whether the host is halted.
 
 ghost use Rattle.std.specs.Prelude.{◌≡◌, ◌<◌, ◌≤◌, ◌+◌, ◌^◌, ◌∷◌, List, false};
+ghost use Rattle.rv_event.specs.Lent.{whole};
 ghost use Rattle.rv_event.specs.Past as past;
 ghost use Rattle.rv_event.specs.declared.entry.Entry.{Entry};
 ghost use Rattle.rv_history.specs.History.{changes};
 ghost use Rattle.rv_history.specs.Owed as owed;
 ghost use Rattle.rv_present.specs.Counts.{AreCounts};
 
-use rv_event::entry::Entry;
+use rv_event::entry::EntryRef;
 use rv_event::one_entry::{halts, is_list, ticks};
 
 /// What entries come to that concern no actor and no object.
@@ -37,18 +38,18 @@ impl Counts {
     }
 
     // Whether the host is halted once an entry more stands.
-    fn is_halted_with(&self, entry: &Entry) -> bool
+    fn is_halted_with(&self, entry: &EntryRef) -> bool
         ensures { (before : List Entry) → self.now.is_halted ≡ past.halted before →
-            result ≡ past.halted (entry.now ∷ before) }
+            result ≡ past.halted (whole entry.now ∷ before) }
     {
         halts(entry) || self.is_halted
     }
 
     // How many list changes there are once an entry more stands.
-    fn version_with(&self, entry: &Entry) -> usize
+    fn version_with(&self, entry: &EntryRef) -> usize
         requires { self.now.version < 2 ^ 32 }
         ensures { (before : List Entry) → self.now.version ≡ changes before →
-            result ≡ changes (entry.now ∷ before) }
+            result ≡ changes (whole entry.now ∷ before) }
     {
         if is_list(entry) {
             self.version + 1
@@ -66,21 +67,21 @@ impl Counts {
     }
 
     /// 1 for the halt, while there is none, once an entry more stands.
-    pub fn halt_due_with(&self, entry: &Entry) -> usize
+    pub fn halt_due_with(&self, entry: &EntryRef) -> usize
         ensures value { (before : List Entry) → self.now.is_halted ≡ past.halted before →
-            result ≡ owed.halt_due (past.halted (entry.now ∷ before)) }
+            result ≡ owed.halt_due (past.halted (whole entry.now ∷ before)) }
         ensures within { result ≤ 1 }
     {
         if self.is_halted_with(entry) { 0 } else { 1 }
     }
 
     /// One more entry.
-    pub fn note(&mut self, entry: &Entry)
+    pub fn note(&mut self, entry: &EntryRef)
         requires entries { self.old.entries < 2 ^ 32 }
         requires version { self.old.version < 2 ^ 32 }
-        requires clock { self.old.clock + past.ticks entry.now < 2 ^ 63 }
+        requires clock { self.old.clock + past.ticks (whole entry.now) < 2 ^ 63 }
         ensures { (before : List Entry) → AreCounts before self.old →
-            AreCounts (entry.now ∷ before) self.new }
+            AreCounts (whole entry.now ∷ before) self.new }
     {
         self.is_halted = self.is_halted_with(entry);
         self.version = self.version_with(entry);

@@ -12,4 +12,4 @@ mod present;
 mod stacks;
 mod stances;
 
-pub use present::Present;
+pub use present::{Change, Present};

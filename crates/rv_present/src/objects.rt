@@ -61,6 +61,13 @@ impl Objects {
         }
     }
 
+    /// What a number past the last has: nobody in it, and no scalars.
+    pub fn none(&self) -> &Object
+        ensures { result.now ≡ idle }
+    {
+        &self.none
+    }
+
     /// A body starts.
     pub fn begin(&mut self, object: usize, action: Action)
         requires known { object < length self.old }

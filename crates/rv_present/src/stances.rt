@@ -1,15 +1,16 @@
 //! What each actor is at, and what all owe by it.
 
 ghost use Rattle.std.specs.Prelude.{◌≡◌, ◌<◌, ◌≤◌, ◌+◌, ◌*◌, length, replicate, slice_index_or, slice_set, IfOk};
+ghost use Rattle.rv_event.specs.Lent.{whole};
 ghost use Rattle.rv_event.specs.declared.entry.Stance.{Stance};
 ghost use Rattle.rv_history.specs.Owed as owed;
-ghost use Rattle.rv_present.specs.Known.{AreBelow};
+ghost use Rattle.rv_present.specs.Known.{AreBelow, IsNamedBelow};
 ghost use Rattle.rv_present.specs.Limits.{most_actors};
-ghost use Rattle.rv_present.specs.Stances.{due_at, dues_by, noted};
+ghost use Rattle.rv_present.specs.Stances.{due_at, dues_by, noted, settled};
 ghost use Rattle.rv_shape.specs.Catalogue.{first_task};
 
 use crate::stacks::MOST_ACTORS;
-use rv_event::entry::{Entry, Next, Stance};
+use rv_event::entry::{EntryRef, Next, Stance};
 use rv_event::one_entry::{next_of, stance_of};
 use rv_shape::actor::FIRST_TASK;
 use std::alloc::{AllocError, Global};
@@ -67,6 +68,18 @@ fn dues_by(stances: &[Stance], actors: usize) -> usize
         dues += due_at(actor, stances[actor]);
     }
     dues
+}
+
+// What an entry does to a queue.
+fn settle(stances: &mut Vec<Stance>, next: Next)
+    requires { IsNamedBelow (length stances.old.items) next }
+    ensures { stances.new.items ≡ settled next stances.old.items }
+{
+    match next {
+        Next::Nothing => {}
+        Next::HandedTo(actor) => stances[actor] = Stance::HandedOver,
+        Next::Dropped(actor, line) => stances[actor] = Stance::DroppedBy(line),
+    }
 }
 
 /// What each actor that there can be is at, how many actors there are, and what these owe by it.
@@ -194,10 +207,11 @@ impl Stances {
     }
 
     /// What all would owe after one more entry.
-    pub fn dues_after(&self, entry: &Entry) -> usize
-        ensures { result ≡ dues_by (noted entry.now self.now.stances) self.now.actors }
+    #[inline(always)]
+    pub fn dues_after(&self, entry: &EntryRef) -> usize
+        ensures { result ≡ dues_by (noted (whole entry.now) self.now.stances) self.now.actors }
     {
-        let Entry::Asked(actor, _, _) = *entry else {
+        let EntryRef::Asked(actor, _, _) = *entry else {
             return self.dues;
         };
         match next_of(entry) {
@@ -217,28 +231,17 @@ impl Stances {
         }
     }
 
-    // One is at something else from now on.
-    fn set(&mut self, actor: usize, stance: Stance)
-        requires { actor < most_actors }
-        ensures { self.new ≡ record self.old { stances = slice_set self.old.stances actor stance } }
+    /// One more entry, and what all owe after it.
+    pub fn note(&mut self, entry: &EntryRef, dues: usize)
+        requires below { AreBelow most_actors (whole entry.now) }
+        requires dues { dues ≡ dues_by (noted (whole entry.now) self.old.stances) self.old.actors }
+        ensures { self.new ≡ record self.old { stances = noted (whole entry.now) self.old.stances } }
     {
-        self.dues = self.dues_with(actor, stance);
-        self.items[actor] = stance;
-    }
-
-    /// One more entry.
-    pub fn note(&mut self, entry: &Entry)
-        requires { AreBelow most_actors entry.now }
-        ensures { self.new ≡ record self.old { stances = noted entry.now self.old.stances } }
-    {
-        let Entry::Asked(actor, _, _) = *entry else {
+        let EntryRef::Asked(actor, _, _) = *entry else {
             return;
         };
-        self.set(actor, stance_of(entry));
-        match next_of(entry) {
-            Next::Nothing => {}
-            Next::HandedTo(named) => self.set(named, Stance::HandedOver),
-            Next::Dropped(named, line) => self.set(named, Stance::DroppedBy(line)),
-        }
+        self.items[actor] = stance_of(entry);
+        settle(&mut self.items, next_of(entry));
+        self.dues = dues;
     }
 }

@@ -1,6 +1,7 @@
 //! The queues of the objects' entries, each as the entries so far leave it (9.5.3, D.7).
 
 ghost use Rattle.std.specs.Prelude.{◌≡◌, ◌<◌, [], ◌∷◌, ℕ, List, Some, replicate, slice_get, IfOk};
+ghost use Rattle.rv_event.specs.Lent.{whole};
 ghost use Rattle.rv_event.specs.Past as past;
 ghost use Rattle.rv_event.specs.declared.entry.Body.{Body as Call};
 ghost use Rattle.rv_event.specs.declared.entry.Entry.{Entry};
@@ -9,7 +10,7 @@ ghost use Rattle.rv_history.specs.History.{History};
 ghost use Rattle.rv_waiting.specs.Limits.{most_places};
 ghost use Rattle.rv_waiting.specs.Queues.{AreQueues, CanJoin, Moves, callers, joined_by, left_by};
 
-use rv_event::entry::{Body, Entry};
+use rv_event::entry::{Body, EntryRef};
 use rv_event::one_entry::queued_by;
 use rv_queue::EntryQueue;
 use rv_shape::catalogue::MOST_OBJECTS;
@@ -93,10 +94,10 @@ impl Queues {
 
     /// One entry more, with the queued call of the actor that it names as handed the object or
     /// dropped: that one leaves. A call that the entry queues joins.
-    pub fn note(&mut self, entry: &Entry, named: Option<Body>)
-        requires { (h : History) × Moves h entry.now named self.old }
-        ensures { (h : History) → Moves h entry.now named self.old →
-            AreQueues (entry.now ∷ h.past) self.new }
+    pub fn note(&mut self, entry: &EntryRef, named: Option<Body>)
+        requires { (h : History) × Moves h (whole entry.now) named self.old }
+        ensures { (h : History) → Moves h (whole entry.now) named self.old →
+            AreQueues (whole entry.now ∷ h.past) self.new }
     {
         let _ = &self.items;
         self.leave(named);

@@ -1,6 +1,7 @@
 //! The suspension objects, each as the entries so far leave it (D.10).
 
 ghost use Rattle.std.specs.Prelude.{◌≡◌, ◌<◌, [], ◌∷◌, ℕ, List, Some, None, replicate, IfOk};
+ghost use Rattle.rv_event.specs.Lent.{whole};
 ghost use Rattle.rv_event.specs.Past as past;
 ghost use Rattle.rv_event.specs.declared.entry.Entry.{Entry};
 ghost use Rattle.rv_event.specs.declared.entry.Stance.{Stance};
@@ -12,7 +13,7 @@ ghost use Rattle.rv_waiting.specs.Limits.{most_places};
 ghost use Rattle.rv_waiting.specs.Suspensions as suspensions;
 ghost use Rattle.rv_waiting.specs.Suspensions.{AreSuspensions, suspension_after, touch_of_deed};
 
-use rv_event::entry::{Entry, Recorded, Request};
+use rv_event::entry::{EntryRef, Recorded, Request};
 use rv_shape::catalogue::MOST_OBJECTS;
 use rv_shape::suspension::SuspensionOperation;
 use rv_suspend::SuspensionObject;
@@ -59,24 +60,24 @@ fn accepted(operation: Option<SuspensionOperation>) -> Deed
 }
 
 // What a call does.
-fn deed_of(entry: &Entry) -> Deed
-    ensures { touch_of_deed result ≡ past.touch_of entry.now }
+fn deed_of(entry: &EntryRef) -> Deed
+    ensures { touch_of_deed result ≡ past.touch_of (whole entry.now) }
 {
     match *entry {
-        Entry::Asked(actor, Request::Call(_, _, _), Recorded::Suspended) => Deed::Waits(actor),
-        Entry::Asked(_, Request::Call(_, operation, _), Recorded::Accepted(_)) => {
-            accepted(operation_at(operation))
+        EntryRef::Asked(actor, Request::Call(_, _, _), Recorded::Suspended) => Deed::Waits(actor),
+        EntryRef::Asked(_, Request::Call(_, operation, _), Recorded::Accepted(_)) => {
+            accepted(operation_at(*operation))
         }
         _ => Deed::Untouched,
     }
 }
 
 // The object that an entry is a call of.
-fn called(entry: &Entry) -> Option<usize>
-    ensures { result ≡ suspensions.called entry.now }
+fn called(entry: &EntryRef) -> Option<usize>
+    ensures { result ≡ suspensions.called (whole entry.now) }
 {
     match *entry {
-        Entry::Asked(_, Request::Call(object, _, _), _) => Some(object),
+        EntryRef::Asked(_, Request::Call(object, _, _), _) => Some(*object),
         _ => None,
     }
 }
@@ -182,10 +183,10 @@ impl Suspensions {
     }
 
     /// One entry more.
-    pub fn note(&mut self, entry: &Entry)
-        requires { (object : ℕ) → suspensions.called entry.now ≡ Some object → object < most_places }
+    pub fn note(&mut self, entry: &EntryRef)
+        requires { (object : ℕ) → suspensions.called (whole entry.now) ≡ Some object → object < most_places }
         ensures { (history : List Entry) → AreSuspensions history self.old →
-            AreSuspensions (entry.now ∷ history) self.new }
+            AreSuspensions (whole entry.now ∷ history) self.new }
     {
         if let Some(object) = called(entry) {
             carry_out(&mut self.items[object], deed_of(entry));

@@ -2,6 +2,7 @@
 //! dropped.
 
 ghost use Rattle.std.specs.Prelude.{◌≡◌, ◌<◌, [], ◌∷◌, ℕ, List, Some, replicate, slice_set, IfOk};
+ghost use Rattle.rv_event.specs.Lent.{whole};
 ghost use Rattle.rv_event.specs.Past as past;
 ghost use Rattle.rv_event.specs.declared.entry.Entry.{Entry};
 ghost use Rattle.rv_history.specs.History.{changes};
@@ -9,7 +10,7 @@ ghost use Rattle.rv_waiting.specs.Limits.{most_actors};
 ghost use Rattle.rv_waiting.specs.Versions as versions;
 ghost use Rattle.rv_waiting.specs.Versions.{AreVersions, version_then, with_version};
 
-use rv_event::entry::Entry;
+use rv_event::entry::EntryRef;
 use rv_event::one_entry::named;
 use rv_shape::actor::FIRST_TASK;
 use rv_shape::catalogue::MOST_TASKS;
@@ -17,11 +18,11 @@ use std::alloc::{AllocError, Global};
 use std::marker::Model;
 
 // The actor whose request an entry is.
-fn asker(entry: &Entry) -> Option<usize>
-    ensures { result ≡ versions.asker entry.now }
+fn asker(entry: &EntryRef) -> Option<usize>
+    ensures { result ≡ versions.asker (whole entry.now) }
 {
     match *entry {
-        Entry::Asked(actor, _, _) => Some(actor),
+        EntryRef::Asked(actor, _, _) => Some(actor),
         _ => None,
     }
 }
@@ -77,12 +78,12 @@ impl Versions {
     }
 
     /// One entry more, at this version.
-    pub fn note(&mut self, entry: &Entry, version: usize)
-        requires own { (actor : ℕ) → versions.asker entry.now ≡ Some actor → actor < most_actors }
-        requires named { (actor : ℕ) → past.named_in (past.next_of entry.now) ≡ Some actor →
+    pub fn note(&mut self, entry: &EntryRef, version: usize)
+        requires own { (actor : ℕ) → versions.asker (whole entry.now) ≡ Some actor → actor < most_actors }
+        requires named { (actor : ℕ) → past.named_in (past.next_of (whole entry.now)) ≡ Some actor →
             actor < most_actors }
         ensures { (history : List Entry) → version ≡ changes history →
-            AreVersions history self.old → AreVersions (entry.now ∷ history) self.new }
+            AreVersions history self.old → AreVersions (whole entry.now ∷ history) self.new }
     {
         let _ = &self.items;
         self.tell(asker(entry), version);

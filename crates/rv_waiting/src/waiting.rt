@@ -1,6 +1,7 @@
 //! All that is kept of those that wait.
 
 ghost use Rattle.std.specs.Prelude.{◌≡◌, [], ◌∷◌, List, slice_get, IfOk};
+ghost use Rattle.rv_event.specs.Lent.{whole};
 ghost use Rattle.rv_event.specs.Past as past;
 ghost use Rattle.rv_event.specs.declared.entry.Entry.{Entry};
 ghost use Rattle.rv_event.specs.declared.entry.Stance.{Stance};
@@ -14,7 +15,7 @@ ghost use Rattle.rv_waiting.specs.Waiting.{IsNext, IsWaiting};
 use crate::queues::Queues;
 use crate::suspensions::Suspensions;
 use crate::versions::Versions;
-use rv_event::entry::{Body, Entry};
+use rv_event::entry::{Body, EntryRef};
 use std::alloc::{AllocError, Global};
 use std::marker::Model;
 
@@ -111,10 +112,10 @@ impl Waiting {
 
     /// One entry more, with the last queued call of the actor that it names as handed the object or
     /// dropped, and the version of the list before it.
-    pub fn note(&mut self, entry: &Entry, named: Option<Body>, version: usize)
-        requires { (h : History) × IsNext h entry.now named version self.old }
-        ensures { (h : History) → IsNext h entry.now named version self.old →
-            IsWaiting (entry.now ∷ h.past) self.new }
+    pub fn note(&mut self, entry: &EntryRef, named: Option<Body>, version: usize)
+        requires { (h : History) × IsNext h (whole entry.now) named version self.old }
+        ensures { (h : History) → IsNext h (whole entry.now) named version self.old →
+            IsWaiting (whole entry.now ∷ h.past) self.new }
     {
         self.queues.note(entry, named);
         self.suspensions.note(entry);

@@ -41,7 +41,7 @@ fn starts(entry: &Entry, actor: usize) -> bool {
 
 // Whether an entry ends a body of an actor.
 fn ends(entry: &Entry, actor: usize) -> bool {
-    match ended(entry) {
+    match ended(&entry.lend()) {
         Some(by) => by == actor,
         None => false,
     }

@@ -1,5 +1,6 @@
 //! The answers to calls and to fired lines.
 
+use crate::scan::answers::answer_by;
 use crate::scan::bodies::{count_held, is_holding};
 use crate::scan::exclusion::{is_busy, is_open, scalars_of};
 use crate::scan::grants::decide_call;
@@ -88,11 +89,11 @@ pub fn answer_call(seen: &Seen, asked: Asked) -> Answer {
                 decided,
                 &scalars,
             );
-            facts.decision().answer(Some(&scalars))
+            answer_by(&facts.decision(), &scalars)
         }
         Callee::Suspension(_, _, operation) => {
             let facts = suspension_facts(seen, asked, operation, decided);
-            facts.decision(operation).answer(None)
+            answer_by(&facts.decision(operation), &Scalars::new())
         }
     }
 }

@@ -7,7 +7,7 @@ use std::alloc::{AllocError, Global};
 /// The call of an actor's last queued entry.
 pub fn last_queued(entries: &[Entry], actor: usize) -> Option<Body> {
     for entry in entries.iter().rev() {
-        if let Some(call) = queued_by(entry) {
+        if let Some(call) = queued_by(&entry.lend()) {
             if call.actor == actor {
                 return Some(call);
             }
@@ -19,7 +19,7 @@ pub fn last_queued(entries: &[Entry], actor: usize) -> Option<Body> {
 // Whether one of the later entries names a queued caller, as handed the object or dropped.
 fn is_named(later: &[Entry], actor: usize) -> bool {
     for entry in later {
-        if let Some(caller) = named(entry) {
+        if let Some(caller) = named(&entry.lend()) {
             if caller == actor {
                 return true;
             }
@@ -32,7 +32,7 @@ fn is_named(later: &[Entry], actor: usize) -> bool {
 pub fn waiting(alloc: Global, entries: &[Entry]) -> Result<Vec<Body>, AllocError> {
     let mut calls = Vec::new(alloc);
     for i in 0..entries.len() {
-        if let Some(call) = queued_by(&entries[i]) {
+        if let Some(call) = queued_by(&entries[i].lend()) {
             if !is_named(&entries[i + 1..], call.actor) {
                 calls.push(call)?;
             }

@@ -5,13 +5,13 @@ use rv_event::one_entry::{next_of, stance_of};
 
 /// At what an entry leaves an actor, if it says anything of it.
 pub fn said(entry: &Entry, actor: usize) -> Option<Stance> {
-    match next_of(entry) {
+    match next_of(&entry.lend()) {
         Next::HandedTo(named) if named == actor => return Some(Stance::HandedOver),
         Next::Dropped(named, line) if named == actor => return Some(Stance::DroppedBy(line)),
         _ => {}
     }
     match *entry {
-        Entry::Asked(by, _, _) if by == actor => Some(stance_of(entry)),
+        Entry::Asked(by, _, _) if by == actor => Some(stance_of(&entry.lend())),
         _ => None,
     }
 }

@@ -7,7 +7,7 @@ use rv_event::one_entry::{halts, is_list, ticks};
 pub fn clock(entries: &[Entry]) -> i64 {
     let mut clock = 0u64;
     for entry in entries {
-        clock = clock.saturating_add(ticks(entry));
+        clock = clock.saturating_add(ticks(&entry.lend()));
     }
     i64::try_from(clock).unwrap_or(i64::MAX)
 }
@@ -15,7 +15,7 @@ pub fn clock(entries: &[Entry]) -> i64 {
 /// Whether there is an accepted halt.
 pub fn is_halted(entries: &[Entry]) -> bool {
     for entry in entries {
-        if halts(entry) {
+        if halts(&entry.lend()) {
             return true;
         }
     }
@@ -26,7 +26,7 @@ pub fn is_halted(entries: &[Entry]) -> bool {
 pub fn count_lists(entries: &[Entry]) -> usize {
     let mut count = 0usize;
     for entry in entries {
-        if is_list(entry) {
+        if is_list(&entry.lend()) {
             count = count.saturating_add(1);
         }
     }

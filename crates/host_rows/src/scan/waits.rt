@@ -1,5 +1,6 @@
 //! The answers to delays and to resumes (9.5.3, 9.6, D.9, D.10).
 
+use crate::scan::answers::answer_by;
 use crate::scan::bodies::{count_held, innermost};
 use crate::scan::exclusion::scalars_of;
 use crate::scan::seen::Seen;
@@ -17,7 +18,7 @@ pub fn answer_delay(seen: &Seen, actor: usize, until: i64) -> Answer {
         blocking: 0 < count_held(seen.bodies.as_slice(), actor),
         over: until <= clock(seen.entries),
     };
-    facts.decision().answer(None)
+    answer_by(&facts.decision(), &Scalars::new())
 }
 
 // The scalars of the object that an actor was handed.
@@ -50,5 +51,5 @@ pub fn answer_resume(seen: &Seen, actor: usize) -> Answer {
         }
         Stance::WaitsUntil(until) => ResumeFacts::Waits(until <= clock(seen.entries), halted),
     };
-    facts.decision().answer(Some(&handed(seen, actor)))
+    answer_by(&facts.decision(), &handed(seen, actor))
 }

@@ -31,6 +31,7 @@ use rv_shape::suspension::SuspensionOperation;
 
 // What is asked of a call of an operation of this kind, or of a fired line, of an object with this
 // ceiling: by whom, whether it is a call, and whether it might block.
+#[inline(always)]
 fn call_facts(
     seen: &Seen,
     asked: (usize, bool, bool),
@@ -98,6 +99,7 @@ fn suspension_facts(
 }
 
 /// What is decided of a call, or of a fired line, of this operation of the object.
+#[inline(always)]
 pub fn due_call(
     seen: &Seen,
     actor: usize,

@@ -11,7 +11,7 @@ ghost use Rattle.rv_present.specs.Present.{IsBeforeLoad, IsPresent, Stands};
 
 use crate::new_objects::put_after;
 use crate::present::Present;
-use rv_event::entry::Entry;
+use rv_event::entry::{Entry, EntryRef};
 use rv_shape::actor::FIRST_TASK;
 use rv_shape::catalogue::Catalogue;
 use rv_shape::shape::UnitShape;
@@ -28,7 +28,7 @@ impl Present {
     {
         let actors = self.stances.actors() + shape.tasks().len();
         let dues = self.stances.dues_of(actors);
-        let halt = self.counts.halt_due_with(&Entry::Load);
+        let halt = self.counts.halt_due_with(&EntryRef::Load);
         self.counts.entries + 1 + (self.bodies.number + dues + halt)
     }
 
@@ -51,6 +51,7 @@ impl Present {
             IsPresent catalogue.now (Entry.Load ∷ before) self.new }
     {
         self.grow(catalogue);
-        self.note(catalogue, &Entry::Load);
+        let change = self.change_of(catalogue, &EntryRef::Load);
+        self.note(catalogue, &EntryRef::Load, &change);
     }
 }

@@ -4,6 +4,7 @@ use Rattle.rv_present.proofs.present.Present.note_load.Goals as goal
 pub note-requires : goal.note-requires
 note-requires c =
     let k = c.requires in
+    let grown = load_grown k.capacity k.past c.args.catalogue.now k.lists c.args.self.now c.grow.new.self k.legal k.is_present c.grow.ensures in
     record {
       capacity = k.capacity;
       past = k.past;
@@ -11,9 +12,11 @@ note-requires c =
       legal = k.legal;
       least = k.least;
       most = k.most;
-      is_present = load_grown k.capacity k.past c.args.catalogue.now k.lists c.args.self.now c.grow.new.self k.legal k.is_present c.grow.ensures;
+      is_present = grown;
+      is_change = c.change_of-change.ensures k.past grown;
     }
 
 pub returns : goal.returns
 returns c = λ capacity past lists legal was.
-    c.note.ensures past (load_grown capacity past c.args.catalogue.now lists c.args.self.now c.grow.new.self legal was c.grow.ensures)
+    let grown = load_grown capacity past c.args.catalogue.now lists c.args.self.now c.grow.new.self legal was c.grow.ensures in
+    c.note.ensures past grown (c.change_of-change.ensures past grown)
