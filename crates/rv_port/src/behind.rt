@@ -98,7 +98,8 @@ impl Behind {
     {
         let host = &mut *self.host;
         host.replays();
-        let answer = host.step(actor as usize, *request);
+        let mut answer = Answer::Full;
+        host.put_answer(actor as usize, request, &mut answer);
         let begun = begun_by(host.catalogue(), actor as usize, request, &answer);
         let lent = self.lend(&answer);
         Reply::Answered(answer, begun, lent)
