@@ -16,6 +16,7 @@ use rv_exec::bodies::Bodies;
 use rv_host::host::Host;
 use rv_host::pages::Page;
 use rv_turn::Counted;
+use rv_value::Scalars;
 use std::alloc::{AllocFailed, Global};
 use std::sync::Arc;
 
@@ -98,7 +99,8 @@ impl Behind {
     {
         let host = &mut *self.host;
         host.replays();
-        let mut answer = Answer::Full;
+        // What stands here is overwritten; a start is, in its place.
+        let mut answer = Answer::Started(Scalars::new());
         host.put_answer(actor as usize, request, &mut answer);
         let begun = begun_by(host.catalogue(), actor as usize, request, &answer);
         let lent = self.lend(&answer);

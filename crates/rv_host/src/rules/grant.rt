@@ -50,6 +50,7 @@ fn subject(seen: &Seen, actor: usize) -> Option<usize>
 }
 
 // What the list in force decides of a call by an actor, of what there is at these numbers.
+#[inline(always)]
 fn looked_up(seen: &Seen, actor: usize, object: usize, operation: usize) -> (bool, usize)
     requires { IsSeen seen.now }
     ensures granted { result.0 ≡ granted_at (force (history_of seen.now)) (Some (subjects.subject (history_of seen.now) actor)) (catalogues.target seen.now.catalogue.now object operation) }
@@ -63,6 +64,7 @@ fn looked_up(seen: &Seen, actor: usize, object: usize, operation: usize) -> (boo
 
 /// Whether the list in force grants a call to an actor, of what there is at these numbers, and by which
 /// line.
+#[inline(always)]
 pub fn decide_call(
     seen: &Seen,
     actor: usize,
