@@ -9,7 +9,7 @@ ghost use Rattle.rv_exec.specs.Bodies.{bodies_view, units_of};
 ghost use Rattle.rv_port.specs.Events.{log_in};
 ghost use Rattle.rv_port.specs.Acting.{Does, changes, limits_of};
 
-use crate::event::{Ask, Begun, Event, Lent, Limits, Reply};
+use crate::event::{Ask, Event, Lent, Limits, Reply};
 use begun::{NONE, begun_by};
 use rv_event::entry::{Answer, Request};
 use rv_exec::bodies::Bodies;
@@ -91,24 +91,20 @@ impl Behind {
         Reply::Bodies(self.share())
     }
 
-    // A request. Its reply is large, so it is put in place.
+    // A request.
     #[tactic(auto, using(crate::proofs::Doing::brought_step))]
-    fn step(
-        &mut self,
-        actor: u64,
-        request: &Request,
-        answer: &mut Answer,
-        begun: &mut Begun,
-        lent: &mut Option<Lent>,
-    )
-        ensures does { Does (limits_of self.old.host.value) (log_in self.old.host.value (arc_value self.old.bodies)) actor (Ask.Step request.now) (Reply.Answered answer.new begun.new lent.new) (log_in self.new.host.value (arc_value self.new.bodies)) }
+    fn step(&mut self, actor: u64, request: &Request) -> Reply
+        ensures does { Does (limits_of self.old.host.value) (log_in self.old.host.value (arc_value self.old.bodies)) actor (Ask.Step request.now) result (log_in self.new.host.value (arc_value self.new.bodies)) }
         ensures about { self.new.host.value.capacity ≡ self.old.host.value.capacity }
     {
         let host = &mut *self.host;
         host.replays();
-        host.put_answer(actor as usize, request, answer);
-        *begun = begun_by(host.catalogue(), actor as usize, request, answer);
-        *lent = self.lend(answer);
+        // What stands here is overwritten; a start is, in its place.
+        let mut answer = Answer::Started(Scalars::new());
+        host.put_answer(actor as usize, request, &mut answer);
+        let begun = begun_by(host.catalogue(), actor as usize, request, &answer);
+        let lent = self.lend(&answer);
+        Reply::Answered(answer, begun, lent)
     }
 
     // A page.
@@ -125,14 +121,14 @@ impl Behind {
         }
     }
 
-    // What any actor may ask beside a request.
+    // What any actor may ask. A request is large, so it isn't moved.
     fn answer(&mut self, actor: u64, ask: &Ask) -> Reply
-        requires changes { changes ask.now ≡ false }
-        requires step { (request : Request) → ask.now ≡ Ask.Step request → ⊥ }
+        requires { changes ask.now ≡ false }
         ensures does { Does (limits_of self.old.host.value) (log_in self.old.host.value (arc_value self.old.bodies)) actor ask.now result (log_in self.new.host.value (arc_value self.new.bodies)) }
         ensures about { self.new.host.value.capacity ≡ self.old.host.value.capacity }
     {
         match ask {
+            Ask::Step(request) => self.step(actor, request),
             Ask::Read(from) => self.read(actor, *from),
             Ask::Bodies => self.give_bodies(actor),
             _ => unreachable!(),
@@ -171,22 +167,6 @@ impl Behind {
         let _ = ask;
         Reply::Answered(Answer::Misuse, NONE, None)
     }
-
-    // What is asked beside requests.
-    fn other(&mut self, actor: u64, ask: Ask) -> Reply
-        requires { (request : Request) → ask ≡ Ask.Step request → ⊥ }
-        ensures does { Does (limits_of self.old.host.value) (log_in self.old.host.value (arc_value self.old.bodies)) actor ask result (log_in self.new.host.value (arc_value self.new.bodies)) }
-        ensures about { self.new.host.value.capacity ≡ self.old.host.value.capacity }
-    {
-        if !is_change(&ask) {
-            return self.answer(actor, &ask);
-        }
-        if actor == 0 {
-            self.operate(ask)
-        } else {
-            self.refuse(actor, &ask)
-        }
-    }
 }
 
 impl Counted for Behind {
@@ -214,16 +194,17 @@ impl Counted for Behind {
     ghost adds = { adds };
 
     fn act(&mut self, actor: u64, ask: Ask) -> Reply {
-        // A start's scalars are put in its place; any other reply is put over it.
-        let mut reply = Reply::Answered(Answer::Started(Scalars::new()), NONE, None);
         if let Ask::Step(request) = &ask {
-            if let Reply::Answered(answer, begun, lent) = &mut reply {
-                self.step(actor, request, answer, begun, lent);
-            }
-        } else {
-            reply = self.other(actor, ask);
+            return self.step(actor, request);
         }
-        reply
+        if !is_change(&ask) {
+            return self.answer(actor, &ask);
+        }
+        if actor == 0 {
+            self.operate(ask)
+        } else {
+            self.refuse(actor, &ask)
+        }
     }
 
     #[tactic(auto, using(crate::proofs::Zips::length_log))]
