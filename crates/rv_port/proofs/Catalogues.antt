@@ -1,11 +1,10 @@
 -- The catalogue is that of the operator's own events.
-use Rattle.std.proofs.Common.{◌≡◌, ℕ, ◌+◌, Bool, true, false, eqb, List, [], ◌∷◌, ◌++◌, reverse, if◌then◌else◌, ap, sym, refl, ◌∙◌}
-use Rattle.std.specs.Prelude.{◌-◌, is_some, Option, Some, None}
+use Rattle.std.proofs.Common.{◌≡◌, ℕ, Bool, true, false, eqb, List, [], ◌∷◌, ◌++◌, reverse, if◌then◌else◌, ap, sym, refl, ◌∙◌}
+use Rattle.std.specs.Prelude.{is_some, Option, Some, None}
 use Rattle.std.proofs.lemmas.List.{reverse-append, append-nil}
 use Rattle.atomic_table.specs.Seated.{TableId}
 use Rattle.rv_access.specs.Words.{Words}
 use Rattle.rv_shape.specs.Shape.{Shape}
-use Rattle.rv_event.specs.declared.entry.Entry.TheVariants.{Load}
 use Rattle.rv_history.specs.Legal.{Legal}
 use Rattle.rv_history.specs.History.{History}
 use Rattle.rv_turn.specs.Histories.{mine}
@@ -17,8 +16,7 @@ use Rattle.rv_event.specs.declared.entry.Recorded.{Recorded}
 use Rattle.rv_history.specs.History.{force}
 use Rattle.rv_history.specs.Lists.{Change, Whole, Append, Remove, Replace, changed}
 use Rattle.rv_code.specs.declared.body.UnitBodies.{UnitBodies}
-use Rattle.rv_exec.specs.declared.bodies.Bodies.{Bodies}
-use Rattle.rv_port.specs.Events.{by, events, log_of, history_at, shapes_of, with_shape, catalogue_of}
+use Rattle.rv_port.specs.Events.{by, log_of, history_at, shapes_of, with_shape, catalogue_of}
 use Rattle.rv_port.specs.Acting.{limits_of, entered, listed as listed_to, Due, Unloaded, Changed, IfOperator}
 use Rattle.rv_port.specs.Controls.{IsControl}
 use Rattle.rv_port.specs.declared.event.Ask.{Ask}

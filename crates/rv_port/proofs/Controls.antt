@@ -1,10 +1,9 @@
 -- What the calls of a control leave.
-use Rattle.std.proofs.Common.{◌≡◌, ℕ, ◌+◌, Bool, true, false, eqb, List, [], ◌∷◌, ◌++◌, if◌then◌else◌, ap, sym, refl, ◌∙◌, ⊎_elim, inl, inr, map, length, arith, subst}
+use Rattle.std.proofs.Common.{◌≡◌, ℕ, Bool, true, false, eqb, List, [], ◌∷◌, ◌++◌, if◌then◌else◌, ap, sym, refl, ◌∙◌, ⊎_elim, inl, inr, map, length, arith, subst}
 use Rattle.std.specs.Prelude.{◌-◌, is_some, Some, Result, Ok, Err, MatchResult}
 use Rattle.rv_turn.specs.declared.pass.Worn.{Worn}
 use Rattle.atomic_table.specs.Seated.{TableId}
 use Rattle.rv_shape.specs.Shape.{Shape}
-use Rattle.rv_event.specs.declared.entry.Entry.TheVariants.{Load}
 use Rattle.rv_history.specs.Legal.{Legal}
 use Rattle.rv_history.specs.History.{History}
 use Rattle.rv_turn.specs.Histories.{mine}

@@ -1,5 +1,5 @@
 -- What a call did, from its parts.
-use Rattle.std.proofs.Common.{◌≡◌, ◌⊎◌, ℕ, ◌+◌, ◌≤◌, Bool, true, false, List, [], ◌∷◌, ◌++◌, length, Option, Some, None, refl, sym, ap, ◌∙◌, subst, inl, inr, ⊎_elim, append_assoc, append-nil, arith}
+use Rattle.std.proofs.Common.{◌≡◌, ◌+◌, Bool, true, false, List, [], ◌++◌, length, Option, Some, None, refl, sym, ap, ◌∙◌, subst, inl, inr, ⊎_elim, append_assoc, append-nil, arith}
 use Rattle.std.specs.Prelude.{ℤ, nat_lt}
 use Rattle.rv_event.specs.declared.entry.Request.{Request}
 use Rattle.rv_event.specs.declared.entry.Request.TheVariants.{Resume, Quit}
@@ -20,7 +20,7 @@ use Rattle.rv_code.specs.Bodies.{UnitBodies}
 use Rattle.rv_port.specs.declared.event.Lent.{Lent}
 use Rattle.rv_port.specs.Reaching.{arguments_of, reads, plain_of, waits_on, waited_for}
 use Rattle.rv_port.proofs.Asking.{in_vain_later, asked_later}
-use Rattle.rv_port.specs.Calls.{Wore, marked, RanOn, Resumed, Waited, Followed, Performed, QuitBy, Quits, Grown, Stays}
+use Rattle.rv_port.specs.Calls.{marked, RanOn, Resumed, Waited, Followed, Performed, QuitBy, Quits, Grown, Stays}
 use Rattle.rv_turn.specs.Prefixes.{starts_self, starts_both}
 use Rattle.rv_port.specs.declared.event.Begun.{Begun}
 

@@ -10,7 +10,6 @@ use Rattle.rv_shape.specs.Catalogue.{first_of}
 use Rattle.rv_event.specs.Past.{clock, halted, held, if_named, is_own, mode_by, next_of, or_else, released, stance, stance_of}
 use Rattle.rv_event.specs.Recorded.{recorded}
 use Rattle.rv_event.specs.declared.entry.Body.{Body}
-use Rattle.rv_event.specs.declared.entry.Rule.{Rule}
 use Rattle.rv_event.specs.declared.entry.Answer.{Answer}
 use Rattle.rv_event.specs.declared.entry.Answer.TheVariants as Answers
 use Rattle.rv_event.specs.declared.entry.Stance.{Stance}
@@ -18,7 +17,7 @@ use Rattle.rv_event.specs.declared.entry.Stance.TheVariants.{Free, InQueue, Hand
 use Rattle.rv_event.specs.declared.entry.Entry.{Entry}
 use Rattle.rv_event.specs.declared.entry.Entry.TheVariants.{Asked, Load, ListChange}
 use Rattle.rv_event.specs.declared.entry.Request.{Request}
-use Rattle.rv_event.specs.declared.entry.Request.TheVariants.{Call, Complete, Resume, DelayUntil, Clock, Fire, Quit, Tick, Halt}
+use Rattle.rv_event.specs.declared.entry.Request.TheVariants.{Call, Resume, DelayUntil}
 use Rattle.rv_event.specs.declared.entry.Recorded.{Recorded}
 use Rattle.rv_event.specs.declared.entry.Recorded.TheVariants as Words
 use Rattle.rv_event.specs.declared.entry.Next.{Next}

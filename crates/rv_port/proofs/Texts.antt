@@ -1,5 +1,5 @@
 -- The bodies that a text runs by, and what it leaves.
-use Rattle.std.proofs.Common.{◌≡◌, ℕ, Bool, ◌-◌, List, [], ◌∷◌, refl, sym, ap, ◌∙◌, subst, inl, inr, ⊎_elim, arith, append-nil}
+use Rattle.std.proofs.Common.{◌≡◌, ℕ, Bool, ◌-◌, [], ◌∷◌, refl, sym, ap, ◌∙◌, subst, inr, ⊎_elim, arith, append-nil}
 use Rattle.std.specs.Prelude.{Option}
 use Rattle.rv_event.specs.declared.entry.Exit.{Exit}
 use Rattle.rv_turn.specs.Passes.{Acted}
@@ -7,8 +7,7 @@ use Rattle.rv_port.specs.Events.{by}
 use Rattle.rv_port.specs.Acting.{Does, lent_view}
 use Rattle.rv_port.specs.Traces.{Passing, Trace, Went}
 use Rattle.rv_port.specs.Calls.{marked, Stays}
-use Rattle.rv_port.specs.Texts.{Borrows, TextRuns, TextRan}
-use Rattle.rv_port.specs.declared.event.Event.{Event}
+use Rattle.rv_port.specs.Texts.{TextRuns, TextRan}
 use Rattle.rv_port.specs.declared.event.Lent.{Lent}
 use Rattle.rv_port.specs.declared.event.Ask.{Ask}
 use Rattle.rv_port.specs.declared.event.Ask.TheVariants as Wants

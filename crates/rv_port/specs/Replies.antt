@@ -1,5 +1,5 @@
 -- What came of one request, as the reply that the turn gave. (own)
-use Rattle.std.specs.Prelude.{◌≡◌, Bool, true, false, Result, Ok, Err}
+use Rattle.std.specs.Prelude.{◌≡◌, Bool, false, Result, Ok}
 use Rattle.rv_turn.specs.declared.pass.Worn.{Worn}
 use Rattle.rv_event.specs.declared.entry.Request.{Request}
 use Rattle.rv_port.specs.declared.event.Reply.{Reply}

@@ -1,4 +1,4 @@
-use Rattle.std.proofs.Common.{◌≡◌, ◌∙◌, true, false, rules, tests, sym}
+use Rattle.std.proofs.Common.{◌≡◌, ◌∙◌, true, false, rules, tests}
 use Rattle.rv_port.specs.Replies.{is_vain}
 use Rattle.rv_port.proofs.Asking.{vain_again, settled}
 use Rattle.rv_port.proofs.asker.Asker.insist.Goals as goal
