@@ -99,7 +99,7 @@ impl Behind {
     {
         let host = &mut *self.host;
         host.replays();
-        // What stands here is overwritten; a start is, in its place.
+        // A start's scalars are put in its place; any other answer is put over it.
         let mut answer = Answer::Started(Scalars::new());
         host.put_answer(actor as usize, request, &mut answer);
         let begun = begun_by(host.catalogue(), actor as usize, request, &answer);
