@@ -34,7 +34,7 @@ pub enum Unchosen {
 }
 
 /// The version of the program, and the kit that proves and builds it.
-pub const VERSION: &str = "1.0.0 (rattle-kit-13b logic dac8208d650f15bf)";
+pub const VERSION: &str = "1.0.0 (rattle-kit-13f logic dac8208d650f15bf)";
 
 // A flag.
 fn flag<'a>(alloc: Global, name: &'a str, help: &'a str) -> Arg<'a>

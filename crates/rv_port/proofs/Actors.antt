@@ -60,18 +60,18 @@ later_entry at seen v w p t = ⊎_elim (λ x. subst (λ (l : List Event). Starts
 moved : (v w : Passing) → w.actor ≡ v.actor → StartsWith w.seen v.seen → HasHandler (catalogue_of v.seen) v.actor → HasHandler (catalogue_of w.seen) w.actor
 moved v w is p has = subst (λ (n : ℕ). HasHandler (catalogue_of w.seen) n) (sym is) (handler_later v.seen w.seen v.actor p has)
 
-pub act_handles : (v w : Passing) (ask : Ask) (answer : Result Reply Worn) → HasHandler (catalogue_of v.seen) v.actor
-    → MatchResult answer (λ r. Acted by Does v ask r w) (λ _. IsWorn v w) → HasHandler (catalogue_of w.seen) w.actor
-act_handles v w ask (Ok r) has a = moved v w (ap (λ (z : Passing). z.actor) a.same) (later_entry a.at v.seen v w a.later a.entry) has
-act_handles v w ask (Err e) has t = subst (λ (z : Passing). HasHandler (catalogue_of z.seen) z.actor) (sym t.1) has
+pub act_handles : {T : Type 0} (v w : Passing) (ask : Ask) (says : T → Reply) (answer : Result T Worn) → HasHandler (catalogue_of v.seen) v.actor
+    → MatchResult answer (λ r. Acted by Does v ask (says r) w) (λ _. IsWorn v w) → HasHandler (catalogue_of w.seen) w.actor
+act_handles v w ask says (Ok r) has a = moved v w (ap (λ (z : Passing). z.actor) a.same) (later_entry a.at v.seen v w a.later a.entry) has
+act_handles v w ask says (Err e) has t = subst (λ (z : Passing). HasHandler (catalogue_of z.seen) z.actor) (sym t.1) has
 
 pub meet_handles : (v w : Passing) (note : List Event) → HasHandler (catalogue_of v.seen) v.actor → Meets by v note w → HasHandler (catalogue_of w.seen) w.actor
 meet_handles v w note has m = moved v w (ap (λ (z : Passing). z.actor) m.same) m.earlier has
 
-pub act_owns : (v w : Passing) (ask : Ask) (answer : Result Reply Worn) → mine by v.actor v.seen ≡ v.base ++ v.own
-    → MatchResult answer (λ r. Acted by Does v ask r w) (λ _. IsWorn v w) → mine by w.actor w.seen ≡ w.base ++ w.own
-act_owns v w ask (Ok r) owns a = a.owns
-act_owns v w ask (Err e) owns t = subst (λ (z : Passing). mine by z.actor z.seen ≡ z.base ++ z.own) (sym t.1) owns
+pub act_owns : {T : Type 0} (v w : Passing) (ask : Ask) (says : T → Reply) (answer : Result T Worn) → mine by v.actor v.seen ≡ v.base ++ v.own
+    → MatchResult answer (λ r. Acted by Does v ask (says r) w) (λ _. IsWorn v w) → mine by w.actor w.seen ≡ w.base ++ w.own
+act_owns v w ask says (Ok r) owns a = a.owns
+act_owns v w ask says (Err e) owns t = subst (λ (z : Passing). mine by z.actor z.seen ≡ z.base ++ z.own) (sym t.1) owns
 
 -- who may have a port isn't the operator
 pub performer_some : (shapes : List Shape) (a : ℕ) → is_performer shapes a ≡ true → 0 < a

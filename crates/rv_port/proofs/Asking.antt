@@ -11,8 +11,7 @@ use Rattle.rv_turn.specs.Histories.{mine, StartsWith}
 use Rattle.rv_turn.specs.Passes.{Acted, IsWorn}
 use Rattle.rv_port.specs.Events.{by, history_at, catalogue_of}
 use Rattle.rv_port.specs.Acting.{entered, grown, Does, begun_by}
-use Rattle.rv_port.specs.Traces.{Passing, capacity_in, told, IsTold, asks_on, noted, noted_if, EachInVain, InVain, WoreOut, Went, Asked, Replied}
-use Rattle.rv_port.specs.Replies.{ReplyOnce, ReplyTo, is_vain}
+use Rattle.rv_port.specs.Traces.{Passing, capacity_in, told, IsTold, asks_on, noted, noted_if, EachInVain, InVain, WoreOut, Went, Asked, Replied, RepliedOnce, Settled}
 use Rattle.std.specs.Prelude.{Result, Ok, Err, MatchResult}
 use Rattle.rv_turn.specs.declared.pass.Worn.{Worn}
 use Rattle.rv_exec.specs.Asking.{stands}
@@ -23,7 +22,6 @@ use Rattle.rv_port.specs.declared.event.Event.{Event}
 use Rattle.rv_port.specs.declared.event.Event.TheVariants.{Asks, Lists}
 use Rattle.rv_port.specs.declared.event.Limits.{Limits}
 use Rattle.rv_port.specs.declared.event.Ask.TheVariants as Wants
-use Rattle.rv_port.specs.declared.event.Reply.{Reply}
 use Rattle.rv_port.specs.declared.event.Reply.TheVariants as Gives
 
 abbrev last_or : Event → List Event → Event
@@ -274,9 +272,9 @@ unfolding in_vain_none
 none_times v q = refl
 
 -- one act by a step
-pub replied_step : (v w : Passing) (q : Request) (reply : Reply) → Acted by Does v (Wants.Step q) reply w → ReplyOnce v q reply w
+replied_step : (v w : Passing) (q : Request) (r : Answer) (b : Begun) (lent : Option Lent) → Acted by Does v (Wants.Step q) (Gives.Answered r b lent) w → RepliedOnce v q r b lent w
 unfolding asked_act
-replied_step v w q (Gives.Answered r b lent) a = (
+replied_step v w q r b lent a = (
   record {
     asked = asked_act v w q r a.at a.about a.about_is a.later a.owned a.answer.0 a.answer.1.0.0 a.answer.1.0.1 a.entry a.owns a.some_left a.same;
     begun_is = a.answer.1.1;
@@ -284,9 +282,6 @@ replied_step v w q (Gives.Answered r b lent) a = (
   },
   none_times v q,
 )
-replied_step v w q (Gives.Read p) a = absurd a.answer.1
-replied_step v w q Gives.Unread a = absurd a.answer.1
-replied_step v w q (Gives.Bodies lent) a = absurd a.answer.1
 
 -- after asks that are left out
 pub replied_after : (v u w : Passing) (q : Request) (r : Answer) (b : Begun) (lent : Option Lent) → InVain v q u → Replied u q r b lent w → Replied v q r b lent w
@@ -298,35 +293,39 @@ replied_after v u w q r b lent p x = record {
 }
 
 -- one act of a port
-pub replied_act : (v w : Passing) (q : Request) (asked : Result Reply Worn) → MatchResult asked (λ reply. Acted by Does v (Wants.Step q) reply w) (λ _. IsWorn v w)
-    → MatchResult asked (λ reply. ReplyOnce v q reply w) (λ _. IsWorn v w)
-replied_act v w q (Ok reply) a = replied_step v w q reply a
-replied_act v w q (Err worn) a = a
+pub replied_act : {T : Type 0} (v w : Passing) (q : Request) (r : Answer) (b : Begun) (lent : Option Lent) (sent : Result T Worn) → MatchResult sent (λ _. Acted by Does v (Wants.Step q) (Gives.Answered r b lent) w) (λ _. IsWorn v w)
+    → MatchResult sent (λ _. RepliedOnce v q r b lent w) (λ _. IsWorn v w)
+replied_act v w q r b lent (Ok sent) a = replied_step v w q r b lent a
+replied_act v w q r b lent (Err worn) a = a
+
+-- the answer to what was asked once
+pub once_of : {T : Type 0} (u w : Passing) (p : Request) (r : Answer) (b : Begun) (lent : Option Lent) (sent : Result T Worn) (done : T) → MatchResult sent (λ _. RepliedOnce u p r b lent w) (λ _. IsWorn u w) → sent ≡ Ok done → RepliedOnce u p r b lent w
+once_of {T} u w p r b lent sent done x is = subst (λ (z : Result T Worn). MatchResult z (λ _. RepliedOnce u p r b lent w) (λ _. IsWorn u w)) is x
 
 -- the request is made again
-pub vain_again : (v u w : Passing) (q : Request) (asked : Result Reply Worn) → InVain v q u → MatchResult asked (λ reply. ReplyOnce u q reply w) (λ _. IsWorn u w) → is_vain asked ≡ true
-    → InVain v q w
-vain_again v u w q (Ok (Gives.Answered r b lent)) p x e = in_vain_more v u w q r p x.0.asked e
-vain_again v u w q (Ok (Gives.Read page)) p x e = absurd x
-vain_again v u w q (Ok Gives.Unread) p x e = absurd x
-vain_again v u w q (Ok (Gives.Bodies lent)) p x e = absurd x
-vain_again v u w q (Err worn) p x e = absurd (cc e)
+pub vain_again : {T : Type 0} (v u w : Passing) (q p : Request) (r : Answer) (b : Begun) (lent : Option Lent) (sent : Result T Worn) (done : T) → InVain v q u → p ≡ q → MatchResult sent (λ _. RepliedOnce u p r b lent w) (λ _. IsWorn u w) → sent ≡ Ok done
+    → asks_on r ≡ true → InVain v q w
+vain_again v u w q p r b lent sent done before same x is e =
+    subst (λ (z : Request). InVain v z w) same (in_vain_more v u w p r (subst (λ (z : Request). InVain v z u) (sym same) before) (once_of u w p r b lent sent done x is).0.asked e)
 
 -- the request isn't made again
-pub settled : (v u w : Passing) (q : Request) (asked : Result Reply Worn) → InVain v q u → MatchResult asked (λ reply. ReplyOnce u q reply w) (λ _. IsWorn u w) → is_vain asked ≡ false
-    → MatchResult asked (λ reply. ReplyTo v q reply w) (λ _. WoreOut v q w)
-settled v u w q (Ok (Gives.Answered r b lent)) p x e = (replied_after v u w q r b lent p x.0, e)
-settled v u w q (Ok (Gives.Read page)) p x e = absurd x
-settled v u w q (Ok Gives.Unread) p x e = absurd x
-settled v u w q (Ok (Gives.Bodies lent)) p x e = absurd x
-settled v u w q (Err worn) p x e = subst (λ (z : Passing). WoreOut v q z) (sym x.1) (p, x.0)
+pub settled : {T : Type 0} (v u w : Passing) (q p : Request) (r : Answer) (b : Begun) (lent : Option Lent) (sent : Result T Worn) (done : T) → InVain v q u → p ≡ q → MatchResult sent (λ _. RepliedOnce u p r b lent w) (λ _. IsWorn u w) → sent ≡ Ok done
+    → asks_on r ≡ false → Settled v q r b lent w
+settled v u w q p r b lent sent done before same x is e =
+    (subst (λ (z : Request). Replied v z r b lent w) same (replied_after v u w p r b lent (subst (λ (z : Request). InVain v z u) (sym same) before) (once_of u w p r b lent sent done x is).0), e)
+
+-- no act is left to make it again
+pub wore_out : (v u w : Passing) (q : Request) → InVain v q u → IsWorn u w → WoreOut v q w
+wore_out v u w q before x = subst (λ (z : Passing). WoreOut v q z) (sym x.1) (before, x.0)
 
 -- the answer that was handed on
-pub replied_of : (v w : Passing) (q : Request) (asked : Result Reply Worn) (reply : Reply) (r : Answer) (b : Begun) (lent : Option Lent)
-    → MatchResult asked (λ reply. ReplyTo v q reply w) (λ _. WoreOut v q w) → asked ≡ Ok reply → reply ≡ Gives.Answered r b lent → Replied v q r b lent w × (asks_on r ≡ false)
-replied_of v w q asked reply r b lent x is e =
-    subst (λ (z : Reply). ReplyTo v q z w) e (subst (λ (z : Result Reply Worn). MatchResult z (λ reply. ReplyTo v q reply w) (λ _. WoreOut v q w)) is x)
+pub sent_of : {T : Type 0} (v w : Passing) (q p : Request) (r : Answer) (b : Begun) (lent : Option Lent) (sent : Result T Worn) (done : T) → MatchResult sent (λ _. Settled v p r b lent w) (λ _. WoreOut v p w) → p ≡ q → sent ≡ Ok done
+    → Settled v q r b lent w
+sent_of {T} v w q p r b lent sent done x same is =
+    subst (λ (z : Request). Settled v z r b lent w) same (subst (λ (z : Result T Worn). MatchResult z (λ _. Settled v p r b lent w) (λ _. WoreOut v p w)) is x)
 
 -- no answer was
-pub worn_of : (v w : Passing) (q : Request) (asked : Result Reply Worn) (worn : Worn) → MatchResult asked (λ reply. ReplyTo v q reply w) (λ _. WoreOut v q w) → asked ≡ Err worn → WoreOut v q w
-worn_of v w q asked worn x is = subst (λ (z : Result Reply Worn). MatchResult z (λ reply. ReplyTo v q reply w) (λ _. WoreOut v q w)) is x
+pub unsent_of : {T : Type 0} (v w : Passing) (q p : Request) (r : Answer) (b : Begun) (lent : Option Lent) (sent : Result T Worn) (worn : Worn) → MatchResult sent (λ _. Settled v p r b lent w) (λ _. WoreOut v p w) → p ≡ q → sent ≡ Err worn
+    → WoreOut v q w
+unsent_of {T} v w q p r b lent sent worn x same is =
+    subst (λ (z : Request). WoreOut v z w) same (subst (λ (z : Result T Worn). MatchResult z (λ _. Settled v p r b lent w) (λ _. WoreOut v p w)) is x)

@@ -1,5 +1,5 @@
 -- What a call did, from its parts.
-use Rattle.std.proofs.Common.{◌≡◌, ◌+◌, Bool, true, false, List, [], ◌++◌, length, Option, Some, None, refl, sym, ap, ◌∙◌, subst, inl, inr, ⊎_elim, append_assoc, append-nil, arith}
+use Rattle.std.proofs.Common.{◌≡◌, ◌+◌, Bool, true, false, List, [], ◌++◌, length, Option, Some, None, refl, sym, ap, ◌∙◌, subst, inr, ⊎_elim, append_assoc, append-nil, arith}
 use Rattle.std.specs.Prelude.{ℤ, nat_lt}
 use Rattle.rv_event.specs.declared.entry.Request.{Request}
 use Rattle.rv_event.specs.declared.entry.Request.TheVariants.{Resume, Quit}
@@ -8,19 +8,15 @@ use Rattle.rv_event.specs.declared.entry.Answer.TheVariants as Answers
 use Rattle.rv_port.specs.declared.event.Event.{Event}
 use Rattle.rv_port.specs.declared.reached.Reached.{Reached}
 use Rattle.rv_port.specs.Events.{catalogue_of, called}
-use Rattle.rv_port.specs.Traces.{Passing, Trace, InVain, Went, Asked, Replied, asks_on}
-use Rattle.rv_port.specs.Replies.{ReplyOnce}
-use Rattle.std.specs.Prelude.{Result, Ok, Err, MatchResult}
-use Rattle.rv_turn.specs.Passes.{IsWorn}
-use Rattle.rv_turn.specs.declared.pass.Worn.{Worn}
-use Rattle.rv_port.specs.declared.event.Reply.{Reply}
-use Rattle.rv_port.specs.declared.event.Reply.TheVariants as Gives
+use Rattle.rv_port.specs.Traces.{Passing, Trace, InVain, Went, Asked, Replied, RepliedOnce, asks_on}
 use Rattle.rv_port.specs.Acting.{begun_by, lent_view}
 use Rattle.rv_code.specs.Bodies.{UnitBodies}
 use Rattle.rv_port.specs.declared.event.Lent.{Lent}
 use Rattle.rv_port.specs.Reaching.{arguments_of, reads, plain_of, waits_on, waited_for}
 use Rattle.rv_port.proofs.Asking.{in_vain_later, asked_later}
-use Rattle.rv_port.specs.Calls.{marked, RanOn, Resumed, Waited, Followed, Performed, QuitBy, Quits, Grown, Stays}
+use Rattle.rv_event.specs.declared.entry.Exit.{Exit}
+use Rattle.rv_port.specs.Bodies.{RunsTo}
+use Rattle.rv_port.specs.Calls.{marked, Ends, RanOn, Resumed, Waited, Followed, Performed, QuitBy, Quits, Grown, Stays}
 use Rattle.rv_turn.specs.Prefixes.{starts_self, starts_both}
 use Rattle.rv_port.specs.declared.event.Begun.{Begun}
 
@@ -135,6 +131,18 @@ started v u w m n q r b lent scalars arguments reached x calm is same mark ran =
         (λ i. ((x.begun_is ∙ ap (begun_by (catalogue_of x.asked.at) v.actor q) is) i, same i)) ran,
   ),
 )
+
+-- a body ran, and its end was asked
+pub ran_on : (bodies : Option UnitBodies) (u v w : Passing) (begun : Begun) (scalars arguments : List ℤ) (q : Request) (exit : Exit) (reached : Reached) → ((trace : Trace) × RunsTo bodies begun scalars arguments trace q exit × Went u trace v)
+    → Ends v q exit reached w → RanOn bodies u begun scalars arguments reached w
+ran_on bodies u v w begun scalars arguments q exit reached ran ends = record {
+  trace = ran.0;
+  ended = ran.1.0;
+  runs = ran.1.1;
+  body = v;
+  went = ran.2;
+  end_is = subst (λ (z : Request × Exit). Ends v z.0 z.1 reached w) (λ i. (ran.1.2 i, ran.1.3 i)) ends;
+}
 
 -- a caller that waited was handed the object over
 pub woken : (v u w : Passing) (m n : Bool) (q : Request) (r : Answer) (b : Begun) (lent : Option Lent) (scalars arguments : List ℤ) (begun : Begun) (reached : Reached) → Replied v Resume r b lent u → asks_on r ≡ false
@@ -267,10 +275,6 @@ pub quits_stays : (v w : Passing) → Quits v w → Stays v w
 quits_stays v w t = quit_stays (nat_lt v.actor 11) v w t
 
 -- a task asked once
-pub quit_by : (b : Bool) (v w : Passing) (asked : Result Reply Worn) → b ≡ false → MatchResult asked (λ reply. ReplyOnce v Quit reply w) (λ _. IsWorn v w) → QuitBy b v w
-quit_by true v w asked e x = absurd (cc e)
-quit_by false v w (Ok (Gives.Answered r begun lent)) e x = inr (r, (x.0.asked, x.1))
-quit_by false v w (Ok (Gives.Read page)) e x = absurd x
-quit_by false v w (Ok Gives.Unread) e x = absurd x
-quit_by false v w (Ok (Gives.Bodies lent)) e x = absurd x
-quit_by false v w (Err worn) e x = inl x
+pub quit_by : (b : Bool) (v w : Passing) (q : Request) (r : Answer) (begun : Begun) (lent : Option Lent) → b ≡ false → q ≡ Quit → RepliedOnce v q r begun lent w → QuitBy b v w
+quit_by true v w q r begun lent e is x = absurd (cc e)
+quit_by false v w q r begun lent e is x = let y : RepliedOnce v Quit r begun lent w = subst (λ (z : Request). RepliedOnce v z r begun lent w) is x in inr (r, (y.0.asked, y.1))

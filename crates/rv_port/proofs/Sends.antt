@@ -37,6 +37,7 @@ use Rattle.rv_port.specs.contracts.behind.Behind as behind
 use Rattle.rv_port.specs.contracts.behind.BehindCounted.TheImpl.{ghosts as counted}
 use Rattle.rv_port.specs.contracts.event.Ask as ask
 use Rattle.rv_port.specs.contracts.event.Reply as reply
+use Rattle.rv_port.specs.contracts.event.Letter as letter
 use Rattle.rv_port.specs.contracts.event.Event as event
 use Rattle.rv_port.specs.contracts.event.Limits as limits
 use Rattle.rv_port.specs.contracts.bell.Bell as bell
@@ -136,7 +137,7 @@ bell_arc_send : IsSend (arc.the_row bell.the_row global.the_row ghosts)
 bell_arc_send = arc_crosses.the_send bell.the_row global.the_row ghosts bell_crosses.the_send global_crosses.the_send bell_crosses.the_sync global_crosses.the_sync heap_crosses.the_frees
 
 asker_send : IsSend (asker.the_field).row
-asker_send = struct_send (shape asker.the_type) (pass_crosses.the_send behind.the_row ask.the_row reply.the_row event.the_row limits.the_row counted behind_send, (bell_arc_send, (plain_send _ _ _ _ _, tt)))
+asker_send = struct_send (shape asker.the_type) (pass_crosses.the_send behind.the_row ask.the_row reply.the_row letter.the_row event.the_row limits.the_row counted behind_send, (bell_arc_send, (plain_send _ _ _ _ _, tt)))
 
 port_inside_send : IsSend port_inside.the_row
 port_inside_send = recorded_send (port_inside.the_field).row _ _ (port_inside.the_type).to_one (struct_send (shape port_inside.the_type) (asker_send, tt))
@@ -145,19 +146,19 @@ pub port_send : IsSend port.the_row
 port_send = search (port_inside_send, sendable)
 
 finished_inside_send : IsSend finished_inside.the_row
-finished_inside_send = recorded_send (finished_inside.the_field).row _ _ (finished_inside.the_type).to_one (struct_send (shape finished_inside.the_type) (pass_crosses.the_send behind.the_row ask.the_row reply.the_row event.the_row limits.the_row counted behind_send, (plain_send _ _ _ _ _, tt)))
+finished_inside_send = recorded_send (finished_inside.the_field).row _ _ (finished_inside.the_type).to_one (struct_send (shape finished_inside.the_type) (pass_crosses.the_send behind.the_row ask.the_row reply.the_row letter.the_row event.the_row limits.the_row counted behind_send, (plain_send _ _ _ _ _, tt)))
 
 pub finished_send : IsSend finished.the_row
 finished_send = search (finished_inside_send, sendable)
 
 note_inside_send : IsSend note_inside.the_row
-note_inside_send = recorded_send (note_inside.the_field).row _ _ (note_inside.the_type).to_one (struct_send (shape note_inside.the_type) (note_crosses.the_send behind.the_row ask.the_row reply.the_row event.the_row limits.the_row counted behind_send, tt))
+note_inside_send = recorded_send (note_inside.the_field).row _ _ (note_inside.the_type).to_one (struct_send (shape note_inside.the_type) (note_crosses.the_send behind.the_row ask.the_row reply.the_row letter.the_row event.the_row limits.the_row counted behind_send, tt))
 
 pub note_send : IsSend note.the_row
 note_send = search (note_inside_send, sendable)
 
 control_inside_send : IsSend control_inside.the_row
-control_inside_send = recorded_send (control_inside.the_field).row _ _ (control_inside.the_type).to_one (struct_send (shape control_inside.the_type) (global_crosses.the_field_send, (turn_crosses.the_send behind.the_row ask.the_row reply.the_row event.the_row limits.the_row counted behind_send, (pass_crosses.the_send behind.the_row ask.the_row reply.the_row event.the_row limits.the_row counted behind_send, (bell_arc_send, (list_send _ (plain_send _ _ _ _ _), (catalogue_crosses.the_send, tt)))))))
+control_inside_send = recorded_send (control_inside.the_field).row _ _ (control_inside.the_type).to_one (struct_send (shape control_inside.the_type) (global_crosses.the_field_send, (turn_crosses.the_send behind.the_row ask.the_row reply.the_row letter.the_row event.the_row limits.the_row counted behind_send, (pass_crosses.the_send behind.the_row ask.the_row reply.the_row letter.the_row event.the_row limits.the_row counted behind_send, (bell_arc_send, (list_send _ (plain_send _ _ _ _ _), (catalogue_crosses.the_send, tt)))))))
 
 pub control_send : IsSend control.the_row
 control_send = search (control_inside_send, sendable)

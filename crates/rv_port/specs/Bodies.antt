@@ -1,5 +1,8 @@
 -- What runs between a start and its end. (own)
 use Rattle.std.specs.Prelude.{◌≡◌, ℤ, List, [], if◌then◌else◌, Option, Some, None}
+use Rattle.rv_event.specs.declared.entry.Request.{Request}
+use Rattle.rv_event.specs.declared.entry.Request.TheVariants.{Complete}
+use Rattle.rv_event.specs.declared.entry.Exit.{Exit}
 use Rattle.rv_event.specs.declared.entry.Exit.TheVariants.{Raise}
 use Rattle.rv_event.specs.declared.entry.Exception.TheVariants.{ProgramError}
 use Rattle.rv_code.specs.Bodies.{UnitBodies}
@@ -24,3 +27,8 @@ Runs None begun scalars arguments trace ended = (trace ≡ []) × (ended ≡ lef
 Runs (Some bodies) begun scalars arguments trace ended =
     (left : List ℤ) × Along (operation_run bodies begun.object begun.operation arguments scalars) trace (ended.exit, left)
     × (ended.scalars ≡ given_by begun left)
+
+-- The same, where the request asks for that end, which is by this exit. (own)
+abbrev pub RunsTo : Option UnitBodies → Begun → List ℤ → List ℤ → Trace → Request → Exit → Type 0
+RunsTo bodies begun scalars arguments trace request exit =
+    (ended : Ended) × Runs bodies begun scalars arguments trace ended × (request ≡ Complete ended.scalars ended.exit) × (exit ≡ ended.exit)

@@ -45,6 +45,11 @@ pub record Stays (v w : Passing) : Type 0 where
 abbrev pub Wore : Passing → Request → Reached → Passing → Type 0
 Wore v q reached w = WoreOut v q w × (reached ≡ Reaches.Stopped)
 
+-- the end of a body was asked by this request, with this exit; or no act was left (own)
+abbrev pub Ends : Passing → Request → Exit → Reached → Passing → Type 0
+Ends v q exit reached w =
+    Wore v q reached w ⊎ ((d : Answer) × Asked v q d w × (asks_on d ≡ false) × (reached ≡ end_of d exit))
+
 -- A body that started asked what it asks by these bodies, and ended, where an act was left. (own)
 pub record RanOn (bodies : Option UnitBodies) (started : Passing) (begun : Begun) (scalars arguments : List ℤ) (reached : Reached) (w : Passing) : Type 0 where
   pub trace : Trace
@@ -52,8 +57,7 @@ pub record RanOn (bodies : Option UnitBodies) (started : Passing) (begun : Begun
   pub runs : Runs bodies begun scalars arguments trace ended
   pub body : Passing
   pub went : Went started trace body
-  pub end_is : Wore body (Complete ended.scalars ended.exit) reached w
-      ⊎ ((d : Answer) × Asked body (Complete ended.scalars ended.exit) d w × (asks_on d ≡ false) × (reached ≡ end_of d ended.exit))
+  pub end_is : Ends body (Complete ended.scalars ended.exit) ended.exit reached w
 
 -- the mark that bodies which were wanted couldn't be had, after a body ran by these bodies, or without (own)
 abbrev pub marked : Bool → Option UnitBodies → Bool

@@ -2,7 +2,6 @@ pub mod Events
 pub mod Acting
 pub mod Actors
 pub mod Traces
-pub mod Replies
 pub mod Composing
 pub mod Reaching
 pub mod Later

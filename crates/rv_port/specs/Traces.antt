@@ -138,3 +138,7 @@ pub record Replied (v : Passing) (q : Request) (r : Answer) (begun : Begun) (len
 -- the same, asked once: none was in vain before (own)
 abbrev pub RepliedOnce : Passing → Request → Answer → Begun → Option Lent → Passing → Type 0
 RepliedOnce v q r begun lent w = (x : Replied v q r begun lent w) × (x.asked.in_vain.times ≡ [])
+
+-- the same, asked again while the answer was Busy or Waiting (own)
+abbrev pub Settled : Passing → Request → Answer → Begun → Option Lent → Passing → Type 0
+Settled v q r begun lent w = Replied v q r begun lent w × (asks_on r ≡ false)

@@ -5,12 +5,11 @@ ghost use Rattle.rv_turn.specs.Histories.{mine};
 ghost use Rattle.rv_turn.specs.Passes.{IsWorn};
 ghost use Rattle.rv_port.specs.Actors.{HasHandler};
 ghost use Rattle.rv_port.specs.Events.{by, catalogue_of};
-ghost use Rattle.rv_port.specs.Traces.{WoreOut, Went, IsTold, told};
-ghost use Rattle.rv_port.specs.Replies.{ReplyOnce, ReplyTo, is_vain};
+ghost use Rattle.rv_port.specs.Traces.{RepliedOnce, Settled, WoreOut, Went, IsTold, told, asks_on};
 
 use crate::behind::Behind;
 use crate::bell::Bell;
-use crate::event::{Ask, Reply};
+use crate::event::Letter;
 use rv_event::entry::{Answer, Request};
 use rv_exec::outward::Outward;
 use rv_turn::{Pass, Worn};
@@ -32,13 +31,10 @@ pub(crate) struct Asker {
 }
 
 // Whether the request is to be made again.
-fn must_wait(asked: &Result<Reply, Worn>) -> bool
-    ensures { result ≡ is_vain asked.now }
+fn must_wait(answer: &Answer) -> bool
+    ensures { result ≡ asks_on answer.now }
 {
-    matches!(
-        asked,
-        Ok(Reply::Answered(Answer::Busy | Answer::Waiting, _, _))
-    )
+    matches!(answer, Answer::Busy | Answer::Waiting)
 }
 
 // What a body is told of an answer.
@@ -52,48 +48,34 @@ fn told_of(answer: &Answer) -> Answer
 }
 
 impl Asker {
-    /// Asks once. Err where no act is left. A reply is large, so it is put where it is read.
-    pub(crate) fn try_ask<R: Wait>(
-        &mut self,
-        rt: &R,
-        request: &Request,
-        asked: &mut Result<Reply, Worn>,
-    )
+    /// Asks once. Err where no act is left.
+    pub(crate) fn try_ask<R: Wait>(&mut self, rt: &R, letter: &mut Letter) -> Result<(), Worn>
         ensures reply { MatchResult
-            asked.new
-            (λ reply. ReplyOnce self.old.pass request.now reply self.new.pass)
+            result
+            (λ _. RepliedOnce self.old.pass letter.old.request letter.new.answer letter.new.begun letter.new.lent self.new.pass)
             (λ _. IsWorn self.old.pass self.new.pass) }
+        ensures request { letter.new.request ≡ letter.old.request }
         ensures mark { self.new.is_refused ≡ self.old.is_refused }
     {
-        *asked = self.pass.act(rt, Ask::Step(*request));
-    }
-
-    /// Rings for those who may go on after what was asked.
-    pub(crate) fn tell(&self, asked: &Result<Reply, Worn>) {
-        if let Ok(Reply::Answered(answer, _, _)) = asked {
-            self.bell.tell(answer);
-        }
+        self.pass.send(rt, letter)
     }
 
     /// Asks, and again at each ring while the answer is Busy or Waiting. Err where no act is left.
-    pub(crate) fn insist<R: Wait>(
-        &mut self,
-        rt: &R,
-        request: &Request,
-        asked: &mut Result<Reply, Worn>,
-    )
+    pub(crate) fn insist<R: Wait>(&mut self, rt: &R, letter: &mut Letter) -> Result<(), Worn>
         ensures reply { MatchResult
-            asked.new
-            (λ reply. ReplyTo self.old.pass request.now reply self.new.pass)
-            (λ _. WoreOut self.old.pass request.now self.new.pass) }
+            result
+            (λ _. Settled self.old.pass letter.old.request letter.new.answer letter.new.begun letter.new.lent self.new.pass)
+            (λ _. WoreOut self.old.pass letter.old.request self.new.pass) }
         ensures mark { self.new.is_refused ≡ self.old.is_refused }
     {
         for _ in rt.forever() {
             let rings = self.bell.rings();
-            self.try_ask(rt, request, asked);
-            if !must_wait(asked) {
-                self.tell(asked);
-                return;
+            let Ok(()) = self.try_ask(rt, letter) else {
+                return Err(Worn);
+            };
+            if !must_wait(&letter.answer) {
+                self.bell.tell(&letter.answer);
+                return Ok(());
             }
             self.bell.wait_past(rt, rings);
         }
@@ -106,15 +88,11 @@ impl Asker {
         ensures told { IsTold result }
         ensures mark { self.new.is_refused ≡ self.old.is_refused }
     {
-        let mut asked = Err(Worn);
-        self.insist(rt, request, &mut asked);
-        let Ok(reply) = &asked else {
+        let mut letter = Letter::new(request);
+        let Ok(()) = self.insist(rt, &mut letter) else {
             return Answer::Full;
         };
-        let Reply::Answered(answer, _, _) = reply else {
-            unreachable!()
-        };
-        told_of(answer)
+        told_of(&letter.answer)
     }
 }
 

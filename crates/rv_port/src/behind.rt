@@ -9,14 +9,13 @@ ghost use Rattle.rv_exec.specs.Bodies.{bodies_view, units_of};
 ghost use Rattle.rv_port.specs.Events.{log_in};
 ghost use Rattle.rv_port.specs.Acting.{Does, changes, limits_of};
 
-use crate::event::{Ask, Event, Lent, Limits, Reply};
-use begun::{NONE, begun_by};
+use crate::event::{Ask, Event, Lent, Letter, Limits, NONE, Reply};
+use begun::begun_by;
 use rv_event::entry::{Answer, Request};
 use rv_exec::bodies::Bodies;
 use rv_host::host::Host;
 use rv_host::pages::Page;
 use rv_turn::Counted;
-use rv_value::Scalars;
 use std::alloc::{AllocFailed, Global};
 use std::sync::Arc;
 
@@ -91,19 +90,38 @@ impl Behind {
         Reply::Bodies(self.share())
     }
 
-    // A request.
+    // A request, which is answered in its letter.
     #[tactic(auto, using(crate::proofs::Doing::brought_step))]
-    fn step(&mut self, actor: u64, request: &Request) -> Reply
-        ensures does { Does (limits_of self.old.host.value) (log_in self.old.host.value (arc_value self.old.bodies)) actor (Ask.Step request.now) result (log_in self.new.host.value (arc_value self.new.bodies)) }
+    fn step(&mut self, actor: u64, letter: &mut Letter)
+        ensures does { Does (limits_of self.old.host.value) (log_in self.old.host.value (arc_value self.old.bodies)) actor (Ask.Step letter.old.request) (Reply.Answered letter.new.answer letter.new.begun letter.new.lent) (log_in self.new.host.value (arc_value self.new.bodies)) }
+        ensures request { letter.new.request ≡ letter.old.request }
         ensures about { self.new.host.value.capacity ≡ self.old.host.value.capacity }
     {
         let host = &mut *self.host;
         host.replays();
-        // A start's scalars are put in its place; any other answer is put over it.
-        let mut answer = Answer::Started(Scalars::new());
-        host.put_answer(actor as usize, request, &mut answer);
-        let begun = begun_by(host.catalogue(), actor as usize, request, &answer);
-        let lent = self.lend(&answer);
+        host.put_answer(actor as usize, &letter.request, &mut letter.answer);
+        letter.begun = begun_by(
+            host.catalogue(),
+            actor as usize,
+            &letter.request,
+            &letter.answer,
+        );
+        letter.lent = self.lend(&letter.answer);
+    }
+
+    // A request, as one of several things to ask.
+    fn request(&mut self, actor: u64, request: &Request) -> Reply
+        ensures does { Does (limits_of self.old.host.value) (log_in self.old.host.value (arc_value self.old.bodies)) actor (Ask.Step request.now) result (log_in self.new.host.value (arc_value self.new.bodies)) }
+        ensures about { self.new.host.value.capacity ≡ self.old.host.value.capacity }
+    {
+        let mut letter = Letter::new(request);
+        self.step(actor, &mut letter);
+        let Letter {
+            answer,
+            begun,
+            lent,
+            ..
+        } = letter;
         Reply::Answered(answer, begun, lent)
     }
 
@@ -121,14 +139,14 @@ impl Behind {
         }
     }
 
-    // What any actor may ask. A request is large, so it isn't moved.
-    fn answer(&mut self, actor: u64, ask: &Ask) -> Reply
+    // What any actor may ask.
+    fn serve(&mut self, actor: u64, ask: &Ask) -> Reply
         requires { changes ask.now ≡ false }
         ensures does { Does (limits_of self.old.host.value) (log_in self.old.host.value (arc_value self.old.bodies)) actor ask.now result (log_in self.new.host.value (arc_value self.new.bodies)) }
         ensures about { self.new.host.value.capacity ≡ self.old.host.value.capacity }
     {
         match ask {
-            Ask::Step(request) => self.step(actor, request),
+            Ask::Step(request) => self.request(actor, request),
             Ask::Read(from) => self.read(actor, *from),
             Ask::Bodies => self.give_bodies(actor),
             _ => unreachable!(),
@@ -174,10 +192,14 @@ impl Counted for Behind {
     ghost use Rattle.std.specs.Arc.{arc_value};
     ghost use Rattle.rv_port.specs.Events.{log_in, by};
     ghost use Rattle.rv_port.specs.Acting.{Does, adds, limits_of};
+    ghost use Rattle.rv_port.specs.declared.event.Ask.{Ask};
+    ghost use Rattle.rv_port.specs.declared.event.Reply.{Reply};
 
     type Ask = Ask;
 
     type Reply = Reply;
+
+    type Letter = Letter;
 
     type Entry = Event;
 
@@ -191,20 +213,25 @@ impl Counted for Behind {
 
     ghost answers = { Does };
 
+    ghost asked = { λ l. Ask.Step l.request };
+
+    ghost replied = { λ l. Reply.Answered l.answer l.begun l.lent };
+
     ghost adds = { adds };
 
     fn act(&mut self, actor: u64, ask: Ask) -> Reply {
-        if let Ask::Step(request) = &ask {
-            return self.step(actor, request);
-        }
         if !is_change(&ask) {
-            return self.answer(actor, &ask);
+            return self.serve(actor, &ask);
         }
         if actor == 0 {
             self.operate(ask)
         } else {
             self.refuse(actor, &ask)
         }
+    }
+
+    fn answer(&mut self, actor: u64, letter: &mut Letter) {
+        self.step(actor, letter);
     }
 
     #[tactic(auto, using(crate::proofs::Zips::length_log))]

@@ -5,43 +5,44 @@ ghost use Rattle.std.specs.Arc.{arc_value};
 ghost use Rattle.rv_exec.specs.Bodies.{bodies_view};
 ghost use Rattle.rv_port.specs.Acting.{lent_view};
 ghost use Rattle.rv_port.specs.Traces.{Trace, Went};
-ghost use Rattle.rv_port.specs.Bodies.{Runs, left_alone, given_by};
+ghost use Rattle.rv_event.specs.declared.entry.Request.TheVariants.{Complete};
+ghost use Rattle.rv_port.specs.Bodies.{RunsTo, left_alone, given_by};
 ghost use Rattle.rv_port.specs.Calls.{marked};
 
 use crate::asker::Asker;
 use crate::event::{Begun, Lent};
-use rv_event::entry::{Exception, Exit};
+use rv_event::entry::{Exception, Exit, Request};
 use rv_exec::bodies::Bodies;
 use rv_exec::machine::run_body;
 use rv_value::{Args, Scalars};
 use std::sync::Wait;
 
-/// How a body ended, and the scalars that it leaves, none for a function.
-#[derive(Clone, Copy, Drop)]
+/// How a body ended, and the scalars that it leaves, none for a function. No value of it is made: only
+/// contracts speak of it.
 pub(crate) struct Ended {
     pub(crate) scalars: Scalars,
     pub(crate) exit: Exit,
 }
 
-// The end of a body that couldn't be had.
-fn left_alone(begun: &Begun, scalars: &Scalars) -> Ended
-    ensures { result ≡ left_alone begun.now scalars.now }
+// Puts a request for the end of a body: with what it leaves of these scalars, and by this exit.
+fn put_end(request: &mut Request, begun: &Begun, scalars: &Scalars, exit: &Exit)
+    ensures { request.new ≡ Complete (given_by begun.now scalars.now) exit.now }
 {
-    Ended {
-        scalars: given_by(begun, scalars),
-        exit: Exit::Raise(Exception::ProgramError),
+    if begun.is_function {
+        *request = Request::Complete(Scalars::new(), *exit);
+    } else {
+        *request = Request::Complete(*scalars, *exit);
     }
 }
 
-// The scalars that an end gives.
-fn given_by(begun: &Begun, scalars: &Scalars) -> Scalars
-    ensures { result ≡ given_by begun.now scalars.now }
+// The end of a body that couldn't be had.
+fn leave_alone(begun: &Begun, scalars: &Scalars, request: &mut Request) -> Exit
+    ensures request { request.new ≡ Complete (left_alone begun.now scalars.now).scalars (left_alone begun.now scalars.now).exit }
+    ensures exit { result ≡ (left_alone begun.now scalars.now).exit }
 {
-    if begun.is_function {
-        Scalars::new()
-    } else {
-        *scalars
-    }
+    let exit = Exit::Raise(Exception::ProgramError);
+    put_end(request, begun, scalars, &exit);
+    exit
 }
 
 // Runs the body of an operation, of these.
@@ -52,8 +53,9 @@ fn run_one<R: Wait>(
     begun: &Begun,
     scalars: &Scalars,
     args: &Args,
-) -> Ended
-    ensures runs { (trace : Trace) × Runs (Some (bodies_view bodies.now)) begun.now scalars.now args.now trace result × Went asker.old.pass trace asker.new.pass }
+    request: &mut Request,
+) -> Exit
+    ensures runs { (trace : Trace) × RunsTo (Some (bodies_view bodies.now)) begun.now scalars.now args.now trace request.new result × Went asker.old.pass trace asker.new.pass }
     ensures mark { asker.new.is_refused ≡ asker.old.is_refused }
 {
     let ended = run_body(
@@ -65,15 +67,13 @@ fn run_one<R: Wait>(
         *args,
         asker,
     );
-    Ended {
-        scalars: given_by(begun, &ended.scalars),
-        exit: ended.exit,
-    }
+    put_end(request, begun, &ended.scalars, &ended.exit);
+    ended.exit
 }
 
 /// Runs the body of an operation on these scalars, with these values, asking by the port's own
-/// asker, outside the turn. Where the bodies couldn't be had it asks nothing, leaves the scalars and
-/// exits by `raise Program_Error`.
+/// asker, outside the turn; and puts the request for its end, whose exit it gives. Where the bodies
+/// couldn't be had it asks nothing, leaves the scalars and exits by `raise Program_Error`.
 pub(crate) fn run<R: Wait>(
     rt: &R,
     asker: &mut Asker,
@@ -81,15 +81,16 @@ pub(crate) fn run<R: Wait>(
     begun: &Begun,
     scalars: &Scalars,
     args: &Args,
-) -> Ended
-    ensures runs { (trace : Trace) × Runs (lent_view lent.now) begun.now scalars.now args.now trace result × Went asker.old.pass trace asker.new.pass }
+    request: &mut Request,
+) -> Exit
+    ensures runs { (trace : Trace) × RunsTo (lent_view lent.now) begun.now scalars.now args.now trace request.new result × Went asker.old.pass trace asker.new.pass }
     ensures mark { asker.new.is_refused ≡ marked asker.old.is_refused (lent_view lent.now) }
 {
     match lent {
-        Some(lent) => run_one(rt, asker, &lent.bodies, begun, scalars, args),
+        Some(lent) => run_one(rt, asker, &lent.bodies, begun, scalars, args, request),
         None => {
             asker.is_refused = true;
-            left_alone(begun, scalars)
+            leave_alone(begun, scalars, request)
         }
     }
 }

@@ -13,7 +13,7 @@ use std::thread::Threads;
 
 mod ledger;
 
-use ledger::{Ask, Ledger, Line, Mark, NOTHING, Reply, next_mark};
+use ledger::{Ask, Ledger, Line, Mark, NOTHING, Reply, Sheet, next_mark};
 
 // How long a thread waits for a note, in turns of its loop.
 const TURNS: u64 = 100_000_000;
@@ -358,6 +358,19 @@ fn answer_alike<R: Wait>(rt: &R, plain: &mut Ledger, pass: &mut Pass<Ledger>, as
     }
 }
 
+// The same, with ask and reply on a sheet.
+fn send_alike<R: Wait>(rt: &R, plain: &mut Ledger, pass: &mut Pass<Ledger>, ask: Ask) -> bool
+    ensures { (pass.new.turn ≡ pass.old.turn) × (pass.new.first ≡ pass.old.first) }
+{
+    let due = plain.act(0, ask);
+    let reply = Reply::Full;
+    let mut sheet = Sheet { ask, reply };
+    match pass.send(rt, &mut sheet) {
+        Ok(()) => sheet.reply == due,
+        Err(_) => false,
+    }
+}
+
 #[test]
 fn the_first_pass_alone_gives_the_plain_answers(rt: HostRuntime) -> Result<(), Fail> {
     let mut plain = Ledger::new(rt.alloc(), 600)?;
@@ -365,9 +378,10 @@ fn the_first_pass_alone_gives_the_plain_answers(rt: HostRuntime) -> Result<(), F
     let Ok((turn, mut first)) = Turn::make(rt.alloc(), ledger) else {
         return Err(Fail::new("no memory"));
     };
-    for k in 0..1000u64 {
+    for k in 0..500u64 {
         let ask = if k % 4 == 3 { Ask::Look } else { Ask::Add(k) };
         assert!(rt; answer_alike(&rt, &mut plain, &mut first, ask), "act {k}");
+        assert!(rt; send_alike(&rt, &mut plain, &mut first, ask), "letter {k}");
     }
     let ledger = turn.close(&rt, first, Vec::new(rt.alloc()));
     assert!(rt; ledger.journal.as_slice() == plain.journal.as_slice());

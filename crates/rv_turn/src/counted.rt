@@ -11,6 +11,9 @@ pub trait Counted: Drop {
     /// What it is answered.
     type Reply: Drop;
 
+    /// An ask with room for its reply, where both are too large to be moved.
+    type Letter;
+
     /// One recorded act. Only proofs see it.
     type Entry;
 
@@ -31,6 +34,12 @@ pub trait Counted: Drop {
     ghost answers: { Self.About → List Self.Entry → ℕ → Self.Ask → Self.Reply → List Self.Entry
         → Type 0 };
 
+    /// What a letter asks.
+    ghost asked: { Self.Letter → Self.Ask };
+
+    /// What it is answered, once it is.
+    ghost replied: { Self.Letter → Self.Reply };
+
     /// The law: an act adds no entry, or one of its actor.
     ghost adds: { (about : Self.About) (before : List Self.Entry) (actor : ℕ)
         (ask : Self.Ask) (reply : Self.Reply) (after : List Self.Entry)
@@ -40,6 +49,13 @@ pub trait Counted: Drop {
     fn act(&mut self, actor: u64, ask: Self::Ask) -> Self::Reply
         ensures answer { answers (about self.old) (history self.old) actor ask result
             (history self.new) }
+        ensures about { about self.new ≡ about self.old };
+
+    /// One act of the actor that a letter asks for, and that is answered there.
+    fn answer(&mut self, actor: u64, letter: &mut Self::Letter)
+        ensures answer { answers (about self.old) (history self.old) actor (asked letter.old)
+            (replied letter.new) (history self.new) }
+        ensures asked { asked letter.new ≡ asked letter.old }
         ensures about { about self.new ≡ about self.old };
 
     /// How many entries the history has.

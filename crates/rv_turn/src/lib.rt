@@ -19,8 +19,8 @@
 //!
 //! # What is proved, for any `Counted`
 //!
-//! - `act`: each act is answered as it is due on one history that begins with all that the pass had
-//!   seen. After a recorded answer Seen is that history with the act's entry added, and Own has
+//! - `act`, and `send`, whose ask and reply stand in a letter: each act is answered as it is due on one
+//!   history that begins with all that the pass had seen. After a recorded answer Seen is that history with the act's entry added, and Own has
 //!   grown by it; after an unrecorded one Seen is that history, and Own is as before. Only `Worn`
 //!   stands apart: it comes exactly where no act is left, and changes nothing. Before and after an
 //!   act a pass has no ticket, so no turn spans two entries.

@@ -118,6 +118,32 @@ fn act_at<C: Counted, R: Wait>(
     reply
 }
 
+/// The same, with ask and reply in a letter.
+fn send_at<C: Counted, R: Wait>(
+    rt: &R,
+    hall: &Hall<C>,
+    place: &mut Place<C, C::Entry, C::About>,
+    actor: u64,
+    letter: &mut C::Letter,
+)
+    requires words { hall.now.board.shared.table_id.words ≡ 3 }
+    requires seated { place.old.table_id ≡ hall.now.board.shared.table_id }
+    requires idle { is_idle place.old.me.0
+        × (0 < place.old.me.0.acts)
+        × (place.old.me.1 ≡ [])
+        × (place.old.me.0.actor ≡ actor) }
+    ensures same { place.new.table_id ≡ place.old.table_id }
+    ensures idle { is_idle place.new.me.0 × (place.new.me.1 ≡ []) }
+    ensures acted { ActedAt C.actor_of C.answers place.old.me.0 (C.asked letter.old)
+        (C.replied letter.new) place.new.me.0 }
+    ensures asked { C.asked letter.new ≡ C.asked letter.old }
+{
+    let (mut value, before) = hold::<C, R>(rt, hall, place);
+    value.answer(actor, letter);
+    let is_longer = value.count() != before;
+    release::<C>(hall, place, value, is_longer);
+}
+
 impl<C: Counted> Pass<C> {
     /// Whose pass it is.
     pub fn actor(&self) -> u64
@@ -147,5 +173,22 @@ impl<C: Counted> Pass<C> {
         let reply = act_at::<C, R>(rt, &self.hall, &mut self.place, self.actor, ask);
         self.acts -= 1;
         Ok(reply)
+    }
+
+    /// The same, with ask and reply in a letter, so that neither is moved.
+    pub fn send<R: Wait>(&mut self, rt: &R, letter: &mut C::Letter) -> Result<(), Worn>
+        ensures reply { MatchResult
+            result
+            (λ _. Acted C.actor_of C.answers self.old (C.asked letter.old) (C.replied letter.new)
+            self.new)
+            (λ _. IsWorn self.old self.new) }
+        ensures asked { C.asked letter.new ≡ C.asked letter.old }
+    {
+        if self.acts > 0 {
+            send_at::<C, R>(rt, &self.hall, &mut self.place, self.actor, letter);
+            self.acts -= 1;
+            return Ok(());
+        }
+        Err(Worn)
     }
 }

@@ -27,6 +27,8 @@ impl Counted for Ledger {
 
     type Reply = bool;
 
+    type Letter = bool;
+
     type Entry = u64;
 
     type About = ();
@@ -39,6 +41,10 @@ impl Counted for Ledger {
 
     ghost answers = { λ about before actor ask reply after. Adds (λ e. e) before actor after };
 
+    ghost asked = { λ l. tt };
+
+    ghost replied = { λ l. l };
+
     ghost adds = { λ about before actor ask reply after adds. adds };
 
     // Writes a line of the actor, and says whether there was room.
@@ -48,6 +54,10 @@ impl Counted for Ledger {
         }
         self.lines.push_reserved(actor);
         true
+    }
+
+    fn answer(&mut self, actor: u64, letter: &mut bool) {
+        *letter = self.act(actor, ());
     }
 
     fn count(&self) -> u64 {

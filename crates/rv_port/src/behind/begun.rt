@@ -4,17 +4,10 @@ ghost use Rattle.std.specs.Prelude.{◌≡◌};
 ghost use Rattle.rv_port.specs.Events.{called, begun_at};
 ghost use Rattle.rv_port.specs.Acting.{begun_by};
 
-use crate::event::Begun;
+use crate::event::{Begun, NONE};
 use rv_event::entry::{Answer, Request};
 use rv_shape::actor::Callee;
 use rv_shape::catalogue::Catalogue;
-
-/// No operation.
-pub(crate) const NONE: Begun = Begun {
-    object: 0,
-    operation: 0,
-    is_function: false,
-};
 
 // An operation by its numbers, and whether it is a function.
 fn begun_at(catalogue: &Catalogue, object: usize, operation: usize) -> Begun

@@ -6,9 +6,9 @@ ghost use Rattle.rv_port.specs.Ports.{pass_of};
 
 use super::{Finished, Port};
 use crate::asker::Asker;
+use crate::event::Letter;
 use rv_event::entry::Request;
 use rv_shape::actor::FIRST_TASK;
-use rv_turn::Worn;
 use std::sync::Wait;
 
 // Asks for the end of a task, and tells those who wait; a line has none.
@@ -19,9 +19,11 @@ fn ask_quit<R: Wait>(rt: &R, asker: &mut Asker)
     if asker.pass.actor() < FIRST_TASK as u64 {
         return;
     }
-    let mut asked = Err(Worn);
-    asker.try_ask(rt, &Request::Quit, &mut asked);
-    asker.tell(&asked);
+    let mut letter = Letter::new(&Request::Quit);
+    let Ok(()) = asker.try_ask(rt, &mut letter) else {
+        return;
+    };
+    asker.bell.tell(&letter.answer);
 }
 
 // The same. The port stays what it was.

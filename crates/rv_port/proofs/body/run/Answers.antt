@@ -1,4 +1,6 @@
-use Rattle.std.proofs.Common.{Option, ap, sym, ◌∙◌}
+use Rattle.std.proofs.Common.{Option, [], refl, ap, sym, subst, ◌∙◌}
+use Rattle.rv_port.specs.Bodies.{Runs, left_alone}
+use Rattle.rv_port.specs.Composing.{went_none}
 use Rattle.rv_port.specs.Acting.{lent_view}
 use Rattle.rv_port.specs.Calls.{marked}
 use Rattle.rv_port.specs.declared.event.Lent.{Lent}
@@ -9,3 +11,8 @@ returns-in-Some-clause-mark g c = c.run_one.ensures.mark ∙ sym (ap (λ (l : Op
 
 pub returns-in-None-clause-mark : goal.returns-in-None-clause-mark
 returns-in-None-clause-mark g c = sym (ap (λ (l : Option Lent). marked c.args.asker.now.is_refused (lent_view l)) c.in-None.is)
+
+pub returns-in-None-clause-runs : goal.returns-in-None-clause-runs
+returns-in-None-clause-runs g c = let ended = left_alone c.args.begun.now c.args.scalars.now in
+    let runs = subst (λ (l : Option Lent). Runs (lent_view l) c.args.begun.now c.args.scalars.now c.args.args.now [] ended) (sym c.in-None.is) (refl, refl) in
+    ([], (ended, runs, c.leave_alone.ensures.request, c.leave_alone.ensures.exit), went_none c.args.asker.now.pass)

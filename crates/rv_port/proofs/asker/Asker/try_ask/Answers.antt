@@ -1,13 +1,14 @@
 use Rattle.rv_port.specs.declared.event.Ask.TheVariants as Wants
+use Rattle.rv_port.specs.declared.event.Reply.TheVariants as Gives
 use Rattle.rv_port.proofs.Actors.{act_handles, act_owns}
 use Rattle.rv_port.proofs.Asking.{replied_act}
 use Rattle.rv_port.proofs.asker.Asker.try_ask.Goals as goal
 
 pub invariant_of-self-clause-handles : goal.invariant_of-self-clause-handles
-invariant_of-self-clause-handles g c = act_handles c.args.self.now.pass c.act.new.self (Wants.Step c.args.request.now) _ c.args.self.now.handles c.act.ensures
+invariant_of-self-clause-handles g c = act_handles c.args.self.now.pass c.send.new.self (Wants.Step c.args.letter.now.request) (λ _. Gives.Answered c.send.new.letter.answer c.send.new.letter.begun c.send.new.letter.lent) c.send.result c.args.self.now.handles c.send.ensures.reply
 
 pub invariant_of-self-clause-owns : goal.invariant_of-self-clause-owns
-invariant_of-self-clause-owns g c = act_owns c.args.self.now.pass c.act.new.self (Wants.Step c.args.request.now) _ c.args.self.now.owns c.act.ensures
+invariant_of-self-clause-owns g c = act_owns c.args.self.now.pass c.send.new.self (Wants.Step c.args.letter.now.request) (λ _. Gives.Answered c.send.new.letter.answer c.send.new.letter.begun c.send.new.letter.lent) c.send.result c.args.self.now.owns c.send.ensures.reply
 
 pub returns-clause-reply : goal.returns-clause-reply
-returns-clause-reply g c = replied_act c.args.self.now.pass c.act.new.self c.args.request.now c.act.result c.act.ensures
+returns-clause-reply g c = replied_act c.args.self.now.pass c.send.new.self c.args.letter.now.request c.send.new.letter.answer c.send.new.letter.begun c.send.new.letter.lent c.send.result c.send.ensures.reply
