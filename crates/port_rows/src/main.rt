@@ -1,7 +1,9 @@
 //! Games of ports in threads: plays each game of the file `games` of the folder that it is run in, and then those games
-//! that no steps can tell, and tells of each in a line what was seen. Each wait of a game has a limit of turns.
+//! that no steps can tell, and tells of each in a line what was seen. Each wait of the games of the file has a limit of
+//! turns, but for that of a port for the host.
 #![tactic(auto)]
 
+mod acts;
 mod alone;
 mod bodies;
 mod crew;
@@ -53,5 +55,6 @@ fn main(rt: HostRuntime) -> io::Result<()> {
     play_all(&rt, alloc, file.as_str())?;
     tell(&rt, "told_revoke", letter::told_revoke(&rt, alloc))?;
     tell(&rt, "closing", alone::closed(&rt, alloc))?;
-    tell(&rt, "example", shown::example(&rt, alloc))
+    tell(&rt, "example", shown::example(&rt, alloc))?;
+    tell(&rt, "plain_acts", acts::plain_acts(&rt, alloc))
 }
