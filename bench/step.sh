@@ -2,10 +2,10 @@
 # Measures a step of a host (a call of a function, and its end): on a new host, after a million entries, with one and with 512
 # lines of the list, with one and with 64 units, beside a push of 64 bytes, a lock, and where gnatmake is there the same call
 # under GNAT's Ravenscar with ceilings; a change of a whole list; what a host of the largest journal touches; and, where
-# ravenhost is built, a script of 16 MiB of changes of the list. Then it counts allocations: a step must take none, of whatever kind. It is no
-# test but of that. A number of rounds may be given, of which the least counts. The first time it takes some minutes to prove
-# and build. It needs rt, python3 (3.9 or newer) and a C compiler. Statuses: 0 done, 1 a step takes memory or
-# isn't answered as is due, 127 a tool is missing.
+# ravenhost is built, a script of 16 MiB of changes of the list. Then it counts allocations: a step must take none, of whatever
+# kind, with whatever answer. It is no test but of that. A number of rounds may be given, of which the least counts. The first
+# time it takes some minutes to prove and build. It needs rt, python3 (3.9 or newer) and a C compiler. Statuses: 0 done, 1 a
+# step takes memory or isn't answered as is due, 127 a tool is missing.
 set -eu
 
 missing() {
@@ -172,28 +172,34 @@ __attribute__((destructor)) static void end(void) {
 }
 C
 cc -O1 -shared -fPIC -o "$folder/count.so" "$folder/count.c" -ldl
-# How many allocations a run of the program makes.
-allocations() {
-    LD_PRELOAD=$folder/count.so out/step_bench "$@" >"$folder/written" 9>"$folder/count"
-    cat "$folder/count"
+# Runs a part of the program with a small number and with a large one: each time as many as were asked for have to go as is
+# due, and both runs have to make as many allocations.
+count() {
+    local part=$1 few=$2 many=$3 what=$4 first="" times written
+    for times in "$few" "$many"; do
+        LD_PRELOAD=$folder/count.so out/step_bench "$part" "$times" >"$folder/written" 9>"$folder/count" || true
+        written=$(cat "$folder/written")
+        if [ "$written" != "$times" ]; then
+            echo "$what, $times times: ${written:-none} went as is due"
+            exit 1
+        fi
+        if [ ! -s "$folder/count" ]; then
+            echo "$what: nothing was counted"
+            exit 1
+        fi
+        first=${first:-$(cat "$folder/count")}
+    done
+    if [ "$(cat "$folder/count")" != "$first" ]; then
+        echo "$what: $few times make $first allocations, $many times $(cat "$folder/count"): a step takes memory"
+        exit 1
+    fi
+    echo "$what: $few times make $first allocations, and $many times as many: no step takes memory"
 }
-few=$(allocations step 1000)
-many=$(allocations step 500000)
-if [ "$few" != "$many" ]; then
-    echo "1,000 calls with their ends make $few allocations, 500,000 make $many: a step takes memory"
-    exit 1
-fi
-echo "1,000 calls with their ends make $few allocations, and 500,000 as many: a step takes no memory"
-
-# Rounds of steps of each kind, with each answer that they get while there is room.
-few=$(allocations kinds 10)
-many=$(allocations kinds 20000)
-if [ "$(cat "$folder/written")" != 20000 ]; then
-    echo "of 20,000 rounds of steps of each kind $(cat "$folder/written") went as is due"
-    exit 1
-fi
-if [ "$few" != "$many" ]; then
-    echo "10 rounds of steps of each kind make $few allocations, 20,000 make $many: a step takes memory"
-    exit 1
-fi
-echo "10 rounds of steps of each kind make $few allocations, and 20,000 as many: none of them takes memory"
+count step 1000 500000 "a call with its end"
+count kinds 10 20000 "a round of steps of each kind, each with the answers that it gets while there is room"
+# What a host carries out but once: 100 hosts are made each time, on so many of which it is carried out.
+count dropped 10 100 "on a host of its own: two queued callers are dropped, and resume, one of them on the halted host"
+count quit 10 100 "on a host of its own: quits that are misuse, those of all tasks, and what a task gets that has quit"
+count halted 10 100 "on a host of its own: the halt, what it keeps out, and the ends of the bodies under way"
+count resumed 10 100 "on a host of its own: the halt, and resumes of those whose wait is over and of one whose isn't"
+count full 10 100 "on a host of its own: bodies until a start is full, what else is full then, and what still has room"

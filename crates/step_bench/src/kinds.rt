@@ -1,154 +1,51 @@
 //! Steps of each kind, with each answer that a step of a task, a line or the operator's clock gets while a host has room:
 //! rounds of them, after which all is as before but for the journal and the clock.
 
-use rv_access::read_list;
+use crate::requests::{
+    GATE, HIGH, OPERATOR, OTHER, PILOT, RING, UNATTACHED, VALVE, VERSION, WAITER, accepted,
+    current_state, end, ends, get, gets, got, note, open, refused, set_false, set_true, stays,
+    suspend, wait,
+};
 use rv_event::entry::{Answer, Exception, Exit, Next, Recorded, Request, Rule};
 use rv_host::host::Host;
-use rv_shape::reading::read_shape;
-use rv_value::{Args, Scalars};
-use std::alloc::Global;
-
-const UNIT: &str = "unit Kinds
-task Pilot 15
-task Waiter 16
-task Other 14
-task High 25
-suspension Go
-protected Valve 20
-scalar 0 1 0
-entry Wait 1
-procedure Open
-function Get 0 1
-protected Alarm 35
-scalar 0 100 0
-handler Ring 3
-procedure Note in 0 100
-";
-
-const LIST: &str = "allow * * *
-deny Kinds Kinds.Alarm Note
-";
-
-const OPERATOR: usize = 0;
-
-const UNATTACHED: usize = 1;
-
-const RING: usize = 4;
-
-const PILOT: usize = 11;
-
-const WAITER: usize = 12;
-
-const OTHER: usize = 13;
-
-const HIGH: usize = 14;
-
-// The version of the list that was set.
-const VERSION: usize = 1;
-
-/// A host of so many entries with the unit and the list. None where there is no memory.
-pub fn host(alloc: Global, capacity: usize) -> Option<Host> {
-    let shape = read_shape(alloc, UNIT).ok()?;
-    let list = read_list(alloc, LIST).ok()?;
-    let mut host = Host::new(alloc, capacity).ok()?;
-    let loaded = host.load(&shape);
-    let listed = host.set_list(&list);
-    match (loaded, listed) {
-        (Answer::Accepted(_), Answer::Accepted(_)) => Some(host),
-        _ => None,
-    }
-}
-
-// A call without values.
-fn call(object: usize, operation: usize) -> Request {
-    Request::Call(object, operation, Args::new())
-}
-
-const GO: usize = 1;
-
-const VALVE: usize = 2;
-
-const ALARM: usize = 3;
-
-fn set_true() -> Request {
-    call(GO, 1)
-}
-
-fn set_false() -> Request {
-    call(GO, 2)
-}
-
-fn current_state() -> Request {
-    call(GO, 3)
-}
-
-fn suspend() -> Request {
-    call(GO, 4)
-}
-
-fn wait() -> Request {
-    call(VALVE, 1)
-}
-
-fn open() -> Request {
-    call(VALVE, 2)
-}
-
-fn get() -> Request {
-    call(VALVE, 3)
-}
-
-// The end of the function's body.
-fn got() -> Request {
-    let exit = Exit::Return(Args::from_slice(&[0]));
-    Request::Complete(Scalars::new(), exit)
-}
-
-// The end of another body, which leaves this scalar.
-fn end(scalar: i64) -> Request {
-    let exit = Exit::Return(Args::new());
-    Request::Complete(Scalars::from_slice(&[scalar]), exit)
-}
-
-// Whether a request gets this answer, which is recorded.
-fn gets(host: &mut Host, actor: usize, request: Request, due: Recorded) -> bool {
-    host.step(actor, request).recorded() == Some(due)
-}
-
-// Whether a request gets this answer, which is not recorded.
-fn stays(host: &mut Host, actor: usize, request: Request, due: Answer) -> bool {
-    host.step(actor, request) == due
-}
+use rv_value::Scalars;
 
 // A function, and a procedure that raises an exception.
 fn bodies(host: &mut Host) -> bool {
     let raised = Exit::Raise(Exception::ProgramError);
     let raise = Request::Complete(Scalars::from_slice(&[0]), raised);
-    gets(host, PILOT, get(), Recorded::Started)
-        && gets(host, PILOT, got(), Recorded::Done(Next::Nothing))
-        && gets(host, PILOT, open(), Recorded::Started)
-        && gets(host, PILOT, raise, Recorded::Done(Next::Nothing))
+    gets(host, PILOT, get(VALVE), Recorded::Started)
+        && ends(host, PILOT, got())
+        && gets(host, PILOT, open(VALVE), Recorded::Started)
+        && ends(host, PILOT, raise)
 }
 
 // A caller waits in the queue, and a second one is refused.
 fn queued(host: &mut Host) -> bool {
-    gets(host, WAITER, wait(), Recorded::Queued)
+    gets(host, WAITER, wait(VALVE), Recorded::Queued)
         && stays(host, WAITER, Request::Resume, Answer::Waiting)
-        && refused(host, OTHER, wait(), Rule::Queue)
-}
-
-// A call that a rule, the list aside, refuses.
-fn refused(host: &mut Host, actor: usize, request: Request, rule: Rule) -> bool {
-    gets(host, actor, request, Recorded::Refused(rule, 0, VERSION))
+        && refused(host, OTHER, wait(VALVE), Rule::Queue)
 }
 
 // Calls beside a body, and inside it.
 fn refusals(host: &mut Host) -> bool {
-    gets(host, PILOT, open(), Recorded::Started)
-        && stays(host, OTHER, get(), Answer::Busy)
-        && refused(host, HIGH, get(), Rule::Ceiling)
+    gets(host, PILOT, open(VALVE), Recorded::Started)
+        && stays(host, OTHER, get(VALVE), Answer::Busy)
+        && refused(host, HIGH, get(VALVE), Rule::Ceiling)
         && refused(host, PILOT, suspend(), Rule::Blocking)
-        && refused(host, PILOT, get(), Rule::Reentry)
+        && refused(host, PILOT, get(VALVE), Rule::Reentry)
+}
+
+// Inside the body a function and a procedure of another object, each with its end, and in the latter calls that are refused:
+// of the outer object, of an entry, a delay.
+fn nested(host: &mut Host) -> bool {
+    gets(host, PILOT, get(GATE), Recorded::Started)
+        && ends(host, PILOT, got())
+        && gets(host, PILOT, open(GATE), Recorded::Started)
+        && refused(host, PILOT, get(VALVE), Rule::Reentry)
+        && refused(host, PILOT, wait(VALVE), Rule::Blocking)
+        && refused(host, PILOT, Request::DelayUntil(0), Rule::Blocking)
+        && ends(host, PILOT, end(0))
 }
 
 // The body opens the barrier, and the object goes to the caller that waits.
@@ -156,44 +53,52 @@ fn handed(host: &mut Host) -> bool {
     let due = Recorded::Done(Next::HandedTo(WAITER));
     gets(host, PILOT, end(1), due)
         && gets(host, WAITER, Request::Resume, Recorded::Woken)
-        && gets(host, WAITER, end(0), Recorded::Done(Next::Nothing))
+        && ends(host, WAITER, end(0))
 }
 
 // A task suspends itself, a second one is refused, and the first goes on.
 fn suspended(host: &mut Host) -> bool {
     gets(host, PILOT, suspend(), Recorded::Suspended)
         && refused(host, OTHER, suspend(), Rule::Waiter)
-        && gets(host, OTHER, set_true(), Recorded::Accepted(0))
+        && accepted(host, OTHER, set_true())
         && gets(host, PILOT, Request::Resume, Recorded::Woken)
-        && gets(host, PILOT, current_state(), Recorded::Accepted(0))
-        && gets(host, PILOT, set_false(), Recorded::Accepted(0))
+        && accepted(host, PILOT, current_state())
+        && accepted(host, PILOT, set_false())
 }
 
-// An interrupt with a handler and one without.
+// A task goes on at once, since the object is True, which leaves False.
+fn went_on(host: &mut Host) -> bool {
+    accepted(host, OTHER, set_true())
+        && gets(host, PILOT, current_state(), Recorded::Accepted(1))
+        && accepted(host, PILOT, suspend())
+        && accepted(host, PILOT, current_state())
+}
+
+// An interrupt with a handler, inside whose body another object is called, and one without.
 fn fired(host: &mut Host) -> bool {
     gets(host, RING, Request::Fire, Recorded::Started)
-        && gets(host, RING, end(5), Recorded::Done(Next::Nothing))
+        && gets(host, RING, get(GATE), Recorded::Started)
+        && refused(host, RING, get(VALVE), Rule::Ceiling)
+        && ends(host, RING, got())
+        && ends(host, RING, end(5))
         && stays(host, UNATTACHED, Request::Fire, Answer::Unattached)
         && stays(host, PILOT, Request::Fire, Answer::Misuse)
 }
 
 // A call that the list denies.
 fn denied(host: &mut Host) -> bool {
-    let note = Request::Call(ALARM, 2, Args::from_slice(&[7]));
-    gets(
-        host,
-        PILOT,
-        note,
-        Recorded::Refused(Rule::Grant, 2, VERSION),
-    )
+    let due = Recorded::Refused(Rule::Grant, 2, VERSION);
+    gets(host, PILOT, note(), due)
 }
 
-// A delay until the next tick, in the round of this number, from 1.
+// A delay until the next tick, in the round of this number, from 1, and one that is over at once.
 fn delayed(host: &mut Host, round: i64) -> bool {
     gets(host, PILOT, Request::DelayUntil(round), Recorded::Delayed)
-        && gets(host, OPERATOR, Request::Tick(1), Recorded::Accepted(0))
+        && stays(host, PILOT, Request::Resume, Answer::Waiting)
+        && accepted(host, OPERATOR, Request::Tick(1))
         && gets(host, PILOT, Request::Resume, Recorded::Woken)
         && gets(host, PILOT, Request::Clock, Recorded::Accepted(round))
+        && accepted(host, PILOT, Request::DelayUntil(round))
 }
 
 // Whether each step of a round gets its answer.
@@ -201,8 +106,10 @@ fn is_as_due(host: &mut Host, round: i64) -> bool {
     bodies(host)
         && queued(host)
         && refusals(host)
+        && nested(host)
         && handed(host)
         && suspended(host)
+        && went_on(host)
         && fired(host)
         && denied(host)
         && delayed(host, round)

@@ -1,13 +1,17 @@
 //! Measures steps of a host: a call of a function and its end, on small and large hosts, at the head of a journal and far
-//! into it; and the change of a whole list. `Mutex` and a push into a `Vec` stand beside.
+//! into it; and the change of a whole list. `Mutex` and a push into a `Vec` stand beside. Then it carries out steps of each
+//! kind again and again, and says how often all were answered as is due: whether they take memory is counted from outside.
 #![tactic(auto)]
 
 mod beside;
+mod closing;
 mod kinds;
 mod plant;
+mod requests;
 mod stepped;
 mod table;
 
+use closing::Closing;
 use plant::{Plant, host};
 use rv_host::host::Host;
 use std::alloc::Global;
@@ -28,7 +32,7 @@ fn made(alloc: Global, calls: usize) -> Option<usize> {
 
 // How many rounds of steps of each kind go as is due. None where there is no memory.
 fn rounds(alloc: Global, count: usize) -> Option<usize> {
-    let mut host = kinds::host(alloc, MOST_ENTRIES)?;
+    let mut host = requests::host(alloc, MOST_ENTRIES)?;
     let count = i64::try_from(count).ok()?;
     Some(kinds::rounds(&mut host, count))
 }
@@ -61,6 +65,11 @@ fn print_task<R: Clock + Wait + Print>(
         "table" => table::print(rt, alloc, number),
         "step" => print_number(rt, made(alloc, number)),
         "kinds" => print_number(rt, rounds(alloc, number)),
+        "dropped" => print_number(rt, Closing::Dropped.count(alloc, number)),
+        "quit" => print_number(rt, Closing::Quit.count(alloc, number)),
+        "halted" => print_number(rt, Closing::Halted.count(alloc, number)),
+        "resumed" => print_number(rt, Closing::Resumed.count(alloc, number)),
+        "full" => print_number(rt, Closing::Full.count(alloc, number)),
         "reserve" => print_number(rt, room(alloc)),
         _ => Ok(ExitCode::from(2)),
     }
@@ -79,5 +88,8 @@ fn main(rt: HostRuntime) -> io::Result<ExitCode> {
         }
     }
     let _ = eprintln!(rt; "usage: step_bench table ROUNDS | step CALLS | kinds ROUNDS | reserve 0");
+    let _ = eprintln!(rt;
+        "       step_bench dropped | quit | halted | resumed | full, and a number of hosts, up to 100"
+    );
     Ok(ExitCode::from(2))
 }
