@@ -1,5 +1,5 @@
 //! Requests that are made one by one through the passes of a turn over a host, beside one run of the same requests.
-ghost use Rattle.std.specs.Prelude.{◌≡◌, true, [], IfSome};
+ghost use Rattle.std.specs.Prelude.{◌≡◌, true, []};
 
 mod counted_host;
 mod rounds;
@@ -43,7 +43,9 @@ fn split_all(alloc: Global, mut first: Pass<CountedHost>) -> Option<Passes>
 // The passes of a turn over a new host with the unit and the list.
 fn cut_passes(alloc: Global, room: usize) -> Option<Passes> {
     let host = host(alloc)?;
-    let host = CountedHost::new(alloc, host, room).ok()?;
+    let Ok(host) = CountedHost::new(alloc, host, room) else {
+        return None;
+    };
     match Turn::make(alloc, host) {
         Ok((_turn, first)) => split_all(alloc, first),
         Err(_) => None,
