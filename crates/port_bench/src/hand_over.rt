@@ -74,7 +74,12 @@ fn time_both<R: Threads + Wait + Clock + Sync>(
     time_sides(rt, &StartLine::new(2), sides, turns)
 }
 
-/// Nanoseconds a turn of a game between two ports: two hand-overs.
+// The hand-overs of so many turns: each turn is one there and one back.
+fn hand_overs(turns: u64) -> u64 {
+    turns.saturating_mul(2)
+}
+
+/// Nanoseconds a hand-over, over so many turns of a game between two ports.
 pub fn between_ports<R: Threads + Wait + Clock + Sync>(
     rt: &R,
     alloc: Global,
@@ -82,7 +87,7 @@ pub fn between_ports<R: Threads + Wait + Clock + Sync>(
 ) -> Option<u64> {
     let mut control = control(alloc, capacity_for(turns))?;
     let taken = time_both(rt, alloc, &mut control, turns);
-    nanos_a_part(taken, turns)
+    nanos_a_part(taken, hand_overs(turns))
 }
 
 /// A ball under a lock.
@@ -118,7 +123,7 @@ fn time_throws<R: Wait + Clock>(
     nanos_since(rt, start, true)
 }
 
-/// Nanoseconds a turn of the same game by a `Mutex` and a `Condvar`.
+/// Nanoseconds a hand-over in the same game by a `Mutex` and a `Condvar`.
 pub fn by_condvar<R: Threads + Wait + Clock + Sync>(
     rt: &R,
     alloc: Global,
@@ -138,5 +143,5 @@ pub fn by_condvar<R: Threads + Wait + Clock + Sync>(
         sides,
         &|begins| { time_throws(rt, &line, &court, begins, turns) },
     );
-    nanos_a_part(taken.ok(), turns)
+    nanos_a_part(taken.ok(), hand_overs(turns))
 }

@@ -158,7 +158,7 @@ fn print_table<R: Threads + Wait + Clock + Print + Sync>(
     calls: u64,
 ) -> io::Result<()> {
     println!(rt;
-        "ns, of {ROUNDS} runs of {calls} calls or turns a thread, each on a new journal: the least, and the median"
+        "ns a call or a hand-over, of {ROUNDS} runs of {calls} calls or turns a thread, each on a new journal: the least, and the median"
     )?;
     println!(rt; "what      threads      port    beside   ratio      port    beside   ratio")?;
     print_row(rt, "call", 1, calls_cost(rt, alloc, 1, calls))?;

@@ -29,7 +29,6 @@ pub enum StartFault {
 }
 
 /// The threads of a host. Contracts see which ports are out, which came back, and which are lost.
-#[derive(Drop)]
 pub struct Crew {
     alloc: Global,
     running: Vec<PromisedHandle<Finished, OfPort>>,
@@ -50,6 +49,18 @@ impl Model for Crew {
     ghost use Rattle.rv_crew.specs.Crews.{owed};
 
     ghost view = { λ c. record { running = map owed c.running.items; joined = c.joined.items; lost = c.lost.items } };
+}
+
+impl Drop for Crew {
+    // A function of its own: a derived one is written out wherever a crew is let go, and proved there.
+    fn drop(self) {
+        let Crew {
+            alloc: _,
+            running: _,
+            joined: _,
+            lost: _,
+        } = self;
+    }
 }
 
 /// What a crew leaves when it is closed.

@@ -34,7 +34,6 @@ pub(crate) struct LineChannel {
 }
 
 /// A host that runs.
-#[derive(Drop)]
 pub struct Session {
     pub alloc: Global,
     pub staff: Staff,
@@ -44,6 +43,19 @@ pub struct Session {
     pub devices: Vec<DeviceJob>,
     /// How many requests a task's own body may make.
     pub budget: u32,
+}
+
+impl Drop for Session {
+    // A function of its own: a derived one is written out wherever a session is let go, and proved there.
+    fn drop(self) {
+        let Session {
+            alloc: _,
+            staff: _,
+            channels: _,
+            devices: _,
+            budget: _,
+        } = self;
+    }
 }
 
 impl Session {
@@ -68,9 +80,11 @@ impl Session {
         ensures { IfSome result (Ended self.staff) }
     {
         let Session {
+            alloc: _,
             staff,
             channels,
-            ..
+            devices: _,
+            budget: _,
         } = self;
         drop(channels);
         staff.end(rt)

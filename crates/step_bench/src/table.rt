@@ -38,7 +38,7 @@ const LARGE: Plant = Plant {
     lines: MOST_LINES,
 };
 
-// A step on a new host of that plant.
+// A step on a new host of that plant: its memory is small, so that of the host before is taken again.
 fn step<R: Clock>(rt: &R, alloc: Global, plant: Plant) -> Option<u64> {
     let mut host = host(alloc, ROOM, plant)?;
     tenths_a_step(rt, &mut host, plant.actor())
@@ -50,11 +50,13 @@ fn fill(host: &mut Host, actor: usize) {
     let _ = calls(host, actor, missing / 2);
 }
 
-// A step far into the journal.
-fn far_step<R: Clock>(rt: &R, alloc: Global) -> Option<u64> {
+// A step on a new host of the largest journal, and on the same after a million entries. Each is the first to touch its memory.
+fn untouched<R: Clock>(rt: &R, alloc: Global) -> Option<(u64, u64)> {
     let mut host = host(alloc, MOST_ENTRIES, SMALL)?;
+    let new = tenths_a_step(rt, &mut host, SMALL.actor())?;
     fill(&mut host, SMALL.actor());
-    tenths_a_step(rt, &mut host, SMALL.actor())
+    let far = tenths_a_step(rt, &mut host, SMALL.actor())?;
+    Some((new, far))
 }
 
 // What setting this list takes, in tenths of nanoseconds.
@@ -83,15 +85,24 @@ fn print_figure<R: Print>(rt: &R, figure: Option<u64>) -> io::Result<()> {
     print!(rt; " {}.{}", tenths / 10, tenths % 10)
 }
 
+// Prints two figures.
+fn print_both<R: Print>(rt: &R, both: Option<(u64, u64)>) -> io::Result<()> {
+    let Some((one, other)) = both else {
+        return Err(ErrorKind::OutOfMemory.into());
+    };
+    print_figure(rt, Some(one))?;
+    print_figure(rt, Some(other))
+}
+
 // Prints the figures of one round.
 fn print_row<R: Clock + Wait + Print>(rt: &R, alloc: Global, round: usize) -> io::Result<()> {
     print!(rt; "{round}")?;
     print_figure(rt, step(rt, alloc, SMALL))?;
-    print_figure(rt, far_step(rt, alloc))?;
     print_figure(rt, step(rt, alloc, WIDE))?;
     print_figure(rt, step(rt, alloc, LISTED))?;
     print_figure(rt, step(rt, alloc, LARGE))?;
-    print_figure(rt, beside::push(rt, alloc))?;
+    print_both(rt, untouched(rt, alloc))?;
+    print_both(rt, beside::push(rt, alloc))?;
     print_figure(rt, beside::lock(rt))?;
     print_figure(rt, list_change(rt, alloc))?;
     println!(rt; "")
@@ -103,7 +114,7 @@ pub fn print<R: Clock + Wait + Print>(
     alloc: Global,
     rounds: usize,
 ) -> io::Result<ExitCode> {
-    println!(rt; "round step far units lines both push lock list")?;
+    println!(rt; "round step units lines both new far touch push lock list")?;
     for round in 0..rounds {
         print_row(rt, alloc, round)?;
     }

@@ -50,7 +50,14 @@ impl Control {
             });
         }
         take_passes(&mut passes, finished);
-        let Control { turn, pass, .. } = self;
+        let Control {
+            alloc: _,
+            turn,
+            pass,
+            bell: _,
+            given: _,
+            catalogue: _,
+        } = self;
         let Behind { host, .. } = turn.close(rt, pass, passes);
         let host = Box::into_inner(host);
         host.replays();
