@@ -12,7 +12,7 @@ missing() {
     echo "bench/step.sh: $1 is missing" >&2
     exit 127
 }
-for tool in rt cc nproc cut id; do
+for tool in rt cc nproc cut id seq; do
     command -v "$tool" >/dev/null || missing "$tool"
 done
 python3 -c 'import resource, sys; sys.exit(sys.version_info < (3, 9))' 2>/dev/null || missing "python3 (3.9 or newer)"
@@ -28,6 +28,10 @@ if ! rt run -- reserve 0 >"$folder/log" 2>&1 </dev/null; then
 fi
 echo "user $(id -u) (GNAT's ceilings cost what they cost only as root, 0), $(nproc) cores, load $(cut -d ' ' -f 1 /proc/loadavg) before the first run"
 out/step_bench table "${1:-5}" >"$folder/table"
+# A process of its own for each, so that no memory of an earlier host is taken again.
+for _ in $(seq "${1:-5}"); do
+    out/step_bench far 0 >>"$folder/far"
+done
 
 # The same call under GNAT: a function of a protected object with a ceiling, without a host.
 if command -v gnatmake >/dev/null; then
@@ -93,6 +97,8 @@ import os, resource, subprocess, sys, time
 folder, top = sys.argv[1:]
 heads, *rows = [line.split()[1:] for line in open(f"{folder}/table")]
 least = {head: min(float(row[place]) for row in rows) for place, head in enumerate(heads)}
+far = [line.split() for line in open(f"{folder}/far")]
+least.update({head: min(float(row[place]) for row in far) for place, head in enumerate(["new", "far"])})
 
 
 def told(what, head, beside, aim=""):

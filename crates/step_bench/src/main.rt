@@ -63,6 +63,7 @@ fn print_task<R: Clock + Wait + Print>(
 ) -> io::Result<ExitCode> {
     match task {
         "table" => table::print(rt, alloc, number),
+        "far" => table::print_far(rt, alloc),
         "step" => print_number(rt, made(alloc, number)),
         "kinds" => print_number(rt, rounds(alloc, number)),
         "dropped" => print_number(rt, Closing::Dropped.count(alloc, number)),
@@ -87,7 +88,9 @@ fn main(rt: HostRuntime) -> io::Result<ExitCode> {
             }
         }
     }
-    let _ = eprintln!(rt; "usage: step_bench table ROUNDS | step CALLS | kinds ROUNDS | reserve 0");
+    let _ = eprintln!(rt;
+        "usage: step_bench table ROUNDS | far 0 | step CALLS | kinds ROUNDS | reserve 0"
+    );
     let _ = eprintln!(rt;
         "       step_bench dropped | quit | halted | resumed | full, and a number of hosts, up to 100"
     );

@@ -50,7 +50,7 @@ fn fill(host: &mut Host, actor: usize) {
     let _ = calls(host, actor, missing / 2);
 }
 
-// A step on a new host of the largest journal, and on the same after a million entries. Each is the first to touch its memory.
+// A step on a new host of the largest journal, and on the same after a million entries.
 fn untouched<R: Clock>(rt: &R, alloc: Global) -> Option<(u64, u64)> {
     let mut host = host(alloc, MOST_ENTRIES, SMALL)?;
     let new = tenths_a_step(rt, &mut host, SMALL.actor())?;
@@ -101,7 +101,6 @@ fn print_row<R: Clock + Wait + Print>(rt: &R, alloc: Global, round: usize) -> io
     print_figure(rt, step(rt, alloc, WIDE))?;
     print_figure(rt, step(rt, alloc, LISTED))?;
     print_figure(rt, step(rt, alloc, LARGE))?;
-    print_both(rt, untouched(rt, alloc))?;
     print_both(rt, beside::push(rt, alloc))?;
     print_figure(rt, beside::lock(rt))?;
     print_figure(rt, list_change(rt, alloc))?;
@@ -114,9 +113,17 @@ pub fn print<R: Clock + Wait + Print>(
     alloc: Global,
     rounds: usize,
 ) -> io::Result<ExitCode> {
-    println!(rt; "round step units lines both new far touch push lock list")?;
+    println!(rt; "round step units lines both touch push lock list")?;
     for round in 0..rounds {
         print_row(rt, alloc, round)?;
     }
+    Ok(ExitCode::SUCCESS)
+}
+
+/// Prints what a step takes on a new host of the largest journal, and after a million entries, in nanoseconds. Nothing else is
+/// measured in the same process: so each entry is the first that touches its memory, in either figure.
+pub fn print_far<R: Clock + Print>(rt: &R, alloc: Global) -> io::Result<ExitCode> {
+    print_both(rt, untouched(rt, alloc))?;
+    println!(rt; "")?;
     Ok(ExitCode::SUCCESS)
 }
