@@ -109,6 +109,7 @@ def told(what, head, beside, aim=""):
 print(f"the least of {len(rows)} rounds of 20 batches, and its ratio to the first line of its part")
 print("on memory that was used before:")
 told("a step: one unit, one line, a new host", "step", "step", "aim: at most 100 ns")
+told("the same with request and answer moved, and not lent", "moved", "step")
 told("a step with 64 units, 256 objects of 16 operations", "units", "step", "aim: within 1.3")
 told("a step with 512 lines, of which the first decides", "lines", "step", "aim: within 1.3")
 told("a step with both", "both", "step")

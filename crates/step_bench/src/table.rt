@@ -2,7 +2,7 @@
 
 use crate::beside;
 use crate::plant::{MOST_UNITS, Plant, host, list};
-use crate::stepped::{calls, tenths_a_step};
+use crate::stepped::{Way, calls, tenths_a_step};
 use rv_access::{AccessList, MOST_LINES};
 use rv_event::entry::Answer;
 use rv_host::host::Host;
@@ -39,9 +39,9 @@ const LARGE: Plant = Plant {
 };
 
 // A step on a new host of that plant: its memory is small, so that of the host before is taken again.
-fn step<R: Clock>(rt: &R, alloc: Global, plant: Plant) -> Option<u64> {
+fn step<R: Clock>(rt: &R, alloc: Global, plant: Plant, way: Way) -> Option<u64> {
     let mut host = host(alloc, ROOM, plant)?;
-    tenths_a_step(rt, &mut host, plant.actor())
+    tenths_a_step(rt, &mut host, plant.actor(), way)
 }
 
 // Makes calls until there are a million entries.
@@ -53,9 +53,9 @@ fn fill(host: &mut Host, actor: usize) {
 // A step on a new host of the largest journal, and on the same after a million entries.
 fn untouched<R: Clock>(rt: &R, alloc: Global) -> Option<(u64, u64)> {
     let mut host = host(alloc, MOST_ENTRIES, SMALL)?;
-    let new = tenths_a_step(rt, &mut host, SMALL.actor())?;
+    let new = tenths_a_step(rt, &mut host, SMALL.actor(), Way::Lent)?;
     fill(&mut host, SMALL.actor());
-    let far = tenths_a_step(rt, &mut host, SMALL.actor())?;
+    let far = tenths_a_step(rt, &mut host, SMALL.actor(), Way::Lent)?;
     Some((new, far))
 }
 
@@ -97,10 +97,11 @@ fn print_both<R: Print>(rt: &R, both: Option<(u64, u64)>) -> io::Result<()> {
 // Prints the figures of one round.
 fn print_row<R: Clock + Wait + Print>(rt: &R, alloc: Global, round: usize) -> io::Result<()> {
     print!(rt; "{round}")?;
-    print_figure(rt, step(rt, alloc, SMALL))?;
-    print_figure(rt, step(rt, alloc, WIDE))?;
-    print_figure(rt, step(rt, alloc, LISTED))?;
-    print_figure(rt, step(rt, alloc, LARGE))?;
+    print_figure(rt, step(rt, alloc, SMALL, Way::Lent))?;
+    print_figure(rt, step(rt, alloc, SMALL, Way::Moved))?;
+    print_figure(rt, step(rt, alloc, WIDE, Way::Lent))?;
+    print_figure(rt, step(rt, alloc, LISTED, Way::Lent))?;
+    print_figure(rt, step(rt, alloc, LARGE, Way::Lent))?;
     print_both(rt, beside::push(rt, alloc))?;
     print_figure(rt, beside::lock(rt))?;
     print_figure(rt, list_change(rt, alloc))?;
@@ -113,7 +114,7 @@ pub fn print<R: Clock + Wait + Print>(
     alloc: Global,
     rounds: usize,
 ) -> io::Result<ExitCode> {
-    println!(rt; "round step units lines both touch push lock list")?;
+    println!(rt; "round step moved units lines both touch push lock list")?;
     for round in 0..rounds {
         print_row(rt, alloc, round)?;
     }
