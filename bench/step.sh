@@ -1,11 +1,11 @@
 #!/usr/bin/env bash
 # Measures a step of a host (a call of a function, and its end): on a new host, with one and with 512 lines of the list, with one
 # and with 64 units; on a host of the largest journal, new and after a million entries; beside a push of 64 bytes, a lock, and
-# where gnatmake is there the same call under GNAT's Ravenscar with ceilings; a change of a whole list; what a host of the largest journal touches; and, where
-# ravenhost is built, a script of 16 MiB of changes of the list. Then it counts allocations: a step must take none, of whatever
-# kind, with whatever answer. It is no test but of that. A number of rounds may be given, of which the least counts. The first
-# time it takes some minutes to prove and build. It needs rt, python3 (3.9 or newer) and a C compiler. Statuses: 0 done, 1 a
-# step takes memory or isn't answered as is due, 127 a tool is missing.
+# where gnatmake is there the same call under GNAT's Ravenscar with ceilings; a change of a whole list; what a host of the
+# largest journal touches; and, where ravenhost is built, a script of 16 MiB of changes of the list. Then it counts allocations:
+# a step must take none, of whatever kind, with whatever answer. It is no test but of that. A number of rounds may be given, of
+# which the least counts. The first time it takes some minutes to prove and build. It needs rt, python3 (3.9 or newer) and a C
+# compiler. Statuses: 0 done, 1 a step takes memory or isn't answered as is due, 127 a tool is missing.
 set -eu
 
 missing() {
