@@ -10,7 +10,7 @@ ghost use Rattle.rv_exec.specs.Bodies.{bodies_view};
 ghost use Rattle.rv_exec.specs.Expressions.{value, linked, arguments};
 ghost use Rattle.rv_exec.specs.Sizes.{most_size};
 
-use crate::activation::{Activation, joined, value_at};
+use crate::activation::{Activation, join, value_at};
 use crate::end::Cause;
 use crate::operators::{decides, prefix_of, result_of, within};
 use crate::outward::Outward;
@@ -114,7 +114,7 @@ pub fn arguments<R, O: Outward<R>>(
     let mut values = Args::new();
     for argument in given {
         match value_of(activation, runtime, surroundings, argument, outward) {
-            Ok(value) => values = joined(values, value),
+            Ok(value) => join(&mut values, value),
             Err(cause) => return Err(cause),
         }
     }

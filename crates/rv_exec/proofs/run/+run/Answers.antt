@@ -175,7 +175,7 @@ value::arguments-loop-argument-preserved g t c =
     let lt : c.loop-argument.argument-index < length c.args.given.now.items = omega (arith, ap length c.deref-argument-items.ensures.value) in
     let at : c.argument-item.result ≡ get_or c.args.given.now.items c.loop-argument.argument-index c.argument-item.result = c.argument-item.is ∙ ap (λ xs. get_or xs c.loop-argument.argument-index c.argument-item.result) c.deref-argument-items.ensures.value in
     let item : to_z w64 (of_z w64 c.in-Ok.value) ≡ c.in-Ok.value = first_of (search rules, grind arith) in
-    (omega arith, λ last after h. c.loop-argument.invariant.1 last after (argument_goes _ g.met.O.Outward.none g.met.O.Outward.both (world (bodies_view c.args.surroundings.now.bodies.now) c.args.surroundings.now.setting) c.args.given.now.items c.loop-argument.argument-index c.argument-item.result _ _ _ _ _ last _ _ _ lt at c.in-Ok.ensures.ran (c.joined-values.ensures ∙ ap (λ (k : ℤ). joined c.loop-argument.values k) item) h))
+    (omega arith, λ last after h. c.loop-argument.invariant.1 last after (argument_goes _ g.met.O.Outward.none g.met.O.Outward.both (world (bodies_view c.args.surroundings.now.bodies.now) c.args.surroundings.now.setting) c.args.given.now.items c.loop-argument.argument-index c.argument-item.result _ _ _ _ _ last _ _ _ lt at c.in-Ok.ensures.ran (c.join.ensures ∙ ap (λ (k : ℤ). joined c.loop-argument.values k) item) h))
 
 pub value::arguments-returns-clause-ran : goal.value::arguments-returns-clause-ran
 value::arguments-returns-clause-ran g t c =
