@@ -217,7 +217,7 @@ MUTANTS = [Mutant(*mutant) for mutant in (
     ("capacity 17 at least", "settings", "range(16, 1", "range(17, 1"),
     ("capacity 1,048,577", "settings", "1_048_576 + 1)", "1_048_576 + 2)"),
     ("capacity 1,048,575 at most", "settings", "1_048_576 + 1)", "1_048_576)"),
-    ("the capacity isn't used", "play", "Host(read_settings(lines))", "read_settings(lines) and Host()"),
+    ("the capacity isn't used", "play", "Host(read_settings(self.texts.text))", "read_settings(self.texts.text) and Host()"),
     ("settings anywhere", "play", "self.is_begun = True", "pass"),
     ("settings behind an empty section", "play", "self.is_begun = True", "self.is_begun = len(lines) > 0"),
     ("numbers with a fraction", "settings", "type(value) is kind", "type(value) in (kind, float)"),
