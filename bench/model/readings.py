@@ -87,6 +87,7 @@ MUTANTS = [Mutant(*mutant) for mutant in (
     ("carriage returns stay", "play", 'line.removesuffix("\\r")', "line"),
     ("a last carriage return is dropped", "play", "[last] if last", '[last.removesuffix("\\r")] if last'),
     ("five values of a call", "steps", "numbers(words[2:], 4)", "numbers(words[2:], 5)"),
+    ("names of exceptions heed case", "steps", "folded(name) == folded(ending[1])", "name == ending[1]"),
     ("33 scalars of an end", "steps", "numbers(words[:colon], 32)", "numbers(words[:colon], 33)"),
     ("a halted host takes loads", "host", "self.ask_running()\n        self.record(len", "self.record(len"),
     ("a halted host takes lists", "host", "self.ask_running()\n        ask(len(lines)", "ask(len(lines)"),
