@@ -62,7 +62,6 @@ pub struct Local {
 }
 
 /// A point of a body: what is declared there.
-#[derive(Drop)]
 pub struct Point<'a> {
     pub scope: Scope<'a>,
     catalogue: &'a Catalogue,
@@ -77,6 +76,23 @@ pub struct Point<'a> {
     parameters: usize,
     // The range of the result, in the body of a function.
     result_range: Option<Range>,
+}
+
+// One drop of all fields proves quicker than each of them wherever a point is let go.
+impl Drop for Point<'_> {
+    fn drop(self) {
+        let Point {
+            scope: _,
+            catalogue: _,
+            outline: _,
+            locals: _,
+            times: _,
+            object: _,
+            slots: _,
+            parameters: _,
+            result_range: _,
+        } = self;
+    }
 }
 
 impl<'a> Model for Point<'a> {
@@ -136,7 +152,18 @@ impl<'a> Point<'a> {
     pub(crate) fn into_scope(self) -> Scope<'a>
         ensures { result ≡ self.entry.scope }
     {
-        self.scope
+        let Point {
+            scope,
+            catalogue: _,
+            outline: _,
+            locals: _,
+            times: _,
+            object: _,
+            slots: _,
+            parameters: _,
+            result_range: _,
+        } = self;
+        scope
     }
 
     // What is known of a declaration of the body.
