@@ -4,6 +4,8 @@ A part is a text for each slot of the frame, `slot: text`, with || between; $N s
 
 # the task has four variables of 64, the protected object three components of 32
 SIXTY = ", ".join(f"V{number}" for number in range(1, 61))
+FIFTY = ", ".join(f"V{number}" for number in range(1, 51))
+FIFTEEN = ", ".join(f"K{number}" for number in range(1, 16))
 THIRTY = ", ".join(f"C{number}" for number in range(1, 31))
 
 FRAME = """$context
@@ -151,7 +153,8 @@ operations: function Extra return Integer; || operation_bodies: function Extra r
 operations: function Extra return Integer; || operation_bodies: function Extra return Integer is Z : Integer; begin Wait (Z); return Z; end Extra;
 locals: Z : Integer range 5 .. 1;
 statements: if False and then 1 / 0 * A > 0 then A := A * 2 / 0; end if;
-statements: A := 2147483647 + A + 1; S := 1 - 2 + A;"""
+statements: A := 2147483647 + A + 1; S := 1 - 2 + A;
+""" + f"locals: {FIFTY} : Integer; {FIFTEEN} : constant Integer := A;"
 
 WRONG = {  # what is said, and the parts of which it is said
     "restriction No_Abort_Statements": "statements: ^abort Pilot;\nstatements: if B then ^abort $N.Pilot, Pilot; end if;\nentry: ^abort Pilot;",
@@ -346,7 +349,8 @@ statements: A := abs (^65536 * 32768 * A);
 spec: Z : constant := ^2147483647 * 2 / 4;
 tasks: task Other with Priority => ^41; || bodies: task body Other is begin null; end Other;
 tasks: task Other with Priority => ^0; || bodies: task body Other is begin null; end Other;
-locals: {SIXTY}, ^Last : Integer;""",
+locals: {SIXTY}, ^Last : Integer;
+locals: {SIXTY}, W1, W2, W3, W4, ^Last : constant Integer := A;""",
     "types NotStatic": """statements: case A is when ^A => null; when others => null; end case;
 statements: case A is when 1 .. ^A => null; when others => null; end case;
 statements: case A is when ^Valve.Get => null; when others => null; end case;

@@ -21,7 +21,7 @@ use Rattle.rv_code.specs.declared.body.ExceptionChoice.TheVariants as choice
 use Rattle.rv_code.specs.declared.statement.Place.TheVariants.{Variable}
 use Rattle.rv_types.specs.declared.denoted.Denoted.{Denoted}
 use Rattle.rv_types.specs.declared.denoted.Denoted.TheVariants as d
-use Rattle.rv_types.specs.Points.{PointView, static_meaning, denotes, noting, taking_slot, has_slot, behind_parameters}
+use Rattle.rv_types.specs.Points.{PointView, static_meaning, denotes, noting, taking_object, has_object_slot, behind_parameters}
 use Rattle.rv_types.specs.StaticForm.{is_static}
 use Rattle.rv_types.specs.Typed.{typed_as}
 use Rattle.rv_types.specs.StatementCode.{statements_onto}
@@ -60,13 +60,13 @@ declaration_of slot r c = record { target = record { place = Variable slot; rang
 
 abbrev pub with_object : Identifier → Range → Range → Bool → Opened → code.Expression → Opened
 with_object i r starts is_written o c = record {
-  point = taking_slot i.at r is_written o.point;
+  point = taking_object i.at r is_written o.point;
   declarations = o.declarations ++ declaration_of o.point.slots starts c ∷ [];
 }
 
 -- the next object, for which a slot is left
 abbrev pub object_with : Identifier → Range → Range → Bool → Opened → code.Expression → Option Opened
-object_with i r starts is_written o c = if has_slot o.point then Some (with_object i r starts is_written o c) else None
+object_with i r starts is_written o c = if has_object_slot is_written o.point then Some (with_object i r starts is_written o c) else None
 
 abbrev pub objects_onto : Range → Bool → Option Expression → List Identifier → Opened → Option Opened
 objects_onto r is_written initial [] o = Some o

@@ -99,7 +99,7 @@ fn objects(
     for name in names {
         let value = initial(alloc, range, given, point)?;
         push_declaration(done, point.slots(), starts, value)?;
-        point.take_slot(name.at, range, is_written)?;
+        point.take_object(name.at, range, is_written)?;
     }
     Ok(())
 }
@@ -265,7 +265,7 @@ fn local(
             range,
             value,
         } => {
-            let left = point.slots_left();
+            let left = point.slots_left(*is_constant);
             point.hide(names)?;
             match object(alloc, names, *is_constant, mark, range, value, point, done) {
                 Ok(()) => Ok(()),

@@ -208,7 +208,7 @@ call::perform-returns-in_default-clause-ran g t c =
 
 pub call::perform-returns-clause-ran : goal.call::perform-returns-clause-ran
 call::perform-returns-clause-ran g t c =
-    let from : c.bind.new.self ≡ opened (bound (body_view c.in-Some.body.now).parameters 0 0 c.args.values (replicate 68 (pos 0))) c.args.components c.args.steps 0 = activation_is _ _ _ _ _ c.bind.ensures.slots c.bind.ensures.rest.0 c.bind.ensures.rest.1 c.bind.ensures.rest.2 in
+    let from : c.bind.new.self ≡ opened (bound (body_view c.in-Some.body.now).parameters 0 0 c.args.values (replicate 132 (pos 0))) c.args.components c.args.steps 0 = activation_is _ _ _ _ _ c.bind.ensures.slots c.bind.ensures.rest.0 c.bind.ensures.rest.1 c.bind.ensures.rest.2 in
     body_goes _ g.met.O.Outward.none g.met.O.Outward.both (bodies_view c.args.surroundings.now.bodies.now) c.args.surroundings.now.setting.object c.args.surroundings.now.setting.held c.args.surroundings.now.setting.nested c.args.operation c.args.values c.args.components c.args.steps (body_view c.in-Some.body.now) c.bind.new.self _ _ _ _ _ c.if-setting-eq0.false c.in-Some.ensures.found from c.run_block-end.ensures.ran c.outcome_of.ensures
 
 pub block::run_block-elaborate-requires : goal.block::run_block-elaborate-requires
