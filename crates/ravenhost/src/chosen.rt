@@ -33,8 +33,8 @@ pub enum Unchosen {
     NoMemory,
 }
 
-/// The version of the program, and the kit that proves and builds it.
-pub const VERSION: &str = "1.0.0 (rattle-kit-13f logic dac8208d650f15bf)";
+/// The version of the program. The launcher adds whether it is proved, and the kit that built it.
+pub const VERSION: &str = "1.0.0";
 
 // A flag.
 fn flag<'a>(alloc: Global, name: &'a str, help: &'a str) -> Arg<'a>

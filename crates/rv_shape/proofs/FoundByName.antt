@@ -1,10 +1,10 @@
 -- What is loaded is found by its names, where each shape fitted when it was loaded.
-use Rattle.std.proofs.Common.{◌≡◌, ℕ, zero, suc, ◌+◌, ◌-◌, ◌≤◌, List, [], ◌∷◌, ◌++◌, length, map, Some, None, Bool, true, false, arith, ap, sym, ◌∙◌, refl, ◌⊎◌, inl, inr}
+use Rattle.std.proofs.Common.{◌≡◌, ℕ, zero, suc, ◌+◌, ◌-◌, ◌≤◌, List, [], ◌∷◌, ◌++◌, length, map, take, drop, get_or, subst, append_assoc, ◌<◌, Some, None, Bool, true, false, arith, ap, sym, ◌∙◌, refl, ◌⊎◌, inl, inr}
 use Rattle.std.specs.Prelude.{nat_lt, nat_le, slice_get, ◌||◌, ◌&&◌, ◌==◌, not, if◌then◌else◌}
 use Rattle.std.specs.List.{list_any, flat_map}
 use Rattle.std.specs.Option.{option_map}
 use Rattle.std.specs.Char.{to_ascii_lowercase, is_ascii_alphanumeric}
-use Rattle.std.proofs.lemmas.List.{map-append}
+use Rattle.std.proofs.lemmas.List.{map-append, take-append-drop, drop_more}
 use Rattle.std.proofs.lemmas.List.Folds.{list_any-append}
 use Rattle.std.proofs.lemmas.Option.{slice_get-map}
 use Rattle.std.proofs.lemmas.Bool.Decides.{nat_tests}
@@ -365,3 +365,25 @@ distinct_more ss s d none =
 
 pub distinct_none : AreDistinct []
 distinct_none = record { units = refl; each = tt }
+
+-- the first of shapes that differ do
+
+front_clear : (shapes more : List Shape) → AreClear (shapes ++ more) → AreClear shapes
+front_clear [] more all = tt
+front_clear (shape ∷ shapes) more all = (all.0, front_clear shapes more all.1)
+
+front_distinct : (shapes more : List Shape) → AreDistinct (shapes ++ more) → AreDistinct shapes
+front_distinct shapes more all = record {
+  units = twice_before (map unit_name shapes) (map unit_name more) (ap twice (sym (map-append unit_name shapes more)) ∙ all.units);
+  each = front_clear shapes more all.each;
+}
+
+-- so they do with the item behind them
+pub first_distinct : (shapes : List Shape) (i : ℕ) (s : Shape) → AreDistinct shapes → i < length shapes → s ≡ get_or shapes i s →
+    AreDistinct (take i shapes ++ s ∷ [])
+first_distinct shapes i s all within is =
+    front_distinct (take i shapes ++ s ∷ []) (drop (i + 1) shapes)
+    (subst AreDistinct
+    (sym (take-append-drop i shapes) ∙ ap (λ xs. take i shapes ++ xs) (drop_more shapes i s within ∙ ap (λ x. x ∷ drop (i + 1) shapes) (sym is))
+    ∙ sym (append_assoc (take i shapes) (s ∷ []) (drop (i + 1) shapes)))
+    all)
