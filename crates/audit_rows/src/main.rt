@@ -2,6 +2,7 @@
 //! it found what stands beside it.
 //!
 //! `NAME.raven` is a script of shapes and a journal, behind a capacity where it isn't 4,096; `NAME.said` is the verdict.
+//! Each line of a journal that is legal is read as an entry, too.
 #![tactic(auto)]
 
 mod script;
@@ -9,6 +10,7 @@ mod script;
 use rv_audit::audit::Audit;
 use rv_audit::verdict::Verdict;
 use rv_event::text::text_of_answer;
+use rv_reading::entry::read_entry;
 use script::{Script, script_of};
 use std::alloc::Global;
 use std::{fs, io};
@@ -27,12 +29,29 @@ fn said(alloc: Global, audit: &Audit, verdict: &Verdict) -> io::Result<String> {
     Ok(text)
 }
 
+// How many lines of a journal are an entry's, by the names of what it loaded.
+fn entries_read(alloc: Global, audit: &Audit, journal: &str) -> usize {
+    let mut entries = 0usize;
+    for line in journal.lines() {
+        if read_entry(alloc, audit.catalogue(), line).is_ok() {
+            entries = entries.saturating_add(1);
+        }
+    }
+    entries
+}
+
 // What is found of the journal of a script.
 fn found(alloc: Global, script: &Script<'_>) -> io::Result<String> {
     let Ok(mut audit) = Audit::new(alloc, script.capacity) else {
         return String::from_str(alloc, "no audit\n").map_err(|e| io::Error::from(e));
     };
     let verdict = audit.judge_all(script.units.as_slice(), script.journal);
+    if let Verdict::Legal(entries) = verdict {
+        let read = entries_read(alloc, &audit, script.journal);
+        if read != entries {
+            return Ok(format!(in alloc; "{read} lines of {entries} read\n")?);
+        }
+    }
     said(alloc, &audit, &verdict)
 }
 
