@@ -1,5 +1,5 @@
 -- What the text of a section gives, and what stands against it (own).
-use Rattle.std.specs.Prelude.{◌≡◌, ◌<◌, ◌≤◌, ℕ, List, length, Option, Some, None, Result, Ok, Err}
+use Rattle.std.specs.Prelude.{◌≡◌, ◌<◌, ◌≤◌, ℕ, List, [], ◌∷◌, length, Option, Some, None, Result, Ok, Err}
 use Rattle.rv_text.specs.Sections.{SectionText}
 use Rattle.rv_access.specs.Words.{Words}
 use Rattle.rv_access.specs.declared.fault.ListFault.{ListFault}
@@ -10,7 +10,7 @@ use Rattle.rv_unit.specs.Compiles.{IsCompiled, IsRefused as IsNoUnit}
 use Rattle.rv_unit.specs.declared.fault.UnitFault.TheVariants.{NoMemory as NoRoom}
 use Rattle.rv_unit.specs.declared.unit.Unit.{Unit as Compiled}
 use Rattle.rv_script.specs.UnitTexts.{most_unit_bytes}
-use Rattle.rv_settings.specs.Settings.{SettingsText, IsSettings, IsRefused, default_settings}
+use Rattle.rv_settings.specs.Settings.{DeviceText, SettingsText, IsSettings, IsRefused, default_settings}
 use Rattle.rv_settings.specs.declared.fault.SettingsFault.TheVariants.{NoMemory}
 use Rattle.rv_fault.specs.declared.failure.Failure.{Failure}
 use Rattle.rv_fault.specs.declared.failure.Failure.TheVariants.{Refused, Memory, Io}
@@ -65,3 +65,11 @@ Reads line gives (Err (Io error)) = ⊥
 abbrev pub line_of : Option SectionText → ℕ
 line_of None = 1
 line_of (Some section) = section.line
+
+-- the unit that a device is: one task, and no objects
+abbrev pub device_shape : DeviceText → Shape
+device_shape device = record {
+  name = device.unit;
+  tasks = (record { name = device.task; priority = device.priority }) ∷ [];
+  objects = [];
+}
