@@ -3,7 +3,7 @@
 use Rattle.std.specs.Prelude.{◌≡◌, Bool, true, false, List, [], ◌∷◌, Option, Some, None, codes}
 use Rattle.clap.specs.Words.{App, Row, Rule, new_app, new_rule, subcommand_of, with_rule, with_subcommand}
 use Rattle.clap.specs.Simple.{on_top}
-use Rattle.clap.specs.Walk.{Text, one_of}
+use Rattle.clap.specs.Walk.{Text, first_of, one_of}
 use Rattle.clap.specs.declared.builder.action.ArgAction.TheVariants.{Set, SetTrue}
 use Rattle.ravenhost.specs.declared.chosen.Choice.{Choice}
 use Rattle.ravenhost.specs.declared.chosen.Choice.TheVariants.{Play, Check, Run, Audit, AuditFile}
@@ -45,13 +45,13 @@ abbrev pub Names : Text × List Row → Choice → Type 0
 Names found (Play all) = (found.0 ≡ codes "play") × IsFlag (one_of (codes "all") found.1) all
 Names found (Check explain) = (found.0 ≡ codes "check") × IsFlag (one_of (codes "explain") found.1) explain
 Names found Run = found.0 ≡ codes "run"
-Names found Audit = (found.0 ≡ codes "audit") × IsFlag (one_of (codes "torn") found.1) false × (one_of (codes "journal") found.1 ≡ None)
-Names found (AuditFile torn) = (found.0 ≡ codes "audit") × IsFlag (one_of (codes "torn") found.1) torn × (one_of (codes "journal") found.1 ≡ None → ⊥)
+Names found Audit = (found.0 ≡ codes "audit") × IsFlag (one_of (codes "torn") found.1) false × (first_of (codes "journal") found.1 ≡ None)
+Names found (AuditFile torn) = (found.0 ≡ codes "audit") × IsFlag (one_of (codes "torn") found.1) torn × (first_of (codes "journal") found.1 ≡ None → ⊥)
 
 -- the file that was named, for `audit` alone
 abbrev pub IsJournal : Text × List Row → Option Text → Type 0
-IsJournal found None = found.0 ≡ codes "audit" → one_of (codes "journal") found.1 ≡ None
-IsJournal found (Some file) = (found.0 ≡ codes "audit") × (one_of (codes "journal") found.1 ≡ Some file)
+IsJournal found None = found.0 ≡ codes "audit" → first_of (codes "journal") found.1 ≡ None
+IsJournal found (Some file) = (found.0 ≡ codes "audit") × (first_of (codes "journal") found.1 ≡ Some file)
 
 -- what `audit` comes to: a flag without a file chooses nothing
 abbrev pub audit_of : Bool → Bool → Option Choice
@@ -62,7 +62,7 @@ audit_of false false = Some Audit
 -- no choice has the name of what was found, or it has the flag of `audit` without a file
 abbrev pub NamesNone : Text × List Row → Type 0
 NamesNone found = (found.0 ≡ codes "play" → ⊥) × (found.0 ≡ codes "check" → ⊥) × (found.0 ≡ codes "run" → ⊥)
-    × (found.0 ≡ codes "audit" → IsFlag (one_of (codes "torn") found.1) true × (one_of (codes "journal") found.1 ≡ None))
+    × (found.0 ≡ codes "audit" → IsFlag (one_of (codes "torn") found.1) true × (first_of (codes "journal") found.1 ≡ None))
 
 -- the words name a choice, and a file where there is one
 abbrev pub Chooses : List Text → Choice → Option Text → Type 0
