@@ -6,12 +6,16 @@ use Rattle.rv_shape.specs.Shape.{Shape}
 use Rattle.rv_shape.specs.Fits.{fault}
 use Rattle.rv_shape.specs.declared.fault.ShapeFault.{ShapeFault}
 use Rattle.rv_shape.specs.declared.fault.ShapeFault.TheVariants.{NoMemory}
+use Rattle.rv_unit.specs.declared.unit.Unit.{Unit as Compiled}
 use Rattle.rv_script.specs.Openings.{opening_of}
+use Rattle.rv_script.specs.UnitTexts.{without_returns}
+use Rattle.rv_script.specs.declared.opening.Opening.{Opening}
+use Rattle.rv_script.specs.declared.opening.Opening.TheVariants as Openings
 use Rattle.rv_fault.specs.declared.fault.What.{What}
 use Rattle.rv_fault.specs.declared.fault.ScriptFault.{ScriptFault}
 use Rattle.rv_fault.specs.declared.failure.Failure.{Failure}
 use Rattle.rv_fault.specs.declared.failure.Failure.TheVariants.{Refused, Memory, Io}
-use Rattle.rv_fault.specs.Sections.{Reads}
+use Rattle.rv_fault.specs.Sections.{GivesUnit, Reads}
 use Rattle.rv_verdict.specs.Given.{GivenText, Holds, Takes, TakesOne, Gathers, GivesAll, takes_in, is_journal, fits_then, nothing, with_unit}
 
 -- Units that fit
@@ -27,6 +31,12 @@ misfits fitting after shape told other memory e = by_fault (fault fitting shape)
     by_fault (Some found) some = e
 
 -- Sections
+
+-- a unit text holds the unit that it is
+pub unit_held : (line : ℕ) (fitting : List Shape) (text : List ℕ) (opening : Option Opening) (unit : Compiled) → opening ≡ Some Openings.UnitText → GivesUnit fitting (without_returns text) (Ok unit)
+    → let r : Result Shape Failure = Ok unit.shape in Reads line (Holds fitting text opening) r
+unit_held line fitting text opening unit e given =
+    subst (λ (o : Option Opening). let r : Result Shape Failure = Ok unit.shape in Reads line (Holds fitting text o) r) (sym e) (unit, given, refl)
 
 -- a journal is taken
 pub journal_taken : (has_journal : Bool) (given : GivenText) (section : SectionText) → is_journal has_journal (opening_of section.opening) ≡ true → Takes has_journal given section (Ok (record given { journal = section.text }))
@@ -54,6 +64,9 @@ unit_untaken has_journal given after section (Refused told) e h =
 -- what is given so far, and how what others give goes on behind it
 abbrev pub SoFar : Bool → GivenText → List SectionText → List SectionText → Type 0
 SoFar has_journal given left all = (found : Result GivenText ScriptFault) → Gathers has_journal given left found → Gathers has_journal nothing all found
+
+pub at_first : (has_journal : Bool) (given : GivenText) (all : List SectionText) → given ≡ nothing → SoFar has_journal given all all
+at_first has_journal given all e found gathers = subst (λ (g : GivenText). Gathers has_journal g all found) e gathers
 
 pub one_taken : (has_journal : Bool) (given after : GivenText) (section : SectionText) (left others all : List SectionText) → left ≡ section ∷ others → SoFar has_journal given left all → Takes has_journal given section (Ok after) → SoFar has_journal after others all
 one_taken has_journal given after section left others all e so takes found gathers =
