@@ -56,7 +56,7 @@ least() {
 script 250000 >"$folder/large"
 script 25000 >"$folder/small"
 : >"$folder/empty"
-./ravenhost check <"$folder/large" >/dev/null
+./ravenhost --prove
 program=crates/ravenhost/out/ravenhost
 start=$(least "$folder/empty")
 large=$(($(least "$folder/large") - start))

@@ -93,7 +93,7 @@ refuse_each() {
     all=$((all + number - 1))
 }
 
-./ravenhost check <examples/checked.raven >/dev/null
+./ravenhost --prove
 program=$PWD/crates/ravenhost/out/ravenhost
 if [ $# -eq 0 ]; then
     data=crates/rv_rows/data

@@ -8,7 +8,7 @@ python3 -c 'import subprocess, time' 2>/dev/null || {
     exit 127
 }
 cd "$(dirname "$(readlink -f "$0")")/.."
-./ravenhost play <examples/bodies.raven >/dev/null
+./ravenhost --prove
 python3 - "${1:-4000}" <<'EOF'
 import subprocess, sys, time
 

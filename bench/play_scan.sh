@@ -10,7 +10,7 @@ python3 -c 'import resource, subprocess, time' 2>/dev/null || {
     exit 127
 }
 cd "$(dirname "$(readlink -f "$0")")/.."
-./ravenhost play <examples/denied_call.raven >/dev/null
+./ravenhost --prove
 exec python3 - <<'PYTHON'
 import os, subprocess, sys, tempfile, time
 

@@ -10,5 +10,5 @@ python3 -c 'import sys; sys.exit(sys.version_info < (3, 11))' 2>/dev/null || {
     exit 127
 }
 cd "$(dirname "$(readlink -f "$0")")/.."
-./ravenhost play <examples/denied_call.raven >/dev/null
+./ravenhost --prove
 exec python3 -B bench/model/requests.py "$@"

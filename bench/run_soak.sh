@@ -8,5 +8,5 @@
 set -eu
 
 cd "$(dirname "$(readlink -f "$0")")/.."
-[ -n "${2:-}" ] || ./ravenhost play <examples/bodies.raven >/dev/null
+[ -n "${2:-}" ] || ./ravenhost --prove
 PYTHONDONTWRITEBYTECODE=1 exec python3 bench/run_soak.py "${1:-600}" "${2:-crates/ravenhost/out/ravenhost}"

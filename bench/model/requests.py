@@ -52,7 +52,7 @@ def main() -> int:
     arguments = read_arguments()
     program = arguments.program.absolute()
     if not (program.is_file() and os.access(program, os.X_OK)):
-        print(f"requests.py: there is no program {program}: build it (./ravenhost does), or name one by --program",
+        print(f"requests.py: there is no program {program}: build it (./ravenhost --prove does), or name one by --program",
               file=sys.stderr)
         return 127
     tally, place = Tally(), arguments.seed

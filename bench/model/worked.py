@@ -213,10 +213,10 @@ def document_scripts() -> Iterator[Script]:
     example = (ROOT / "docs/SCRIPTS.md").read_text().partition("## An example\n")[2]
     script, journal = [indented(part) for part in example.split("`play --all` prints")]
     yield Script(script.encode(), Outcome(journal.encode(), b"", 0))
-    shown = (ROOT / "README.md").read_text().partition("what is printed:\n")[2].partition("\nEntry")[0]
+    shown = (ROOT / "README.md").read_text().partition("its journal:\n")[2].partition("\nJournal entry")[0]
     loads = "1 operator load Plant -> accepted 0\n2 operator load Nav -> accepted 0\n"
     journal = loads + "".join(line + "\n" for line in re.findall(r"(?<=  )\d+ .*", shown))
-    yield Script((ROOT / "examples/denied_call.raven").read_bytes(), Outcome(journal.encode(), b"", 0))
+    yield Script((ROOT / "examples/first.raven").read_bytes(), Outcome(journal.encode(), b"", 0))
 
 
 def indented(text: str) -> str:

@@ -1,0 +1,128 @@
+#!/usr/bin/env bash
+# Tries what a newcomer meets: the launcher in a fresh clone where nothing is proved. It is no test of the gate, since each
+# of its six trials takes two minutes. Where the clone's program is proved already (`bench/first_look.sh --proved`), the
+# words of command lines are compared with those of the program itself. Needs git and rt. Status 0: all is as due.
+set -u
+
+cd "$(dirname "$(readlink -f "$0")")/.." || exit 2
+top=$PWD folder=$(mktemp -d)
+trap 'kill $(jobs -p) 2>/dev/null; rm -rf "$folder"' EXIT
+faults=0
+
+# due NAME STATUS OUT LAST: what the last run must have given; OUT is a file; LAST is the last line on standard error.
+due() {
+    local last
+    last=$(tail -n 1 "$folder/err")
+    if [ "$status" = "$2" ] && cmp -s "$folder/out" "$3" && [[ "$last" == $4 ]]; then
+        echo "as due: $1"
+    else
+        faults=$((faults + 1))
+        echo "NOT AS DUE: $1: status $status, due $2; last line: $last"
+        diff "$folder/out" "$3" | head -5
+    fi
+}
+
+# run WORDS..: the launcher, standard input from $folder/in.
+run() {
+    "$launcher" "$@" <"$folder/in" >"$folder/out" 2>"$folder/err"
+    status=$?
+}
+
+# The words of each command line that choose nothing, beside the program's own.
+compare_words() {
+    local words program=$top/crates/ravenhost/out/ravenhost
+    for words in "" --help "play --help" "check --help" "run --help" "help play" -h "help"; do
+        # shellcheck disable=SC2086
+        (cd "$top/crates/ravenhost/out" && ./ravenhost $words) >"$folder/due" 2>&1
+        # shellcheck disable=SC2086
+        "$top/ravenhost" $words 2>&1 | awk '/^Of the script/ { exit } { print }' | sed -e :a -e '/^\n*$/{$d;N;ba' -e '}' >"$folder/told"
+        if cmp -s "$folder/due" "$folder/told"; then
+            echo "as due: words of '$words'"
+        else
+            faults=$((faults + 1))
+            echo "NOT AS DUE: words of '$words'"
+            diff "$folder/told" "$folder/due" | head -5
+        fi
+    done
+}
+
+: >"$folder/nothing"
+if [ "${1:-}" = --proved ]; then
+    compare_words
+    exit $((faults > 0))
+fi
+
+git clone -q "$top" "$folder/clone" || exit 2
+launcher=$folder/clone/ravenhost
+told='ravenhost: not proved: a trial*'
+
+# The journal of the first command: the loads, and what README.md shows beside the script.
+printf '1 operator load Plant -> accepted 0\n2 operator load Nav -> accepted 0\n' >"$folder/journal"
+sed -n '/its journal:$/,/^Journal entry/s/^    .*  \([0-9][0-9]* .*->.*\)$/\1/p' README.md >>"$folder/journal"
+cp examples/first.raven "$folder/in"
+begun=$SECONDS
+run play
+due "play, in $((SECONDS - begun)) s" 0 "$folder/journal" "$told"
+
+cp examples/checked.raven "$folder/in"
+run check
+printf 'unit Plant: ok\nunit Nav: ok\nshape Gauges: ok\nlist: ok 2 lines\n' >"$folder/checked"
+due "check" 0 "$folder/checked" "$told"
+
+printf '@list\nallow * *\n' >"$folder/in"
+run check
+due "a refused script" 1 "$folder/nothing" 'script line 2: *'
+
+: >"$folder/in"
+run play --nonsense
+due "a flag that there isn't" 2 "$folder/nothing" "For more information, try '--help'."
+
+python3 -c '
+print("@host.toml\ncapacity = 1048576\n@list\nallow * * *\n@steps")
+print("operator tick 1\n" * 60000, end="")' >"$folder/in"
+run play
+due "output past the limit of a trial" 126 "$folder/nothing" 'ravenhost: the trial gave no answer *'
+
+: >"$folder/in"
+run run
+due "run, not proved" 126 "$folder/nothing" 'ravenhost: run asks for the proved program*'
+run
+due "no words" 2 "$folder/nothing" "For more information, try '--help'."
+run --version
+due "the version" 0 <(echo "ravenhost 1.0.0 (trial, $(rt version))") ''
+"$launcher" play <"$folder" >"$folder/out" 2>"$folder/err"
+status=$?
+due "a folder as standard input" 4 "$folder/nothing" "ravenhost: standard input can't be read"
+(PATH=$(dirname "$(command -v bash)"):$(dirname "$(command -v awk)") && command -v rt >/dev/null) ||
+    { PATH=$(dirname "$(command -v bash)"):$(dirname "$(command -v awk)") run play
+        due "no rt" 127 "$folder/nothing" "ravenhost: nothing is proved, a trial has to be built, and rt*"; }
+
+# While the program is being proved, another start answers by a trial, and the end of --prove ends what it started.
+"$launcher" --prove >"$folder/proving" 2>&1 &
+proving=$!
+sleep 20
+cp examples/first.raven "$folder/in"
+run play
+due "play while --prove runs" 0 "$folder/journal" "$told"
+kill "$proving"
+wait "$proving" 2>/dev/null
+sleep 2
+if pgrep -f "$folder/clone" >/dev/null; then faults=$((faults + 1)) && echo "NOT AS DUE: --prove left what it started"; fi
+
+# A program that is older than a source isn't run, and one that is younger is.
+mkdir -p "$folder/clone/crates/ravenhost/out"
+printf '#!/bin/sh\necho proved "$@"\n' >"$folder/clone/crates/ravenhost/out/ravenhost"
+chmod +x "$folder/clone/crates/ravenhost/out/ravenhost"
+echo "rattle-kit" >"$folder/clone/crates/ravenhost/out/ravenhost.kit"
+run run
+due "a proved program" 0 <(echo "proved run") ''
+run --version
+due "its version" 0 <(echo "ravenhost 1.0.0 (proved, rattle-kit)") ''
+sleep 1
+touch "$folder/clone/crates/rv_text/src/lib.rt"
+run run
+due "a source newer than it" 126 "$folder/nothing" \
+    'ravenhost: run asks for the proved program, and crates/rv_text/src/lib.rt is newer*'
+
+echo "faults: $faults"
+exit $((faults > 0))
