@@ -1,9 +1,10 @@
 #!/usr/bin/env bash
 # Cuts each script of rv_rows before each of its bytes, and replaces each of its bytes once; looks at each of these scripts
 # (`check`) and plays it, and says how many runs came to which end. Each has to be done or refused; a run that ends the
-# process, or that fails, fails this. rv_rows does it, one process for each processor with its share of the places. Scripts may
-# be given instead. It takes over an hour of processor time, most of it for two scripts of some 40 kB. It needs rt; the first
-# time it takes over half an hour more to prove and build.
+# process, or that fails, fails this. rv_rows does it, one process for each processor with its share of the places. Three of
+# the deepest texts, whose runs take a second each, are left out. Scripts may be given instead. It takes over an hour of
+# processor time, most of it for two scripts of some 40 kB. It needs rt; the first time it takes over half an hour more to
+# prove and build.
 set -eu
 for tool in rt awk nproc; do
     command -v "$tool" >/dev/null || { echo "bench/cut_texts.sh: $tool is missing" >&2; exit 127; }
@@ -14,6 +15,7 @@ mkdir "$folder/scripts"
 [ $# -eq 0 ] || cp -- "$@" "$folder/scripts/"
 cd "$(dirname "$(readlink -f "$0")")/../crates/rv_rows"
 [ $# -gt 0 ] || cp data/*.raven "$folder/scripts/"
+[ $# -gt 0 ] || rm "$folder"/scripts/body_deep_frames.raven "$folder"/scripts/body_deepest_m*.raven
 [ -x out/rv_rows ] || rt run >/dev/null
 program=$PWD/out/rv_rows
 

@@ -232,15 +232,21 @@ def two_devices(program):
     expect("quit", run.end(), (f"entries {len(journal) + 1}\n", "", 0))
 
 
-def deepest(program):
+def deepest(program, row="body_deepest"):
     """The deepest body runs on a thread of a run: the journal is that of the row in which it runs by `go`."""
-    data = os.path.join(TOP, "crates/rv_rows/data/body_deepest")
+    data = os.path.join(TOP, "crates/rv_rows/data", row)
     with open(data + ".raven") as script, open(data + ".journal") as journal:
         text, due = script.read().split("@steps\n")[0], journal.read().splitlines()
     run = Run(program, text + "@run\n")
-    until("the deepest body", lambda: any("finish" in line for line in run.journal()))
-    expect("the deepest body's journal", run.journal(), due)
+    until(f"the deepest body of {row}", lambda: any("finish" in line for line in run.journal()))
+    expect(f"the journal of {row}", run.journal(), due)
     expect("quit", run.end(), (f"entries {len(due) + 1}\n", "", 0))
+
+
+def deepest_of_all(program):
+    """The same of those that nest the most operations in each parenthesis."""
+    deepest(program, "body_deepest_most")
+    deepest(program, "body_deepest_mixed")
 
 
 def no_thread(program):
@@ -366,7 +372,7 @@ def edges(program):
 
 def main():
     program = os.path.abspath(sys.argv[1]) if sys.argv[1:] else os.path.join(TOP, "crates/ravenhost/out/ravenhost")
-    for part in (commands, row, device, two_devices, deepest, live, no_thread, refused, closed, edges):
+    for part in (commands, row, device, two_devices, deepest, deepest_of_all, live, no_thread, refused, closed, edges):
         try:
             part(program)
         except BrokenPipeError:

@@ -20,7 +20,7 @@ class Checker:
         self.texts.next_section()
         try:
             if opening == "@host.toml" and is_first:
-                read_settings(lines)
+                read_settings(self.texts.text)
             elif opening == "@list":
                 self.output.append(f"list: ok {len(read_list(lines))} lines\n")
             elif opening == "@shape":

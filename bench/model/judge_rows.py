@@ -53,6 +53,7 @@ def compare(path: Path) -> Iterator[tuple[str, str]]:
 def main() -> int:
     parser = argparse.ArgumentParser(description="The judge's verdicts on the unit texts of the rows.")
     parser.add_argument("rows", metavar="ROW", type=Path, nargs="*", help="a script; all rows where none is given")
+    sys.setrecursionlimit(100_000)  # the deepest rows
     texts = refused = differing = 0
     for path in parser.parse_args().rows or sorted(ROWS.glob("*.raven")):
         for verdict, stored in compare(path):

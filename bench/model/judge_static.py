@@ -194,9 +194,10 @@ class Expressions:
         for operator, operand in zip(value.operators, value.operands[1:]):
             kind, right = self.added(value, operator, kind, operand)
             found.append(right)
+        result = self.headed(value, found)
         if kind is None or None in found:
             return None
-        return self.chained(value, kind, found) if all(each.is_static for each in found) and kind == "Integer" else Typed(kind)
+        return Typed(kind, True, result) if all(each.is_static for each in found) and kind == "Integer" else Typed(kind)
 
     def added(self, value: Operation, operator: str, left: str | None, operand: Expression) -> tuple[str | None, Typed | None]:
         """The type that a chain has with one operator more, and the operand behind that."""
@@ -209,13 +210,14 @@ class Expressions:
         right = self.expected(operand, fitting.get(left))
         return (left if left == "Integer" else left and "Time") if right else None, right
 
-    def chained(self, value: Operation, kind: str, found: list[Typed]) -> Typed:
-        """What a chain of static operands gives, each operator checked."""
-        result = found[0].value
-        for operator, right in zip(value.operators, found[1:]):
-            if result is None or right.value is None:
-                return Typed(kind, True)
-            result = calculated(operator, result, right.value)
+    def headed(self, value: Operation, found: list[Typed | None]) -> int | None:
+        """What the static operands at the head of a chain give, each operator checked: they are an expression of their own (4.4, 4.9)."""
+        values = [each.value if each and each.is_static else None for each in found]
+        result = values[0]
+        for operator, right in zip(value.operators, values[1:]):
+            if result is None or right is None:
+                return None
+            result = calculated(operator, result, right)
             if result is None:
-                return self.checked(value, kind, None)
-        return Typed(kind, True, result)
+                self.tell(value.place, "TooLarge")
+        return result

@@ -7,6 +7,7 @@ from judge_tree_declarations import Block, Objects, OperationBody, Protected, Pr
 from words import folded
 
 MOST_VARIABLES = 64
+MOST_CONSTANTS = 64  # whose values aren't static
 DISCRETE = ("Integer", "Boolean")
 
 
@@ -19,6 +20,7 @@ class Types(Declarations):
         self.kind = ""  # function, procedure, entry, task
         self.result: Span | None = None
         self.variables = 0  # open in the body, with loop parameters
+        self.constants = 0  # of the body, whose values aren't static
 
     def text(self, tree: Text) -> None:
         for item in tree.declarations + tree.bodies:
@@ -56,7 +58,7 @@ class Types(Declarations):
             self.tell(value.place, "Mismatch")
 
     def body(self, kind: str, result: Span | None, block: Block) -> None:
-        self.kind, self.result, self.variables = kind, result, 0
+        self.kind, self.result, self.variables, self.constants = kind, result, 0, 0
         for local in block.locals:
             if isinstance(local, Objects):
                 self.local(local)
@@ -72,8 +74,10 @@ class Types(Declarations):
         if item.is_constant and item.value is None:
             self.tell(item.place, "Mismatch")
         for name in item.names:
-            if not (item.is_constant and found and found.is_static):
+            if not item.is_constant:
                 self.opened(name.place)
+            elif not (found and found.is_static):
+                self.held(name.place)
         if found and span and found.type != span.type:
             self.tell(item.value.place, "Mismatch")
             found = None
@@ -83,6 +87,12 @@ class Types(Declarations):
         """One more variable or loop parameter."""
         self.variables += 1
         if self.variables > MOST_VARIABLES:
+            self.tell(place, "TooLarge")
+
+    def held(self, place: int) -> None:
+        """One more constant whose value isn't static."""
+        self.constants += 1
+        if self.constants > MOST_CONSTANTS:
             self.tell(place, "TooLarge")
 
     # Statements

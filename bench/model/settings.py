@@ -62,9 +62,9 @@ def read_toml(text: str) -> dict[str, object]:
     return table
 
 
-def read_settings(lines: list[str]) -> int:
-    """The capacity that a section's lines set."""
-    table = read_toml("\r\n".join(lines))
+def read_settings(text: str) -> int:
+    """The capacity that a section's text sets, of which the carriage return before a line feed is no part."""
+    table = read_toml(text)
     devices = []
     for key, value in in_order(table):
         if key == "device":

@@ -4,6 +4,8 @@ A part is a text for each slot of the frame, `slot: text`, with || between; $N s
 
 # the task has four variables of 64, the protected object three components of 32
 SIXTY = ", ".join(f"V{number}" for number in range(1, 61))
+FIFTY = ", ".join(f"V{number}" for number in range(1, 51))
+FIFTEEN = ", ".join(f"K{number}" for number in range(1, 16))
 THIRTY = ", ".join(f"C{number}" for number in range(1, 31))
 
 FRAME = """$context
@@ -144,7 +146,15 @@ statements: B := Ada.Synchronous_Task_Control.Current_State ($N.Flag);
 statements: Set_False (Flag); || context: use Ada.Synchronous_Task_Control;
 handlers: exception when Constraint_Error | Program_Error => A := 0; when others => raise;
 handlers: exception when Standard.Constraint_Error => null;
-handlers: exception when Host.Access_Denied => null; || context: with Host;"""
+handlers: exception when Host.Access_Denied => null; || context: with Host;
+handlers: exception when Program_Error | others => null; when Constraint_Error => A := 0;
+operations: procedure Swap (K, L : in out Integer); || operation_bodies: procedure Swap (K, L : in out Integer) is begin K := L; end Swap; || procedure: Swap (Level, Level);
+operations: function Extra return Integer; || operation_bodies: function Extra return Integer is begin null; end Extra;
+operations: function Extra return Integer; || operation_bodies: function Extra return Integer is Z : Integer; begin Wait (Z); return Z; end Extra;
+locals: Z : Integer range 5 .. 1;
+statements: if False and then 1 / 0 * A > 0 then A := A * 2 / 0; end if;
+statements: A := 2147483647 + A + 1; S := 1 - 2 + A;
+""" + f"locals: {FIFTY} : Integer; {FIFTEEN} : constant Integer := A;"
 
 WRONG = {  # what is said, and the parts of which it is said
     "restriction No_Abort_Statements": "statements: ^abort Pilot;\nstatements: if B then ^abort $N.Pilot, Pilot; end if;\nentry: ^abort Pilot;",
@@ -211,6 +221,7 @@ operation_bodies: procedure ^Extra is begin null; end Extra;
 tasks: task Other with ^Foo => 1; || bodies: task body Other is begin null; end Other;
 procedure: ^Nothing;""",
     "names NotVisible": """statements: A := ^Valve.Level;
+tasks: task Other with Priority => ^Later; Later : constant := 5; || bodies: task body Other is begin null; end Other;
 statements: A := ^$N.Valve.Level;
 statements: ^Valve.Hidden; || private: procedure Hidden; || operation_bodies: procedure Hidden is begin null; end Hidden;
 statements: T := ^Clock; || bars: use Ada.Real_Time;
@@ -260,6 +271,7 @@ locals: pragma ^Priority (20);""",
                      "tasks: task Other is pragma Priority (3); end ^Pilot; "
                      "|| bodies: task body Other is begin null; end Other;\nbodies: task body Other is begin null; end ^Pilot; || tasks: task Other;",
     "types Mismatch": """statements: A := ^True;
+private: Z : Boolean range True .. True := True; || barrier: ^Z
 statements: B := ^1;
 statements: A := ^B;
 statements: A := A + ^True;
@@ -329,9 +341,16 @@ private: Z : Small := ^10;
 private: Z : Integer range 0 .. 3 := ^4;
 statements: A := ^2147483647 * 2;
 statements: A := A + (^Integer'Last + 1);
+statements: A := ^1 / 0 * A;
+statements: A := A - ^7 mod 0 * A;
+statements: A := ^2147483647 + 1 + A;
+statements: A := ^-2147483647 - 2 + A;
+statements: A := abs (^65536 * 32768 * A);
+spec: Z : constant := ^2147483647 * 2 / 4;
 tasks: task Other with Priority => ^41; || bodies: task body Other is begin null; end Other;
 tasks: task Other with Priority => ^0; || bodies: task body Other is begin null; end Other;
-locals: {SIXTY}, ^Last : Integer;""",
+locals: {SIXTY}, ^Last : Integer;
+locals: {SIXTY}, W1, W2, W3, W4, ^Last : constant Integer := A;""",
     "types NotStatic": """statements: case A is when ^A => null; when others => null; end case;
 statements: case A is when 1 .. ^A => null; when others => null; end case;
 statements: case A is when ^Valve.Get => null; when others => null; end case;

@@ -57,9 +57,13 @@ def read_end(words: list[str]) -> End:
     ensure(len(ending) > 0)
     if ending[0] == "return":
         return End(scalars, "return", numbers(ending[1:], 4))
-    raised = len(ending) == 2 and ending[0] == "raise" and ending[1] in EXCEPTIONS
-    ensure(raised or ending in (["overrun"], ["stopped"]))
-    return End(scalars, " ".join(ending), [])
+    if ending[0] == "raise":
+        ensure(len(ending) == 2)
+        named = [name for name in EXCEPTIONS if folded(name) == folded(ending[1])]
+        ensure(len(named) > 0)
+        return End(scalars, f"raise {named[0]}", [])
+    ensure(ending in (["overrun"], ["stopped"]))
+    return End(scalars, ending[0], [])
 
 
 def read_plain(word: str, words: list[str]) -> Plain:

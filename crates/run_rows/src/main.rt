@@ -11,6 +11,7 @@ mod terminal;
 use row::{Row, row_of};
 use rv_crew::crew::Crew;
 use rv_crew::job::Job;
+use rv_exec::machine::STACK_BYTES;
 use rv_fault::Failure;
 use rv_port::port::{Finished, Port};
 use rv_run::run::run;
@@ -24,9 +25,6 @@ use std::thread::Threads;
 use std::time::Clock;
 use std::{fs, io, thread};
 use terminal::{Keyboard, Screen, Terminal};
-
-// The stack of the thread that carries out the rows, as in `ravenhost`.
-const STACK_BYTES: usize = 256 * 1024 * 1024;
 
 // What is told of the end of a run on standard error.
 fn told(alloc: Global, outcome: Result<(), Failure>) -> io::Result<String> {
@@ -124,6 +122,7 @@ fn main(rt: HostRuntime) -> io::Result<()> {
     let hands = Hands {
         begin: Box::new(rt.alloc(), begin)?,
     };
+    // On a thread whose stack holds the deepest bodies, as in `ravenhost`.
     let wide = thread::Builder::new().stack_size(STACK_BYTES);
     match wide.spawn(&rt, move || play_all(&rt, &hands)) {
         Ok(thread) => thread.join(&rt),

@@ -5,8 +5,9 @@ use crate::statement::{Statement, Target};
 use rv_event::entry::Exception;
 use rv_shape::kind::Parameter;
 
-/// The most slots of a body: 4 parameters, then 64 variables and loop parameters; the limit is our own.
-pub const MOST_SLOTS: usize = 68;
+/// The most slots of a body: 4 parameters, 64 variables and loop parameters that are open together, and 64 constants whose
+/// values aren't static; the limits are our own.
+pub const MOST_SLOTS: usize = 132;
 
 /// A variable or a constant of a body with its initial value (3.3.1). One without an initial value starts at the first
 /// value of its range, a Time or a Time_Span at 0 (own).

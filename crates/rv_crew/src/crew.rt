@@ -6,6 +6,7 @@ ghost use Rattle.rv_turn.specs.Histories.{Each};
 ghost use Rattle.rv_crew.specs.Crews.{Joins, IsStartFault, IsClosedBy, told_of, actor_of, with_started, owed};
 
 use crate::job::{Job, OfPort};
+use rv_exec::machine::STACK_BYTES;
 use rv_host::host::Host;
 use rv_port::control::{Control, Unclosed};
 use rv_port::port::{Finished, Port};
@@ -14,9 +15,6 @@ use std::marker::Model;
 use std::mem;
 use std::sync::Wait;
 use std::thread::{Builder, PromisedHandle, Threads};
-
-/// The stack of a job's thread, in bytes: the deepest bodies were measured to need 128 MiB.
-pub const STACK_BYTES: usize = 256 * 1024 * 1024;
 
 /// Why a job wasn't started.
 #[derive(Drop)]
@@ -81,7 +79,7 @@ pub struct StillOpen {
     pub control: Control,
 }
 
-// Runs a job on a port in a thread of its own.
+// Runs a job on a port in a thread of its own, whose stack holds the deepest bodies.
 fn begin<R: Threads>(rt: &R, job: Job, port: Port) -> Option<PromisedHandle<Finished, OfPort>>
     requires { port.actor ≡ job.actor }
     ensures { IfSome result (λ h. h.promise.0.value ≡ port) }

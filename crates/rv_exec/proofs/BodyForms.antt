@@ -134,7 +134,7 @@ module _ {S : Type 0} (went : S → Trace → S → Type 0) (none : (s : S) → 
   no_body bodies object outer (suc nested) operation values components steps s some is = ran_end went none s _ _ (rw is refl)
 
   -- an operation's body
-  pub body_goes : (bodies : UnitBodies) (object held nested operation : ℕ) (values components : List ℤ) (steps : ℕ) (body : Body) (a b : Activation) (e : End) (outcome : Outcome) (s t : S) → (nested ≡ 0 → ⊥) → operation_of bodies object operation ≡ Some body → a ≡ opened (bound body.parameters 0 0 values (replicate 68 (pos 0))) components steps 0 → Ran went s (block (world bodies (record { object = object; held = held; nested = nested - 1; is_task = false; handling = None })) body a) t (e, b) → outcome ≡ outcome_of body e b → Ran went s (inner_at bodies object (outer_at bodies held) nested operation values components steps) t (outcome, (b.components, b.steps))
+  pub body_goes : (bodies : UnitBodies) (object held nested operation : ℕ) (values components : List ℤ) (steps : ℕ) (body : Body) (a b : Activation) (e : End) (outcome : Outcome) (s t : S) → (nested ≡ 0 → ⊥) → operation_of bodies object operation ≡ Some body → a ≡ opened (bound body.parameters 0 0 values (replicate 132 (pos 0))) components steps 0 → Ran went s (block (world bodies (record { object = object; held = held; nested = nested - 1; is_task = false; handling = None })) body a) t (e, b) → outcome ≡ outcome_of body e b → Ran went s (inner_at bodies object (outer_at bodies held) nested operation values components steps) t (outcome, (b.components, b.steps))
   unfolding inner_at body_meaning
   body_goes bodies object held zero operation values components steps body a b e outcome s t some is from h got = absurd (some refl)
   body_goes bodies object held (suc nested) operation values components steps body a b e outcome s t some is from h got =
@@ -186,7 +186,7 @@ module _ {S : Type 0} (went : S → Trace → S → Type 0) (none : (s : S) → 
       (ran_then went both t u r _ (completes false) (outcome, (left, steps)) last h'' f')
 
   -- the body of a task, and its end
-  pub task_goes : (bodies : UnitBodies) (body : Body) (requests : ℕ) (setting : Setting) (a b : Activation) (e : End) (outcome : Outcome) (exit : Exit) (s t u : S) → setting ≡ task_setting → a ≡ opened (replicate 68 (pos 0)) [] 100000 requests → Ran went s (block (world bodies setting) body a) t (e, b) → outcome ≡ outcome_of body e b → Ran went t (quits outcome) u exit → Ran went s (task_meaning bodies (Some body) requests) u exit
+  pub task_goes : (bodies : UnitBodies) (body : Body) (requests : ℕ) (setting : Setting) (a b : Activation) (e : End) (outcome : Outcome) (exit : Exit) (s t u : S) → setting ≡ task_setting → a ≡ opened (replicate 132 (pos 0)) [] 100000 requests → Ran went s (block (world bodies setting) body a) t (e, b) → outcome ≡ outcome_of body e b → Ran went t (quits outcome) u exit → Ran went s (task_meaning bodies (Some body) requests) u exit
   unfolding task_meaning
   task_goes bodies body requests setting a b e outcome exit s t u is from h got f =
       let h' = subst (λ (k : Setting). Ran went s (block (world bodies k) body a) t (e, b)) is h in

@@ -86,8 +86,8 @@ body_sound : (w : World) (k : SoundWorld w) (o : Option Body) (values components
 unfolding body_meaning
 body_sound w k None values components steps = sound_end stopped_got (Err (cause.Raised ProgramError), (components, steps)) refl
 body_sound w k (Some body) values components steps =
-    sound_then stopped_run stopped_got (block w body (opened (bound body.parameters 0 0 values (replicate 68 (pos 0))) components steps 0)) (closed body)
-    (block_sound w k body (opened (bound body.parameters 0 0 values (replicate 68 (pos 0))) components steps 0)) (follows_closed body)
+    sound_then stopped_run stopped_got (block w body (opened (bound body.parameters 0 0 values (replicate 132 (pos 0))) components steps 0)) (closed body)
+    (block_sound w k body (opened (bound body.parameters 0 0 values (replicate 132 (pos 0))) components steps 0)) (follows_closed body)
 
 inner_sound : (bodies : UnitBodies) (object : ℕ) (outer : Callee → List ℤ → Asking Outcome) → ((c : Callee) (values : List ℤ) → internal c ≡ None → Sound stopped_result (outer c values)) → (nested operation : ℕ) (values components : List ℤ) (steps : ℕ) → Sound stopped_got (inner_at bodies object outer nested operation values components steps)
 unfolding inner_at
@@ -255,8 +255,8 @@ task_sound : (bodies : UnitBodies) (o : Option Body) (requests : ℕ) → Sound 
 unfolding task_meaning
 task_sound bodies None requests = quit_sound (exit.Return []) refl
 task_sound bodies (Some body) requests =
-    sound_then stopped_run stopped_exit (block (world bodies task_setting) body (opened (replicate 68 (pos 0)) [] 100000 requests)) (over body)
-    (block_sound (world bodies task_setting) (task_world bodies) body (opened (replicate 68 (pos 0)) [] 100000 requests)) (follows_over body)
+    sound_then stopped_run stopped_exit (block (world bodies task_setting) body (opened (replicate 132 (pos 0)) [] 100000 requests)) (over body)
+    (block_sound (world bodies task_setting) (task_world bodies) body (opened (replicate 132 (pos 0)) [] 100000 requests)) (follows_over body)
 
 pub tasks_stop_by : TasksStopBy
 tasks_stop_by bodies actor requests trace h = task_sound bodies (task_of bodies actor) requests trace exit.Stopped h refl

@@ -77,7 +77,7 @@ closed body (e, a) = ended (outcome_of body e a, (a.components, a.steps))
 unfoldable pub body_meaning : World → Option Body → List ℤ → List ℤ → ℕ → Asking (Outcome × (List ℤ × ℕ))
 body_meaning w None values components steps = ended (Err (cause.Raised ProgramError), (components, steps))
 body_meaning w (Some body) values components steps =
-    and_then (block w body (opened (bound body.parameters 0 0 values (replicate 68 (pos 0))) components steps 0)) (closed body)
+    and_then (block w body (opened (bound body.parameters 0 0 values (replicate 132 (pos 0))) components steps 0)) (closed body)
 
 -- an operation of an object, where so many internal calls may nest, this one with them; past that it is an overrun (own)
 unfoldable pub inner_at : UnitBodies → ℕ → (Callee → List ℤ → Asking Outcome) → ℕ → ℕ → List ℤ → List ℤ → ℕ → Asking (Outcome × (List ℤ × ℕ))

@@ -35,7 +35,7 @@ over body (e, a) = quits (outcome_of body e a)
 unfoldable pub task_meaning : UnitBodies → Option Body → ℕ → Asking Exit
 task_meaning bodies None requests = quits (Ok [])
 task_meaning bodies (Some body) requests =
-    and_then (block (world bodies task_setting) body (opened (replicate 68 (pos 0)) [] 100000 requests)) (over body)
+    and_then (block (world bodies task_setting) body (opened (replicate 132 (pos 0)) [] 100000 requests)) (over body)
 
 -- what the task of this actor does, with so many requests
 abbrev pub task_run : UnitBodies → ℕ → ℕ → Asking Exit

@@ -26,8 +26,8 @@ pub struct Activation {
 
 // The list with the value at the index, where it has that index.
 #[tactic(auto, using(crate::proofs::Lists::front_same, crate::proofs::Lists::front_other))]
-fn replaced(values: Scalars, index: usize, value: i64) -> Scalars
-    ensures { result ≡ slice_set values index value }
+fn replaced(values: &Scalars, index: usize, value: i64) -> Scalars
+    ensures { result ≡ slice_set values.now index value }
 {
     let mut changed = Scalars::new();
     for (place, old) in values.as_slice().iter().enumerate() {
@@ -40,15 +40,13 @@ fn replaced(values: Scalars, index: usize, value: i64) -> Scalars
     changed
 }
 
-/// The values with one more, where there are fewer than four.
-pub fn joined(values: Args, value: i64) -> Args
-    ensures { result ≡ joined values value }
+/// Puts one more value behind the others, where there are fewer than four.
+pub fn join(values: &mut Args, value: i64)
+    ensures { values.new ≡ joined values.old value }
 {
-    let mut longer = values;
-    if !longer.is_full() {
-        longer.push(value);
+    if !values.is_full() {
+        values.push(value);
     }
-    longer
 }
 
 /// The value at an index, or 0 past the last.
@@ -97,7 +95,7 @@ impl Activation {
     {
         match place {
             Place::Variable(slot) => self.put_slot(slot, value),
-            Place::Component(index) => self.components = replaced(self.components, index, value),
+            Place::Component(index) => self.components = replaced(&self.components, index, value),
         }
     }
 
@@ -174,7 +172,7 @@ impl Activation {
         let mut values = Args::new();
         for (slot, parameter) in parameters.iter().enumerate() {
             if comes_back(parameter.mode) {
-                values = joined(values, self.variable(slot));
+                join(&mut values, self.variable(slot));
             }
         }
         values

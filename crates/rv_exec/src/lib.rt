@@ -16,3 +16,4 @@ pub mod ranges;
 pub mod replay;
 mod run;
 pub mod setting;
+pub mod surroundings;

@@ -1,8 +1,6 @@
 //! Runs of bodies, of tasks and of lines, and what they ask next.
 //!
-//! A run recurses, and takes its memory from the stack alone. A task that goes to the limits at once (16 objects held,
-//! 64 internal calls nested in each, 64 statements and 64 parentheses open in each body) was measured to need between
-//! 96 and 128 MiB, so give a thread that runs bodies a stack of 256 MiB.
+//! A run recurses, and takes its memory from the stack alone: `STACK_BYTES` holds the deepest run of any text.
 
 ghost use Rattle.std.specs.Prelude.{◌≡◌, ◌<◌, Ok, Some};
 ghost use Rattle.rv_code.specs.BodyView.{body_view};
@@ -24,10 +22,22 @@ use crate::replay::Replay;
 use crate::run::block::run_block;
 use crate::run::call::perform;
 use crate::setting::{MOST_HELD, MOST_NESTED, Setting};
+use crate::surroundings::Surroundings;
 use rv_code::{Body, MOST_SLOTS};
 use rv_event::entry::{Answer, Exit, Request};
 use rv_value::{Args, Scalars};
 use std::alloc::{AllocError, Global};
+
+/// The stack of a thread that runs bodies, in bytes. No text needs more.
+///
+/// A task holds at most 16 objects, in each of which the body and 64 internal calls nest: with its own body these are
+/// 1,041 bodies. In each of them at most 64 statements are open, and behind these 64 parentheses, each of a call. Before,
+/// between and behind parentheses stand at most eight operations, as in
+/// `F (True and then 0 < - 1 * abs F (X) + 1)`: the check of the argument, a logical operator, a relation, a sum, a sign, a
+/// product, `abs` and the call. So a body has at most 64 frames of `run_all`, 520 of `value_of`, 64 of `arguments` and one
+/// of each other function of the recursion. `bench/deepest_frames.py` reads the sizes of these frames in a built program,
+/// adds them up, and fails where this constant is less.
+pub const STACK_BYTES: usize = 240 * 1024 * 1024;
 
 /// What runs the bodies of an actor.
 #[derive(Drop)]
@@ -89,9 +99,18 @@ pub fn run_body<R, O: Outward<R>>(
 ) -> Ended
     ensures { Ran O.went outward.old (operation_run (bodies_view bodies.now) object operation values scalars) outward.new (result.exit, result.scalars) }
 {
-    let setting = of_operation(object);
+    let surroundings = Surroundings {
+        bodies,
+        setting: of_operation(object),
+    };
     let (outcome, left, _) = perform(
-        runtime, bodies, setting, operation, values, scalars, MOST_STEPS, outward,
+        runtime,
+        &surroundings,
+        operation,
+        values,
+        scalars,
+        MOST_STEPS,
+        outward,
     );
     Ended {
         scalars: left,
@@ -151,7 +170,11 @@ fn run_own<R, O: Outward<R>>(
         steps: MOST_STEPS,
         requests: budget,
     };
-    let end = run_block(&mut activation, runtime, bodies, of_task(), body, outward);
+    let surroundings = Surroundings {
+        bodies,
+        setting: of_task(),
+    };
+    let end = run_block(&mut activation, runtime, &surroundings, body, outward);
     quit(runtime, outcome_of(body, end, &activation), outward)
 }
 
@@ -187,11 +210,13 @@ pub fn run_line<R, O: Outward<R>>(
     let Answer::Started(components) = answer else {
         return Err(Cause::Stopped(true));
     };
-    let setting = of_operation(object);
+    let surroundings = Surroundings {
+        bodies,
+        setting: of_operation(object),
+    };
     let (outcome, left, _) = perform(
         runtime,
-        bodies,
-        setting,
+        &surroundings,
         operation,
         Args::new(),
         components,

@@ -87,7 +87,7 @@ impl Texts {
     }
 
     /// What `go` asks for an actor, if there is something: a resume where the actor waits, a fire for an idle line, else
-    /// what its text asks next. Its text runs on the stack: give the thread 256 MiB.
+    /// what its text asks next. Its text runs on the stack: a thread with `rv_exec::machine::STACK_BYTES` of it holds any.
     pub fn asks(
         &self,
         alloc: Global,

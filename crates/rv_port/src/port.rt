@@ -141,7 +141,8 @@ impl Port {
 
     /// A call of an operation (9.5.1, 9.5.3, D.10): by the numbers of its object and of the
     /// operation, each from 1, with the values of the `in` and `in out` parameters. It waits while
-    /// the object is held by others, and where the call is queued. The body runs outside the turn.
+    /// the object is held by others, and where the call is queued. The body runs outside the turn, on
+    /// the stack of the calling thread: one with `rv_exec::machine::STACK_BYTES` of it holds any body.
     pub fn call<R: Wait>(&mut self, rt: &R, object: usize, operation: usize, args: Args) -> Reached
         ensures performed { PerformedBy self.old (asks.Call object operation args) result self.new }
         ensures tied { Tied (pass_of self.old) (asks.Call object operation args) result (pass_of self.new) }
@@ -222,7 +223,7 @@ impl Port {
     }
 
     /// An interrupt of the port's line: a call of its handler (C.3). It waits while the handler's
-    /// object is held by others.
+    /// object is held by others. Its stack is as for `call`.
     pub fn fire<R: Wait>(&mut self, rt: &R) -> Reached
         ensures performed { PerformedBy self.old asks.Fire result self.new }
         ensures tied { Tied (pass_of self.old) asks.Fire result (pass_of self.new) }

@@ -74,8 +74,8 @@ impl Port {
     /// Runs the text of the port's task to its end (9.2, 9.3), by the bodies of the units loaded so
     /// far: its own body, which may make so many requests, 1 to 1,000,000, and each body that starts
     /// for it. The last request is Quit, where the task's mode allows it. Where no act is left it is
-    /// stopped at once; where the bodies have too many holders too, and the port is marked. It takes
-    /// a deep stack: 128 MiB for the deepest bodies.
+    /// stopped at once; where the bodies have too many holders too, and the port is marked. The text
+    /// runs on the stack: a thread with `rv_exec::machine::STACK_BYTES` of it holds any.
     pub fn run_text<R: Wait>(&mut self, rt: &R, budget: u32) -> Exit
         ensures ran { TextRan (pass_of self.old) self.old.refused budget result (pass_of self.new) self.new.refused }
         ensures stays { Stays (pass_of self.old) (pass_of self.new) }

@@ -15,15 +15,13 @@ mod cut;
 
 use cut::{Ends, Share};
 use rv_check::check::check;
+use rv_exec::machine::STACK_BYTES;
 use rv_explain::explain;
 use rv_fault::Failure;
 use rv_play::play::play;
 use rv_verdict::{Watch, audit, audit_file};
 use std::alloc::Global;
 use std::{env, fs, io, thread};
-
-// The stack of the thread that plays the scripts: the deepest bodies were measured to need 128 MiB.
-const STACK_BYTES: usize = 256 * 1024 * 1024;
 
 /// What is done with a script.
 #[derive(Clone, Copy)]

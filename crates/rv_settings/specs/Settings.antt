@@ -1,7 +1,9 @@
--- The settings of a host, as its table has them (own).
+-- The settings of a host, as the table of a text has them (own). As in every section, the carriage return before a line feed
+-- is none of the text.
 use Rattle.std.specs.Prelude.{◌≡◌, ◌≤◌, ℕ, ℤ, pos, List, [], codes, Option, Some, None}
 use Rattle.toml.specs.Data.{Data, Members, get_member, as_integer}
 use Rattle.toml.specs.Parse.{parse_document}
+use Rattle.rv_script.specs.UnitTexts.{without_returns}
 use Rattle.rv_settings.specs.declared.fault.SettingsFault.{SettingsFault}
 use Rattle.rv_settings.specs.declared.fault.SettingsFault.TheVariants.{NotToml, UnknownKey, BadValue, NoMemory}
 
@@ -46,10 +48,10 @@ pub record HasNumbers (table : Members) (settings : SettingsText) : Type 0 where
   pub most : settings.capacity ≤ 1048576
   pub budget : number_at (codes "budget") (pos default_budget) table ≡ Some (pos settings.budget)
 
--- settings are those of the table that a text is
-pub record IsSettings (text : List ℕ) (settings : SettingsText) : Type 0 where
+-- settings are those of a table that was read
+pub record AreOfTable (read : Option Members) (settings : SettingsText) : Type 0 where
   pub table : Members
-  pub is_table : parse_document text ≡ Some table
+  pub is_table : read ≡ Some table
   pub numbers : HasNumbers table settings
 
 -- a fault that a table may have
@@ -59,9 +61,21 @@ IsOfValue UnknownKey = Unit {0}
 IsOfValue BadValue = Unit {0}
 IsOfValue NoMemory = Unit {0}
 
--- only a text that is no TOML is refused as none; which of the other faults is told is shown by tests
+-- only where no table was read it is told that there is none; which of the other faults is told is shown by tests
+abbrev pub IsRefusedTable : Option Members → SettingsFault → Type 0
+IsRefusedTable read NotToml = read ≡ None
+IsRefusedTable read UnknownKey = (table : Members) × (read ≡ Some table)
+IsRefusedTable read BadValue = (table : Members) × (read ≡ Some table)
+IsRefusedTable read NoMemory = Unit {0}
+
+-- the table that a text is, if it is TOML
+abbrev pub table_of : List ℕ → Option Members
+table_of text = parse_document (without_returns text)
+
+-- settings are those of a text
+abbrev pub IsSettings : List ℕ → SettingsText → Type 0
+IsSettings text settings = AreOfTable (table_of text) settings
+
+-- a text is refused by this fault
 abbrev pub IsRefused : List ℕ → SettingsFault → Type 0
-IsRefused text NotToml = parse_document text ≡ None
-IsRefused text UnknownKey = (table : Members) × (parse_document text ≡ Some table)
-IsRefused text BadValue = (table : Members) × (parse_document text ≡ Some table)
-IsRefused text NoMemory = Unit {0}
+IsRefused text fault = IsRefusedTable (table_of text) fault

@@ -2,12 +2,14 @@
 
 ghost use Rattle.std.specs.Prelude.{◌≡◌, ◌≤ℤ◌, Some, IfOk, IfErr};
 ghost use Rattle.toml.specs.View.{table_view};
-ghost use Rattle.rv_settings.specs.Settings.{number_at, HasNumbers, IsSettings, IsOfValue, IsRefused};
+ghost use Rattle.toml.specs.Parse.{parse_document};
+ghost use Rattle.rv_settings.specs.Settings.{number_at, HasNumbers, AreOfTable, IsSettings, IsOfValue, IsRefusedTable, IsRefused};
 
 use crate::device::Device;
 use crate::fault::SettingsFault;
 use crate::faults::first_fault;
 use crate::settings::Settings;
+use rv_script::unit_text::unit_text;
 use std::alloc::Global;
 use toml::{Table, Value};
 
@@ -115,11 +117,10 @@ fn settings_of(alloc: Global, table: &Table) -> Result<Settings, SettingsFault>
     })
 }
 
-/// Reads settings. First the text is TOML; then keys are looked at in the order of their bytes, those
-/// of a device where `device` stands; then each device has all its keys.
-pub fn read_settings(alloc: Global, text: &str) -> Result<Settings, SettingsFault>
-    ensures ok { IfOk result (IsSettings text.now) }
-    ensures err { IfErr result (IsRefused text.now) }
+// The settings that a text is, every carriage return of which is its own.
+fn settings_in(alloc: Global, text: &str) -> Result<Settings, SettingsFault>
+    ensures ok { IfOk result (AreOfTable (parse_document text.now)) }
+    ensures err { IfErr result (IsRefusedTable (parse_document text.now)) }
 {
     match toml::table_from_str(alloc, text) {
         Ok(table) => settings_of(alloc, &table),
@@ -130,5 +131,18 @@ pub fn read_settings(alloc: Global, text: &str) -> Result<Settings, SettingsFaul
                 Err(SettingsFault::NotToml)
             }
         }
+    }
+}
+
+/// Reads settings. First the text, without the carriage return before each line feed, is TOML; then keys
+/// are looked at in the order of their bytes, those of a device where `device` stands; then each device has
+/// all its keys.
+pub fn read_settings(alloc: Global, text: &str) -> Result<Settings, SettingsFault>
+    ensures ok { IfOk result (IsSettings text.now) }
+    ensures err { IfErr result (IsRefused text.now) }
+{
+    match unit_text(alloc, text) {
+        Ok(kept) => settings_in(alloc, kept.as_str()),
+        Err(_) => Err(SettingsFault::NoMemory),
     }
 }

@@ -71,7 +71,8 @@ fn multiplies(operator: MultiplyingOperator, left: i64, right: i64) -> Result<i6
     }
 }
 
-pub(crate) fn added(
+/// What `+` or `-` gives (4.5.3), where both numbers are known; or `None`, where a fault at this place was told.
+pub fn added(
     operator: AddingOperator,
     left: Number,
     right: Number,
@@ -90,7 +91,9 @@ pub(crate) fn added(
     }
 }
 
-pub(crate) fn multiplied(
+/// What `*`, `/`, `mod` or `rem` gives (4.5.5), where both numbers are known; or `None`, where a fault at this
+/// place was told.
+pub fn multiplied(
     operator: MultiplyingOperator,
     left: Number,
     right: Number,

@@ -8,6 +8,7 @@ mod primary;
 pub mod range;
 mod value;
 
+pub use arithmetic::{added, multiplied};
 pub use fault::{Faults, TypeFault};
 pub use meaning::{Meaning, Meanings, Number, Static};
 pub use range::{default_start, narrowed, start, static_number, subtype, value_in};

@@ -1,4 +1,5 @@
 pub mod Names
 pub mod StepWords
+pub mod Ends
 pub mod StepText
 pub mod Lookup

@@ -1,4 +1,4 @@
--- The steps of a script, one a line: who asks, and what (own). Keywords heed case.
+-- The steps of a script, one a line: who asks, and what (own). Keywords heed case; names ignore it.
 use Rattle.rv_step.specs.declared.reading.StepError.{StepError}
 use Rattle.rv_step.specs.declared.reading.StepError.TheVariants.{BadStep, NoMemory}
 use Rattle.std.specs.Prelude.{◌≡◌, ℕ, ℤ, pos, negsuc, nat_lt, Bool, true, false, not, ◌&&◌, if◌then◌else◌, List, [], ◌∷◌, codes}
@@ -13,9 +13,10 @@ use Rattle.rv_step.specs.declared.step.Asker.{Asker}
 use Rattle.rv_step.specs.declared.step.Asker.TheVariants.{Operator, Line, Task}
 use Rattle.rv_step.specs.declared.step.Asked.{Asked}
 use Rattle.rv_step.specs.declared.step.Asked.TheVariants as Asks
-use Rattle.rv_event.specs.Words.{interrupt_of, args_of, scalars_of, exit_of}
+use Rattle.rv_event.specs.Words.{interrupt_of, args_of, scalars_of}
 use Rattle.rv_shape.specs.Items.{◌>>=◌}
 use Rattle.rv_step.specs.StepWords.{dotted_of, identifier_of}
+use Rattle.rv_step.specs.Ends.{exit_of}
 
 -- a step
 pub record StepWords : Type 0 where

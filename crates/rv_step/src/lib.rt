@@ -2,6 +2,7 @@
 //! up among the units that are loaded.
 #![tactic(auto)]
 
+mod ends;
 pub mod lookup;
 pub mod reading;
 pub mod step;

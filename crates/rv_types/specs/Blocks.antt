@@ -21,7 +21,7 @@ use Rattle.rv_code.specs.declared.body.ExceptionChoice.TheVariants as choice
 use Rattle.rv_code.specs.declared.statement.Place.TheVariants.{Variable}
 use Rattle.rv_types.specs.declared.denoted.Denoted.{Denoted}
 use Rattle.rv_types.specs.declared.denoted.Denoted.TheVariants as d
-use Rattle.rv_types.specs.Points.{PointView, static_meaning, denotes, noting, taking_slot, has_slot, behind_parameters}
+use Rattle.rv_types.specs.Points.{PointView, static_meaning, denotes, noting, taking_object, has_object_slot, behind_parameters}
 use Rattle.rv_types.specs.StaticForm.{is_static}
 use Rattle.rv_types.specs.Typed.{typed_as}
 use Rattle.rv_types.specs.StatementCode.{statements_onto}
@@ -48,24 +48,30 @@ abbrev pub initial_of : PointView → Range → Option Expression → Option cod
 initial_of p r None = Some (code.literal (default_start r))
 initial_of p r (Some e) = typed_as p r.of e
 
+-- the values that it may start at: those of its range; without an initial value there is no check (3.3.1, 4.6), and where it
+-- starts is one, also of a null range
+abbrev pub starts_in : Range → Option Expression → Range
+starts_in r None = record { of = r.of; low = default_start r; high = default_start r }
+starts_in r (Some e) = r
+
 -- a variable, or a constant whose value isn't static, takes the next slot
 abbrev pub declaration_of : ℕ → Range → code.Expression → Declaration
 declaration_of slot r c = record { target = record { place = Variable slot; range = r }; initial = c }
 
-abbrev pub with_object : Identifier → Range → Bool → Opened → code.Expression → Opened
-with_object i r is_written o c = record {
-  point = taking_slot i.at r is_written o.point;
-  declarations = o.declarations ++ declaration_of o.point.slots r c ∷ [];
+abbrev pub with_object : Identifier → Range → Range → Bool → Opened → code.Expression → Opened
+with_object i r starts is_written o c = record {
+  point = taking_object i.at r is_written o.point;
+  declarations = o.declarations ++ declaration_of o.point.slots starts c ∷ [];
 }
 
 -- the next object, for which a slot is left
-abbrev pub object_with : Identifier → Range → Bool → Opened → code.Expression → Option Opened
-object_with i r is_written o c = if has_slot o.point then Some (with_object i r is_written o c) else None
+abbrev pub object_with : Identifier → Range → Range → Bool → Opened → code.Expression → Option Opened
+object_with i r starts is_written o c = if has_object_slot is_written o.point then Some (with_object i r starts is_written o c) else None
 
 abbrev pub objects_onto : Range → Bool → Option Expression → List Identifier → Opened → Option Opened
 objects_onto r is_written initial [] o = Some o
 objects_onto r is_written initial (i ∷ more) o =
-    initial_of o.point r initial >>= object_with i r is_written o >>= objects_onto r is_written initial more
+    initial_of o.point r initial >>= object_with i r (starts_in r initial) is_written o >>= objects_onto r is_written initial more
 
 -- constants with a static value are known by it
 abbrev pub noting_all : Range → ℤ → List Identifier → PointView → PointView

@@ -56,6 +56,7 @@ point_in s scope object result = record {
   object = object;
   slots = 0;
   parameters = 0;
+  constants = 0;
   result = result;
 }
 

@@ -1,5 +1,5 @@
 -- What names denote at a point of a body (ISO/IEC 8652:2012, 4.1, 8.6, 9.4, 9.5).
-use Rattle.std.specs.Prelude.{ℕ, zero, suc, ◌+◌, ◌-◌, ◌==◌, nat_lt, if◌then◌else◌, Bool, false, List, [], ◌∷◌, ◌++◌, Option, Some, None, slice_get, length}
+use Rattle.std.specs.Prelude.{ℕ, zero, suc, ◌+◌, ◌-◌, ◌==◌, nat_lt, if◌then◌else◌, Bool, true, false, List, [], ◌∷◌, ◌++◌, Option, Some, None, slice_get, length}
 use Rattle.rv_tree.specs.Names.{Identifier, Name}
 use Rattle.rv_event.specs.declared.entry.Exception.TheVariants as exception
 use Rattle.rv_shape.specs.declared.kind.Range.{Range}
@@ -48,6 +48,8 @@ pub record PointView : Type 0 where
   pub slots : ℕ
   -- how many slots the parameters have, which stand first
   pub parameters : ℕ
+  -- how many slots constants have
+  pub constants : ℕ
   -- the range of the result, in the body of a function (6.5)
   pub result : Option Range
 
@@ -212,9 +214,26 @@ noting at known p = record p { locals = p.locals ++ record { at = at; known = kn
 abbrev pub taking_slot : ℕ → Range → Bool → PointView → PointView
 taking_slot at r is_written p = record (noting at (k.Variable p.slots r is_written) p) { slots = p.slots + 1 }
 
--- 64 variables and loop parameters may be open beside the parameters: a slot is left for one more (own)
+-- 64 variables and loop parameters may be open beside parameters and constants: a slot is left for one more (own)
 unfoldable pub has_slot : PointView → Bool
-has_slot p = nat_lt (p.slots - p.parameters) 64
+has_slot p = nat_lt (p.slots - (p.parameters + p.constants)) 64
+
+-- 64 constants may have a value that isn't static: a slot is left for one more (own)
+unfoldable pub has_constant_slot : PointView → Bool
+has_constant_slot p = nat_lt p.constants 64
+
+-- a constant takes the next slot
+abbrev pub taking_constant : ℕ → Range → PointView → PointView
+taking_constant at r p = record (taking_slot at r false p) { constants = p.constants + 1 }
+
+-- an object of a declaration, a variable or a constant
+abbrev pub has_object_slot : Bool → PointView → Bool
+has_object_slot true p = has_slot p
+has_object_slot false p = has_constant_slot p
+
+abbrev pub taking_object : ℕ → Range → Bool → PointView → PointView
+taking_object at r true p = taking_slot at r true p
+taking_object at r false p = taking_constant at r p
 
 -- the parameters have their slots
 abbrev pub behind_parameters : PointView → PointView

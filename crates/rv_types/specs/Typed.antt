@@ -22,7 +22,7 @@ use Rattle.rv_static.specs.declared.meaning.Number.{Number}
 use Rattle.rv_static.specs.declared.meaning.Number.TheVariants.{Known, Skipped}
 use Rattle.rv_static.specs.declared.meaning.Static.{Static}
 use Rattle.rv_static.specs.Meanings.{same_type}
-use Rattle.rv_static.specs.Operators.{decides}
+use Rattle.rv_static.specs.Operators.{decides, added, multiplied}
 use Rattle.rv_static.specs.Static.{◌>>=◌, static_of}
 use Rattle.rv_code.specs.Expressions as code
 use Rattle.rv_code.specs.declared.expression.Prefix.TheVariants as prefix
@@ -190,6 +190,12 @@ joined_value op None right = None
 joined_value op (Some z) None = None
 joined_value op (Some z) (Some u) = if decides op (Known z) then Some z else Some u
 
+-- the number of an operand that is static and evaluated; of another it isn't asked
+abbrev pub number_of : Bool → code.Expression → Number
+number_of false c = Skipped
+number_of true (code.literal z) = Known z
+number_of true other = Skipped
+
 -- a first operand and the links behind it, of a type
 abbrev pub chained : ValueType → code.Expression → List code.Link → Option Typed
 chained t first links = Some (value_of t (code.chain first (code.links_of links)))
@@ -218,11 +224,12 @@ abbrev mutual
   computed p ev (parenthesized at e) = unless_static p ev e (computed p ev e)
   computed p ev (highest at op e) = highest_code op (unless_static p ev e (computed p ev e))
   computed p ev (product e fs) =
-      unless_static p ev e (computed p ev e) >>= of_type Integer >>= λ c. factors_onto p ev fs [] >>= chained Integer c
+      unless_static p ev e (computed p ev e) >>= of_type Integer >>= λ c.
+      factors_onto p ev (number_of ev c) fs [] >>= chained Integer c
   computed p ev (signed at op e) =
       unless_static p ev e (computed p ev e) >>= of_type Integer >>= λ c. Some (value_of Integer (signed_code op c))
   computed p ev (sum e ts) = unless_static p ev e (computed p ev e) >>= λ first.
-      terms_onto p ev first.of ts [] >>= summed first.code
+      terms_onto p ev first.of (number_of ev first.code) ts [] >>= summed first.code
   computed p ev (relation e op f) =
       unless_static p ev e (computed p ev e) >>= λ left.
       unless_static p ev f (computed p ev f) >>= relation_code (shows_times p) op left
@@ -243,17 +250,20 @@ abbrev mutual
   arguments_onto p ev (q ∷ qs) (and_expression e es) done =
       unless_static p ev e (computed p ev e) >>= of_type q.range.of >>= λ c. arguments_onto p ev qs es (done ++ argument_for q c ∷ [])
 
-  pub factors_onto : PointView → Bool → Factors → List code.Link → Option (List code.Link)
-  factors_onto p ev no_factors done = Some done
-  factors_onto p ev (and_factor op e fs) done =
-      unless_static p ev e (computed p ev e) >>= of_type Integer >>= λ c. factors_onto p ev fs (done ++ link (multiplying_operator op) c ∷ [])
+  -- factors behind others, whose product is known where they are static: it is a static expression of its own (4.4, 4.9)
+  pub factors_onto : PointView → Bool → Number → Factors → List code.Link → Option (List code.Link)
+  factors_onto p ev left no_factors done = Some done
+  factors_onto p ev left (and_factor op e fs) done =
+      unless_static p ev e (computed p ev e) >>= of_type Integer >>= λ c. multiplied op left (number_of ev c) >>= λ product.
+      factors_onto p ev product fs (done ++ link (multiplying_operator op) c ∷ [])
 
-  -- terms behind others, of which the sum has a type
-  pub terms_onto : PointView → Bool → ValueType → Terms → List code.Link → Option Sum
-  terms_onto p ev t no_terms done = Some (sum_with t done)
-  terms_onto p ev t (and_term op e ts) done =
+  -- terms behind others, whose sum has a type, and is known where they are static
+  pub terms_onto : PointView → Bool → ValueType → Number → Terms → List code.Link → Option Sum
+  terms_onto p ev t left no_terms done = Some (sum_with t done)
+  terms_onto p ev t left (and_term op e ts) done =
       unless_static p ev e (computed p ev e) >>= λ right. adds (shows_times p) t op right.of >>= λ adder.
-      terms_onto p ev adder.of ts (done ++ link adder.operator right.code ∷ [])
+      added op left (number_of ev right.code) >>= λ total.
+      terms_onto p ev adder.of total ts (done ++ link adder.operator right.code ∷ [])
 
   -- relations behind others, of which the value is known where they are static
   pub logic_onto : PointView → Bool → LogicalOperator → Option ℤ → Expressions → List code.Link → Option (List code.Link)
@@ -268,10 +278,10 @@ typed p ev e = unless_static p ev e (computed p ev e)
 
 -- what stands behind a first operand
 abbrev pub product_of : PointView → Bool → code.Expression → Factors → Option Typed
-product_of p ev first fs = factors_onto p ev fs [] >>= chained Integer first
+product_of p ev first fs = factors_onto p ev (number_of ev first) fs [] >>= chained Integer first
 
 abbrev pub sum_of : PointView → Bool → ValueType → code.Expression → Terms → Option Typed
-sum_of p ev t first ts = terms_onto p ev t ts [] >>= summed first
+sum_of p ev t first ts = terms_onto p ev t (number_of ev first) ts [] >>= summed first
 
 abbrev pub relation_of : PointView → Bool → RelationalOperator → Typed → Expression → Option Typed
 relation_of p ev op left e = typed p ev e >>= relation_code (shows_times p) op left

@@ -12,7 +12,7 @@ ghost use Rattle.rv_code.specs.BodyView.{declaration_view, handler_view, body_vi
 ghost use Rattle.rv_code.specs.StatementView.{statement_view as action_view};
 ghost use Rattle.rv_names.specs.Scope.{OnlyDeclares};
 ghost use Rattle.rv_types.specs.Points.{static_meaning};
-ghost use Rattle.rv_types.specs.Blocks.{initial_of, opened_with, objects_onto, noting_all, constants_onto, declared_onto, object_onto as object_declared_onto, hiding_names, local_onto, locals_onto, exception_of, exceptions_onto, handler_with, handlers_onto, declaration_of, block_of};
+ghost use Rattle.rv_types.specs.Blocks.{initial_of, starts_in, opened_with, objects_onto, noting_all, constants_onto, declared_onto, object_onto as object_declared_onto, hiding_names, local_onto, locals_onto, exception_of, exceptions_onto, handler_with, handlers_onto, declaration_of, block_of};
 
 use crate::denoted::Denoted;
 use crate::expression::expression_as;
@@ -48,6 +48,23 @@ fn initial(
     }
 }
 
+// The values that a variable may start at.
+fn starts_in(range: Range, given: &Option<Expression>) -> Range
+    ensures { result ≡ starts_in range (maybe expression_view given.now) }
+{
+    match given {
+        None => {
+            let start = default_start(range);
+            Range {
+                of: range.of,
+                low: start,
+                high: start,
+            }
+        }
+        Some(_) => range,
+    }
+}
+
 fn push_declaration(
     done: &mut Vec<Declaration>,
     slot: usize,
@@ -78,10 +95,11 @@ fn objects(
         (opened_with point.old (map declaration_view done.old.items)) ≡ Some (opened_with point.new (map declaration_view done.new.items))) }
     ensures scope { OnOk result (point.new.scope ≡ point.old.scope) }
 {
+    let starts = starts_in(range, given);
     for name in names {
         let value = initial(alloc, range, given, point)?;
-        push_declaration(done, point.slots(), range, value)?;
-        point.take_slot(name.at, range, is_written)?;
+        push_declaration(done, point.slots(), starts, value)?;
+        point.take_object(name.at, range, is_written)?;
     }
     Ok(())
 }
@@ -247,7 +265,7 @@ fn local(
             range,
             value,
         } => {
-            let left = point.slots_left();
+            let left = point.slots_left(*is_constant);
             point.hide(names)?;
             match object(alloc, names, *is_constant, mark, range, value, point, done) {
                 Ok(()) => Ok(()),

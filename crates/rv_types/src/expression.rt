@@ -14,17 +14,17 @@ mod call;
 use crate::expression::call::{call, named};
 use crate::operators::{
     Adder, adder_of, chain_of, is_decided, is_related, joined_value, logical_operator,
-    multiplying_operator, pair_of, prefixed_by, push_link, relational_operator, signed_by,
-    takes_left,
+    multiplying_operator, pair_of, prefixed_by, product_so_far, push_link, relational_operator,
+    signed_by, sum_so_far, takes_left,
 };
 use crate::point::Point;
 use crate::refused::{Refused, least, mismatch};
 use crate::static_form::is_static;
-use crate::typed::{Sum, Typed, literal_in, static_value_code};
+use crate::typed::{Sum, Typed, literal_in, number_of, static_value_code};
 pub(crate) use call::suspension_argument;
 use rv_code::{Expression as Code, Link, Prefix};
 use rv_shape::kind::ValueType;
-use rv_static::{Faults, Static, static_value};
+use rv_static::{Faults, Number, Static, static_value};
 use rv_tree::{Expression, Factor, HighestOperator, LogicalOperator, RelationalOperator, Term};
 use std::alloc::Global;
 
@@ -110,8 +110,9 @@ fn computed(
             highest_operand(alloc, *operator, operand, is_evaluated, point)
         }
         Expression::Product(first, more) => {
+            let at = first.place();
             let left = operand(alloc, ValueType::Integer, first, is_evaluated, point)?;
-            factors(alloc, more, left, is_evaluated, point)
+            factors(alloc, more, left, at, is_evaluated, point)
         }
         Expression::Signed(_, sign, term) => {
             let term = operand(alloc, ValueType::Integer, term, is_evaluated, point)?;
@@ -159,30 +160,36 @@ fn highest_operand(
     }
 }
 
-// A product, behind its first operand.
+// A product, behind its first operand, which stands at a place.
 #[cycle(expression)]
 fn factors(
     alloc: Global,
     more: &Vec<Factor>,
     first: Code,
+    at: usize,
     is_evaluated: bool,
     point: &Point,
 ) -> Result<Typed, Refused>
     ensures { IfOk result (λ t. product_of point.now is_evaluated (code_view first) (factors_of (factors_view more.now.items)) ≡ Some (typed_view t)) }
 {
-    let links = factor_links(alloc, more, is_evaluated, point)?;
+    let left = number_of(&first, is_evaluated);
+    let links = factor_links(alloc, more, left, at, is_evaluated, point)?;
     chain_of(alloc, ValueType::Integer, first, links)
 }
 
+// The factors behind a first one, of this number where it is static, and at a place.
 #[cycle(expression)]
 fn factor_links(
     alloc: Global,
     more: &Vec<Factor>,
+    first: Number,
+    at: usize,
     is_evaluated: bool,
     point: &Point,
 ) -> Result<Vec<Link>, Refused>
-    ensures { IfOk result (λ links. factors_onto point.now is_evaluated (factors_of (factors_view more.now.items)) [] ≡ Some (map link_view links.items)) }
+    ensures { IfOk result (λ links. factors_onto point.now is_evaluated first (factors_of (factors_view more.now.items)) [] ≡ Some (map link_view links.items)) }
 {
+    let mut total = first;
     let mut links = Vec::new(alloc);
     for factor in more {
         let right = operand(
@@ -192,6 +199,7 @@ fn factor_links(
             is_evaluated,
             point,
         )?;
+        total = product_so_far(factor.operator, total, number_of(&right, is_evaluated), at)?;
         push_link(&mut links, multiplying_operator(factor.operator), right)?;
     }
     Ok(links)
@@ -210,35 +218,40 @@ fn terms(
 ) -> Result<Typed, Refused>
     ensures { IfOk result (λ t. sum_of point.now is_evaluated of (code_view first) (terms_of (terms_view more.now.items)) ≡ Some (typed_view t)) }
 {
-    let Sum { of, links } = term_links(alloc, more, of, at, is_evaluated, point)?;
+    let left = number_of(&first, is_evaluated);
+    let Sum { of, links } = term_links(alloc, more, of, left, at, is_evaluated, point)?;
     chain_of(alloc, of, first, links)
 }
 
-// The terms behind a first one, of this type and at a place.
+// The terms behind a first one, of this type, of this number where it is static, and at a place.
 #[cycle(expression)]
 fn term_links(
     alloc: Global,
     more: &Vec<Term>,
     of: ValueType,
+    first: Number,
     at: usize,
     is_evaluated: bool,
     point: &Point,
 ) -> Result<Sum, Refused>
-    ensures { IfOk result (λ s. terms_onto point.now is_evaluated of (terms_of (terms_view more.now.items)) [] ≡ Some (sum_view s)) }
+    ensures { IfOk result (λ s. terms_onto point.now is_evaluated of first (terms_of (terms_view more.now.items)) [] ≡ Some (sum_view s)) }
 {
     let times = point.shows_times();
-    let mut total = of;
+    let mut sort = of;
+    let mut total = first;
     let mut links = Vec::new(alloc);
     for term in more {
-        if !takes_left(times, total, term.operator) {
+        if !takes_left(times, sort, term.operator) {
             return Err(mismatch(at));
         }
         let right = expression(alloc, &term.operand, is_evaluated, point)?;
-        let adder = adder_for(times, total, term, right.of)?;
-        push_link(&mut links, adder.operator, right.into_code())?;
-        total = adder.of;
+        let adder = adder_for(times, sort, term, right.of)?;
+        let code = right.into_code();
+        total = sum_so_far(term.operator, total, number_of(&code, is_evaluated), at)?;
+        push_link(&mut links, adder.operator, code)?;
+        sort = adder.of;
     }
-    Ok(Sum { of: total, links })
+    Ok(Sum { of: sort, links })
 }
 
 // A relation, behind its left operand, which stands at a place.

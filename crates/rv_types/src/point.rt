@@ -1,6 +1,6 @@
 //! A point of a body: what is declared there, and what names denote.
 
-ghost use Rattle.std.specs.Prelude.{◌≡◌, ◌-◌, OnOk, ℕ, true};
+ghost use Rattle.std.specs.Prelude.{◌≡◌, ◌+◌, ◌-◌, OnOk, ℕ, true};
 ghost use Rattle.rv_tree.specs.NameView.{identifier_view, identifiers_view, name_view};
 ghost use Rattle.rv_tree.specs.Names.{Identifier as IdentifierView};
 ghost use Rattle.rv_names.specs.Scope.{OnlyDeclares};
@@ -9,7 +9,7 @@ ghost use Rattle.rv_types.specs.Blocks.{hidden, revealed};
 ghost use Rattle.rv_types.specs.BodiesOf.{point_in};
 ghost use Rattle.rv_types.specs.Selectors.{constant_range, constant_subtype, declared_range};
 ghost use Rattle.rv_outline.specs.Known.{priority_range};
-ghost use Rattle.rv_types.specs.Points.{PointView, static_meaning, point_meaning, denotes, denoted_by, profile, profile_of, shows_times, local_at, known_in, noting, taking_slot, has_slot, behind_parameters, in_bounds as inside_bounds, with_loop_parameter};
+ghost use Rattle.rv_types.specs.Points.{PointView, static_meaning, point_meaning, denotes, denoted_by, profile, profile_of, shows_times, local_at, known_in, noting, taking_slot, has_slot, has_constant_slot, taking_constant, has_object_slot, taking_object, behind_parameters, in_bounds as inside_bounds, with_loop_parameter};
 
 use crate::denoted::Denoted;
 use crate::names::{
@@ -32,6 +32,9 @@ use std::marker::Model;
 
 // How many variables and loop parameters are open in a body (own).
 const MOST_VARIABLES: usize = 64;
+
+// How many constants of a body have a value that isn't static (own).
+const MOST_CONSTANTS: usize = 64;
 
 // The subtype Priority (13.7).
 fn priorities() -> Range
@@ -62,7 +65,6 @@ pub struct Local {
 }
 
 /// A point of a body: what is declared there.
-#[derive(Drop)]
 pub struct Point<'a> {
     pub scope: Scope<'a>,
     catalogue: &'a Catalogue,
@@ -72,11 +74,30 @@ pub struct Point<'a> {
     times: bool,
     // The number of the protected object whose body it is in.
     object: usize,
-    // The next slot, and how many of them the parameters have.
+    // The next slot, and how many of them parameters and constants have.
     slots: usize,
     parameters: usize,
+    constants: usize,
     // The range of the result, in the body of a function.
     result_range: Option<Range>,
+}
+
+// One drop of all fields proves quicker than each of them wherever a point is let go.
+impl Drop for Point<'_> {
+    fn drop(self) {
+        let Point {
+            scope: _,
+            catalogue: _,
+            outline: _,
+            locals: _,
+            times: _,
+            object: _,
+            slots: _,
+            parameters: _,
+            constants: _,
+            result_range: _,
+        } = self;
+    }
 }
 
 impl<'a> Model for Point<'a> {
@@ -94,6 +115,7 @@ impl<'a> Model for Point<'a> {
       object = p.object;
       slots = p.slots;
       parameters = p.parameters;
+      constants = p.constants;
       result = p.result_range;
     } };
 }
@@ -128,6 +150,7 @@ impl<'a> Point<'a> {
             object,
             slots: 0,
             parameters: 0,
+            constants: 0,
             result_range,
         }
     }
@@ -136,7 +159,19 @@ impl<'a> Point<'a> {
     pub(crate) fn into_scope(self) -> Scope<'a>
         ensures { result ≡ self.entry.scope }
     {
-        self.scope
+        let Point {
+            scope,
+            catalogue: _,
+            outline: _,
+            locals: _,
+            times: _,
+            object: _,
+            slots: _,
+            parameters: _,
+            constants: _,
+            result_range: _,
+        } = self;
+        scope
     }
 
     // What is known of a declaration of the body.
@@ -265,13 +300,18 @@ impl<'a> Point<'a> {
 
     // How many slots variables and loop parameters have.
     fn variables(&self) -> usize
-        ensures { result ≡ self.now.slots - self.now.parameters }
+        ensures { result ≡ self.now.slots - (self.now.parameters + self.now.constants) }
     {
-        self.slots.saturating_sub(self.parameters)
+        self.slots
+            .saturating_sub(self.parameters)
+            .saturating_sub(self.constants)
     }
 
-    /// How many slots are left.
-    pub(crate) fn slots_left(&self) -> usize {
+    /// How many slots are left for constants, or for variables.
+    pub(crate) fn slots_left(&self, is_constant: bool) -> usize {
+        if is_constant {
+            return MOST_CONSTANTS.saturating_sub(self.constants);
+        }
         MOST_VARIABLES.saturating_sub(self.variables())
     }
 
@@ -300,20 +340,47 @@ impl<'a> Point<'a> {
         Ok(())
     }
 
-    /// Gives the next slot to an object of the body, if one is left.
-    pub(crate) fn take_slot(
+    // Gives the next slot to a variable, if one is left.
+    fn take_variable(&mut self, at: usize, range: Range) -> Result<(), Refused>
+        ensures left { OnOk result (has_slot self.old ≡ true) }
+        ensures point { OnOk result (self.new ≡ taking_slot at range true self.old) }
+    {
+        if !self.has_slot() {
+            return Err(Refused(TypeFault::TooLarge(at)));
+        }
+        self.take_parameter(at, range, true)
+    }
+
+    // Gives the next slot to a constant, if one is left.
+    #[tactic(auto, unfolding(crate::specs::Points::has_constant_slot))]
+    fn take_constant(&mut self, at: usize, range: Range) -> Result<(), Refused>
+        ensures left { OnOk result (has_constant_slot self.old ≡ true) }
+        ensures point { OnOk result (self.new ≡ taking_constant at range self.old) }
+    {
+        if self.constants >= MOST_CONSTANTS {
+            return Err(Refused(TypeFault::TooLarge(at)));
+        }
+        let constants = self.constants + 1;
+        self.take_parameter(at, range, false)?;
+        self.constants = constants;
+        Ok(())
+    }
+
+    /// Gives the next slot to an object of a declaration, if one is left: to a variable, which is written, or
+    /// a constant.
+    pub(crate) fn take_object(
         &mut self,
         at: usize,
         range: Range,
         is_written: bool,
     ) -> Result<(), Refused>
-        ensures left { OnOk result (has_slot self.old ≡ true) }
-        ensures point { OnOk result (self.new ≡ taking_slot at range is_written self.old) }
+        ensures left { OnOk result (has_object_slot is_written self.old ≡ true) }
+        ensures point { OnOk result (self.new ≡ taking_object at range is_written self.old) }
     {
-        if !self.has_slot() {
-            return Err(Refused(TypeFault::TooLarge(at)));
+        if is_written {
+            return self.take_variable(at, range);
         }
-        self.take_parameter(at, range, is_written)
+        self.take_constant(at, range)
     }
 
     /// Identifiers inside their own declaration.

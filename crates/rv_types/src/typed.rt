@@ -4,7 +4,7 @@ ghost use Rattle.std.specs.Prelude.{◌≡◌, IfOk, Some};
 ghost use Rattle.rv_static.specs.Meanings.{same_type as types_same};
 ghost use Rattle.rv_code.specs.Expressions.{no_expressions};
 ghost use Rattle.rv_code.specs.ExpressionView.{expression_view as code_view};
-ghost use Rattle.rv_types.specs.Typed.{of_type as code_of_type, value_of, static_code as code_of_number, static_typed, is_decided as decides_all, literal_in as literal_of, joined_value as value_joined};
+ghost use Rattle.rv_types.specs.Typed.{of_type as code_of_type, value_of, static_code as code_of_number, static_typed, is_decided as decides_all, literal_in as literal_of, number_of as number_of_code};
 ghost use Rattle.rv_types.specs.TypedView.{typed_view};
 
 use crate::refused::{Refused, mismatch};
@@ -82,5 +82,18 @@ pub(crate) fn literal_in(code: &Code) -> Option<i64>
     match code {
         Code::Value(number) => Some(*number),
         _ => None,
+    }
+}
+
+/// The number of an operand that is static and evaluated; of another it isn't asked.
+pub(crate) fn number_of(code: &Code, is_evaluated: bool) -> Number
+    ensures { result ≡ number_of_code is_evaluated (code_view code.now) }
+{
+    if !is_evaluated {
+        return Number::Skipped;
+    }
+    match code {
+        Code::Value(number) => Number::Known(*number),
+        _ => Number::Skipped,
     }
 }

@@ -10,7 +10,6 @@ ghost use Rattle.rv_exec.specs.Bodies.{bodies_view};
 ghost use Rattle.rv_exec.specs.Sizes.{most_size};
 
 use crate::activation::Activation;
-use crate::bodies::Bodies;
 use crate::choices::handler_of;
 use crate::end::End;
 use crate::outcome::raised;
@@ -18,6 +17,7 @@ use crate::outward::Outward;
 use crate::run::statement::run_all;
 use crate::run::value::value_of;
 use crate::setting::Setting;
+use crate::surroundings::Surroundings;
 use rv_code::{Body, Declaration};
 
 /// Declarations, then the statements with the handlers (11.4).
@@ -25,48 +25,43 @@ use rv_code::{Body, Declaration};
 pub fn run_block<R, O: Outward<R>>(
     activation: &mut Activation,
     runtime: &R,
-    bodies: &Bodies,
-    setting: Setting,
+    surroundings: &Surroundings<'_>,
     body: &Body,
     outward: &mut O,
 ) -> End
-    requires small { body_size (body_view body.now) < most_size (bodies_view bodies.now) }
-    ensures ran { Ran O.went outward.old (block (world (bodies_view bodies.now) setting) (body_view body.now) activation.old) outward.new (result, activation.new) }
+    requires small { body_size (body_view body.now) < most_size (bodies_view surroundings.now.bodies.now) }
+    ensures ran { Ran O.went outward.old (block (world (bodies_view surroundings.now.bodies.now) surroundings.now.setting) (body_view body.now) activation.old) outward.new (result, activation.new) }
     ensures steps { steps_left activation.new ≤ steps_left activation.old }
 {
     match elaborate(
         activation,
         runtime,
-        bodies,
-        setting,
+        surroundings,
         &body.declarations,
         outward,
     ) {
         End::Next => {}
         end => return end,
     }
-    let end = run_all(
-        activation,
-        runtime,
-        bodies,
-        setting,
-        &body.statements,
-        outward,
-    );
+    let end = run_all(activation, runtime, surroundings, &body.statements, outward);
     let Some(exception) = raised(end) else {
         return end;
     };
     let Some(statements) = handler_of(&body.handlers, exception) else {
         return end;
     };
-    let inside = Setting {
-        object: setting.object,
-        held: setting.held,
-        nested: setting.nested,
-        is_task: setting.is_task,
-        handling: Some(exception),
+    let setting = surroundings.setting;
+    let inside = Surroundings {
+        bodies: surroundings.bodies,
+        setting: Setting {
+            object: setting.object,
+            held: setting.held,
+            nested: setting.nested,
+            is_task: setting.is_task,
+            handling: Some(exception),
+        },
     };
-    run_all(activation, runtime, bodies, inside, statements, outward)
+    run_all(activation, runtime, &inside, statements, outward)
 }
 
 /// Declarations in their order (3.3.1, 3.11).
@@ -74,21 +69,19 @@ pub fn run_block<R, O: Outward<R>>(
 pub fn elaborate<R, O: Outward<R>>(
     activation: &mut Activation,
     runtime: &R,
-    bodies: &Bodies,
-    setting: Setting,
+    surroundings: &Surroundings<'_>,
     declarations: &Vec<Declaration>,
     outward: &mut O,
 ) -> End
-    requires small { declarations_size (map declaration_view declarations.now.items) < most_size (bodies_view bodies.now) }
-    ensures ran { Ran O.went outward.old (elaborated (world (bodies_view bodies.now) setting) (map declaration_view declarations.now.items) activation.old) outward.new (result, activation.new) }
+    requires small { declarations_size (map declaration_view declarations.now.items) < most_size (bodies_view surroundings.now.bodies.now) }
+    ensures ran { Ran O.went outward.old (elaborated (world (bodies_view surroundings.now.bodies.now) surroundings.now.setting) (map declaration_view declarations.now.items) activation.old) outward.new (result, activation.new) }
     ensures steps { steps_left activation.new ≤ steps_left activation.old }
 {
     for declaration in declarations {
         match value_of(
             activation,
             runtime,
-            bodies,
-            setting,
+            surroundings,
             &declaration.initial,
             outward,
         ) {

@@ -13,14 +13,13 @@ ghost use Rattle.rv_exec.specs.Sizes.{most_size};
 ghost use Rattle.rv_exec.specs.Statements.{meaning, meanings, first_true};
 
 use crate::activation::Activation;
-use crate::bodies::Bodies;
 use crate::choices::alternative_of;
 use crate::end::{Cause, End};
 use crate::operators::is_true;
 use crate::outward::Outward;
 use crate::run::statement::run_all;
 use crate::run::value::value_of;
-use crate::setting::Setting;
+use crate::surroundings::Surroundings;
 use rv_code::{Alternative, Branch, Expression, Statement};
 use rv_event::entry::Exception;
 
@@ -29,22 +28,20 @@ use rv_event::entry::Exception;
 pub fn run_if<R, O: Outward<R>>(
     activation: &mut Activation,
     runtime: &R,
-    bodies: &Bodies,
-    setting: Setting,
+    surroundings: &Surroundings<'_>,
     branches: &Vec<Branch>,
     otherwise: &Vec<Statement>,
     outward: &mut O,
 ) -> End
-    requires small { branches_size (branches_view branches.now.items) + statements_size (statements_view otherwise.now.items) + 1 < most_size (bodies_view bodies.now) }
-    ensures ran { Ran O.went outward.old (first_true (world (bodies_view bodies.now) setting) (branches_view branches.now.items) (meanings (world (bodies_view bodies.now) setting) (statements_view otherwise.now.items)) activation.old) outward.new (result, activation.new) }
+    requires small { branches_size (branches_view branches.now.items) + statements_size (statements_view otherwise.now.items) + 1 < most_size (bodies_view surroundings.now.bodies.now) }
+    ensures ran { Ran O.went outward.old (first_true (world (bodies_view surroundings.now.bodies.now) surroundings.now.setting) (branches_view branches.now.items) (meanings (world (bodies_view surroundings.now.bodies.now) surroundings.now.setting) (statements_view otherwise.now.items)) activation.old) outward.new (result, activation.new) }
     ensures steps { steps_left activation.new ≤ steps_left activation.old }
 {
     for branch in branches {
         match value_of(
             activation,
             runtime,
-            bodies,
-            setting,
+            surroundings,
             &branch.condition,
             outward,
         ) {
@@ -53,8 +50,7 @@ pub fn run_if<R, O: Outward<R>>(
                     return run_all(
                         activation,
                         runtime,
-                        bodies,
-                        setting,
+                        surroundings,
                         &branch.statements,
                         outward,
                     );
@@ -63,7 +59,7 @@ pub fn run_if<R, O: Outward<R>>(
             Err(cause) => return End::Abandoned(cause),
         }
     }
-    run_all(activation, runtime, bodies, setting, otherwise, outward)
+    run_all(activation, runtime, surroundings, otherwise, outward)
 }
 
 /// The statements of the alternative that covers the value of the selector (5.4).
@@ -71,21 +67,18 @@ pub fn run_if<R, O: Outward<R>>(
 pub fn run_case<R, O: Outward<R>>(
     activation: &mut Activation,
     runtime: &R,
-    bodies: &Bodies,
-    setting: Setting,
+    surroundings: &Surroundings<'_>,
     selector: &Expression,
     alternatives: &Vec<Alternative>,
     outward: &mut O,
 ) -> End
-    requires small { size (expression_view selector.now) + alternatives_size (alternatives_view alternatives.now.items) < most_size (bodies_view bodies.now) }
-    ensures ran { Ran O.went outward.old (meaning (world (bodies_view bodies.now) setting) (selection (expression_view selector.now) (alternatives_view alternatives.now.items)) activation.old) outward.new (result, activation.new) }
+    requires small { size (expression_view selector.now) + alternatives_size (alternatives_view alternatives.now.items) < most_size (bodies_view surroundings.now.bodies.now) }
+    ensures ran { Ran O.went outward.old (meaning (world (bodies_view surroundings.now.bodies.now) surroundings.now.setting) (selection (expression_view selector.now) (alternatives_view alternatives.now.items)) activation.old) outward.new (result, activation.new) }
     ensures steps { steps_left activation.new ≤ steps_left activation.old }
 {
-    match value_of(activation, runtime, bodies, setting, selector, outward) {
+    match value_of(activation, runtime, surroundings, selector, outward) {
         Ok(value) => match alternative_of(alternatives, value) {
-            Some(statements) => {
-                run_all(activation, runtime, bodies, setting, statements, outward)
-            }
+            Some(statements) => { run_all(activation, runtime, surroundings, statements, outward) }
             None => End::Abandoned(Cause::Raised(Exception::ConstraintError)),
         },
         Err(cause) => End::Abandoned(cause),

@@ -11,7 +11,6 @@ ghost use Rattle.rv_exec.specs.Sizes.{most_size};
 ghost use Rattle.rv_exec.specs.Statements.{exit_where, meaning, meanings};
 
 use crate::activation::Activation;
-use crate::bodies::Bodies;
 use crate::end::{Cause, End};
 use crate::operators::is_true;
 use crate::outcome::raised_again;
@@ -20,8 +19,8 @@ use crate::ranges::Scheme;
 use crate::run::call::called;
 use crate::run::choice::{run_case, run_if};
 use crate::run::turns::{run_for, run_while};
-use crate::run::value::value_of;
-use crate::setting::Setting;
+use crate::run::value::{arguments, value_of};
+use crate::surroundings::Surroundings;
 use rv_code::Statement;
 
 // How `exit when` ends (5.7).
@@ -36,20 +35,19 @@ fn exit_where(value: i64) -> End
 pub fn run_all<R, O: Outward<R>>(
     activation: &mut Activation,
     runtime: &R,
-    bodies: &Bodies,
-    setting: Setting,
+    surroundings: &Surroundings<'_>,
     statements: &Vec<Statement>,
     outward: &mut O,
 ) -> End
-    requires small { statements_size (statements_view statements.now.items) < most_size (bodies_view bodies.now) }
-    ensures ran { Ran O.went outward.old (meanings (world (bodies_view bodies.now) setting) (statements_view statements.now.items) activation.old) outward.new (result, activation.new) }
+    requires small { statements_size (statements_view statements.now.items) < most_size (bodies_view surroundings.now.bodies.now) }
+    ensures ran { Ran O.went outward.old (meanings (world (bodies_view surroundings.now.bodies.now) surroundings.now.setting) (statements_view statements.now.items) activation.old) outward.new (result, activation.new) }
     ensures steps { steps_left activation.new ≤ steps_left activation.old }
 {
     for statement in statements {
         if !activation.step() {
             return End::Abandoned(Cause::Overrun);
         }
-        match run_one(activation, runtime, bodies, setting, statement, outward) {
+        match run_one(activation, runtime, surroundings, statement, outward) {
             End::Next => {}
             end => return end,
         }
@@ -62,34 +60,37 @@ pub fn run_all<R, O: Outward<R>>(
 pub fn run_one<R, O: Outward<R>>(
     activation: &mut Activation,
     runtime: &R,
-    bodies: &Bodies,
-    setting: Setting,
+    surroundings: &Surroundings<'_>,
     statement: &Statement,
     outward: &mut O,
 ) -> End
-    requires small { statement_size (statement_view statement.now) < most_size (bodies_view bodies.now) }
-    ensures ran { Ran O.went outward.old (meaning (world (bodies_view bodies.now) setting) (statement_view statement.now) activation.old) outward.new (result, activation.new) }
+    requires small { statement_size (statement_view statement.now) < most_size (bodies_view surroundings.now.bodies.now) }
+    ensures ran { Ran O.went outward.old (meaning (world (bodies_view surroundings.now.bodies.now) surroundings.now.setting) (statement_view statement.now) activation.old) outward.new (result, activation.new) }
     ensures steps { steps_left activation.new ≤ steps_left activation.old }
 {
     match statement {
         Statement::Null => End::Next,
         Statement::Assign(target, expression) => {
-            match value_of(activation, runtime, bodies, setting, expression, outward) {
+            match value_of(activation, runtime, surroundings, expression, outward) {
                 Ok(value) => activation.assign(*target, value),
                 Err(cause) => End::Abandoned(cause),
             }
         }
         Statement::If(branches, otherwise) => {
             run_if(
-                activation, runtime, bodies, setting, branches, otherwise, outward,
+                activation,
+                runtime,
+                surroundings,
+                branches,
+                otherwise,
+                outward,
             )
         }
         Statement::Case(selector, alternatives) => {
             run_case(
                 activation,
                 runtime,
-                bodies,
-                setting,
+                surroundings,
                 selector,
                 alternatives,
                 outward,
@@ -97,7 +98,12 @@ pub fn run_one<R, O: Outward<R>>(
         }
         Statement::While(condition, statements) => {
             run_while(
-                activation, runtime, bodies, setting, condition, statements, outward,
+                activation,
+                runtime,
+                surroundings,
+                condition,
+                statements,
+                outward,
             )
         }
         Statement::For {
@@ -114,29 +120,39 @@ pub fn run_one<R, O: Outward<R>>(
                 range: *range,
             };
             run_for(
-                activation, runtime, bodies, setting, scheme, low, high, statements, outward,
+                activation,
+                runtime,
+                surroundings,
+                scheme,
+                low,
+                high,
+                statements,
+                outward,
             )
         }
         Statement::ExitWhen(condition) => {
-            match value_of(activation, runtime, bodies, setting, condition, outward) {
+            match value_of(activation, runtime, surroundings, condition, outward) {
                 Ok(value) => exit_where(value),
                 Err(cause) => End::Abandoned(cause),
             }
         }
         Statement::Return => End::Return(None),
         Statement::ReturnValue(expression) => {
-            match value_of(activation, runtime, bodies, setting, expression, outward) {
+            match value_of(activation, runtime, surroundings, expression, outward) {
                 Ok(value) => End::Return(Some(value)),
                 Err(cause) => End::Abandoned(cause),
             }
         }
         Statement::Raise(exception) => End::Abandoned(Cause::Raised(*exception)),
-        Statement::Reraise => End::Abandoned(raised_again(setting.handling)),
+        Statement::Reraise => End::Abandoned(raised_again(surroundings.setting.handling)),
         Statement::Call(callee, given, targets) => {
-            match called(
-                activation, runtime, bodies, setting, *callee, given, outward,
-            ) {
-                Ok(back) => activation.copy_back(targets, back),
+            match arguments(activation, runtime, surroundings, given, outward) {
+                Ok(values) => {
+                    match called(activation, runtime, surroundings, *callee, values, outward) {
+                        Ok(back) => activation.copy_back(targets, back),
+                        Err(cause) => End::Abandoned(cause),
+                    }
+                }
                 Err(cause) => End::Abandoned(cause),
             }
         }

@@ -13,14 +13,13 @@ ghost use Rattle.rv_exec.specs.Sizes.{most_size};
 ghost use Rattle.rv_exec.specs.Statements.{meaning, meanings, values_over};
 
 use crate::activation::Activation;
-use crate::bodies::Bodies;
 use crate::end::{Cause, End};
 use crate::operators::is_true;
 use crate::outward::Outward;
 use crate::ranges::{Scheme, Values, fits, span, value_before};
 use crate::run::statement::run_all;
 use crate::run::value::value_of;
-use crate::setting::Setting;
+use crate::surroundings::Surroundings;
 use rv_code::{Expression, Statement};
 use rv_event::entry::Exception;
 
@@ -29,18 +28,17 @@ use rv_event::entry::Exception;
 pub fn run_while<R, O: Outward<R>>(
     activation: &mut Activation,
     runtime: &R,
-    bodies: &Bodies,
-    setting: Setting,
+    surroundings: &Surroundings<'_>,
     condition: &Expression,
     statements: &Vec<Statement>,
     outward: &mut O,
 ) -> End
-    requires small { size (expression_view condition.now) + statements_size (statements_view statements.now.items) + 1 < most_size (bodies_view bodies.now) }
-    ensures ran { Ran O.went outward.old (meaning (world (bodies_view bodies.now) setting) (while_loop (expression_view condition.now) (statements_view statements.now.items)) activation.old) outward.new (result, activation.new) }
+    requires small { size (expression_view condition.now) + statements_size (statements_view statements.now.items) + 1 < most_size (bodies_view surroundings.now.bodies.now) }
+    ensures ran { Ran O.went outward.old (meaning (world (bodies_view surroundings.now.bodies.now) surroundings.now.setting) (while_loop (expression_view condition.now) (statements_view statements.now.items)) activation.old) outward.new (result, activation.new) }
     ensures steps { steps_left activation.new ≤ steps_left activation.old }
 {
     'turns: loop {
-        match value_of(activation, runtime, bodies, setting, condition, outward) {
+        match value_of(activation, runtime, surroundings, condition, outward) {
             Ok(value) => {
                 if !is_true(value) {
                     return End::Next;
@@ -51,7 +49,7 @@ pub fn run_while<R, O: Outward<R>>(
         if !activation.step() {
             return End::Abandoned(Cause::Overrun);
         }
-        match run_all(activation, runtime, bodies, setting, statements, outward) {
+        match run_all(activation, runtime, surroundings, statements, outward) {
             End::Next => {}
             End::Exit => return End::Next,
             end => return end,
@@ -64,23 +62,22 @@ pub fn run_while<R, O: Outward<R>>(
 pub fn run_for<R, O: Outward<R>>(
     activation: &mut Activation,
     runtime: &R,
-    bodies: &Bodies,
-    setting: Setting,
+    surroundings: &Surroundings<'_>,
     scheme: Scheme,
     low: &Expression,
     high: &Expression,
     statements: &Vec<Statement>,
     outward: &mut O,
 ) -> End
-    requires small { size (expression_view low.now) + size (expression_view high.now) + statements_size (statements_view statements.now.items) + 1 < most_size (bodies_view bodies.now) }
-    ensures ran { Ran O.went outward.old (meaning (world (bodies_view bodies.now) setting) (for_loop scheme.parameter scheme.is_reverse scheme.range (expression_view low.now) (expression_view high.now) (statements_view statements.now.items)) activation.old) outward.new (result, activation.new) }
+    requires small { size (expression_view low.now) + size (expression_view high.now) + statements_size (statements_view statements.now.items) + 1 < most_size (bodies_view surroundings.now.bodies.now) }
+    ensures ran { Ran O.went outward.old (meaning (world (bodies_view surroundings.now.bodies.now) surroundings.now.setting) (for_loop scheme.parameter scheme.is_reverse scheme.range (expression_view low.now) (expression_view high.now) (statements_view statements.now.items)) activation.old) outward.new (result, activation.new) }
     ensures steps { steps_left activation.new ≤ steps_left activation.old }
 {
-    let from = match value_of(activation, runtime, bodies, setting, low, outward) {
+    let from = match value_of(activation, runtime, surroundings, low, outward) {
         Ok(value) => value,
         Err(cause) => return End::Abandoned(cause),
     };
-    let to = match value_of(activation, runtime, bodies, setting, high, outward) {
+    let to = match value_of(activation, runtime, surroundings, high, outward) {
         Ok(value) => value,
         Err(cause) => return End::Abandoned(cause),
     };
@@ -97,7 +94,12 @@ pub fn run_for<R, O: Outward<R>>(
         high: to,
     };
     run_values(
-        activation, runtime, bodies, setting, values, statements, outward,
+        activation,
+        runtime,
+        surroundings,
+        values,
+        statements,
+        outward,
     )
 }
 
@@ -106,14 +108,13 @@ pub fn run_for<R, O: Outward<R>>(
 pub fn run_values<R, O: Outward<R>>(
     activation: &mut Activation,
     runtime: &R,
-    bodies: &Bodies,
-    setting: Setting,
+    surroundings: &Surroundings<'_>,
     values: Values,
     statements: &Vec<Statement>,
     outward: &mut O,
 ) -> End
-    requires { statements_size (statements_view statements.now.items) + 1 < most_size (bodies_view bodies.now) }
-    ensures ran { Ran O.went outward.old (values_over (span values.low values.high) values.is_reverse values.low values.high values.slot (meanings (world (bodies_view bodies.now) setting) (statements_view statements.now.items)) activation.old) outward.new (result, activation.new) }
+    requires { statements_size (statements_view statements.now.items) + 1 < most_size (bodies_view surroundings.now.bodies.now) }
+    ensures ran { Ran O.went outward.old (values_over (span values.low values.high) values.is_reverse values.low values.high values.slot (meanings (world (bodies_view surroundings.now.bodies.now) surroundings.now.setting) (statements_view statements.now.items)) activation.old) outward.new (result, activation.new) }
     ensures steps { steps_left activation.new ≤ steps_left activation.old }
 {
     let mut left = span(values);
@@ -123,7 +124,7 @@ pub fn run_values<R, O: Outward<R>>(
             return End::Abandoned(Cause::Overrun);
         }
         activation.put_slot(values.slot, value_before(values, left));
-        match run_all(activation, runtime, bodies, setting, statements, outward) {
+        match run_all(activation, runtime, surroundings, statements, outward) {
             End::Next => {}
             End::Exit => return End::Next,
             end => return end,

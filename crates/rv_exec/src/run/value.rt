@@ -10,13 +10,12 @@ ghost use Rattle.rv_exec.specs.Bodies.{bodies_view};
 ghost use Rattle.rv_exec.specs.Expressions.{value, linked, arguments};
 ghost use Rattle.rv_exec.specs.Sizes.{most_size};
 
-use crate::activation::{Activation, joined, value_at};
-use crate::bodies::Bodies;
+use crate::activation::{Activation, join, value_at};
 use crate::end::Cause;
 use crate::operators::{decides, prefix_of, result_of, within};
 use crate::outward::Outward;
 use crate::run::call::called;
-use crate::setting::Setting;
+use crate::surroundings::Surroundings;
 use rv_code::{Expression, Link};
 use rv_value::Args;
 
@@ -25,13 +24,12 @@ use rv_value::Args;
 pub fn value_of<R, O: Outward<R>>(
     activation: &mut Activation,
     runtime: &R,
-    bodies: &Bodies,
-    setting: Setting,
+    surroundings: &Surroundings<'_>,
     expression: &Expression,
     outward: &mut O,
 ) -> Result<i64, Cause>
-    requires small { size (expression_view expression.now) < most_size (bodies_view bodies.now) }
-    ensures ran { Ran O.went outward.old (value (world (bodies_view bodies.now) setting) (expression_view expression.now) activation.old) outward.new (result, activation.new) }
+    requires small { size (expression_view expression.now) < most_size (bodies_view surroundings.now.bodies.now) }
+    ensures ran { Ran O.went outward.old (value (world (bodies_view surroundings.now.bodies.now) surroundings.now.setting) (expression_view expression.now) activation.old) outward.new (result, activation.new) }
     ensures steps { steps_left activation.new ≤ steps_left activation.old }
 {
     match expression {
@@ -39,28 +37,31 @@ pub fn value_of<R, O: Outward<R>>(
         Expression::Variable(slot) => Ok(activation.variable(*slot)),
         Expression::Component(index) => Ok(activation.component(*index)),
         Expression::Prefixed(operator, operand) => {
-            match value_of(activation, runtime, bodies, setting, &**operand, outward) {
+            match value_of(activation, runtime, surroundings, &**operand, outward) {
                 Ok(value) => prefix_of(*operator, value),
                 Err(cause) => Err(cause),
             }
         }
         Expression::Chain(first, links) => {
-            match value_of(activation, runtime, bodies, setting, &**first, outward) {
-                Ok(value) => linked(activation, runtime, bodies, setting, links, value, outward),
+            match value_of(activation, runtime, surroundings, &**first, outward) {
+                Ok(value) => linked(activation, runtime, surroundings, links, value, outward),
                 Err(cause) => Err(cause),
             }
         }
         Expression::Within(range, operand) => {
-            match value_of(activation, runtime, bodies, setting, &**operand, outward) {
+            match value_of(activation, runtime, surroundings, &**operand, outward) {
                 Ok(value) => within(*range, value),
                 Err(cause) => Err(cause),
             }
         }
         Expression::Call(callee, given) => {
-            match called(
-                activation, runtime, bodies, setting, *callee, given, outward,
-            ) {
-                Ok(back) => Ok(value_at(back, 0)),
+            match arguments(activation, runtime, surroundings, given, outward) {
+                Ok(values) => {
+                    match called(activation, runtime, surroundings, *callee, values, outward) {
+                        Ok(back) => Ok(value_at(back, 0)),
+                        Err(cause) => Err(cause),
+                    }
+                }
                 Err(cause) => Err(cause),
             }
         }
@@ -72,14 +73,13 @@ pub fn value_of<R, O: Outward<R>>(
 pub fn linked<R, O: Outward<R>>(
     activation: &mut Activation,
     runtime: &R,
-    bodies: &Bodies,
-    setting: Setting,
+    surroundings: &Surroundings<'_>,
     links: &Vec<Link>,
     first: i64,
     outward: &mut O,
 ) -> Result<i64, Cause>
-    requires small { links_size (links_view links.now.items) < most_size (bodies_view bodies.now) }
-    ensures ran { Ran O.went outward.old (linked (world (bodies_view bodies.now) setting) (links_view links.now.items) first activation.old) outward.new (result, activation.new) }
+    requires small { links_size (links_view links.now.items) < most_size (bodies_view surroundings.now.bodies.now) }
+    ensures ran { Ran O.went outward.old (linked (world (bodies_view surroundings.now.bodies.now) surroundings.now.setting) (links_view links.now.items) first activation.old) outward.new (result, activation.new) }
     ensures steps { steps_left activation.new ≤ steps_left activation.old }
 {
     let mut value = first;
@@ -87,7 +87,7 @@ pub fn linked<R, O: Outward<R>>(
         if decides(link.operator, value) {
             continue;
         }
-        match value_of(activation, runtime, bodies, setting, &link.operand, outward) {
+        match value_of(activation, runtime, surroundings, &link.operand, outward) {
             Ok(operand) => match result_of(link.operator, value, operand) {
                 Ok(next) => value = next,
                 Err(cause) => return Err(cause),
@@ -103,19 +103,18 @@ pub fn linked<R, O: Outward<R>>(
 pub fn arguments<R, O: Outward<R>>(
     activation: &mut Activation,
     runtime: &R,
-    bodies: &Bodies,
-    setting: Setting,
+    surroundings: &Surroundings<'_>,
     given: &Vec<Expression>,
     outward: &mut O,
 ) -> Result<Args, Cause>
-    requires small { expressions_size (expressions_view given.now.items) < most_size (bodies_view bodies.now) }
-    ensures ran { Ran O.went outward.old (arguments (world (bodies_view bodies.now) setting) (expressions_view given.now.items) [] activation.old) outward.new (result, activation.new) }
+    requires small { expressions_size (expressions_view given.now.items) < most_size (bodies_view surroundings.now.bodies.now) }
+    ensures ran { Ran O.went outward.old (arguments (world (bodies_view surroundings.now.bodies.now) surroundings.now.setting) (expressions_view given.now.items) [] activation.old) outward.new (result, activation.new) }
     ensures steps { steps_left activation.new ≤ steps_left activation.old }
 {
     let mut values = Args::new();
     for argument in given {
-        match value_of(activation, runtime, bodies, setting, argument, outward) {
-            Ok(value) => values = joined(values, value),
+        match value_of(activation, runtime, surroundings, argument, outward) {
+            Ok(value) => join(&mut values, value),
             Err(cause) => return Err(cause),
         }
     }

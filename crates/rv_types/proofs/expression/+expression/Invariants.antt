@@ -7,13 +7,13 @@ use Rattle.rv_types.proofs.expression.+expression.Given as goal
 
 abbrev pub invariant-factor_links-loop-factor : goal.invariant-factor_links-loop-factor
 invariant-factor_links-loop-factor l =
-    factors_onto l.point l.is_evaluated (factors_of (factors_view (drop l.factor-index l.factor-items))) (map link_view l.links.items)
-    ≡ factors_onto l.point l.is_evaluated (factors_of (factors_view l.factor-items)) (map link_view l.initial.links.items)
+    factors_onto l.point l.is_evaluated l.total (factors_of (factors_view (drop l.factor-index l.factor-items))) (map link_view l.links.items)
+    ≡ factors_onto l.point l.is_evaluated l.initial.total (factors_of (factors_view l.factor-items)) (map link_view l.initial.links.items)
 
 abbrev pub invariant-term_links-loop-term : goal.invariant-term_links-loop-term
 invariant-term_links-loop-term l =
-    terms_onto l.point l.is_evaluated l.total (terms_of (terms_view (drop l.term-index l.term-items))) (map link_view l.links.items)
-    ≡ terms_onto l.point l.is_evaluated l.initial.total (terms_of (terms_view l.term-items)) (map link_view l.initial.links.items)
+    terms_onto l.point l.is_evaluated l.sort l.total (terms_of (terms_view (drop l.term-index l.term-items))) (map link_view l.links.items)
+    ≡ terms_onto l.point l.is_evaluated l.initial.sort l.initial.total (terms_of (terms_view l.term-items)) (map link_view l.initial.links.items)
 
 abbrev pub invariant-logic_links-loop-e : goal.invariant-logic_links-loop-e
 invariant-logic_links-loop-e l =
