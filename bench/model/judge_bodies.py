@@ -12,6 +12,17 @@ from words import folded
 Profile = tuple[list[tuple[str, str, Entity | None]], Entity | None]  # names, modes and marks of parameters; the result
 
 
+def match(one: Entity | None, other: Entity | None) -> bool:
+    """Whether two marks match statically: they are of one subtype, or of static ranges with the same bounds (4.9.1)."""
+    return one is other or None not in (one, other) and one.span is not None and one.span == other.span
+
+
+def conform(one: Profile, other: Profile) -> bool:
+    """Whether two profiles conform (6.3.1)."""
+    return (len(one[0]) == len(other[0]) and match(one[1], other[1])
+            and all(a[:2] == b[:2] and match(a[2], b[2]) for a, b in zip(one[0], other[0])))
+
+
 def entities_of(item: Node, kind: str) -> list[tuple[Entity, Identifier]]:
     """What a declaration declares; objects that are no constants are of that kind."""
     if isinstance(item, Objects):
@@ -22,8 +33,11 @@ def entities_of(item: Node, kind: str) -> list[tuple[Entity, Identifier]]:
     if isinstance(item, Protected):
         kind = "protected type" if item.is_type else "protected"
         return [(Entity(kind, item.name.text, item.name.place, item.opening), item.name)]
-    if isinstance(item, (Subtype, Task, Operations)):
-        kind = item.kind if isinstance(item, Operations) else "subtype" if isinstance(item, Subtype) else "task"
+    if isinstance(item, Operations):  # from behind its profile on it hides what is outside (8.2)
+        start = item.aspects[0].place if item.aspects else item.stop
+        return [(Entity(item.kind, item.name.text, start, item.stop), item.name)]
+    if isinstance(item, (Subtype, Task)):
+        kind = "subtype" if isinstance(item, Subtype) else "task"
         return [(Entity(kind, item.name.text, item.name.place, item.stop), item.name)]
     return []
 
@@ -31,7 +45,7 @@ def entities_of(item: Node, kind: str) -> list[tuple[Entity, Identifier]]:
 class Bodies(Uses):
     def __init__(self, scope: Scope) -> None:
         super().__init__(scope)
-        self.profiles: dict[int, Profile] = {}  # of operations, by the places of their names
+        self.profiles: dict[Entity, Profile] = {}  # of operations
 
     def declare_all(self, members: Members, items: Iterable[Node], kind: str, owner: Entity | None = None, is_hidden: bool = False) -> None:
         """Adds what these declarations declare to a region, and tells each name that is there already."""
@@ -105,7 +119,8 @@ class Bodies(Uses):
         entity = self.completed(item.name, unit.members, item.kind) if unit else None
         members: Members = {}
         found = self.profile(item.parameters, item.result, members)
-        if entity and (found != self.profiles.get(entity.place) or any(mark is None for _, _, mark in found[0])):
+        declared = self.profiles.get(entity) if entity else None
+        if entity and (declared is None or not conform(found, declared) or any(mark is None for _, _, mark in found[0])):
             self.tell(item.name.place, "WrongKind")
         if item.barrier:
             with self.region(dict(members), entity):

@@ -1,8 +1,11 @@
 """Faults of names: declarations, kinds, end names (docs/UNITS.md, "Names"). Statements are in judge_uses.py, bodies in judge_bodies.py."""
+from collections.abc import Callable
+
 from judge_bodies import Bodies
+from judge_declared import Declarations
 from judge_library import Entity
 from judge_scope import NotFound, Scope, with_named
-from judge_tree import Expression, Named, Node
+from judge_tree import Expression, Identifier, Named, Node
 from judge_tree_declarations import Context, Objects, Operations, Pragma, Protected, ProtectedBody, Subtype, Task, TaskBody, Text
 from words import folded
 
@@ -65,15 +68,29 @@ class Names(Bodies):
         elif isinstance(item, Task):
             self.task(item)
         elif isinstance(item, Subtype):
+            told = len(self.faults)
             self.mark(item.mark)
             self.range(item.range)
+            self.evaluate(lambda types: types.subtype(item), [item.name], told)
         elif isinstance(item, Objects):
             self.objects(item)
+
+    def evaluate(self, declare: Callable[[Declarations], None], names: list[Identifier], told: int) -> None:
+        """Keeps what is static of a subtype or of constants, by which marks match; nothing where a fault is told of it."""
+        if len(self.faults) > told:
+            return
+        types = Declarations(self.entities, True)
+        declare(types)
+        for name in names if types.faults else []:
+            entity = self.entities[name.place]
+            entity.span, entity.value, entity.is_static = None, None, False
 
     def objects(self, item: Objects) -> None:
         """Constants and objects of a package."""
         if item.is_constant:
+            told = len(self.faults)
             self.typed(item)
+            self.evaluate(lambda types: types.constant(item), item.names, told)
             return
         meaning = self.lookup(item.mark, "suspension type", "protected type")
         for name in item.names if meaning else []:
@@ -102,7 +119,7 @@ class Names(Bodies):
         self.ended(item.end, item.name)
 
     def operation(self, item: Operations) -> None:
-        self.profiles[item.name.place] = self.profile(item.parameters, item.result)
+        self.profiles[self.entities[item.name.place]] = self.profile(item.parameters, item.result)
         self.aspects(item, ("attach_handler",))
         for aspect in item.aspects:
             if folded(aspect.name.text) == "attach_handler" and item.parameters:

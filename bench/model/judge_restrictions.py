@@ -2,7 +2,7 @@
 from collections.abc import Iterator
 
 from judge_tree import Abort, Attribute, Delay, Expression, Name, Named, Node, Requeue, Select, nodes_in
-from judge_tree_declarations import Block, Context, Objects, OperationBody, Operations, Protected, ProtectedBody, Subtype, Task, Text
+from judge_tree_declarations import Block, Context, Objects, OperationBody, Operations, Protected, ProtectedBody, Subtype, Task, TaskBody, Text
 from words import folded
 
 ROWS = ("No_Abort_Statements", "No_Requeue_Statements", "No_Select_Statements", "No_Relative_Delay", "No_Local_Protected_Objects",
@@ -26,9 +26,9 @@ class Package:
         self.names: set[str] = set()
         self.values: set[str] = set()  # constants and subtypes
         self.units: dict[str, Protected] = {}
+        self.first: dict[str, Node] = {}  # the first declaration of each name
         for item in text.declarations + text.bodies:
             self.declare(item)
-        self.protected_types = {folded(node.name.text) for node in nodes_in(text) if isinstance(node, Protected) and node.is_type}
 
     def declare(self, item: Node) -> None:
         if isinstance(item, Objects):
@@ -43,18 +43,25 @@ class Package:
         else:
             return
         self.names |= names
+        for name in names:
+            self.first.setdefault(name, item)
+
+    def has_type(self, name: str, place: int) -> bool:
+        """Whether it declares a protected type of that name before that place."""
+        found = self.first.get(name)
+        return isinstance(found, Protected) and found.is_type and found.name.place < place
 
 
-class Barrier:
-    """What an entry's barrier may name."""
+class Inside:
+    """What the body of an operation may name, and an entry's barrier."""
 
-    def __init__(self, package: Package, unit: str, entry: OperationBody) -> None:
+    def __init__(self, package: Package, unit: str, operation: OperationBody) -> None:
         self.package, self.unit = package, unit
         declared = package.units.get(unit)
         members = declared.shown + declared.hidden if declared else []
         self.components = {folded(name.text) for item in members if isinstance(item, Objects) for name in item.names}
         self.operations = {folded(item.name.text) for item in members if isinstance(item, Operations)}
-        self.parameters = {folded(name.text) for parameter in entry.parameters for name in parameter.names}
+        self.parameters = {folded(name.text) for parameter in operation.parameters for name in parameter.names}
         self.nearer = self.components | self.operations | self.parameters
 
     def is_component(self, name: Name) -> bool:
@@ -100,27 +107,44 @@ def of_context(node: Context) -> Iterator[Violation]:
             yield name.place, "No_Dependence"
 
 
-def of_block(node: Block, package: Package) -> Iterator[Violation]:
+def local_of(name: str, node: Block, place: int) -> Node | None:
+    """The first declaration of that name in the block before that place."""
+    for item in node.locals:
+        names = item.names if isinstance(item, Objects) else [item.name] if isinstance(item, (Protected, Task)) else []
+        if any(folded(one.text) == name and one.place < place for one in names):
+            return item
+    return None
+
+
+def is_protected_type(mark: Name, node: Block, package: Package, nearer: set[str]) -> bool:
+    """Whether a mark in the block names a protected type, where these names hide what the package declares (8.3)."""
+    parts = folded_parts(mark)
+    local = local_of(parts[0], node, mark.place)
+    if local:
+        return len(parts) == 1 and isinstance(local, Protected) and local.is_type
+    if parts[0] in nearer or len(parts) == 2 and parts[0] in package.names:
+        return False
+    return parts[:-1] in ([], [package.name]) and package.has_type(parts[-1], mark.place)
+
+
+def of_block(node: Block, package: Package, nearer: set[str]) -> Iterator[Violation]:
     for item in node.locals:
         if isinstance(item, Task):
             yield item.place, "No_Task_Hierarchy"
         elif isinstance(item, Protected) and not item.is_type:
             yield item.place, "No_Local_Protected_Objects"
         elif isinstance(item, Objects) and item.mark is not None:
-            parts = folded_parts(item.mark)
-            if parts[-1] in package.protected_types and parts[:-1] in ([], [package.name]):
+            if is_protected_type(item.mark, node, package, nearer):
                 yield item.place, "No_Local_Protected_Objects"
 
 
-def of_node(node: Node, package: Package) -> Iterator[Violation]:
-    """What a node other than a barrier breaks, its parts aside."""
+def of_node(node: Node) -> Iterator[Violation]:
+    """What a node other than a barrier or a block breaks, its parts aside."""
     statements = {Abort: "No_Abort_Statements", Requeue: "No_Requeue_Statements", Select: "No_Select_Statements"}
     if type(node) in statements:
         yield node.place, statements[type(node)]
     elif isinstance(node, Delay) and not node.is_until:
         yield node.place, "No_Relative_Delay"
-    elif isinstance(node, Block):
-        yield from of_block(node, package)
     elif isinstance(node, Protected):
         entries = [item for item in node.shown + node.hidden if isinstance(item, Operations) and item.kind == "entry"]
         yield from ((entry.place, "Max_Protected_Entries") for entry in entries[1:])
@@ -135,10 +159,14 @@ def of_node(node: Node, package: Package) -> Iterator[Violation]:
 def violations(text: Text) -> Iterator[Violation]:
     package = Package(text)
     for node in nodes_in(text):
-        yield from of_node(node, package)
+        yield from of_node(node)
+        if isinstance(node, TaskBody):
+            yield from of_block(node.block, package, set())
         if isinstance(node, ProtectedBody):
             for body in node.bodies:
-                if body.barrier and not Barrier(package, folded(node.name.text), body).is_simple(body.barrier):
+                inside = Inside(package, folded(node.name.text), body)
+                yield from of_block(body.block, package, inside.nearer)
+                if body.barrier and not inside.is_simple(body.barrier):
                     yield body.barrier.place, "Simple_Barriers"
 
 

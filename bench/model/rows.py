@@ -3,6 +3,7 @@
 import sys
 from pathlib import Path
 
+from audit import audit
 from check import check
 from play import Outcome, play
 
@@ -10,16 +11,22 @@ ROWS = Path(__file__).resolve().parents[2] / "crates/rv_rows/data"
 
 
 def expected(script: Path) -> Outcome:
-    """What stands beside a row: what is checked or written, and the fault."""
-    said, fault = script.with_suffix(".said"), script.with_suffix(".fault")
-    output = said if said.exists() else script.with_suffix(".journal")
+    """What stands beside a row: what is said, found or written, and the fault."""
+    fault = script.with_suffix(".fault")
+    outputs = [script.with_suffix(ending) for ending in (".said", ".verdict", ".journal")]
+    output = next(path for path in outputs if path.exists()).read_bytes()
     told = fault.read_bytes() if fault.exists() else b""
-    return Outcome(output.read_bytes(), told, 1 if told else 0)
+    is_fault = told or script.with_suffix(".verdict").exists() and not output.startswith(b"legal ")
+    return Outcome(output, told, 1 if is_fault else 0)
 
 
 def modelled(script: Path, told: bytes) -> Outcome | None:
-    """What the model says to a row, or nothing where a unit text is played, of which it doesn't know the shape."""
+    """What the model says to a row, or nothing where a unit text or a device is loaded, of which it doesn't know the shape, or where
+    a journal stands in a file of its own."""
     text = script.read_bytes()
+    if script.with_suffix(".verdict").exists():
+        is_known = not any(word in text for word in (b"@unit", b"device", b"\xff"))
+        return audit(text) if is_known and not script.with_suffix(".file").exists() else None
     try:
         return check(text, told) if script.with_suffix(".said").exists() else play(text, True, told)
     except NotImplementedError:
@@ -36,7 +43,7 @@ def main() -> int:
         alike += found == due
         if found not in (None, due):
             differing.append(script.stem)
-    print(f"{alike} rows alike, {len(differing)} differ, {unjudged} that play unit texts aren't judged")
+    print(f"{alike} rows alike, {len(differing)} differ, {unjudged} aren't judged: they load unit texts or devices, or have a journal in a file")
     for name in differing:
         print(name)
     return 1 if differing else 0

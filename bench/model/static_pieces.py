@@ -63,6 +63,11 @@ CONTEXT = ("with Ada.Real_Time;", "with Ada.Synchronous_Task_Control;")
 DEFAULTS = {"barrier": "Ready", "pilot_end": "Pilot"}  # of slots that can't be empty
 
 GOOD = """context: with Ada.Interrupts;
+operations: procedure Positive (N : Positive); || operation_bodies: procedure Positive (N : Standard.Positive) is begin Level := N; end Positive;
+spec: subtype Digit is Integer range 0 .. 9; || operations: procedure Put (D : Digit); || operation_bodies: procedure Put (D : Small) is begin Level := D; end Put;
+spec: subtype Whole is Integer; || operations: function Top return Whole; || operation_bodies: function Top return Integer is begin return 3; end Top;
+statements: Pilot.A := $N.Pilot.A + A;
+procedure: Set.Y := Set.X + Valve.Set.X;
 context: with Ada.Interrupts.Names;
 context: with System;
 context: with Host;
@@ -219,8 +224,12 @@ statements: for I in 1 .. ^Nothing loop null; end loop;
 handlers: exception when ^No_Error => null;
 operation_bodies: procedure ^Extra is begin null; end Extra;
 tasks: task Other with ^Foo => 1; || bodies: task body Other is begin null; end Other;
-procedure: ^Nothing;""",
-    "names NotVisible": """statements: A := ^Valve.Level;
+procedure: ^Nothing;
+statements: A := ^Valve.Set.X;
+procedure: Y := ^Get.X;""",
+    "names NotVisible": """context: use Ada; use ^Real_Time;
+context: use Ada, ^Synchronous_Task_Control;
+statements: A := ^Valve.Level;
 tasks: task Other with Priority => ^Later; Later : constant := 5; || bodies: task body Other is begin null; end Other;
 statements: A := ^$N.Valve.Level;
 statements: ^Valve.Hidden; || private: procedure Hidden; || operation_bodies: procedure Hidden is begin null; end Hidden;
@@ -246,6 +255,8 @@ spec: subtype ^Small is Integer;
 tasks: task ^Pilot;
 operations: procedure More (Z, ^Z : Integer); || operation_bodies: procedure More (Z : Integer) is begin null; end More;""",
     "names WrongKind": """operations: ^procedure Extra;
+spec: subtype Digit is Integer range 0 .. 8; || operations: procedure Put (D : Digit); || operation_bodies: procedure ^Put (D : Small) is begin Level := D; end Put;
+locals: Gate : Integer := 0; Z : ^Gate;
 private: ^function Extra return Integer;
 tasks: ^task Other;
 spec: ^protected Other is procedure Q; end Other;

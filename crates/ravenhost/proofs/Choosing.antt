@@ -1,12 +1,12 @@
 -- What `clap` finds of a command line, as a choice.
-use Rattle.std.proofs.Common.{◌≡◌, ◌∷◌, List, Option, Some, None, Bool, true, false, true≢false, codes, slice_index, ap, sym, ◌∙◌, refl}
-use Rattle.std.specs.Prelude.{◌==◌, IfSome, IfNone, option_map, unwrap_or}
+use Rattle.std.proofs.Common.{◌≡◌, ◌∷◌, List, Option, Some, None, Bool, true, false, true≢false, codes, slice_index, ap, sym, ◌∙◌, refl, subst}
+use Rattle.std.specs.Prelude.{◌==◌, IfSome, IfNone, is_some, option_map, unwrap_or}
 use Rattle.clap.specs.Words.{is_simple, subcommand_of, takes}
-use Rattle.clap.specs.Walk.{Row, Text, one_of}
+use Rattle.clap.specs.Walk.{Row, Text, first_of, one_of}
 use Rattle.clap.proofs.OnLiterals.{clap_on_literals}
 use Rattle.ravenhost.specs.declared.chosen.Choice.{Choice}
-use Rattle.ravenhost.specs.declared.chosen.Choice.TheVariants.{Play, Check, Run}
-use Rattle.ravenhost.specs.Choices.{IsFlag, Names, NamesNone, line_of, program}
+use Rattle.ravenhost.specs.declared.chosen.Choice.TheVariants.{Play, Check, Run, Audit, AuditFile}
+use Rattle.ravenhost.specs.Choices.{IsFlag, IsJournal, Names, NamesNone, audit_of, line_of, program}
 
 -- The subcommand that was found, from its name and its rows.
 
@@ -31,6 +31,9 @@ taken name (Play true) = refl
 taken name (Check false) = refl
 taken name (Check true) = refl
 taken name Run = refl
+taken name Audit = refl
+taken name (AuditFile false) = refl
+taken name (AuditFile true) = refl
 
 -- the name of a subcommand that was found, and the text of a flag of it
 abbrev name_in : Option (Text × List Row) → Option Text
@@ -39,11 +42,17 @@ name_in = option_map (λ (p : Text × List Row). p.0)
 abbrev flag_in : Text → Option (Text × List Row) → Option (Option Text)
 flag_in flag = option_map (λ (p : Text × List Row). one_of flag p.1)
 
+-- the text of its file
+abbrev file_in : Option (Text × List Row) → Option (Option Text)
+file_in = option_map (λ (p : Text × List Row). first_of (codes "journal") p.1)
+
 -- what they are of a plain line
 abbrev word_of : Choice → Text
 word_of (Play all) = codes "play"
 word_of (Check explain) = codes "check"
 word_of Run = codes "run"
+word_of Audit = codes "audit"
+word_of (AuditFile torn) = codes "audit"
 
 abbrev flag_text : Bool → Text
 flag_text true = codes "true"
@@ -56,6 +65,9 @@ name_is name (Play true) = refl
 name_is name (Check false) = refl
 name_is name (Check true) = refl
 name_is name Run = refl
+name_is name Audit = refl
+name_is name (AuditFile false) = refl
+name_is name (AuditFile true) = refl
 
 play_flag : (name : Text) (all : Bool) → flag_in (codes "all") (subcommand_of program (name ∷ line_of (Play all))) ≡ Some (Some (flag_text all))
 unfolding clap_on_literals
@@ -67,10 +79,37 @@ unfolding clap_on_literals
 check_flag name true = refl
 check_flag name false = refl
 
+torn_flag : (name : Text) (torn : Bool) → flag_in (codes "torn") (subcommand_of program (name ∷ line_of (AuditFile torn))) ≡ Some (Some (flag_text torn))
+unfolding clap_on_literals
+torn_flag name true = refl
+torn_flag name false = refl
+
+-- the file of `audit`
+no_file : (name : Text) → file_in (subcommand_of program (name ∷ line_of Audit)) ≡ Some None
+unfolding clap_on_literals
+no_file name = refl
+
+some_file : (name : Text) (torn : Bool) → file_in (subcommand_of program (name ∷ line_of (AuditFile torn))) ≡ Some (Some (codes "J"))
+unfolding clap_on_literals
+some_file name true = refl
+some_file name false = refl
+
+no_torn : (name : Text) → flag_in (codes "torn") (subcommand_of program (name ∷ line_of Audit)) ≡ Some (Some (flag_text false))
+unfolding clap_on_literals
+no_torn name = refl
+
 -- a flag that has this text is it
 by_flag : (one other : Bool) (text : Option Text) → text ≡ Some (flag_text one) → IsFlag text other → other ≡ one
 by_flag true other text f n = n.0 f
 by_flag false other text f n = n.1 f
+
+row_found : (flag : Text) (text : Option Text) (q : Option (Text × List Row)) (found : Text × List Row) → q ≡ Some found → flag_in flag q ≡ Some text → one_of flag found.1 ≡ text
+row_found flag text q found e f =
+    ap (λ (o : Option (Option Text)). unwrap_or o text) (sym (ap (flag_in flag) e) ∙ f)
+
+file_found : (text : Option Text) (q : Option (Text × List Row)) (found : Text × List Row) → q ≡ Some found → file_in q ≡ Some text → first_of (codes "journal") found.1 ≡ text
+file_found text q found e f =
+    ap (λ (o : Option (Option Text)). unwrap_or o text) (sym (ap file_in e) ∙ f)
 
 flag_found : (flag text : Text) (q : Option (Text × List Row)) (found : Text × List Row) → q ≡ Some found → flag_in flag q ≡ Some (Some text) → one_of flag found.1 ≡ Some text
 flag_found flag text q found e f =
@@ -82,6 +121,15 @@ no_check e = true≢false (ap (λ (t : Text). slice_index t 0 == 112) e)
 
 no_run : codes "play" ≡ codes "run" → ⊥
 no_run e = true≢false (ap (λ (t : Text). slice_index t 0 == 112) e)
+
+no_audit : codes "play" ≡ codes "audit" → ⊥
+no_audit e = true≢false (ap (λ (t : Text). slice_index t 0 == 112) e)
+
+check_no_audit : codes "check" ≡ codes "audit" → ⊥
+check_no_audit e = true≢false (ap (λ (t : Text). slice_index t 0 == 99) e)
+
+run_no_audit : codes "run" ≡ codes "audit" → ⊥
+run_no_audit e = true≢false (ap (λ (t : Text). slice_index t 0 == 114) e)
 
 check_no_run : codes "check" ≡ codes "run" → ⊥
 check_no_run e = true≢false (ap (λ (t : Text). slice_index t 0 == 99) e)
@@ -95,6 +143,8 @@ word_named : (choice : Choice) (found : Text × List Row) → Names found choice
 word_named (Play all) found n = n.0
 word_named (Check explain) found n = n.0
 word_named Run found n = n
+word_named Audit found n = n.0
+word_named (AuditFile torn) found n = n.0
 
 -- a choice that a plain line names is its own
 same_choice : (name : Text) (choice other : Choice) (found : Text × List Row) → subcommand_of program (name ∷ line_of choice) ≡ Some found → word_of choice ≡ word_of other → Names found other → other ≡ choice
@@ -104,26 +154,89 @@ same_choice name (Play all) Run found e w n = absurd (no_run w)
 same_choice name (Check explain) (Play other) found e w n = absurd (no_check (sym w))
 same_choice name (Check explain) (Check other) found e w n = ap Check (by_flag explain other _ (flag_found (codes "explain") (flag_text explain) _ found e (check_flag name explain)) n.1)
 same_choice name (Check explain) Run found e w n = absurd (check_no_run w)
+same_choice name (Play all) Audit found e w n = absurd (no_audit w)
+same_choice name (Play all) (AuditFile torn) found e w n = absurd (no_audit w)
+same_choice name (Check explain) Audit found e w n = absurd (check_no_audit w)
+same_choice name (Check explain) (AuditFile torn) found e w n = absurd (check_no_audit w)
 same_choice name Run (Play other) found e w n = absurd (no_run (sym w))
 same_choice name Run (Check other) found e w n = absurd (check_no_run (sym w))
 same_choice name Run Run found e w n = refl
+same_choice name Run Audit found e w n = absurd (run_no_audit w)
+same_choice name Run (AuditFile torn) found e w n = absurd (run_no_audit w)
+same_choice name Audit (Play other) found e w n = absurd (no_audit (sym w))
+same_choice name Audit (Check other) found e w n = absurd (check_no_audit (sym w))
+same_choice name Audit Run found e w n = absurd (run_no_audit (sym w))
+same_choice name Audit Audit found e w n = refl
+same_choice name Audit (AuditFile torn) found e w n = absurd (n.2 (file_found None _ found e (no_file name)))
+same_choice name (AuditFile torn) (Play other) found e w n = absurd (no_audit (sym w))
+same_choice name (AuditFile torn) (Check other) found e w n = absurd (check_no_audit (sym w))
+same_choice name (AuditFile torn) Run found e w n = absurd (run_no_audit (sym w))
+same_choice name (AuditFile torn) Audit found e w n =
+    let file : None ≡ Some (codes "J") = sym n.2 ∙ file_found (Some (codes "J")) _ found e (some_file name torn) in
+    absurd cc
+same_choice name (AuditFile torn) (AuditFile other) found e w n = ap AuditFile (by_flag torn other _ (flag_found (codes "torn") (flag_text torn) _ found e (torn_flag name torn)) n.1)
 
 names_it : (name : Text) (choice other : Choice) (found : Text × List Row) → subcommand_of program (name ∷ line_of choice) ≡ Some found → Names found other → other ≡ choice
 names_it name choice other found e n =
     same_choice name choice other found e (sym (found_word name choice found e) ∙ word_named other found n) n
 
--- it names one
-pub line_chosen : (name : Text) (choice : Choice) (q : Option Choice) (m : Option (Text × List Row)) → m ≡ subcommand_of program (name ∷ line_of choice) →
-    IfSome q (λ c. (found : Text × List Row) × (m ≡ Some found) × Names found c) →
-    IfNone q ((found : Text × List Row) → m ≡ Some found → NamesNone found) → q ≡ Some choice
-line_chosen name choice (Some c) m e some none = ap Some (names_it name choice c some.0 (sym e ∙ some.1) some.2)
-line_chosen name choice None m e some none = by_found m refl (ap name_in e ∙ name_is name choice)
-  where
-    by_choice : (choice : Choice) (found : Text × List Row) → m ≡ Some found → found.0 ≡ word_of choice → None ≡ Some choice
-    by_choice (Play all) found is e = absurd ((none found is).0 e)
-    by_choice (Check explain) found is e = absurd ((none found is).1 e)
-    by_choice Run found is e = absurd ((none found is).2 e)
+-- what is found of a plain line is a choice's
+none_chosen : (name : Text) (choice : Choice) (m : Option (Text × List Row)) → m ≡ subcommand_of program (name ∷ line_of choice) → ((found : Text × List Row) → m ≡ Some found → NamesNone found)
+    → (found : Text × List Row) → m ≡ Some found → found.0 ≡ word_of choice → ⊥
+none_chosen name (Play all) m e none found is w = (none found is).0 w
+none_chosen name (Check explain) m e none found is w = (none found is).1 w
+none_chosen name Run m e none found is w = (none found is).2 w
+none_chosen name Audit m e none found is w =
+    let n = (none found is).3 w in
+    true≢false (n.0.1 (row_found (codes "torn") (Some (flag_text false)) _ found (sym e ∙ is) (no_torn name)))
+none_chosen name (AuditFile torn) m e none found is w =
+    let n = (none found is).3 w in
+    let file : None ≡ Some (codes "J") = sym n.1 ∙ file_found (Some (codes "J")) _ found (sym e ∙ is) (some_file name torn) in
+    absurd cc
 
-    by_found : (o : Option (Text × List Row)) → m ≡ o → name_in o ≡ Some (word_of choice) → None ≡ Some choice
+-- what is found of a plain line names its choice
+pub line_named : (name : Text) (choice other : Choice) (m : Option (Text × List Row)) → m ≡ subcommand_of program (name ∷ line_of choice) → (found : Text × List Row) → m ≡ Some found → Names found other → other ≡ choice
+line_named name choice other m e found is n = names_it name choice other found (sym e ∙ is) n
+
+-- it names one
+pub line_unnamed : (name : Text) (choice : Choice) (m : Option (Text × List Row)) → m ≡ subcommand_of program (name ∷ line_of choice) → ((found : Text × List Row) → m ≡ Some found → NamesNone found) → ⊥
+line_unnamed name choice m e none = by_found m refl (ap name_in e ∙ name_is name choice)
+  where
+    by_found : (o : Option (Text × List Row)) → m ≡ o → name_in o ≡ Some (word_of choice) → ⊥
     by_found None is f = absurd (cc)
-    by_found (Some found) is f = by_choice choice found is (ap (λ (p : Option Text). unwrap_or p found.0) f)
+    by_found (Some found) is f = none_chosen name choice m e none found is (ap (λ (p : Option Text). unwrap_or p found.0) f)
+
+-- What `audit` chooses.
+
+pub not_audit_play : (word : Text) → word ≡ codes "play" → word ≡ codes "audit" → ⊥
+not_audit_play word e f = no_audit (sym e ∙ f)
+
+pub not_audit_check : (word : Text) → word ≡ codes "check" → word ≡ codes "audit" → ⊥
+not_audit_check word e f = check_no_audit (sym e ∙ f)
+
+pub not_audit_run : (word : Text) → word ≡ codes "run" → word ≡ codes "audit" → ⊥
+not_audit_run word e f = run_no_audit (sym e ∙ f)
+
+-- with its file and its flag
+pub audit_named : {X : Type 0} (found : Text × List Row) (file : Option X) (n : X → Text) (torn : Bool) (choice : Choice) → found.0 ≡ codes "audit" → audit_of (is_some file) torn ≡ Some choice → IsFlag (one_of (codes "torn") found.1) torn
+    → first_of (codes "journal") found.1 ≡ option_map n file → Names found choice × IsJournal found (option_map n file)
+audit_named found None n true choice w is flag e = absurd cc
+audit_named found None n false choice w is flag e =
+    let same : Audit ≡ choice = ap (λ (o : Option Choice). unwrap_or o Audit) is in
+    (subst (λ (c : Choice). Names found c) same (w, flag, e), λ _. e)
+audit_named found (Some f) n torn choice w is flag e =
+    let same : AuditFile torn ≡ choice = ap (λ (o : Option Choice). unwrap_or o (AuditFile torn)) is in
+    (subst (λ (c : Choice). Names found c) same (w, flag, λ none. let both : None ≡ Some (n f) = sym none ∙ e in absurd cc), (w, e))
+
+-- its flag alone chooses nothing
+flag_alone : {X : Type 0} (found : Text × List Row) (file : Option X) (n : X → Text) (torn : Bool) → audit_of (is_some file) torn ≡ None → IsFlag (one_of (codes "torn") found.1) torn → first_of (codes "journal") found.1 ≡ option_map n file
+    → IsFlag (one_of (codes "torn") found.1) true × (first_of (codes "journal") found.1 ≡ None)
+flag_alone found None n true is flag e = (flag, e)
+flag_alone found None n false is flag e = absurd cc
+flag_alone found (Some f) n torn is flag e = absurd cc
+
+pub torn_alone : {X : Type 0} (m : Option (Text × List Row)) (found : Text × List Row) (file : Option X) (n : X → Text) (torn : Bool) → m ≡ Some found → found.0 ≡ codes "audit" → audit_of (is_some file) torn ≡ None → IsFlag (one_of (codes "torn") found.1) torn
+    → first_of (codes "journal") found.1 ≡ option_map n file → (other : Text × List Row) → m ≡ Some other → NamesNone other
+torn_alone m found file n torn is w none flag e other f =
+    let same : found ≡ other = ap (λ (o : Option (Text × List Row)). unwrap_or o found) (sym is ∙ f) in
+    subst NamesNone same (λ p. no_audit (sym p ∙ w), λ p. check_no_audit (sym p ∙ w), λ p. run_no_audit (sym p ∙ w), λ _. flag_alone found file n torn none flag e)

@@ -1,12 +1,12 @@
--- The command line (own): `play`, which may be given `--all`, `check`, which may be given `--explain`, and `run`. What words come
--- to is what `clap` says of this command.
-use Rattle.std.specs.Prelude.{◌≡◌, Bool, true, false, List, [], ◌∷◌, Option, Some, codes}
+-- The command line (own): `play`, which may be given `--all`, `check`, which may be given `--explain`, `run`, and `audit`, which may
+-- be given `--journal FILE` and, with it, `--torn`. What words come to is what `clap` says of this command.
+use Rattle.std.specs.Prelude.{◌≡◌, Bool, true, false, List, [], ◌∷◌, Option, Some, None, codes}
 use Rattle.clap.specs.Words.{App, Row, Rule, new_app, new_rule, subcommand_of, with_rule, with_subcommand}
 use Rattle.clap.specs.Simple.{on_top}
-use Rattle.clap.specs.Walk.{Text, one_of}
-use Rattle.clap.specs.declared.builder.action.ArgAction.TheVariants.{SetTrue}
+use Rattle.clap.specs.Walk.{Text, first_of, one_of}
+use Rattle.clap.specs.declared.builder.action.ArgAction.TheVariants.{Set, SetTrue}
 use Rattle.ravenhost.specs.declared.chosen.Choice.{Choice}
-use Rattle.ravenhost.specs.declared.chosen.Choice.TheVariants.{Play, Check, Run}
+use Rattle.ravenhost.specs.declared.chosen.Choice.TheVariants.{Play, Check, Run, Audit, AuditFile}
 use Rattle.ravenhost.specs.declared.chosen.Unchosen.{Unchosen}
 use Rattle.ravenhost.specs.declared.chosen.Unchosen.TheVariants.{Usage, Unknown, NoMemory}
 
@@ -17,6 +17,13 @@ flag_rule name = record (new_rule name) { long = Some name; action = Some SetTru
 abbrev pub flagged : Text → Text → App
 flagged name flag = with_rule (new_app name) (flag_rule flag)
 
+-- `audit`, which may be given the name of a file, and a flag
+abbrev pub file_rule : Rule
+file_rule = record (new_rule (codes "journal")) { long = Some (codes "journal"); action = Some Set; value_names = 1 }
+
+abbrev pub audited : App
+audited = with_rule (with_rule (new_app (codes "audit")) file_rule) (flag_rule (codes "torn"))
+
 -- the program, of which one subcommand must be named
 abbrev pub versioned : App
 versioned = on_top (λ s. record s { has_version = true }) (new_app (codes "ravenhost"))
@@ -25,8 +32,8 @@ abbrev pub alone : App
 alone = on_top (λ s. record s { subcommand_required = true }) versioned
 
 abbrev pub program : App
-program = with_subcommand (with_subcommand (with_subcommand alone (flagged (codes "play") (codes "all")).top)
-    (flagged (codes "check") (codes "explain")).top) (new_app (codes "run")).top
+program = with_subcommand (with_subcommand (with_subcommand (with_subcommand alone (flagged (codes "play") (codes "all")).top)
+    (flagged (codes "check") (codes "explain")).top) (new_app (codes "run")).top) audited.top
 
 -- the text of a flag, as a flag
 abbrev pub IsFlag : Option Text → Bool → Type 0
@@ -38,15 +45,29 @@ abbrev pub Names : Text × List Row → Choice → Type 0
 Names found (Play all) = (found.0 ≡ codes "play") × IsFlag (one_of (codes "all") found.1) all
 Names found (Check explain) = (found.0 ≡ codes "check") × IsFlag (one_of (codes "explain") found.1) explain
 Names found Run = found.0 ≡ codes "run"
+Names found Audit = (found.0 ≡ codes "audit") × IsFlag (one_of (codes "torn") found.1) false × (first_of (codes "journal") found.1 ≡ None)
+Names found (AuditFile torn) = (found.0 ≡ codes "audit") × IsFlag (one_of (codes "torn") found.1) torn × (first_of (codes "journal") found.1 ≡ None → ⊥)
 
--- no choice has the name of what was found
+-- the file that was named, for `audit` alone
+abbrev pub IsJournal : Text × List Row → Option Text → Type 0
+IsJournal found None = found.0 ≡ codes "audit" → first_of (codes "journal") found.1 ≡ None
+IsJournal found (Some file) = (found.0 ≡ codes "audit") × (first_of (codes "journal") found.1 ≡ Some file)
+
+-- what `audit` comes to: a flag without a file chooses nothing
+abbrev pub audit_of : Bool → Bool → Option Choice
+audit_of true torn = Some (AuditFile torn)
+audit_of false true = None
+audit_of false false = Some Audit
+
+-- no choice has the name of what was found, or it has the flag of `audit` without a file
 abbrev pub NamesNone : Text × List Row → Type 0
 NamesNone found = (found.0 ≡ codes "play" → ⊥) × (found.0 ≡ codes "check" → ⊥) × (found.0 ≡ codes "run" → ⊥)
+    × (found.0 ≡ codes "audit" → IsFlag (one_of (codes "torn") found.1) true × (first_of (codes "journal") found.1 ≡ None))
 
--- the words name a choice
-abbrev pub Chooses : List Text → Choice → Type 0
-Chooses words choice = (found : Text × List Row) × (subcommand_of program words ≡ Some found)
-    × Names found choice
+-- the words name a choice, and a file where there is one
+abbrev pub Chooses : List Text → Choice → Option Text → Type 0
+Chooses words choice file = (found : Text × List Row) × (subcommand_of program words ≡ Some found)
+    × Names found choice × IsJournal found file
 
 -- where `clap` takes the words, nothing is chosen only for want of memory, or where its matches name no choice
 abbrev pub Lacks : List Text → Unchosen → Type 0
@@ -55,10 +76,13 @@ Lacks words Unknown =
     (found : Text × List Row) → subcommand_of program words ≡ Some found → NamesNone found
 Lacks words (Usage error) = ⊥
 
--- the plain line of each choice, behind the program's name
+-- a plain line of each choice, behind the program's name; a file is named J
 abbrev pub line_of : Choice → List Text
 line_of (Play false) = codes "play" ∷ []
 line_of (Play true) = codes "play" ∷ codes "--all" ∷ []
 line_of (Check false) = codes "check" ∷ []
 line_of (Check true) = codes "check" ∷ codes "--explain" ∷ []
 line_of Run = codes "run" ∷ []
+line_of Audit = codes "audit" ∷ []
+line_of (AuditFile false) = codes "audit" ∷ codes "--journal" ∷ codes "J" ∷ []
+line_of (AuditFile true) = codes "audit" ∷ codes "--journal" ∷ codes "J" ∷ codes "--torn" ∷ []

@@ -7,6 +7,7 @@ ghost use Rattle.rv_check.specs.Checks.{KeepsRefused, outcome_of as checked};
 
 use rv_fault::Failure;
 use rv_staff::Hires;
+use rv_verdict::{Audited, Watch};
 use std::alloc::Global;
 use std::io::{Read, Write};
 use std::sync::Wait;
@@ -50,6 +51,29 @@ pub fn check_kept<R: Read, W: Write>(
     ensures kept { IfErr result.1 (λ failure. KeepsRefused (R.remaining reader.old) result.0.items failure) }
 {
     rv_check::check::check_kept(alloc, reader, writer)
+}
+
+/// Judges the journal that a script brings in a section, and writes one line that says what was found. Gives whether it
+/// is that of a legal history.
+pub fn audit<R: Read, W: Write>(
+    alloc: Global,
+    reader: &mut R,
+    writer: &mut W,
+) -> Result<bool, Failure> {
+    rv_verdict::audit(alloc, reader, writer)
+}
+
+/// Judges the journal that a reader of its own gives over the sections of a script, and writes one line that says what
+/// was found.
+pub fn audit_file<R: Read, J: Read, W: Write, H: Watch>(
+    alloc: Global,
+    reader: &mut R,
+    journal: &mut J,
+    takes_torn: bool,
+    watch: &mut H,
+    writer: &mut W,
+) -> Result<Audited, Failure> {
+    rv_verdict::audit_file(alloc, reader, journal, takes_torn, watch, writer)
 }
 
 /// Runs the host of the script that a reader gives, and serves the commands that follow it.

@@ -8,12 +8,15 @@ use Rattle.rv_shape.specs.Shape.{Shape}
 use Rattle.rv_script.specs.Openings.{OpenedText, opened}
 use Rattle.rv_script.specs.Prefixes.{WritesPrefix}
 use Rattle.rv_script.proofs.Wrote.{appends_more, keeps_nothing, nothing_yet, prefix_behind}
+use Rattle.rv_script.specs.declared.read.ReadError.{ReadError}
+use Rattle.rv_script.specs.declared.read.ReadError.TheVariants as Reads
+use Rattle.rv_fault.specs.Faults.{of_read}
 use Rattle.rv_fault.specs.declared.failure.Failure.{Failure}
 use Rattle.rv_fault.specs.declared.failure.Failure.TheVariants.{Refused, Memory, Io}
 use Rattle.rv_fault.specs.declared.fault.What.TheVariants as Whats
 use Rattle.rv_fault.specs.declared.fault.ScriptFault.{ScriptFault}
 use Rattle.rv_fault.specs.Written.{WritesSome, Writes, WritesScript, refused_bytes}
-use Rattle.rv_check.specs.Checks.{TellsSome, Tells, TellsAll, OfSection, Checks, ChecksSome, AreSettings, OfSettings, ChecksOpened, BeginsOpened, outcome_of}
+use Rattle.rv_check.specs.Checks.{TellsSome, Tells, TellsAll, OfSection, Checks, ChecksSome, AreSettings, OfSettings, ChecksOpened, BeginsOpened, KeepsRefused, outcome_of}
 
 -- what is said so far of the sections that are done, and how what is said of others goes on behind it
 pub record SoFar (old now : Option (List ℕ)) (shapes : List Shape) (left all : List SectionText) : Type 0 where
@@ -132,7 +135,19 @@ sections_told script old new whole (Err (Io error)) is settings h =
 none_told : (old : Option (List ℕ)) (error : TextError) → WritesSome old old (refused_bytes error).Begins
 none_told old error = record { text = []; begins = refl; written = nothing_yet old [] }
 
--- a reader that failed
-pub failed_unread : (old known : Option (List ℕ)) (e : _) → IfSome known (λ script. let r : Result (Unit {0}) Failure = Err (Io e) in WritesScript old old outcome_of script r)
-failed_unread old None e = tt
-failed_unread old (Some script) e = record { text = λ is. memory_told script old; refused = λ error refused. none_told old error }
+-- a reader that gave no bytes
+none_read : (old known : Option (List ℕ)) (e : ReadError) → IfSome known (λ script. let r : Result (Unit {0}) Failure = Err (of_read e) in WritesScript old old outcome_of script r)
+none_read old None e = tt
+none_read old (Some script) Reads.Memory = record { text = λ is. memory_told script old; refused = λ error refused. none_told old error }
+none_read old (Some script) (Reads.Io e) = record { text = λ is. memory_told script old; refused = λ error refused. none_told old error }
+
+pub failed_unread : (old known : Option (List ℕ)) (e : ReadError) (failure : Failure) → failure ≡ of_read e → IfSome known (λ script. let r : Result (Unit {0}) Failure = Err failure in WritesScript old old outcome_of script r)
+failed_unread old known e failure same = subst (λ (f : Failure). IfSome known (λ script. let r : Result (Unit {0}) Failure = Err f in WritesScript old old outcome_of script r)) (sym same) (none_read old known e)
+
+-- of a script that wasn't read nothing is told
+pub keeps_none : (script : Option (List ℕ)) (read : List ℕ) (e : ReadError) (failure : Failure) → failure ≡ of_read e → KeepsRefused script read failure
+keeps_none script read e failure same = subst (λ (f : Failure). KeepsRefused script read f) (sym same) (by_error e)
+  where
+    by_error : (e : ReadError) → KeepsRefused script read (of_read e)
+    by_error Reads.Memory = tt
+    by_error (Reads.Io e) = tt

@@ -1,24 +1,27 @@
 -- What is told of a section that was looked at.
-use Rattle.std.proofs.Common.{◌≡◌, ◌≢◌, ◌≤◌, ℕ, List, [], ◌∷◌, ◌++◌, Some, None, Option, Ok, Err, Result, length, refl, sym, ◌∙◌, subst, inl, inr}
+use Rattle.std.proofs.Common.{◌≡◌, ◌≢◌, ◌≤◌, ℕ, List, [], ◌∷◌, ◌++◌, Some, None, Option, Ok, Err, Result, length, refl, sym, ap, ◌∙◌, subst, inl, inr}
+use Rattle.rv_text.specs.Sections.{SectionText}
 use Rattle.rv_script.specs.UnitTexts.{most_unit_bytes}
-use Rattle.rv_unit.specs.Compiles.{IsUnit, IsRefused}
-use Rattle.rv_unit.specs.declared.fault.UnitFault.{UnitFault}
-use Rattle.rv_unit.specs.declared.fault.UnitFault.TheVariants as Units
+use Rattle.rv_settings.specs.Settings.{SettingsText}
+use Rattle.rv_code.specs.Bodies.{UnitBodies}
+use Rattle.rv_unit.specs.Compiles.{IsUnit, IsCompiled}
+use Rattle.rv_unit.specs.declared.unit.Unit.{Unit as Compiled}
 use Rattle.rv_fault.specs.declared.failure.Failure.{Failure}
 use Rattle.rv_fault.specs.declared.failure.Failure.TheVariants.{Refused, Memory, Io}
 use Rattle.rv_fault.specs.declared.fault.What.TheVariants as Whats
+use Rattle.rv_fault.specs.declared.fault.What.{What}
+use Rattle.rv_fault.specs.declared.fault.ScriptFault.{ScriptFault}
+use Rattle.rv_fault.specs.Sections.{GivesUnit, GivesSettings, Just, Reads, if_list, if_shape, line_of}
 use Rattle.rv_fault.specs.Written.{Puts}
 use Rattle.rv_access.specs.Words.{Words}
-use Rattle.rv_access.specs.Reading.{list_of, Fails as ListFails}
+use Rattle.rv_access.specs.Reading.{list_of}
 use Rattle.rv_access.specs.declared.fault.ListFault.{ListFault}
-use Rattle.rv_access.specs.declared.fault.ListFault.TheVariants as Lists
 use Rattle.rv_shape.specs.Shape.{Shape}
 use Rattle.rv_shape.specs.ShapeText.{shape_of}
-use Rattle.rv_shape.specs.Drafts.{Fails as ShapeFails}
 use Rattle.rv_shape.specs.Fits.{fault}
 use Rattle.rv_shape.specs.declared.fault.ShapeFault.{ShapeFault}
 use Rattle.rv_shape.specs.declared.fault.ShapeFault.TheVariants as Shapes
-use Rattle.rv_check.specs.Checks.{Finding, Tells, Adds, OfUnit, OfShape, OfList, as_shape, fitting, list_line, shape_line, unit_failure, shape_failure, list_failure}
+use Rattle.rv_check.specs.Checks.{Finding, Tells, Adds, OfUnit, OfShape, OfList, AreSettings, OfSettings, as_list, as_shape, fitting, list_line, shape_line, shape_failure}
 
 -- a line that is said tells what was found
 pub said_tells : (old new : Option (List ℕ)) (line : ℕ) (finds : Finding) (said : List ℕ) (r : Result (Unit {0}) Failure) → finds said None → Puts old new said r → Tells old new line finds r
@@ -28,14 +31,20 @@ said_tells old new line finds said (Err Memory) f h = inr (said, f, h)
 said_tells old new line finds said (Err (Io error)) f h = inr (said, f, h)
 
 -- what stands against a unit text is told
-pub unit_told : (shapes after : List Shape) (text : List ℕ) (old : Option (List ℕ)) (line : ℕ) (told : UnitFault) → length text ≤ most_unit_bytes → IsRefused shapes text told → let r : Result (Unit {0}) Failure = Err (unit_failure line told) in Tells old old line (OfUnit shapes after text) r
-unit_told shapes after text old line Units.NoMemory few refused = inl refl
-unit_told shapes after text old line (Units.Lex told) few refused = ((few, refused, (λ (e : Units.Lex told ≡ Units.NoMemory). absurd cc), refl), refl, refl)
-unit_told shapes after text old line (Units.Parse told) few refused = ((few, refused, (λ (e : Units.Parse told ≡ Units.NoMemory). absurd cc), refl), refl, refl)
-unit_told shapes after text old line (Units.Restriction told) few refused = ((few, refused, (λ (e : Units.Restriction told ≡ Units.NoMemory). absurd cc), refl), refl, refl)
-unit_told shapes after text old line (Units.Names told) few refused = ((few, refused, (λ (e : Units.Names told ≡ Units.NoMemory). absurd cc), refl), refl, refl)
-unit_told shapes after text old line (Units.Types told) few refused = ((few, refused, (λ (e : Units.Types told ≡ Units.NoMemory). absurd cc), refl), refl, refl)
-unit_told shapes after text old line (Units.Shape told) few refused = ((few, refused, (λ (e : Units.Shape told ≡ Units.NoMemory). absurd cc), refl), refl, refl)
+pub unit_told : (shapes after : List Shape) (text : List ℕ) (old : Option (List ℕ)) (line : ℕ) (failure : Failure) → (let read : Result Compiled Failure = Err failure in Reads line (GivesUnit shapes text) read)
+    → let r : Result (Unit {0}) Failure = Err failure in Tells old old line (OfUnit shapes after text) r
+unit_told shapes after text old line Memory h = inl refl
+unit_told shapes after text old line (Io error) h = absurd h
+unit_told shapes after text old line (Refused told) h = (by_what told.what h.0, h.1, refl)
+  where
+    by_what : (what : What) → GivesUnit shapes text (Err what) → OfUnit shapes after text [] (Some what)
+    by_what Whats.TooLong given = (given, refl)
+    by_what (Whats.Unit fault) given = (given.0, given.1, given.2, refl)
+    by_what _ given = absurd given
+
+-- a text that is compiled is a unit
+pub compiled_unit : (shapes : List Shape) (text : List ℕ) (shape : Shape) (code : UnitBodies) → IsCompiled shapes text shape code → IsUnit shapes text shape
+compiled_unit shapes text shape code compiled = record { tree = compiled.tree; derives = compiled.derives; gives = compiled.gives }
 
 -- a unit that a text gives was added, or its line wasn't written whole
 pub adds_told : (old new : Option (List ℕ)) (line : ℕ) (shapes after : List Shape) (shape : Shape) (text : List ℕ) → length text ≤ most_unit_bytes → IsUnit shapes text shape → (r : Result (Unit {0}) Failure) → Tells old new line (Adds shapes after shape) r → Tells old new line (OfUnit shapes after text) r
@@ -47,15 +56,23 @@ adds_told old new line shapes after shape text few unit (Err (Io error)) (inl sa
 adds_told old new line shapes after shape text few unit (Err (Io error)) (inr h) = inr (h.0, (shape, few, unit, h.1), h.2)
 
 -- a list that was read
-pub list_read : (text : List ℕ) (list : List Words) → list_of text ≡ Ok list → OfList text (list_line (length list)) None
-list_read text list h = rw h (refl, refl)
+pub list_read : (text : List ℕ) (list : List Words) → Just (if_list (list_of text)) (Ok list) → OfList text (list_line (length list)) None
+list_read text list h = by_list (list_of text) h
+  where
+    by_list : (read : Result (List Words) ListFault) → Just (if_list read) (Ok list) → as_list read (list_line (length list)) None
+    by_list (Ok other) same = (refl, cc)
+    by_list (Err fault) same = absurd cc
 
 -- what stands against a list is told
-pub list_told : (text : List ℕ) (old : Option (List ℕ)) (line : ℕ) (told : ListFault) → ListFails told (list_of text) → let r : Result (Unit {0}) Failure = Err (list_failure line told) in Tells old old line (OfList text) r
-list_told text old line Lists.NoMemory h = inl refl
-list_told text old line (Lists.BadWord at) h = (rw h (refl, refl), refl, refl)
-list_told text old line (Lists.BadName at) h = (rw h (refl, refl), refl, refl)
-list_told text old line (Lists.TooMany at) h = (rw h (refl, refl), refl, refl)
+pub list_told : (text : List ℕ) (old : Option (List ℕ)) (line : ℕ) (failure : Failure) → (let read : Result (List Words) Failure = Err failure in Reads line (Just (if_list (list_of text))) read)
+    → let r : Result (Unit {0}) Failure = Err failure in Tells old old line (OfList text) r
+list_told text old line Memory h = inl refl
+list_told text old line (Io error) h = absurd h
+list_told text old line (Refused told) h = (by_list (list_of text) h.0, h.1, refl)
+  where
+    by_list : (read : Result (List Words) ListFault) → Just (if_list read) (Err told.what) → as_list read [] (Some told.what)
+    by_list (Ok other) same = absurd cc
+    by_list (Err fault) same = (cc, refl)
 
 -- a shape that was read, and fits
 pub shape_read : (shapes after : List Shape) (text : List ℕ) (shape : Shape) → shape_of text ≡ Some shape → fault shapes shape ≡ None → after ≡ shapes ++ shape ∷ [] → OfShape shapes after text (shape_line shape.name) None
@@ -64,11 +81,24 @@ shape_read shapes after text shape h f e =
     let fits : fitting shapes after shape (fault shapes shape) (shape_line shape.name) None = subst (λ (o : Option ShapeFault). fitting shapes after shape o (shape_line shape.name) None) (sym f) there in
     subst (λ (o : Option Shape). as_shape shapes after o (shape_line shape.name) None) (sym h) fits
 
+-- the text of a shape that was read
+pub shape_there : (text : List ℕ) (shape : Shape) → Just (if_shape (shape_of text)) (Ok shape) → shape_of text ≡ Some shape
+shape_there text shape h = by_shape (shape_of text) h
+  where
+    by_shape : (read : Option Shape) → Just (if_shape read) (Ok shape) → read ≡ Some shape
+    by_shape (Some other) same = cc
+    by_shape None same = absurd cc
+
 -- a text that is no shape
-pub shape_unread : (shapes after : List Shape) (text : List ℕ) (old : Option (List ℕ)) (line : ℕ) (told : ShapeFault) → ShapeFails told (shape_of text) → let r : Result (Unit {0}) Failure = Err (shape_failure line told) in Tells old old line (OfShape shapes after text) r
-shape_unread shapes after text old line Shapes.NoMemory h = inl refl
-shape_unread shapes after text old line Shapes.BadText h = (rw h (refl, refl), refl, refl)
-shape_unread shapes after text old line _ h = absurd h
+pub shape_unread : (shapes after : List Shape) (text : List ℕ) (old : Option (List ℕ)) (line : ℕ) (failure : Failure) → (let read : Result Shape Failure = Err failure in Reads line (Just (if_shape (shape_of text))) read)
+    → let r : Result (Unit {0}) Failure = Err failure in Tells old old line (OfShape shapes after text) r
+shape_unread shapes after text old line Memory h = inl refl
+shape_unread shapes after text old line (Io error) h = absurd h
+shape_unread shapes after text old line (Refused told) h = (by_shape (shape_of text) h.0, h.1, refl)
+  where
+    by_shape : (read : Option Shape) → Just (if_shape read) (Err told.what) → as_shape shapes after read [] (Some told.what)
+    by_shape (Some other) same = absurd cc
+    by_shape None same = (cc, refl)
 
 -- a shape that doesn't fit
 against : (shapes after : List Shape) (text : List ℕ) (shape : Shape) (told : ShapeFault) → shape_of text ≡ Some shape → fault shapes shape ≡ Some told → OfShape shapes after text [] (Some (Whats.Shape told))
@@ -101,3 +131,23 @@ tells_with P old new line finds (Err Memory) p (inl e) = inl e
 tells_with P old new line finds (Err Memory) p (inr h) = inr (h.0, (h.1, p), h.2)
 tells_with P old new line finds (Err (Io error)) p (inl e) = inl e
 tells_with P old new line finds (Err (Io error)) p (inr h) = inr (h.0, (h.1, p), h.2)
+
+-- settings that were read
+pub settings_read : (settings : Option SectionText) (found : SettingsText) → GivesSettings settings (Ok found) → AreSettings settings None
+settings_read None found given = refl
+settings_read (Some section) found given = (found, given)
+
+-- what stands against settings is told
+pub settings_unread : (settings : Option SectionText) (failure : Failure) → (let read : Result SettingsText Failure = Err failure in Reads (line_of settings) (GivesSettings settings) read)
+    → let r : Result (Unit {0}) Failure = Err failure in OfSettings settings r
+settings_unread settings Memory h = tt
+settings_unread settings (Io error) h = absurd h
+settings_unread None (Refused told) h = let given = h.0 in absurd cc
+settings_unread (Some section) (Refused told) h = by_what told.what h.0 refl
+  where
+    as_told : (what : What) → told.what ≡ what → told ≡ record { line = section.line; what = what }
+    as_told what e = ap (λ (n : ℕ). let f : ScriptFault = record { line = n; what = told.what } in f) h.1 ∙ ap (λ (w : What). let f : ScriptFault = record { line = section.line; what = w } in f) e
+
+    by_what : (what : What) → GivesSettings (Some section) (Err what) → told.what ≡ what → AreSettings (Some section) (Some told)
+    by_what (Whats.Settings why) given e = (why, given.0, given.1, as_told (Whats.Settings why) e)
+    by_what _ given e = absurd given

@@ -6,7 +6,6 @@ use Rattle.rv_text.specs.Sections.{SectionText}
 use Rattle.rv_access.specs.Reading.{list_of}
 use Rattle.rv_access.specs.Words.{Words}
 use Rattle.rv_access.specs.declared.fault.ListFault.{ListFault}
-use Rattle.rv_access.specs.declared.fault.ListFault.TheVariants as Lists
 use Rattle.rv_shape.specs.Shape.{Shape}
 use Rattle.rv_shape.specs.ShapeText.{shape_of}
 use Rattle.rv_shape.specs.Fits.{fault}
@@ -41,11 +40,6 @@ shape_line name = codes "shape " ++ (name ++ (codes ": ok" ++ 10 ∷ []))
 
 abbrev pub list_line : ℕ → List ℕ
 list_line count = codes "list: ok " ++ (decimal count ++ (codes " lines" ++ 10 ∷ []))
-
--- why a unit text is refused whose section opens at a line
-abbrev pub unit_failure : ℕ → UnitFault → Failure
-unit_failure line Units.NoMemory = Memory
-unit_failure line told = Refused (record { line = line; what = Whats.Unit told })
 
 -- what is said of a section, and what stands against it
 abbrev pub Finding : Type 1
@@ -94,14 +88,10 @@ as_section shapes after text opening said what = (what ≡ Some Whats.BadSection
 abbrev pub OfSection : List Shape → List Shape → SectionText → Finding
 OfSection shapes after section = as_section shapes after section.text (opening_of section.opening)
 
--- why a shape or a list is refused whose section opens at a line
+-- why a shape doesn't fit whose section opens at a line
 abbrev pub shape_failure : ℕ → ShapeFault → Failure
 shape_failure line Shapes.NoMemory = Memory
 shape_failure line told = Refused (record { line = line; what = Whats.Shape told })
-
-abbrev pub list_failure : ℕ → ListFault → Failure
-list_failure line Lists.NoMemory = Memory
-list_failure line told = Refused (record { line = line; what = Whats.List told })
 
 -- a prefix of what is to be said is written, or nothing yet
 abbrev pub TellsSome : Known → Known → Finding → Type 0

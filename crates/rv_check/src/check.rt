@@ -6,7 +6,7 @@ ghost use Rattle.rv_check.specs.Checks.{KeepsRefused, TellsAll, outcome_of};
 
 use crate::sections::{check_section, check_settings};
 use rv_fault::{Failure, What, refused};
-use rv_script::{ReadError, open, read_script, text_of};
+use rv_script::{open, read_script, text_of};
 use rv_shape::catalogue::Catalogue;
 use rv_text::Sections;
 use std::alloc::Global;
@@ -22,10 +22,7 @@ fn check_sections<W: Write>(
 {
     let mut catalogue = Catalogue::new(alloc);
     'each: while let Some(section) = sections.next_section() {
-        match check_section(alloc, writer, &mut catalogue, &section) {
-            Ok(()) => {}
-            Err(failure) => return Err(failure),
-        }
+        check_section(alloc, writer, &mut catalogue, &section)?;
     }
     Ok(())
 }
@@ -38,10 +35,8 @@ fn check_text<W: Write>(alloc: Global, writer: &mut W, text: &str) -> Result<(),
         Ok(script) => script,
         Err(line) => return Err(refused(line, What::BadSection)),
     };
-    match check_settings(alloc, &script.settings) {
-        Ok(()) => check_sections(alloc, writer, script.sections),
-        Err(failure) => Err(failure),
-    }
+    check_settings(alloc, &script.settings)?;
+    check_sections(alloc, writer, script.sections)
 }
 
 // Looks at the script that bytes are, if they are text.
@@ -70,8 +65,7 @@ pub fn check_kept<R: Read, W: Write>(
             let done = check_bytes(alloc, writer, bytes.as_slice());
             (bytes, done)
         }
-        Err(ReadError::Memory) => (Vec::new(alloc), Err(Failure::Memory)),
-        Err(ReadError::Io(e)) => (Vec::new(alloc), Err(Failure::Io(e))),
+        Err(error) => (Vec::new(alloc), Err(Failure::from(error))),
     }
 }
 

@@ -2,20 +2,16 @@
 
 ghost use Rattle.std.specs.Prelude.{◌≡◌, ℕ, List, length, IfOk, option_map, string_bytes};
 ghost use Rattle.rv_fault.specs.Written.{Puts};
-ghost use Rattle.rv_check.specs.Checks.{unit_line, shape_line, list_line, unit_failure, shape_failure, list_failure, Adds, OfUnit, OfShape, OfList, OfSettings, as_section, Tells};
+ghost use Rattle.rv_check.specs.Checks.{unit_line, shape_line, list_line, shape_failure, Adds, OfUnit, OfShape, OfList, OfSettings, as_section, Tells};
 ghost use Rattle.rv_script.specs.Openings.{opening_of};
 ghost use Rattle.rv_script.specs.UnitTexts.{without_returns};
 
-use rv_access::{ListFault, read_list};
-use rv_fault::{Failure, What, put, refused};
-use rv_script::unit_text::{MOST_UNIT_BYTES, unit_text};
+use rv_fault::{Failure, What, list_of, put, refused, settings_of, shape_of, unit_of};
 use rv_script::{Opening, opening_of};
-use rv_settings::{SettingsFault, read_settings};
 use rv_shape::catalogue::Catalogue;
 use rv_shape::fault::ShapeFault;
-use rv_shape::reading::read_shape;
 use rv_text::Section;
-use rv_unit::{Unit, UnitFault, compile};
+use rv_unit::Unit;
 use std::alloc::{AllocError, Global};
 use std::io::Write;
 
@@ -51,16 +47,6 @@ fn say<W: Write>(writer: &mut W, line: Result<String, AllocError>) -> Result<(),
     }
 }
 
-// Why a unit text is refused whose section opens at a line.
-fn unit_failure(line: usize, fault: UnitFault) -> Failure
-    ensures { result ≡ unit_failure line fault }
-{
-    match fault {
-        UnitFault::NoMemory => Failure::Memory,
-        _ => refused(line, What::Unit(fault)),
-    }
-}
-
 // Adds a unit, which fits, to those of the sections before: memory alone may be refused.
 fn add_unit<W: Write>(
     alloc: Global,
@@ -77,26 +63,8 @@ fn add_unit<W: Write>(
     }
 }
 
-// Looks at a unit text that has no carriage return before a line feed, and adds the unit to those of the sections before.
-fn check_text<W: Write>(
-    alloc: Global,
-    writer: &mut W,
-    catalogue: &mut Catalogue,
-    line: usize,
-    text: &str,
-) -> Result<(), Failure>
-    ensures { Tells (W.contents writer.old) (W.contents writer.new) line (OfUnit catalogue.old catalogue.new text.now) result }
-{
-    if text.len() > MOST_UNIT_BYTES {
-        return Err(refused(line, What::TooLong));
-    }
-    match compile(alloc, text, catalogue) {
-        Ok(unit) => add_unit(alloc, writer, catalogue, line, &unit),
-        Err(fault) => Err(unit_failure(line, fault)),
-    }
-}
-
-// Looks at a unit text, without each carriage return that stands before a line feed.
+// Looks at a unit text, without each carriage return that stands before a line feed, and adds the unit to those of the
+// sections before.
 fn check_unit<W: Write>(
     alloc: Global,
     writer: &mut W,
@@ -106,13 +74,11 @@ fn check_unit<W: Write>(
     ensures { Tells (W.contents writer.old) (W.contents writer.new) section.now.line
         (OfUnit catalogue.old catalogue.new (without_returns section.now.text.now)) result }
 {
-    match unit_text(alloc, section.text) {
-        Ok(text) => check_text(alloc, writer, catalogue, section.line, text.as_str()),
-        Err(_) => Err(Failure::Memory),
-    }
+    let unit = unit_of(alloc, catalogue, section.line, section.text)?;
+    add_unit(alloc, writer, catalogue, section.line, &unit)
 }
 
-// Why a shape is refused whose section opens at a line.
+// Why a shape doesn't fit whose section opens at a line.
 fn shape_failure(line: usize, fault: ShapeFault) -> Failure
     ensures { result ≡ shape_failure line fault }
 {
@@ -132,23 +98,10 @@ fn check_shape<W: Write>(
     ensures { Tells (W.contents writer.old) (W.contents writer.new) section.now.line
         (OfShape catalogue.old catalogue.new section.now.text.now) result }
 {
-    let shape = match read_shape(alloc, section.text) {
-        Ok(shape) => shape,
-        Err(fault) => return Err(shape_failure(section.line, fault)),
-    };
+    let shape = shape_of(alloc, section.line, section.text)?;
     match catalogue.add(&shape) {
         Ok(()) => say(writer, shape_line(alloc, shape.name())),
         Err(fault) => Err(shape_failure(section.line, fault)),
-    }
-}
-
-// Why a list is refused whose section opens at a line.
-fn list_failure(line: usize, fault: ListFault) -> Failure
-    ensures { result ≡ list_failure line fault }
-{
-    match fault {
-        ListFault::NoMemory => Failure::Memory,
-        _ => refused(line, What::List(fault)),
     }
 }
 
@@ -157,10 +110,8 @@ fn check_list<W: Write>(alloc: Global, writer: &mut W, section: &Section<'_>) ->
     ensures { Tells (W.contents writer.old) (W.contents writer.new) section.now.line
         (OfList section.now.text.now) result }
 {
-    match read_list(alloc, section.text) {
-        Ok(list) => say(writer, list_line(alloc, list.len())),
-        Err(fault) => Err(list_failure(section.line, fault)),
-    }
+    let list = list_of(alloc, section.line, section.text)?;
+    say(writer, list_line(alloc, list.len()))
 }
 
 /// Looks at the settings of a script, if it has some. Nothing is said of them.
@@ -168,14 +119,8 @@ pub fn check_settings(alloc: Global, settings: &Option<Section<'_>>) -> Result<(
     ensures { OfSettings (option_map (λ s. record { line = s.line; opening = s.opening.now; text = s.text.now })
         settings.now) result }
 {
-    let Some(section) = settings else {
-        return Ok(());
-    };
-    match read_settings(alloc, section.text) {
-        Ok(_) => Ok(()),
-        Err(SettingsFault::NoMemory) => Err(Failure::Memory),
-        Err(fault) => Err(refused(section.line, What::Settings(fault))),
-    }
+    let _settings = settings_of(alloc, settings)?;
+    Ok(())
 }
 
 /// Looks at a section behind the settings. Steps, journals and commands aren't checked.

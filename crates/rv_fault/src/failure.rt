@@ -1,8 +1,12 @@
 //! Why a run over a script ends before its work is done.
 
 ghost use Rattle.std.specs.Prelude.{◌≡◌};
+ghost use Rattle.rv_fault.specs.declared.failure.Failure.TheVariants as Failures;
+ghost use Rattle.rv_fault.specs.Faults.{of_read};
 
 use crate::fault::{ScriptFault, What};
+use rv_script::ReadError;
+use std::alloc::AllocError;
 use std::io;
 
 /// Why a run over a script ends before its work is done.
@@ -21,4 +25,31 @@ pub fn refused(line: usize, what: What) -> Failure
     ensures { result ≡ Failure.Refused (record { line = line; what = what }) }
 {
     Failure::Refused(ScriptFault { line, what })
+}
+
+impl From<AllocError> for Failure {
+    ghost from_gives = { λ _ failure. failure ≡ Failures.Memory };
+
+    fn from(_error: AllocError) -> Failure {
+        Failure::Memory
+    }
+}
+
+impl From<ReadError> for Failure {
+    ghost from_gives = { λ error failure. failure ≡ of_read error };
+
+    fn from(error: ReadError) -> Failure {
+        match error {
+            ReadError::Memory => Failure::Memory,
+            ReadError::Io(e) => Failure::Io(e),
+        }
+    }
+}
+
+impl From<io::Error> for Failure {
+    ghost from_gives = { λ error failure. failure ≡ Failures.Io error };
+
+    fn from(error: io::Error) -> Failure {
+        Failure::Io(error)
+    }
 }

@@ -1,11 +1,13 @@
-//! What can be wrong with a script, why a run over it ends before its work is done, and what is written
-//! until then.
+//! What can be wrong with a script, why a run over it ends before its work is done, what its sections hold, and what
+//! is written until then.
 #![tactic(auto)]
 
 mod failure;
 mod fault;
+mod sections;
 mod writing;
 
 pub use failure::{Failure, refused};
 pub use fault::{ScriptFault, What};
+pub use sections::{device_unit, list_of, settings_of, shape_of, text_unit, unit_of};
 pub use writing::put;

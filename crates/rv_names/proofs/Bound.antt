@@ -5,7 +5,7 @@ use Rattle.rv_tree.specs.Names.{Identifier, Name}
 use Rattle.rv_tree.specs.Expressions.{Expression, literal, name, attribute, call, parenthesized, highest, product, signed, sum, relation, logical, Expressions, no_expressions, and_expression, Factors, no_factors, and_factor, Terms, no_terms, and_term, RangeConstraint}
 use Rattle.rv_names.specs.declared.wanted.Wanted.{Wanted}
 use Rattle.rv_names.specs.declared.wanted.Wanted.TheVariants as w
-use Rattle.rv_names.specs.Scope.{ScopeView, declaring, hiding, entered, declaring_all, hiding_all, showing, Region, within_unit, with_unit, with_library, using_library, empty_scope}
+use Rattle.rv_names.specs.Scope.{ScopeView, declaring, hiding, entered, in_body, declaring_all, hiding_all, showing, Region, within_unit, with_unit, with_library, using_library, empty_scope}
 use Rattle.rv_tree.specs.Statements.{Choice, others, value, between, LoopBounds, whole_bounds, two_bounds, constrained_bounds, Iteration, forever, while_true, for_each, Statement, null_statement, assignment, call_statement, if_statement, case_statement, loop_statement, exit_statement, return_statement, raise_statement, delay_statement, abort_statement, requeue_statement, accept_statement, select_statement, Statements, no_statements, and_statement, ElsifParts, no_elsif_parts, and_elsif_part, Alternatives, no_alternatives, and_alternative}
 use Rattle.rv_names.specs.declared.declared.Declared.TheVariants as d
 use Rattle.rv_names.specs.ExpressionUses.{Use, ◌▷◌, nothing, refused, expression_uses, value_uses, expressions_uses, maybe_uses, each_uses, range_uses, simple, factors_uses, terms_uses}
@@ -165,9 +165,9 @@ parameters_shown scope (p ∷ more) = use_shown (hiding_all p.names scope) w.Sub
 
 operation_shown : (x0 : ScopeView) (x1 : OperationDeclaration) → Shows (operation_uses judged x0 x1) (operation_uses listed x0 x1)
 operation_shown scope (a_pragma pragma) = pragma_shown scope pragma
-operation_shown scope (a_function at i parameters mark) = parameters_shown (entered (hiding i scope)) parameters and use_shown (with_parameters parameters (entered (hiding i scope))) w.Subtype mark
-operation_shown scope (a_procedure at i parameters aspects) = parameters_shown (entered (hiding i scope)) parameters and aspects_shown (hiding i scope) aspects
-operation_shown scope (an_entry entry) = parameters_shown (entered (hiding entry.name scope)) entry.parameters
+operation_shown scope (a_function at i parameters mark) = parameters_shown (entered scope) parameters and use_shown (with_parameters parameters (entered scope)) w.Subtype mark
+operation_shown scope (a_procedure at i parameters aspects) = parameters_shown (entered scope) parameters and aspects_shown (hiding i scope) aspects
+operation_shown scope (an_entry entry) = parameters_shown (entered scope) entry.parameters
 
 operations_shown : (x0 : ScopeView) (x1 : List OperationDeclaration) → Shows (operations_uses judged x0 x1) (operations_uses listed x0 x1)
 operations_shown scope [] = none_shown
@@ -244,9 +244,9 @@ block_shown : (x0 : ScopeView) (x1 : Block) → Shows (block_uses judged x0 x1) 
 block_shown scope block = locals_shown scope block.locals and statements_shown (with_locals block.locals scope) block.statements and handlers_shown (with_locals block.locals scope) block.handlers
 
 operation_body_shown : (x0 : ScopeView) (x1 : OperationBody) → Shows (operation_body_uses judged x0 x1) (operation_body_uses listed x0 x1)
-operation_body_shown scope (function_body at i parameters mark block) = use_shown scope w.FunctionBody (simple i) and parameters_shown (entered scope) parameters and use_shown (with_parameters parameters (entered scope)) w.Subtype mark and block_shown (with_parameters parameters (entered scope)) block
-operation_body_shown scope (procedure_body at i parameters block) = use_shown scope w.ProcedureBody (simple i) and parameters_shown (entered scope) parameters and block_shown (with_parameters parameters (entered scope)) block
-operation_body_shown scope (entry_body at i parameters barrier block) = use_shown scope w.EntryBody (simple i) and parameters_shown (entered scope) parameters and value_shown (with_parameters parameters (entered scope)) barrier and block_shown (with_parameters parameters (entered scope)) block
+operation_body_shown scope (function_body at i parameters mark block) = use_shown scope w.FunctionBody (simple i) and parameters_shown (in_body i scope) parameters and use_shown (with_parameters parameters (in_body i scope)) w.Subtype mark and block_shown (with_parameters parameters (in_body i scope)) block
+operation_body_shown scope (procedure_body at i parameters block) = use_shown scope w.ProcedureBody (simple i) and parameters_shown (in_body i scope) parameters and block_shown (with_parameters parameters (in_body i scope)) block
+operation_body_shown scope (entry_body at i parameters barrier block) = use_shown scope w.EntryBody (simple i) and parameters_shown (in_body i scope) parameters and value_shown (with_parameters parameters (in_body i scope)) barrier and block_shown (with_parameters parameters (in_body i scope)) block
 
 operation_bodies_shown : (x0 : ScopeView) (x1 : List OperationBody) → Shows (operation_bodies_uses judged x0 x1) (operation_bodies_uses listed x0 x1)
 operation_bodies_shown scope [] = none_shown
@@ -260,7 +260,7 @@ protected_body_shown : (x0 : List ProtectedUnit) (x1 : ScopeView) (x2 : Protecte
 protected_body_shown units scope body = use_shown scope w.ProtectedBody (simple body.name) and bodies_of_unit_shown scope body.operations (protected_unit_of units (unit_number (denoted w.ProtectedBody scope (simple body.name))))
 
 task_body_shown : (x0 : ScopeView) (x1 : TaskBody) → Shows (task_body_uses judged x0 x1) (task_body_uses listed x0 x1)
-task_body_shown scope body = use_shown scope w.TaskBody (simple body.name) and block_shown (entered scope) body.block
+task_body_shown scope body = use_shown scope w.TaskBody (simple body.name) and block_shown (in_body body.name scope) body.block
 
 body_item_shown : (x0 : List ProtectedUnit) (x1 : ScopeView) (x2 : BodyItem) → Shows (body_item_uses judged x0 x1 x2) (body_item_uses listed x0 x1 x2)
 body_item_shown units scope (body_declaration one) = declaration_shown scope one

@@ -2,12 +2,20 @@
 use Rattle.std.proofs.Common.{◌≡◌, ◌∙◌, ap, sym, subst, refl, ℕ, List, [], ◌∷◌, ◌++◌, Option, Some, None}
 use Rattle.rv_tree.specs.Names.{Identifier}
 use Rattle.rv_names.specs.declared.declared.Declared.{Declared}
-use Rattle.rv_names.specs.Scope.{Region, ScopeView, OnlyDeclares, entered, with_meaning}
+use Rattle.rv_names.specs.Scope.{Region, ScopeView, OnlyDeclares, entered, in_body, with_meaning}
 
 pub left : (s0 e s new : ScopeView) → ((scope : ScopeView) (region : Region) → s ≡ record (entered scope) { innermost = region } → new ≡ scope) →
     e ≡ entered s0 → OnlyDeclares e s → new ≡ s0
 left s0 e s new leave entering only =
     leave s0 s.innermost (only ∙ ap (λ (x : ScopeView). record x { innermost = s.innermost }) entering)
+
+-- and so does the region of a body, in the body that was around it
+pub left_body : (s0 e s new : ScopeView) (i : Identifier) (around : Option ℕ) →
+    ((scope : ScopeView) (region : Region) (at : Option ℕ) → s ≡ record (entered scope) { innermost = region; body = at } → new ≡ record scope { body = around }) →
+    e ≡ in_body i s0 → around ≡ s0.body → OnlyDeclares e s → new ≡ s0
+left_body s0 e s new i around leave entering is only =
+    leave s0 s.innermost (in_body i s0).body (only ∙ ap (λ (x : ScopeView). record x { innermost = s.innermost }) entering)
+    ∙ ap (λ (b : Option ℕ). record s0 { body = b }) is
 
 pub declares_on : (a b c : ScopeView) → OnlyDeclares a b → OnlyDeclares b c → OnlyDeclares a c
 declares_on a b c first then_ = then_ ∙ ap (λ (x : ScopeView). record x { innermost = c.innermost }) first

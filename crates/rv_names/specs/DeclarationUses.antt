@@ -64,14 +64,14 @@ with_parameters (p ∷ more) scope = with_parameters more (declaring_all f.Param
 abbrev pub declaring_operation : OperationKind → Identifier → ScopeView → ScopeView
 declaring_operation of i scope = declaring (λ at. d.Operation at of) i scope
 
+-- the identifier of an operation isn't declared yet in its own profile, where what it hides is visible (8.2)
 abbrev pub operation_uses : {A : Type 0} → Use A → ScopeView → OperationDeclaration → A → A
 operation_uses at_use scope (a_pragma pragma) = pragma_uses at_use scope pragma
 operation_uses at_use scope (a_function at i parameters mark) =
-    parameters_uses at_use (entered (hiding i scope)) parameters
-    ▷ at_use (with_parameters parameters (entered (hiding i scope))) w.Subtype mark
+    parameters_uses at_use (entered scope) parameters ▷ at_use (with_parameters parameters (entered scope)) w.Subtype mark
 operation_uses at_use scope (a_procedure at i parameters aspects) =
-    parameters_uses at_use (entered (hiding i scope)) parameters ▷ aspects_uses at_use (hiding i scope) aspects
-operation_uses at_use scope (an_entry entry) = parameters_uses at_use (entered (hiding entry.name scope)) entry.parameters
+    parameters_uses at_use (entered scope) parameters ▷ aspects_uses at_use (hiding i scope) aspects
+operation_uses at_use scope (an_entry entry) = parameters_uses at_use (entered scope) entry.parameters
 
 abbrev pub with_operation : OperationDeclaration → ScopeView → ScopeView
 with_operation (a_pragma pragma) scope = scope

@@ -2,6 +2,7 @@ pub mod Predefined
 pub mod Scope
 pub mod Visible
 pub mod Wanted
+pub mod Statics
 pub mod ExpressionUses
 pub mod StatementUses
 pub mod DeclarationUses

@@ -26,6 +26,8 @@ pub record ScopeView : Type 0 where
   pub innermost : Region
   -- the protected unit whose declaration or body the point is in, by the place of its identifier
   pub current : Option ℕ
+  -- the operation or the task whose body the point is in, by the place of its identifier
+  pub body : Option ℕ
   -- the operations before `private` of each protected unit of the text that was declared so far
   pub shown : List Region
   -- the loaded units that a `with` names, by their indexes
@@ -70,6 +72,16 @@ hiding_all (i ∷ more) scope = hiding_all more (hiding i scope)
 abbrev pub entered : ScopeView → ScopeView
 entered scope = record scope { around = scope.around ++ scope.innermost ∷ []; innermost = [] }
 
+-- the operation or the task that is declared, by its place
+abbrev pub completed_place : Option (Option Declared) → Option ℕ
+completed_place (Some (Some (d.Operation at of))) = Some at
+completed_place (Some (Some (d.Task at))) = Some at
+completed_place other = None
+
+-- the region of the body of this identifier begins: it completes what the region around it declares (3.11.1)
+abbrev pub in_body : Identifier → ScopeView → ScopeView
+in_body i scope = record (entered scope) { body = completed_place (named i.text scope.innermost) }
+
 -- the point is within the declaration or the body of the protected unit whose identifier has this place
 abbrev pub within_unit : ℕ → ScopeView → ScopeView
 within_unit at scope = record scope { current = Some at }
@@ -100,6 +112,7 @@ empty_scope unit shapes = record {
   around = [];
   innermost = [];
   current = None;
+  body = None;
   shown = [];
   units = [];
   libraries = [];

@@ -16,7 +16,7 @@ use Rattle.rv_names.specs.declared.predefined.Library.{Library}
 use Rattle.rv_names.specs.declared.predefined.Library.TheVariants as l
 use Rattle.rv_names.specs.declared.wanted.Wanted.{Wanted}
 use Rattle.rv_names.specs.declared.wanted.Wanted.TheVariants as w
-use Rattle.rv_names.specs.Scope.{ScopeView, declaring_all, hiding_all, entered, within_unit, with_unit, with_library, using_library, empty_scope}
+use Rattle.rv_names.specs.Scope.{ScopeView, declaring_all, hiding_all, in_body, within_unit, with_unit, with_library, using_library, empty_scope}
 use Rattle.rv_names.specs.Wanted.{denoted}
 use Rattle.rv_names.specs.ExpressionUses.{Use, ◌▷◌, nothing, simple, refused, value_uses, maybe_uses, range_uses}
 use Rattle.rv_names.specs.StatementUses.{statements_uses}
@@ -78,18 +78,18 @@ block_uses at_use scope block =
 abbrev pub operation_body_uses : {A : Type 0} → Use A → ScopeView → OperationBody → A → A
 operation_body_uses at_use scope (function_body at i parameters mark block) =
     at_use scope w.FunctionBody (simple i)
-    ▷ parameters_uses at_use (entered scope) parameters
-    ▷ at_use (with_parameters parameters (entered scope)) w.Subtype mark
-    ▷ block_uses at_use (with_parameters parameters (entered scope)) block
+    ▷ parameters_uses at_use (in_body i scope) parameters
+    ▷ at_use (with_parameters parameters (in_body i scope)) w.Subtype mark
+    ▷ block_uses at_use (with_parameters parameters (in_body i scope)) block
 operation_body_uses at_use scope (procedure_body at i parameters block) =
     at_use scope w.ProcedureBody (simple i)
-    ▷ parameters_uses at_use (entered scope) parameters
-    ▷ block_uses at_use (with_parameters parameters (entered scope)) block
+    ▷ parameters_uses at_use (in_body i scope) parameters
+    ▷ block_uses at_use (with_parameters parameters (in_body i scope)) block
 operation_body_uses at_use scope (entry_body at i parameters barrier block) =
     at_use scope w.EntryBody (simple i)
-    ▷ parameters_uses at_use (entered scope) parameters
-    ▷ value_uses at_use (with_parameters parameters (entered scope)) barrier
-    ▷ block_uses at_use (with_parameters parameters (entered scope)) block
+    ▷ parameters_uses at_use (in_body i scope) parameters
+    ▷ value_uses at_use (with_parameters parameters (in_body i scope)) barrier
+    ▷ block_uses at_use (with_parameters parameters (in_body i scope)) block
 
 abbrev pub operation_bodies_uses : {A : Type 0} → Use A → ScopeView → List OperationBody → A → A
 operation_bodies_uses at_use scope [] = nothing
@@ -124,7 +124,7 @@ protected_body_uses at_use units scope body =
 
 abbrev pub task_body_uses : {A : Type 0} → Use A → ScopeView → TaskBody → A → A
 task_body_uses at_use scope body =
-    at_use scope w.TaskBody (simple body.name) ▷ block_uses at_use (entered scope) body.block
+    at_use scope w.TaskBody (simple body.name) ▷ block_uses at_use (in_body body.name scope) body.block
 
 -- The package body (7.2)
 

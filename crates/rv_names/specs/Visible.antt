@@ -89,19 +89,24 @@ with_named_unit scope name =
 abbrev pub root_library : ScopeView → List ℕ → Option Declared
 root_library scope name = named name root_libraries >>= λ library. with_named scope library
 
--- what no declaration of the text hides: Standard's declarations, library units that a `with` names, and what `use` makes
--- visible, which these hide (8.4)
-abbrev pub from_outside : ScopeView → List ℕ → Option Declared
-from_outside scope name =
+-- what is visible without a `use`: Standard's declarations, and library units that a `with` names
+abbrev pub without_use : ScopeView → List ℕ → Option Declared
+without_use scope name =
     first_of (named name (declarations_of l.Standard) >>= λ item. Some (d.Predefined item))
-    (first_of (with_named_unit scope name)
-    (first_of (root_library scope name)
-    (used_item scope name scope.used)))
+    (first_of (with_named_unit scope name) (root_library scope name))
+
+-- what no declaration of the text hides: this, and what `use` makes visible, which it hides (8.4)
+abbrev pub from_outside : ScopeView → List ℕ → Option Declared
+from_outside scope name = first_of (without_use scope name) (used_item scope name scope.used)
 
 -- what a simple name denotes: the innermost declaration, then the text's unit, then what comes from outside
 abbrev pub direct : ScopeView → List ℕ → Option Declared
 direct scope name =
     flat (first_of (innermost_meaning scope name) (first_of (own_unit scope name) (Some (from_outside scope name))))
+
+-- what a simple name of a context clause denotes: the scope of a `use` there begins behind the clause (8.4, 10.1.6)
+abbrev pub direct_in_context : ScopeView → List ℕ → Option Declared
+direct_in_context scope name = flat (first_of (own_unit scope name) (Some (without_use scope name)))
 
 -- Behind a point (4.1.3)
 
@@ -157,7 +162,16 @@ is_place (Some place) at = place == at
 abbrev pub is_current : ScopeView → ℕ → Bool
 is_current scope at = is_place scope.current at
 
--- what a name behind a point denotes
+-- the operation or the task of this place is the one whose body the point is in
+abbrev pub is_around : ScopeView → ℕ → Bool
+is_around scope at = is_place scope.body at
+
+-- what the body of the operation or the task of this place declares in the region of a number, within that body
+abbrev pub in_own_body : ScopeView → ℕ → ℕ → List ℕ → Option Declared
+in_own_body scope at number name = if is_around scope at then in_region number scope name else None
+
+-- what a name behind a point denotes; an operation's region follows those of the package and its protected unit, a task's
+-- that of the package
 abbrev pub selected : ScopeView → Declared → List ℕ → Option Declared
 selected scope d.OwnUnit name = in_region 0 scope name
 selected scope (d.Unit unit) name = unit_object scope unit name
@@ -167,6 +181,8 @@ selected scope (d.ProtectedType at number) name = if is_current scope at then in
 selected scope (d.SingleProtected at number) name =
     if is_current scope at then in_region 1 scope name else outer_operation scope at number name
 selected scope (d.ProtectedObject at number) name = outer_operation scope at number name
+selected scope (d.Operation at of) name = in_own_body scope at 2 name
+selected scope (d.Task at) name = in_own_body scope at 1 name
 selected scope other name = None
 
 -- the same, for all that stands behind points
@@ -178,6 +194,10 @@ selected_all scope (Some found) (i ∷ more) = selected_all scope (selected scop
 -- the declaration that a name denotes, simple or expanded
 abbrev pub visible : ScopeView → Name → Option Declared
 visible scope name = selected_all scope (direct scope name.first.text) name.more
+
+-- the same in a context clause
+abbrev pub visible_in_context : ScopeView → Name → Option Declared
+visible_in_context scope name = selected_all scope (direct_in_context scope name.first.text) name.more
 
 -- Library units, whether a `with` names them or not (10.1.1)
 

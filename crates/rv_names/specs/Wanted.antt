@@ -13,7 +13,7 @@ use Rattle.rv_names.specs.declared.wanted.Sort.{Sort}
 use Rattle.rv_names.specs.declared.wanted.Sort.TheVariants as s
 use Rattle.rv_names.specs.Scope.{ScopeView}
 use Rattle.rv_names.specs.Predefined.{named}
-use Rattle.rv_names.specs.Visible.{flat, own_unit, visible, library_unit}
+use Rattle.rv_names.specs.Visible.{flat, own_unit, visible, visible_in_context, library_unit}
 
 abbrev pub operation_sort : OperationKind → Sort
 operation_sort kind.Function = s.Function
@@ -165,9 +165,11 @@ is_body w.ProcedureBody = true
 is_body w.EntryBody = true
 is_body other = false
 
--- what a name denotes: a `with` names library units, a body what the innermost region declares, and all else what is visible
+-- what a name denotes: a `with` names library units, a `use` what is visible in a context clause, a body what the innermost
+-- region declares, and all else what is visible
 abbrev pub denoted : Wanted → ScopeView → Name → Option Declared
 denoted w.With scope name = library_unit scope name
+denoted w.Use scope name = visible_in_context scope name
 denoted w.PackageBody scope name = flat (own_unit scope name.first.text)
 denoted w.ProtectedBody scope name = flat (named name.first.text scope.innermost)
 denoted w.TaskBody scope name = flat (named name.first.text scope.innermost)

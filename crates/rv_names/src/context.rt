@@ -1,22 +1,19 @@
-//! The names that context clauses use, and what these make visible.
+//! What is declared where the package of a text begins (8.4, 10.1.2).
 
-ghost use Rattle.std.specs.Prelude.{◌≡◌, OnOk, map};
+ghost use Rattle.std.specs.Prelude.{◌≡◌, OnOk, IfOk, map};
 ghost use Rattle.rv_tree.specs.NameView.{name_view, names_view};
-ghost use Rattle.rv_tree.specs.UnitView.{context_item_view};
-ghost use Rattle.rv_names.specs.Bound.{judged};
+ghost use Rattle.rv_tree.specs.UnitView.{context_item_view, unit_view};
 ghost use Rattle.rv_names.specs.Wanted.{denoted};
-ghost use Rattle.rv_names.specs.UnitUses.{with_parents, withed as scope_withed, used_by as scope_used_by, with_names_uses, with_names as scope_with_names, use_names_uses, use_names as scope_use_names, context_item_uses, with_context_item, context_uses, with_context};
+ghost use Rattle.rv_names.specs.UnitUses.{with_parents, withed as scope_withed, used_by as scope_used_by, with_names as scope_with_names, use_names as scope_use_names, with_context_item, with_context, package_scope as scope_of_package};
 
 use crate::declared::Declared;
-use crate::expression::name;
-use crate::fault::Faults;
-use crate::pragma::stray_pragma;
 use crate::predefined::Library;
 use crate::scope::Scope;
 use crate::wanted::Wanted;
+use rv_shape::catalogue::Catalogue;
 use rv_tree::name::Name;
-use rv_tree::unit::ContextItem;
-use std::alloc::AllocError;
+use rv_tree::unit::{ContextItem, UnitTree};
+use std::alloc::{AllocError, Global};
 
 // The packages that hold a package.
 fn add_parents(library: Library, scope: &mut Scope) -> Result<(), AllocError>
@@ -59,59 +56,45 @@ fn add_used(found: Option<Declared>, scope: &mut Scope) -> Result<(), AllocError
 }
 
 // A library unit that a `with` names.
-fn with_name(one: &Name, scope: &mut Scope, faults: &mut Faults) -> Result<(), AllocError>
-    ensures faults { OnOk result (faults.new ≡ judged scope.old Wanted.With (name_view one.now) faults.old) }
-    ensures scope { OnOk result (scope.new ≡ scope_withed (denoted Wanted.With scope.old (name_view one.now)) scope.old) }
+pub(crate) fn with_name(one: &Name, scope: &mut Scope) -> Result<(), AllocError>
+    ensures { OnOk result (scope.new ≡ scope_withed (denoted Wanted.With scope.old (name_view one.now)) scope.old) }
 {
-    name(one, Wanted::With, scope, faults);
     let found = scope.denoted(Wanted::With, one);
     add_withed(found, scope)
 }
 
-fn with_names(list: &Vec<Name>, scope: &mut Scope, faults: &mut Faults) -> Result<(), AllocError>
-    ensures faults { OnOk result (faults.new ≡ with_names_uses judged scope.old (names_view list.now.items) faults.old) }
-    ensures scope { OnOk result (scope.new ≡ scope_with_names (names_view list.now.items) scope.old) }
+fn with_names(list: &Vec<Name>, scope: &mut Scope) -> Result<(), AllocError>
+    ensures { OnOk result (scope.new ≡ scope_with_names (names_view list.now.items) scope.old) }
 {
     for one in list {
-        with_name(one, scope, faults)?;
+        with_name(one, scope)?;
     }
     Ok(())
 }
 
 // A package that a `use` names.
-fn use_name(one: &Name, scope: &mut Scope, faults: &mut Faults) -> Result<(), AllocError>
-    ensures faults { OnOk result (faults.new ≡ judged scope.old Wanted.Use (name_view one.now) faults.old) }
-    ensures scope { OnOk result (scope.new ≡ scope_used_by (denoted Wanted.Use scope.old (name_view one.now)) scope.old) }
+pub(crate) fn use_name(one: &Name, scope: &mut Scope) -> Result<(), AllocError>
+    ensures { OnOk result (scope.new ≡ scope_used_by (denoted Wanted.Use scope.old (name_view one.now)) scope.old) }
 {
-    name(one, Wanted::Use, scope, faults);
     let found = scope.denoted(Wanted::Use, one);
     add_used(found, scope)
 }
 
-fn use_names(list: &Vec<Name>, scope: &mut Scope, faults: &mut Faults) -> Result<(), AllocError>
-    ensures faults { OnOk result (faults.new ≡ use_names_uses judged scope.old (names_view list.now.items) faults.old) }
-    ensures scope { OnOk result (scope.new ≡ scope_use_names (names_view list.now.items) scope.old) }
+fn use_names(list: &Vec<Name>, scope: &mut Scope) -> Result<(), AllocError>
+    ensures { OnOk result (scope.new ≡ scope_use_names (names_view list.now.items) scope.old) }
 {
     for one in list {
-        use_name(one, scope, faults)?;
+        use_name(one, scope)?;
     }
     Ok(())
 }
 
-fn context_item(
-    item: &ContextItem,
-    scope: &mut Scope,
-    faults: &mut Faults,
-) -> Result<(), AllocError>
-    ensures faults { OnOk result (faults.new ≡ context_item_uses judged scope.old (context_item_view item.now) faults.old) }
-    ensures scope { OnOk result (scope.new ≡ with_context_item (context_item_view item.now) scope.old) }
+fn context_item(item: &ContextItem, scope: &mut Scope) -> Result<(), AllocError>
+    ensures { OnOk result (scope.new ≡ with_context_item (context_item_view item.now) scope.old) }
 {
     match item {
-        ContextItem::Pragma(pragma) => {
-            stray_pragma(pragma, faults);
-            Ok(())
-        }
-        ContextItem::With(_, names) => with_names(names, scope, faults),
+        ContextItem::Pragma(_) => Ok(()),
+        ContextItem::With(_, names) => with_names(names, scope),
         ContextItem::Use {
             at: _,
             is_type,
@@ -120,22 +103,30 @@ fn context_item(
             if *is_type {
                 return Ok(());
             }
-            use_names(names, scope, faults)
+            use_names(names, scope)
         }
     }
 }
 
-/// The items before the package.
-pub(crate) fn context(
-    list: &Vec<ContextItem>,
-    scope: &mut Scope,
-    faults: &mut Faults,
-) -> Result<(), AllocError>
-    ensures faults { OnOk result (faults.new ≡ context_uses judged scope.old (map context_item_view list.now.items) faults.old) }
-    ensures scope { OnOk result (scope.new ≡ with_context (map context_item_view list.now.items) scope.old) }
+fn context(list: &Vec<ContextItem>, scope: &mut Scope) -> Result<(), AllocError>
+    ensures { OnOk result (scope.new ≡ with_context (map context_item_view list.now.items) scope.old) }
 {
     for item in list {
-        context_item(item, scope, faults)?;
+        context_item(item, scope)?;
     }
     Ok(())
+}
+
+/// What is declared where the package of a text begins: what its context clauses make visible.
+pub fn package_scope<'a>(
+    alloc: Global,
+    tree: &'a UnitTree,
+    catalogue: &'a Catalogue,
+) -> Result<Scope<'a>, AllocError>
+    ensures { IfOk result (λ scope. scope ≡ scope_of_package catalogue.now (unit_view tree.now)) }
+{
+    let unit = tree.specification.name.text.as_str();
+    let mut scope = Scope::new(alloc, unit, catalogue);
+    context(&tree.context, &mut scope)?;
+    Ok(scope)
 }

@@ -76,6 +76,7 @@ fn subtype(
     hide(declared, scope, faults)?;
     name(mark, Wanted::Subtype, scope, faults);
     maybe_range(part, scope, faults);
+    faults.note_subtype(declared, mark, part, scope)?;
     scope.declare(declared, Some(Declared::Subtype(declared.at)))
 }
 
@@ -125,6 +126,7 @@ fn constants(
     hide_all(names, scope, faults)?;
     maybe_name(mark, Wanted::Subtype, scope, faults);
     value(initial, scope, faults);
+    faults.note_constants(names, mark, initial, scope)?;
     declare_all(names, Form::Constant, scope)
 }
 

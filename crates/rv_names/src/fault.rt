@@ -9,6 +9,7 @@ use crate::scope::Scope;
 use rv_text::is_same_name;
 use rv_tree::body::Block;
 use rv_tree::declaration::ProtectedUnit;
+use rv_tree::expression::{Expression, RangeConstraint};
 use rv_tree::name::{Identifier, Name};
 use std::alloc::{AllocError, AllocFailed, Global};
 use std::marker::Model;
@@ -182,6 +183,32 @@ impl<'a> Faults<'a> {
         ensures { OnOk result (self.new ≡ self.old) }
     {
         self.marks.note(mark, scope)
+    }
+
+    /// Keeps what is static of a subtype of the package, at the point within its declaration. Err where memory was refused.
+    pub(crate) fn note_subtype(
+        &mut self,
+        declared: &Identifier,
+        mark: &Name,
+        range: &Option<RangeConstraint>,
+        scope: &Scope,
+    ) -> Result<(), AllocError>
+        ensures { OnOk result (self.new ≡ self.old) }
+    {
+        self.marks.note_subtype(declared, mark, range, scope)
+    }
+
+    /// The same of constants of the package, or of named numbers.
+    pub(crate) fn note_constants(
+        &mut self,
+        names: &Vec<Identifier>,
+        mark: &Option<Name>,
+        value: &Expression,
+        scope: &Scope,
+    ) -> Result<(), AllocError>
+        ensures { OnOk result (self.new ≡ self.old) }
+    {
+        self.marks.note_constants(names, mark, value, scope)
     }
 
     /// The attributes are First and Last (3.5).

@@ -6,9 +6,15 @@ use rv_tree::name::Identifier;
 use std::alloc::{AllocError, Global};
 
 /// The place of the first identifier of each name.
-#[derive(Drop)]
 pub(crate) struct Firsts {
     places: IndexMap<Name, usize>,
+}
+
+impl Drop for Firsts {
+    // A function of its own: a derived one is written out wherever a value is let go, and proved there.
+    fn drop(self) {
+        let Firsts { places: _ } = self;
+    }
 }
 
 impl Firsts {

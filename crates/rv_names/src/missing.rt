@@ -189,12 +189,18 @@ impl<'a> Around<'a> {
                 return true;
             }
         }
-        if let Some(block) = self.block {
-            if block_declares(block, name) {
-                return true;
-            }
+        if self.has_later_local(name) {
+            return true;
         }
         scope.is_loaded(name) || scope.is_hidden(name) || library_declares(name)
+    }
+
+    // Whether the block around the point declares a name.
+    fn has_later_local(&self, name: &str) -> bool {
+        match self.block {
+            Some(block) => block_declares(block, name),
+            None => false,
+        }
     }
 
     // Whether what stands behind a point exists, and is only shown to no one here.
@@ -215,6 +221,9 @@ impl<'a> Around<'a> {
                 }
             }
             Declared::ProtectedObject(_, number) => self.has_hidden_member(number, name),
+            Declared::Operation(at, _) | Declared::Task(at) => {
+                scope.is_around(at) && self.has_later_local(name)
+            }
             _ => false,
         }
     }
@@ -247,10 +256,10 @@ impl<'a> Around<'a> {
     }
 
     // The fault of a name that isn't visible.
-    fn invisible(&self, scope: &Scope, name: &Name) -> NameFault {
+    fn invisible(&self, scope: &Scope, wanted: Wanted, name: &Name) -> NameFault {
         let at = name.first.at;
         let simple = name.first.text.as_str();
-        let Some(mut found) = scope.direct(simple) else {
+        let Some(mut found) = scope.first_denoted(wanted, simple) else {
             return unseen(at, self.knows(scope, simple));
         };
         for identifier in &name.more {
@@ -274,7 +283,7 @@ impl<'a> Around<'a> {
             | Wanted::FunctionBody
             | Wanted::ProcedureBody
             | Wanted::EntryBody => NameFault::Unknown(name.first.at),
-            _ => self.invisible(scope, name),
+            _ => self.invisible(scope, wanted, name),
         }
     }
 

@@ -6,7 +6,7 @@ ghost use Rattle.rv_tree.specs.ExpressionView.{expression_view};
 ghost use Rattle.rv_tree.specs.DeclarationView.{parameter_view};
 ghost use Rattle.rv_tree.specs.BodyView.{block_view, operation_body_view};
 ghost use Rattle.rv_names.specs.Bound.{judged};
-ghost use Rattle.rv_names.specs.Scope.{entered};
+ghost use Rattle.rv_names.specs.Scope.{in_body};
 ghost use Rattle.rv_names.specs.Wanted.{is_body};
 ghost use Rattle.rv_names.specs.ExpressionUses.{◌▷◌, simple as simple_name, value_uses};
 ghost use Rattle.rv_names.specs.DeclarationUses.{parameters_uses, with_parameters};
@@ -62,17 +62,17 @@ fn function_body<'a>(
 ) -> Result<(), AllocError>
     ensures faults { OnOk result (faults.new
         ≡ (judged scope.old Wanted.FunctionBody (simple_name (identifier_view declared.now))
-        ▷ parameters_uses judged (entered scope.old) (map parameter_view list.now.items)
-        ▷ judged (with_parameters (map parameter_view list.now.items) (entered scope.old)) Wanted.Subtype (name_view mark.now)
-        ▷ block_uses judged (with_parameters (map parameter_view list.now.items) (entered scope.old)) (block_view part.now)) faults.old) }
+        ▷ parameters_uses judged (in_body (identifier_view declared.now) scope.old) (map parameter_view list.now.items)
+        ▷ judged (with_parameters (map parameter_view list.now.items) (in_body (identifier_view declared.now) scope.old)) Wanted.Subtype (name_view mark.now)
+        ▷ block_uses judged (with_parameters (map parameter_view list.now.items) (in_body (identifier_view declared.now) scope.old)) (block_view part.now)) faults.old) }
     ensures scope { OnOk result (scope.new ≡ scope.old) }
 {
     body_name(declared, Wanted::FunctionBody, scope, faults);
-    scope.enter()?;
+    let around = scope.enter_body(declared)?;
     parameters(list, scope, faults)?;
     profile_mark(mark, scope, faults)?;
     block(part, scope, faults)?;
-    scope.leave();
+    scope.leave_body(around);
     Ok(())
 }
 
@@ -85,15 +85,15 @@ fn procedure_body<'a>(
 ) -> Result<(), AllocError>
     ensures faults { OnOk result (faults.new
         ≡ (judged scope.old Wanted.ProcedureBody (simple_name (identifier_view declared.now))
-        ▷ parameters_uses judged (entered scope.old) (map parameter_view list.now.items)
-        ▷ block_uses judged (with_parameters (map parameter_view list.now.items) (entered scope.old)) (block_view part.now)) faults.old) }
+        ▷ parameters_uses judged (in_body (identifier_view declared.now) scope.old) (map parameter_view list.now.items)
+        ▷ block_uses judged (with_parameters (map parameter_view list.now.items) (in_body (identifier_view declared.now) scope.old)) (block_view part.now)) faults.old) }
     ensures scope { OnOk result (scope.new ≡ scope.old) }
 {
     body_name(declared, Wanted::ProcedureBody, scope, faults);
-    scope.enter()?;
+    let around = scope.enter_body(declared)?;
     parameters(list, scope, faults)?;
     block(part, scope, faults)?;
-    scope.leave();
+    scope.leave_body(around);
     Ok(())
 }
 
@@ -107,17 +107,17 @@ fn entry_body<'a>(
 ) -> Result<(), AllocError>
     ensures faults { OnOk result (faults.new
         ≡ (judged scope.old Wanted.EntryBody (simple_name (identifier_view declared.now))
-        ▷ parameters_uses judged (entered scope.old) (map parameter_view list.now.items)
-        ▷ value_uses judged (with_parameters (map parameter_view list.now.items) (entered scope.old)) (expression_view barrier.now)
-        ▷ block_uses judged (with_parameters (map parameter_view list.now.items) (entered scope.old)) (block_view part.now)) faults.old) }
+        ▷ parameters_uses judged (in_body (identifier_view declared.now) scope.old) (map parameter_view list.now.items)
+        ▷ value_uses judged (with_parameters (map parameter_view list.now.items) (in_body (identifier_view declared.now) scope.old)) (expression_view barrier.now)
+        ▷ block_uses judged (with_parameters (map parameter_view list.now.items) (in_body (identifier_view declared.now) scope.old)) (block_view part.now)) faults.old) }
     ensures scope { OnOk result (scope.new ≡ scope.old) }
 {
     body_name(declared, Wanted::EntryBody, scope, faults);
-    scope.enter()?;
+    let around = scope.enter_body(declared)?;
     parameters(list, scope, faults)?;
     value(barrier, scope, faults);
     block(part, scope, faults)?;
-    scope.leave();
+    scope.leave_body(around);
     Ok(())
 }
 

@@ -24,7 +24,8 @@ use rv_tree::expression::{Expression, RangeConstraint};
 use rv_tree::name::{Identifier, Name};
 use std::alloc::{AllocError, Global};
 
-/// The mark of a parameter or a result. What it denotes is kept, since that of the body has to denote the same (6.3.1).
+/// The mark of a parameter or a result. What it denotes is kept, since that of the body has to match it
+/// statically (6.3.1).
 pub(crate) fn profile_mark(
     mark: &Name,
     scope: &Scope,
@@ -114,13 +115,13 @@ fn function(
     faults: &mut Faults,
 ) -> Result<(), AllocError>
     ensures faults { OnOk result (faults.new
-        ≡ (parameters_uses judged (entered (hiding (identifier_view declared.now) scope.old)) (map parameter_view list.now.items)
-        ▷ judged (with_parameters (map parameter_view list.now.items) (entered (hiding (identifier_view declared.now) scope.old))) Wanted.Subtype (name_view mark.now)) faults.old) }
+        ≡ (parameters_uses judged (entered scope.old) (map parameter_view list.now.items)
+        ▷ judged (with_parameters (map parameter_view list.now.items) (entered scope.old)) Wanted.Subtype (name_view mark.now)) faults.old) }
     ensures scope { OnOk result (scope.new
         ≡ declaring_operation OperationKind.Function (identifier_view declared.now) (hiding (identifier_view declared.now) scope.old)) }
 {
-    hide(declared, scope, faults)?;
     profile(list, Some(mark), scope, faults)?;
+    hide(declared, scope, faults)?;
     declare_operation(declared, OperationKind::Function, scope)
 }
 
@@ -132,13 +133,13 @@ fn procedure(
     faults: &mut Faults,
 ) -> Result<(), AllocError>
     ensures faults { OnOk result (faults.new
-        ≡ (parameters_uses judged (entered (hiding (identifier_view declared.now) scope.old)) (map parameter_view list.now.items)
+        ≡ (parameters_uses judged (entered scope.old) (map parameter_view list.now.items)
         ▷ aspects_uses judged (hiding (identifier_view declared.now) scope.old) (map aspect_view given.now.items)) faults.old) }
     ensures scope { OnOk result (scope.new
         ≡ declaring_operation OperationKind.Procedure (identifier_view declared.now) (hiding (identifier_view declared.now) scope.old)) }
 {
-    hide(declared, scope, faults)?;
     profile(list, None, scope, faults)?;
+    hide(declared, scope, faults)?;
     aspects(given, scope, faults);
     procedure_rules(list, given, faults);
     declare_operation(declared, OperationKind::Procedure, scope)
@@ -151,12 +152,12 @@ fn entry(
     faults: &mut Faults,
 ) -> Result<(), AllocError>
     ensures faults { OnOk result (faults.new
-        ≡ parameters_uses judged (entered (hiding (identifier_view declared.now) scope.old)) (map parameter_view list.now.items) faults.old) }
+        ≡ parameters_uses judged (entered scope.old) (map parameter_view list.now.items) faults.old) }
     ensures scope { OnOk result (scope.new
         ≡ declaring_operation OperationKind.Entry (identifier_view declared.now) (hiding (identifier_view declared.now) scope.old)) }
 {
-    hide(declared, scope, faults)?;
     profile(list, None, scope, faults)?;
+    hide(declared, scope, faults)?;
     declare_operation(declared, OperationKind::Entry, scope)
 }
 

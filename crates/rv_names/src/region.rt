@@ -14,9 +14,15 @@ use std::marker::Model;
 
 /// The names that a region declares so far, each once, and what they denote: nothing inside their own declarations
 /// (8.1, 8.3).
-#[derive(Drop)]
 pub(crate) struct Region {
     meanings: IndexMap<Name, Option<Declared>>,
+}
+
+impl Drop for Region {
+    // A function of its own: a derived one is written out wherever a value is let go, and proved there.
+    fn drop(self) {
+        let Region { meanings: _ } = self;
+    }
 }
 
 impl Model for Region {

@@ -11,7 +11,7 @@ ghost use Rattle.rv_names.specs.ExpressionUses.{◌▷◌, simple as simple_name
 ghost use Rattle.rv_names.specs.UnitUses.{unit_uses, protected_units as all_protected_units, unit_onto, item_onto};
 
 use crate::completed::missing_body;
-use crate::context::context;
+use crate::context_names::context_names;
 use crate::declaration::declarations;
 use crate::end_names::end_name_fault;
 use crate::fault::{Faults, NameFault, earlier};
@@ -90,7 +90,7 @@ fn walk<'a>(
 {
     let unit = tree.specification.name.text.as_str();
     let mut scope = Scope::new(alloc, unit, catalogue);
-    context(&tree.context, &mut scope, faults)?;
+    context_names(&tree.context, &mut scope, faults)?;
     declarations(&tree.specification.declarations, &mut scope, faults)?;
     body_name(&tree.body.name, Wanted::PackageBody, &scope, faults);
     body_items(&tree.body.items, units, &mut scope, faults)?;

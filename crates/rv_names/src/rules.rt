@@ -264,7 +264,7 @@ fn have_same_formals(
 fn is_same_formal(one: &Formal, other: &Formal, marks: &Marks) -> bool {
     is_same_name(one.name, other.name)
         && is_same_mode(one.mode, other.mode)
-        && marks.are_same(one.mark, other.mark)
+        && marks.match_statically(one.mark, other.mark)
 }
 
 // A mode that is not written is `in`.
@@ -279,7 +279,7 @@ fn is_same_mode(one: Mode, other: Mode) -> bool {
 fn is_same_result(one: Option<&Name>, other: Option<&Name>, marks: &Marks) -> bool {
     match one {
         Some(one) => match other {
-            Some(other) => marks.are_same(one, other),
+            Some(other) => marks.match_statically(one, other),
             None => false,
         },
         None => other.is_none(),

@@ -1,10 +1,10 @@
 //! What is declared at a point of a text.
 
-ghost use Rattle.std.specs.Prelude.{◌≡◌, ◌==◌, ◌++◌, ◌∷◌, [], OnOk};
+ghost use Rattle.std.specs.Prelude.{◌≡◌, ℕ, ◌==◌, ◌++◌, ◌∷◌, [], Option, OnOk, IfOk};
 ghost use Rattle.std.specs.List.{list_any};
 ghost use Rattle.rv_tree.specs.NameView.{identifier_view};
 ghost use Rattle.rv_names.specs.Predefined.{named};
-ghost use Rattle.rv_names.specs.Scope.{ScopeView, Region as RegionView, with_meaning, entered, within_unit, showing, with_unit, with_library, using_library, empty_scope};
+ghost use Rattle.rv_names.specs.Scope.{ScopeView, Region as RegionView, with_meaning, entered, completed_place as place_completed, in_body, within_unit, showing, with_unit, with_library, using_library, empty_scope};
 
 use crate::declared::Declared;
 use crate::predefined::{Library, is_among};
@@ -14,6 +14,17 @@ use rv_shape::shape::UnitShape;
 use rv_tree::name::Identifier;
 use std::alloc::{AllocError, Global};
 use std::marker::Model;
+
+// The operation or the task that is declared, by its place.
+fn completed_place(found: Option<Option<Declared>>) -> Option<usize>
+    ensures { result ≡ place_completed found }
+{
+    match found {
+        Some(Some(Declared::Operation(at, _))) => Some(at),
+        Some(Some(Declared::Task(at))) => Some(at),
+        _ => None,
+    }
+}
 
 /// What is declared at a point of a text.
 #[derive(Drop)]
@@ -26,6 +37,8 @@ pub struct Scope<'a> {
     innermost: Region,
     // The protected unit whose declaration or body the point is in, by the place of its identifier.
     current: Option<usize>,
+    // The operation or the task whose body the point is in, by the place of its identifier.
+    body: Option<usize>,
     // The operations before `private` of each protected unit of the text that was declared so far.
     shown: Vec<Region>,
     // The indexes of the loaded units that a `with` names.
@@ -46,6 +59,7 @@ impl<'a> Model for Scope<'a> {
       around = s.around.items;
       innermost = s.innermost;
       current = s.current;
+      body = s.body;
       shown = s.shown.items;
       units = s.units.items;
       libraries = s.libraries.items;
@@ -65,6 +79,7 @@ impl<'a> Scope<'a> {
             around: Vec::new(alloc),
             innermost: Region::new(alloc),
             current: None,
+            body: None,
             shown: Vec::new(alloc),
             units: Vec::new(alloc),
             libraries: Vec::new(alloc),
@@ -96,6 +111,13 @@ impl<'a> Scope<'a> {
         ensures { result ≡ self.now.current }
     {
         self.current
+    }
+
+    /// The operation or the task whose body the point is in, by the place of its identifier.
+    pub(crate) fn body(&self) -> Option<usize>
+        ensures { result ≡ self.now.body }
+    {
+        self.body
     }
 
     pub(crate) fn shown(&self) -> &[Region]
@@ -166,6 +188,30 @@ impl<'a> Scope<'a> {
         if let Some(innermost) = self.around.pop() {
             self.innermost = innermost;
         }
+    }
+
+    /// Begins the region of the body of this identifier, which completes what the region around it declares (3.11.1).
+    /// What it gives is for `leave_body`.
+    pub fn enter_body(&mut self, declared: &Identifier) -> Result<Option<usize>, AllocError>
+        ensures scope { OnOk result (self.new ≡ in_body (identifier_view declared.now) self.old) }
+        ensures around { IfOk result (λ around. around ≡ self.old.body) }
+    {
+        let around = self.body;
+        let completed = completed_place(self.innermost.find(declared.text.as_str()));
+        self.enter()?;
+        self.body = completed;
+        Ok(around)
+    }
+
+    /// Ends the innermost region, that of a body; the point is then in this one, if in any.
+    pub fn leave_body(&mut self, around: Option<usize>)
+        ensures { (scope : ScopeView) (region : RegionView) (at : Option ℕ) →
+            self.old ≡ record (entered scope) { innermost = region; body = at } → self.new ≡ record scope { body = around } }
+    {
+        if let Some(innermost) = self.around.pop() {
+            self.innermost = innermost;
+        }
+        self.body = around;
     }
 
     /// Begins the declaration or the body of the protected unit whose identifier has this place, or ends it.

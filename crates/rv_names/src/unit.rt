@@ -104,9 +104,9 @@ fn task_body<'a>(
     ensures scope { OnOk result (scope.new ≡ scope.old) }
 {
     body_name(&body.name, Wanted::TaskBody, scope, faults);
-    scope.enter()?;
+    let around = scope.enter_body(&body.name)?;
     block(&body.block, scope, faults)?;
-    scope.leave();
+    scope.leave_body(around);
     Ok(())
 }
 

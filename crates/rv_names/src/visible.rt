@@ -1,9 +1,9 @@
 //! Which declaration a name denotes.
 
-ghost use Rattle.std.specs.Prelude.{◌≡◌, true, None};
+ghost use Rattle.std.specs.Prelude.{◌≡◌, true, None, map};
 ghost use Rattle.rv_tree.specs.NameView.{name_view, identifier_view};
 ghost use Rattle.rv_names.specs.Predefined.{named};
-ghost use Rattle.rv_names.specs.Visible.{in_region, with_named, library_item, used_item, own_unit, root_library, with_named_unit, from_outside, direct, unit_object, unit_operation, outer_operation, is_current, selected, visible, library_named, library_unit, innermost_meaning, flat};
+ghost use Rattle.rv_names.specs.Visible.{in_region, with_named, library_item, used_item, own_unit, root_library, with_named_unit, without_use, from_outside, direct, direct_in_context, unit_object, unit_operation, outer_operation, is_current, is_around, in_own_body, selected, selected_all, visible, visible_in_context, library_named, library_unit, innermost_meaning, flat};
 ghost use Rattle.rv_names.specs.Wanted.{denoted, is_body};
 ghost use Rattle.rv_names.specs.ExpressionUses.{simple as simple_name};
 
@@ -113,9 +113,9 @@ impl<'a> Scope<'a> {
         self.with_named(library)
     }
 
-    // What a simple name denotes that no declaration of the text hides.
-    fn from_outside(&self, name: &str) -> Option<Declared>
-        ensures { result ≡ from_outside self.now name.now }
+    // What a simple name denotes that is visible without a `use`.
+    fn without_use(&self, name: &str) -> Option<Declared>
+        ensures { result ≡ without_use self.now name.now }
     {
         if let Some(item) = Library::Standard.declaration(name) {
             return Some(Declared::Predefined(item));
@@ -123,10 +123,17 @@ impl<'a> Scope<'a> {
         if let Some(unit) = self.with_named_unit(name) {
             return Some(unit);
         }
-        if let Some(library) = self.root_library(name) {
-            return Some(library);
+        self.root_library(name)
+    }
+
+    // What a simple name denotes that no declaration of the text hides.
+    fn from_outside(&self, name: &str) -> Option<Declared>
+        ensures { result ≡ from_outside self.now name.now }
+    {
+        match self.without_use(name) {
+            Some(found) => Some(found),
+            None => self.used_item(name),
         }
-        self.used_item(name)
     }
 
     // What a simple name denotes.
@@ -140,6 +147,24 @@ impl<'a> Scope<'a> {
             return meaning;
         }
         self.from_outside(name)
+    }
+
+    // What a simple name of a context clause denotes, where no `use` has effect yet.
+    fn direct_in_context(&self, name: &str) -> Option<Declared>
+        ensures { result ≡ direct_in_context self.now name.now }
+    {
+        if let Some(meaning) = self.own_unit(name) {
+            return meaning;
+        }
+        self.without_use(name)
+    }
+
+    /// What a simple name denotes where this is wanted: no `use` has effect in a `use`.
+    pub(crate) fn first_denoted(&self, wanted: Wanted, name: &str) -> Option<Declared> {
+        match wanted {
+            Wanted::Use => self.direct_in_context(name),
+            _ => self.direct(name),
+        }
     }
 
     // An object of a loaded unit, but none that only the unit's body declares (7.2).
@@ -183,6 +208,28 @@ impl<'a> Scope<'a> {
         }
     }
 
+    // Whether the point is in the body of the operation or the task whose identifier has this place.
+    pub(crate) fn is_around(&self, at: usize) -> bool
+        ensures { result ≡ is_around self.now at }
+    {
+        match self.body() {
+            Some(body) => body == at,
+            None => false,
+        }
+    }
+
+    // What a name behind that of an operation or a task of this place denotes: what its body declares in the region of a
+    // number, where the point is in that body.
+    fn in_own_body(&self, at: usize, number: usize, name: &str) -> Option<Declared>
+        ensures { result ≡ in_own_body self.now at number name.now }
+    {
+        if self.is_around(at) {
+            self.in_region(number, name)
+        } else {
+            None
+        }
+    }
+
     // What a name behind a point denotes.
     pub(crate) fn selected(&self, prefix: Declared, name: &str) -> Option<Declared>
         ensures { result ≡ selected self.now prefix name.now }
@@ -207,22 +254,40 @@ impl<'a> Scope<'a> {
                 }
             }
             Declared::ProtectedObject(at, number) => self.outer_operation(at, number, name),
+            Declared::Operation(at, _) => self.in_own_body(at, 2, name),
+            Declared::Task(at) => self.in_own_body(at, 1, name),
             _ => None,
         }
     }
 
-    /// The declaration that a name denotes, or `None` where none is visible.
-    pub fn visible(&self, name: &Name) -> Option<Declared>
-        ensures { result ≡ visible self.now (name_view name.now) }
+    // The same, of all that stands behind points.
+    fn selected_all(&self, first: Option<Declared>, more: &Vec<Identifier>) -> Option<Declared>
+        ensures { result ≡ selected_all self.now first (map identifier_view more.now.items) }
     {
-        let mut found = self.direct(name.first.text.as_str());
-        for identifier in &name.more {
+        let mut found = first;
+        for identifier in more {
             found = match found {
                 Some(prefix) => self.selected(prefix, identifier.text.as_str()),
                 None => None,
             };
         }
         found
+    }
+
+    /// The declaration that a name denotes, or `None` where none is visible.
+    pub fn visible(&self, name: &Name) -> Option<Declared>
+        ensures { result ≡ visible self.now (name_view name.now) }
+    {
+        let first = self.direct(name.first.text.as_str());
+        self.selected_all(first, &name.more)
+    }
+
+    // The same in a context clause.
+    fn visible_in_context(&self, name: &Name) -> Option<Declared>
+        ensures { result ≡ visible_in_context self.now (name_view name.now) }
+    {
+        let first = self.direct_in_context(name.first.text.as_str());
+        self.selected_all(first, &name.more)
     }
 
     /// The library unit of a name, whether a `with` names it or not.
@@ -243,14 +308,15 @@ impl<'a> Scope<'a> {
         declared_in(self.innermost(), name)
     }
 
-    /// What a name denotes where this is wanted: a `with` names library units, a body what the innermost region
-    /// declares, and all else what is visible.
+    /// What a name denotes where this is wanted: a `with` names library units, a `use` what is visible in a context
+    /// clause, a body what the innermost region declares, and all else what is visible.
     pub fn denoted(&self, wanted: Wanted, name: &Name) -> Option<Declared>
         ensures { result ≡ denoted wanted self.now (name_view name.now) }
     {
         let simple = name.first.text.as_str();
         match wanted {
             Wanted::With => self.library_unit(name),
+            Wanted::Use => self.visible_in_context(name),
             Wanted::PackageBody => match self.own_unit(simple) {
                 Some(meaning) => meaning,
                 None => None,

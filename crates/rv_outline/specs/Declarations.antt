@@ -12,7 +12,7 @@ use Rattle.rv_names.specs.declared.declared.Declared.{Declared}
 use Rattle.rv_names.specs.declared.declared.Declared.TheVariants as d
 use Rattle.rv_names.specs.declared.declared.OperationKind.TheVariants as kind
 use Rattle.rv_names.specs.declared.wanted.Wanted.TheVariants as w
-use Rattle.rv_names.specs.Scope.{ScopeView, hiding, hiding_all, entered}
+use Rattle.rv_names.specs.Scope.{ScopeView, hiding, hiding_all, in_body}
 use Rattle.rv_names.specs.Visible.{visible}
 use Rattle.rv_names.specs.Wanted.{denoted}
 use Rattle.rv_names.specs.ExpressionUses.{simple}
@@ -65,7 +65,7 @@ operation_body_outlined scope (function_body at i parameters mark block) draft =
 operation_body_outlined scope (procedure_body at i parameters block) draft = draft
 operation_body_outlined scope (entry_body at i parameters condition block) draft =
     entry_barred (denoted w.EntryBody scope (simple i))
-    (barrier_of (with_parameters parameters (entered scope)) draft.known condition) draft
+    (barrier_of (with_parameters parameters (in_body i scope)) draft.known condition) draft
 
 abbrev pub operation_bodies_outlined : ScopeView → List OperationBody → Draft → Draft
 operation_bodies_outlined scope [] draft = draft

@@ -57,7 +57,7 @@ function_in table scope is_visible i parameters mark =
     range_in (means (with_parameters parameters scope) table mark) >>= λ range.
     Some (operation_of i (Function range) is_visible all)
 
--- a function; the point is inside its declaration
+-- a function, in a region of its own
 abbrev pub function_of : Table → ScopeView → Bool → Identifier → List t.Parameter → Name → Option OperationShape
 function_of table scope is_visible i parameters mark = function_in table (entered scope) is_visible i parameters mark
 

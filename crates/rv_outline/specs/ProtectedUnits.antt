@@ -60,15 +60,16 @@ pragma_outlined scope pragma draft =
 
 -- Operations and components
 
+-- the identifier of an operation isn't declared yet in its own profile (8.2)
 abbrev pub operation_outlined : ScopeView → Bool → OperationDeclaration → Draft → Draft
 operation_outlined scope is_visible (a_pragma pragma) draft = pragma_outlined scope pragma draft
 operation_outlined scope is_visible (a_function at i parameters mark) draft =
-    noted (function_of draft.known (hiding i scope) is_visible i parameters mark) (adding_operation i) draft
+    noted (function_of draft.known scope is_visible i parameters mark) (adding_operation i) draft
 operation_outlined scope is_visible (a_procedure at i parameters aspects) draft =
     procedure_aspects_outlined (hiding i scope) i aspects
-    (noted (procedure_of draft.known (hiding i scope) is_visible i parameters) (adding_operation i) draft)
+    (noted (procedure_of draft.known scope is_visible i parameters) (adding_operation i) draft)
 operation_outlined scope is_visible (an_entry entry) draft =
-    noted (entry_of draft.known (hiding entry.name scope) is_visible entry.name entry.parameters)
+    noted (entry_of draft.known scope is_visible entry.name entry.parameters)
     (adding_operation entry.name) draft
 
 -- what stands before `private` is visible

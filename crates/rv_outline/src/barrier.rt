@@ -8,7 +8,8 @@ ghost use Rattle.rv_static.specs.Told.{told_unless};
 ghost use Rattle.rv_outline.specs.Barriers.{component_place as place_of_component, component_named as component_of_name, component_barrier as barrier_of_component, is_whole_boolean as whole_boolean, fixed_barrier as barrier_of_value, barrier_of};
 
 use crate::known::{Known, Table};
-use crate::point::{Point, whole_range};
+use crate::point::Point;
+use rv_names::library_meaning::whole_range;
 use rv_names::{Declared, Scope};
 use rv_shape::kind::{Barrier, Range, ValueType};
 use rv_static::{Faults, TypeFault, static_number};

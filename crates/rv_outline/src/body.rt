@@ -6,7 +6,7 @@ ghost use Rattle.rv_tree.specs.ExpressionView.{expression_view};
 ghost use Rattle.rv_tree.specs.DeclarationView.{parameter_view, protected_unit_view};
 ghost use Rattle.rv_tree.specs.BodyView.{operation_body_view, protected_body_view};
 ghost use Rattle.rv_tree.specs.UnitView.{body_item_view};
-ghost use Rattle.rv_names.specs.Scope.{OnlyDeclares, entered, within_unit};
+ghost use Rattle.rv_names.specs.Scope.{OnlyDeclares, in_body, within_unit};
 ghost use Rattle.rv_names.specs.ExpressionUses.{simple as simple_name};
 ghost use Rattle.rv_names.specs.Wanted.{denoted};
 ghost use Rattle.rv_names.specs.DeclarationUses.{with_parameters};
@@ -47,6 +47,7 @@ fn barrier_inside(
 
 // The barrier of an entry; or `None`, where a fault was told.
 fn entry_barrier(
+    declared: &Identifier,
     parameters: &Vec<Parameter>,
     condition: &Expression,
     scope: &mut Scope,
@@ -54,13 +55,13 @@ fn entry_barrier(
     faults: &mut Faults,
 ) -> Result<Option<Barrier>, AllocError>
     ensures value { IfOk result (λ found. found
-        ≡ barrier_of (with_parameters (map parameter_view parameters.now.items) (entered scope.old)) known.now (expression_view condition.now)) }
+        ≡ barrier_of (with_parameters (map parameter_view parameters.now.items) (in_body (identifier_view declared.now) scope.old)) known.now (expression_view condition.now)) }
     ensures told { IfOk result (λ found. faults.new ≡ told_unless found faults.old) }
     ensures scope { OnOk result (scope.new ≡ scope.old) }
 {
-    scope.enter()?;
+    let around = scope.enter_body(declared)?;
     let found = barrier_inside(parameters, condition, scope, known, faults)?;
-    scope.leave();
+    scope.leave_body(around);
     Ok(found)
 }
 
@@ -73,7 +74,7 @@ fn entry_body(
 ) -> Result<(), AllocError>
     ensures draft { OnOk result (draft.new
         ≡ entry_barred (denoted Wanted.EntryBody scope.old (simple_name (identifier_view declared.now)))
-        (barrier_of (with_parameters (map parameter_view parameters.now.items) (entered scope.old)) draft.old.known (expression_view condition.now))
+        (barrier_of (with_parameters (map parameter_view parameters.now.items) (in_body (identifier_view declared.now) scope.old)) draft.old.known (expression_view condition.now))
         draft.old) }
     ensures scope { OnOk result (scope.new ≡ scope.old) }
 {
@@ -82,7 +83,14 @@ fn entry_body(
         return Ok(());
     };
     let known = &draft.known;
-    match entry_barrier(parameters, condition, scope, known, &mut draft.faults)? {
+    match entry_barrier(
+        declared,
+        parameters,
+        condition,
+        scope,
+        known,
+        &mut draft.faults,
+    )? {
         None => Ok(()),
         Some(barrier) => draft.give_kind(at, Kind::Entry(barrier)),
     }

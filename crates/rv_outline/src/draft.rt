@@ -17,9 +17,15 @@ use std::marker::Model;
 
 /// The kinds of operations that aspects, pragmas and bodies give them, by the places of their identifiers: of handlers
 /// (C.3.1), and of entries with their barriers (9.5.2).
-#[derive(Drop)]
 pub(crate) struct Kinds {
     kinds: IndexMap<usize, Kind>,
+}
+
+impl Drop for Kinds {
+    // A function of its own: a derived one is written out wherever a value is let go, and proved there.
+    fn drop(self) {
+        let Kinds { kinds: _ } = self;
+    }
 }
 
 impl Model for Kinds {
@@ -55,10 +61,19 @@ impl Kinds {
 }
 
 /// An operation of a protected unit, with the place of its identifier.
-#[derive(Drop)]
 pub(crate) struct OperationDraft {
     pub(crate) at: usize,
     pub(crate) operation: Operation,
+}
+
+impl Drop for OperationDraft {
+    // A function of its own: a derived one is written out wherever a value is let go, and proved there.
+    fn drop(self) {
+        let OperationDraft {
+            at: _,
+            operation: _,
+        } = self;
+    }
 }
 
 /// A protected unit or a task, as far as it is declared.
@@ -89,11 +104,21 @@ impl Model for UnitDraft {
 }
 
 /// An object of the package.
-#[derive(Drop)]
 pub(crate) struct ObjectDraft {
     pub(crate) name: String,
     pub(crate) is_visible: bool,
     pub(crate) of: ObjectType,
+}
+
+impl Drop for ObjectDraft {
+    // A function of its own: a derived one is written out wherever a value is let go, and proved there.
+    fn drop(self) {
+        let ObjectDraft {
+            name: _,
+            is_visible: _,
+            of: _,
+        } = self;
+    }
 }
 
 impl Model for ObjectDraft {

@@ -9,13 +9,11 @@
 
 mod barrier;
 mod body;
-pub mod context;
 mod declaration;
 mod draft;
 mod handler;
 pub mod known;
 pub mod outline;
-pub mod package;
 pub mod point;
 mod pragma;
 mod priority;

@@ -8,11 +8,11 @@ ghost use Rattle.rv_outline.specs.Declarations.{drafted};
 ghost use Rattle.rv_outline.specs.Shapes.{outline_of as outline_of_draft, outlined, shape_of};
 
 use crate::body::body_items;
-use crate::context::package_scope;
 use crate::declaration::declarations;
 use crate::draft::Draft;
 use crate::known::Table;
 use crate::shape::{objects, types, unit_shapes};
+use rv_names::context::package_scope;
 use rv_names::resolve::{Named, protected_units};
 use rv_shape::object::ProtectedObject;
 use rv_shape::shape::UnitShape;
@@ -55,13 +55,6 @@ impl Model for Outline {
 }
 
 impl Outline {
-    /// Whether a fault was told of a declaration.
-    pub fn is_told(&self) -> bool
-        ensures { result ≡ self.now.told }
-    {
-        self.told
-    }
-
     /// What is known of the declarations of the package, its protected units and their members, by the places of their
     /// identifiers.
     pub fn known(&self) -> &Table
@@ -107,7 +100,7 @@ fn draft(alloc: Global, named: &Named) -> Result<Draft, AllocError>
 {
     let tree = named.tree;
     let units = protected_units(alloc, tree)?;
-    let mut scope = package_scope(alloc, named)?;
+    let mut scope = package_scope(alloc, tree, named.catalogue)?;
     let mut draft = Draft::new(alloc, named.catalogue.objects());
     declarations(&tree.specification.declarations, &mut scope, &mut draft)?;
     body_items(&tree.body.items, units.as_slice(), &mut scope, &mut draft)?;

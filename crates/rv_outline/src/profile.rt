@@ -164,7 +164,7 @@ fn function_inside(
     Ok(Some(found))
 }
 
-/// A function, at the point inside its declaration; or `None`, where a fault was told.
+/// A function, at the point where its declaration begins; or `None`, where a fault was told.
 pub(crate) fn function(
     alloc: Global,
     heading: &Heading,
@@ -205,7 +205,7 @@ fn callable_inside(
     Ok(Some(found))
 }
 
-/// A procedure or an entry, at the point inside its declaration; or `None`, where a fault was told.
+/// A procedure or an entry, at the point where its declaration begins; or `None`, where a fault was told.
 pub(crate) fn callable(
     alloc: Global,
     kind: Kind,

@@ -51,16 +51,16 @@ fn function_declaration(
     draft: &mut Draft,
 ) -> Result<(), AllocError>
     ensures draft { OnOk result (draft.new
-        ≡ noted (function_of draft.old.known (hiding (identifier_view heading.now.declared.now) scope.old) heading.now.is_visible
+        ≡ noted (function_of draft.old.known scope.old heading.now.is_visible
         (identifier_view heading.now.declared.now) (map parameter_view heading.now.parameters.now.items) (name_view mark.now))
         (adding_operation (identifier_view heading.now.declared.now)) draft.old) }
     ensures scope { OnOk result (scope.new ≡ declaring_operation OperationKind.Function (identifier_view heading.now.declared.now)
         (hiding (identifier_view heading.now.declared.now) scope.old)) }
 {
-    hide(heading.declared, scope)?;
     let known = &draft.known;
     let found = function(draft.alloc, heading, mark, scope, known, &mut draft.faults)?;
     add_operation(heading.declared, found, draft)?;
+    hide(heading.declared, scope)?;
     declare_operation(heading.declared, OperationKind::Function, scope)
 }
 
@@ -74,13 +74,12 @@ fn procedure_declaration(
     ensures draft { OnOk result (draft.new
         ≡ procedure_aspects_outlined (hiding (identifier_view heading.now.declared.now) scope.old)
         (identifier_view heading.now.declared.now) (map aspect_view given.now.items)
-        (noted (procedure_of draft.old.known (hiding (identifier_view heading.now.declared.now) scope.old) heading.now.is_visible
+        (noted (procedure_of draft.old.known scope.old heading.now.is_visible
         (identifier_view heading.now.declared.now) (map parameter_view heading.now.parameters.now.items))
         (adding_operation (identifier_view heading.now.declared.now)) draft.old)) }
     ensures scope { OnOk result (scope.new ≡ declaring_operation OperationKind.Procedure (identifier_view heading.now.declared.now)
         (hiding (identifier_view heading.now.declared.now) scope.old)) }
 {
-    hide(heading.declared, scope)?;
     let known = &draft.known;
     let found = callable(
         draft.alloc,
@@ -91,6 +90,7 @@ fn procedure_declaration(
         &mut draft.faults,
     )?;
     add_operation(heading.declared, found, draft)?;
+    hide(heading.declared, scope)?;
     procedure_aspects(heading.declared, given, scope, draft)?;
     declare_operation(heading.declared, OperationKind::Procedure, scope)
 }
@@ -102,17 +102,17 @@ fn entry_declaration(
     draft: &mut Draft,
 ) -> Result<(), AllocError>
     ensures draft { OnOk result (draft.new
-        ≡ noted (entry_of draft.old.known (hiding (identifier_view heading.now.declared.now) scope.old) heading.now.is_visible
+        ≡ noted (entry_of draft.old.known scope.old heading.now.is_visible
         (identifier_view heading.now.declared.now) (map parameter_view heading.now.parameters.now.items))
         (adding_operation (identifier_view heading.now.declared.now)) draft.old) }
     ensures scope { OnOk result (scope.new ≡ declaring_operation OperationKind.Entry (identifier_view heading.now.declared.now)
         (hiding (identifier_view heading.now.declared.now) scope.old)) }
 {
-    hide(heading.declared, scope)?;
     let known = &draft.known;
     let kind = Kind::Entry(Barrier::AlwaysClosed);
     let found = callable(draft.alloc, kind, heading, scope, known, &mut draft.faults)?;
     add_operation(heading.declared, found, draft)?;
+    hide(heading.declared, scope)?;
     declare_operation(heading.declared, OperationKind::Entry, scope)
 }
 

@@ -1,2 +1,3 @@
+pub mod Behind
 pub mod FirstOf
 pub mod Noted

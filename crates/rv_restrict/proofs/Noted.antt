@@ -202,30 +202,30 @@ declaration_keeps (a_task t) = task_keeps t
 declaration_keeps (a_variable names mark) = none_kept
 declaration_keeps (a_constant names mark e) = expression_keeps e
 
-local_keeps : (tree : UnitTree) (locals : List Local) (l : Local) → Keeps (local_noted earlier tree locals l) (local_noted all tree locals l)
-local_keeps tree locals (an_object names is_constant mark range start) =
-    kept_unless (not (names_protected_type tree locals mark)) NoLocalProtectedObjects (first_place names)
+local_keeps : (tree : UnitTree) (unit : List ℕ) (parameters : List Parameter) (locals : List Local) (l : Local) → Keeps (local_noted earlier tree unit parameters locals l) (local_noted all tree unit parameters locals l)
+local_keeps tree unit parameters locals (an_object names is_constant mark range start) =
+    kept_unless (not (names_protected_type tree unit parameters locals mark)) NoLocalProtectedObjects (first_place names)
     and maybe_range_keeps range and maybe_expression_keeps start
-local_keeps tree locals (local_pragma p) = pragma_keeps p
-local_keeps tree locals (local_protected_unit u) = kept_unless u.is_type NoLocalProtectedObjects u.at and protected_keeps u
-local_keeps tree locals (local_task t) = one_kept NoTaskHierarchy t.at and task_keeps t
+local_keeps tree unit parameters locals (local_pragma p) = pragma_keeps p
+local_keeps tree unit parameters locals (local_protected_unit u) = kept_unless u.is_type NoLocalProtectedObjects u.at and protected_keeps u
+local_keeps tree unit parameters locals (local_task t) = one_kept NoTaskHierarchy t.at and task_keeps t
 
 handler_keeps : (h : Handler) → Keeps (handler_noted earlier h) (handler_noted all h)
 handler_keeps h = statements_keeps h.statements
 
-block_keeps : (tree : UnitTree) (b : Block) → Keeps (block_noted earlier tree b) (block_noted all tree b)
+block_keeps : (tree : UnitTree) (unit : List ℕ) (parameters : List Parameter) (b : Block) → Keeps (block_noted earlier tree unit parameters b) (block_noted all tree unit parameters b)
 unfolding block_noted
-block_keeps tree b =
-    each_keeps (local_noted earlier tree b.locals) (local_noted all tree b.locals) (local_keeps tree b.locals) b.locals
+block_keeps tree unit parameters b =
+    each_keeps (local_noted earlier tree unit parameters b.locals) (local_noted all tree unit parameters b.locals) (local_keeps tree unit parameters b.locals) b.locals
     and statements_keeps b.statements and each_keeps (handler_noted earlier) (handler_noted all) handler_keeps b.handlers
 
 barrier_keeps : (tree : UnitTree) (unit : List ℕ) (parameters : List Parameter) (e : Expression) → Keeps (barrier_noted earlier tree unit parameters e) (barrier_noted all tree unit parameters e)
 barrier_keeps tree unit parameters e = kept_unless (is_simple_barrier tree unit parameters e) SimpleBarriers (expression_place e) and expression_keeps e
 
 operation_body_keeps : (tree : UnitTree) (unit : List ℕ) (o : OperationBody) → Keeps (operation_body_noted earlier tree unit o) (operation_body_noted all tree unit o)
-operation_body_keeps tree unit (function_body at i parameters mark b) = block_keeps tree b
-operation_body_keeps tree unit (procedure_body at i parameters b) = block_keeps tree b
-operation_body_keeps tree unit (entry_body at i parameters barrier b) = barrier_keeps tree unit parameters barrier and block_keeps tree b
+operation_body_keeps tree unit (function_body at i parameters mark b) = block_keeps tree unit parameters b
+operation_body_keeps tree unit (procedure_body at i parameters b) = block_keeps tree unit parameters b
+operation_body_keeps tree unit (entry_body at i parameters barrier b) = barrier_keeps tree unit parameters barrier and block_keeps tree unit parameters b
 
 protected_body_keeps : (tree : UnitTree) (b : ProtectedBody) → Keeps (protected_body_noted earlier tree b) (protected_body_noted all tree b)
 protected_body_keeps tree b =
@@ -235,7 +235,7 @@ protected_body_keeps tree b =
 item_keeps : (tree : UnitTree) (i : BodyItem) → Keeps (item_noted earlier tree i) (item_noted all tree i)
 item_keeps tree (body_declaration d) = declaration_keeps d
 item_keeps tree (body_protected b) = protected_body_keeps tree b
-item_keeps tree (body_task b) = block_keeps tree b.block
+item_keeps tree (body_task b) = block_keeps tree b.name.text [] b.block
 
 with_keeps : (n : Name) → Keeps (with_noted earlier n) (with_noted all n)
 unfolding with_noted

@@ -5,15 +5,7 @@ use Rattle.rv_tree.specs.Names.{Identifier, Name}
 use Rattle.rv_tree.specs.Expressions.{Expression, literal, name, attribute, call, parenthesized, highest, product, signed, sum, relation, logical, Expressions, no_expressions, and_expression, Factors, no_factors, and_factor, Terms, no_terms, and_term}
 use Rattle.rv_tree.specs.Declarations.{Parameter, Declaration}
 use Rattle.rv_tree.specs.Units.{UnitTree}
-use Rattle.rv_restrict.specs.Scope.{is_parameter, declared, is_declaration, unit_of, is_fixed, has_component, declares_inside}
-
--- a parameter of the entry or a declaration of its protected unit hides what the package or another one declares by this name
-abbrev pub is_hidden : UnitTree → List ℕ → List Parameter → List ℕ → Bool
-is_hidden tree unit parameters n = is_parameter n parameters || declares_inside (unit_of (declared tree unit)) n
-
--- nor does the package declare the name, so that it is that of a package
-abbrev pub is_package_name : UnitTree → List ℕ → List Parameter → List ℕ → Bool
-is_package_name tree unit parameters n = not (is_hidden tree unit parameters n) && not (is_declaration (declared tree n))
+use Rattle.rv_restrict.specs.Scope.{is_parameter, declared, unit_of, is_fixed, has_component, is_hidden, is_package_name}
 
 -- `C`, `P.C` or `Unit.P.C` for a component C of the protected unit P
 abbrev pub component_named : UnitTree → List ℕ → List Parameter → List ℕ → List Identifier → Bool

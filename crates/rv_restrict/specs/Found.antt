@@ -1,5 +1,5 @@
 -- Violations, and the first of them in the order of the text (own).
-use Rattle.std.specs.Prelude.{ℕ, Bool, nat_lt, ◌==◌, if◌then◌else◌, List, [], ◌∷◌, Option, Some, None}
+use Rattle.std.specs.Prelude.{ℕ, Bool, false, nat_lt, ◌==◌, if◌then◌else◌, List, [], ◌∷◌, Option, Some, None}
 use Rattle.rv_restrict.specs.declared.violation.Restriction.{Restriction}
 use Rattle.rv_restrict.specs.declared.violation.Restriction.TheVariants.{NoAbortStatements, NoRequeueStatements, NoSelectStatements, NoRelativeDelay, NoLocalProtectedObjects, NoTaskHierarchy, MaxProtectedEntries, MaxTaskEntries, SimpleBarriers, NoDynamicPriorities, NoDependence}
 use Rattle.rv_restrict.specs.declared.violation.Violation.{Violation}
@@ -57,6 +57,11 @@ each_noted violations (part ∷ parts) = violations part ▷ each_noted violatio
 abbrev pub earlier : Violation → Option Violation → Option Violation
 earlier v None = Some v
 earlier v (Some w) = if precedes w v then Some w else Some v
+
+-- a violation that was noted before this one precedes it
+abbrev pub is_behind : Violation → Option Violation → Bool
+is_behind v None = false
+is_behind v (Some w) = precedes w v
 
 -- the first of these
 abbrev pub first_of : List Violation → Option Violation

@@ -1,5 +1,5 @@
 -- What a package and its protected units declare, by name (ISO/IEC 8652:2012, 8.3).
-use Rattle.std.specs.Prelude.{ℕ, Bool, true, false, ◌||◌, ◌&&◌, if◌then◌else◌, List, [], ◌∷◌, Option, Some, None}
+use Rattle.std.specs.Prelude.{ℕ, nat_lt, Bool, true, false, ◌||◌, ◌&&◌, not, if◌then◌else◌, List, [], ◌∷◌, Option, Some, None}
 use Rattle.rv_text.specs.Names.{is_same_name}
 use Rattle.rv_tree.specs.Names.{Identifier, Name}
 use Rattle.rv_tree.specs.Declarations.{Parameter, OperationDeclaration, a_pragma, a_function, a_procedure, an_entry, ProtectedElement, an_operation, a_component, ProtectedUnit, Declaration, package_pragma, a_subtype, a_protected_unit, a_task, a_variable, a_constant}
@@ -71,11 +71,6 @@ is_fixed (Some (a_task t)) = false
 is_fixed (Some (a_variable names mark)) = false
 is_fixed (Some (a_constant names mark e)) = true
 
--- it is a protected type
-abbrev pub is_type : Option ProtectedUnit → Bool
-is_type None = false
-is_type (Some u) = u.is_type
-
 -- an operation has the name
 abbrev pub is_operation : List ℕ → OperationDeclaration → Bool
 is_operation n (a_pragma p) = false
@@ -120,21 +115,61 @@ abbrev pub declares_inside : Option ProtectedUnit → List ℕ → Bool
 declares_inside None n = false
 declares_inside (Some u) n = is_among_operations n u.operations || is_among_elements n (elements_of u.private)
 
--- a block declares a protected type of this name
-abbrev pub is_local_type : List ℕ → List Local → Bool
-is_local_type n [] = false
-is_local_type n (an_object names is_constant mark range value ∷ more) = is_local_type n more
-is_local_type n (local_pragma p ∷ more) = is_local_type n more
-is_local_type n (local_protected_unit u ∷ more) = (u.is_type && is_same_name u.name.text n) || is_local_type n more
-is_local_type n (local_task t ∷ more) = is_local_type n more
+-- a parameter of the operation or a declaration of its protected unit hides what the package or another one declares by this
+-- name; in a task there is neither
+abbrev pub is_hidden : UnitTree → List ℕ → List Parameter → List ℕ → Bool
+is_hidden tree unit parameters n = is_parameter n parameters || declares_inside (unit_of (declared tree unit)) n
 
--- what a mark behind `Unit.` names
-abbrev pub type_named : UnitTree → List Local → List ℕ → List Identifier → Bool
-type_named tree locals first [] = is_type (unit_of (declared tree first)) || is_local_type first locals
-type_named tree locals first (i ∷ []) =
-    is_same_name first tree.specification.name.text && is_type (unit_of (declared tree i.text))
-type_named tree locals first (i ∷ j ∷ more) = false
+-- nor does the package declare the name, so that it is that of a package
+abbrev pub is_package_name : UnitTree → List ℕ → List Parameter → List ℕ → Bool
+is_package_name tree unit parameters n = not (is_hidden tree unit parameters n) && not (is_declaration (declared tree n))
 
--- a mark names a protected type of the package or of this block, as `Type` or `Unit.Type`
-unfoldable pub names_protected_type : UnitTree → List Local → Name → Bool
-names_protected_type tree locals mark = type_named tree locals mark.first.text mark.more
+-- a name is among these, before a place
+abbrev pub is_among_before : ℕ → List ℕ → List Identifier → Bool
+is_among_before at n [] = false
+is_among_before at n (i ∷ more) = (nat_lt i.at at && is_same_name i.text n) || is_among_before at n more
+
+-- a declaration of a block has the name, before a place
+abbrev pub is_local : ℕ → List ℕ → Local → Bool
+is_local at n (an_object names is_constant mark range value) = is_among_before at n names
+is_local at n (local_pragma p) = false
+is_local at n (local_protected_unit u) = nat_lt u.name.at at && is_same_name u.name.text n
+is_local at n (local_task t) = nat_lt t.name.at at && is_same_name t.name.text n
+
+-- a declaration of the block before a place hides the name
+abbrev pub is_among_locals : ℕ → List ℕ → List Local → Bool
+is_among_locals at n [] = false
+is_among_locals at n (one ∷ more) = is_local at n one || is_among_locals at n more
+
+-- it is a protected type of this name, before a place
+abbrev pub is_local_type : ℕ → List ℕ → Local → Bool
+is_local_type at n (an_object names is_constant mark range value) = false
+is_local_type at n (local_pragma p) = false
+is_local_type at n (local_protected_unit u) = u.is_type && nat_lt u.name.at at && is_same_name u.name.text n
+is_local_type at n (local_task t) = false
+
+abbrev pub is_among_local_types : ℕ → List ℕ → List Local → Bool
+is_among_local_types at n [] = false
+is_among_local_types at n (one ∷ more) = is_local_type at n one || is_among_local_types at n more
+
+-- the protected unit is a type that is declared before a place
+abbrev pub is_type_before : ℕ → Option ProtectedUnit → Bool
+is_type_before at None = false
+is_type_before at (Some u) = u.is_type && nat_lt u.name.at at
+
+-- what a mark names in a block with these declarations: alone the block's own type, else the package's that nothing hides; behind
+-- the name of the package, which nothing hides either, the package's
+abbrev pub type_named : UnitTree → List ℕ → List Parameter → List Local → Name → List Identifier → Bool
+type_named tree unit parameters locals mark [] =
+    is_among_local_types mark.first.at mark.first.text locals
+    || (is_type_before mark.first.at (unit_of (declared tree mark.first.text))
+    && not (is_hidden tree unit parameters mark.first.text) && not (is_among_locals mark.first.at mark.first.text locals))
+type_named tree unit parameters locals mark (i ∷ []) =
+    is_same_name mark.first.text tree.specification.name.text && is_type_before mark.first.at (unit_of (declared tree i.text))
+    && is_package_name tree unit parameters mark.first.text && not (is_among_locals mark.first.at mark.first.text locals)
+type_named tree unit parameters locals mark (i ∷ j ∷ more) = false
+
+-- a mark names a protected type of the package or of its block, as `Type` or `Unit.Type`, in the body of an operation with
+-- these parameters of the protected unit of this name, or of the task of this name
+unfoldable pub names_protected_type : UnitTree → List ℕ → List Parameter → List Local → Name → Bool
+names_protected_type tree unit parameters locals mark = type_named tree unit parameters locals mark mark.more

@@ -21,21 +21,22 @@ first_place [] = 0
 first_place (i ∷ more) = i.at
 
 -- a declaration of a block
-abbrev pub local_noted : {A : Type 0} → Note A → UnitTree → List Local → Local → A → A
-local_noted note tree locals (an_object names is_constant mark range value) =
-    broken_unless note (not (names_protected_type tree locals mark)) NoLocalProtectedObjects (first_place names)
+abbrev pub local_noted : {A : Type 0} → Note A → UnitTree → List ℕ → List Parameter → List Local → Local → A → A
+local_noted note tree unit parameters locals (an_object names is_constant mark range value) =
+    broken_unless note (not (names_protected_type tree unit parameters locals mark)) NoLocalProtectedObjects (first_place names)
     ▷ maybe_noted (range_noted note) range ▷ maybe_noted (expression_noted note) value
-local_noted note tree locals (local_pragma p) = pragma_noted note p
-local_noted note tree locals (local_protected_unit u) =
+local_noted note tree unit parameters locals (local_pragma p) = pragma_noted note p
+local_noted note tree unit parameters locals (local_protected_unit u) =
     broken_unless note u.is_type NoLocalProtectedObjects u.at ▷ protected_noted note u
-local_noted note tree locals (local_task t) = broken note NoTaskHierarchy t.at ▷ task_noted note t
+local_noted note tree unit parameters locals (local_task t) = broken note NoTaskHierarchy t.at ▷ task_noted note t
 
 abbrev pub handler_noted : {A : Type 0} → Note A → Handler → A → A
 handler_noted note h = statements_noted note h.statements
 
-unfoldable pub block_noted : {A : Type 0} → Note A → UnitTree → Block → A → A
-block_noted note tree b =
-    each_noted (local_noted note tree b.locals) b.locals ▷ statements_noted note b.statements
+-- a block in the body of an operation with these parameters of the protected unit of this name, or of the task of this name
+unfoldable pub block_noted : {A : Type 0} → Note A → UnitTree → List ℕ → List Parameter → Block → A → A
+block_noted note tree unit parameters b =
+    each_noted (local_noted note tree unit parameters b.locals) b.locals ▷ statements_noted note b.statements
     ▷ each_noted (handler_noted note) b.handlers
 
 -- the barrier of an entry with these parameters
@@ -45,17 +46,17 @@ barrier_noted note tree unit parameters e =
 
 -- the body of an operation of the protected unit of this name
 abbrev pub operation_body_noted : {A : Type 0} → Note A → UnitTree → List ℕ → OperationBody → A → A
-operation_body_noted note tree unit (function_body at i parameters mark b) = block_noted note tree b
-operation_body_noted note tree unit (procedure_body at i parameters b) = block_noted note tree b
+operation_body_noted note tree unit (function_body at i parameters mark b) = block_noted note tree unit parameters b
+operation_body_noted note tree unit (procedure_body at i parameters b) = block_noted note tree unit parameters b
 operation_body_noted note tree unit (entry_body at i parameters barrier b) =
-    barrier_noted note tree unit parameters barrier ▷ block_noted note tree b
+    barrier_noted note tree unit parameters barrier ▷ block_noted note tree unit parameters b
 
 abbrev pub protected_body_noted : {A : Type 0} → Note A → UnitTree → ProtectedBody → A → A
 protected_body_noted note tree b =
     each_noted (operation_body_noted note tree b.name.text) b.operations
 
 abbrev pub task_body_noted : {A : Type 0} → Note A → UnitTree → TaskBody → A → A
-task_body_noted note tree b = block_noted note tree b.block
+task_body_noted note tree b = block_noted note tree b.name.text [] b.block
 
 abbrev pub item_noted : {A : Type 0} → Note A → UnitTree → BodyItem → A → A
 item_noted note tree (body_declaration d) = declaration_noted note d

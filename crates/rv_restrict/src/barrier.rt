@@ -6,39 +6,24 @@ ghost use Rattle.rv_tree.specs.Expressions.{expressions_of, factors_of, terms_of
 ghost use Rattle.rv_tree.specs.ExpressionView.{expression_view, expressions_view, factors_view, terms_view};
 ghost use Rattle.rv_tree.specs.DeclarationView.{parameter_view};
 ghost use Rattle.rv_tree.specs.UnitView.{unit_view};
-ghost use Rattle.rv_restrict.specs.Scope.{declared, is_declaration};
-ghost use Rattle.rv_restrict.specs.Barriers.{is_hidden, is_package_name, component_named, is_of_standard, is_of_system, is_fixed_or_library, is_fixed_of, constant_named, is_constant, never_changes, never_change, factors_never_change, terms_never_change, is_component_name, is_simple_barrier};
+ghost use Rattle.rv_restrict.specs.Scope.{declared};
+ghost use Rattle.rv_restrict.specs.Barriers.{component_named, is_of_standard, is_of_system, is_fixed_or_library, is_fixed_of, constant_named, is_constant, never_changes, never_change, factors_never_change, terms_never_change, is_component_name, is_simple_barrier};
 
-use crate::declared::{declared, declares_inside, has_component, is_fixed, is_parameter};
+use crate::declared::{
+    declared, has_component, is_fixed, is_hidden, is_package_name, is_parameter,
+};
 use rv_text::is_same_name;
 use rv_tree::{Expression, Factor, Identifier, Name, Parameter, Term, UnitTree};
-
-// Whether a parameter of the entry or a declaration of its protected unit hides this name.
-fn is_hidden(tree: &UnitTree, unit: &str, parameters: &Vec<Parameter>, name: &str) -> bool
-    ensures { result ≡ is_hidden (unit_view tree.now) unit.now (map parameter_view parameters.now.items) name.now }
-{
-    is_parameter(name, parameters) || declares_inside(tree, unit, name)
-}
-
-// Whether the name is that of a package: nothing in this one hides it.
-fn is_package_name(tree: &UnitTree, unit: &str, parameters: &Vec<Parameter>, name: &str) -> bool
-    ensures { result ≡ is_package_name (unit_view tree.now) unit.now (map parameter_view parameters.now.items) name.now }
-{
-    if is_hidden(tree, unit, parameters, name) {
-        return false;
-    }
-    declared(tree, name).is_none()
-}
 
 // Whether it is `C`, `P.C` or `Unit.P.C` for a component C of the protected unit P.
 fn is_component(
     tree: &UnitTree,
     unit: &str,
-    parameters: &Vec<Parameter>,
+    parameters: &[Parameter],
     first: &str,
     more: &[Identifier],
 ) -> bool
-    ensures { result ≡ component_named (unit_view tree.now) unit.now (map parameter_view parameters.now.items) first.now (map identifier_view more.now) }
+    ensures { result ≡ component_named (unit_view tree.now) unit.now (map parameter_view parameters.now) first.now (map identifier_view more.now) }
 {
     match more {
         [] => has_component(tree, unit, first) && !is_parameter(first, parameters),
@@ -104,8 +89,8 @@ fn is_fixed_of(tree: &UnitTree, prefix: &str, name: &str) -> bool
 
 // Whether the name is that of True, False, a constant or a subtype.
 #[tactic(auto, unfolding(crate::specs::Barriers::is_constant))]
-fn is_constant(tree: &UnitTree, unit: &str, parameters: &Vec<Parameter>, name: &Name) -> bool
-    ensures { result ≡ is_constant (unit_view tree.now) unit.now (map parameter_view parameters.now.items) (name_view name.now) }
+fn is_constant(tree: &UnitTree, unit: &str, parameters: &[Parameter], name: &Name) -> bool
+    ensures { result ≡ is_constant (unit_view tree.now) unit.now (map parameter_view parameters.now) (name_view name.now) }
 {
     let first = name.first.text.as_str();
     match name.more.as_slice() {
@@ -120,8 +105,8 @@ fn is_constant(tree: &UnitTree, unit: &str, parameters: &Vec<Parameter>, name: &
 
 // Whether all names of an expression are such.
 #[cycle(never_changes)]
-fn never_changes(tree: &UnitTree, unit: &str, parameters: &Vec<Parameter>, e: &Expression) -> bool
-    ensures { result ≡ never_changes (is_constant (unit_view tree.now) unit.now (map parameter_view parameters.now.items)) (expression_view e.now) }
+fn never_changes(tree: &UnitTree, unit: &str, parameters: &[Parameter], e: &Expression) -> bool
+    ensures { result ≡ never_changes (is_constant (unit_view tree.now) unit.now (map parameter_view parameters.now)) (expression_view e.now) }
 {
     match e {
         Expression::Literal(_, _) => true,
@@ -154,13 +139,8 @@ fn never_changes(tree: &UnitTree, unit: &str, parameters: &Vec<Parameter>, e: &E
 }
 
 #[cycle(never_changes)]
-fn never_change(
-    tree: &UnitTree,
-    unit: &str,
-    parameters: &Vec<Parameter>,
-    es: &Vec<Expression>,
-) -> bool
-    ensures { result ≡ never_change (is_constant (unit_view tree.now) unit.now (map parameter_view parameters.now.items)) (expressions_of (expressions_view es.now.items)) }
+fn never_change(tree: &UnitTree, unit: &str, parameters: &[Parameter], es: &Vec<Expression>) -> bool
+    ensures { result ≡ never_change (is_constant (unit_view tree.now) unit.now (map parameter_view parameters.now)) (expressions_of (expressions_view es.now.items)) }
 {
     for e in es {
         if !never_changes(tree, unit, parameters, e) {
@@ -174,10 +154,10 @@ fn never_change(
 fn factors_never_change(
     tree: &UnitTree,
     unit: &str,
-    parameters: &Vec<Parameter>,
+    parameters: &[Parameter],
     more: &Vec<Factor>,
 ) -> bool
-    ensures { result ≡ factors_never_change (is_constant (unit_view tree.now) unit.now (map parameter_view parameters.now.items)) (factors_of (factors_view more.now.items)) }
+    ensures { result ≡ factors_never_change (is_constant (unit_view tree.now) unit.now (map parameter_view parameters.now)) (factors_of (factors_view more.now.items)) }
 {
     for factor in more {
         if !never_changes(tree, unit, parameters, &factor.operand) {
@@ -191,10 +171,10 @@ fn factors_never_change(
 fn terms_never_change(
     tree: &UnitTree,
     unit: &str,
-    parameters: &Vec<Parameter>,
+    parameters: &[Parameter],
     more: &Vec<Term>,
 ) -> bool
-    ensures { result ≡ terms_never_change (is_constant (unit_view tree.now) unit.now (map parameter_view parameters.now.items)) (terms_of (terms_view more.now.items)) }
+    ensures { result ≡ terms_never_change (is_constant (unit_view tree.now) unit.now (map parameter_view parameters.now)) (terms_of (terms_view more.now.items)) }
 {
     for term in more {
         if !never_changes(tree, unit, parameters, &term.operand) {
@@ -205,13 +185,8 @@ fn terms_never_change(
 }
 
 // Whether an expression is a component's name.
-fn is_component_name(
-    tree: &UnitTree,
-    unit: &str,
-    parameters: &Vec<Parameter>,
-    e: &Expression,
-) -> bool
-    ensures { result ≡ is_component_name (unit_view tree.now) unit.now (map parameter_view parameters.now.items) (expression_view e.now) }
+fn is_component_name(tree: &UnitTree, unit: &str, parameters: &[Parameter], e: &Expression) -> bool
+    ensures { result ≡ is_component_name (unit_view tree.now) unit.now (map parameter_view parameters.now) (expression_view e.now) }
 {
     match e {
         Expression::Name(name) => is_component(
@@ -230,10 +205,10 @@ fn is_component_name(
 pub(crate) fn is_simple_barrier(
     tree: &UnitTree,
     unit: &str,
-    parameters: &Vec<Parameter>,
+    parameters: &[Parameter],
     e: &Expression,
 ) -> bool
-    ensures { result ≡ is_simple_barrier (unit_view tree.now) unit.now (map parameter_view parameters.now.items) (expression_view e.now) }
+    ensures { result ≡ is_simple_barrier (unit_view tree.now) unit.now (map parameter_view parameters.now) (expression_view e.now) }
 {
     is_component_name(tree, unit, parameters, e) || never_changes(tree, unit, parameters, e)
 }

@@ -1,16 +1,15 @@
 //! What a package and its protected units declare, by name.
 
 ghost use Rattle.std.specs.Prelude.{◌≡◌, map};
-ghost use Rattle.rv_tree.specs.NameView.{identifier_view, identifiers_view, name_view};
+ghost use Rattle.rv_tree.specs.NameView.{identifier_view, identifiers_view};
 ghost use Rattle.rv_tree.specs.DeclarationView.{maybe, parameter_view, operation_view, element_view, protected_unit_view, declaration_view};
-ghost use Rattle.rv_tree.specs.BodyView.{local_view};
 ghost use Rattle.rv_tree.specs.UnitView.{body_item_view, unit_view};
-ghost use Rattle.rv_restrict.specs.Scope.{is_among, is_parameter, declares, first_declared, declarations_of, declared, unit_of, is_fixed, is_type, is_operation, is_among_operations, is_element, is_among_elements, is_component, is_among_components, has_component, declares_inside, is_local_type, type_named, names_protected_type};
+ghost use Rattle.rv_restrict.specs.Scope.{is_among, is_parameter, declares, first_declared, declarations_of, declared, unit_of, is_fixed, is_operation, is_among_operations, is_element, is_among_elements, is_component, is_among_components, has_component, declares_inside, is_declaration, is_hidden, is_package_name};
 
 use rv_text::is_same_name;
 use rv_tree::{
-    BodyItem, Declaration, Identifier, Local, Name, OperationDeclaration, Parameter,
-    ProtectedElement, ProtectedUnit, UnitTree,
+    BodyItem, Declaration, Identifier, OperationDeclaration, Parameter, ProtectedElement,
+    ProtectedUnit, UnitTree,
 };
 
 // Whether a name is among these.
@@ -26,8 +25,8 @@ fn is_among(name: &str, names: &Vec<Identifier>) -> bool
 }
 
 // Whether a parameter has the name.
-pub(crate) fn is_parameter(name: &str, parameters: &Vec<Parameter>) -> bool
-    ensures { result ≡ is_parameter name.now (map parameter_view parameters.now.items) }
+pub(crate) fn is_parameter(name: &str, parameters: &[Parameter]) -> bool
+    ensures { result ≡ is_parameter name.now (map parameter_view parameters.now) }
 {
     for parameter in parameters {
         if is_among(name, &parameter.names) {
@@ -98,7 +97,7 @@ pub(crate) fn declared<'a>(tree: &'a UnitTree, name: &str) -> Option<&'a Declara
 }
 
 // The protected unit that the package declares by this name.
-fn protected_unit<'a>(tree: &'a UnitTree, name: &str) -> Option<&'a ProtectedUnit>
+pub(crate) fn protected_unit<'a>(tree: &'a UnitTree, name: &str) -> Option<&'a ProtectedUnit>
     ensures { maybe (λ u. protected_unit_view u.now) result ≡ unit_of (declared (unit_view tree.now) name.now) }
 {
     match declared(tree, name) {
@@ -229,42 +228,24 @@ pub(crate) fn declares_inside(tree: &UnitTree, unit: &str, name: &str) -> bool
     }
 }
 
-// Whether the package declares a protected type by this name.
-fn is_type(tree: &UnitTree, name: &str) -> bool
-    ensures { result ≡ is_type (unit_of (declared (unit_view tree.now) name.now)) }
+// Whether a parameter of an operation or a declaration of its protected unit hides this name.
+pub(crate) fn is_hidden(tree: &UnitTree, unit: &str, parameters: &[Parameter], name: &str) -> bool
+    ensures { result ≡ is_hidden (unit_view tree.now) unit.now (map parameter_view parameters.now) name.now }
 {
-    match protected_unit(tree, name) {
-        Some(unit) => unit.is_type,
-        None => false,
-    }
+    is_parameter(name, parameters) || declares_inside(tree, unit, name)
 }
 
-// Whether a block declares a protected type by this name.
-fn is_local_type(name: &str, locals: &Vec<Local>) -> bool
-    ensures { result ≡ is_local_type name.now (map local_view locals.now.items) }
+// Whether the name is that of a package: nothing in this one hides it.
+pub(crate) fn is_package_name(
+    tree: &UnitTree,
+    unit: &str,
+    parameters: &[Parameter],
+    name: &str,
+) -> bool
+    ensures { result ≡ is_package_name (unit_view tree.now) unit.now (map parameter_view parameters.now) name.now }
 {
-    for local in locals {
-        if let Local::Protected(unit) = local {
-            if unit.is_type && is_same_name(unit.name.text.as_str(), name) {
-                return true;
-            }
-        }
+    if is_hidden(tree, unit, parameters, name) {
+        return false;
     }
-    false
-}
-
-// Whether a mark names a protected type of the package or of this block.
-#[tactic(auto, unfolding(crate::specs::Scope::names_protected_type))]
-pub(crate) fn names_protected_type(tree: &UnitTree, locals: &Vec<Local>, mark: &Name) -> bool
-    ensures { result ≡ names_protected_type (unit_view tree.now) (map local_view locals.now.items) (name_view mark.now) }
-{
-    let first = mark.first.text.as_str();
-    match mark.more.as_slice() {
-        [] => is_type(tree, first) || is_local_type(first, locals),
-        [inner] => {
-            is_same_name(first, tree.specification.name.text.as_str())
-                && is_type(tree, inner.text.as_str())
-        }
-        _ => false,
-    }
+    declared(tree, name).is_none()
 }

@@ -2,7 +2,7 @@
 
 ghost use Rattle.std.specs.Prelude.{◌≡◌, map, None};
 ghost use Rattle.rv_tree.specs.DeclarationView.{maybe};
-ghost use Rattle.rv_restrict.specs.Found.{broken, broken_unless, earlier, maybe_noted, each_noted};
+ghost use Rattle.rv_restrict.specs.Found.{broken, broken_unless, earlier, is_behind, maybe_noted, each_noted};
 
 use crate::violation::{Restriction, Violation};
 use std::marker::Model;
@@ -46,6 +46,16 @@ impl First {
                     self.violation = Some(violation);
                 }
             }
+        }
+    }
+
+    // Whether a violation that was noted before this one precedes it, so that this one changes nothing.
+    pub(crate) fn precedes(&self, violation: Violation) -> bool
+        ensures { result ≡ is_behind violation self.now }
+    {
+        match self.violation {
+            None => false,
+            Some(first) => first.precedes(violation),
         }
     }
 

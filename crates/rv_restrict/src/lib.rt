@@ -7,6 +7,7 @@ mod declared;
 mod dependence;
 mod expression;
 mod first;
+mod mark;
 mod statement;
 mod unit;
 pub mod violation;

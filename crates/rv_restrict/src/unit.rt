@@ -1,19 +1,21 @@
 //! Violations in blocks, bodies and whole units.
 
-ghost use Rattle.std.specs.Prelude.{◌≡◌, ◌↔◌, map, None, IfSome};
+ghost use Rattle.std.specs.Prelude.{◌≡◌, ◌↔◌, not, map, None, IfSome};
 ghost use Rattle.rv_tree.specs.NameView.{name_view, identifiers_view, names_view};
 ghost use Rattle.rv_tree.specs.ExpressionView.{expression_view};
 ghost use Rattle.rv_tree.specs.DeclarationView.{parameter_view};
 ghost use Rattle.rv_tree.specs.BodyView.{local_view, block_view, operation_body_view, protected_body_view};
 ghost use Rattle.rv_tree.specs.UnitView.{body_item_view, unit_view};
 ghost use Rattle.rv_restrict.specs.Conforms.{violations, Conforms, IsFirst};
-ghost use Rattle.rv_restrict.specs.Found.{earlier, first_of, each_noted};
+ghost use Rattle.rv_restrict.specs.Found.{earlier, broken_unless, first_of, each_noted};
+ghost use Rattle.rv_restrict.specs.Scope.{names_protected_type as protected_type_is_named};
+ghost use Rattle.rv_restrict.specs.declared.violation.Restriction.TheVariants.{NoLocalProtectedObjects};
 ghost use Rattle.rv_restrict.specs.UnitWalk.{first_place, local_noted, block_noted, barrier_noted, with_noted, operation_body_noted, protected_body_noted, item_noted, unit_noted};
 
 use crate::barrier::is_simple_barrier;
-use crate::declared::names_protected_type;
 use crate::dependence::{is_dynamic_priorities, is_excluded};
 use crate::first::{First, Judged};
+use crate::mark::names_protected_type;
 use crate::statement::statements;
 use crate::violation::{Restriction, Violation};
 use rv_tree::{
@@ -31,9 +33,40 @@ fn first_place(names: &Vec<Identifier>) -> usize
     }
 }
 
+// The mark of an object of a block, which isn't looked up behind a violation.
+#[tactic(auto, using(crate::proofs::Behind::unchanged))]
+fn local_mark(
+    tree: &UnitTree,
+    unit: &str,
+    parameters: &[Parameter],
+    locals: &Vec<Local>,
+    names: &Vec<Identifier>,
+    mark: &Name,
+    first: &mut First,
+)
+    ensures { first.new ≡ broken_unless earlier
+        (not (protected_type_is_named (unit_view tree.now) unit.now (map parameter_view parameters.now) (map local_view locals.now.items) (name_view mark.now)))
+        NoLocalProtectedObjects (first_place (identifiers_view names.now.items)) first.old }
+{
+    let place = first_place(names);
+    let restriction = Restriction::NoLocalProtectedObjects;
+    if first.precedes(Violation { restriction, place }) {
+        return;
+    }
+    let keeps = !names_protected_type(tree, unit, parameters, locals, mark);
+    first.note_unless(keeps, restriction, place);
+}
+
 // A declaration of a block with these declarations.
-fn local(tree: &UnitTree, locals: &Vec<Local>, local: &Local, first: &mut First)
-    ensures { first.new ≡ local_noted earlier (unit_view tree.now) (map local_view locals.now.items) (local_view local.now) first.old }
+fn local(
+    tree: &UnitTree,
+    unit: &str,
+    parameters: &[Parameter],
+    locals: &Vec<Local>,
+    local: &Local,
+    first: &mut First,
+)
+    ensures { first.new ≡ local_noted earlier (unit_view tree.now) unit.now (map parameter_view parameters.now) (map local_view locals.now.items) (local_view local.now) first.old }
 {
     match local {
         Local::Object {
@@ -43,19 +76,18 @@ fn local(tree: &UnitTree, locals: &Vec<Local>, local: &Local, first: &mut First)
             range,
             value,
         } => {
-            let keeps = !names_protected_type(tree, locals, mark);
-            first.note_unless(
-                keeps,
-                Restriction::NoLocalProtectedObjects,
-                first_place(names),
-            );
+            local_mark(tree, unit, parameters, locals, names, mark, first);
             first.maybe(range);
             first.maybe(value);
         }
         Local::Pragma(pragma) => pragma.judge(first),
-        Local::Protected(unit) => {
-            first.note_unless(unit.is_type, Restriction::NoLocalProtectedObjects, unit.at);
-            unit.judge(first);
+        Local::Protected(inner) => {
+            first.note_unless(
+                inner.is_type,
+                Restriction::NoLocalProtectedObjects,
+                inner.at,
+            );
+            inner.judge(first);
         }
         Local::Task(task) => {
             first.note(Restriction::NoTaskHierarchy, task.at);
@@ -64,11 +96,17 @@ fn local(tree: &UnitTree, locals: &Vec<Local>, local: &Local, first: &mut First)
     }
 }
 
-fn locals(tree: &UnitTree, list: &Vec<Local>, first: &mut First)
-    ensures { first.new ≡ each_noted (local_noted earlier (unit_view tree.now) (map local_view list.now.items)) (map local_view list.now.items) first.old }
+fn locals(
+    tree: &UnitTree,
+    unit: &str,
+    parameters: &[Parameter],
+    list: &Vec<Local>,
+    first: &mut First,
+)
+    ensures { first.new ≡ each_noted (local_noted earlier (unit_view tree.now) unit.now (map parameter_view parameters.now) (map local_view list.now.items)) (map local_view list.now.items) first.old }
 {
     for one in list {
-        local(tree, list, one, first);
+        local(tree, unit, parameters, list, one, first);
     }
 }
 
@@ -90,23 +128,17 @@ impl Judged for Handler {
 }
 
 #[tactic(auto, unfolding(crate::specs::UnitWalk::block_noted))]
-fn block(tree: &UnitTree, block: &Block, first: &mut First)
-    ensures { first.new ≡ block_noted earlier (unit_view tree.now) (block_view block.now) first.old }
+fn block(tree: &UnitTree, unit: &str, parameters: &[Parameter], block: &Block, first: &mut First)
+    ensures { first.new ≡ block_noted earlier (unit_view tree.now) unit.now (map parameter_view parameters.now) (block_view block.now) first.old }
 {
-    locals(tree, &block.locals, first);
+    locals(tree, unit, parameters, &block.locals, first);
     statements(&block.statements, first);
     first.each(block.handlers.as_slice());
 }
 
 // The barrier of an entry with these parameters.
-fn barrier(
-    tree: &UnitTree,
-    unit: &str,
-    parameters: &Vec<Parameter>,
-    e: &Expression,
-    first: &mut First,
-)
-    ensures { first.new ≡ barrier_noted earlier (unit_view tree.now) unit.now (map parameter_view parameters.now.items) (expression_view e.now) first.old }
+fn barrier(tree: &UnitTree, unit: &str, parameters: &[Parameter], e: &Expression, first: &mut First)
+    ensures { first.new ≡ barrier_noted earlier (unit_view tree.now) unit.now (map parameter_view parameters.now) (expression_view e.now) first.old }
 {
     let keeps = is_simple_barrier(tree, unit, parameters, e);
     first.note_unless(keeps, Restriction::SimpleBarriers, e.place());
@@ -121,16 +153,16 @@ fn operation_body(tree: &UnitTree, unit: &str, body: &OperationBody, first: &mut
         OperationBody::Function {
             at: _,
             name: _,
-            parameters: _,
+            parameters,
             mark: _,
             block: inner,
-        } => block(tree, inner, first),
+        } => block(tree, unit, parameters.as_slice(), inner, first),
         OperationBody::Procedure {
             at: _,
             name: _,
-            parameters: _,
+            parameters,
             block: inner,
-        } => block(tree, inner, first),
+        } => block(tree, unit, parameters.as_slice(), inner, first),
         OperationBody::Entry {
             at: _,
             name: _,
@@ -138,8 +170,9 @@ fn operation_body(tree: &UnitTree, unit: &str, body: &OperationBody, first: &mut
             barrier: condition,
             block: inner,
         } => {
+            let parameters = parameters.as_slice();
             barrier(tree, unit, parameters, condition, first);
-            block(tree, inner, first);
+            block(tree, unit, parameters, inner, first);
         }
     }
 }
@@ -159,7 +192,7 @@ fn item(tree: &UnitTree, item: &BodyItem, first: &mut First)
     match item {
         BodyItem::Declaration(declaration) => declaration.judge(first),
         BodyItem::Protected(body) => protected_body(tree, body, first),
-        BodyItem::Task(body) => block(tree, &body.block, first),
+        BodyItem::Task(body) => block(tree, body.name.text.as_str(), &[], &body.block, first),
     }
 }
 

@@ -1,8 +1,10 @@
-//! Worked rows: plays or checks each script of the folder that it is run in, and says of each whether
+//! Worked rows: plays, checks or audits each script of the folder that it is run in, and says of each whether
 //! it gave what stands beside it.
 //!
 //! `NAME.raven` is a script. Where there is a `NAME.said` it is checked, and that is what has to be said;
-//! else it is played, with answers that aren't recorded, and `NAME.journal` is what has to be written.
+//! where there is a `NAME.verdict` its journal is judged, and that is the verdict; else it is played, with answers that
+//! aren't recorded, and `NAME.journal` is what has to be written. A journal that is judged may stand in a file of its own,
+//! `NAME.file`.
 //! `NAME.fault` is the fault that has to be told, where there is one, and `NAME.explained` what has to be said below it.
 //!
 //! With two numbers on its command line, which of how many shares, it cuts and damages each script instead, at the places of
@@ -17,24 +19,63 @@ use rv_exec::machine::STACK_BYTES;
 use rv_explain::explain;
 use rv_fault::Failure;
 use rv_play::play::play;
+use rv_verdict::{Watch, audit, audit_file};
 use std::alloc::Global;
 use std::{env, fs, io, thread};
 
-/// What is written for a script, and behind it the line of its fault, explained where that is asked for.
-fn given(
+/// What is done with a script.
+#[derive(Clone, Copy)]
+enum Deed<'a> {
+    Play,
+    Check,
+    Audit,
+    /// The journal stands in a file of its own.
+    AuditFile(&'a [u8]),
+}
+
+// Nobody waits for an audit of rows.
+#[derive(Drop)]
+struct Unwatched {}
+
+impl Watch for Unwatched {
+    fn passed(&mut self, _entries: usize) {}
+}
+
+// Does what is to be done with a script.
+fn outcome(
     alloc: Global,
     script: &[u8],
-    is_checked: bool,
-    is_explained: bool,
-) -> io::Result<Vec<u8>> {
+    deed: Deed<'_>,
+    written: &mut Vec<u8>,
+) -> Result<(), Failure> {
     let mut reader = script;
+    match deed {
+        Deed::Play => play(alloc, &mut reader, written, true),
+        Deed::Check => check(alloc, &mut reader, written),
+        Deed::Audit => {
+            let _is_legal = audit(alloc, &mut reader, written)?;
+            Ok(())
+        }
+        Deed::AuditFile(journal) => {
+            let mut journal = journal;
+            let mut watch = Unwatched {};
+            let _audited = audit_file(
+                alloc,
+                &mut reader,
+                &mut journal,
+                false,
+                &mut watch,
+                written,
+            )?;
+            Ok(())
+        }
+    }
+}
+
+/// What is written for a script, and behind it the line of its fault, explained where that is asked for.
+fn given(alloc: Global, script: &[u8], deed: Deed<'_>, is_explained: bool) -> io::Result<Vec<u8>> {
     let mut written = Vec::new(alloc);
-    let outcome = if is_checked {
-        check(alloc, &mut reader, &mut written)
-    } else {
-        play(alloc, &mut reader, &mut written, true)
-    };
-    match outcome {
+    match outcome(alloc, script, deed, &mut written) {
         Ok(()) => {}
         Err(Failure::Refused(fault)) => {
             let line = format!(in alloc; "{fault}\n")?;
@@ -74,25 +115,59 @@ fn first_difference(given: &[u8], wanted: &[u8]) -> usize {
     number
 }
 
+/// What has to be written for a script, before its fault.
+struct Wanted {
+    bytes: Vec<u8>,
+    is_checked: bool,
+    is_audited: bool,
+}
+
+// What stands beside a script as what has to be written.
+fn wanted(rt: &HostRuntime, name: &str) -> io::Result<Wanted> {
+    let said = bytes_of(rt, name, "said")?;
+    let verdict = bytes_of(rt, name, "verdict")?;
+    let is_checked = said.is_some();
+    let is_audited = verdict.is_some();
+    let mut bytes = Vec::new(rt.alloc());
+    for part in [
+        said,
+        verdict,
+        bytes_of(rt, name, "journal")?,
+        bytes_of(rt, name, "fault")?,
+    ] {
+        if let Some(part) = part {
+            bytes.extend_from_slice(part.as_slice())?;
+        }
+    }
+    Ok(Wanted {
+        bytes,
+        is_checked,
+        is_audited,
+    })
+}
+
 /// Whether a script gives what stands beside it, in words.
 fn told(rt: &HostRuntime, name: &str) -> io::Result<String> {
     let alloc = rt.alloc();
     let script = bytes_of(rt, name, "raven")?.unwrap_or(Vec::new(alloc));
-    let said = bytes_of(rt, name, "said")?;
-    let is_checked = said.is_some();
-    let mut wanted = match said {
-        Some(said) => said,
-        None => bytes_of(rt, name, "journal")?.unwrap_or(Vec::new(alloc)),
-    };
-    if let Some(fault) = bytes_of(rt, name, "fault")? {
-        wanted.extend_from_slice(fault.as_slice())?;
-    }
+    let Wanted {
+        bytes: mut wanted,
+        is_checked,
+        is_audited,
+    } = wanted(rt, name)?;
     let explained = bytes_of(rt, name, "explained")?;
     let is_explained = explained.is_some();
     if let Some(explained) = explained {
         wanted.extend_from_slice(explained.as_slice())?;
     }
-    let given = given(alloc, script.as_slice(), is_checked, is_explained)?;
+    let file = bytes_of(rt, name, "file")?;
+    let deed = match &file {
+        Some(journal) => Deed::AuditFile(journal.as_slice()),
+        None if is_audited => Deed::Audit,
+        None if is_checked => Deed::Check,
+        None => Deed::Play,
+    };
+    let given = given(alloc, script.as_slice(), deed, is_explained)?;
     if given.as_slice() == wanted.as_slice() {
         return Ok(format!(in alloc; "{name}: ok")?);
     }

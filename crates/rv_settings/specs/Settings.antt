@@ -1,6 +1,6 @@
 -- The settings of a host, as the table of a text has them (own). As in every section, the carriage return before a line feed
 -- is none of the text.
-use Rattle.std.specs.Prelude.{◌≡◌, ◌≤◌, ℕ, ℤ, pos, List, codes, Option, Some, None}
+use Rattle.std.specs.Prelude.{◌≡◌, ◌≤◌, ℕ, ℤ, pos, List, [], codes, Option, Some, None}
 use Rattle.toml.specs.Data.{Data, Members, get_member, as_integer}
 use Rattle.toml.specs.Parse.{parse_document}
 use Rattle.rv_script.specs.UnitTexts.{without_returns}
@@ -37,6 +37,9 @@ default_capacity = 4096
 
 abbrev pub default_budget : ℕ
 default_budget = 1000
+
+abbrev pub default_settings : SettingsText
+default_settings = record { capacity = default_capacity; budget = default_budget; devices = [] }
 
 -- settings have the numbers of a table, within their limits; of the devices nothing is said here
 pub record HasNumbers (table : Members) (settings : SettingsText) : Type 0 where

@@ -1,6 +1,7 @@
 //! The settings of a host.
 
 use crate::device::Device;
+use std::alloc::Global;
 use std::marker::Model;
 
 /// How many entries a journal may have where nothing else is set.
@@ -28,6 +29,18 @@ impl Model for Settings {
 
 impl Settings {
     ghost use Rattle.std.specs.Prelude.{◌≡◌, map};
+    ghost use Rattle.rv_settings.specs.Settings.{default_settings};
+
+    /// The settings of a host for which nothing is set.
+    pub fn defaults(alloc: Global) -> Settings
+        ensures { result ≡ default_settings }
+    {
+        Settings {
+            capacity: DEFAULT_CAPACITY,
+            budget: DEFAULT_BUDGET,
+            devices: Vec::new(alloc),
+        }
+    }
 
     /// How many entries its journal may have, 16 .. 1,048,576.
     pub fn capacity(&self) -> usize

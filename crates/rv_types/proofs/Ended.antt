@@ -4,7 +4,8 @@ use Rattle.std.proofs.lemmas.List.{length-append}
 use Rattle.std.proofs.Math.Seq.{take-append_seam}
 use Rattle.rv_tree.specs.Names.{Identifier}
 use Rattle.rv_shape.specs.declared.kind.Range.{Range}
-use Rattle.rv_names.specs.Scope.{ScopeView, Region, OnlyDeclares, entered}
+use Rattle.rv_names.specs.Scope.{ScopeView, Region, OnlyDeclares, entered, in_body}
+use Rattle.rv_names.proofs.Scopes.{left_body}
 use Rattle.rv_types.specs.declared.point.Local.{Local}
 use Rattle.rv_types.specs.Points.{PointView, in_bounds, with_loop_parameter}
 
@@ -32,20 +33,14 @@ declares_on a b c first second = second ∙ ap (λ (x : ScopeView). record x { i
 pub declares_from : (a b c : ScopeView) → b ≡ a → OnlyDeclares b c → OnlyDeclares a c
 declares_from a b c same second = second ∙ ap (λ (x : ScopeView). record x { innermost = c.innermost }) same
 
--- a region that was begun ends where it began, whatever was declared in it
-pub left : (s0 e s new : ScopeView) → ((scope : ScopeView) (region : Region) → s ≡ record (entered scope) { innermost = region } → new ≡ scope) →
-    e ≡ entered s0 → OnlyDeclares e s → new ≡ s0
-left s0 e s new leave entering only =
-    leave s0 s.innermost (only ∙ ap (λ (x : ScopeView). record x { innermost = s.innermost }) entering)
-
 -- a body ends where it began: at its start parameters were declared, and then what its block declares
-pub body_left : (s0 e e2 s new : ScopeView) (p q : PointView) →
-    ((scope : ScopeView) (region : Region) → s ≡ record (entered scope) { innermost = region } → new ≡ scope) →
-    e ≡ entered s0 → OnlyDeclares e e2 → p.scope ≡ e2 → OnlyDeclares p.scope q.scope → s ≡ q.scope → new ≡ s0
-body_left s0 e e2 s new p q leave entering first begins only ends =
+pub body_left : (s0 e e2 s new : ScopeView) (p q : PointView) (i : Identifier) (outer : Option ℕ) →
+    ((scope : ScopeView) (region : Region) (at : Option ℕ) → s ≡ record (entered scope) { innermost = region; body = at } → new ≡ record scope { body = outer }) →
+    e ≡ in_body i s0 → outer ≡ s0.body → OnlyDeclares e e2 → p.scope ≡ e2 → OnlyDeclares p.scope q.scope → s ≡ q.scope → new ≡ s0
+body_left s0 e e2 s new p q i outer leave entering is first begins only ends =
     let P : ScopeView → Type 0 = λ x. OnlyDeclares e x in
     let Q : ScopeView → Type 0 = λ x. OnlyDeclares x q.scope in
-    left s0 e s new leave entering (subst P (sym ends) (declares_on e e2 q.scope first (subst Q begins only)))
+    left_body s0 e s new i outer leave entering is (subst P (sym ends) (declares_on e e2 q.scope first (subst Q begins only)))
 
 -- the body of a protected unit ends where it began
 pub unit_left : (s0 s1 s3 s4 s5 : ScopeView) (at : Option ℕ) →

@@ -17,7 +17,7 @@ use Rattle.rv_names.specs.declared.predefined.Library.TheVariants.{RealTime}
 use Rattle.rv_names.specs.declared.wanted.Wanted.TheVariants as w
 use Rattle.rv_names.specs.declared.declared.Declared.{Declared}
 use Rattle.rv_names.specs.declared.declared.Declared.TheVariants as d
-use Rattle.rv_names.specs.Scope.{ScopeView, entered}
+use Rattle.rv_names.specs.Scope.{ScopeView, in_body}
 use Rattle.rv_names.specs.Visible.{index_from}
 use Rattle.rv_names.specs.Wanted.{denoted}
 use Rattle.rv_names.specs.ExpressionUses.{simple}
@@ -85,18 +85,18 @@ abbrev pub result_of : Kind → Option Range
 result_of (kind.Function r) = Some r
 result_of other = None
 
--- a block with these parameters as the body of an operation
-abbrev pub body_of : Setting → ScopeView → ℕ → OperationShape → List Parameter → Block → Option Body
-body_of s scope object operation parameters block =
+-- a block with these parameters as the body of an operation of this identifier
+abbrev pub body_of : Setting → ScopeView → ℕ → OperationShape → Identifier → List Parameter → Block → Option Body
+body_of s scope object operation i parameters block =
     parameters_taken operation.parameters parameters
-    (point_in s (with_parameters parameters (entered scope)) object (result_of operation.kind))
+    (point_in s (with_parameters parameters (in_body i scope)) object (result_of operation.kind))
     >>= all_taken operation.parameters
     >>= λ p. block_of operation.parameters (is_some (result_of operation.kind)) p block
 
 abbrev pub operation_code : Setting → ScopeView → ℕ → OperationShape → OperationBody → Option Body
-operation_code s scope object operation (function_body at i parameters mark block) = body_of s scope object operation parameters block
-operation_code s scope object operation (procedure_body at i parameters block) = body_of s scope object operation parameters block
-operation_code s scope object operation (entry_body at i parameters barrier block) = body_of s scope object operation parameters block
+operation_code s scope object operation (function_body at i parameters mark block) = body_of s scope object operation i parameters block
+operation_code s scope object operation (procedure_body at i parameters block) = body_of s scope object operation i parameters block
+operation_code s scope object operation (entry_body at i parameters barrier block) = body_of s scope object operation i parameters block
 
 abbrev pub body_name : OperationBody → List ℕ
 body_name (function_body at i parameters mark block) = i.text
@@ -181,7 +181,7 @@ protected_body_compiled s units scope body u =
 -- Task bodies (9.1)
 
 abbrev pub task_code : Setting → ScopeView → TaskBody → Option Body
-task_code s scope body = block_of [] false (point_in s (entered scope) 0 None) body.block
+task_code s scope body = block_of [] false (point_in s (in_body body.name scope) 0 None) body.block
 
 -- the index of the task of a name
 abbrev pub task_index : List ℕ → ℕ → List TaskShape → Option ℕ

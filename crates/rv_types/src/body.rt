@@ -92,31 +92,31 @@ fn result_range(kind: Kind) -> Option<Range>
     }
 }
 
-// A block with parameters, as the body of an operation of an object.
+// A block with parameters, as the body of an operation of this identifier, of an object.
 fn block_body<'a>(
     alloc: Global,
     setting: &Setting<'a>,
     object: usize,
     operation: &Operation,
+    name: &Identifier,
     parameters: &Vec<Specification>,
     part: &Block,
-    at: usize,
     around: Scope<'a>,
 ) -> Result<(Body, Scope<'a>), Refused>
-    ensures code { IfOk result (λ r. body_of setting.now around.entry object operation.now (map parameter_view parameters.now.items) (block_view part.now) ≡ Some (body_view r.0)) }
+    ensures code { IfOk result (λ r. body_of setting.now around.entry object operation.now (identifier_view name.now) (map parameter_view parameters.now.items) (block_view part.now) ≡ Some (body_view r.0)) }
     ensures scope { IfOk result (λ r. r.1 ≡ around.entry) }
 {
     let mut scope = around;
-    scope.enter()?;
+    let outer = scope.enter_body(name)?;
     declare_parameters(parameters, &mut scope)?;
     let result_part = result_range(operation.kind());
     let mut point = Point::new(alloc, setting, scope, object, result_part);
     take_parameters(operation.parameters(), parameters, &mut point)?;
-    all_taken(operation.parameters(), at, &point)?;
+    all_taken(operation.parameters(), name.at, &point)?;
     let own = copied(alloc, operation.parameters())?;
     let body = block(alloc, own, result_part.is_some(), part, &mut point)?;
     let mut scope = point.into_scope();
-    scope.leave();
+    scope.leave_body(outer);
     Ok((body, scope))
 }
 
@@ -140,7 +140,7 @@ pub(crate) fn operation_body<'a>(
             mark: _,
             block,
         } => block_body(
-            alloc, setting, object, operation, parameters, block, name.at, scope,
+            alloc, setting, object, operation, name, parameters, block, scope,
         ),
         OperationBody::Procedure {
             at: _,
@@ -148,7 +148,7 @@ pub(crate) fn operation_body<'a>(
             parameters,
             block,
         } => block_body(
-            alloc, setting, object, operation, parameters, block, name.at, scope,
+            alloc, setting, object, operation, name, parameters, block, scope,
         ),
         OperationBody::Entry {
             at: _,
@@ -157,7 +157,7 @@ pub(crate) fn operation_body<'a>(
             barrier: _,
             block,
         } => block_body(
-            alloc, setting, object, operation, parameters, block, name.at, scope,
+            alloc, setting, object, operation, name, parameters, block, scope,
         ),
     }
 }
@@ -222,10 +222,10 @@ pub(crate) fn task_body<'a>(
     ensures scope { IfOk result (λ r. r.1 ≡ around.entry) }
 {
     let mut scope = around;
-    scope.enter()?;
+    let outer = scope.enter_body(&body.name)?;
     let mut point = Point::new(alloc, setting, scope, 0, None);
     let compiled = block(alloc, Vec::new(alloc), false, &body.block, &mut point)?;
     let mut scope = point.into_scope();
-    scope.leave();
+    scope.leave_body(outer);
     Ok((compiled, scope))
 }

@@ -13,9 +13,9 @@ use crate::setting::Setting;
 use crate::text_order::look_in_order;
 use crate::unit::{items, no_bodies};
 use rv_code::UnitBodies;
+use rv_names::context::package_scope;
 use rv_names::resolve::{Named, protected_units};
 use rv_names::{Declared, Library, Scope, Wanted};
-use rv_outline::context::package_scope;
 use rv_outline::outline::{Outline, outline_of};
 use rv_shape::shape::UnitShape;
 use rv_static::{Faults, TypeFault};
@@ -89,7 +89,7 @@ fn start<'a>(
     ensures setting { IfOk result (λ r. r.0 ≡ setting_of named.now.catalogue.now (tree_view named.now.tree.now)) }
     ensures scope { IfOk result (λ r. r.1 ≡ body_scope named.now.catalogue.now (tree_view named.now.tree.now)) }
 {
-    let mut scope = package_scope(alloc, named)?;
+    let mut scope = package_scope(alloc, named.tree, named.catalogue)?;
     let times = context_times(&named.tree.context, &scope);
     let setting = Setting {
         outline,

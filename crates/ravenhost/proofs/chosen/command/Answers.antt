@@ -16,4 +16,6 @@ returns c =
     c.in_ok-subcommand.ensures.shape c.in_ok-play.ensures.local ∙ ap₂ with_subcommand top_is (ap (λ (a : App). a.top) play_is) in
     let two : app_of c.in_ok-subcommand-2.field-0 ≡ with_subcommand (with_subcommand alone (flagged (codes "play") (codes "all")).top) (flagged (codes "check") (codes "explain")).top =
     c.in_ok-subcommand-2.ensures.shape c.in_ok-check.ensures.local ∙ ap₂ with_subcommand one (ap (λ (a : App). a.top) check_is) in
-    IfOk-weaker c.subcommand-5.result _ _ (λ r h. h.shape c.run_subcommand.ensures.local ∙ ap₂ with_subcommand two (ap (λ (a : App). a.top) c.run_subcommand.ensures.app)) c.subcommand-5.ensures
+    let three : app_of c.in_ok-subcommand-3.field-0 ≡ with_subcommand (with_subcommand (with_subcommand alone (flagged (codes "play") (codes "all")).top) (flagged (codes "check") (codes "explain")).top) (new_app (codes "run")).top =
+    c.in_ok-subcommand-3.ensures.shape c.run_subcommand.ensures.local ∙ ap₂ with_subcommand two (ap (λ (a : App). a.top) c.run_subcommand.ensures.app) in
+    IfOk-weaker c.subcommand-6.result _ _ (λ r h. h.shape c.in_ok-audit.ensures.local ∙ ap₂ with_subcommand three (ap (λ (a : App). a.top) c.in_ok-audit.ensures.app)) c.subcommand-6.ensures

@@ -1,15 +1,17 @@
+use Rattle.std.proofs.lemmas.Result.{err_from_is_err_and}
 use Rattle.rv_check.proofs.Checked.{at_first, one_said, stopped, all_said}
 use Rattle.rv_check.proofs.check.check_sections.Goals as goal
 
 pub each-preserved : goal.each-preserved
 each-preserved g c =
     one_said (g.W.Write.contents c.args.writer.now) (g.W.Write.contents c.each.writer) (g.W.Write.contents c.check_section.new.writer) c.each.catalogue c.check_section.new.catalogue _ c.each.sections c.next_section.new.self c.args.sections
-    c.in-Some.ensures.first c.each.invariant c.in-Ok.ensures
+    c.in-Some.ensures.first c.each.invariant c.in_ok-check_section.ensures
 
-pub returns-in-Err : goal.returns-in-Err
-returns-in-Err g c =
-    stopped (g.W.Write.contents c.args.writer.now) (g.W.Write.contents c.each.writer) (g.W.Write.contents c.check_section.new.writer) c.each.catalogue c.check_section.new.catalogue _ c.each.sections c.next_section.new.self c.args.sections
-    c.in-Err.failure c.in-Some.ensures.first c.each.invariant c.in-Err.ensures
+pub returns-in_err-check_section : goal.returns-in_err-check_section
+returns-in_err-check_section g c =
+    let p = err_from_is_err_and c.from_residual.result c.from_residual.ensures.1 in
+    rw (p.1, p.2) (stopped (g.W.Write.contents c.args.writer.now) (g.W.Write.contents c.each.writer) (g.W.Write.contents c.check_section.new.writer) c.each.catalogue c.check_section.new.catalogue _ c.each.sections c.next_section.new.self c.args.sections
+    _ c.in-Some.ensures.first c.each.invariant c.in_err-check_section.ensures)
 
 pub returns : goal.returns
 returns g c =

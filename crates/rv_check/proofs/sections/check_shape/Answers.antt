@@ -1,14 +1,22 @@
 use Rattle.std.proofs.Common.{None, sym, subst}
+use Rattle.std.proofs.lemmas.Result.{err_from_is_err_and}
 use Rattle.rv_check.specs.Checks.{OfShape, shape_line}
-use Rattle.rv_check.proofs.Checking.{said_tells, shape_read, shape_refused}
+use Rattle.rv_check.proofs.Checking.{said_tells, shape_read, shape_refused, shape_there, shape_unread}
 use Rattle.rv_check.proofs.sections.check_shape.Goals as goal
 
-pub returns-in-Ok-add : goal.returns-in-Ok-add
-returns-in-Ok-add g c =
-    let finds = OfShape c.args.catalogue.now c.add.new.self c.args.section.now.text.now in
+pub returns-in-Ok : goal.returns-in-Ok
+returns-in-Ok g c =
+    let text = c.args.section.now.text.now in
+    let finds = OfShape c.args.catalogue.now c.add.new.self text in
     said_tells _ _ c.args.section.now.line finds (shape_line c.name.result.now) c.say.result
-    (subst (λ n. finds (shape_line n) None) (sym c.name.ensures) (shape_read c.args.catalogue.now c.add.new.self c.args.section.now.text.now _ c.in-Ok.ensures c.in-Ok-add.ensures.fits c.in-Ok-add.ensures.ok)) (c.say.ensures _ c.shape_line.ensures)
+    (subst (λ n. finds (shape_line n) None) (sym c.name.ensures) (shape_read c.args.catalogue.now c.add.new.self text _ (shape_there text _ c.in_ok-shape.ensures) c.in-Ok.ensures.fits c.in-Ok.ensures.ok)) (c.say.ensures _ c.shape_line.ensures)
 
 pub returns : goal.returns
 returns g c =
-    rw c.shape_failure-in-Err-add.ensures (shape_refused c.args.catalogue.now c.add.new.self c.args.section.now.text.now _ _ c.args.section.now.line c.in-Err-add.fault c.in-Ok.ensures c.in-Err-add.ensures.found c.in-Err-add.ensures.memory)
+    let text = c.args.section.now.text.now in
+    rw c.shape_failure.ensures (shape_refused c.args.catalogue.now c.add.new.self text _ _ c.args.section.now.line c.in-Err.fault (shape_there text _ c.in_ok-shape.ensures) c.in-Err.ensures.found c.in-Err.ensures.memory)
+
+pub returns-in_err-shape : goal.returns-in_err-shape
+returns-in_err-shape g c =
+    let p = err_from_is_err_and c.from_residual.result c.from_residual.ensures.1 in
+    rw (p.1, p.2) (shape_unread c.args.catalogue.now c.args.catalogue.now c.args.section.now.text.now (g.W.Write.contents c.args.writer.now) c.args.section.now.line _ c.in_err-shape.ensures)

@@ -1,6 +1,8 @@
-use Rattle.rv_names.proofs.Scopes.{left}
+use Rattle.rv_tree.specs.NameView.{identifier_view}
+use Rattle.rv_names.proofs.Scopes.{left_body}
 use Rattle.rv_names.proofs.unit.task_body.Goals as goal
 
 pub returns-clause-scope : goal.returns-clause-scope
 returns-clause-scope c =
-    left c.args.scope.now c.enter.new.self c.block.new.scope c.leave.new.self c.leave.ensures c.in_ok-enter.ensures c.in_ok-block.ensures.only
+    left_body c.args.scope.now c.enter_body.new.self c.block.new.scope c.leave_body.new.self (identifier_view c.args.body.now.name) c.in_ok-around.around c.leave_body.ensures
+    c.in_ok-around.ensures.scope c.in_ok-around.ensures.around c.in_ok-block.ensures.only

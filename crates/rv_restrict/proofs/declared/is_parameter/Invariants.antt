@@ -5,4 +5,4 @@ use Rattle.rv_restrict.proofs.declared.is_parameter.Given as goal
 
 abbrev pub invariant-loop-parameter : goal.invariant-loop-parameter
 invariant-loop-parameter l =
-    is_parameter l.name (map parameter_view (drop l.parameter-index l.parameter-items)) ≡ is_parameter l.name (map parameter_view l.parameter-items)
+    is_parameter l.name (map parameter_view (drop l.parameter-index l.parameters)) ≡ is_parameter l.name (map parameter_view l.parameters)

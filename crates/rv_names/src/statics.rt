@@ -1,0 +1,162 @@
+//! Which subtypes and constants of a text are static, so that it is known which marks match statically (4.9, 4.9.1).
+//!
+//! What is wrong with their types is no fault of names: such a declaration is left out, and told where types are looked at.
+
+ghost use Rattle.std.specs.Prelude.{◌≡◌, [], OnOk};
+ghost use Rattle.rv_names.specs.Statics.{with_meaning, or_not_static as this_or_not_static, meaning_of, means as means_at};
+
+use crate::declared::Declared;
+use crate::library_meaning::{predefined_meaning, whole_range};
+use crate::scope::Scope;
+use indexmap::IndexMap;
+use rv_shape::kind::{Range, ValueType};
+use rv_static::{Faults, Meaning, Meanings, narrowed, subtype, value_in};
+use rv_tree::expression::{Expression, RangeConstraint};
+use rv_tree::name::{Identifier, Name};
+use std::alloc::{AllocError, Global};
+use std::marker::Model;
+
+/// What subtypes and constants of a text mean, by the places of their identifiers.
+pub(crate) struct Statics {
+    meanings: IndexMap<usize, Meaning>,
+}
+
+impl Drop for Statics {
+    // A function of its own: a derived one is written out wherever a value is let go, and proved there.
+    fn drop(self) {
+        let Statics { meanings: _ } = self;
+    }
+}
+
+impl Model for Statics {
+    ghost use Rattle.rv_names.specs.Statics.{Statics as StaticsView};
+
+    ghost Value = { StaticsView };
+
+    ghost view = { λ s. s.meanings.entries };
+}
+
+// A point of a text, and what is static there.
+#[derive(Clone, Copy)]
+struct Point<'p, 's> {
+    scope: &'p Scope<'s>,
+    statics: &'p Statics,
+}
+
+impl<'p, 's> Meanings for Point<'p, 's> {
+    ghost means = { λ p. means_at p.scope.now p.statics.now };
+
+    fn meaning(&self, name: &Name) -> Meaning {
+        let found = self.scope.visible(name);
+        self.statics.meaning(found)
+    }
+}
+
+// This meaning; where there is none, nothing static.
+fn or_not_static(meaning: Option<Meaning>) -> Meaning
+    ensures { result ≡ this_or_not_static meaning }
+{
+    match meaning {
+        Some(meaning) => meaning,
+        None => Meaning::NotStatic,
+    }
+}
+
+// The subtype of a constant, which is that of its mark, and of a named number (3.3.1, 3.3.2).
+fn constant_range(mark: &Option<Name>, point: &Point, faults: &mut Faults) -> Option<Range> {
+    match mark {
+        None => Some(whole_range(ValueType::Integer)),
+        Some(mark) => subtype(mark, point, faults),
+    }
+}
+
+impl Statics {
+    /// None so far.
+    pub(crate) fn new(alloc: Global) -> Statics
+        ensures { result ≡ [] }
+    {
+        Statics {
+            meanings: IndexMap::new(alloc),
+        }
+    }
+
+    // What a declaration means in a static expression.
+    fn meaning(&self, found: Option<Declared>) -> Meaning
+        ensures { result ≡ meaning_of self.now found }
+    {
+        match found {
+            Some(Declared::Subtype(at)) => or_not_static(self.meanings.get(&at).copied()),
+            Some(Declared::Constant(at)) => or_not_static(self.meanings.get(&at).copied()),
+            Some(Declared::Predefined(item)) => predefined_meaning(item),
+            _ => Meaning::NotStatic,
+        }
+    }
+
+    // What is meant by the identifier of this place. Err where memory was refused.
+    fn note(&mut self, at: usize, meaning: Meaning) -> Result<(), AllocError>
+        ensures { OnOk result (self.new ≡ with_meaning self.old at meaning) }
+    {
+        self.meanings.insert(at, meaning)?;
+        Ok(())
+    }
+
+    /// The static range of the subtype that is declared, if it is one.
+    pub(crate) fn range(&self, found: Option<Declared>) -> Option<Range> {
+        match self.meaning(found) {
+            Meaning::Subtype(range) => Some(range),
+            _ => None,
+        }
+    }
+
+    /// A subtype of the package, at the point within its declaration (3.2.2). Err where memory was refused.
+    pub(crate) fn note_subtype(
+        &mut self,
+        declared: &Identifier,
+        mark: &Name,
+        range: &Option<RangeConstraint>,
+        scope: &Scope,
+    ) -> Result<(), AllocError> {
+        let mut faults = Faults::new();
+        let point = Point {
+            scope,
+            statics: self,
+        };
+        let found = match subtype(mark, &point, &mut faults) {
+            Some(whole) => narrowed(whole, range, &point, &mut faults),
+            None => None,
+        };
+        match found {
+            Some(range) => self.note(declared.at, Meaning::Subtype(range)),
+            None => Ok(()),
+        }
+    }
+
+    // The meaning of a constant of the package or a named number, if it is static.
+    fn constant(&self, mark: &Option<Name>, value: &Expression, scope: &Scope) -> Option<Meaning> {
+        let mut faults = Faults::new();
+        let point = Point {
+            scope,
+            statics: self,
+        };
+        let range = constant_range(mark, &point, &mut faults)?;
+        let number = value_in(range, value, &point, &mut faults)?;
+        Some(Meaning::Constant(range.of, number))
+    }
+
+    /// Constants of the package or named numbers, at the point within their declaration (3.3.1, 3.3.2). Err where memory
+    /// was refused.
+    pub(crate) fn note_constants(
+        &mut self,
+        names: &Vec<Identifier>,
+        mark: &Option<Name>,
+        value: &Expression,
+        scope: &Scope,
+    ) -> Result<(), AllocError> {
+        if let Some(meaning) = self.constant(mark, value, scope) {
+            for declared in names {
+                self.note(declared.at, meaning)?;
+            }
+        }
+        Ok(())
+    }
+}

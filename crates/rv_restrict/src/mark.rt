@@ -1,0 +1,147 @@
+//! Which marks of a block's declarations name protected types.
+
+ghost use Rattle.std.specs.Prelude.{◌≡◌, ◌∷◌, [], map};
+ghost use Rattle.rv_tree.specs.NameView.{identifier_view, identifiers_view, name_view};
+ghost use Rattle.rv_tree.specs.DeclarationView.{parameter_view};
+ghost use Rattle.rv_tree.specs.BodyView.{local_view};
+ghost use Rattle.rv_tree.specs.UnitView.{unit_view};
+ghost use Rattle.rv_restrict.specs.Scope.{declared, unit_of, is_among_before, is_local, is_among_locals, is_local_type, is_among_local_types, is_type_before, type_named, names_protected_type};
+
+use crate::declared::{is_hidden, is_package_name, protected_unit};
+use rv_text::is_same_name;
+use rv_tree::{Identifier, Local, Name, Parameter, UnitTree};
+
+// Whether a name is among these, before a place.
+fn is_among_before(at: usize, name: &str, names: &Vec<Identifier>) -> bool
+    ensures { result ≡ is_among_before at name.now (identifiers_view names.now.items) }
+{
+    for one in names {
+        if one.at < at && is_same_name(one.text.as_str(), name) {
+            return true;
+        }
+    }
+    false
+}
+
+// Whether a declaration of a block has the name, before a place.
+fn is_local(at: usize, name: &str, local: &Local) -> bool
+    ensures { result ≡ is_local at name.now (local_view local.now) }
+{
+    match local {
+        Local::Object {
+            names,
+            is_constant: _,
+            mark: _,
+            range: _,
+            value: _,
+        } => is_among_before(at, name, names),
+        Local::Pragma(_) => false,
+        Local::Protected(unit) => {
+            unit.name.at < at && is_same_name(unit.name.text.as_str(), name)
+        }
+        Local::Task(task) => task.name.at < at && is_same_name(task.name.text.as_str(), name),
+    }
+}
+
+// Whether a declaration of the block before a place hides the name.
+fn is_among_locals(at: usize, name: &str, locals: &Vec<Local>) -> bool
+    ensures { result ≡ is_among_locals at name.now (map local_view locals.now.items) }
+{
+    for local in locals {
+        if is_local(at, name, local) {
+            return true;
+        }
+    }
+    false
+}
+
+// Whether it is a protected type of this name, before a place.
+fn is_local_type(at: usize, name: &str, local: &Local) -> bool
+    ensures { result ≡ is_local_type at name.now (local_view local.now) }
+{
+    match local {
+        Local::Protected(unit) => {
+            unit.is_type && unit.name.at < at && is_same_name(unit.name.text.as_str(), name)
+        }
+        _ => false,
+    }
+}
+
+fn is_among_local_types(at: usize, name: &str, locals: &Vec<Local>) -> bool
+    ensures { result ≡ is_among_local_types at name.now (map local_view locals.now.items) }
+{
+    for local in locals {
+        if is_local_type(at, name, local) {
+            return true;
+        }
+    }
+    false
+}
+
+// Whether the package declares a protected type by this name, before a place.
+fn is_type_before(tree: &UnitTree, at: usize, name: &str) -> bool
+    ensures { result ≡ is_type_before at (unit_of (declared (unit_view tree.now) name.now)) }
+{
+    match protected_unit(tree, name) {
+        Some(unit) => unit.is_type && unit.name.at < at,
+        None => false,
+    }
+}
+
+// Whether a simple mark names a protected type of its block, or one of the package that nothing hides.
+fn is_simple_type(
+    tree: &UnitTree,
+    unit: &str,
+    parameters: &[Parameter],
+    locals: &Vec<Local>,
+    mark: &Name,
+) -> bool
+    ensures { result ≡ type_named (unit_view tree.now) unit.now (map parameter_view parameters.now) (map local_view locals.now.items) (name_view mark.now) [] }
+{
+    let at = mark.first.at;
+    let name = mark.first.text.as_str();
+    if is_among_local_types(at, name, locals) {
+        return true;
+    }
+    is_type_before(tree, at, name)
+        && !is_hidden(tree, unit, parameters, name)
+        && !is_among_locals(at, name, locals)
+}
+
+// Whether a mark behind the name of the package, which nothing hides, names a protected type.
+fn is_expanded_type(
+    tree: &UnitTree,
+    unit: &str,
+    parameters: &[Parameter],
+    locals: &Vec<Local>,
+    mark: &Name,
+    inner: &Identifier,
+) -> bool
+    ensures { result ≡ type_named (unit_view tree.now) unit.now (map parameter_view parameters.now) (map local_view locals.now.items) (name_view mark.now) (identifier_view inner.now ∷ []) }
+{
+    let at = mark.first.at;
+    let name = mark.first.text.as_str();
+    is_same_name(name, tree.specification.name.text.as_str())
+        && is_type_before(tree, at, inner.text.as_str())
+        && is_package_name(tree, unit, parameters, name)
+        && !is_among_locals(at, name, locals)
+}
+
+// Whether a mark names a protected type of the package or of its block, in the body of an operation with these parameters
+// of the protected unit of this name, or of the task of this name.
+#[tactic(auto, unfolding(crate::specs::Scope::names_protected_type))]
+pub(crate) fn names_protected_type(
+    tree: &UnitTree,
+    unit: &str,
+    parameters: &[Parameter],
+    locals: &Vec<Local>,
+    mark: &Name,
+) -> bool
+    ensures { result ≡ names_protected_type (unit_view tree.now) unit.now (map parameter_view parameters.now) (map local_view locals.now.items) (name_view mark.now) }
+{
+    match mark.more.as_slice() {
+        [] => is_simple_type(tree, unit, parameters, locals, mark),
+        [inner] => is_expanded_type(tree, unit, parameters, locals, mark, inner),
+        _ => false,
+    }
+}

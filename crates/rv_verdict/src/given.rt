@@ -1,0 +1,166 @@
+//! What a journal is judged over: the units that the sections of a script give, in order, those of its devices last.
+
+ghost use Rattle.std.specs.Prelude.{◌≡◌, OnOk, IfErr};
+ghost use Rattle.rv_script.specs.Openings.{opening_of};
+ghost use Rattle.rv_shape.specs.Fits.{fault};
+ghost use Rattle.rv_fault.specs.Sections.{Reads};
+ghost use Rattle.rv_verdict.specs.Given.{GivesAll, Holds, TakesOne, fits_then, is_journal, nothing, with_devices, with_unit};
+
+use rv_fault::{Failure, What, device_unit, refused, shape_of, unit_of};
+use rv_script::{Opening, opening_of};
+use rv_settings::Device;
+use rv_shape::catalogue::Catalogue;
+use rv_shape::fault::ShapeFault;
+use rv_shape::shape::UnitShape;
+use rv_text::{Section, Sections};
+use std::alloc::Global;
+use std::marker::Model;
+
+/// What the sections of a script give.
+#[derive(Drop)]
+pub struct Given<'a> {
+    // All units, in order. Whether one fits those before it is judged where a journal loads it.
+    units: Vec<UnitShape>,
+    // Those that fit the ones before them: unit texts are compiled over these.
+    fitting: Catalogue,
+    // The journal: the text of the last section that holds one, else empty.
+    journal: &'a str,
+}
+
+impl<'a> Model for Given<'a> {
+    ghost use Rattle.rv_verdict.specs.Given.{GivenText};
+
+    ghost Value = { GivenText };
+
+    ghost view = { λ g. record { units = g.units.items; fitting = g.fitting; journal = g.journal.now } };
+}
+
+// The unit of a section.
+fn section_shape(
+    alloc: Global,
+    fitting: &Catalogue,
+    section: &Section<'_>,
+) -> Result<UnitShape, Failure>
+    ensures { Reads section.now.line (Holds fitting.now section.now.text.now (opening_of section.now.opening.now)) result }
+{
+    match opening_of(section.opening) {
+        Some(Opening::UnitText) => {
+            let unit = unit_of(alloc, fitting, section.line, section.text)?;
+            Ok(unit.shape)
+        }
+        Some(Opening::Shape) => shape_of(alloc, section.line, section.text),
+        _ => Err(refused(section.line, What::BadSection)),
+    }
+}
+
+// Whether a line opens a journal that is taken.
+fn is_journal(opening: &str, has_journal: bool) -> bool
+    ensures { result ≡ is_journal has_journal (opening_of opening.now) }
+{
+    match opening_of(opening) {
+        Some(Opening::Journal) => has_journal,
+        _ => false,
+    }
+}
+
+// Puts a unit behind those that fit, where it does too.
+fn fit(fitting: &mut Catalogue, shape: &UnitShape) -> Result<(), Failure>
+    ensures ok { OnOk result (fitting.new ≡ fits_then (fault fitting.old shape.now) fitting.old shape.now) }
+    ensures err { IfErr result (λ failure. failure ≡ Failure.Memory) }
+{
+    match fitting.add(shape) {
+        Ok(()) => Ok(()),
+        Err(ShapeFault::NoMemory) => Err(Failure::Memory),
+        Err(_) => Ok(()),
+    }
+}
+
+impl<'a> Given<'a> {
+    // Before the first section.
+    fn new(alloc: Global) -> Given<'a>
+        ensures { result ≡ nothing }
+    {
+        Given {
+            units: Vec::new(alloc),
+            fitting: Catalogue::new(alloc),
+            journal: "",
+        }
+    }
+
+    /// The units, in order.
+    pub fn units(&self) -> &[UnitShape]
+        ensures { result.now ≡ self.now.units }
+    {
+        self.units.as_slice()
+    }
+
+    /// The text of the journal.
+    pub fn journal(&self) -> &'a str
+        ensures { result.now ≡ self.now.journal }
+    {
+        self.journal
+    }
+
+    // Puts a unit behind the others.
+    fn add(&mut self, shape: UnitShape) -> Result<(), Failure>
+        ensures ok { OnOk result (self.new ≡ with_unit self.old shape) }
+        ensures err { IfErr result (λ failure. failure ≡ Failure.Memory) }
+    {
+        fit(&mut self.fitting, &shape)?;
+        if self.units.push(shape).is_err() {
+            return Err(Failure::Memory);
+        }
+        Ok(())
+    }
+
+    // Takes a section.
+    fn take(
+        &mut self,
+        alloc: Global,
+        section: &Section<'a>,
+        has_journal: bool,
+    ) -> Result<(), Failure>
+        ensures { TakesOne has_journal self.old self.new (record {
+          line = section.now.line;
+          opening = section.now.opening.now;
+          text = section.now.text.now;
+        }) result }
+    {
+        if is_journal(section.opening, has_journal) {
+            self.journal = section.text;
+            return Ok(());
+        }
+        let shape = section_shape(alloc, &self.fitting, section)?;
+        self.add(shape)
+    }
+
+    /// Puts the units of devices behind the others.
+    pub fn add_devices(&mut self, alloc: Global, devices: &[Device]) -> Result<(), Failure>
+        ensures ok { OnOk result (self.new ≡ record self.old { units = with_devices self.old.units devices.now }) }
+        ensures err { IfErr result (λ failure. failure ≡ Failure.Memory) }
+    {
+        for device in devices {
+            let shape = device_unit(alloc, device)?;
+            if self.units.push(shape).is_err() {
+                return Err(Failure::Memory);
+            }
+        }
+        Ok(())
+    }
+}
+
+/// What sections give, up to the first that something stands against. One that holds a journal is taken only where
+/// `has_journal`.
+pub fn given_by<'a>(
+    alloc: Global,
+    mut sections: Sections<'a>,
+    has_journal: bool,
+) -> Result<Given<'a>, Failure>
+    ensures { GivesAll has_journal sections.entry result }
+{
+    let mut given = Given::new(alloc);
+    'each: while let Some(section) = sections.next_section() {
+        given.take(alloc, &section, has_journal)?;
+    }
+    Ok(given)
+}
