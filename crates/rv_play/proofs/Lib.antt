@@ -3,5 +3,6 @@ mod Carrying
 mod Growing
 mod Named
 mod Performing
+mod Reading
 mod Scripting
 mod Telling

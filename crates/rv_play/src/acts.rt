@@ -8,20 +8,17 @@ ghost use Rattle.rv_script.specs.UnitTexts.{without_returns};
 ghost use Rattle.rv_play.specs.Acts.{Compiles, Goes, Steps, load_act, set_act};
 ghost use Rattle.rv_play.specs.Stages.{deed_text};
 ghost use Rattle.rv_play.specs.Scripted.{playing};
-ghost use Rattle.rv_play.specs.Deeds.{Comes, ComesToDeed, compiles, goes, just, if_fits, requests, asks, appends, replaces};
+ghost use Rattle.rv_play.specs.Deeds.{Comes, ComesToDeed, goes, just, if_fits, requests, asks, appends, replaces};
 
 use crate::deed::Deed;
 use crate::player::Player;
-use rv_access::{Line, ListFault, read_list};
-use rv_fault::{Failure, What, refused};
-use rv_script::unit_text::{MOST_UNIT_BYTES, unit_text};
+use rv_access::{Line, ListFault};
+use rv_fault::{Failure, What, list_of, refused, shape_of, unit_of};
 use rv_shape::catalogue::Catalogue;
-use rv_shape::fault::ShapeFault;
-use rv_shape::reading::read_shape;
 use rv_shape::shape::UnitShape;
 use rv_step::lookup::{actor_of, request_of};
 use rv_step::step::{Asked, Asker};
-use rv_unit::{Unit, UnitFault, compile};
+use rv_unit::Unit;
 use std::alloc::{AllocError, Global};
 
 // A deed that was made, unless memory was refused.
@@ -47,56 +44,32 @@ fn load_deed(
     if let Some(fault) = catalogue.shape_fits(&shape) {
         return Err(refused(line, What::Shape(fault)));
     }
-    match Unit::of_shape(alloc, shape) {
-        Ok(Unit { shape, bodies }) => made(Deed::load(alloc, shape, bodies)),
-        Err(_) => Err(Failure::Memory),
-    }
-}
-
-// What a unit text comes to that has no carriage return before a line feed.
-fn text_deed(alloc: Global, catalogue: &Catalogue, line: usize, text: &str) -> Result<Deed, Failure>
-    ensures { Comes line (compiles catalogue.now text.now) result }
-{
-    if text.len() > MOST_UNIT_BYTES {
-        return Err(refused(line, What::TooLong));
-    }
-    match compile(alloc, text, catalogue) {
-        Ok(Unit { shape, bodies }) => made(Deed::load(alloc, shape, bodies)),
-        Err(UnitFault::NoMemory) => Err(Failure::Memory),
-        Err(fault) => Err(refused(line, What::Unit(fault))),
-    }
+    let Unit { shape, bodies } = Unit::of_shape(alloc, shape)?;
+    made(Deed::load(alloc, shape, bodies))
 }
 
 /// What the unit text of a section comes to, which opens at a line.
 pub fn unit_deed(alloc: Global, player: &Player, line: usize, text: &str) -> Result<Deed, Failure>
     ensures { Comes line (ComesToDeed (playing player.now).stage (Compiles line (without_returns text.now))) result }
 {
-    match unit_text(alloc, text) {
-        Ok(text) => text_deed(alloc, player.catalogue(), line, text.as_str()),
-        Err(_) => Err(Failure::Memory),
-    }
+    let Unit { shape, bodies } = unit_of(alloc, player.catalogue(), line, text)?;
+    made(Deed::load(alloc, shape, bodies))
 }
 
 /// What the shape of a section comes to, which opens at a line.
 pub fn shape_deed(alloc: Global, player: &Player, line: usize, text: &str) -> Result<Deed, Failure>
     ensures { Comes line (ComesToDeed (playing player.now).stage (load_act line (shape_of text.now))) result }
 {
-    match read_shape(alloc, text) {
-        Ok(shape) => load_deed(alloc, player.catalogue(), line, shape),
-        Err(ShapeFault::NoMemory) => Err(Failure::Memory),
-        Err(fault) => Err(refused(line, What::Shape(fault))),
-    }
+    let shape = shape_of(alloc, line, text)?;
+    load_deed(alloc, player.catalogue(), line, shape)
 }
 
 /// What the list of a section comes to, which opens at a line.
 pub fn list_deed(alloc: Global, player: &Player, line: usize, text: &str) -> Result<Deed, Failure>
     ensures { Comes line (ComesToDeed (playing player.now).stage (set_act line (list_of text.now))) result }
 {
-    match read_list(alloc, text) {
-        Ok(list) => made(Deed::set(alloc, list)),
-        Err(ListFault::NoMemory) => Err(Failure::Memory),
-        Err(fault) => Err(refused(line, What::List(fault))),
-    }
+    let list = list_of(alloc, line, text)?;
+    made(Deed::set(alloc, list))
 }
 
 // What a request comes to, of this actor.
@@ -109,10 +82,9 @@ fn request_deed(
 ) -> Result<Deed, Failure>
     ensures { Comes line (just (requests catalogue.now asked.now actor)) result }
 {
-    match request_of(alloc, catalogue, asked) {
-        Ok(Some(request)) => made(Deed::ask(alloc, catalogue, actor, request)),
-        Ok(None) => Err(refused(line, What::UnknownName)),
-        Err(_) => Err(Failure::Memory),
+    match request_of(alloc, catalogue, asked)? {
+        Some(request) => made(Deed::ask(alloc, catalogue, actor, request)),
+        None => Err(refused(line, What::UnknownName)),
     }
 }
 
@@ -177,10 +149,9 @@ pub fn step_deed(
         (Steps line (record { asker = asker.now; asked = asked }))) result }
 {
     let catalogue = player.catalogue();
-    match actor_of(alloc, catalogue, asker) {
-        Ok(Some(actor)) => asked_deed(alloc, catalogue, line, actor, asked),
-        Ok(None) => Err(refused(line, What::UnknownName)),
-        Err(_) => Err(Failure::Memory),
+    match actor_of(alloc, catalogue, asker)? {
+        Some(actor) => asked_deed(alloc, catalogue, line, actor, asked),
+        None => Err(refused(line, What::UnknownName)),
     }
 }
 
@@ -189,19 +160,16 @@ fn asking_deed(alloc: Global, player: &Player, actor: usize) -> Result<Deed, Fai
     ensures ok { IfOk result (λ d. deed_text d ≡ goes (playing player.now).stage actor) }
     ensures err { IfErr result (λ failure. failure ≡ Failure.Memory) }
 {
-    match player.asks(actor) {
-        Ok(request) => made(Deed::go(alloc, player.catalogue(), actor, request)),
-        Err(_) => Err(Failure::Memory),
-    }
+    let request = player.asks(actor)?;
+    made(Deed::go(alloc, player.catalogue(), actor, request))
 }
 
 /// What one `go` comes to.
 pub fn go_deed(alloc: Global, player: &Player, line: usize, asker: &Asker) -> Result<Deed, Failure>
     ensures { Comes line (ComesToDeed (playing player.now).stage (Goes line asker.now)) result }
 {
-    match actor_of(alloc, player.catalogue(), asker) {
-        Ok(Some(actor)) => asking_deed(alloc, player, actor),
-        Ok(None) => Err(refused(line, What::UnknownName)),
-        Err(_) => Err(Failure::Memory),
+    match actor_of(alloc, player.catalogue(), asker)? {
+        Some(actor) => asking_deed(alloc, player, actor),
+        None => Err(refused(line, What::UnknownName)),
     }
 }

@@ -13,10 +13,9 @@ ghost use Rattle.rv_play.specs.Scripted.{playing, ReadsLimits, outcome_of};
 use crate::acts::{go_deed, list_deed, shape_deed, step_deed, unit_deed};
 use crate::deed::Deed;
 use crate::player::{Limits, Player};
-use rv_fault::{Failure, What, refused};
+use rv_fault::{Failure, What, refused, settings_of};
 use rv_host::host::NewFault;
-use rv_script::{Opening, ReadError, open, opening_of, read_script, text_of};
-use rv_settings::{DEFAULT_BUDGET, DEFAULT_CAPACITY, SettingsFault, read_settings};
+use rv_script::{Opening, open, opening_of, read_script, text_of};
 use rv_step::reading::{StepError, step_of};
 use rv_step::step::{Asked, Asker, Step};
 use rv_text::{Section, Sections, has_words, next_line};
@@ -32,10 +31,8 @@ fn perform<W: Write>(
     ensures { (act : Act) → Comes (line_of act) (ComesToDeed (playing player.old).stage act) deed
         → Carries (W.contents writer.old) (W.contents writer.new) (playing player.old) (playing player.new) (act ∷ []) result }
 {
-    match deed {
-        Ok(deed) => player.tell(writer, deed),
-        Err(failure) => Err(failure),
-    }
+    let deed = deed?;
+    player.tell(writer, deed)
 }
 
 // Carries out so many `go`s, one after another.
@@ -52,10 +49,7 @@ fn perform_goes<W: Write>(
 {
     for _ in 0..count {
         let deed = go_deed(alloc, player, line, asker);
-        match perform(player, writer, deed) {
-            Ok(()) => {}
-            Err(failure) => return Err(failure),
-        }
+        perform(player, writer, deed)?;
     }
     Ok(())
 }
@@ -117,10 +111,7 @@ fn perform_all<W: Write>(
     let mut line = section.line;
     while let Some((text, after)) = next_line(rest) {
         line += 1;
-        match perform_line(alloc, player, writer, line, text) {
-            Ok(()) => {}
-            Err(failure) => return Err(failure),
-        }
+        perform_line(alloc, player, writer, line, text)?;
         rest = after;
     }
     Ok(())
@@ -175,10 +166,7 @@ fn carry_out_all<W: Write>(
         (acts_from sections.entry) result }
 {
     'each: while let Some(section) = sections.next_section() {
-        match carry_out(alloc, player, writer, &section) {
-            Ok(()) => {}
-            Err(failure) => return Err(failure),
-        }
+        carry_out(alloc, player, writer, &section)?;
     }
     Ok(())
 }
@@ -188,20 +176,11 @@ fn limits_of(alloc: Global, settings: &Option<Section<'_>>) -> Result<Limits, Fa
     ensures { ReadsLimits (option_map (λ s. record { line = s.line; opening = s.opening.now; text = s.text.now })
         settings.now) result }
 {
-    let Some(section) = settings else {
-        return Ok(Limits {
-            capacity: DEFAULT_CAPACITY,
-            budget: DEFAULT_BUDGET,
-        });
-    };
-    match read_settings(alloc, section.text) {
-        Ok(settings) => Ok(Limits {
-            capacity: settings.capacity(),
-            budget: settings.budget(),
-        }),
-        Err(SettingsFault::NoMemory) => Err(Failure::Memory),
-        Err(fault) => Err(refused(section.line, What::Settings(fault))),
-    }
+    let settings = settings_of(alloc, settings)?;
+    Ok(Limits {
+        capacity: settings.capacity(),
+        budget: settings.budget(),
+    })
 }
 
 // Carries out a text from the beginning.
@@ -212,10 +191,7 @@ fn play_text<W: Write>(alloc: Global, writer: &mut W, all: bool, text: &str) -> 
         Ok(script) => script,
         Err(line) => return Err(refused(line, What::BadSection)),
     };
-    let limits = match limits_of(alloc, &script.settings) {
-        Ok(limits) => limits,
-        Err(failure) => return Err(failure),
-    };
+    let limits = limits_of(alloc, &script.settings)?;
     match Player::new(alloc, limits, all) {
         Ok(mut player) => carry_out_all(alloc, &mut player, writer, script.sections),
         Err(NewFault::BadCapacity) | Err(NewFault::NoMemory) => Err(Failure::Memory),
@@ -248,9 +224,6 @@ pub fn play<R: Read, W: Write>(
     ensures { IfSome (R.remaining reader.old) (λ script.
         WritesScript (W.contents writer.old) (W.contents writer.new) (outcome_of all) script result) }
 {
-    match read_script(alloc, reader) {
-        Ok(bytes) => play_bytes(alloc, writer, all, bytes.as_slice()),
-        Err(ReadError::Memory) => Err(Failure::Memory),
-        Err(ReadError::Io(e)) => Err(Failure::Io(e)),
-    }
+    let bytes = read_script(alloc, reader)?;
+    play_bytes(alloc, writer, all, bytes.as_slice())
 }

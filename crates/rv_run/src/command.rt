@@ -5,20 +5,22 @@ ghost use Rattle.rv_staff.specs.Giving.{Gives};
 ghost use Rattle.rv_run.specs.Commanding.{Commands, Loads, LoadsIn};
 
 use crate::journal::not_written;
-use crate::loads::unit_of;
 use rv_code::UnitBodies;
 use rv_event::entry::Answer;
-use rv_fault::{Failure, What};
+use rv_fault::{Failure, ScriptFault, text_unit};
 use rv_input::{Input, InputFault};
 use rv_shape::shape::UnitShape;
 use rv_shell::{LineFault, Next, Shell};
 use rv_staff::{Hires, Session, raise, say, start_threads};
 use rv_turn::Worn;
 use rv_unit::Unit;
-use std::alloc::{AllocError, Global};
+use std::alloc::Global;
 use std::io;
 use std::io::{Read, Write};
 use std::sync::Wait;
+
+// A unit text that a command brings stands at no line of the script.
+const NO_LINE: usize = 0;
 
 /// Whether the run goes on.
 #[derive(Clone, Copy, Debug, PartialEq, Eq, Drop)]
@@ -45,19 +47,19 @@ pub(crate) fn of_input(fault: InputFault) -> Failure {
     }
 }
 
-// The words of what is wrong with a unit text.
-fn fault_line(alloc: Global, what: What) -> Result<String, AllocError> {
-    format!(in alloc; "{what}\n")
+// The words of what is wrong with a unit text; None where there are none, or memory was refused.
+fn fault_line(alloc: Global, failure: Failure) -> Option<String> {
+    let Failure::Refused(ScriptFault { what, .. }) = failure else {
+        return None;
+    };
+    format!(in alloc; "{what}\n").ok()
 }
 
 // Says what is wrong with a unit text, or that memory was refused.
-fn complain<W: Write>(alloc: Global, what: Option<What>, writer: &mut W) -> Result<Goes, Failure> {
-    let Some(what) = what else {
-        return said(say(writer, "nomemory\n"));
-    };
-    match fault_line(alloc, what) {
-        Ok(line) => said(say(writer, line.as_str())),
-        Err(_) => said(say(writer, "nomemory\n")),
+fn complain<W: Write>(alloc: Global, failure: Failure, writer: &mut W) -> Result<Goes, Failure> {
+    match fault_line(alloc, failure) {
+        Some(line) => said(say(writer, line.as_str())),
+        None => said(say(writer, "nomemory\n")),
     }
 }
 
@@ -105,12 +107,12 @@ fn load<T: Wait, H: Hires, W: Write>(
 ) -> Result<Goes, Failure>
     ensures { (session.new.staff.control ≡ session.old.staff.control) ⊎ Loads session.old.staff.control session.new.staff.control }
 {
-    match unit_of(session.alloc, session.staff.catalogue(), text) {
+    match text_unit(session.alloc, session.staff.catalogue(), NO_LINE, text) {
         Ok(Unit { shape, bodies }) => {
             let answer = load_unit(rt, session, shape, bodies);
             welcome(hires, session, answer, writer)
         }
-        Err(what) => complain(session.alloc, what, writer),
+        Err(failure) => complain(session.alloc, failure, writer),
     }
 }
 

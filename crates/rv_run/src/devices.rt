@@ -1,16 +1,15 @@
 //! The devices of settings: each becomes a unit of one task, and a job for it.
 
 use rv_event::entry::Answer;
-use rv_fault::{Failure, What, refused};
+use rv_fault::{Failure, What, device_unit, refused};
 use rv_port::control::Control;
 use rv_settings::Device;
 use rv_shape::actor::{Callee, FIRST_TASK};
 use rv_shape::catalogue::Catalogue;
 use rv_shape::shape::UnitShape;
-use rv_shape::task::Task;
 use rv_staff::DeviceJob;
 use rv_turn::Worn;
-use std::alloc::{AllocError, Global};
+use std::alloc::Global;
 use std::sync::Wait;
 
 // Whether an operation is called without values.
@@ -32,15 +31,6 @@ fn called_by(catalogue: &Catalogue, device: &Device) -> Option<(usize, usize)> {
     Some((object, operation))
 }
 
-// The unit that a device is.
-fn shape_of(alloc: Global, device: &Device) -> Result<UnitShape, AllocError> {
-    let name = String::from_str(alloc, device.unit())?;
-    let task = String::from_str(alloc, device.task())?;
-    let mut tasks = Vec::new(alloc);
-    tasks.push(Task::new(task, device.priority() as usize))?;
-    Ok(UnitShape::new(name, tasks, Vec::new(alloc)))
-}
-
 // The unit and the job of a device, whose settings open at a line.
 fn fitting(
     alloc: Global,
@@ -51,9 +41,7 @@ fn fitting(
     let Some((object, operation)) = called_by(catalogue, device) else {
         return Err(refused(line, What::UnknownName));
     };
-    let Ok(shape) = shape_of(alloc, device) else {
-        return Err(Failure::Memory);
-    };
+    let shape = device_unit(alloc, device)?;
     if let Some(fault) = catalogue.shape_fits(&shape) {
         return Err(refused(line, What::Shape(fault)));
     }
@@ -91,10 +79,8 @@ fn load_device<R: Wait>(
     line: usize,
     device: &Device,
 ) -> Result<(), Failure> {
-    match fitting(alloc, control.catalogue(), line, device) {
-        Ok((shape, job)) => keep(jobs, job, control.load_shape(rt, shape)),
-        Err(failure) => Err(failure),
-    }
+    let (shape, job) = fitting(alloc, control.catalogue(), line, device)?;
+    keep(jobs, job, control.load_shape(rt, shape))
 }
 
 /// Loads devices, in order, up to the first that doesn't fit. Their settings open at a line.
@@ -107,10 +93,7 @@ pub(crate) fn load_devices<R: Wait>(
     devices: &[Device],
 ) -> Result<(), Failure> {
     for device in devices {
-        match load_device(rt, alloc, control, jobs, line, device) {
-            Ok(()) => {}
-            Err(failure) => return Err(failure),
-        }
+        load_device(rt, alloc, control, jobs, line, device)?;
     }
     Ok(())
 }

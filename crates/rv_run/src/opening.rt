@@ -1,4 +1,4 @@
-//! What stands before the commands: settings, units and lists, carried out in order.
+//! What stands before the commands: units, lists and devices, carried out in order.
 
 ghost use Rattle.std.specs.Prelude.{◌≡◌, []};
 
@@ -8,27 +8,11 @@ use rv_fault::{Failure, What, refused};
 use rv_host::host::Host;
 use rv_port::control::Control;
 use rv_script::{Opening, opening_of};
-use rv_settings::{Settings, SettingsFault, read_settings};
+use rv_settings::Settings;
 use rv_staff::DeviceJob;
 use rv_text::{Section, Sections};
 use std::alloc::Global;
 use std::sync::Wait;
-
-/// The settings of a script; of one that has none those of an empty text.
-pub(crate) fn settings_of(
-    alloc: Global,
-    settings: &Option<Section<'_>>,
-) -> Result<Settings, Failure> {
-    let (line, text) = match settings {
-        Some(section) => (section.line, section.text),
-        None => (1, ""),
-    };
-    match read_settings(alloc, text) {
-        Ok(settings) => Ok(settings),
-        Err(SettingsFault::NoMemory) => Err(Failure::Memory),
-        Err(fault) => Err(refused(line, What::Settings(fault))),
-    }
-}
 
 // Carries out one section.
 fn carry_out<R: Wait>(
@@ -53,10 +37,7 @@ fn carry_out_all<R: Wait>(
     mut sections: Sections<'_>,
 ) -> Result<(), Failure> {
     'each: while let Some(section) = sections.next_section() {
-        match carry_out(rt, alloc, control, &section) {
-            Ok(()) => {}
-            Err(failure) => return Err(failure),
-        }
+        carry_out(rt, alloc, control, &section)?;
     }
     Ok(())
 }
@@ -71,10 +52,8 @@ pub(crate) fn prepare<R: Wait>(
     line: usize,
     settings: &Settings,
 ) -> Result<(), Failure> {
-    match carry_out_all(rt, alloc, control, sections) {
-        Ok(()) => load_devices(rt, alloc, control, jobs, line, settings.devices()),
-        Err(failure) => Err(failure),
-    }
+    carry_out_all(rt, alloc, control, sections)?;
+    load_devices(rt, alloc, control, jobs, line, settings.devices())
 }
 
 // The control of a new host.
