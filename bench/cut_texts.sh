@@ -15,7 +15,6 @@ mkdir "$folder/scripts"
 [ $# -eq 0 ] || cp -- "$@" "$folder/scripts/"
 cd "$(dirname "$(readlink -f "$0")")/../crates/rv_rows"
 [ $# -gt 0 ] || cp data/*.raven "$folder/scripts/"
-[ $# -gt 0 ] || rm "$folder"/scripts/body_deep_frames.raven "$folder"/scripts/body_deepest_m*.raven
 [ -x out/rv_rows ] || rt run >/dev/null
 program=$PWD/out/rv_rows
 

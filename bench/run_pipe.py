@@ -232,9 +232,9 @@ def two_devices(program):
     expect("quit", run.end(), (f"entries {len(journal) + 1}\n", "", 0))
 
 
-def deepest(program, row="body_deepest"):
+def deepest(program, row="body_deepest", folder="crates/rv_rows/data"):
     """The deepest body runs on a thread of a run: the journal is that of the row in which it runs by `go`."""
-    data = os.path.join(TOP, "crates/rv_rows/data", row)
+    data = os.path.join(TOP, folder, row)
     with open(data + ".raven") as script, open(data + ".journal") as journal:
         text, due = script.read().split("@steps\n")[0], journal.read().splitlines()
     run = Run(program, text + "@run\n")
@@ -245,8 +245,8 @@ def deepest(program, row="body_deepest"):
 
 def deepest_of_all(program):
     """The same of those that nest the most operations in each parenthesis."""
-    deepest(program, "body_deepest_most")
-    deepest(program, "body_deepest_mixed")
+    deepest(program, "body_deepest_most", "bench/deepest")
+    deepest(program, "body_deepest_mixed", "bench/deepest")
 
 
 def no_thread(program):
