@@ -106,13 +106,13 @@ Kinds.Pilot resume -> woken
 Kinds.Pilot clock -> accepted {N}
 Kinds.Pilot delay {N} -> accepted 0
 """
-RECORDED, STEPS = ROUND.count("\n"), 46
+RECORDED = ROUND.count("\n")
 LISTS = ["allow * * *; deny Kinds Kinds.Alarm Note", "allow * * *; deny Kinds Kinds.Alarm *"]
 BETWEEN_LOADS = 16_000
 
 
 def write(path, entries):
-    """Writes a journal of so many entries, and gives how many rounds it has."""
+    """Writes a journal of so many entries, none or two at least, and gives how many rounds it has."""
     lines = ["operator load Kinds -> accepted 0", f"operator list [{LISTS[0]}] -> accepted 0"]
     rounds, version, loaded = 0, 1, 0
     while len(lines) + 2 + RECORDED <= entries:
@@ -126,15 +126,28 @@ def write(path, entries):
         lines += ROUND.format(V=version, N=rounds).splitlines()
     lines += ["operator tick 1 -> accepted 0"] * (entries - len(lines))
     with open(path, "w") as file:
-        file.writelines(f"{number} {line}\n" for number, line in enumerate(lines, 1))
+        file.writelines(f"{number} {line}\n" for number, line in enumerate(lines[:entries], 1))
     return rounds
 PYTHON
 
-PYTHONPATH=$folder python3 - "$folder" "${1:-5}" <<'PYTHON'
-import os, subprocess, sys, time
-from journal import RECORDED, SECTIONS, STEPS, write
+# In a process of its own, since what is measured begins with the memory of who starts it.
+rounds=$(PYTHONPATH=$folder python3 - "$folder" <<'PYTHON'
+import sys
+from journal import SECTIONS, write
 
-FOLDER, ROUNDS = sys.argv[1], int(sys.argv[2])
+folder = sys.argv[1]
+with open(f"{folder}/sections", "w") as file:
+    file.write(SECTIONS)
+write(f"{folder}/empty", 0)
+write(f"{folder}/small", 100_000)
+print(write(f"{folder}/large", 1_000_000))
+PYTHON
+)
+python3 - "$folder" "${1:-5}" "$rounds" <<'PYTHON'
+import os, subprocess, sys, time
+
+FOLDER, ROUNDS, rounds = sys.argv[1], int(sys.argv[2]), int(sys.argv[3])
+RECORDED, STEPS = 41, 46
 PROGRAM = "crates/ravenhost/out/ravenhost"
 STEP_BENCH = "crates/step_bench/out/step_bench"
 LARGE, SMALL = 1_000_000, 100_000
@@ -157,11 +170,6 @@ def audit(name, entries):
     return [PROGRAM, "audit", "--journal", f"{FOLDER}/{name}"], f"legal {entries} entries\n"
 
 
-with open(f"{FOLDER}/sections", "w") as file:
-    file.write(SECTIONS)
-rounds = write(f"{FOLDER}/large", LARGE)
-write(f"{FOLDER}/small", SMALL)
-open(f"{FOLDER}/empty", "w").close()
 commands = {
     "large": audit("large", LARGE),
     "small": audit("small", SMALL),
