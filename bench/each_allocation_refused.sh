@@ -172,7 +172,7 @@ refuse_each_of_run() {
 program=$PWD/crates/ravenhost/out/ravenhost
 data=crates/rv_rows/data
 scripts=0 all=0 front="status 3 and a front of the output"
-answer='^(accepted 0|full|halted|badline|raised|unattached|bad command|nomemory|no thread [A-Za-z0-9_.]+|entries [0-9]+|[0-9]+ .* -> .*)$'
+answer='^(accepted 0|full|halted|badline|raised|unattached|bad command|list BadWord at line 1|nomemory|no thread [A-Za-z0-9_.]+|entries [0-9]+|[0-9]+ .* -> .*)$'
 
 if [ $# -gt 0 ]; then
     for script in "$@"; do refuse_each "$script" check --explain; done
@@ -246,15 +246,12 @@ package body More is
    end Gauge;
 end More;
 @end
-load
-package Wrong is
-@end
 halt
 tick 1
+wait
 journal 1
 quit
 RAVEN
-answer=${answer/bad command/bad command|list BadWord at line 1|parse Unexpected at [0-9]+}
 refuse_each_of_run "$folder/quiet.raven" without_threads
 refuse_each_of_run examples/plant.raven
 tell run "status 3, or nomemory and the last line, and a legal journal"
