@@ -137,6 +137,11 @@ answers() {
     grep -cvE '^[0-9]+ ' "$1"
 }
 
+# Whether there is one answer more: that of a page of the journal, of which else only its lines are written.
+lacks_page() {
+    [ "$(answers "$folder/written")" -eq $(($1 + 1)) ] && grep -qx nomemory "$folder/written"
+}
+
 # Whether what a run wrote is such as it should be. Of a run without threads it is known how many answers it gives.
 look_at_run() {
     local script=$1 wanted=$2
@@ -144,7 +149,8 @@ look_at_run() {
     case $status in
         0)
             tail -n 1 "$folder/written" | grep -qE '^entries [0-9]+$' || fail "status 0 without the last line"
-            [ -z "$wanted" ] || [ "$(answers "$folder/written")" -eq "$wanted" ] || fail "another number of answers"
+            [ -z "$wanted" ] || [ "$(answers "$folder/written")" -eq "$wanted" ] || lacks_page "$wanted" ||
+                fail "another number of answers"
             ;;
         3) grep -qE '^ravenhost: (out of memory|no thread can be started)$' "$folder/error" || fail "status 3 without its words" ;;
         *) fail "status $status" ;;
