@@ -150,6 +150,15 @@ fn piece(text: &str, kind: Kind, number: usize) -> Option<Parts<'_>> {
     between(text, start, end)
 }
 
+/// What a damaged text is put together from, in this order.
+#[derive(Clone, Copy)]
+struct Pieces<'a> {
+    front: &'a str,
+    first: &'a str,
+    second: &'a str,
+    behind: &'a str,
+}
+
 // What stands behind the first of a character in a row.
 fn behind_in(row: &'static str, character: &str) -> Option<&'static str> {
     let place = row.find(character)?.saturating_add(1);
@@ -157,17 +166,32 @@ fn behind_in(row: &'static str, character: &str) -> Option<&'static str> {
 }
 
 // The pieces that an entry taken out, doubled or exchanged leaves.
-fn moved(journal: &str, way: Way, number: usize) -> Option<[&str; 4]> {
+fn moved(journal: &str, way: Way, number: usize) -> Option<Pieces<'_>> {
     let entry = piece(journal, Kind::Feed, number)?;
     match way {
         Way::Doubled | Way::DoubledNumbered => {
-            Some([entry.front, entry.middle, entry.middle, entry.behind])
+            Some(Pieces {
+                front: entry.front,
+                first: entry.middle,
+                second: entry.middle,
+                behind: entry.behind,
+            })
         }
         Way::Exchanged | Way::ExchangedNumbered => {
             let next = piece(entry.behind, Kind::Feed, 0)?;
-            Some([entry.front, next.middle, entry.middle, next.behind])
+            Some(Pieces {
+                front: entry.front,
+                first: next.middle,
+                second: entry.middle,
+                behind: next.behind,
+            })
         }
-        _ => Some([entry.front, entry.behind, "", ""]),
+        _ => Some(Pieces {
+            front: entry.front,
+            first: "",
+            second: "",
+            behind: entry.behind,
+        }),
     }
 }
 
@@ -177,21 +201,31 @@ fn changed<'a>(
     kind: Kind,
     row: &'static str,
     number: usize,
-) -> Option<[&'a str; 4]> {
+) -> Option<Pieces<'a>> {
     let found = character(journal, kind, number)?;
     let other = behind_in(row, found.middle)?;
-    Some([found.front, other, found.behind, ""])
+    Some(Pieces {
+        front: found.front,
+        first: other,
+        second: "",
+        behind: found.behind,
+    })
 }
 
 // The pieces with a word twice.
-fn word_doubled(journal: &str, number: usize) -> Option<[&str; 4]> {
+fn word_doubled(journal: &str, number: usize) -> Option<Pieces<'_>> {
     let word = piece(journal, Kind::Blank, number)?;
-    let second = journal.get(word.front.len()..)?;
-    Some([word.front, word.middle.trim_end(), " ", second])
+    let behind = journal.get(word.front.len()..)?;
+    Some(Pieces {
+        front: word.front,
+        first: word.middle.trim_end(),
+        second: " ",
+        behind,
+    })
 }
 
 // The pieces with a carriage return before the line feed of an entry, or in the entry's middle.
-fn returned(journal: &str, way: Way, number: usize) -> Option<[&str; 4]> {
+fn returned(journal: &str, way: Way, number: usize) -> Option<Pieces<'_>> {
     let entry = piece(journal, Kind::Feed, number)?;
     let length = entry.middle.trim_end().len();
     let within = match way {
@@ -199,20 +233,27 @@ fn returned(journal: &str, way: Way, number: usize) -> Option<[&str; 4]> {
         _ => length / 2,
     };
     let place = entry.front.len().saturating_add(within);
-    Some([journal.get(..place)?, "\r", journal.get(place..)?, ""])
+    Some(Pieces {
+        front: journal.get(..place)?,
+        first: "\r",
+        second: "",
+        behind: journal.get(place..)?,
+    })
 }
 
 // The pieces of what stands before a byte.
-fn cut(journal: &str, number: usize) -> Option<[&str; 4]> {
-    if number < journal.len() {
-        Some([journal.get(..number)?, "", "", ""])
-    } else {
-        None
-    }
+fn cut(journal: &str, number: usize) -> Option<Pieces<'_>> {
+    let byte = between(journal, number, number.saturating_add(1))?;
+    Some(Pieces {
+        front: byte.front,
+        first: "",
+        second: "",
+        behind: "",
+    })
 }
 
 // The pieces that a damage leaves at the place of a number, from 0.
-fn pieces(journal: &str, way: Way, number: usize) -> Option<[&str; 4]> {
+fn left_by(journal: &str, way: Way, number: usize) -> Option<Pieces<'_>> {
     match way {
         Way::Digit => changed(journal, Kind::Digit, DIGITS, number),
         Way::Letter => changed(journal, Kind::Letter, LETTERS, number),
@@ -243,13 +284,14 @@ pub fn damaged(
     way: Way,
     number: usize,
 ) -> Result<Option<String>, AllocError> {
-    let Some(pieces) = pieces(journal, way, number) else {
+    let Some(pieces) = left_by(journal, way, number) else {
         return Ok(None);
     };
     let mut text = String::new(alloc);
-    for piece in pieces {
-        text.push_str(piece)?;
-    }
+    text.push_str(pieces.front)?;
+    text.push_str(pieces.first)?;
+    text.push_str(pieces.second)?;
+    text.push_str(pieces.behind)?;
     if way.is_numbered() {
         return Ok(Some(numbered(alloc, text.as_str())?));
     }
