@@ -126,9 +126,16 @@ pub fn new(alloc: Global) -> (Outcome, Option<Host>)
 {
     match Host::new(alloc, CAPACITY) {
         Ok(host) => (Outcome::Done, Some(host)),
-        Err(NewFault::NoMemory) => (Outcome::NoMemory, Host::new(alloc, CAPACITY).ok()),
+        Err(NewFault::NoMemory) => (Outcome::NoMemory, new_again(alloc)),
         Err(NewFault::BadCapacity) => (Outcome::Failed, None),
     }
+}
+
+// A new host.
+fn new_again(alloc: Global) -> Option<Host>
+    ensures { IfSome result (λ host. host.past ≡ []) }
+{
+    Host::new(alloc, CAPACITY).ok()
 }
 
 /// Loads a shape.

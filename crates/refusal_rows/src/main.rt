@@ -8,17 +8,18 @@
 ghost use Rattle.std.specs.Prelude.{◌≡◌, IfSome};
 ghost use Rattle.rv_staff.specs.Hiring.{hired};
 
-mod blank;
 mod hosts;
 mod lists;
 mod said;
 mod texts;
 mod threads;
+mod turns;
 
 use rv_access::{AccessList, Line};
 use rv_crew::crew::Crew;
 use rv_crew::job::Job;
 use rv_host::host::Host;
+use rv_names::resolve::Named;
 use rv_port::control::Control;
 use rv_port::port::{Finished, Port};
 use rv_shape::catalogue::Catalogue;
@@ -86,26 +87,42 @@ fn parts<R: Print>(rt: &R, alloc: Global) -> Option<Parts> {
     })
 }
 
-// The calls over a tree.
-fn of_tree<R: Print>(rt: &R, alloc: Global, catalogue: &Catalogue) -> Option<()> {
+// The calls over a tree whose names are looked up. Whether all were made.
+fn of_names<R: Print>(rt: &R, alloc: Global, named: &Named) -> bool {
+    let (outcome, bodies) = texts::check_types(alloc, named);
+    say(rt, "check_types", outcome);
+    match bodies {
+        Some(bodies) => {
+            say(rt, "Bodies::add", texts::add_bodies(alloc, bodies));
+            true
+        }
+        None => false,
+    }
+}
+
+// The calls over a tree. Whether all were made.
+fn of_tree<R: Print>(rt: &R, alloc: Global, catalogue: &Catalogue) -> bool {
     let (outcome, tree) = texts::parse(alloc);
     say(rt, "parse", outcome);
-    let tree = tree?;
+    let Some(tree) = tree else {
+        return false;
+    };
     say(rt, "print", texts::print(alloc, &tree));
     let (outcome, named) = texts::resolve(alloc, &tree, catalogue);
     say(rt, "resolve", outcome);
-    let named = named?;
-    let (outcome, bodies) = texts::check_types(alloc, &named);
-    say(rt, "check_types", outcome);
-    say(rt, "Bodies::add", texts::add_bodies(alloc, bodies?));
-    Some(())
+    match named {
+        Some(named) => of_names(rt, alloc, &named),
+        None => false,
+    }
 }
 
 // The calls over settings and unit texts.
 fn of_texts<R: Print>(rt: &R, alloc: Global, catalogue: &Catalogue) -> Option<Unit> {
     say(rt, "read_settings", texts::read_settings(alloc));
     say(rt, "tokens", texts::tokens(alloc));
-    of_tree(rt, alloc, catalogue)?;
+    if !of_tree(rt, alloc, catalogue) {
+        return None;
+    }
     let (outcome, unit) = texts::compile(alloc, catalogue);
     say(rt, "compile", outcome);
     say(rt, "Machine::reserve", texts::reserve(alloc));
@@ -131,35 +148,53 @@ fn of_host<R: Print>(rt: &R, alloc: Global, parts: &Parts, host: &mut Host) {
     say(rt, "Host::entries", hosts::entries(alloc, host));
 }
 
-// The calls of a host, of journals and of scripts.
-fn of_hosts<R: Print>(rt: &R, alloc: Global, parts: &Parts) -> Option<()> {
+// The calls of a new host. Whether there is one.
+fn of_new_host<R: Print>(rt: &R, alloc: Global, parts: &Parts) -> bool {
     let (outcome, host) = hosts::new(alloc);
     say(rt, "Host::new", outcome);
-    let mut host = host?;
-    of_host(rt, alloc, parts, &mut host);
+    match host {
+        Some(mut host) => {
+            of_host(rt, alloc, parts, &mut host);
+            true
+        }
+        None => false,
+    }
+}
+
+// The calls over entries, journals and scripts.
+fn of_journals<R: Print>(rt: &R, alloc: Global, parts: &Parts) {
     say(rt, "entry_text", hosts::entry_text(alloc, &parts.catalogue));
     say(rt, "read_entry", hosts::read_entry(alloc, &parts.catalogue));
     say(rt, "audit", hosts::audit(alloc, &parts.shape));
     say(rt, "play", hosts::play(alloc));
     say(rt, "check", hosts::check(alloc));
-    Some(())
 }
 
-// The calls of a turn.
-fn of_turn<R: Print>(rt: &R, alloc: Global) -> Option<()> {
-    let (outcome, first) = threads::make_turn(alloc);
+// The calls of a turn. Whether both were made.
+fn of_turn<R: Print>(rt: &R, alloc: Global) -> bool {
+    let (outcome, first) = turns::make(alloc);
     say(rt, "Turn::make", outcome);
-    say(rt, "Pass::split", threads::split(first?));
-    Some(())
+    match first {
+        Some(first) => {
+            say(rt, "Pass::split", turns::split(first));
+            true
+        }
+        None => false,
+    }
 }
 
 // The control of a new host.
 fn control_of<R: Print>(rt: &R, alloc: Global) -> Option<Control> {
     let (outcome, host) = hosts::new(alloc);
     say(rt, "Host::new for a control", outcome);
-    let (outcome, control) = threads::make(alloc, host?);
-    say(rt, "Control::make", outcome);
-    control
+    match host {
+        Some(host) => {
+            let (outcome, control) = threads::make(alloc, host);
+            say(rt, "Control::make", outcome);
+            control
+        }
+        None => None,
+    }
 }
 
 // The calls of a control.
@@ -180,13 +215,13 @@ fn of_control<R: Print + Wait>(
     say(
         rt,
         "Control::load_shape",
-        threads::load_shape(rt, control, shape_copy, &shape),
+        threads::load_shape(rt, alloc, control, shape_copy, &shape),
     );
     say(rt, "Control::load", threads::load(rt, alloc, control, unit));
     say(
         rt,
         "Control::set_list",
-        threads::set_list(rt, control, list_copy, &list),
+        threads::set_list(rt, alloc, control, list_copy, &list),
     );
     say(rt, "Shell::line", threads::line(rt, alloc, control));
 }
@@ -216,8 +251,13 @@ fn before_threads<R: Print + Wait>(rt: &R, alloc: Global) -> Option<(Control, Po
 {
     let parts = parts(rt, alloc)?;
     let unit = of_texts(rt, alloc, &parts.catalogue)?;
-    of_hosts(rt, alloc, &parts)?;
-    of_turn(rt, alloc)?;
+    if !of_new_host(rt, alloc, &parts) {
+        return None;
+    }
+    of_journals(rt, alloc, &parts);
+    if !of_turn(rt, alloc) {
+        return None;
+    }
     of_ports(rt, alloc, parts, unit)
 }
 

@@ -1,10 +1,9 @@
-//! Calls of turns, of the control and the ports of a host, and of crews.
+//! Calls of the control and the ports of a host, of crews, and of a run.
 
-ghost use Rattle.std.specs.Prelude.{◌≡◌, [], true, IfSome};
+ghost use Rattle.std.specs.Prelude.{◌≡◌, [], IfSome};
 ghost use Rattle.rv_crew.specs.Teams.{IsOfTurn};
 ghost use Rattle.rv_turn.specs.Histories.{Each};
 
-use crate::blank::Blank;
 use crate::hosts::{Standing, ended, heard, heard_again};
 use crate::said::Outcome;
 use crate::texts::unit;
@@ -15,24 +14,22 @@ use rv_crew::laws::{joins_keep_the_turn, starts_keep_the_turn};
 use rv_crew::tasks::device;
 use rv_event::entry::Answer;
 use rv_host::host::Host;
+use rv_host::pages::Page;
 use rv_port::control::Control;
 use rv_port::fault::PortFault;
 use rv_port::port::{Finished, Port};
 use rv_shape::shape::UnitShape;
 use rv_shell::{LineFault, Shell};
 use rv_staff::Hires;
-use rv_turn::{Pass, SplitFault, Turn, Worn};
+use rv_turn::Worn;
 use rv_unit::Unit;
-use std::alloc::{AllocFailed, Global};
+use std::alloc::Global;
 use std::sync::Wait;
 use std::thread::Threads;
 use std::{io, str};
 
 // The task of the shape, whose port is given.
 const PILOT: u64 = 11;
-
-// How many acts the pass of another actor may make.
-const ACTS: u64 = 10;
 
 const RUN: &str = "@host.toml
 capacity = 64
@@ -82,38 +79,6 @@ end Nav;
 quit
 ";
 
-/// What the make of a turn came to, and its first pass.
-pub fn make_turn(alloc: Global) -> (Outcome, Option<Pass<Blank>>)
-    ensures { IfSome result.1 (λ pass. (pass.first ≡ true) × (pass.given ≡ [])) }
-{
-    match Turn::make(alloc, Blank) {
-        Ok((_turn, first)) => (Outcome::Done, Some(first)),
-        Err(AllocFailed { value }) => (Outcome::NoMemory, first_pass(alloc, value)),
-    }
-}
-
-// The first pass of a turn.
-fn first_pass(alloc: Global, value: Blank) -> Option<Pass<Blank>>
-    ensures { IfSome result (λ pass. (pass.first ≡ true) × (pass.given ≡ [])) }
-{
-    match Turn::make(alloc, value) {
-        Ok((_turn, first)) => Some(first),
-        Err(_) => None,
-    }
-}
-
-/// Cuts a pass off the first one.
-pub fn split(mut first: Pass<Blank>) -> Outcome
-    requires { (first.first ≡ true) × (first.given ≡ []) }
-{
-    let before = first.left();
-    match first.split(1, ACTS) {
-        Ok(_) => Outcome::Done,
-        Err(SplitFault::NoMemory) => Outcome::refused(first.left() == before),
-        Err(SplitFault::TooFew) => Outcome::Failed,
-    }
-}
-
 /// What the make of a control came to, and the control.
 pub fn make(alloc: Global, host: Host) -> (Outcome, Option<Control>)
     requires { host.past ≡ [] }
@@ -123,86 +88,105 @@ pub fn make(alloc: Global, host: Host) -> (Outcome, Option<Control>)
         Ok(control) => (Outcome::Done, Some(control)),
         Err(host) => {
             let is_same = Standing::of(&host) == before;
-            (Outcome::refused(is_same), Control::make(alloc, host).ok())
+            (Outcome::refused(is_same), make_again(alloc, host))
         }
     }
 }
 
-// What an answer to the control is.
-fn told(answer: &Result<Answer, Worn>, is_same: bool) -> Outcome {
+// The control of a host.
+fn make_again(alloc: Global, host: Host) -> Option<Control>
+    requires { host.past ≡ [] }
+{
+    Control::make(alloc, host).ok()
+}
+
+// Whether the journal of a control has so many entries, and so many units were loaded.
+fn has<R: Wait>(
+    rt: &R,
+    alloc: Global,
+    control: &mut Control,
+    entries: usize,
+    units: usize,
+) -> bool {
+    let mut page = Page::new(alloc);
+    control.entries(rt, 1, &mut page).is_ok()
+        && page.len() == entries
+        && control.catalogue().shapes().len() == units
+}
+
+// What an answer to the control is, before it is seen whether anything changed.
+fn told(answer: &Result<Answer, Worn>) -> Outcome {
     match answer {
-        Ok(answer) => heard(answer, is_same),
+        Ok(answer) => heard(answer, true),
         Err(_) => Outcome::Failed,
     }
 }
 
-// What the same came to once more.
-fn told_again(outcome: Outcome, answer: &Result<Answer, Worn>) -> Outcome {
+// What an answer came to that lacked memory: whether nothing changed, and the answer to the same once more.
+fn told_again(is_same: bool, answer: &Result<Answer, Worn>) -> Outcome {
     match answer {
-        Ok(answer) => heard_again(outcome, answer),
+        Ok(answer) => heard_again(Outcome::refused(is_same), answer),
         Err(_) => Outcome::Failed,
     }
 }
 
-/// Loads a shape, of which there is a copy.
+/// Loads a shape, of which there is a copy, as the first unit.
 pub fn load_shape<R: Wait>(
     rt: &R,
+    alloc: Global,
     control: &mut Control,
     copy: UnitShape,
     shape: &UnitShape,
 ) -> Outcome {
-    let before = control.catalogue().shapes().len();
-    let answer = control.load_shape(rt, copy);
-    let outcome = told(&answer, control.catalogue().shapes().len() == before);
+    let outcome = told(&control.load_shape(rt, copy));
     if !outcome.is_refused() {
         return outcome;
     }
+    let is_same = has(rt, alloc, control, 0, 0);
     match shape.copy() {
-        Ok(copy) => told_again(outcome, &control.load_shape(rt, copy)),
+        Ok(copy) => told_again(is_same, &control.load_shape(rt, copy)),
         Err(_) => Outcome::Failed,
     }
 }
 
-/// Loads a unit with its bodies.
+/// Loads a unit with its bodies, as the second.
 pub fn load<R: Wait>(rt: &R, alloc: Global, control: &mut Control, first: Unit) -> Outcome {
-    let before = control.catalogue().shapes().len();
     let Unit { shape, bodies } = first;
-    let answer = control.load(rt, shape, bodies);
-    let outcome = told(&answer, control.catalogue().shapes().len() == before);
+    let outcome = told(&control.load(rt, shape, bodies));
     if !outcome.is_refused() {
         return outcome;
     }
+    let is_same = has(rt, alloc, control, 1, 1);
     match unit(alloc, control.catalogue()) {
-        Some(Unit { shape, bodies }) => told_again(outcome, &control.load(rt, shape, bodies)),
+        Some(Unit { shape, bodies }) => told_again(is_same, &control.load(rt, shape, bodies)),
         None => Outcome::Failed,
     }
 }
 
-/// Sets a list whole, of which there is a copy.
+/// Sets a list whole, of which there is a copy, as the third entry.
 pub fn set_list<R: Wait>(
     rt: &R,
+    alloc: Global,
     control: &mut Control,
     copy: AccessList,
     list: &AccessList,
 ) -> Outcome {
-    let answer = control.set_list(rt, copy);
-    let outcome = told(&answer, true);
+    let outcome = told(&control.set_list(rt, copy));
     if !outcome.is_refused() {
         return outcome;
     }
+    let is_same = has(rt, alloc, control, 2, 2);
     match list.copy() {
-        Ok(copy) => told_again(outcome, &control.set_list(rt, copy)),
+        Ok(copy) => told_again(is_same, &control.set_list(rt, copy)),
         Err(_) => Outcome::Failed,
     }
 }
 
-/// Carries out a command that reads the journal.
-pub fn line<R: Wait>(rt: &R, alloc: Global, control: &mut Control) -> Outcome
-    ensures { control.new.turn ≡ control.old.turn }
-{
+/// Carries out a command that reads the journal of three entries.
+pub fn line<R: Wait>(rt: &R, alloc: Global, control: &mut Control) -> Outcome {
     match Shell::new(alloc).line(rt, control, "journal 1", &mut io::sink()) {
         Ok(_) => Outcome::Done,
-        Err(LineFault::NoMemory) => Outcome::NoMemory,
+        Err(LineFault::NoMemory) => Outcome::refused(has(rt, alloc, control, 3, 2)),
         Err(_) => Outcome::Failed,
     }
 }
@@ -233,13 +217,12 @@ pub fn calls<R: Wait>(rt: &R, port: Port) -> Finished
 }
 
 /// Starts a job. Where memory was refused for its thread, job and port are gone, and the crew keeps that.
-pub fn start<R: Threads>(rt: &R, crew: Crew, job: Job, port: Port) -> (Outcome, Crew)
+pub fn start<R: Threads>(rt: &R, mut crew: Crew, job: Job, port: Port) -> (Outcome, Crew)
     requires actor { port.actor ≡ job.actor }
     requires turn { IsOfTurn port.turn crew }
     ensures { IsOfTurn port.turn result.1 }
 {
     starts_keep_the_turn();
-    let mut crew = crew;
     match crew.start(rt, job, port) {
         Ok(()) => (Outcome::Done, crew),
         Err(StartFault::NoThread) => (Outcome::NoMemory, crew),
@@ -248,13 +231,12 @@ pub fn start<R: Threads>(rt: &R, crew: Crew, job: Job, port: Port) -> (Outcome, 
 }
 
 // The same once more.
-fn start_again<R: Threads>(rt: &R, crew: Crew, job: Job, port: Port) -> (Outcome, Crew)
+fn start_again<R: Threads>(rt: &R, mut crew: Crew, job: Job, port: Port) -> (Outcome, Crew)
     requires actor { port.actor ≡ job.actor }
     requires turn { IsOfTurn port.turn crew }
     ensures { IsOfTurn port.turn result.1 }
 {
     starts_keep_the_turn();
-    let mut crew = crew;
     match crew.start(rt, job, port) {
         Ok(()) => (Outcome::NoMemory, crew),
         Err(_) => (Outcome::Failed, crew),
@@ -290,10 +272,18 @@ fn close_joined<R: Wait>(rt: &R, crew: Crew, control: Control) -> Outcome
 {
     match crew.close(rt, control) {
         Ok(_) => Outcome::Done,
-        Err(StillOpen { crew, control }) => match crew.close(rt, control) {
-            Ok(_) => Outcome::NoMemory,
-            Err(_) => Outcome::Failed,
-        },
+        Err(StillOpen { crew, control }) => close_refused(rt, crew, control),
+    }
+}
+
+// What the same comes to once more.
+fn close_refused<R: Wait>(rt: &R, crew: Crew, control: Control) -> Outcome
+    requires joined { crew.running ≡ [] }
+    requires turn { Each (λ port. port.turn ≡ control.turn) crew.joined }
+{
+    match crew.close(rt, control) {
+        Ok(_) => Outcome::NoMemory,
+        Err(_) => Outcome::Changed,
     }
 }
 
