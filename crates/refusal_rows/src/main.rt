@@ -70,7 +70,7 @@ fn access_line<R: Print>(rt: &R, alloc: Global) -> Option<Line> {
 }
 
 // The first calls.
-fn parts<R: Print>(rt: &R, alloc: Global) -> Option<Parts> {
+fn make_parts<R: Print>(rt: &R, alloc: Global) -> Option<Parts> {
     let (shape, shape_copy) = shapes(rt, alloc)?;
     let (list, list_copy) = access_lists(rt, alloc)?;
     let line = access_line(rt, alloc)?;
@@ -249,7 +249,7 @@ fn of_ports<R: Print + Wait>(
 fn before_threads<R: Print + Wait>(rt: &R, alloc: Global) -> Option<(Control, Port)>
     ensures { IfSome result (λ both. both.1.turn ≡ both.0.turn) }
 {
-    let parts = parts(rt, alloc)?;
+    let parts = make_parts(rt, alloc)?;
     let unit = of_texts(rt, alloc, &parts.catalogue)?;
     if !of_new_host(rt, alloc, &parts) {
         return None;
