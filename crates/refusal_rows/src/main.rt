@@ -288,12 +288,10 @@ fn main(rt: HostRuntime) -> ExitCode {
     let Some(run) = run else {
         return ExitCode::FAILURE;
     };
-    let crew = Crew::new(rt.alloc());
-    let (outcome, crew) = threads::start(&rt, crew, Job { actor, run }, port);
-    say(&rt, "Crew::start", outcome);
-    let (joined, closed) = threads::close(&rt, crew, control);
-    say(&rt, "Crew::join_all", joined);
-    say(&rt, "Crew::close", closed);
+    let played = threads::play(&rt, rt.alloc(), Job { actor, run }, port, control);
+    say(&rt, "Crew::start", played.started);
+    say(&rt, "Crew::join_all", played.joined);
+    say(&rt, "Crew::close", played.closed);
 
     let begin = move |crew: &mut Crew, port: Port, task: Work| -> Result<(), HireFault>
         ensures { crew.new ≡ hired crew.old port result }

@@ -28,6 +28,14 @@ use std::sync::Wait;
 use std::thread::Threads;
 use std::{io, str};
 
+/// What the calls of a crew came to.
+#[derive(Clone, Copy, Drop)]
+pub struct Played {
+    pub started: Outcome,
+    pub joined: Outcome,
+    pub closed: Outcome,
+}
+
 // The task of the shape, whose port is given.
 const PILOT: u64 = 11;
 
@@ -216,8 +224,8 @@ pub fn calls<R: Wait>(rt: &R, port: Port) -> Finished
     device(rt, port, 1, 1, 1)
 }
 
-/// Starts a job. Where memory was refused for its thread, job and port are gone, and the crew keeps that.
-pub fn start<R: Threads>(rt: &R, mut crew: Crew, job: Job, port: Port) -> (Outcome, Crew)
+// Starts a job. Where memory was refused for its thread, job and port are gone, and the crew keeps that.
+fn start<R: Threads>(rt: &R, mut crew: Crew, job: Job, port: Port) -> (Outcome, Crew)
     requires actor { port.actor ≡ job.actor }
     requires turn { IsOfTurn port.turn crew }
     ensures { IsOfTurn port.turn result.1 }
@@ -239,12 +247,13 @@ fn start_again<R: Threads>(rt: &R, mut crew: Crew, job: Job, port: Port) -> (Out
     starts_keep_the_turn();
     match crew.start(rt, job, port) {
         Ok(()) => (Outcome::NoMemory, crew),
-        Err(_) => (Outcome::Failed, crew),
+        Err(StartFault::NoThread) => (Outcome::Failed, crew),
+        Err(StartFault::NoMemory(_job, _port)) => (Outcome::Failed, crew),
     }
 }
 
-/// Joins the threads of a crew, whose ports are of a control, and closes both. What each came to.
-pub fn close<R: Threads + Wait>(rt: &R, mut crew: Crew, control: Control) -> (Outcome, Outcome)
+// Joins the threads of a crew, whose ports are of a control, and closes both. What each came to.
+fn close<R: Threads + Wait>(rt: &R, mut crew: Crew, control: Control) -> (Outcome, Outcome)
     requires { IsOfTurn control.turn crew }
 {
     joins_keep_the_turn();
@@ -284,6 +293,26 @@ fn close_refused<R: Wait>(rt: &R, crew: Crew, control: Control) -> Outcome
     match crew.close(rt, control) {
         Ok(_) => Outcome::NoMemory,
         Err(_) => Outcome::Changed,
+    }
+}
+
+/// Starts a job on a port of a control in a thread of its own, joins it and closes the crew. What each came to.
+pub fn play<R: Threads + Wait>(
+    rt: &R,
+    alloc: Global,
+    job: Job,
+    port: Port,
+    control: Control,
+) -> Played
+    requires actor { port.actor ≡ job.actor }
+    requires turn { port.turn ≡ control.turn }
+{
+    let (started, crew) = start(rt, Crew::new(alloc), job, port);
+    let (joined, closed) = close(rt, crew, control);
+    Played {
+        started,
+        joined,
+        closed,
     }
 }
 
