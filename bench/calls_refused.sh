@@ -1,12 +1,12 @@
 #!/usr/bin/env bash
 # Refuses each allocation of crates/refusal_rows in turn: a program that makes each call of the libraries that can answer want
-# of memory, and prints a line for each. In each run one call alone must say that it found no memory, and all others that they
-# are done; over all runs each call must say so at least once, but those that take no memory, which never may. Prints how often
-# each said it. Ends with 1 where a run or a count is otherwise. It needs rt, which proves and builds the program the first time,
-# and a C compiler, for a library of a few lines that stands before malloc.
+# of memory, and prints a line for each. In each run one call alone must say that it is out of memory, and nothing changed, and
+# all others must say that they are done. Over all runs each call must have said so at least once, but for those that take no
+# memory, which must not. Prints how often each did. Ends with 1 where a run or a count is otherwise. It needs rt, which proves
+# and builds the program the first time, and a C compiler, for a library of a few lines that stands before malloc.
 set -eu
 
-for tool in rt cc; do
+for tool in rt cc awk timeout; do
     command -v "$tool" >/dev/null || {
         echo "bench/calls_refused.sh: $tool is missing" >&2
         exit 127
@@ -16,8 +16,8 @@ cd "$(dirname "$(readlink -f "$0")")/../crates/refusal_rows"
 folder=$(mktemp -d)
 trap 'rm -rf "$folder"' EXIT
 
-# Calls that take no memory: a machine and a pass have all theirs from the call that made what they are cut off, and a crew
-# takes the room for the ports that come back when it starts their threads.
+# Calls that take no memory: a machine has none of its own, a pass is cut off one that has the place for it, and a crew takes the
+# room for the ports that come back when it starts their threads.
 none="Machine::reserve Pass::split Crew::join_all"
 
 cat >"$folder/refuse.c" <<'C'
@@ -105,7 +105,7 @@ while true; do
         >"$folder/written" 2>"$folder/error" 9>"$folder/none" </dev/null || status=$?
     if [ -s "$folder/none" ]; then break; fi
     if [ "$status" -ne 0 ] || ! awk -f "$folder/one.awk" stdout "$folder/written" >>"$folder/said"; then
-        echo "allocation $number refused: status $status"
+        echo "allocation $number refused: status $status, and not just one call says so"
         diff -a stdout "$folder/written" || true
         cat "$folder/error"
         exit 1
