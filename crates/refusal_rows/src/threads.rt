@@ -39,6 +39,9 @@ pub struct Played {
 // The task of the shape, whose port is given.
 const PILOT: u64 = 11;
 
+// How many bytes a run may write.
+const ROOM: usize = 2048;
+
 const RUN: &str = "@host.toml
 capacity = 64
 [[device]]
@@ -324,12 +327,14 @@ fn says_no_memory(written: &[u8]) -> bool {
     }
 }
 
-/// What a run over a script came to.
+/// What a run over a script came to, whose output is written where there is room already: to a shell each write that failed
+/// is one, whatever it failed for.
 pub fn run<T: Threads + Wait, H: Hires>(rt: &T, hires: &H, alloc: Global) -> Outcome {
     let mut reader = RUN.as_bytes();
-    let mut written: Vec<u8> = Vec::new(alloc);
-    let outcome = ended(rv_run::run::run(rt, hires, alloc, &mut reader, &mut written));
-    if outcome == Outcome::Done && says_no_memory(&written) {
+    let mut room = [0u8; ROOM];
+    let mut writer = room.as_mut_slice();
+    let outcome = ended(rv_run::run::run(rt, hires, alloc, &mut reader, &mut writer));
+    if outcome == Outcome::Done && says_no_memory(room.as_slice()) {
         return Outcome::NoMemory;
     }
     outcome
