@@ -30,7 +30,7 @@ const READY: usize = 3;
 // The places of the lists: two under which Note is denied, and one under which Wait is.
 const NOTE_DENIED: usize = 0;
 
-const NOTE_DENIED_FIRST: usize = 1;
+const NAV_ALLOWED: usize = 1;
 
 const WAIT_DENIED: usize = 2;
 
@@ -259,7 +259,7 @@ impl Drawing {
         let list = if self.numbers.below(2) == 0 {
             NOTE_DENIED
         } else {
-            NOTE_DENIED_FIRST
+            NAV_ALLOWED
         };
         dropped(acts, level, list)?;
         self.load_extra(acts)

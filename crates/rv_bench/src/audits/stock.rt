@@ -39,8 +39,8 @@ const NOTE_DENIED: &str = "allow * * *
 deny Nav Plant.Gauge Note
 ";
 
-const NOTE_DENIED_FIRST: &str = "deny Nav Plant.Gauge Note
-allow * * *
+const NAV_ALLOWED: &str = "allow Nav * *
+deny Nav Plant.Gauge Note
 ";
 
 const WAIT_DENIED: &str = "allow * * *
@@ -55,10 +55,16 @@ fn extra(alloc: Global, number: usize) -> Result<String, AllocError> {
 }
 
 /// The units, and the lists that are set in turn: of either of the first two lines deny Note, of the third Wait.
-#[derive(Drop)]
 pub struct Stock {
     units: Vec<UnitShape>,
     lists: Vec<AccessList>,
+}
+
+impl Drop for Stock {
+    // A function of its own: a derived one is written out wherever a value is let go, and proved there.
+    fn drop(self) {
+        let Stock { units: _, lists: _ } = self;
+    }
 }
 
 // Adds the unit of a text.
@@ -82,7 +88,7 @@ fn units(alloc: Global) -> Option<Vec<UnitShape>> {
 // The lists.
 fn lists(alloc: Global) -> Option<Vec<AccessList>> {
     let mut lists = Vec::new(alloc);
-    for text in [NOTE_DENIED, NOTE_DENIED_FIRST, WAIT_DENIED] {
+    for text in [NOTE_DENIED, NAV_ALLOWED, WAIT_DENIED] {
         let list = read_list(alloc, text).ok()?;
         lists.push(list).ok()?;
     }
