@@ -70,9 +70,15 @@ fn gives(value: i64) -> Request {
     Request::Complete(Scalars::new(), Exit::Return(Args::from_slice(&[value])))
 }
 
-// The end of another body, which leaves these scalars.
-fn leaves(scalars: &[i64]) -> Request {
-    Request::Complete(Scalars::from_slice(scalars), Exit::Return(Args::new()))
+// The end of another body of Valve.
+fn leaves(barrier: i64, level: i64) -> Request {
+    let scalars = Scalars::from_slice(&[barrier, level]);
+    Request::Complete(scalars, Exit::Return(Args::new()))
+}
+
+// The end of the handler, which sets Gauge.
+fn sets(value: i64) -> Request {
+    Request::Complete(Scalars::from_slice(&[value]), Exit::Return(Args::new()))
 }
 
 // The end of a body of Valve by an exception, which leaves the barrier closed.
@@ -100,7 +106,7 @@ fn set(acts: &mut Vec<Act>, level: i64) -> Result<(), AllocError> {
         acts,
         &[
             (PILOT, call_with(VALVE, 3, level)),
-            (PILOT, leaves(&[0, level])),
+            (PILOT, leaves(0, level)),
         ],
     )
 }
@@ -121,7 +127,7 @@ fn nested(acts: &mut Vec<Act>, level: i64) -> Result<(), AllocError> {
             (PILOT, call_with(VALVE, 3, level)),
             (PILOT, call(GAUGE, 3)),
             (PILOT, gives(level)),
-            (PILOT, leaves(&[0, level])),
+            (PILOT, leaves(0, level)),
         ],
     )
 }
@@ -134,9 +140,9 @@ fn handed(acts: &mut Vec<Act>, level: i64) -> Result<(), AllocError> {
             (WAITER, call(VALVE, 1)),
             (OTHER, call(VALVE, 1)),
             (PILOT, call(VALVE, 2)),
-            (PILOT, leaves(&[1, level])),
+            (PILOT, leaves(1, level)),
             (WAITER, Request::Resume),
-            (WAITER, leaves(&[0, level])),
+            (WAITER, leaves(0, level)),
         ],
     )
 }
@@ -157,7 +163,7 @@ fn refused_inside(acts: &mut Vec<Act>, level: i64) -> Result<(), AllocError> {
             (PILOT, call(VALVE, 2)),
             (PILOT, call(VALVE, 4)),
             (PILOT, Request::DelayUntil(level)),
-            (PILOT, leaves(&[0, level])),
+            (PILOT, leaves(0, level)),
         ],
     )
 }
@@ -177,7 +183,7 @@ fn suspended(acts: &mut Vec<Act>) -> Result<(), AllocError> {
 
 // The handler of a line, which sets Gauge.
 fn fired(acts: &mut Vec<Act>, value: i64) -> Result<(), AllocError> {
-    ask(acts, &[(RING, Request::Fire), (RING, leaves(&[value]))])
+    ask(acts, &[(RING, Request::Fire), (RING, sets(value))])
 }
 
 // A caller waits, a list denies its call, and it is dropped at the end of the next body; then another list is set.
@@ -188,10 +194,10 @@ fn dropped(acts: &mut Vec<Act>, level: i64, list: usize) -> Result<(), AllocErro
         acts,
         &[
             (PILOT, call(VALVE, 2)),
-            (PILOT, leaves(&[1, level])),
+            (PILOT, leaves(1, level)),
             (WAITER, Request::Resume),
             (PILOT, call_with(VALVE, 3, level)),
-            (PILOT, leaves(&[0, level])),
+            (PILOT, leaves(0, level)),
         ],
     )?;
     acts.push(Act::Lists(list))?;
@@ -211,12 +217,13 @@ impl Drawing {
 
     // A value of an argument or a scalar.
     fn value(&mut self) -> i64 {
-        self.numbers.below(VALUES) as i64
+        i64::try_from(self.numbers.below(VALUES)).unwrap_or(0)
     }
 
     // Some ticks go by.
     fn ticks(&mut self) -> i64 {
-        let ticks = self.numbers.below(5).saturating_add(1) as i64;
+        let drawn = i64::try_from(self.numbers.below(5)).unwrap_or(0);
+        let ticks = drawn.saturating_add(1);
         self.time = self.time.saturating_add(ticks);
         ticks
     }
