@@ -30,7 +30,7 @@ const READY: usize = 3;
 // The places of the lists: two under which Note is denied, and one under which Wait is.
 const NOTE_DENIED: usize = 0;
 
-const NAV_ALLOWED: usize = 1;
+const NOTE_DENIED_TO_ALL: usize = 1;
 
 const WAIT_DENIED: usize = 2;
 
@@ -266,7 +266,7 @@ impl Drawing {
         let list = if self.numbers.below(2) == 0 {
             NOTE_DENIED
         } else {
-            NAV_ALLOWED
+            NOTE_DENIED_TO_ALL
         };
         dropped(acts, level, list)?;
         self.load_extra(acts)

@@ -39,8 +39,8 @@ const NOTE_DENIED: &str = "allow * * *
 deny Nav Plant.Gauge Note
 ";
 
-const NAV_ALLOWED: &str = "allow Nav * *
-deny Nav Plant.Gauge Note
+const NOTE_DENIED_TO_ALL: &str = "allow * * *
+deny * Plant.Gauge Note
 ";
 
 const WAIT_DENIED: &str = "allow * * *
@@ -88,7 +88,7 @@ fn units(alloc: Global) -> Option<Vec<UnitShape>> {
 // The lists.
 fn lists(alloc: Global) -> Option<Vec<AccessList>> {
     let mut lists = Vec::new(alloc);
-    for text in [NOTE_DENIED, NAV_ALLOWED, WAIT_DENIED] {
+    for text in [NOTE_DENIED, NOTE_DENIED_TO_ALL, WAIT_DENIED] {
         let list = read_list(alloc, text).ok()?;
         lists.push(list).ok()?;
     }
