@@ -1,205 +1,122 @@
 #!/usr/bin/env bash
-# Measures how long the built program takes to judge a journal of 1,000,000 entries in a file (`audit --journal`), and in how much
-# memory; beside it `wc -l` and `sha256sum` on the same file, a journal of 100,000 entries, and the host's steps alone. Each is
-# the least of some rounds, five where no number is given, in processes of their own, one kind after another in each round.
-#
-# The journals are written here, from the round of requests that `step_bench kinds` makes (crates/step_bench/src/kinds.rt is its
-# text): calls and ends, one of which raises; a caller that waits in a queue and is handed the object; refusals by each of the
-# six rules; calls inside a body; suspensions; an interrupt; a delay, and a tick. Before each tenth round stands a change of the
-# list, which has two lines, and behind each 16,000 entries the load of a small unit; ticks fill up the number. That they are
-# journals is told by their verdict.
-#
-# The steps alone are the same rounds, made in one process by `step_bench kinds`, on a host of the same capacity, without a word
-# of text. Of its 46 steps a round 41 are recorded: that share of its time is counted. It makes no changes of the list and no
-# loads, and the start of both programs (an empty journal, no rounds) is taken off. So the ratio is told too high, if anything.
-#
-# The first time it takes one to two hours to prove and build. It needs rt, python3 (3.9 or newer), wc and sha256sum.
-# Statuses: 0 done, 1 a verdict isn't `legal` or an aim is missed, 127 a tool is missing.
+# Measures the audit of a journal of 100,000 entries and of one of 1,000,000, each made by a host that carried out drawn acts:
+# a step of that host alone; the same entries judged in the same process; the file judged by the built `ravenhost audit`, with
+# what it touches of memory; `wc -l` and `sha256sum` of the same file. It fails only where an answer is wrong. A number of
+# rounds may be given (3), of which the least counts, and then the two programs, else they are proved and built, which takes
+# over half an hour the first time. It needs rt, awk, GNU date (for %N), nproc, cut, /proc and sha256sum. Statuses: 0 done, 1
+# an answer is wrong, 127 a tool is missing.
 set -eu
 
 missing() {
     echo "bench/audit.sh: $1 is missing" >&2
     exit 127
 }
-for tool in rt nproc cut wc sha256sum; do
+for tool in awk nproc cut sha256sum; do
     command -v "$tool" >/dev/null || missing "$tool"
 done
-python3 -c 'import sys; sys.exit(sys.version_info < (3, 9))' 2>/dev/null || missing "python3 (3.9 or newer)"
-cd "$(dirname "$(readlink -f "$0")")/.."
+case $(date +%N) in '' | *[!0-9]*) missing "GNU date" ;; esac
+[ -r /proc/loadavg ] || missing /proc/loadavg
+
+top=$(readlink -f "$(dirname "$(readlink -f "$0")")/..")
 folder=$(mktemp -d)
 trap 'rm -rf "$folder"' EXIT
-./ravenhost --prove
-if ! (cd crates/step_bench && rt run -- reserve 0) >"$folder/log" 2>&1 </dev/null; then
-    cat "$folder/log" >&2
-    exit 1
+rounds=${1:-3}
+if [ $# -ge 3 ]; then
+    bench=$(readlink -f "$2") ravenhost=$(readlink -f "$3")
+else
+    command -v rt >/dev/null || missing rt
+    (cd "$top" && ./ravenhost --prove)
+    if ! (cd "$top/crates/rv_bench" && rt run -- steps 0) >"$folder/log" 2>&1 </dev/null; then
+        cat "$folder/log" >&2
+        exit 1
+    fi
+    bench=$top/crates/rv_bench/out/rv_bench ravenhost=$top/crates/ravenhost/out/ravenhost
 fi
-[ ! -r /proc/loadavg ] || echo "$(nproc) cores, load $(cut -d ' ' -f 1 /proc/loadavg) before the first run"
 
-cat >"$folder/journal.py" <<'PYTHON'
-"""The journals to be judged, and the script that says over what."""
-
-KINDS = """unit Kinds
-task Pilot 15
-task Waiter 16
-task Other 14
-task High 25
-suspension Go
-protected Valve 20
-scalar 0 1 0
-entry Wait 1
-procedure Open
-function Get 0 1
-protected Gate 38
-scalar 0 1 0
-entry Wait 1
-procedure Open
-function Get 0 1
-protected Alarm 35
-scalar 0 100 0
-handler Ring 3
-procedure Note in 0 100
-"""
-SMALL_UNITS = 62
-SECTIONS = "@host.toml\ncapacity = 1048576\n" + "".join(
-    f"@shape\n{unit}" for unit in [KINDS, *(f"unit Small{number}\nsuspension Go\n" for number in range(1, SMALL_UNITS + 1))])
-
-# The recorded steps of a round; V is the version of the list, N the number of the round.
-ROUND = """Kinds.Pilot call Kinds.Valve Get -> started
-Kinds.Pilot end : return 0 -> done
-Kinds.Pilot call Kinds.Valve Open -> started
-Kinds.Pilot end 0 : raise Program_Error -> done
-Kinds.Waiter call Kinds.Valve Wait -> queued
-Kinds.Other call Kinds.Valve Wait -> refused 5 line 0 version {V}
-Kinds.Pilot call Kinds.Valve Open -> started
-Kinds.High call Kinds.Valve Get -> refused 4 line 0 version {V}
-Kinds.Pilot call Kinds.Go Suspend_Until_True -> refused 2 line 0 version {V}
-Kinds.Pilot call Kinds.Valve Get -> refused 3 line 0 version {V}
-Kinds.Pilot call Kinds.Gate Get -> started
-Kinds.Pilot end : return 0 -> done
-Kinds.Pilot call Kinds.Gate Open -> started
-Kinds.Pilot call Kinds.Valve Get -> refused 3 line 0 version {V}
-Kinds.Pilot call Kinds.Valve Wait -> refused 2 line 0 version {V}
-Kinds.Pilot delay 0 -> refused 2 line 0 version {V}
-Kinds.Pilot end 0 : return -> done
-Kinds.Pilot end 1 : return -> done handed Kinds.Waiter
-Kinds.Waiter resume -> woken
-Kinds.Waiter end 0 : return -> done
-Kinds.Pilot call Kinds.Go Suspend_Until_True -> suspended
-Kinds.Other call Kinds.Go Suspend_Until_True -> refused 6 line 0 version {V}
-Kinds.Other call Kinds.Go Set_True -> accepted 0
-Kinds.Pilot resume -> woken
-Kinds.Pilot call Kinds.Go Current_State -> accepted 0
-Kinds.Pilot call Kinds.Go Set_False -> accepted 0
-Kinds.Other call Kinds.Go Set_True -> accepted 0
-Kinds.Pilot call Kinds.Go Current_State -> accepted 1
-Kinds.Pilot call Kinds.Go Suspend_Until_True -> accepted 0
-Kinds.Pilot call Kinds.Go Current_State -> accepted 0
-Int_3 fire -> started
-Int_3 call Kinds.Gate Get -> started
-Int_3 call Kinds.Valve Get -> refused 4 line 0 version {V}
-Int_3 end : return 0 -> done
-Int_3 end 5 : return -> done
-Kinds.Pilot call Kinds.Alarm Note 7 -> refused 1 line 2 version {V}
-Kinds.Pilot delay {N} -> delayed
-operator tick 1 -> accepted 0
-Kinds.Pilot resume -> woken
-Kinds.Pilot clock -> accepted {N}
-Kinds.Pilot delay {N} -> accepted 0
-"""
-RECORDED = ROUND.count("\n")
-LISTS = ["allow * * *; deny Kinds Kinds.Alarm Note", "allow * * *; deny Kinds Kinds.Alarm *"]
-BETWEEN_LOADS = 16_000
-
-
-def write(path, entries):
-    """Writes a journal of so many entries, none or two at least, and gives how many rounds it has."""
-    lines = ["operator load Kinds -> accepted 0", f"operator list [{LISTS[0]}] -> accepted 0"]
-    rounds, version, loaded = 0, 1, 0
-    while len(lines) + 2 + RECORDED <= entries:
-        if len(lines) >= BETWEEN_LOADS * (loaded + 1) and loaded < SMALL_UNITS:
-            loaded += 1
-            lines.append(f"operator load Small{loaded} -> accepted 0")
-        rounds += 1
-        if rounds % 10 == 0:
-            lines.append(f"operator list [{LISTS[version % 2]}] -> accepted 0")
-            version += 1
-        lines += ROUND.format(V=version, N=rounds).splitlines()
-    lines += ["operator tick 1 -> accepted 0"] * (entries - len(lines))
-    with open(path, "w") as file:
-        file.writelines(f"{number} {line}\n" for number, line in enumerate(lines[:entries], 1))
-    return rounds
-PYTHON
-
-# In a process of its own, since what is measured begins with the memory of who starts it.
-rounds=$(PYTHONPATH=$folder python3 - "$folder" <<'PYTHON'
-import sys
-from journal import SECTIONS, write
-
-folder = sys.argv[1]
-with open(f"{folder}/sections", "w") as file:
-    file.write(SECTIONS)
-write(f"{folder}/empty", 0)
-write(f"{folder}/small", 100_000)
-print(write(f"{folder}/large", 1_000_000))
-PYTHON
-)
-python3 - "$folder" "${1:-5}" "$rounds" <<'PYTHON'
-import os, subprocess, sys, time
-
-FOLDER, ROUNDS, rounds = sys.argv[1], int(sys.argv[2]), int(sys.argv[3])
-RECORDED, STEPS = 41, 46
-PROGRAM = "crates/ravenhost/out/ravenhost"
-STEP_BENCH = "crates/step_bench/out/step_bench"
-LARGE, SMALL = 1_000_000, 100_000
-
-
-def measured(words, wanted):
-    """Runs a command over the sections, and gives its seconds and the most memory that it took, in MiB."""
-    with open(f"{FOLDER}/sections") as sections:
-        start = time.monotonic()
-        child = subprocess.Popen(words, stdin=sections, stdout=subprocess.PIPE, text=True)
-        written = child.stdout.read()
-        _, status, used = os.wait4(child.pid, 0)
-        seconds = time.monotonic() - start
-    if status != 0 or not written.startswith(wanted):
-        sys.exit(f"bench/audit.sh: {' '.join(words)}: status {os.waitstatus_to_exitcode(status)}, {written.strip()}")
-    return seconds, used.ru_maxrss / 1024
-
-
-def audit(name, entries):
-    return [PROGRAM, "audit", "--journal", f"{FOLDER}/{name}"], f"legal {entries} entries\n"
-
-
-commands = {
-    "large": audit("large", LARGE),
-    "small": audit("small", SMALL),
-    "empty": audit("empty", 0),
-    "steps": ([STEP_BENCH, "kinds", str(rounds)], f"{rounds}\n"),
-    "no steps": ([STEP_BENCH, "kinds", "0"], "0\n"),
-    "wc -l": (["wc", "-l", f"{FOLDER}/large"], f"{LARGE} "),
-    "sha256sum": (["sha256sum", f"{FOLDER}/large"], ""),
+wrong() {
+    echo "bench/audit.sh: $1" >&2
+    exit 1
 }
-least, memory = {}, {}
-for _ in range(ROUNDS):
-    for name, (words, wanted) in commands.items():
-        seconds, mebibytes = measured(words, wanted)
-        least[name] = min(seconds, least.get(name, seconds))
-        memory[name] = max(mebibytes, memory.get(name, mebibytes))
 
-size = os.path.getsize(f"{FOLDER}/large")
-print(f"the least of {ROUNDS} rounds; {LARGE:,} entries, {size:,} bytes, {rounds:,} rounds of {RECORDED} recorded steps")
-for name, entries in [("large", LARGE), ("small", SMALL), ("empty", 0)]:
-    print(f"audit --journal of {entries:,} entries: {least[name]:.3f} s, {memory[name]:.0f} MiB")
-for name in ["wc -l", "sha256sum"]:
-    print(f"{name} of {LARGE:,} entries: {least[name]:.3f} s")
-large, small = (least[name] - least["empty"] for name in ["large", "small"])
-steps = (least["steps"] - least["no steps"]) * RECORDED / STEPS
-print(f"the host's steps alone: {steps:.3f} s, {steps / (rounds * RECORDED) * 1e9:.0f} ns a step")
-if min(large, small, steps) <= 0:
-    sys.exit("bench/audit.sh: too quick to be measured")
-missed = False
-for what, ratio, aim in [("the audit, to the steps alone", large / steps, 4), ("ten times the entries", large / small, 10.5)]:
-    missed = missed or ratio > aim
-    print(f"{what}: {ratio:.2f} times (aim: at most {aim}){'' if ratio <= aim else ', missed'}")
-sys.exit(missed)
-PYTHON
+# What a command takes in microseconds. Its standard input is $given, its output goes to $folder/said, its status to $status.
+took() {
+    local from
+    status=0
+    from=$(date +%s%N)
+    "$@" <"$given" >"$folder/said" 2>"$folder/fault" || status=$?
+    micros=$((($(date +%s%N) - from) / 1000))
+}
+
+# The most memory that an audit touches, in KiB: by GNU time, else by looking at /proc while it runs.
+memory_of() {
+    local pid seen
+    if command time -f %M true >/dev/null 2>&1; then
+        command time -o "$folder/memory" -f %M "$ravenhost" audit --journal "$1" <"$folder/script" >/dev/null
+        cat "$folder/memory"
+        return
+    fi
+    "$ravenhost" audit --journal "$1" <"$folder/script" >/dev/null &
+    pid=$! peak=0
+    while seen=$(awk '$1 == "VmHWM:" { print $2 }' "/proc/$pid/status" 2>/dev/null); do
+        [ -z "$seen" ] || peak=$seen
+    done
+    wait "$pid"
+    echo "$peak"
+}
+
+# The least of the lines of a file.
+least() {
+    sort -g "$1" | head -n 1
+}
+
+"$bench" script >"$folder/script"
+echo "$(nproc) cores, load $(cut -d ' ' -f 1 /proc/loadavg) before the first run; the least of $rounds rounds"
+for entries in 100000 1000000; do
+    journal=$folder/journal
+    "$bench" journal "$entries" >"$journal"
+    [ "$(wc -l <"$journal")" = "$entries" ] || wrong "a journal of $entries entries has $(wc -l <"$journal") lines"
+    for _ in $(seq "$rounds"); do
+        "$bench" steps "$entries" >"$folder/said" || wrong "no $entries steps"
+        awk '{ print $5 }' "$folder/said" >>"$folder/alone.$entries"
+        "$bench" audit "$entries" >"$folder/said" || wrong "no audit of $entries entries in process"
+        awk '{ print $5 }' "$folder/said" | cut -d , -f 1 >>"$folder/steps.$entries"
+        awk '{ print $8 }' "$folder/said" >>"$folder/audit.$entries"
+        given=$folder/script
+        took "$ravenhost" audit --journal "$journal"
+        [ "$status $(cat "$folder/said")" = "0 legal $entries entries" ] ||
+            wrong "status $status, and $(head -n 1 "$folder/said" "$folder/fault") of a journal of $entries entries"
+        echo "$micros" >>"$folder/file.$entries"
+        given=/dev/null
+        took wc -l "$journal"
+        echo "$micros" >>"$folder/wc.$entries"
+        took sha256sum "$journal"
+        echo "$micros" >>"$folder/sum.$entries"
+    done
+    memory_of "$journal" >"$folder/touched.$entries"
+    wc -c <"$journal" >"$folder/bytes.$entries"
+
+    # The same without its line in the middle isn't legal.
+    sed "$((entries / 2))d" "$journal" >"$folder/short"
+    given=$folder/script
+    took "$ravenhost" audit --journal "$folder/short"
+    [ "$status $(cat "$folder/said")" = "1 line $((entries / 2)): unreadable" ] ||
+        wrong "status $status, and $(head -n 1 "$folder/said" "$folder/fault") of a journal without its line $((entries / 2))"
+
+    echo "$entries entries, $(cat "$folder/bytes.$entries") bytes:"
+    awk -v steps="$(least "$folder/steps.$entries")" -v alone="$(least "$folder/alone.$entries")" \
+        -v audit="$(least "$folder/audit.$entries")" -v file="$(least "$folder/file.$entries")" \
+        -v wc="$(least "$folder/wc.$entries")" -v sum="$(least "$folder/sum.$entries")" \
+        -v touched="$(cat "$folder/touched.$entries")" -v entries="$entries" 'BEGIN {
+            each = 1000 / entries
+            printf "  a step alone: %.1f ns, in a process of its own %.1f ns\n", steps, alone
+            printf "  an entry judged in process: %.1f ns, %.2f times a step (aim: at most 4)\n", audit, audit / steps
+            printf "  an entry judged by ravenhost audit: %.1f ns, %.2f times a step, %.1f MiB touched in all\n",
+                file * each, file * each / steps, touched / 1024
+            printf "  beside, for each line: wc -l %.1f ns, sha256sum %.1f ns\n", wc * each, sum * each
+        }'
+done
+awk -v small="$(least "$folder/audit.100000")" -v large="$(least "$folder/audit.1000000")" \
+    -v small_file="$(least "$folder/file.100000")" -v large_file="$(least "$folder/file.1000000")" 'BEGIN {
+        printf "ten times the entries: %.2f times the time in process, %.2f times by ravenhost audit (aim: at most 10.5)\n",
+            10 * large / small, large_file / small_file
+    }'
