@@ -9,12 +9,12 @@ ghost use Rattle.rv_scope.specs.Scope.{OnlyDeclares, declaring_all, hiding_all, 
 ghost use Rattle.rv_scope.specs.ExpressionUses.{◌▷◌, value_uses, maybe_uses, range_uses};
 ghost use Rattle.rv_scope.specs.DeclarationUses.{aspects_uses, parameters_uses, with_parameters, declaring_operation, operation_uses, with_operation, operations_uses, with_operations, element_uses, with_element, elements_uses, with_elements, private_uses, with_private, with_members, parts_uses, protected_unit_uses, declaring_protected_unit};
 
-use crate::hide::{hide, hide_all};
-use rv_scope::declare::{Form, declare_all};
-use rv_scope::declared::{Declared, OperationKind};
 use crate::expression::{maybe_range, maybe_value, name};
 use crate::fault::Faults;
+use crate::hide::{hide, hide_all};
 use crate::pragma::{aspects, pragma, procedure_rules, protected_rules};
+use rv_scope::declare::{Form, declare_all};
+use rv_scope::declared::{Declared, OperationKind};
 use rv_scope::scope::Scope;
 use rv_scope::wanted::Wanted;
 use rv_tree::declaration::{
