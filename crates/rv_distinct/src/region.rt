@@ -57,6 +57,7 @@ impl<'a> Region<'a> {
     }
 
     /// The place of the first identifier whose name an earlier one has. Err where memory was refused.
+    #[tactic(auto, using(crate::proofs::Again::new_are_distinct))]
     fn again(&self, alloc: Global) -> Result<Option<usize>, AllocError>
         ensures { IfOk result (λ at. is_none at ≡ are_distinct self.now) }
     {
