@@ -50,7 +50,7 @@ fn objects(
         ≡ declaring_all (form_of_local is_constant) (identifiers_view names.now.items) (hiding_all (identifiers_view names.now.items) scope.old)) }
     ensures only { OnOk result (OnlyDeclares scope.old scope.new) }
 {
-    hide_all(names, scope, faults)?;
+    hide_all(names, scope)?;
     name(mark, Wanted::Subtype, scope, faults);
     maybe_range(part, scope, faults);
     maybe_value(initial, scope, faults);

@@ -171,7 +171,7 @@ fn turns(
             bounds: over,
         } => {
             scope.enter()?;
-            hide(parameter, scope, faults)?;
+            hide(parameter, scope)?;
             bounds(over, scope, faults);
             scope.declare(parameter, Some(Declared::LoopParameter(parameter.at)))?;
             statements(body, scope, faults)?;

@@ -68,7 +68,7 @@ fn in_unit<'a>(
         ≡ operation_bodies_uses judged (in_protected_unit (protected_unit_view unit.now) scope.old) (map operation_body_view body.now.operations.items) faults.old) }
     ensures scope { OnOk result (scope.new ≡ scope.old) }
 {
-    members(unit, scope, faults)?;
+    members(unit, scope)?;
     current_bodies(unit, body, scope, faults)?;
     scope.leave();
     Ok(())
