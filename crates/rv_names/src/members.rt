@@ -6,7 +6,6 @@ ghost use Rattle.rv_tree.specs.DeclarationView.{maybe, operation_view, element_v
 ghost use Rattle.rv_scope.specs.Scope.{OnlyDeclares, declaring_all, hiding_all, hiding, entered};
 ghost use Rattle.rv_scope.specs.DeclarationUses.{declaring_operation, with_operation, with_operations, with_element, with_elements, with_private, with_members};
 
-use crate::fault::Faults;
 use crate::hide::{hide, hide_all};
 use crate::protected::declare_operation;
 use rv_scope::declare::{Form, declare_all};
