@@ -7,7 +7,10 @@ use Rattle.rv_fault.specs.declared.failure.Failure.{Failure}
 use Rattle.rv_fault.specs.declared.failure.Failure.TheVariants.{Refused, Memory, Io}
 use Rattle.rv_fault.specs.declared.fault.What.TheVariants as Whats
 use Rattle.rv_fault.specs.declared.fault.ScriptFault.{ScriptFault}
+use Rattle.rv_script.specs.declared.read.ReadError.{ReadError}
+use Rattle.rv_script.specs.declared.read.ReadError.TheVariants as Reads
 use Rattle.rv_script.specs.declared.read.TextError.{TextError}
+use Rattle.rv_fault.specs.Faults.{of_read}
 use Rattle.rv_fault.specs.Written.{WritesAll, WritesSome, Writes, WritesScript, refused_bytes}
 use Rattle.rv_play.specs.Acts.{acts_from}
 use Rattle.rv_play.specs.declared.player.Limits.{Limits}
@@ -98,10 +101,14 @@ unread all a script whole (Io error) e is = absurd is
 none_some : (a : Option (List ℕ)) (error : TextError) → WritesSome a a (refused_bytes error).Begins
 none_some a error = record { text = []; begins = refl; written = nothing_yet a [] }
 
-pub memory_unread : (all : Bool) (a known : Option (List ℕ)) → IfSome known (λ script. let r : Result (Unit {0}) Failure = Err Memory in WritesScript a a (outcome_of all) script r)
+memory_unread : (all : Bool) (a known : Option (List ℕ)) → IfSome known (λ script. let r : Result (Unit {0}) Failure = Err Memory in WritesScript a a (outcome_of all) script r)
 memory_unread all a None = tt
 memory_unread all a (Some script) = record { text = λ is. nothing_some all a script; refused = λ error refused. none_some a error }
 
-pub failed_unread : (all : Bool) (a known : Option (List ℕ)) (e : _) → IfSome known (λ script. let r : Result (Unit {0}) Failure = Err (Io e) in WritesScript a a (outcome_of all) script r)
+failed_unread : (all : Bool) (a known : Option (List ℕ)) (e : _) → IfSome known (λ script. let r : Result (Unit {0}) Failure = Err (Io e) in WritesScript a a (outcome_of all) script r)
 failed_unread all a None e = tt
 failed_unread all a (Some script) e = record { text = λ is. nothing_some all a script; refused = λ error refused. none_some a error }
+
+pub read_failed : (all : Bool) (a known : Option (List ℕ)) (error : ReadError) → IfSome known (λ script. let r : Result (Unit {0}) Failure = Err (of_read error) in WritesScript a a (outcome_of all) script r)
+read_failed all a known Reads.Memory = memory_unread all a known
+read_failed all a known (Reads.Io e) = failed_unread all a known e

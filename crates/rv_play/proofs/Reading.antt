@@ -1,5 +1,5 @@
 -- What was read of a section comes to a deed, or stands against it.
-use Rattle.std.proofs.Common.{◌≡◌, ℕ, List, Some, None, Option, Ok, Err, Result, refl, sym, ap, ◌∙◌}
+use Rattle.std.proofs.Common.{◌≡◌, ℕ, List, Some, None, Option, Ok, Err, Result, refl, ap, subst, ◌∙◌}
 use Rattle.std.specs.Prelude.{IfOk, IfErr}
 use Rattle.rv_text.specs.Sections.{SectionText}
 use Rattle.rv_access.specs.Words.{Words}
@@ -40,6 +40,12 @@ unit_stands line stage text (Refused told) h = (told.what, by_what told.what h.0
     by_what Whats.TooLong given = given
     by_what (Whats.Unit fault) given = given
     by_what _ given = absurd given
+
+-- so it does over shapes that are those of the stage
+pub unit_stands_over : (line : ℕ) (stage : Stage) (shapes : List Shape) (text : List ℕ) (failure : Failure) → shapes ≡ stage.history.shapes
+    → (let read : Result Compiled Failure = Err failure in Reads line (GivesUnit shapes text) read) → let r : Result Deed Failure = Err failure in Comes line (ComesToDeed stage (Compiles line text)) r
+unit_stands_over line stage shapes text failure e h =
+    unit_stands line stage text failure (subst (λ (ss : List Shape). let read : Result Compiled Failure = Err failure in Reads line (GivesUnit ss text) read) e h)
 
 -- a unit comes to its load
 pub unit_comes : (line : ℕ) (stage : Stage) (text : List ℕ) (unit : Compiled) (r : Result Deed Failure) → GivesUnit stage.history.shapes text (Ok unit)

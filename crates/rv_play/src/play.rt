@@ -31,8 +31,10 @@ fn perform<W: Write>(
     ensures { (act : Act) → Comes (line_of act) (ComesToDeed (playing player.old).stage act) deed
         → Carries (W.contents writer.old) (W.contents writer.new) (playing player.old) (playing player.new) (act ∷ []) result }
 {
-    let deed = deed?;
-    player.tell(writer, deed)
+    match deed {
+        Ok(deed) => player.tell(writer, deed),
+        Err(failure) => Err(failure),
+    }
 }
 
 // Carries out so many `go`s, one after another.

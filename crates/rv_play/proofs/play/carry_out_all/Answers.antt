@@ -1,4 +1,5 @@
 use Rattle.std.proofs.Common.{◌≡◌, List, [], ◌∷◌, ◌++◌, Ok, ap, sym, ◌∙◌, refl, subst, append_assoc}
+use Rattle.std.proofs.lemmas.Result.{err_from_is_err_and}
 use Rattle.rv_text.specs.Sections.{SectionText}
 use Rattle.rv_script.specs.Openings.{AreNumbered}
 use Rattle.rv_play.specs.Acts.{Act, section_acts, acts_from}
@@ -28,12 +29,13 @@ each-preserved g c =
       all_acts =
           append_assoc inv.done now (acts_from c.next_section.new.self)
           ∙ with_first inv.done c.each.sections section c.next_section.new.self _ first inv.all_acts;
-      carried = carries_then _ _ (g.W.Write.contents c.carry_out.new.writer) _ _ (playing c.carry_out.new.player) inv.done now (Ok tt) inv.carried c.in-Ok.ensures;
+      carried = carries_then _ _ (g.W.Write.contents c.carry_out.new.writer) _ _ (playing c.carry_out.new.player) inv.done now (Ok tt) inv.carried c.in_ok-carry_out.ensures;
     }
 
-pub returns-in-Err : goal.returns-in-Err
-returns-in-Err g c =
+pub returns-in_err-carry_out : goal.returns-in_err-carry_out
+returns-in_err-carry_out g c =
+    let p = err_from_is_err_and c.from_residual.result c.from_residual.ensures.1 in
     let inv = c.each.invariant in
     let section : SectionText = record { line = c.in-Some.section.line; opening = c.in-Some.section.opening.now; text = c.in-Some.section.text.now } in
-    carries_fails _ _ _ _ _ (playing c.carry_out.new.player) inv.done (section_acts section) (acts_from c.next_section.new.self) _ _ inv.carried c.in-Err.ensures
-    (with_first inv.done c.each.sections section c.next_section.new.self _ c.in-Some.ensures.first inv.all_acts)
+    rw (p.1, p.2) (carries_fails _ _ _ _ _ (playing c.carry_out.new.player) inv.done (section_acts section) (acts_from c.next_section.new.self) _ _ inv.carried c.in_err-carry_out.ensures
+    (with_first inv.done c.each.sections section c.next_section.new.self _ c.in-Some.ensures.first inv.all_acts))

@@ -1,4 +1,5 @@
 use Rattle.std.proofs.Common.{◌≡◌, ℕ, ◌+◌, List, ◌∷◌, ◌++◌, Ok, ap, sym, ◌∙◌, arith, rules, append_assoc}
+use Rattle.std.proofs.lemmas.Result.{err_from_is_err_and}
 use Rattle.std.specs.Str.Lines.{lines}
 use Rattle.rv_text.specs.Words.{words}
 use Rattle.rv_play.specs.Acts.{Act, line_acts, step_acts}
@@ -10,12 +11,13 @@ use Rattle.rv_play.proofs.play.perform_all.Goals as goal
 with_first : (done : List Act) (number : ℕ) (rest : List (List ℕ)) (line : List ℕ) (after : List (List ℕ)) (whole : List Act) → rest ≡ line ∷ after → done ++ step_acts number rest ≡ whole → done ++ (line_acts number (words line) ++ step_acts (number + 1) after) ≡ whole
 with_first done number rest line after whole e same = ap (λ (ls : List (List ℕ)). done ++ step_acts number ls) (sym e) ∙ same
 
-pub returns-in-Err : goal.returns-in-Err
-returns-in-Err g c =
+pub returns-in_err-perform_line : goal.returns-in_err-perform_line
+returns-in_err-perform_line g c =
+    let p = err_from_is_err_and c.from_residual.result c.from_residual.ensures.1 in
     let inv = c.loop-text.invariant in
-    carries_fails _ _ _ _ _ (playing c.perform_line.new.player) inv.done (line_acts (c.loop-text.line + 1) (words c.in-Some.text.now)) (step_acts (c.loop-text.line + 1 + 1) (lines c.in-Some.after.now)) _ _
-    inv.carried c.in-Err.ensures
-    (with_first inv.done (c.loop-text.line + 1) (lines c.loop-text.rest.now) c.in-Some.text.now (lines c.in-Some.after.now) _ c.in-Some.ensures.lines inv.all_acts)
+    rw (p.1, p.2) (carries_fails _ _ _ _ _ (playing c.perform_line.new.player) inv.done (line_acts (c.loop-text.line + 1) (words c.in-Some.text.now)) (step_acts (c.loop-text.line + 1 + 1) (lines c.in-Some.after.now)) _ _
+    inv.carried c.in_err-perform_line.ensures
+    (with_first inv.done (c.loop-text.line + 1) (lines c.loop-text.rest.now) c.in-Some.text.now (lines c.in-Some.after.now) _ c.in-Some.ensures.lines inv.all_acts))
 
 pub loop-text-preserved : goal.loop-text-preserved
 loop-text-preserved g c =
@@ -28,5 +30,5 @@ loop-text-preserved g c =
       all_acts =
           append_assoc inv.done now (step_acts (c.loop-text.line + 1 + 1) (lines c.in-Some.after.now))
           ∙ with_first inv.done (c.loop-text.line + 1) (lines c.loop-text.rest.now) c.in-Some.text.now (lines c.in-Some.after.now) _ c.in-Some.ensures.lines inv.all_acts;
-      carried = carries_then _ _ (g.W.Write.contents c.perform_line.new.writer) _ _ (playing c.perform_line.new.player) inv.done now (Ok tt) inv.carried c.in-Ok.ensures;
+      carried = carries_then _ _ (g.W.Write.contents c.perform_line.new.writer) _ _ (playing c.perform_line.new.player) inv.done now (Ok tt) inv.carried c.in_ok-perform_line.ensures;
     }
