@@ -1,2 +1,3 @@
+mod Feeding
 mod Gathering
 mod Saying
