@@ -3,31 +3,31 @@ use Rattle.std.specs.Prelude.{ℕ, Bool, List, [], ◌∷◌, Option, Some, None
 use Rattle.std.proofs.Common.{◌≡◌, refl}
 use Rattle.rv_tree.specs.Names.{Identifier, Name}
 use Rattle.rv_tree.specs.Expressions.{Expression, literal, name, attribute, call, parenthesized, highest, product, signed, sum, relation, logical, Expressions, no_expressions, and_expression, Factors, no_factors, and_factor, Terms, no_terms, and_term, RangeConstraint}
-use Rattle.rv_names.specs.declared.wanted.Wanted.{Wanted}
-use Rattle.rv_names.specs.declared.wanted.Wanted.TheVariants as w
-use Rattle.rv_names.specs.Scope.{ScopeView, declaring, hiding, entered, in_body, declaring_all, hiding_all, showing, Region, within_unit, with_unit, with_library, using_library, empty_scope}
+use Rattle.rv_scope.specs.declared.wanted.Wanted.{Wanted}
+use Rattle.rv_scope.specs.declared.wanted.Wanted.TheVariants as w
+use Rattle.rv_scope.specs.Scope.{ScopeView, declaring, hiding, entered, in_body, declaring_all, hiding_all, showing, Region, within_unit, with_unit, with_library, using_library, empty_scope}
 use Rattle.rv_tree.specs.Statements.{Choice, others, value, between, LoopBounds, whole_bounds, two_bounds, constrained_bounds, Iteration, forever, while_true, for_each, Statement, null_statement, assignment, call_statement, if_statement, case_statement, loop_statement, exit_statement, return_statement, raise_statement, delay_statement, abort_statement, requeue_statement, accept_statement, select_statement, Statements, no_statements, and_statement, ElsifParts, no_elsif_parts, and_elsif_part, Alternatives, no_alternatives, and_alternative}
-use Rattle.rv_names.specs.declared.declared.Declared.TheVariants as d
-use Rattle.rv_names.specs.ExpressionUses.{Use, ◌▷◌, nothing, refused, expression_uses, value_uses, expressions_uses, maybe_uses, each_uses, range_uses, simple, factors_uses, terms_uses}
+use Rattle.rv_scope.specs.declared.declared.Declared.TheVariants as d
+use Rattle.rv_scope.specs.ExpressionUses.{Use, ◌▷◌, nothing, refused, expression_uses, value_uses, expressions_uses, maybe_uses, each_uses, range_uses, simple, factors_uses, terms_uses}
 use Rattle.indexmap.specs.IndexMap.{insert_entry}
 use Rattle.rv_text.specs.Names.{is_same_name}
 use Rattle.rv_tree.specs.Declarations.{PragmaArgument, Pragma, Aspect, Parameter, EntryDeclaration, OperationDeclaration, a_pragma, a_function, a_procedure, an_entry, ProtectedElement, an_operation, a_component, ProtectedUnit, TaskItem, task_pragma, task_entry, TaskDefinition, TaskUnit, Declaration, package_pragma, a_subtype, a_protected_unit, a_task, a_variable, a_constant}
-use Rattle.rv_names.specs.declared.declared.Declared.{Declared}
-use Rattle.rv_names.specs.declared.declared.OperationKind.{OperationKind}
-use Rattle.rv_names.specs.declared.declared.OperationKind.TheVariants as kind
-use Rattle.rv_names.specs.declared.declare.Form.{Form}
-use Rattle.rv_names.specs.declared.declare.Form.TheVariants as f
-use Rattle.rv_names.specs.Visible.{visible}
+use Rattle.rv_scope.specs.declared.declared.Declared.{Declared}
+use Rattle.rv_scope.specs.declared.declared.OperationKind.{OperationKind}
+use Rattle.rv_scope.specs.declared.declared.OperationKind.TheVariants as kind
+use Rattle.rv_scope.specs.declared.declare.Form.{Form}
+use Rattle.rv_scope.specs.declared.declare.Form.TheVariants as f
+use Rattle.rv_scope.specs.Visible.{visible}
 use Rattle.rv_tree.specs.Bodies.{Local, an_object, local_pragma, local_protected_unit, local_task, ExceptionChoice, exception_named, other_exceptions, Handler, Block, OperationBody, function_body, procedure_body, entry_body, ProtectedBody, TaskBody}
 use Rattle.rv_tree.specs.Units.{ContextItem, context_pragma, with_clause, use_clause, PackageSpecification, BodyItem, body_declaration, body_protected, body_task, PackageBody, UnitTree}
 use Rattle.rv_shape.specs.Shape.{Shape}
-use Rattle.rv_names.specs.declared.predefined.Library.{Library}
-use Rattle.rv_names.specs.declared.predefined.Library.TheVariants as l
-use Rattle.rv_names.specs.Wanted.{denoted, is_found, suits, sort}
-use Rattle.rv_names.specs.StatementUses.{statements_uses, choice_uses, choices_uses, bounds_uses, iteration_uses, statement_uses, elsif_parts_uses, alternatives_uses, in_loop}
-use Rattle.rv_names.specs.DeclarationUses.{parameters_uses, with_parameters, with_members, declaration_uses, with_declaration, declarations_uses, with_declarations, arguments_uses, pragma_uses, aspects_uses, operation_uses, operations_uses, element_uses, elements_uses, private_uses, parts_uses, protected_unit_uses, naming_unit, task_item_uses, task_items_uses, definition_uses, task_uses, is_priority, is_attachment, with_operation, with_operations, with_element, with_elements, with_private}
-use Rattle.rv_names.specs.UnitUses.{unit_uses, local_uses, locals_uses, exception_uses, exceptions_uses, handlers_uses, block_uses, operation_body_uses, operation_bodies_uses, bodies_of_unit, protected_body_uses, task_body_uses, body_item_uses, body_items_uses, with_names_uses, use_names_uses, context_item_uses, context_uses, in_protected_unit, unit_number, protected_unit_of, with_body_item, withed, with_names, used_by, use_names, with_context_item, with_context, package_scope, protected_units, with_local, with_locals}
-use Rattle.rv_names.specs.Bound.{judged, Used, listed, uses, IsBound, AllBound}
+use Rattle.rv_scope.specs.declared.predefined.Library.{Library}
+use Rattle.rv_scope.specs.declared.predefined.Library.TheVariants as l
+use Rattle.rv_scope.specs.Wanted.{denoted, is_found, suits, sort}
+use Rattle.rv_scope.specs.StatementUses.{statements_uses, choice_uses, choices_uses, bounds_uses, iteration_uses, statement_uses, elsif_parts_uses, alternatives_uses, in_loop}
+use Rattle.rv_scope.specs.DeclarationUses.{parameters_uses, with_parameters, with_members, declaration_uses, with_declaration, declarations_uses, with_declarations, arguments_uses, pragma_uses, aspects_uses, operation_uses, operations_uses, element_uses, elements_uses, private_uses, parts_uses, protected_unit_uses, naming_unit, task_item_uses, task_items_uses, definition_uses, task_uses, is_priority, is_attachment, with_operation, with_operations, with_element, with_elements, with_private}
+use Rattle.rv_scope.specs.UnitUses.{unit_uses, local_uses, locals_uses, exception_uses, exceptions_uses, handlers_uses, block_uses, operation_body_uses, operation_bodies_uses, bodies_of_unit, protected_body_uses, task_body_uses, body_item_uses, body_items_uses, with_names_uses, use_names_uses, context_item_uses, context_uses, in_protected_unit, unit_number, protected_unit_of, with_body_item, withed, with_names, used_by, use_names, with_context_item, with_context, package_scope, protected_units, with_local, with_locals}
+use Rattle.rv_scope.specs.Bound.{judged, Used, listed, uses, IsBound, AllBound}
 
 -- where the one finds all bound, all that the other lists is bound
 pub record Shows (f : Bool → Bool) (g : List Used → List Used) : Type 0 where

@@ -7,9 +7,9 @@ use Rattle.indexmap.specs.IndexMap.{insert_entry}
 use Rattle.rv_text.specs.Names.{is_same_name}
 use Rattle.rv_tree.specs.Declarations.{Declaration, package_pragma, a_subtype, a_protected_unit, a_task, a_variable, a_constant}
 use Rattle.rv_tree.specs.Units.{BodyItem, body_declaration, body_protected, body_task, UnitTree}
-use Rattle.rv_names.specs.declared.declared.Declared.{Declared}
-use Rattle.rv_names.specs.Scope.{Region}
-use Rattle.rv_names.specs.Predefined.{named}
+use Rattle.rv_scope.specs.declared.declared.Declared.{Declared}
+use Rattle.rv_scope.specs.Scope.{Region}
+use Rattle.rv_scope.specs.Predefined.{named}
 use Rattle.rv_names.specs.Completed.{is_body_of, wants_among, item_wants_among, has_body, unit_is_completed, with_body, with_bodies, is_in}
 
 -- a name that is noted

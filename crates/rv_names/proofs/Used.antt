@@ -4,11 +4,11 @@ use Rattle.std.specs.Prelude.{Bool}
 use Rattle.std.proofs.Math.Seq.{drop-cons}
 use Rattle.rv_tree.specs.declared.name.Name.{Name}
 use Rattle.rv_tree.specs.NameView.{name_view}
-use Rattle.rv_names.specs.declared.wanted.Wanted.TheVariants as w
-use Rattle.rv_names.specs.Scope.{ScopeView}
-use Rattle.rv_names.specs.Wanted.{denoted}
-use Rattle.rv_names.specs.Bound.{judged}
-use Rattle.rv_names.specs.UnitUses.{use_names_uses, use_names, used_by}
+use Rattle.rv_scope.specs.declared.wanted.Wanted.TheVariants as w
+use Rattle.rv_scope.specs.Scope.{ScopeView}
+use Rattle.rv_scope.specs.Wanted.{denoted}
+use Rattle.rv_scope.specs.Bound.{judged}
+use Rattle.rv_scope.specs.UnitUses.{use_names_uses, use_names, used_by}
 
 pub rest_is : (items : List Name) (i : ℕ) (one : Name) → one ≡ get_or items i one → i < length items → drop i items ≡ one ∷ drop (suc i) items
 rest_is items i one is lt = drop-cons items i one lt ∙ ap (λ x. x ∷ drop (suc i) items) (sym is)

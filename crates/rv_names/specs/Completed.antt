@@ -5,8 +5,8 @@ use Rattle.indexmap.specs.IndexMap.{insert_entry}
 use Rattle.rv_text.specs.Names.{is_same_name}
 use Rattle.rv_tree.specs.Declarations.{Declaration, a_protected_unit, a_task}
 use Rattle.rv_tree.specs.Units.{BodyItem, body_declaration, body_protected, body_task, UnitTree}
-use Rattle.rv_names.specs.Scope.{Region}
-use Rattle.rv_names.specs.Predefined.{named}
+use Rattle.rv_scope.specs.Scope.{Region}
+use Rattle.rv_scope.specs.Predefined.{named}
 
 -- the item is a body of this name
 abbrev pub is_body_of : List ℕ → BodyItem → Bool

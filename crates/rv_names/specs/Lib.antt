@@ -1,13 +1,3 @@
-pub mod Predefined
-pub mod Scope
-pub mod Visible
-pub mod Wanted
-pub mod Statics
-pub mod ExpressionUses
-pub mod StatementUses
-pub mod DeclarationUses
-pub mod UnitUses
-pub mod Bound
 pub mod Completed
 pub mod EndNames
 pub mod Jumps

@@ -5,18 +5,19 @@ ghost use Rattle.rv_tree.specs.NameView.{identifier_view, identifiers_view, name
 ghost use Rattle.rv_tree.specs.ExpressionView.{expression_view, range_view};
 ghost use Rattle.rv_tree.specs.DeclarationView.{maybe, parameter_view};
 ghost use Rattle.rv_tree.specs.BodyView.{local_view, exception_choice_view, handler_view, block_view};
-ghost use Rattle.rv_names.specs.Bound.{judged};
-ghost use Rattle.rv_names.specs.Scope.{OnlyDeclares, declaring_all, hiding_all};
-ghost use Rattle.rv_names.specs.ExpressionUses.{◌▷◌, value_uses, maybe_uses, range_uses};
-ghost use Rattle.rv_names.specs.UnitUses.{local_form as form_of_local, local_uses, with_local, locals_uses, with_locals, exception_uses, exceptions_uses, handlers_uses, block_uses};
+ghost use Rattle.rv_scope.specs.Bound.{judged};
+ghost use Rattle.rv_scope.specs.Scope.{OnlyDeclares, declaring_all, hiding_all};
+ghost use Rattle.rv_scope.specs.ExpressionUses.{◌▷◌, value_uses, maybe_uses, range_uses};
+ghost use Rattle.rv_scope.specs.UnitUses.{local_form as form_of_local, local_uses, with_local, locals_uses, with_locals, exception_uses, exceptions_uses, handlers_uses, block_uses};
 
-use crate::declare::{Form, declare_all, hide_all};
+use crate::hide::hide_all;
+use rv_scope::declare::{Form, declare_all};
 use crate::expression::{maybe_range, maybe_value, name, refuse};
 use crate::fault::Faults;
 use crate::pragma::stray_pragma;
-use crate::scope::Scope;
+use rv_scope::scope::Scope;
 use crate::statement::statements;
-use crate::wanted::Wanted;
+use rv_scope::wanted::Wanted;
 use rv_tree::body::{Block, ExceptionChoice, Handler, Local};
 use rv_tree::expression::{Expression, RangeConstraint};
 use rv_tree::name::{Identifier, Name};

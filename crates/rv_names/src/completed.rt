@@ -12,7 +12,7 @@ ghost use Rattle.rv_names.specs.Completed.{wants_among, item_wants_among, unit_i
 use crate::completed_operations::missing_operation;
 use crate::completion::{Completion, Kind};
 use crate::fault::{NameFault, earlier};
-use crate::region::Region;
+use rv_scope::region::Region;
 use rv_tree::declaration::Declaration;
 use rv_tree::name::Identifier;
 use rv_tree::unit::{BodyItem, UnitTree};

@@ -5,17 +5,17 @@ ghost use Rattle.rv_tree.specs.NameView.{name_view};
 ghost use Rattle.rv_tree.specs.DeclarationView.{maybe};
 ghost use Rattle.rv_tree.specs.Expressions.{expressions_of, factors_of, terms_of};
 ghost use Rattle.rv_tree.specs.ExpressionView.{expression_view, expressions_view, factors_view, terms_view, range_view};
-ghost use Rattle.rv_names.specs.Bound.{judged};
-ghost use Rattle.rv_names.specs.ExpressionUses.{◌▷◌, refused, expression_uses, expressions_uses, factors_uses, terms_uses, value_uses, maybe_uses, range_uses};
+ghost use Rattle.rv_scope.specs.Bound.{judged};
+ghost use Rattle.rv_scope.specs.ExpressionUses.{◌▷◌, refused, expression_uses, expressions_uses, factors_uses, terms_uses, value_uses, maybe_uses, range_uses};
 
 use crate::fault::{Faults, NameFault};
-use crate::scope::Scope;
-use crate::wanted::Wanted;
+use rv_scope::scope::Scope;
+use rv_scope::wanted::Wanted;
 use rv_tree::expression::{Expression, Factor, RangeConstraint, Term};
 use rv_tree::name::Name;
 
 /// A name where this is wanted.
-#[tactic(auto, unfolding(crate::specs::Bound::judged))]
+#[tactic(auto, unfolding(rv_scope::specs::Bound::judged))]
 pub(crate) fn name(name: &Name, wanted: Wanted, scope: &Scope, faults: &mut Faults)
     ensures { faults.new ≡ judged scope.now wanted (name_view name.now) faults.old }
 {
@@ -43,7 +43,7 @@ fn missing(name: &Name, wanted: Wanted, scope: &Scope, faults: &Faults) -> NameF
 }
 
 /// A part at this place that the profile does not have.
-#[tactic(auto, unfolding(crate::specs::Bound::judged))]
+#[tactic(auto, unfolding(rv_scope::specs::Bound::judged))]
 pub(crate) fn refuse(at: usize, scope: &Scope, faults: &mut Faults)
     ensures { faults.new ≡ refused judged scope.now at faults.old }
 {

@@ -5,7 +5,7 @@ ghost use Rattle.rv_names.specs.declared.fault.NameFault.TheVariants.{NoMemory};
 
 use crate::marks::Marks;
 use crate::missing::Around;
-use crate::scope::Scope;
+use rv_scope::scope::Scope;
 use rv_text::is_same_name;
 use rv_tree::body::Block;
 use rv_tree::declaration::ProtectedUnit;

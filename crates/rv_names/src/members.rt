@@ -3,14 +3,15 @@
 ghost use Rattle.std.specs.Prelude.{◌≡◌, OnOk, map};
 ghost use Rattle.rv_tree.specs.NameView.{identifier_view, identifiers_view};
 ghost use Rattle.rv_tree.specs.DeclarationView.{maybe, operation_view, element_view, protected_unit_view};
-ghost use Rattle.rv_names.specs.Scope.{OnlyDeclares, declaring_all, hiding_all, hiding, entered};
-ghost use Rattle.rv_names.specs.DeclarationUses.{declaring_operation, with_operation, with_operations, with_element, with_elements, with_private, with_members};
+ghost use Rattle.rv_scope.specs.Scope.{OnlyDeclares, declaring_all, hiding_all, hiding, entered};
+ghost use Rattle.rv_scope.specs.DeclarationUses.{declaring_operation, with_operation, with_operations, with_element, with_elements, with_private, with_members};
 
-use crate::declare::{Form, declare_all, hide, hide_all};
-use crate::declared::OperationKind;
+use crate::hide::{hide, hide_all};
+use rv_scope::declare::{Form, declare_all};
+use rv_scope::declared::OperationKind;
 use crate::fault::Faults;
 use crate::protected::declare_operation;
-use crate::scope::Scope;
+use rv_scope::scope::Scope;
 use rv_tree::declaration::{OperationDeclaration, ProtectedElement, ProtectedUnit};
 use rv_tree::name::Identifier;
 use std::alloc::AllocError;

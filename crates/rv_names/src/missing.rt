@@ -1,10 +1,10 @@
 //! Why a name denotes nothing: whether what it names exists and isn't visible, or doesn't exist.
 
-use crate::declared::Declared;
+use rv_scope::declared::Declared;
 use crate::fault::NameFault;
-use crate::predefined::Library;
-use crate::scope::Scope;
-use crate::wanted::Wanted;
+use rv_scope::predefined::Library;
+use rv_scope::scope::Scope;
+use rv_scope::wanted::Wanted;
 use rv_shape::object::Operation;
 use rv_text::is_same_name;
 use rv_tree::body::{Block, Local};
@@ -192,7 +192,7 @@ impl<'a> Around<'a> {
         if self.has_later_local(name) {
             return true;
         }
-        scope.is_loaded(name) || scope.is_hidden(name) || library_declares(name)
+        is_loaded(scope, name) || is_hidden(scope, name) || library_declares(name)
     }
 
     // Whether the block around the point declares a name.
@@ -207,8 +207,8 @@ impl<'a> Around<'a> {
     fn knows_behind(&self, scope: &Scope, prefix: Declared, name: &str) -> bool {
         match prefix {
             Declared::OwnUnit => package_declares(self.tree, name),
-            Declared::Unit(unit) => scope.has_object(unit, name),
-            Declared::UnitObject(unit, object) => scope.has_unit_operation(unit, object, name),
+            Declared::Unit(unit) => has_object(scope, unit, name),
+            Declared::UnitObject(unit, object) => has_unit_operation(scope, unit, object, name),
             Declared::LibraryPackage(library) => library.child(name).is_some(),
             Declared::ProtectedType(at, number) => {
                 scope.is_current(at) && self.has_later_member(number, name)
@@ -317,43 +317,41 @@ fn unseen(at: usize, is_known: bool) -> NameFault {
     }
 }
 
-impl<'a> Scope<'a> {
-    // Whether a unit of this name is loaded.
-    fn is_loaded(&self, name: &str) -> bool {
-        for shape in self.shapes() {
-            if is_same_name(name, shape.name()) {
-                return true;
-            }
+// Whether a unit of this name is loaded.
+fn is_loaded(scope: &Scope, name: &str) -> bool {
+    for shape in scope.shapes() {
+        if is_same_name(name, shape.name()) {
+            return true;
         }
-        false
     }
+    false
+}
 
-    // Whether a name is hidden by its own declaration.
-    fn is_hidden(&self, name: &str) -> bool {
-        self.innermost_meaning(name).is_some()
-    }
+// Whether a name is hidden by its own declaration.
+fn is_hidden(scope: &Scope, name: &str) -> bool {
+    scope.innermost_meaning(name).is_some()
+}
 
-    // Whether a loaded unit has an object of this name.
-    fn has_object(&self, unit: usize, name: &str) -> bool {
-        let Some(shape) = self.shapes().get(unit) else {
-            return false;
-        };
-        for object in shape.objects() {
-            if is_same_name(name, object.name()) {
-                return true;
-            }
+// Whether a loaded unit has an object of this name.
+fn has_object(scope: &Scope, unit: usize, name: &str) -> bool {
+    let Some(shape) = scope.shapes().get(unit) else {
+        return false;
+    };
+    for object in shape.objects() {
+        if is_same_name(name, object.name()) {
+            return true;
         }
-        false
     }
+    false
+}
 
-    // Whether an object of a loaded unit has an operation of this name.
-    fn has_unit_operation(&self, unit: usize, object: usize, name: &str) -> bool {
-        match self.shapes().get(unit) {
-            Some(shape) => match shape.objects().get(object) {
-                Some(found) => has_operation(found.operations(), name),
-                None => false,
-            },
+// Whether an object of a loaded unit has an operation of this name.
+fn has_unit_operation(scope: &Scope, unit: usize, object: usize, name: &str) -> bool {
+    match scope.shapes().get(unit) {
+        Some(shape) => match shape.objects().get(object) {
+            Some(found) => has_operation(found.operations(), name),
             None => false,
-        }
+        },
+        None => false,
     }
 }

@@ -5,19 +5,19 @@ ghost use Rattle.rv_tree.specs.NameView.{identifier_view, name_view};
 ghost use Rattle.rv_tree.specs.ExpressionView.{expression_view};
 ghost use Rattle.rv_tree.specs.DeclarationView.{parameter_view};
 ghost use Rattle.rv_tree.specs.BodyView.{block_view, operation_body_view};
-ghost use Rattle.rv_names.specs.Bound.{judged};
-ghost use Rattle.rv_names.specs.Scope.{in_body};
-ghost use Rattle.rv_names.specs.Wanted.{is_body};
-ghost use Rattle.rv_names.specs.ExpressionUses.{◌▷◌, simple as simple_name, value_uses};
-ghost use Rattle.rv_names.specs.DeclarationUses.{parameters_uses, with_parameters};
-ghost use Rattle.rv_names.specs.UnitUses.{block_uses, operation_body_uses, operation_bodies_uses};
+ghost use Rattle.rv_scope.specs.Bound.{judged};
+ghost use Rattle.rv_scope.specs.Scope.{in_body};
+ghost use Rattle.rv_scope.specs.Wanted.{is_body};
+ghost use Rattle.rv_scope.specs.ExpressionUses.{◌▷◌, simple as simple_name, value_uses};
+ghost use Rattle.rv_scope.specs.DeclarationUses.{parameters_uses, with_parameters};
+ghost use Rattle.rv_scope.specs.UnitUses.{block_uses, operation_body_uses, operation_bodies_uses};
 
 use crate::body::block;
 use crate::expression::value;
 use crate::fault::{Faults, NameFault};
 use crate::protected::{parameters, profile_mark};
-use crate::scope::Scope;
-use crate::wanted::Wanted;
+use rv_scope::scope::Scope;
+use rv_scope::wanted::Wanted;
 use rv_tree::body::{Block, OperationBody};
 use rv_tree::declaration::Parameter;
 use rv_tree::expression::Expression;
@@ -25,7 +25,7 @@ use rv_tree::name::{Identifier, Name};
 use std::alloc::AllocError;
 
 /// The name of a body: a declaration of it must stand in the innermost region.
-#[tactic(auto, unfolding(crate::specs::Bound::judged))]
+#[tactic(auto, unfolding(rv_scope::specs::Bound::judged))]
 pub(crate) fn body_name(declared: &Identifier, wanted: Wanted, scope: &Scope, faults: &mut Faults)
     requires { is_body wanted ≡ true }
     ensures { faults.new ≡ judged scope.now wanted (simple_name (identifier_view declared.now)) faults.old }

@@ -2,13 +2,13 @@
 
 ghost use Rattle.std.specs.Prelude.{◌≡◌, map};
 ghost use Rattle.rv_tree.specs.DeclarationView.{pragma_view, pragma_argument_view, aspect_view};
-ghost use Rattle.rv_names.specs.Bound.{judged};
-ghost use Rattle.rv_names.specs.DeclarationUses.{is_priority as is_priority_name, is_attachment as is_attachment_name, arguments_uses, pragma_uses, aspects_uses};
+ghost use Rattle.rv_scope.specs.Bound.{judged};
+ghost use Rattle.rv_scope.specs.DeclarationUses.{is_priority as is_priority_name, is_attachment as is_attachment_name, arguments_uses, pragma_uses, aspects_uses};
 
 use crate::expression::{expression, maybe_value};
 use crate::fault::{Faults, NameFault};
-use crate::scope::Scope;
-use crate::wanted::Wanted;
+use rv_scope::scope::Scope;
+use rv_scope::wanted::Wanted;
 use rv_text::is_same_name;
 use rv_tree::declaration::{
     Aspect, OperationDeclaration, Parameter, Pragma, PragmaArgument, ProtectedElement,

@@ -1,28 +1,28 @@
 //! The names that protected units use, and what they declare.
 
-ghost use Rattle.std.specs.Prelude.{◌≡◌, OnOk, IfOk, map, length, []};
+ghost use Rattle.std.specs.Prelude.{◌≡◌, OnOk, map};
 ghost use Rattle.rv_tree.specs.NameView.{identifier_view, identifiers_view, name_view};
 ghost use Rattle.rv_tree.specs.ExpressionView.{expression_view, range_view};
 ghost use Rattle.rv_tree.specs.DeclarationView.{maybe, aspect_view, parameter_view, operation_view, element_view, protected_unit_view};
-ghost use Rattle.rv_names.specs.Bound.{judged};
-ghost use Rattle.rv_names.specs.Scope.{OnlyDeclares, declaring, declaring_all, hiding_all, hiding, entered, within_unit, showing};
-ghost use Rattle.rv_names.specs.ExpressionUses.{◌▷◌, value_uses, maybe_uses, range_uses};
-ghost use Rattle.rv_names.specs.DeclarationUses.{aspects_uses, parameters_uses, with_parameters, declaring_operation, operation_uses, with_operation, operations_uses, with_operations, element_uses, with_element, elements_uses, with_elements, private_uses, with_private, with_members, parts_uses, protected_unit_uses, protected_meaning as meaning_of_unit, with_shown, with_all_shown, declaring_protected_unit};
+ghost use Rattle.rv_scope.specs.Bound.{judged};
+ghost use Rattle.rv_scope.specs.Scope.{OnlyDeclares, declaring_all, hiding_all, hiding, entered, within_unit};
+ghost use Rattle.rv_scope.specs.ExpressionUses.{◌▷◌, value_uses, maybe_uses, range_uses};
+ghost use Rattle.rv_scope.specs.DeclarationUses.{aspects_uses, parameters_uses, with_parameters, declaring_operation, operation_uses, with_operation, operations_uses, with_operations, element_uses, with_element, elements_uses, with_elements, private_uses, with_private, with_members, parts_uses, protected_unit_uses, declaring_protected_unit};
 
-use crate::declare::{Form, declare_all, hide, hide_all};
-use crate::declared::{Declared, OperationKind};
+use crate::hide::{hide, hide_all};
+use rv_scope::declare::{Form, declare_all};
+use rv_scope::declared::{Declared, OperationKind};
 use crate::expression::{maybe_range, maybe_value, name};
 use crate::fault::Faults;
 use crate::pragma::{aspects, pragma, procedure_rules, protected_rules};
-use crate::region::Region;
-use crate::scope::Scope;
-use crate::wanted::Wanted;
+use rv_scope::scope::Scope;
+use rv_scope::wanted::Wanted;
 use rv_tree::declaration::{
     Aspect, OperationDeclaration, Parameter, ProtectedElement, ProtectedUnit,
 };
 use rv_tree::expression::{Expression, RangeConstraint};
 use rv_tree::name::{Identifier, Name};
-use std::alloc::{AllocError, Global};
+use std::alloc::AllocError;
 
 /// The mark of a parameter or a result. What it denotes is kept, since that of the body has to match it
 /// statically (6.3.1).
@@ -270,88 +270,6 @@ fn private_part(
     match part {
         None => Ok(()),
         Some(list) => elements(list, scope, faults),
-    }
-}
-
-// What a protected unit of this number declares: a type, or a single object.
-fn unit_meaning(is_type: bool, number: usize, at: usize) -> Declared
-    ensures { result ≡ meaning_of_unit is_type number at }
-{
-    if is_type {
-        Declared::ProtectedType(at, number)
-    } else {
-        Declared::SingleProtected(at, number)
-    }
-}
-
-// An operation before `private`, as others see it.
-fn show(alloc: Global, one: &OperationDeclaration, region: &mut Region) -> Result<(), AllocError>
-    ensures { OnOk result (region.new ≡ with_shown (operation_view one.now) region.old) }
-{
-    match one {
-        OperationDeclaration::Pragma(_) => Ok(()),
-        OperationDeclaration::Function {
-            at: _,
-            name: declared,
-            parameters: _,
-            mark: _,
-        } => {
-            let meaning = Declared::Operation(declared.at, OperationKind::Function);
-            region.declare(alloc, declared.text.as_str(), Some(meaning))
-        }
-        OperationDeclaration::Procedure {
-            at: _,
-            name: declared,
-            parameters: _,
-            aspects: _,
-        } => {
-            let meaning = Declared::Operation(declared.at, OperationKind::Procedure);
-            region.declare(alloc, declared.text.as_str(), Some(meaning))
-        }
-        OperationDeclaration::Entry(entry) => {
-            let meaning = Declared::Operation(entry.name.at, OperationKind::Entry);
-            region.declare(alloc, entry.name.text.as_str(), Some(meaning))
-        }
-    }
-}
-
-// All operations before `private`.
-fn shown(alloc: Global, list: &Vec<OperationDeclaration>) -> Result<Region, AllocError>
-    ensures { IfOk result (λ region. region ≡ with_all_shown (map operation_view list.now.items) []) }
-{
-    let mut region = Region::new(alloc);
-    for one in list {
-        show(alloc, one, &mut region)?;
-    }
-    Ok(region)
-}
-
-impl<'a> Scope<'a> {
-    /// The identifier of a protected unit is declared, which denotes the unit within its own declaration too (8.3).
-    pub fn name_protected_unit(&mut self, unit: &ProtectedUnit) -> Result<(), AllocError>
-        ensures { OnOk result (self.new
-            ≡ declaring (meaning_of_unit unit.now.is_type (length self.old.shown)) (identifier_view unit.now.name) self.old) }
-    {
-        let meaning = unit_meaning(unit.is_type, self.shown().len(), unit.name.at);
-        self.declare(&unit.name, Some(meaning))
-    }
-
-    /// What others see of a protected unit behind its declaration: its operations before `private` (9.4).
-    pub fn show_protected_unit(&mut self, unit: &ProtectedUnit) -> Result<(), AllocError>
-        ensures { OnOk result (self.new ≡ showing (with_all_shown (map operation_view unit.now.operations.items) []) self.old) }
-    {
-        let operations = shown(self.allocator(), &unit.operations)?;
-        self.show(operations)
-    }
-
-    /// The identifier of a protected unit, and what others see of the unit.
-    pub fn declare_protected_unit(&mut self, unit: &ProtectedUnit) -> Result<(), AllocError>
-        ensures { OnOk result (self.new
-            ≡ showing (with_all_shown (map operation_view unit.now.operations.items) [])
-            (declaring (meaning_of_unit unit.now.is_type (length self.old.shown)) (identifier_view unit.now.name) self.old)) }
-    {
-        self.name_protected_unit(unit)?;
-        self.show_protected_unit(unit)
     }
 }
 

@@ -1,14 +1,13 @@
 //! Names of whole unit texts.
 
-ghost use Rattle.std.specs.Prelude.{◌≡◌, ◌++◌, IfOk, OnOk, map, true, List, []};
-ghost use Rattle.rv_tree.specs.DeclarationView.{declaration_view, protected_unit_view};
-ghost use Rattle.rv_tree.specs.UnitView.{body_item_view, unit_view};
-ghost use Rattle.rv_names.specs.Bound.{judged, AreBound, AllBound, uses};
+ghost use Rattle.std.specs.Prelude.{◌≡◌, IfOk, OnOk, map, true};
+ghost use Rattle.rv_tree.specs.DeclarationView.{protected_unit_view};
+ghost use Rattle.rv_tree.specs.UnitView.{unit_view};
+ghost use Rattle.rv_scope.specs.Bound.{judged, AreBound, AllBound, uses};
 ghost use Rattle.rv_names.specs.Completed.{unit_is_completed};
 ghost use Rattle.rv_names.specs.EndNames.{unit_ends};
 ghost use Rattle.rv_names.specs.Jumps.{unit_is_placed};
-ghost use Rattle.rv_names.specs.ExpressionUses.{◌▷◌, simple as simple_name};
-ghost use Rattle.rv_names.specs.UnitUses.{unit_uses, protected_units as all_protected_units, unit_onto, item_onto};
+ghost use Rattle.rv_scope.specs.UnitUses.{unit_uses, protected_units as all_protected_units};
 
 use crate::completed::missing_body;
 use crate::context_names::context_names;
@@ -19,63 +18,14 @@ use crate::jumps::jump_fault;
 use crate::missing::Around;
 use crate::operation_body::body_name;
 use crate::rules::package_bodies;
-use crate::scope::Scope;
+use rv_scope::scope::Scope;
 use crate::unit::body_items;
-use crate::wanted::Wanted;
+use rv_scope::wanted::Wanted;
+use rv_scope::named::{Named, protected_units};
 use rv_shape::catalogue::Catalogue;
-use rv_tree::declaration::{Declaration, ProtectedUnit};
-use rv_tree::unit::{BodyItem, UnitTree};
+use rv_tree::declaration::ProtectedUnit;
+use rv_tree::unit::UnitTree;
 use std::alloc::{AllocError, Global};
-
-/// A unit text's tree and the loaded units, over which each name of the text is bound to the one declaration that is
-/// visible.
-#[derive(Drop)]
-pub struct Named<'a> {
-    pub tree: &'a UnitTree,
-    pub catalogue: &'a Catalogue,
-    ghost bound: { AreBound catalogue.now (unit_view tree.now) },
-}
-
-// A protected unit, behind those before it.
-fn push_unit<'a>(
-    units: &mut Vec<&'a ProtectedUnit>,
-    declaration: &'a Declaration,
-) -> Result<(), AllocError>
-    ensures { OnOk result (map (λ u. protected_unit_view u.now) units.new.items ≡ unit_onto (map (λ u. protected_unit_view u.now) units.old.items) (declaration_view declaration.now)) }
-{
-    if let Declaration::Protected(unit) = declaration {
-        units.push(unit)?;
-    }
-    Ok(())
-}
-
-// The same, of an item of the package body.
-fn push_item<'a>(units: &mut Vec<&'a ProtectedUnit>, item: &'a BodyItem) -> Result<(), AllocError>
-    ensures { OnOk result (map (λ u. protected_unit_view u.now) units.new.items ≡ item_onto (map (λ u. protected_unit_view u.now) units.old.items) (body_item_view item.now)) }
-{
-    match item {
-        BodyItem::Declaration(declaration) => push_unit(units, declaration),
-        BodyItem::Protected(_) => Ok(()),
-        BodyItem::Task(_) => Ok(()),
-    }
-}
-
-/// The protected units of a text, in the order of their numbers.
-pub fn protected_units<'a>(
-    alloc: Global,
-    tree: &'a UnitTree,
-) -> Result<Vec<&'a ProtectedUnit>, AllocError>
-    ensures { IfOk result (λ units. map (λ u. protected_unit_view u.now) units.items ≡ all_protected_units (unit_view tree.now)) }
-{
-    let mut units = Vec::new(alloc);
-    for declaration in &tree.specification.declarations {
-        push_unit(&mut units, declaration)?;
-    }
-    for item in &tree.body.items {
-        push_item(&mut units, item)?;
-    }
-    Ok(units)
-}
 
 // Walks through a whole text.
 fn walk<'a>(
@@ -151,7 +101,7 @@ pub fn resolve<'a>(
     ensures jumps { IfOk result (λ named. unit_is_placed (unit_view tree.now) ≡ true) }
 {
     match first_fault(alloc, tree, catalogue)? {
-        None => Ok(Named { tree, catalogue }),
+        None => Ok(Named::new(tree, catalogue)),
         Some(fault) => Err(fault),
     }
 }

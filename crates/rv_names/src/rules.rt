@@ -4,8 +4,8 @@ ghost use Rattle.std.specs.Prelude.{◌≡◌, OnOk};
 
 use crate::fault::{Faults, NameFault};
 use crate::marks::Marks;
-use crate::region::Region;
-use crate::scope::Scope;
+use rv_scope::region::Region;
+use rv_scope::scope::Scope;
 use rv_text::is_same_name;
 use rv_tree::body::{OperationBody, ProtectedBody};
 use rv_tree::declaration::{

@@ -6,18 +6,18 @@ ghost use Rattle.rv_tree.specs.DeclarationView.{maybe};
 ghost use Rattle.rv_tree.specs.ExpressionView.{expression_view};
 ghost use Rattle.rv_tree.specs.Statements.{statements_of, elsif_parts_of, alternatives_of};
 ghost use Rattle.rv_tree.specs.StatementView.{statement_view, statements_view, elsif_parts_view, alternatives_view, choice_view, bounds_view, iteration_view};
-ghost use Rattle.rv_names.specs.Bound.{judged};
-ghost use Rattle.rv_names.specs.ExpressionUses.{◌▷◌, simple as simple_name, value_uses, maybe_uses};
-ghost use Rattle.rv_names.specs.StatementUses.{choice_uses, choices_uses, bounds_uses, statement_uses, iteration_uses, in_loop, statements_uses, elsif_parts_uses, alternatives_uses};
+ghost use Rattle.rv_scope.specs.Bound.{judged};
+ghost use Rattle.rv_scope.specs.ExpressionUses.{◌▷◌, simple as simple_name, value_uses, maybe_uses};
+ghost use Rattle.rv_scope.specs.StatementUses.{choice_uses, choices_uses, bounds_uses, statement_uses, iteration_uses, in_loop, statements_uses, elsif_parts_uses, alternatives_uses};
 
-use crate::declare::hide;
-use crate::declared::Declared;
+use crate::hide::hide;
+use rv_scope::declared::Declared;
 use crate::expression::{
     expression, expressions, maybe_name, maybe_value, name, range, refuse, two_values, value,
 };
 use crate::fault::{Faults, NameFault};
-use crate::scope::Scope;
-use crate::wanted::Wanted;
+use rv_scope::scope::Scope;
+use rv_scope::wanted::Wanted;
 use rv_tree::name::{Identifier, Name};
 use rv_tree::statement::{CaseAlternative, Choice, ElsifPart, Iteration, LoopBounds, Statement};
 use std::alloc::AllocError;
@@ -55,7 +55,7 @@ fn bounds(bounds: &LoopBounds, scope: &Scope, faults: &mut Faults)
 }
 
 // `accept`, which names an entry of a task, of which the profile has none (9.5.2, D.7).
-#[tactic(auto, unfolding(crate::specs::Bound::judged))]
+#[tactic(auto, unfolding(rv_scope::specs::Bound::judged))]
 fn accept(entry: &Identifier, scope: &Scope, faults: &mut Faults)
     ensures { faults.new ≡ judged scope.now Wanted.Nothing (simple_name (identifier_view entry.now)) faults.old }
 {

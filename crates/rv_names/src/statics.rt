@@ -3,11 +3,11 @@
 //! What is wrong with their types is no fault of names: such a declaration is left out, and told where types are looked at.
 
 ghost use Rattle.std.specs.Prelude.{◌≡◌, [], OnOk};
-ghost use Rattle.rv_names.specs.Statics.{with_meaning, or_not_static as this_or_not_static, meaning_of, means as means_at};
+ghost use Rattle.rv_scope.specs.Statics.{with_meaning, or_not_static as this_or_not_static, meaning_of, means as means_at};
 
-use crate::declared::Declared;
-use crate::library_meaning::{predefined_meaning, whole_range};
-use crate::scope::Scope;
+use rv_scope::declared::Declared;
+use rv_scope::library_meaning::{predefined_meaning, whole_range};
+use rv_scope::scope::Scope;
 use indexmap::IndexMap;
 use rv_shape::kind::{Range, ValueType};
 use rv_static::{Faults, Meaning, Meanings, narrowed, subtype, value_in};
@@ -29,7 +29,7 @@ impl Drop for Statics {
 }
 
 impl Model for Statics {
-    ghost use Rattle.rv_names.specs.Statics.{Statics as StaticsView};
+    ghost use Rattle.rv_scope.specs.Statics.{Statics as StaticsView};
 
     ghost Value = { StaticsView };
 

@@ -8,16 +8,16 @@ use Rattle.rv_shape.specs.declared.kind.Barrier.{Barrier}
 use Rattle.rv_shape.specs.declared.kind.Kind.TheVariants.{Entry}
 use Rattle.rv_shape.specs.Shape.{Shape}
 use Rattle.rv_shape.specs.Catalogue.{all_objects}
-use Rattle.rv_names.specs.declared.declared.Declared.{Declared}
-use Rattle.rv_names.specs.declared.declared.Declared.TheVariants as d
-use Rattle.rv_names.specs.declared.declared.OperationKind.TheVariants as kind
-use Rattle.rv_names.specs.declared.wanted.Wanted.TheVariants as w
-use Rattle.rv_names.specs.Scope.{ScopeView, hiding, hiding_all, in_body}
-use Rattle.rv_names.specs.Visible.{visible}
-use Rattle.rv_names.specs.Wanted.{denoted}
-use Rattle.rv_names.specs.ExpressionUses.{simple}
-use Rattle.rv_names.specs.DeclarationUses.{with_parameters, with_declaration, with_declarations}
-use Rattle.rv_names.specs.UnitUses.{in_protected_unit, unit_number, protected_unit_of, with_body_item, package_scope, protected_units}
+use Rattle.rv_scope.specs.declared.declared.Declared.{Declared}
+use Rattle.rv_scope.specs.declared.declared.Declared.TheVariants as d
+use Rattle.rv_scope.specs.declared.declared.OperationKind.TheVariants as kind
+use Rattle.rv_scope.specs.declared.wanted.Wanted.TheVariants as w
+use Rattle.rv_scope.specs.Scope.{ScopeView, hiding, hiding_all, in_body}
+use Rattle.rv_scope.specs.Visible.{visible}
+use Rattle.rv_scope.specs.Wanted.{denoted}
+use Rattle.rv_scope.specs.ExpressionUses.{simple}
+use Rattle.rv_scope.specs.DeclarationUses.{with_parameters, with_declaration, with_declarations}
+use Rattle.rv_scope.specs.UnitUses.{in_protected_unit, unit_number, protected_unit_of, with_body_item, package_scope, protected_units}
 use Rattle.rv_outline.specs.declared.outline.ObjectType.{ObjectType}
 use Rattle.rv_outline.specs.declared.outline.ObjectType.TheVariants as sort
 use Rattle.rv_outline.specs.Known.{means}

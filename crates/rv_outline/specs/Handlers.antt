@@ -3,12 +3,12 @@ use Rattle.std.specs.Prelude.{ℕ, ◌&&◌, not, is_some, if◌then◌else◌, 
 use Rattle.rv_tree.specs.Expressions.{Expression, name, parenthesized}
 use Rattle.rv_tree.specs.Declarations.{PragmaArgument}
 use Rattle.rv_shape.specs.Forms.{are_none}
-use Rattle.rv_names.specs.declared.declared.Declared.{Declared}
-use Rattle.rv_names.specs.declared.declared.Declared.TheVariants as d
-use Rattle.rv_names.specs.declared.declared.OperationKind.TheVariants as kind
-use Rattle.rv_names.specs.declared.predefined.Predefined.TheVariants as p
-use Rattle.rv_names.specs.Scope.{ScopeView}
-use Rattle.rv_names.specs.Visible.{visible}
+use Rattle.rv_scope.specs.declared.declared.Declared.{Declared}
+use Rattle.rv_scope.specs.declared.declared.Declared.TheVariants as d
+use Rattle.rv_scope.specs.declared.declared.OperationKind.TheVariants as kind
+use Rattle.rv_scope.specs.declared.predefined.Predefined.TheVariants as p
+use Rattle.rv_scope.specs.Scope.{ScopeView}
+use Rattle.rv_scope.specs.Visible.{visible}
 use Rattle.rv_static.specs.Static.{◌>>=◌}
 use Rattle.rv_outline.specs.declared.known.Known.{Known}
 use Rattle.rv_outline.specs.declared.known.Known.TheVariants as k

@@ -3,12 +3,12 @@ use Rattle.std.specs.Prelude.{ℕ, nat_eq, List, Option, Some}
 use Rattle.std.specs.Map.{lookup}
 use Rattle.indexmap.specs.IndexMap.{insert_entry}
 use Rattle.rv_tree.specs.Names.{Name}
-use Rattle.rv_names.specs.declared.declared.Declared.{Declared}
-use Rattle.rv_names.specs.declared.declared.Declared.TheVariants as d
-use Rattle.rv_names.specs.Scope.{ScopeView}
-use Rattle.rv_names.specs.Statics.{predefined_meaning}
-pub use Rattle.rv_names.specs.Statics.{whole_range, any_priority_range, priority_range, interrupt_priority_range, default_priority}
-use Rattle.rv_names.specs.Visible.{visible}
+use Rattle.rv_scope.specs.declared.declared.Declared.{Declared}
+use Rattle.rv_scope.specs.declared.declared.Declared.TheVariants as d
+use Rattle.rv_scope.specs.Scope.{ScopeView}
+use Rattle.rv_scope.specs.Statics.{predefined_meaning}
+pub use Rattle.rv_scope.specs.Statics.{whole_range, any_priority_range, priority_range, interrupt_priority_range, default_priority}
+use Rattle.rv_scope.specs.Visible.{visible}
 use Rattle.rv_static.specs.declared.meaning.Meaning.{Meaning}
 use Rattle.rv_static.specs.declared.meaning.Meaning.TheVariants as m
 use Rattle.rv_outline.specs.declared.known.Known.{Known}

@@ -12,9 +12,9 @@ use Rattle.rv_shape.specs.declared.kind.Kind.TheVariants.{Function, Procedure, E
 use Rattle.rv_shape.specs.declared.kind.Barrier.TheVariants.{AlwaysClosed}
 use Rattle.rv_shape.specs.Forms.{is_in}
 use Rattle.rv_shape.specs.Objects.{OperationShape}
-use Rattle.rv_names.specs.declared.declare.Form.TheVariants as f
-use Rattle.rv_names.specs.Scope.{ScopeView, declaring_all, hiding_all, entered}
-use Rattle.rv_names.specs.DeclarationUses.{with_parameters}
+use Rattle.rv_scope.specs.declared.declare.Form.TheVariants as f
+use Rattle.rv_scope.specs.Scope.{ScopeView, declaring_all, hiding_all, entered}
+use Rattle.rv_scope.specs.DeclarationUses.{with_parameters}
 use Rattle.rv_static.specs.Meanings.{range_in}
 use Rattle.rv_static.specs.Static.{◌>>=◌}
 use Rattle.rv_outline.specs.Known.{Table, means}

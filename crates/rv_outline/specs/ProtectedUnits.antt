@@ -4,8 +4,8 @@ use Rattle.std.specs.Prelude.{ℕ, Bool, true, false, if◌then◌else◌, List,
 use Rattle.rv_tree.specs.Names.{Identifier}
 use Rattle.rv_tree.specs.Declarations.{Pragma, Aspect, OperationDeclaration, a_pragma, a_function, a_procedure, an_entry, ProtectedElement, an_operation, a_component, ProtectedUnit, TaskItem, task_pragma, task_entry, TaskDefinition, TaskUnit}
 use Rattle.rv_shape.specs.declared.kind.Kind.TheVariants.{Handler}
-use Rattle.rv_names.specs.Scope.{ScopeView, hiding, hiding_all, entered, within_unit}
-use Rattle.rv_names.specs.DeclarationUses.{is_priority, is_attachment, with_operation, with_operations, with_element, naming_unit}
+use Rattle.rv_scope.specs.Scope.{ScopeView, hiding, hiding_all, entered, within_unit}
+use Rattle.rv_scope.specs.DeclarationUses.{is_priority, is_attachment, with_operation, with_operations, with_element, naming_unit}
 use Rattle.rv_outline.specs.declared.outline.ObjectType.TheVariants as sort
 use Rattle.rv_outline.specs.declared.handler.Attachment.{Attachment}
 use Rattle.rv_outline.specs.Known.{means}

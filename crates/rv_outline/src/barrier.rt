@@ -9,8 +9,8 @@ ghost use Rattle.rv_outline.specs.Barriers.{component_place as place_of_componen
 
 use crate::known::{Known, Table};
 use crate::point::Point;
-use rv_names::library_meaning::whole_range;
-use rv_names::{Declared, Scope};
+use rv_scope::library_meaning::whole_range;
+use rv_scope::{Declared, Scope};
 use rv_shape::kind::{Barrier, Range, ValueType};
 use rv_static::{Faults, TypeFault, static_number};
 use rv_tree::Expression;

@@ -9,7 +9,7 @@ ghost use Rattle.rv_outline.specs.Handlers.{line_in, line_of, aspect_line as lin
 
 use crate::draft::{Draft, OperationDraft};
 use crate::known::Known;
-use rv_names::{Declared, OperationKind, Predefined, Scope};
+use rv_scope::{Declared, OperationKind, Predefined, Scope};
 use rv_static::{Faults, TypeFault};
 use rv_tree::{Aspect, Expression, Pragma};
 

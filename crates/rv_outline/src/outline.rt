@@ -3,7 +3,7 @@
 ghost use Rattle.std.specs.Prelude.{◌≡◌, ◌≤◌, ◌||◌, IfOk, map, false, Some, true};
 ghost use Rattle.rv_tree.specs.UnitView.{unit_view};
 ghost use Rattle.rv_tree.specs.DeclarationView.{protected_unit_view};
-ghost use Rattle.rv_names.specs.UnitUses.{protected_units as all_protected_units};
+ghost use Rattle.rv_scope.specs.UnitUses.{protected_units as all_protected_units};
 ghost use Rattle.rv_outline.specs.Declarations.{drafted};
 ghost use Rattle.rv_outline.specs.Shapes.{outline_of as outline_of_draft, outlined, shape_of};
 
@@ -12,8 +12,8 @@ use crate::declaration::declarations;
 use crate::draft::Draft;
 use crate::known::Table;
 use crate::shape::{objects, types, unit_shapes};
-use rv_names::context::package_scope;
-use rv_names::resolve::{Named, protected_units};
+use rv_scope::context::package_scope;
+use rv_scope::named::{Named, protected_units};
 use rv_shape::object::ProtectedObject;
 use rv_shape::shape::UnitShape;
 use rv_static::Faults;

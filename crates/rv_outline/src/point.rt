@@ -4,9 +4,9 @@ ghost use Rattle.std.specs.Prelude.{◌≡◌};
 ghost use Rattle.rv_outline.specs.Known.{known_meaning as meaning_of_known, meaning_of, means as means_at};
 
 use crate::known::{Known, Table};
-use rv_names::library_meaning::predefined_meaning;
-pub use rv_names::library_meaning::whole_range;
-use rv_names::{Declared, Scope};
+use rv_scope::library_meaning::predefined_meaning;
+pub use rv_scope::library_meaning::whole_range;
+use rv_scope::{Declared, Scope};
 use rv_static::{Meaning, Meanings};
 use rv_tree::Name;
 

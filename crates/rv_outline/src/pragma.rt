@@ -3,7 +3,7 @@
 ghost use Rattle.std.specs.Prelude.{◌≡◌, OnOk, map};
 ghost use Rattle.rv_tree.specs.NameView.{identifier_view};
 ghost use Rattle.rv_tree.specs.DeclarationView.{pragma_view, aspect_view};
-ghost use Rattle.rv_names.specs.DeclarationUses.{is_priority as is_priority_name, is_attachment as is_attachment_name};
+ghost use Rattle.rv_scope.specs.DeclarationUses.{is_priority as is_priority_name, is_attachment as is_attachment_name};
 ghost use Rattle.rv_outline.specs.Drafts.{noted, giving_priority};
 ghost use Rattle.rv_outline.specs.ProtectedUnits.{aspect_outlined, aspects_outlined, handling, procedure_aspect_outlined, procedure_aspects_outlined, priority_pragma_outlined, attachment_outlined, pragma_outlined};
 
@@ -11,7 +11,7 @@ use crate::draft::Draft;
 use crate::handler::{aspect_line, attached_by};
 use crate::point::Point;
 use crate::priority::{aspect_priority, pragma_priority};
-use rv_names::Scope;
+use rv_scope::Scope;
 use rv_shape::kind::Kind;
 use rv_text::is_same_name;
 use rv_tree::{Aspect, Identifier, Pragma};

@@ -7,7 +7,7 @@ ghost use Rattle.rv_tree.specs.ExpressionView.{expression_view};
 ghost use Rattle.rv_static.specs.Told.{told_unless};
 ghost use Rattle.rv_outline.specs.Priorities.{range_of_priority, priority_alone, priority_with, aspect_priority as priority_of_aspect, pragma_priority as priority_of_pragma};
 
-use rv_names::library_meaning::integers;
+use rv_scope::library_meaning::integers;
 use rv_shape::kind::Range;
 use rv_static::{Faults, Meanings, TypeFault, value_in};
 use rv_text::{is_same_name, natural_part};

@@ -3,8 +3,8 @@
 ghost use Rattle.std.specs.Prelude.{◌≡◌, OnOk, IfOk, IfSome, map, [], Some, true, false};
 ghost use Rattle.rv_tree.specs.NameView.{identifier_view, identifiers_view, name_view};
 ghost use Rattle.rv_tree.specs.DeclarationView.{maybe, parameter_view};
-ghost use Rattle.rv_names.specs.Scope.{OnlyDeclares, entered};
-ghost use Rattle.rv_names.specs.DeclarationUses.{with_parameters};
+ghost use Rattle.rv_scope.specs.Scope.{OnlyDeclares, entered};
+ghost use Rattle.rv_scope.specs.DeclarationUses.{with_parameters};
 ghost use Rattle.rv_shape.specs.Forms.{is_in as is_in_mode};
 ghost use Rattle.rv_static.specs.Told.{told_unless};
 ghost use Rattle.rv_outline.specs.Profiles.{passing as passing_of, for_each_name, parameter_of, parameters_onto, operation_of, function_in, function_of, callable_in, callable_of};
@@ -12,8 +12,8 @@ ghost use Rattle.rv_outline.specs.Profiles.{passing as passing_of, for_each_name
 use crate::known::Table;
 use crate::point::Point;
 use crate::scopes::hide_all;
-use rv_names::Scope;
-use rv_names::declare::{Form, declare_all};
+use rv_scope::Scope;
+use rv_scope::declare::{Form, declare_all};
 use rv_shape::kind::{Kind, Parameter, ParameterMode};
 use rv_shape::object::Operation;
 use rv_static::{Faults, TypeFault, subtype};

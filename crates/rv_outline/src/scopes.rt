@@ -3,11 +3,11 @@
 ghost use Rattle.std.specs.Prelude.{◌≡◌, OnOk, map};
 ghost use Rattle.rv_tree.specs.NameView.{identifier_view, identifiers_view};
 ghost use Rattle.rv_tree.specs.DeclarationView.{parameter_view, operation_view, element_view, protected_unit_view};
-ghost use Rattle.rv_names.specs.Scope.{hiding, hiding_all, declaring_all, OnlyDeclares, entered};
-ghost use Rattle.rv_names.specs.DeclarationUses.{declaring_operation, with_parameters, with_operation, with_operations, with_element, with_elements, with_members};
+ghost use Rattle.rv_scope.specs.Scope.{hiding, hiding_all, declaring_all, OnlyDeclares, entered};
+ghost use Rattle.rv_scope.specs.DeclarationUses.{declaring_operation, with_parameters, with_operation, with_operations, with_element, with_elements, with_members};
 
-use rv_names::declare::{Form, declare_all};
-use rv_names::{Declared, OperationKind, Scope};
+use rv_scope::declare::{Form, declare_all};
+use rv_scope::{Declared, OperationKind, Scope};
 use rv_tree::{Identifier, OperationDeclaration, Parameter, ProtectedElement, ProtectedUnit};
 use std::alloc::AllocError;
 

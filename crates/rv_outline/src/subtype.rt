@@ -8,7 +8,7 @@ ghost use Rattle.rv_static.specs.Told.{told_unless};
 ghost use Rattle.rv_outline.specs.Subtypes.{subtype_of, subtype_known, constant_range, constant_known, component_of};
 
 use crate::known::Known;
-use rv_names::library_meaning::whole_range;
+use rv_scope::library_meaning::whole_range;
 use rv_shape::kind::{Component, Range, ValueType};
 use rv_static::{Faults, Meanings, narrowed, start, subtype, value_in};
 use rv_tree::{Expression, Name, RangeConstraint};

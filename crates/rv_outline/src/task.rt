@@ -2,13 +2,13 @@
 
 ghost use Rattle.std.specs.Prelude.{◌≡◌, OnOk, map};
 ghost use Rattle.rv_tree.specs.DeclarationView.{maybe, task_item_view, task_definition_view, task_view};
-ghost use Rattle.rv_names.specs.DeclarationUses.{declaring_task};
+ghost use Rattle.rv_scope.specs.DeclarationUses.{declaring_task};
 ghost use Rattle.rv_outline.specs.ProtectedUnits.{task_item_outlined, task_items_outlined, definition_outlined, task_outlined};
 
 use crate::draft::Draft;
 use crate::pragma::{aspects, pragma};
 use crate::scopes::hide;
-use rv_names::{Declared, Scope};
+use rv_scope::{Declared, Scope};
 use rv_tree::{TaskDefinition, TaskItem, TaskUnit};
 use std::alloc::AllocError;
 

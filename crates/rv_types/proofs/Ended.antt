@@ -4,8 +4,8 @@ use Rattle.std.proofs.lemmas.List.{length-append}
 use Rattle.std.proofs.Math.Seq.{take-append_seam}
 use Rattle.rv_tree.specs.Names.{Identifier}
 use Rattle.rv_shape.specs.declared.kind.Range.{Range}
-use Rattle.rv_names.specs.Scope.{ScopeView, Region, OnlyDeclares, entered, in_body}
-use Rattle.rv_names.proofs.Scopes.{left_body}
+use Rattle.rv_scope.specs.Scope.{ScopeView, Region, OnlyDeclares, entered, in_body}
+use Rattle.rv_scope.proofs.Scopes.{left_body}
 use Rattle.rv_types.specs.declared.point.Local.{Local}
 use Rattle.rv_types.specs.Points.{PointView, in_bounds, with_loop_parameter}
 

@@ -4,8 +4,8 @@ use Rattle.rv_tree.specs.Declarations.{ProtectedUnit}
 use Rattle.rv_tree.specs.Bodies.{ProtectedBody}
 use Rattle.rv_tree.specs.DeclarationView.{protected_unit_view}
 use Rattle.rv_tree.specs.declared.declaration.ProtectedUnit as declared
-use Rattle.rv_names.specs.Scope.{ScopeView}
-use Rattle.rv_names.specs.UnitUses.{in_protected_unit, protected_unit_of}
+use Rattle.rv_scope.specs.Scope.{ScopeView}
+use Rattle.rv_scope.specs.UnitUses.{in_protected_unit, protected_unit_of}
 use Rattle.rv_outline.specs.declared.outline.ObjectType.{ObjectType}
 use Rattle.rv_code.specs.Bodies.{Body, UnitBodies}
 use Rattle.rv_types.specs.BodiesOf.{Setting, number_of, unit_compiled, unit_bodies, protected_body_compiled, no_objects_onto}

@@ -6,8 +6,8 @@ use Rattle.rv_tree.specs.Bodies.{Local, an_object, local_pragma, local_protected
 use Rattle.rv_tree.specs.Bodies as tree
 use Rattle.rv_shape.specs.declared.kind.Range.{Range}
 use Rattle.rv_shape.specs.declared.kind.Parameter.{Parameter}
-use Rattle.rv_names.specs.Scope.{declaring_all, hiding_all}
-use Rattle.rv_names.specs.UnitUses.{local_form}
+use Rattle.rv_scope.specs.Scope.{declaring_all, hiding_all}
+use Rattle.rv_scope.specs.UnitUses.{local_form}
 use Rattle.rv_static.specs.Static.{◌>>=◌}
 use Rattle.rv_static.specs.Ranges.{value_in, default_start}
 use Rattle.rv_outline.specs.declared.known.Known.TheVariants as k

@@ -13,16 +13,16 @@ use Rattle.rv_shape.specs.Kinds.{goes_out}
 use Rattle.rv_shape.specs.Shape.{Shape}
 use Rattle.rv_shape.specs.Objects.{OperationShape, TaskShape}
 use Rattle.rv_shape.specs.Catalogue.{all_objects}
-use Rattle.rv_names.specs.declared.predefined.Library.TheVariants.{RealTime}
-use Rattle.rv_names.specs.declared.wanted.Wanted.TheVariants as w
-use Rattle.rv_names.specs.declared.declared.Declared.{Declared}
-use Rattle.rv_names.specs.declared.declared.Declared.TheVariants as d
-use Rattle.rv_names.specs.Scope.{ScopeView, in_body}
-use Rattle.rv_names.specs.Visible.{index_from}
-use Rattle.rv_names.specs.Wanted.{denoted}
-use Rattle.rv_names.specs.ExpressionUses.{simple}
-use Rattle.rv_names.specs.DeclarationUses.{with_parameters, with_declarations}
-use Rattle.rv_names.specs.UnitUses.{in_protected_unit, protected_unit_of, unit_number, with_body_item, package_scope, protected_units}
+use Rattle.rv_scope.specs.declared.predefined.Library.TheVariants.{RealTime}
+use Rattle.rv_scope.specs.declared.wanted.Wanted.TheVariants as w
+use Rattle.rv_scope.specs.declared.declared.Declared.{Declared}
+use Rattle.rv_scope.specs.declared.declared.Declared.TheVariants as d
+use Rattle.rv_scope.specs.Scope.{ScopeView, in_body}
+use Rattle.rv_scope.specs.Visible.{index_from}
+use Rattle.rv_scope.specs.Wanted.{denoted}
+use Rattle.rv_scope.specs.ExpressionUses.{simple}
+use Rattle.rv_scope.specs.DeclarationUses.{with_parameters, with_declarations}
+use Rattle.rv_scope.specs.UnitUses.{in_protected_unit, protected_unit_of, unit_number, with_body_item, package_scope, protected_units}
 use Rattle.rv_static.specs.Static.{◌>>=◌}
 use Rattle.rv_outline.specs.declared.outline.ObjectType.{ObjectType}
 use Rattle.rv_outline.specs.declared.outline.ObjectType.TheVariants as sort

@@ -11,14 +11,14 @@ use Rattle.rv_shape.specs.Objects.{OperationShape, ProtectedShape}
 use Rattle.rv_shape.specs.Catalogue.{first_of, operations_of}
 use Rattle.rv_code.specs.declared.expression.Callee.{Callee}
 use Rattle.rv_code.specs.declared.expression.Callee.TheVariants as callee
-use Rattle.rv_names.specs.declared.declared.Declared.{Declared}
-use Rattle.rv_names.specs.declared.declared.Declared.TheVariants as d
-use Rattle.rv_names.specs.declared.declared.OperationKind.{OperationKind}
-use Rattle.rv_names.specs.declared.declared.OperationKind.TheVariants as op
-use Rattle.rv_names.specs.declared.predefined.Predefined.{Predefined}
-use Rattle.rv_names.specs.declared.predefined.Predefined.TheVariants as p
-use Rattle.rv_names.specs.Scope.{ScopeView, declaring, hiding, entered}
-use Rattle.rv_names.specs.Visible.{visible}
+use Rattle.rv_scope.specs.declared.declared.Declared.{Declared}
+use Rattle.rv_scope.specs.declared.declared.Declared.TheVariants as d
+use Rattle.rv_scope.specs.declared.declared.OperationKind.{OperationKind}
+use Rattle.rv_scope.specs.declared.declared.OperationKind.TheVariants as op
+use Rattle.rv_scope.specs.declared.predefined.Predefined.{Predefined}
+use Rattle.rv_scope.specs.declared.predefined.Predefined.TheVariants as p
+use Rattle.rv_scope.specs.Scope.{ScopeView, declaring, hiding, entered}
+use Rattle.rv_scope.specs.Visible.{visible}
 use Rattle.rv_static.specs.Static.{◌>>=◌}
 use Rattle.rv_static.specs.declared.meaning.Meaning.{Meaning}
 use Rattle.rv_outline.specs.declared.known.Known.{Known}

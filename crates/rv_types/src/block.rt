@@ -10,7 +10,7 @@ ghost use Rattle.rv_outline.specs.Subtypes.{subtype_of as subtype_of_mark};
 ghost use Rattle.rv_code.specs.ExpressionView.{expression_view as code_view};
 ghost use Rattle.rv_code.specs.BodyView.{declaration_view, handler_view, body_view};
 ghost use Rattle.rv_code.specs.StatementView.{statement_view as action_view};
-ghost use Rattle.rv_names.specs.Scope.{OnlyDeclares};
+ghost use Rattle.rv_scope.specs.Scope.{OnlyDeclares};
 ghost use Rattle.rv_types.specs.Points.{static_meaning};
 ghost use Rattle.rv_types.specs.Blocks.{initial_of, starts_in, opened_with, objects_onto, noting_all, constants_onto, declared_onto, object_onto as object_declared_onto, hiding_names, local_onto, locals_onto, exception_of, exceptions_onto, handler_with, handlers_onto, declaration_of, block_of};
 

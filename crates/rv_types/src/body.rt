@@ -13,7 +13,7 @@ use crate::point::Point;
 use crate::refused::{Refused, mismatch};
 use crate::setting::Setting;
 use rv_code::Body;
-use rv_names::Scope;
+use rv_scope::Scope;
 use rv_outline::scopes::declare_parameters;
 use rv_shape::kind::{Kind, Parameter, Range};
 use rv_shape::object::Operation;

@@ -3,12 +3,12 @@
 ghost use Rattle.std.specs.Prelude.{◌≡◌, OnOk, Some, map};
 ghost use Rattle.rv_tree.specs.NameView.{identifier_view, identifiers_view, name_view};
 ghost use Rattle.rv_tree.specs.DeclarationView.{declaration_view, protected_unit_view};
-ghost use Rattle.rv_names.specs.Scope.{declaring_all, hiding, hiding_all, with_meaning};
-ghost use Rattle.rv_names.specs.Visible.{visible};
-ghost use Rattle.rv_names.specs.DeclarationUses.{declaring_protected_unit, object_form, with_declaration, with_declarations};
+ghost use Rattle.rv_scope.specs.Scope.{declaring_all, hiding, hiding_all, with_meaning};
+ghost use Rattle.rv_scope.specs.Visible.{visible};
+ghost use Rattle.rv_scope.specs.DeclarationUses.{declaring_protected_unit, object_form, with_declaration, with_declarations};
 
-use rv_names::declare::{Form, declare_all};
-use rv_names::{Declared, Scope};
+use rv_scope::declare::{Form, declare_all};
+use rv_scope::{Declared, Scope};
 use rv_outline::scopes::{hide, hide_all};
 use rv_tree::declaration::{Declaration, ProtectedUnit};
 use rv_tree::name::{Identifier, Name};

@@ -3,8 +3,8 @@
 ghost use Rattle.std.specs.Prelude.{◌≡◌, ◌+◌, ◌-◌, OnOk, ℕ, true};
 ghost use Rattle.rv_tree.specs.NameView.{identifier_view, identifiers_view, name_view};
 ghost use Rattle.rv_tree.specs.Names.{Identifier as IdentifierView};
-ghost use Rattle.rv_names.specs.Scope.{OnlyDeclares};
-ghost use Rattle.rv_names.specs.Visible.{visible};
+ghost use Rattle.rv_scope.specs.Scope.{OnlyDeclares};
+ghost use Rattle.rv_scope.specs.Visible.{visible};
 ghost use Rattle.rv_types.specs.Blocks.{hidden, revealed};
 ghost use Rattle.rv_types.specs.BodiesOf.{point_in};
 ghost use Rattle.rv_types.specs.Selectors.{constant_range, constant_subtype, declared_range};
@@ -17,8 +17,8 @@ use crate::names::{
 };
 use crate::refused::Refused;
 use crate::setting::Setting;
-use rv_names::declare::{Form, declare_all};
-use rv_names::{Declared, Predefined, Scope};
+use rv_scope::declare::{Form, declare_all};
+use rv_scope::{Declared, Predefined, Scope};
 use rv_outline::known::Known;
 use rv_outline::outline::Outline;
 use rv_outline::point::meaning;

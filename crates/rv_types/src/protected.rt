@@ -3,7 +3,7 @@
 ghost use Rattle.std.specs.Prelude.{◌≡◌, ◌<◌, IfOk, OnOk, Some, map};
 ghost use Rattle.rv_tree.specs.DeclarationView.{protected_unit_view};
 ghost use Rattle.rv_tree.specs.BodyView.{operation_body_view, protected_body_view};
-ghost use Rattle.rv_names.specs.UnitUses.{in_protected_unit, unit_number as unit_number_of};
+ghost use Rattle.rv_scope.specs.UnitUses.{in_protected_unit, unit_number as unit_number_of};
 ghost use Rattle.rv_code.specs.Bodies.{UnitBodies as UnitBodiesView};
 ghost use Rattle.rv_code.specs.BodyView.{body_view, unit_view};
 ghost use Rattle.rv_types.specs.BodiesOf.{with_object_bodies, object_compiled, perhaps_compiled, objects_compiled, is_object_of as is_of_unit, has_object as unit_has_object, without_object as compiled_without_object, unit_bodies as unit_bodies_compiled, protected_body_compiled};
@@ -12,7 +12,7 @@ use crate::body::operation_bodies;
 use crate::refused::{Refused, mismatch};
 use crate::setting::Setting;
 use rv_code::{Body, ObjectBodies, UnitBodies};
-use rv_names::{Declared, Scope, Wanted};
+use rv_scope::{Declared, Scope, Wanted};
 use rv_outline::outline::ObjectType;
 use rv_outline::scopes::enter_members;
 use rv_tree::body::ProtectedBody;

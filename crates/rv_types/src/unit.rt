@@ -4,7 +4,7 @@ ghost use Rattle.std.specs.Prelude.{◌≡◌, ◌++◌, ◌∷◌, [], None, If
 ghost use Rattle.rv_tree.specs.DeclarationView.{protected_unit_view};
 ghost use Rattle.rv_tree.specs.BodyView.{task_body_view};
 ghost use Rattle.rv_tree.specs.UnitView.{body_item_view};
-ghost use Rattle.rv_names.specs.UnitUses.{with_body_item};
+ghost use Rattle.rv_scope.specs.UnitUses.{with_body_item};
 ghost use Rattle.rv_code.specs.BodyView.{body_view, maybe_body_view, object_view, unit_view};
 ghost use Rattle.rv_types.specs.BodiesOf.{task_index as index_of_task, with_task_body, task_body_compiled, item_compiled, items_compiled, no_objects_onto, no_tasks_onto, no_bodies as no_bodies_of};
 
@@ -14,7 +14,7 @@ use crate::protected::protected_body;
 use crate::refused::{Refused, mismatch};
 use crate::setting::Setting;
 use rv_code::{Body, ObjectBodies, UnitBodies};
-use rv_names::Scope;
+use rv_scope::Scope;
 use rv_outline::outline::{ObjectType, Outline};
 use rv_shape::task::Task;
 use rv_text::is_same_name;

@@ -3,7 +3,7 @@ use Rattle.std.proofs.Common.{◌≡◌, true, List, subst, sym}
 use Rattle.rv_shape.specs.Shape.{Shape}
 use Rattle.rv_tree.specs.Units.{UnitTree}
 use Rattle.rv_restrict.specs.Conforms.{Conforms}
-use Rattle.rv_names.specs.Bound.{AllBound, uses}
+use Rattle.rv_scope.specs.Bound.{AllBound, uses}
 use Rattle.rv_names.specs.Completed.{unit_is_completed}
 use Rattle.rv_names.specs.EndNames.{unit_ends}
 use Rattle.rv_names.specs.Jumps.{unit_is_placed}

@@ -9,7 +9,7 @@ use Rattle.rv_parse.specs.Texts.{ReadsTree, OfWords, OfDepth}
 use Rattle.rv_parse.specs.declared.fault.ParseFault.{ParseFault}
 use Rattle.rv_parse.specs.declared.fault.ParseFault.TheVariants as Parses
 use Rattle.rv_restrict.specs.Conforms.{Conforms, IsFirst, violations}
-use Rattle.rv_names.specs.Bound.{AllBound, uses}
+use Rattle.rv_scope.specs.Bound.{AllBound, uses}
 use Rattle.rv_names.specs.Completed.{unit_is_completed}
 use Rattle.rv_names.specs.EndNames.{unit_ends}
 use Rattle.rv_names.specs.Jumps.{unit_is_placed}

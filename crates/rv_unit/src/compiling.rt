@@ -11,7 +11,8 @@ ghost use Rattle.rv_unit.specs.Compiles.{IsBound, IsOfText, IsOfTree, GivesUnit,
 use crate::fault::UnitFault;
 use crate::unit::Unit;
 use rv_names::NameFault;
-use rv_names::resolve::{Named, resolve};
+use rv_names::resolve::resolve;
+use rv_scope::named::Named;
 use rv_parse::{ParseFault, parse};
 use rv_restrict::first_violation;
 use rv_shape::catalogue::Catalogue;

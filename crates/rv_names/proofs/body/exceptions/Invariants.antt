@@ -1,7 +1,7 @@
 use Rattle.std.proofs.Common.{◌≡◌, drop, map}
 use Rattle.rv_tree.specs.BodyView.{exception_choice_view}
-use Rattle.rv_names.specs.Bound.{judged}
-use Rattle.rv_names.specs.UnitUses.{exceptions_uses}
+use Rattle.rv_scope.specs.Bound.{judged}
+use Rattle.rv_scope.specs.UnitUses.{exceptions_uses}
 use Rattle.rv_names.proofs.body.exceptions.Given as goal
 
 abbrev pub invariant-loop-choice : goal.invariant-loop-choice

@@ -1,7 +1,7 @@
 use Rattle.std.proofs.Common.{◌≡◌, drop, map}
 use Rattle.rv_tree.specs.BodyView.{handler_view}
-use Rattle.rv_names.specs.Bound.{judged}
-use Rattle.rv_names.specs.UnitUses.{handlers_uses}
+use Rattle.rv_scope.specs.Bound.{judged}
+use Rattle.rv_scope.specs.UnitUses.{handlers_uses}
 use Rattle.rv_names.proofs.body.handlers.Given as goal
 
 abbrev pub invariant-loop-handler : goal.invariant-loop-handler

@@ -1,8 +1,8 @@
 use Rattle.std.proofs.Common.{◌≡◌, drop, map}
 use Rattle.rv_tree.specs.BodyView.{local_view}
-use Rattle.rv_names.specs.Bound.{judged}
-use Rattle.rv_names.specs.Scope.{OnlyDeclares}
-use Rattle.rv_names.specs.UnitUses.{locals_uses, with_locals}
+use Rattle.rv_scope.specs.Bound.{judged}
+use Rattle.rv_scope.specs.Scope.{OnlyDeclares}
+use Rattle.rv_scope.specs.UnitUses.{locals_uses, with_locals}
 use Rattle.rv_names.proofs.body.locals.Given as goal
 
 abbrev pub invariant-loop-one : goal.invariant-loop-one

@@ -1,7 +1,7 @@
 use Rattle.std.proofs.Common.{◌≡◌, drop, map}
 use Rattle.rv_tree.specs.UnitView.{context_item_view}
-use Rattle.rv_names.specs.Bound.{judged}
-use Rattle.rv_names.specs.UnitUses.{context_uses, with_context}
+use Rattle.rv_scope.specs.Bound.{judged}
+use Rattle.rv_scope.specs.UnitUses.{context_uses, with_context}
 use Rattle.rv_names.proofs.context_names.context_names.Given as goal
 
 abbrev pub invariant-loop-item : goal.invariant-loop-item

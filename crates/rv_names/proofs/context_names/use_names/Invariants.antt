@@ -1,7 +1,7 @@
 use Rattle.std.proofs.Common.{◌≡◌, drop, map}
 use Rattle.rv_tree.specs.NameView.{name_view}
-use Rattle.rv_names.specs.Bound.{judged}
-use Rattle.rv_names.specs.UnitUses.{use_names_uses, use_names}
+use Rattle.rv_scope.specs.Bound.{judged}
+use Rattle.rv_scope.specs.UnitUses.{use_names_uses, use_names}
 use Rattle.rv_names.proofs.context_names.use_names.Given as goal
 
 abbrev pub invariant-loop-one : goal.invariant-loop-one

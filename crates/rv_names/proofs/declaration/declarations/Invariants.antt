@@ -1,7 +1,7 @@
 use Rattle.std.proofs.Common.{◌≡◌, drop, map}
 use Rattle.rv_tree.specs.DeclarationView.{declaration_view}
-use Rattle.rv_names.specs.Bound.{judged}
-use Rattle.rv_names.specs.DeclarationUses.{declarations_uses, with_declarations}
+use Rattle.rv_scope.specs.Bound.{judged}
+use Rattle.rv_scope.specs.DeclarationUses.{declarations_uses, with_declarations}
 use Rattle.rv_names.proofs.declaration.declarations.Given as goal
 
 abbrev pub invariant-loop-one : goal.invariant-loop-one

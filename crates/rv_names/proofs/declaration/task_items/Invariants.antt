@@ -1,7 +1,7 @@
 use Rattle.std.proofs.Common.{◌≡◌, drop, map}
 use Rattle.rv_tree.specs.DeclarationView.{task_item_view}
-use Rattle.rv_names.specs.Bound.{judged}
-use Rattle.rv_names.specs.DeclarationUses.{task_items_uses}
+use Rattle.rv_scope.specs.Bound.{judged}
+use Rattle.rv_scope.specs.DeclarationUses.{task_items_uses}
 use Rattle.rv_names.proofs.declaration.task_items.Given as goal
 
 abbrev pub invariant-loop-item : goal.invariant-loop-item

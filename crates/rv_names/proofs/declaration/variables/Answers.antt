@@ -1,7 +1,7 @@
 use Rattle.std.proofs.Common.{◌∙◌, ap}
 use Rattle.rv_tree.specs.NameView.{identifiers_view, name_view}
-use Rattle.rv_names.specs.DeclarationUses.{object_form}
-use Rattle.rv_names.proofs.Variables.{variables_declared}
+use Rattle.rv_scope.specs.DeclarationUses.{object_form}
+use Rattle.rv_scope.proofs.Variables.{variables_declared}
 use Rattle.rv_names.proofs.declaration.variables.Goals as goal
 
 pub returns-clause-scope : goal.returns-clause-scope

@@ -1,8 +1,8 @@
 use Rattle.std.proofs.Common.{◌≡◌, drop}
 use Rattle.rv_tree.specs.Expressions.{expressions_of, factors_of, terms_of}
 use Rattle.rv_tree.specs.ExpressionView.{expressions_view, factors_view, terms_view}
-use Rattle.rv_names.specs.Bound.{judged}
-use Rattle.rv_names.specs.ExpressionUses.{expressions_uses, factors_uses, terms_uses}
+use Rattle.rv_scope.specs.Bound.{judged}
+use Rattle.rv_scope.specs.ExpressionUses.{expressions_uses, factors_uses, terms_uses}
 use Rattle.rv_names.proofs.expression.+expression.Given as goal
 
 abbrev pub invariant-expressions-loop-e : goal.invariant-expressions-loop-e

@@ -1,7 +1,7 @@
 use Rattle.std.proofs.Common.{◌≡◌, drop, map}
 use Rattle.rv_tree.specs.BodyView.{operation_body_view}
-use Rattle.rv_names.specs.Bound.{judged}
-use Rattle.rv_names.specs.UnitUses.{operation_bodies_uses}
+use Rattle.rv_scope.specs.Bound.{judged}
+use Rattle.rv_scope.specs.UnitUses.{operation_bodies_uses}
 use Rattle.rv_names.proofs.operation_body.operation_bodies.Given as goal
 
 abbrev pub invariant-loop-body : goal.invariant-loop-body

@@ -1,5 +1,5 @@
 use Rattle.rv_tree.specs.NameView.{identifier_view}
-use Rattle.rv_names.proofs.Scopes.{left_body, declares_on}
+use Rattle.rv_scope.proofs.Scopes.{left_body, declares_on}
 use Rattle.rv_names.proofs.operation_body.procedure_body.Goals as goal
 
 pub returns-clause-scope : goal.returns-clause-scope

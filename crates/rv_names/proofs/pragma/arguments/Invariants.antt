@@ -1,7 +1,7 @@
 use Rattle.std.proofs.Common.{◌≡◌, drop, map}
 use Rattle.rv_tree.specs.DeclarationView.{pragma_argument_view}
-use Rattle.rv_names.specs.Bound.{judged}
-use Rattle.rv_names.specs.DeclarationUses.{arguments_uses}
+use Rattle.rv_scope.specs.Bound.{judged}
+use Rattle.rv_scope.specs.DeclarationUses.{arguments_uses}
 use Rattle.rv_names.proofs.pragma.arguments.Given as goal
 
 abbrev pub invariant-loop-argument : goal.invariant-loop-argument

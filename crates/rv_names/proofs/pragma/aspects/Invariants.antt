@@ -1,7 +1,7 @@
 use Rattle.std.proofs.Common.{◌≡◌, drop, map}
 use Rattle.rv_tree.specs.DeclarationView.{aspect_view}
-use Rattle.rv_names.specs.Bound.{judged}
-use Rattle.rv_names.specs.DeclarationUses.{aspects_uses}
+use Rattle.rv_scope.specs.Bound.{judged}
+use Rattle.rv_scope.specs.DeclarationUses.{aspects_uses}
 use Rattle.rv_names.proofs.pragma.aspects.Given as goal
 
 abbrev pub invariant-loop-aspect : goal.invariant-loop-aspect

@@ -1,8 +1,8 @@
 use Rattle.std.proofs.Common.{◌≡◌, drop, map}
 use Rattle.rv_tree.specs.DeclarationView.{element_view}
-use Rattle.rv_names.specs.Bound.{judged}
-use Rattle.rv_names.specs.Scope.{OnlyDeclares}
-use Rattle.rv_names.specs.DeclarationUses.{elements_uses, with_elements}
+use Rattle.rv_scope.specs.Bound.{judged}
+use Rattle.rv_scope.specs.Scope.{OnlyDeclares}
+use Rattle.rv_scope.specs.DeclarationUses.{elements_uses, with_elements}
 use Rattle.rv_names.proofs.protected.elements.Given as goal
 
 abbrev pub invariant-loop-one : goal.invariant-loop-one

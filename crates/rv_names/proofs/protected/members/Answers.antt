@@ -1,4 +1,4 @@
-use Rattle.rv_names.proofs.Scopes.{left, declares_on}
+use Rattle.rv_scope.proofs.Scopes.{left, declares_on}
 use Rattle.rv_names.proofs.protected.members.Goals as goal
 
 pub returns-clause-scope : goal.returns-clause-scope

@@ -1,8 +1,8 @@
 use Rattle.std.proofs.Common.{◌≡◌, drop, map}
 use Rattle.rv_tree.specs.DeclarationView.{parameter_view}
-use Rattle.rv_names.specs.Bound.{judged}
-use Rattle.rv_names.specs.Scope.{OnlyDeclares}
-use Rattle.rv_names.specs.DeclarationUses.{parameters_uses, with_parameters}
+use Rattle.rv_scope.specs.Bound.{judged}
+use Rattle.rv_scope.specs.Scope.{OnlyDeclares}
+use Rattle.rv_scope.specs.DeclarationUses.{parameters_uses, with_parameters}
 use Rattle.rv_names.proofs.protected.parameters.Given as goal
 
 abbrev pub invariant-loop-one : goal.invariant-loop-one

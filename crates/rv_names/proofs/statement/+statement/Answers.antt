@@ -1,7 +1,7 @@
 use Rattle.std.proofs.Common.{◌≡◌, ◌∙◌, Some, None}
 use Rattle.rv_tree.specs.NameView.{identifier_view}
-use Rattle.rv_names.specs.declared.declared.Declared.TheVariants as d
-use Rattle.rv_names.proofs.Scopes.{left, declares_two}
+use Rattle.rv_scope.specs.declared.declared.Declared.TheVariants as d
+use Rattle.rv_scope.proofs.Scopes.{left, declares_two}
 use Rattle.rv_names.proofs.statement.+statement.Goals as goal
 
 pub turns-returns-in_ok-statements-in-For-clause-scope : goal.turns-returns-in_ok-statements-in-For-clause-scope

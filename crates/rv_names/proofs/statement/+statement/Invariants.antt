@@ -1,8 +1,8 @@
 use Rattle.std.proofs.Common.{◌≡◌, drop}
 use Rattle.rv_tree.specs.Statements.{statements_of, elsif_parts_of, alternatives_of}
 use Rattle.rv_tree.specs.StatementView.{statements_view, elsif_parts_view, alternatives_view}
-use Rattle.rv_names.specs.Bound.{judged}
-use Rattle.rv_names.specs.StatementUses.{statements_uses, elsif_parts_uses, alternatives_uses}
+use Rattle.rv_scope.specs.Bound.{judged}
+use Rattle.rv_scope.specs.StatementUses.{statements_uses, elsif_parts_uses, alternatives_uses}
 use Rattle.rv_names.proofs.statement.+statement.Given as goal
 
 abbrev pub invariant-statements-loop-one : goal.invariant-statements-loop-one

@@ -1,7 +1,7 @@
 use Rattle.std.proofs.Common.{◌≡◌, drop, map}
 use Rattle.rv_tree.specs.StatementView.{choice_view}
-use Rattle.rv_names.specs.Bound.{judged}
-use Rattle.rv_names.specs.StatementUses.{choices_uses}
+use Rattle.rv_scope.specs.Bound.{judged}
+use Rattle.rv_scope.specs.StatementUses.{choices_uses}
 use Rattle.rv_names.proofs.statement.choices.Given as goal
 
 abbrev pub invariant-loop-one : goal.invariant-loop-one

@@ -1,8 +1,8 @@
 use Rattle.std.proofs.Common.{◌≡◌, drop, map}
 use Rattle.rv_tree.specs.UnitView.{body_item_view}
 use Rattle.rv_tree.specs.DeclarationView.{protected_unit_view}
-use Rattle.rv_names.specs.Bound.{judged}
-use Rattle.rv_names.specs.UnitUses.{body_items_uses}
+use Rattle.rv_scope.specs.Bound.{judged}
+use Rattle.rv_scope.specs.UnitUses.{body_items_uses}
 use Rattle.rv_names.proofs.unit.body_items.Given as goal
 
 abbrev pub invariant-loop-item : goal.invariant-loop-item

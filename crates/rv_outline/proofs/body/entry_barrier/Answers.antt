@@ -1,5 +1,5 @@
 use Rattle.rv_tree.specs.NameView.{identifier_view}
-use Rattle.rv_names.proofs.Scopes.{left_body}
+use Rattle.rv_scope.proofs.Scopes.{left_body}
 use Rattle.rv_outline.proofs.body.entry_barrier.Goals as goal
 
 pub returns-clause-scope : goal.returns-clause-scope

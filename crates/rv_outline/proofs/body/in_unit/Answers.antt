@@ -1,6 +1,6 @@
 use Rattle.std.proofs.Common.{refl}
-use Rattle.rv_names.specs.Scope.{entered}
-use Rattle.rv_names.proofs.Scopes.{left, declares_same}
+use Rattle.rv_scope.specs.Scope.{entered}
+use Rattle.rv_scope.proofs.Scopes.{left, declares_same}
 use Rattle.rv_outline.proofs.body.in_unit.Goals as goal
 
 pub returns-clause-scope : goal.returns-clause-scope

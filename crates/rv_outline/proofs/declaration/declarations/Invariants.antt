@@ -1,6 +1,6 @@
 use Rattle.std.proofs.Common.{◌≡◌, drop, map}
 use Rattle.rv_tree.specs.DeclarationView.{declaration_view}
-use Rattle.rv_names.specs.DeclarationUses.{with_declarations}
+use Rattle.rv_scope.specs.DeclarationUses.{with_declarations}
 use Rattle.rv_outline.specs.Declarations.{declarations_outlined}
 use Rattle.rv_outline.proofs.declaration.declarations.Given as goal
 

@@ -1,9 +1,9 @@
 use Rattle.std.proofs.Common.{◌∙◌, ap}
 use Rattle.rv_tree.specs.NameView.{identifiers_view, name_view}
-use Rattle.rv_names.specs.Scope.{ScopeView}
-use Rattle.rv_names.specs.Visible.{visible}
-use Rattle.rv_names.specs.DeclarationUses.{object_form}
-use Rattle.rv_names.proofs.Variables.{variables_declared}
+use Rattle.rv_scope.specs.Scope.{ScopeView}
+use Rattle.rv_scope.specs.Visible.{visible}
+use Rattle.rv_scope.specs.DeclarationUses.{object_form}
+use Rattle.rv_scope.proofs.Variables.{variables_declared}
 use Rattle.rv_outline.specs.declared.outline.ObjectType.{ObjectType}
 use Rattle.rv_outline.specs.Drafts.{adding_objects}
 use Rattle.rv_outline.specs.Declarations.{object_type}

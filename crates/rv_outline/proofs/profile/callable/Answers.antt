@@ -1,4 +1,4 @@
-use Rattle.rv_names.proofs.Scopes.{left}
+use Rattle.rv_scope.proofs.Scopes.{left}
 use Rattle.rv_outline.proofs.profile.callable.Goals as goal
 
 pub returns-clause-scope : goal.returns-clause-scope

@@ -1,7 +1,7 @@
 use Rattle.std.proofs.Common.{◌≡◌, drop, map, []}
 use Rattle.rv_tree.specs.DeclarationView.{parameter_view}
-use Rattle.rv_names.specs.Scope.{OnlyDeclares}
-use Rattle.rv_names.specs.DeclarationUses.{with_parameters}
+use Rattle.rv_scope.specs.Scope.{OnlyDeclares}
+use Rattle.rv_scope.specs.DeclarationUses.{with_parameters}
 use Rattle.rv_outline.specs.Profiles.{parameters_onto}
 use Rattle.rv_outline.proofs.profile.parameters.Given as goal
 

@@ -1,6 +1,6 @@
 use Rattle.std.proofs.Common.{◌≡◌, drop, map}
 use Rattle.rv_tree.specs.DeclarationView.{element_view}
-use Rattle.rv_names.specs.Scope.{OnlyDeclares}
+use Rattle.rv_scope.specs.Scope.{OnlyDeclares}
 use Rattle.rv_outline.specs.ProtectedUnits.{elements_outlined}
 use Rattle.rv_outline.proofs.protected.elements.Given as goal
 

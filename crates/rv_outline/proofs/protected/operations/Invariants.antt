@@ -1,7 +1,7 @@
 use Rattle.std.proofs.Common.{◌≡◌, drop, map}
 use Rattle.rv_tree.specs.DeclarationView.{operation_view}
-use Rattle.rv_names.specs.Scope.{OnlyDeclares}
-use Rattle.rv_names.specs.DeclarationUses.{with_operations}
+use Rattle.rv_scope.specs.Scope.{OnlyDeclares}
+use Rattle.rv_scope.specs.DeclarationUses.{with_operations}
 use Rattle.rv_outline.specs.ProtectedUnits.{operations_outlined}
 use Rattle.rv_outline.proofs.protected.operations.Given as goal
 

@@ -1,6 +1,6 @@
 use Rattle.std.proofs.Common.{◌≡◌, drop}
 use Rattle.rv_tree.specs.NameView.{identifiers_view}
-use Rattle.rv_names.specs.Scope.{OnlyDeclares, hiding_all}
+use Rattle.rv_scope.specs.Scope.{OnlyDeclares, hiding_all}
 use Rattle.rv_outline.proofs.scopes.hide_all.Given as goal
 
 abbrev pub invariant-loop-identifier : goal.invariant-loop-identifier

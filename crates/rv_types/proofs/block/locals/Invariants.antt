@@ -1,6 +1,6 @@
 use Rattle.std.proofs.Common.{◌≡◌, drop, map}
 use Rattle.rv_tree.specs.BodyView.{local_view}
-use Rattle.rv_names.specs.Scope.{OnlyDeclares}
+use Rattle.rv_scope.specs.Scope.{OnlyDeclares}
 use Rattle.rv_code.specs.BodyView.{declaration_view}
 use Rattle.rv_types.specs.Blocks.{locals_onto, opened_with}
 use Rattle.rv_types.proofs.block.locals.Given as goal

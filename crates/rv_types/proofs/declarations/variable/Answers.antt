@@ -1,9 +1,9 @@
 use Rattle.std.proofs.Common.{◌∙◌, ap}
 use Rattle.rv_tree.specs.NameView.{identifiers_view, name_view}
-use Rattle.rv_names.specs.declared.declare.Form.{Form}
-use Rattle.rv_names.specs.Scope.{ScopeView, declaring_all}
-use Rattle.rv_names.specs.Visible.{visible}
-use Rattle.rv_names.specs.DeclarationUses.{object_form}
+use Rattle.rv_scope.specs.declared.declare.Form.{Form}
+use Rattle.rv_scope.specs.Scope.{ScopeView, declaring_all}
+use Rattle.rv_scope.specs.Visible.{visible}
+use Rattle.rv_scope.specs.DeclarationUses.{object_form}
 use Rattle.rv_types.proofs.declarations.variable.Goals as goal
 
 pub returns : goal.returns

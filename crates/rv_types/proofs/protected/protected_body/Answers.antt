@@ -2,7 +2,7 @@ use Rattle.std.proofs.Common.{◌≡◌, ◌∙◌, ap, sym, map, Some, slice_ge
 use Rattle.rv_tree.specs.DeclarationView.{protected_unit_view}
 use Rattle.rv_tree.specs.BodyView.{protected_body_view}
 use Rattle.rv_tree.specs.declared.declaration.ProtectedUnit as declared
-use Rattle.rv_names.specs.UnitUses.{unit_number}
+use Rattle.rv_scope.specs.UnitUses.{unit_number}
 use Rattle.rv_code.specs.BodyView.{unit_view}
 use Rattle.rv_types.specs.BodiesOf.{number_of}
 use Rattle.rv_types.proofs.Units.{unit_at, unit_found}

@@ -1,6 +1,0 @@
-use Rattle.std.proofs.Common.{◌≡◌, drop}
-use Rattle.rv_names.specs.Visible.{index_from}
-use Rattle.rv_names.proofs.find.operation_index.Given as goal
-
-abbrev pub invariant-loop-index : goal.invariant-loop-index
-invariant-loop-index l = index_from (λ x. x.name) l.name l.index (drop l.index l.operations) ≡ index_from (λ x. x.name) l.name 0 l.operations

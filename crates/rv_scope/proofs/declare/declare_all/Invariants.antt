@@ -1,0 +1,10 @@
+use Rattle.std.proofs.Common.{◌≡◌, drop}
+use Rattle.rv_tree.specs.NameView.{identifiers_view}
+use Rattle.rv_scope.specs.Scope.{declaring_all, OnlyDeclares}
+use Rattle.rv_scope.proofs.declare.declare_all.Given as goal
+
+abbrev pub invariant-loop-identifier : goal.invariant-loop-identifier
+invariant-loop-identifier l = record {
+  scope : declaring_all l.form (identifiers_view (drop l.identifier-index l.identifier-items)) l.scope ≡ declaring_all l.form (identifiers_view l.identifier-items) l.initial.scope;
+  only : OnlyDeclares l.initial.scope l.scope;
+}

@@ -1,0 +1,10 @@
+pub mod Predefined
+pub mod Scope
+pub mod Visible
+pub mod Wanted
+pub mod Statics
+pub mod ExpressionUses
+pub mod StatementUses
+pub mod DeclarationUses
+pub mod UnitUses
+pub mod Bound

@@ -1,0 +1,29 @@
+//! What is declared at each point of a unit text, and what a name denotes there (ISO/IEC 8652:2012, 8.2, 8.3, 8.6).
+//!
+//! Who walks through a text keeps a [`Scope`] on the way, and asks [`Scope::denoted`] or [`Scope::visible`]. `rv_names`
+//! does so first, and makes [`named::Named`]: the tree and the loaded units, over which each name is bound. No second tree
+//! is made: who comes after walks through the same tree.
+//!
+//! [`Declared`] tells a declaration of the text by the place of its identifier, which no other has. So what is known of a
+//! declaration is kept by its place, in the order in which the walk meets it. Protected units have numbers in the order of
+//! the text, from 0, as [`named::protected_units`] lists them. [`Declared::sort`] tells what sort of thing it is, and
+//! [`Wanted::suits`] what may stand where.
+#![tactic(auto)]
+
+pub mod context;
+pub mod declare;
+pub mod declared;
+pub mod find;
+pub mod library_meaning;
+pub mod named;
+pub mod predefined;
+pub mod protected;
+pub mod region;
+pub mod scope;
+pub mod visible;
+pub mod wanted;
+
+pub use declared::{Declared, OperationKind};
+pub use predefined::{Library, Predefined};
+pub use scope::Scope;
+pub use wanted::{Sort, Wanted};
