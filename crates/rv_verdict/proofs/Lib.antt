@@ -1,3 +1,7 @@
-mod Feeding
-mod Gathering
-mod Saying
+pub mod Bringing
+pub mod Feeding
+pub mod Gathering
+pub mod Lines
+pub mod Longest
+pub mod Saying
+pub mod Wholly
