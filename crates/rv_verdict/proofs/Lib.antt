@@ -1,3 +1,4 @@
+pub mod Audited
 pub mod Bringing
 pub mod Feeding
 pub mod Gathering
