@@ -39,7 +39,7 @@ fn audit_journal<W: Write>(
     let journal = unit_text(alloc, journal)?;
     let mut audit = audit_over(alloc, capacity)?;
     let verdict = audit.judge_all(units, journal.as_str());
-    say(alloc, writer, audit.catalogue(), verdict)
+    say(alloc, writer, audit.catalogue(), &verdict)
 }
 
 // Judges the journal that the text of a script brings.
@@ -95,7 +95,7 @@ fn audit_reader<J: Read, W: Write, H: Watch>(
 {
     let mut audit = audit_over(alloc, capacity)?;
     let (verdict, torn) = judge_file(alloc, &mut audit, units, journal, takes_torn, watch)?;
-    let is_legal = say(alloc, writer, audit.catalogue(), verdict)?;
+    let is_legal = say(alloc, writer, audit.catalogue(), &verdict)?;
     Ok(Audited { is_legal, torn })
 }
 
