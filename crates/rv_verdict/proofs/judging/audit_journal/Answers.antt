@@ -17,7 +17,7 @@ returns-in_err-journal g c =
 pub returns-in_err-audit : goal.returns-in_err-audit
 returns-in_err-audit g c =
     let p = err_from_is_err_and c.from_residual-in_err-audit.result c.from_residual-in_err-audit.ensures.1 in
-    rw (p.1, p.2) (section_fails (g.W.Write.contents c.args.writer.now) c.args.capacity c.args.units.now (without_returns c.args.journal.now) c.in_err-audit.field-0 (subst IsOfCall (sym c.in_err-audit.ensures.err) tt))
+    rw (p.1, p.2) (section_fails (g.W.Write.contents c.args.writer.now) c.args.capacity c.args.units.now (without_returns c.args.journal.now) c.in_err-audit.field-0.0 (subst IsOfCall (sym c.in_err-audit.ensures.err) tt))
 
 pub returns : goal.returns
 returns g c =
