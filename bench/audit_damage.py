@@ -3,10 +3,13 @@
 
     bench/audit_damage.py [--all] [--program PATH]    # the six rows below, or all rows that the model can play
     bench/audit_damage.py [--all] --write FOLDER      # a file for each case instead, NAME and NAME.stdout, with NAME.args
+    bench/audit_damage.py --rows                      # the files of the six rows that crates/audit_rows plays
 
 Each entry is taken out, doubled and exchanged with its neighbour, with the numbers as they were and numbered anew; each digit is
 changed; each word is doubled; each letter is put into the other case; a carriage return is put before each line feed and into the
-middle of each line; and the journal is cut at every byte.
+middle of each line; and the journal is cut at every byte. `--rows` writes a line for each way and place, the places of a way
+numbered from 1, and one for neighbouring places of one verdict: there a journal is judged byte for byte, as one in a file of its
+own, while in a script a carriage return before a line feed is dropped.
 """
 import argparse
 import os
@@ -14,16 +17,20 @@ import re
 import subprocess
 import sys
 from collections import Counter
-from collections.abc import Iterator
+from collections.abc import Callable, Iterator
+from itertools import groupby
+from multiprocessing import Pool
 from pathlib import Path
+from typing import NamedTuple
 
 TOP = Path(__file__).resolve().parent.parent
 sys.path.insert(0, str(TOP / "bench/model"))
 
-from audit import audit  # noqa: E402
-from play import Outcome, play, sections_of  # noqa: E402
+from audit import Auditor, audit, read_settings_of, section_text  # noqa: E402
+from play import Fault, Outcome, play, sections_of  # noqa: E402
 
 ROWS = TOP / "crates/rv_rows/data"
+AUDITS = TOP / "crates/audit_rows/data"
 PROGRAM = TOP / "crates/ravenhost/out/ravenhost"
 USUAL = (
     "last_line_decides", "second_caller_while_procedure_runs", "grant_taken_away_while_queued", "full_journal_and_halt",
@@ -51,42 +58,73 @@ def numbered(lines: list[str]) -> list[str]:
     return [f"{place} {line.split(' ', 1)[1]}" for place, line in enumerate(lines, 1)]
 
 
-def moved(lines: list[str]) -> Iterator[list[str]]:
-    """Each line taken out, doubled, and exchanged with the next."""
+def taken_out(lines: list[str]) -> Iterator[list[str]]:
     for place in range(len(lines)):
-        before, behind = lines[:place], lines[place + 1:]
-        yield before + behind
-        yield before + [lines[place]] * 2 + behind
-        if behind:
-            yield before + [behind[0], lines[place]] + behind[1:]
+        yield lines[:place] + lines[place + 1:]
 
 
-def changed_line(line: str) -> Iterator[str]:
-    """Each digit changed, each word doubled, each letter in the other case, and a carriage return in the middle."""
-    for place, letter in enumerate(line):
-        if letter.isdigit():
-            yield line[:place] + str((int(letter) + 1) % 10) + line[place + 1:]
-        elif letter.isalpha():
-            yield line[:place] + letter.swapcase() + line[place + 1:]
-    words = line.split(" ")
-    for place, word in enumerate(words):
-        yield " ".join(words[:place] + [word] + words[place:])
-    yield line[:len(line) // 2] + "\r" + line[len(line) // 2:]
-    yield line + "\r"
-
-
-def damaged(journal: str) -> Iterator[str]:
-    """The journal, whole and damaged in each way."""
-    lines = journal.splitlines()
-    yield journal
-    for found in moved(lines):
-        yield "".join(line + "\n" for line in found)
-        yield "".join(line + "\n" for line in numbered(found))
+def doubled(lines: list[str]) -> Iterator[list[str]]:
     for place, line in enumerate(lines):
-        for other in changed_line(line):
-            yield "".join(each + "\n" for each in lines[:place] + [other] + lines[place + 1:])
-    for end in range(len(journal)):
-        yield journal[:end]
+        yield lines[:place] + [line] + lines[place:]
+
+
+def exchanged(lines: list[str]) -> Iterator[list[str]]:
+    for place in range(len(lines) - 1):
+        yield lines[:place] + [lines[place + 1], lines[place]] + lines[place + 2:]
+
+
+def returned(lines: list[str], within: Callable[[str], int]) -> Iterator[list[str]]:
+    """Each line with a carriage return at a place of it."""
+    for place, line in enumerate(lines):
+        at = within(line)
+        yield lines[:place] + [line[:at] + "\r" + line[at:]] + lines[place + 1:]
+
+
+def digits_changed(journal: str) -> Iterator[str]:
+    for found in re.finditer("[0-9]", journal):
+        yield journal[:found.start()] + str((int(found[0]) + 1) % 10) + journal[found.end():]
+
+
+def words_doubled(journal: str) -> Iterator[str]:
+    for found in re.finditer("[^ \n]+", journal):
+        yield journal[:found.end()] + " " + journal[found.start():]
+
+
+def letters_in_the_other_case(journal: str) -> Iterator[str]:
+    for found in re.finditer("[A-Za-z]", journal):
+        yield journal[:found.start()] + found[0].swapcase() + journal[found.end():]
+
+
+class Damaged(NamedTuple):
+    way: str
+    journal: str
+
+
+def damaged(journal: str) -> Iterator[Damaged]:
+    """The journal damaged in each way, at each place of it."""
+    lines = journal.removesuffix("\n").split("\n")
+    moved = {"taken_out": taken_out, "doubled": doubled, "exchanged": exchanged}
+    of_lines = {way: list(move(lines)) for way, move in moved.items()}
+    of_lines |= {f"{way}_numbered": list(map(numbered, found)) for way, found in of_lines.items()}
+    returns = {
+        "return_behind": returned(lines, len),
+        "return_within": returned(lines, lambda line: len(line) // 2),
+    }
+    ways: dict[str, Iterator[str]] = {
+        **{way: map(text_of, found) for way, found in of_lines.items()},
+        "digit": digits_changed(journal),
+        "word": words_doubled(journal),
+        "letter": letters_in_the_other_case(journal),
+        **{way: map(text_of, found) for way, found in returns.items()},
+        "cut": (journal[:end] for end in range(len(journal))),
+    }
+    for way, texts in ways.items():
+        for text in texts:
+            yield Damaged(way, text)
+
+
+def text_of(lines: list[str]) -> str:
+    return "".join(line + "\n" for line in lines)
 
 
 def kept_sections(script: str) -> str:
@@ -110,7 +148,7 @@ def judged_alone(name: str) -> tuple[str, str, str] | None:
         outcome = play(script, False)
         sections = kept_sections(script.decode())
         return sections, sections, outcome.output.decode()
-    except (NotImplementedError, UnicodeDecodeError, ValueError):
+    except (Fault, NotImplementedError, UnicodeDecodeError, ValueError):
         return None
 
 
@@ -121,7 +159,7 @@ def cases(names: list[str]) -> Iterator[tuple[str, bytes, Outcome]]:
         if not found or not found[2]:
             continue
         sections, modelled, journal = found
-        for place, text in enumerate(dict.fromkeys(damaged(journal))):
+        for place, text in enumerate(dict.fromkeys([journal, *(each.journal for each in damaged(journal))])):
             behind = "@journal\n" + text
             yield f"{name}_{place}", (sections + behind).encode(), audit((modelled + behind).encode())
 
@@ -143,13 +181,82 @@ def write(folder: Path, names: list[str]) -> int:
     return 0
 
 
+def judged(sections: str, journal: str) -> str:
+    """The verdict on a journal over these settings and shapes, byte for byte."""
+    auditor = Auditor()
+    for opening, lines, place in sections_of(sections):
+        if opening == "@host.toml":
+            read_settings_of(auditor, section_text(sections, place), place)
+        else:
+            auditor.units.append(lines)
+    return auditor.journal(journal)
+
+
+def places(first: int, last: int) -> str:
+    return str(first) if first == last else f"{first}..{last}"
+
+
+def verdict_lines(sections: str, journal: str) -> Iterator[str]:
+    """The lines on a journal's damages."""
+    for way, of_way in groupby(damaged(journal), lambda each: each.way):
+        last = 0
+        for verdict, equal in groupby(judged(sections, each.journal) for each in of_way):
+            first, last = last + 1, last + len(list(equal))
+            yield f"{way} {places(first, last)} -> {verdict}"
+
+
+def write_rows() -> int:
+    """Writes what crates/audit_rows plays of the usual rows."""
+    for name in USUAL:
+        _, sections, journal = judged_alone(name)
+        (AUDITS / f"{name}.raven").write_text(f"{sections}@journal\n{journal}")
+        (AUDITS / f"{name}.said").write_text(judged(sections, journal))
+        (AUDITS / f"{name}.damaged").write_text("".join(verdict_lines(sections, journal)))
+        print(f"{name}: {sum(1 for _ in damaged(journal))} damaged journals")
+    return 0
+
+
+class Compared(NamedTuple):
+    """How often each verdict was due in a row's cases, and the cases in which the program said another."""
+    verdicts: Counter[str]
+    differing: list[str]
+
+
+def compared(name: str, program: Path) -> Compared:
+    verdicts: Counter[str] = Counter()
+    differing = []
+    for case, script, due in cases([name]):
+        found = said(program, script)
+        verdicts[re.sub("[0-9].*", "", due.output.decode() or "fault").strip()] += 1
+        if found != due:
+            differing.append(f"{case}: said {found}, due {due}")
+    return Compared(verdicts, differing)
+
+
+def compare(program: Path, names: list[str]) -> int:
+    verdicts: Counter[str] = Counter()
+    different = 0
+    with Pool() as pool:
+        for found in pool.starmap(compared, [(name, program) for name in names], chunksize=1):
+            verdicts += found.verdicts
+            different += len(found.differing)
+            for line in found.differing:
+                print(line)
+    told = ", ".join(f"{count} {verdict}" for verdict, count in sorted(verdicts.items()))
+    print(f"{sum(verdicts.values())} journals: {told}; {different} differ")
+    return 1 if different else 0
+
+
 def main() -> int:
     parser = argparse.ArgumentParser(description=__doc__, formatter_class=argparse.RawDescriptionHelpFormatter)
     parser.add_argument("--all", action="store_true")
     parser.add_argument("--program", type=Path, default=PROGRAM)
     parser.add_argument("--write", type=Path, metavar="FOLDER")
+    parser.add_argument("--rows", action="store_true")
     arguments = parser.parse_args()
     names = [path.stem for path in sorted(ROWS.glob("*.raven"))] if arguments.all else list(USUAL)
+    if arguments.rows:
+        return write_rows()
     if arguments.write:
         return write(arguments.write, names)
     program = arguments.program.absolute()
@@ -157,17 +264,7 @@ def main() -> int:
         print(f"audit_damage.py: there is no program {program}: build it (./ravenhost --prove does), or name one by --program",
               file=sys.stderr)
         return 127
-    verdicts: Counter[str] = Counter()
-    different = 0
-    for name, script, due in cases(names):
-        found = said(program, script)
-        verdicts[re.sub("[0-9].*", "", due.output.decode() or "fault").strip()] += 1
-        if found != due:
-            different += 1
-            print(f"{name}: said {found}, due {due}")
-    told = ", ".join(f"{count} {verdict}" for verdict, count in sorted(verdicts.items()))
-    print(f"{sum(verdicts.values())} journals: {told}; {different} differ")
-    return 1 if different else 0
+    return compare(program, names)
 
 
 if __name__ == "__main__":

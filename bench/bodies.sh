@@ -13,7 +13,7 @@ for tool in rt nproc cut; do
 done
 [ -r /proc/loadavg ] || missing /proc/loadavg
 
-cd "$(dirname "$(readlink -f "$0")")/../crates/host_bench"
+cd "$(dirname "$(readlink -f "$0")")/../crates/rv_bench"
 log=$(mktemp)
 trap 'rm -f "$log"' EXIT
 if ! rt run -- bodies 0 >"$log" 2>&1 </dev/null; then
@@ -21,4 +21,4 @@ if ! rt run -- bodies 0 >"$log" 2>&1 </dev/null; then
     exit 1
 fi
 echo "$(nproc) cores, load $(cut -d ' ' -f 1 /proc/loadavg) before the first run"
-out/host_bench bodies "${1:-200}"
+out/rv_bench bodies "${1:-200}"

@@ -1,8 +1,16 @@
 #!/usr/bin/env bash
-# Refuses each allocation of `ravenhost check --explain` in turn, on examples/checked.raven and on unit texts of rv_rows: those
-# that are taken, and for each fault of names and types one that is refused. Each run must end with status 3, want of memory,
-# and must have written a front of the whole output. Scripts may be given instead. It needs a C compiler, for a library of a
-# few lines that stands before malloc.
+# Refuses each allocation of the built program in turn, and looks at what becomes of it:
+# - `check --explain`, on examples/checked.raven and on unit texts of rv_rows: those that are taken, and for each fault of names
+#   and types one that is refused;
+# - `play --all`, on examples and on a row with settings: calls, hand-overs, drops, changes of the list, bodies by `go`;
+# - `audit`, on rows: journals that are legal and that aren't, over shapes, unit texts and devices;
+# - `audit --journal`, with and without `--torn`, on rows whose journal is a file;
+# - `run`, on commands to a host without threads, and on examples/plant.raven.
+# Of all but `run` each must end with status 3, want of memory, and must have written a front of the whole output. A `run` must
+# end in a minute, with status 3, or with 0 and its last line. Each line must be an answer, `nomemory` among them; and `audit`
+# must find the journal that it printed legal. Without threads a run that ends with 0 has answered each command with one line.
+# Scripts may be given instead, for `check --explain` alone. It needs a C compiler, for a library of a few lines that stands
+# before malloc. Statuses: 0 all as it should be, 1 not so, 127 a tool is missing.
 set -eu
 command -v cc >/dev/null || {
     echo "bench/each_allocation_refused.sh: cc is missing" >&2
@@ -22,12 +30,14 @@ cat >"$folder/refuse.c" <<'C'
 
 /* Refuses the call of that number; at the end of a run that didn't come to it, writes `none` to descriptor 9. */
 static long refused = -1, calls;
+__attribute__((constructor)) static void begin(void) {
+    char *number = getenv("REFUSED");
+    refused = number ? atol(number) : 0;
+}
 static int is_refused(void) {
-    if (refused < 0) {
-        char *number = getenv("REFUSED");
-        refused = number ? atol(number) : 0;
-    }
-    return ++calls == refused;
+    if (refused < 0) begin();
+    /* Threads allocate at once. */
+    return __atomic_add_fetch(&calls, 1, __ATOMIC_RELAXED) == refused;
 }
 static void *next(const char *name) { return dlsym(RTLD_NEXT, name); }
 void *malloc(size_t size) {
@@ -68,42 +78,186 @@ void _exit(int status) {
 C
 cc -O1 -shared -fPIC -o "$folder/refuse.so" "$folder/refuse.c" -ldl
 
-# Refuses each allocation over one script in turn.
-refuse_each() {
-    local script=$1 number=0 status
+fail() {
+    echo "$1"
+    exit 1
+}
+
+# Runs the program on a script with the allocation of this number refused, and keeps what came. Its words follow.
+refuse() {
+    local script=$1 number=$2
+    shift 2
     status=0
-    "$program" check --explain <"$script" >"$folder/whole" 2>/dev/null || status=$?
-    local due=$status
+    REFUSED=$number LD_PRELOAD=$folder/refuse.so timeout 60 "$program" "$@" <"$script" \
+        >"$folder/written" 2>"$folder/error" 9>"$folder/none" || status=$?
+}
+
+# Refuses each allocation over one script in turn. The words of the command line follow.
+refuse_each() {
+    local script=$1 number=0 status=0 due
+    shift
+    "$program" "$@" <"$script" >"$folder/whole" 2>/dev/null || status=$?
+    due=$status
     while true; do
-        number=$((number + 1)) status=0
-        REFUSED=$number LD_PRELOAD=$folder/refuse.so "$program" check --explain <"$script" \
-            >"$folder/written" 2>"$folder/error" 9>"$folder/none" || status=$?
+        number=$((number + 1))
+        refuse "$script" "$number" "$@"
         if [ -s "$folder/none" ]; then break; fi
-        if [ "$status" -ne 3 ]; then
-            echo "$script: allocation $number refused: status $status"
-            exit 1
-        fi
-        if ! cmp -s -n "$(stat -c %s "$folder/written")" "$folder/written" "$folder/whole"; then
-            echo "$script: allocation $number refused: other output"
-            exit 1
-        fi
+        [ "$status" -eq 3 ] || fail "$* < $script: allocation $number refused: status $status"
+        cmp -s -n "$(stat -c %s "$folder/written")" "$folder/written" "$folder/whole" ||
+            fail "$* < $script: allocation $number refused: other output"
     done
     cmp "$folder/written" "$folder/whole"
     [ "$status" -eq "$due" ]
-    all=$((all + number - 1))
+    count "$number"
+}
+
+# One script more, each of whose allocations but the last, which didn't come, was refused.
+count() {
+    scripts=$((scripts + 1)) all=$((all + $1 - 1))
+}
+
+# Says how many there were since the last time.
+tell() {
+    echo "$1: $scripts scripts, $all allocations, each refused: $2"
+    scripts=0 all=0
+}
+
+# The units that a run may load, as sections: those before `@run`, and those of its commands `load`.
+units_of() {
+    awk '/^@run$/ { runs = 1; next }
+        !runs && /^@/ { keeps = $0 != "@list" }
+        !runs && keeps
+        runs && /^load$/ { print "@unit"; loads = 1; next }
+        runs && /^@end$/ { loads = 0 }
+        runs && loads' "$1"
+}
+
+# How many lines of a run aren't of its journal.
+answers() {
+    grep -cvE '^[0-9]+ ' "$1"
+}
+
+# Whether there is one answer more: that of a page of the journal, of which else only its lines are written.
+lacks_page() {
+    [ "$(answers "$folder/written")" -eq $(($1 + 1)) ] && grep -qx nomemory "$folder/written"
+}
+
+# Whether what a run wrote is such as it should be. Of a run without threads it is known how many answers it gives.
+look_at_run() {
+    local script=$1 wanted=$2
+    ! grep -vE "$answer" "$folder/written" || fail "other words"
+    case $status in
+        0)
+            tail -n 1 "$folder/written" | grep -qE '^entries [0-9]+$' || fail "status 0 without the last line"
+            [ -z "$wanted" ] || [ "$(answers "$folder/written")" -eq "$wanted" ] || lacks_page "$wanted" ||
+                fail "another number of answers"
+            ;;
+        3) grep -qE '^ravenhost: (out of memory|no thread can be started)$' "$folder/error" || fail "status 3 without its words" ;;
+        *) fail "status $status" ;;
+    esac
+    { units_of "$script"; echo @journal; grep -E '^[0-9]+ ' "$folder/written" || true; } >"$folder/audited"
+    "$program" audit <"$folder/audited" >"$folder/verdict" || fail "$(cat "$folder/verdict")"
+}
+
+# Refuses each allocation of a run in turn. With a second word it has no threads.
+refuse_each_of_run() {
+    local script=$1 number=0 status=0 wanted=""
+    "$program" run <"$script" >"$folder/whole" 2>/dev/null
+    [ -z "${2:-}" ] || wanted=$(answers "$folder/whole")
+    while true; do
+        number=$((number + 1))
+        refuse "$script" "$number" run
+        if [ -s "$folder/none" ]; then break; fi
+        (look_at_run "$script" "$wanted") || fail "run < $script: allocation $number refused"
+    done
+    look_at_run "$script" "$wanted"
+    count "$number"
 }
 
 ./ravenhost --prove
 program=$PWD/crates/ravenhost/out/ravenhost
-if [ $# -eq 0 ]; then
-    data=crates/rv_rows/data
-    set -- examples/checked.raven "$data"/names_ok_*.raven "$data"/types_accepted_*.raven
-    for fault in "names "{Unknown,Duplicate,NotVisible,WrongKind,EndName} \
-        "types "{Mismatch,NotStatic,ConstantWritten,BadMode,TooLarge,BadChoice}; do
-        first=$(grep -l ": $fault at" "$data"/*.fault | head -1)
-        set -- "$@" "${first%.fault}.raven"
-    done
+data=crates/rv_rows/data
+scripts=0 all=0 front="status 3 and a front of the output"
+answer='^(accepted 0|full|halted|badline|raised|unattached|bad command|list BadWord at line 1|nomemory|no thread [A-Za-z0-9_.]+|entries [0-9]+|[0-9]+ .* -> .*)$'
+
+if [ $# -gt 0 ]; then
+    for script in "$@"; do refuse_each "$script" check --explain; done
+    tell "check --explain" "$front"
+    exit
 fi
-all=0
-for script in "$@"; do refuse_each "$script"; done
-echo "$# scripts, $all allocations, each refused: status 3 and a front of the output"
+
+set -- examples/checked.raven "$data"/names_ok_*.raven "$data"/types_accepted_*.raven
+for fault in "names "{Unknown,Duplicate,NotVisible,WrongKind,EndName} \
+    "types "{Mismatch,NotStatic,ConstantWritten,BadMode,TooLarge,BadChoice}; do
+    first=$(grep -l ": $fault at" "$data"/*.fault | grep -v /audit_ | head -1)
+    set -- "$@" "${first%.fault}.raven"
+done
+for script in "$@"; do refuse_each "$script" check --explain; done
+tell "check --explain" "$front"
+
+for script in examples/{first,hand_over,list_edits,revoked_while_queued,bodies}.raven "$data"/full_journal_and_halt.raven; do
+    refuse_each "$script" play --all
+done
+tell "play --all" "$front"
+
+for name in legal entry_not_due without_last_line_feed unit_texts unit_texts_wrong_answer devices full_journal; do
+    refuse_each "$data/audit_$name.raven" audit
+done
+tell audit "$front"
+
+for name in legal entry_not_due without_last_line_feed; do
+    refuse_each "$data/audit_file_$name.raven" audit --journal "$data/audit_file_$name.file"
+done
+name=$data/audit_file_without_last_line_feed
+refuse_each "$name.raven" audit --journal "$name.file" --torn
+tell "audit --journal" "$front"
+
+cat >"$folder/quiet.raven" <<'RAVEN'
+@host.toml
+capacity = 40
+@unit
+package Plant is
+   protected Valve is
+      function Get return Integer;
+   private
+      Level : Integer := 0;
+   end Valve;
+end Plant;
+package body Plant is
+   protected body Valve is
+      function Get return Integer is begin return Level; end Get;
+   end Valve;
+end Plant;
+@list
+allow * * *
+@run
+tick 3
+append deny Nav Plant.Valve Get
+replace 1 allow Nav Plant.Valve *
+remove 2
+remove 9
+append allow Nav
+raise 4
+load
+package More is
+   protected Gauge is
+      procedure Set (N : in Integer);
+   private
+      Level : Integer := 0;
+   end Gauge;
+end More;
+package body More is
+   protected body Gauge is
+      procedure Set (N : in Integer) is begin Level := N; end Set;
+   end Gauge;
+end More;
+@end
+halt
+tick 1
+wait
+journal 1
+quit
+RAVEN
+refuse_each_of_run "$folder/quiet.raven" without_threads
+refuse_each_of_run examples/plant.raven
+tell run "status 3, or nomemory and the last line, and a legal journal"

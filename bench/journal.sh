@@ -16,7 +16,7 @@ done
 python3 -c 'import resource, subprocess' 2>/dev/null || missing "python3, or its module resource,"
 [ -r /proc/loadavg ] || missing /proc/loadavg
 
-cd "$(dirname "$(readlink -f "$0")")/../crates/host_bench"
+cd "$(dirname "$(readlink -f "$0")")/../crates/rv_bench"
 folder=$(mktemp -d)
 trap 'rm -rf "$folder"' EXIT
 if ! rt run -- reserve 16 >"$folder/log" 2>&1 </dev/null; then
@@ -27,13 +27,13 @@ entries=${1:-262144}
 
 echo "$(nproc) cores, load $(cut -d ' ' -f 1 /proc/loadavg) before the first run"
 echo "-- what is given back is fresh again"
-MALLOC_MMAP_THRESHOLD_=65536 MALLOC_TRIM_THRESHOLD_=0 out/host_bench push "$entries"
+MALLOC_MMAP_THRESHOLD_=65536 MALLOC_TRIM_THRESHOLD_=0 out/rv_bench push "$entries"
 echo "-- what is given back stays: touched from round 3 on"
-MALLOC_MMAP_MAX_=0 MALLOC_TRIM_THRESHOLD_=17179869184 out/host_bench push "$entries"
+MALLOC_MMAP_MAX_=0 MALLOC_TRIM_THRESHOLD_=17179869184 out/rv_bench push "$entries"
 
 python3 - <<'EOF'
 import resource, subprocess
-subprocess.run(["out/host_bench", "reserve", "1048576"], stdout=subprocess.DEVNULL, check=True)
+subprocess.run(["out/rv_bench", "reserve", "1048576"], stdout=subprocess.DEVNULL, check=True)
 peak = resource.getrusage(resource.RUSAGE_CHILDREN).ru_maxrss / 1024
 print(f"an empty journal of 1048576 entries, with the program: {peak:.0f} MiB touched (aim: 64 MiB)")
 EOF
@@ -121,7 +121,7 @@ cc -O1 -shared -fPIC -o "$folder/refuse.so" "$folder/refuse.c" -ldl
 # Reserves so many entries with the allocation of a number refused; prints the status and what is left.
 reserve_refused() {
     local status=0
-    REFUSED=$2 LD_PRELOAD=$folder/refuse.so out/host_bench reserve "$1" >"$folder/written" 2>&1 9>"$folder/left" || status=$?
+    REFUSED=$2 LD_PRELOAD=$folder/refuse.so out/rv_bench reserve "$1" >"$folder/written" 2>&1 9>"$folder/left" || status=$?
     echo "$status $(cat "$folder/left")"
 }
 

@@ -13,12 +13,12 @@ for tool in rt nproc cut; do
 done
 [ -r /proc/loadavg ] || missing /proc/loadavg
 
-cd "$(dirname "$(readlink -f "$0")")/../crates/port_bench"
+cd "$(dirname "$(readlink -f "$0")")/../crates/rv_bench"
 log=$(mktemp)
 trap 'rm -f "$log"' EXIT
-if ! rt run -- 0 >"$log" 2>&1 </dev/null; then
+if ! rt run -- ports 0 >"$log" 2>&1 </dev/null; then
     cat "$log" >&2
     exit 1
 fi
 echo "$(nproc) cores, load $(cut -d ' ' -f 1 /proc/loadavg) before the first run"
-out/port_bench "${1:-500}"
+out/rv_bench ports "${1:-500}"

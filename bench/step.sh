@@ -21,16 +21,16 @@ python3 -c 'import resource, sys; sys.exit(sys.version_info < (3, 9))' 2>/dev/nu
 top=$(dirname "$(readlink -f "$0")")/..
 folder=$(mktemp -d)
 trap 'rm -rf "$folder"' EXIT
-cd "$top/crates/step_bench"
-if ! rt run -- reserve 0 >"$folder/log" 2>&1 </dev/null; then
+cd "$top/crates/rv_bench"
+if ! rt run -- room 0 >"$folder/log" 2>&1 </dev/null; then
     cat "$folder/log" >&2
     exit 1
 fi
 echo "user $(id -u) (GNAT's ceilings cost what they cost only as root, 0), $(nproc) cores, load $(cut -d ' ' -f 1 /proc/loadavg) before the first run"
-out/step_bench table "${1:-5}" >"$folder/table"
+out/rv_bench table "${1:-5}" >"$folder/table"
 # A process of its own for each, so that no memory of an earlier host is taken again.
 for _ in $(seq "${1:-5}"); do
-    out/step_bench far 0 >>"$folder/far"
+    out/rv_bench far 0 >>"$folder/far"
 done
 
 # The same call under GNAT: a function of a protected object with a ceiling, without a host.
@@ -127,7 +127,7 @@ else:
     print("gnatmake isn't there: no call under GNAT")
 print(f"a whole list of 512 lines set over 64 units, 256 objects of 16 operations: {least['list'] / 1e6:.1f} ms (aim: 50)")
 
-subprocess.run(["out/step_bench", "reserve", "0"], stdout=subprocess.DEVNULL, check=True)
+subprocess.run(["out/rv_bench", "room", "0"], stdout=subprocess.DEVNULL, check=True)
 peak = resource.getrusage(resource.RUSAGE_CHILDREN).ru_maxrss / 1024
 print(f"a new host of 1,048,576 entries, with the program: {peak:.0f} MiB touched (aim: 64)")
 
@@ -149,6 +149,7 @@ cat >"$folder/count.c" <<'C'
 #include <dlfcn.h>
 #include <stdio.h>
 #include <stdlib.h>
+#include <sys/syscall.h>
 #include <unistd.h>
 
 /* Counts allocations, and writes at the end of a run how many there were, to descriptor 9. */
@@ -178,10 +179,18 @@ int posix_memalign(void **found, size_t alignment, size_t size) {
     calls++;
     return real(found, alignment, size);
 }
-__attribute__((destructor)) static void end(void) {
+static void tell(void) {
     char text[24];
     int length = snprintf(text, sizeof text, "%ld\n", calls);
-    if (write(9, text, length) < 0) _exit(9);
+    if (write(9, text, length) < 0) syscall(SYS_exit_group, 9);
+}
+__attribute__((destructor)) static void end(void) { tell(); }
+
+/* A program with threads ends by this call, behind which no destructor runs. */
+void _exit(int status) {
+    tell();
+    syscall(SYS_exit_group, status);
+    __builtin_unreachable();
 }
 C
 cc -O1 -shared -fPIC -o "$folder/count.so" "$folder/count.c" -ldl
@@ -190,7 +199,7 @@ cc -O1 -shared -fPIC -o "$folder/count.so" "$folder/count.c" -ldl
 count() {
     local part=$1 few=$2 many=$3 what=$4 first="" times written
     for times in "$few" "$many"; do
-        LD_PRELOAD=$folder/count.so out/step_bench "$part" "$times" >"$folder/written" 9>"$folder/count" || true
+        LD_PRELOAD=$folder/count.so out/rv_bench "$part" "$times" >"$folder/written" 9>"$folder/count" || true
         written=$(cat "$folder/written")
         if [ "$written" != "$times" ]; then
             echo "$what, $times times: ${written:-none} went as is due"

@@ -3,10 +3,17 @@
 //!
 //! `NAME.raven` is a script of shapes and a journal, behind a capacity where it isn't 4,096; `NAME.said` is the verdict.
 //! Each line of a journal that is legal is read as an entry, too.
+//!
+//! Where there is a `NAME.damaged`, the journal of `NAME.raven` is damaged in each way at each place, and judged: the
+//! file has a line `WAY PLACE -> VERDICT` or `WAY FIRST..LAST -> VERDICT` for the places of a way, numbered from 1, that
+//! are neighbours and have one verdict (`bench/audit_damage.py --rows` writes it, by a model of its own).
 #![tactic(auto)]
 
+mod damage;
 mod script;
+mod told;
 
+use damage::{WAYS, Way, damaged};
 use rv_audit::audit::Audit;
 use rv_audit::verdict::Verdict;
 use rv_event::text::text_of_answer;
@@ -14,6 +21,7 @@ use rv_reading::entry::read_entry;
 use script::{Script, script_of};
 use std::alloc::Global;
 use std::{fs, io};
+use told::{Told, first_other};
 
 // What a verdict says, with the names of what the journal loaded.
 fn said(alloc: Global, audit: &Audit, verdict: &Verdict) -> io::Result<String> {
@@ -55,25 +63,69 @@ fn found(alloc: Global, script: &Script<'_>) -> io::Result<String> {
     said(alloc, &audit, &verdict)
 }
 
-// The text of a file, or none where it isn't there.
-fn text_of(rt: &HostRuntime, name: &str, ending: &str) -> io::Result<String> {
-    let path = format!(in rt.alloc(); "{name}.{ending}")?;
-    fs::read_to_string(rt, path)
+// What is found of a journal over the units of a script.
+fn verdict_on(alloc: Global, script: &Script<'_>, journal: &str) -> io::Result<String> {
+    let Ok(mut audit) = Audit::new(alloc, script.capacity) else {
+        return String::from_str(alloc, "no audit\n").map_err(|e| io::Error::from(e));
+    };
+    let verdict = audit.judge_all(script.units.as_slice(), journal);
+    said(alloc, &audit, &verdict)
 }
 
-// Whether the verdict on a script is the one that stands beside it, in words.
-fn told(rt: &HostRuntime, name: &str) -> io::Result<String> {
+// Tells what is found of the journal of a script, damaged in a way at each place.
+fn tell_way(alloc: Global, script: &Script<'_>, way: Way, told: &mut Told) -> io::Result<()> {
+    for number in 0..script.journal.len() {
+        let Some(journal) = damaged(alloc, script.journal, way, number)? else {
+            break;
+        };
+        let verdict = verdict_on(alloc, script, journal.as_str())?;
+        told.note(alloc, way.word(), verdict)?;
+    }
+    Ok(told.end_way(alloc, way.word())?)
+}
+
+// Whether the verdicts on the damaged journals of a script are those that are due, in words.
+fn damage_told(alloc: Global, script: &Script<'_>, due: &str) -> io::Result<String> {
+    let mut told = Told::new(alloc);
+    for way in WAYS {
+        tell_way(alloc, script, way, &mut told)?;
+    }
+    if let Some((line, other)) = first_other(told.lines.as_str(), due) {
+        return Ok(format!(in alloc; "found {line}, due {other}")?);
+    }
+    let count = told.count;
+    Ok(format!(in alloc; "{count} damaged journals ok")?)
+}
+
+// The text of a file, or none where it isn't there.
+fn text_of(rt: &HostRuntime, name: &str, ending: &str) -> io::Result<Option<String>> {
+    let path = format!(in rt.alloc(); "{name}.{ending}")?;
+    match fs::read_to_string(rt, path) {
+        Ok(text) => Ok(Some(text)),
+        Err(e) if e.kind() == io::ErrorKind::NotFound => Ok(None),
+        Err(e) => Err(e),
+    }
+}
+
+// Says whether the verdict on a script is the one that stands beside it, and those on its damaged journals.
+fn tell(rt: &HostRuntime, name: &str) -> io::Result<()> {
     let alloc = rt.alloc();
-    let text = text_of(rt, name, "raven")?;
-    let wanted = text_of(rt, name, "said")?;
+    let text = text_of(rt, name, "raven")?.unwrap_or(String::new(alloc));
+    let wanted = text_of(rt, name, "said")?.unwrap_or(String::new(alloc));
     let Some(script) = script_of(alloc, text.as_str()) else {
-        return Ok(format!(in alloc; "{name}: no script")?);
+        return println!(rt; "{name}: no script");
     };
     let given = found(alloc, &script)?;
     if given.as_str() == wanted.as_str() {
-        return Ok(format!(in alloc; "{name}: ok")?);
+        println!(rt; "{name}: ok")?;
+    } else {
+        println!(rt; "{name}: {given}")?;
     }
-    Ok(format!(in alloc; "{name}: {given}")?)
+    if let Some(due) = text_of(rt, name, "damaged")? {
+        let line = damage_told(alloc, &script, due.as_str())?;
+        println!(rt; "{name}: {line}")?;
+    }
+    Ok(())
 }
 
 // The names of the scripts, in the order of their bytes.
@@ -92,8 +144,7 @@ fn names_of(rt: &HostRuntime) -> io::Result<Vec<String>> {
 
 fn main(rt: HostRuntime) -> io::Result<()> {
     for name in names_of(&rt)? {
-        let line = told(&rt, name.as_str())?;
-        println!(rt; "{line}")?;
+        tell(&rt, name.as_str())?;
     }
     Ok(())
 }

@@ -37,7 +37,7 @@ pub fn script_of(alloc: Global, text: &str) -> Option<Script<'_>> {
         journal: "",
     };
     let (_, mut sections) = open_script(text);
-    while let Some(section) = sections.next_section() {
+    'each: while let Some(section) = sections.next_section() {
         match section.opening {
             "@host.toml" => script.capacity = capacity_of(section.text)?,
             "@shape" => {

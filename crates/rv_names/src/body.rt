@@ -10,13 +10,13 @@ ghost use Rattle.rv_scope.specs.Scope.{OnlyDeclares, declaring_all, hiding_all};
 ghost use Rattle.rv_scope.specs.ExpressionUses.{◌▷◌, value_uses, maybe_uses, range_uses};
 ghost use Rattle.rv_scope.specs.UnitUses.{local_form as form_of_local, local_uses, with_local, locals_uses, with_locals, exception_uses, exceptions_uses, handlers_uses, block_uses};
 
-use crate::hide::hide_all;
-use rv_scope::declare::{Form, declare_all};
 use crate::expression::{maybe_range, maybe_value, name, refuse};
 use crate::fault::Faults;
+use crate::hide::hide_all;
 use crate::pragma::stray_pragma;
-use rv_scope::scope::Scope;
 use crate::statement::statements;
+use rv_scope::declare::{Form, declare_all};
+use rv_scope::scope::Scope;
 use rv_scope::wanted::Wanted;
 use rv_tree::body::{Block, ExceptionChoice, Handler, Local};
 use rv_tree::expression::{Expression, RangeConstraint};
@@ -50,7 +50,7 @@ fn objects(
         ≡ declaring_all (form_of_local is_constant) (identifiers_view names.now.items) (hiding_all (identifiers_view names.now.items) scope.old)) }
     ensures only { OnOk result (OnlyDeclares scope.old scope.new) }
 {
-    hide_all(names, scope, faults)?;
+    hide_all(names, scope)?;
     name(mark, Wanted::Subtype, scope, faults);
     maybe_range(part, scope, faults);
     maybe_value(initial, scope, faults);

@@ -7,10 +7,10 @@ ghost use Rattle.rv_scope.specs.Bound.{judged};
 ghost use Rattle.rv_scope.specs.Wanted.{denoted};
 ghost use Rattle.rv_scope.specs.UnitUses.{withed as scope_withed, used_by as scope_used_by, with_names_uses, with_names as scope_with_names, use_names_uses, use_names as scope_use_names, context_item_uses, with_context_item, context_uses, with_context};
 
-use rv_scope::context::{use_name, with_name};
 use crate::expression::name;
 use crate::fault::Faults;
 use crate::pragma::stray_pragma;
+use rv_scope::context::{use_name, with_name};
 use rv_scope::scope::Scope;
 use rv_scope::wanted::Wanted;
 use rv_tree::name::Name;

@@ -10,13 +10,13 @@ ghost use Rattle.rv_scope.specs.Visible.{visible};
 ghost use Rattle.rv_scope.specs.ExpressionUses.{◌▷◌, value_uses, maybe_uses, range_uses};
 ghost use Rattle.rv_scope.specs.DeclarationUses.{task_item_uses, task_items_uses, definition_uses, task_uses, declaring_task, object_form as form_of_objects, declaration_uses, with_declaration, declarations_uses, with_declarations};
 
-use crate::hide::{hide, hide_all};
-use rv_scope::declare::{Form, declare_all};
-use rv_scope::declared::Declared;
 use crate::expression::{maybe_name, maybe_range, name, refuse, value};
 use crate::fault::Faults;
+use crate::hide::{hide, hide_all};
 use crate::pragma::{aspects, pragma, stray_pragma, task_rules};
 use crate::protected::protected_unit;
+use rv_scope::declare::{Form, declare_all};
+use rv_scope::declared::Declared;
 use rv_scope::scope::Scope;
 use rv_scope::wanted::Wanted;
 use rv_tree::declaration::{Declaration, TaskDefinition, TaskItem, TaskUnit};
@@ -54,7 +54,7 @@ fn task_unit(task: &TaskUnit, scope: &mut Scope, faults: &mut Faults) -> Result<
     ensures faults { OnOk result (faults.new ≡ task_uses judged scope.old (task_view task.now) faults.old) }
     ensures scope { OnOk result (scope.new ≡ declaring_task (task_view task.now) scope.old) }
 {
-    hide(&task.name, scope, faults)?;
+    hide(&task.name, scope)?;
     aspects(&task.aspects, scope, faults);
     definition(&task.definition, scope, faults);
     task_rules(task, faults);
@@ -74,7 +74,7 @@ fn subtype(
     ensures scope { OnOk result (scope.new
         ≡ declaring Declared.Subtype (identifier_view declared.now) (hiding (identifier_view declared.now) scope.old)) }
 {
-    hide(declared, scope, faults)?;
+    hide(declared, scope)?;
     name(mark, Wanted::Subtype, scope, faults);
     maybe_range(part, scope, faults);
     faults.note_subtype(declared, mark, part, scope)?;
@@ -103,7 +103,7 @@ fn variables(
         ≡ declaring_all (form_of_objects (visible (hiding_all (identifiers_view names.now.items) scope.old) (name_view mark.now)))
         (identifiers_view names.now.items) (hiding_all (identifiers_view names.now.items) scope.old)) }
 {
-    hide_all(names, scope, faults)?;
+    hide_all(names, scope)?;
     name(mark, Wanted::ObjectType, scope, faults);
     let found = scope.visible(mark);
     let form = object_form(found);
@@ -124,7 +124,7 @@ fn constants(
     ensures scope { OnOk result (scope.new
         ≡ declaring_all Form.Constant (identifiers_view names.now.items) (hiding_all (identifiers_view names.now.items) scope.old)) }
 {
-    hide_all(names, scope, faults)?;
+    hide_all(names, scope)?;
     maybe_name(mark, Wanted::Subtype, scope, faults);
     value(initial, scope, faults);
     faults.note_constants(names, mark, initial, scope)?;

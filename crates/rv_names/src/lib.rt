@@ -25,6 +25,7 @@ pub mod resolve;
 mod rules;
 mod statement;
 mod statics;
+mod twice;
 mod unit;
 
 pub use fault::NameFault;

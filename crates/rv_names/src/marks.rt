@@ -1,9 +1,9 @@
 //! What the marks of profiles denote, each where it stands, and which of them match statically (4.9.1, 6.3.1, 8.3).
 
-use rv_scope::declared::Declared;
-use rv_scope::scope::Scope;
 use crate::statics::Statics;
 use indexmap::IndexMap;
+use rv_scope::declared::Declared;
+use rv_scope::scope::Scope;
 use rv_shape::kind::Range;
 use rv_tree::expression::{Expression, RangeConstraint};
 use rv_tree::name::{Identifier, Name};

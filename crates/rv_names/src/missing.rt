@@ -1,7 +1,7 @@
 //! Why a name denotes nothing: whether what it names exists and isn't visible, or doesn't exist.
 
-use rv_scope::declared::Declared;
 use crate::fault::NameFault;
+use rv_scope::declared::Declared;
 use rv_scope::predefined::Library;
 use rv_scope::scope::Scope;
 use rv_scope::wanted::Wanted;

@@ -9,12 +9,12 @@ ghost use Rattle.rv_scope.specs.Scope.{OnlyDeclares, declaring_all, hiding_all, 
 ghost use Rattle.rv_scope.specs.ExpressionUses.{◌▷◌, value_uses, maybe_uses, range_uses};
 ghost use Rattle.rv_scope.specs.DeclarationUses.{aspects_uses, parameters_uses, with_parameters, declaring_operation, operation_uses, with_operation, operations_uses, with_operations, element_uses, with_element, elements_uses, with_elements, private_uses, with_private, with_members, parts_uses, protected_unit_uses, declaring_protected_unit};
 
-use crate::hide::{hide, hide_all};
-use rv_scope::declare::{Form, declare_all};
-use rv_scope::declared::{Declared, OperationKind};
 use crate::expression::{maybe_range, maybe_value, name};
 use crate::fault::Faults;
+use crate::hide::{hide, hide_all};
 use crate::pragma::{aspects, pragma, procedure_rules, protected_rules};
+use rv_scope::declare::{Form, declare_all};
+use rv_scope::declared::{Declared, OperationKind};
 use rv_scope::scope::Scope;
 use rv_scope::wanted::Wanted;
 use rv_tree::declaration::{
@@ -45,7 +45,7 @@ fn parameter(part: &Parameter, scope: &mut Scope, faults: &mut Faults) -> Result
         ≡ declaring_all Form.Parameter (identifiers_view part.now.names.items) (hiding_all (identifiers_view part.now.names.items) scope.old)) }
     ensures only { OnOk result (OnlyDeclares scope.old scope.new) }
 {
-    hide_all(&part.names, scope, faults)?;
+    hide_all(&part.names, scope)?;
     profile_mark(&part.mark, scope, faults)?;
     declare_all(&part.names, Form::Parameter, scope)
 }
@@ -121,7 +121,7 @@ fn function(
         ≡ declaring_operation OperationKind.Function (identifier_view declared.now) (hiding (identifier_view declared.now) scope.old)) }
 {
     profile(list, Some(mark), scope, faults)?;
-    hide(declared, scope, faults)?;
+    hide(declared, scope)?;
     declare_operation(declared, OperationKind::Function, scope)
 }
 
@@ -139,7 +139,7 @@ fn procedure(
         ≡ declaring_operation OperationKind.Procedure (identifier_view declared.now) (hiding (identifier_view declared.now) scope.old)) }
 {
     profile(list, None, scope, faults)?;
-    hide(declared, scope, faults)?;
+    hide(declared, scope)?;
     aspects(given, scope, faults);
     procedure_rules(list, given, faults);
     declare_operation(declared, OperationKind::Procedure, scope)
@@ -157,7 +157,7 @@ fn entry(
         ≡ declaring_operation OperationKind.Entry (identifier_view declared.now) (hiding (identifier_view declared.now) scope.old)) }
 {
     profile(list, None, scope, faults)?;
-    hide(declared, scope, faults)?;
+    hide(declared, scope)?;
     declare_operation(declared, OperationKind::Entry, scope)
 }
 
@@ -221,7 +221,7 @@ fn component(
         ≡ declaring_all Form.Component (identifiers_view names.now.items) (hiding_all (identifiers_view names.now.items) scope.old)) }
     ensures only { OnOk result (OnlyDeclares scope.old scope.new) }
 {
-    hide_all(names, scope, faults)?;
+    hide_all(names, scope)?;
     name(mark, Wanted::Subtype, scope, faults);
     maybe_range(part, scope, faults);
     maybe_value(start, scope, faults);
@@ -318,7 +318,7 @@ pub(crate) fn protected_unit<'a>(
     ensures faults { OnOk result (faults.new ≡ protected_unit_uses judged scope.old (protected_unit_view unit.now) faults.old) }
     ensures scope { OnOk result (scope.new ≡ declaring_protected_unit (protected_unit_view unit.now) scope.old) }
 {
-    hide(&unit.name, scope, faults)?;
+    hide(&unit.name, scope)?;
     scope.name_protected_unit(unit)?;
     parts(unit, scope, faults)?;
     scope.show_protected_unit(unit)

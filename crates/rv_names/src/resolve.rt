@@ -4,6 +4,8 @@ ghost use Rattle.std.specs.Prelude.{◌≡◌, IfOk, OnOk, map, true};
 ghost use Rattle.rv_tree.specs.DeclarationView.{protected_unit_view};
 ghost use Rattle.rv_tree.specs.UnitView.{unit_view};
 ghost use Rattle.rv_scope.specs.Bound.{judged, AreBound, AllBound, uses};
+ghost use Rattle.rv_distinct.specs.Regions.{names_are_distinct};
+ghost use Rattle.rv_distinct.specs.BodyNames.{has_one_body_each};
 ghost use Rattle.rv_names.specs.Completed.{unit_is_completed};
 ghost use Rattle.rv_names.specs.EndNames.{unit_ends};
 ghost use Rattle.rv_names.specs.Jumps.{unit_is_placed};
@@ -17,11 +19,11 @@ use crate::fault::{Faults, NameFault, earlier};
 use crate::jumps::jump_fault;
 use crate::missing::Around;
 use crate::operation_body::body_name;
-use crate::rules::package_bodies;
-use rv_scope::scope::Scope;
+use crate::twice::duplicate;
 use crate::unit::body_items;
-use rv_scope::wanted::Wanted;
 use rv_scope::named::{Named, protected_units};
+use rv_scope::scope::Scope;
+use rv_scope::wanted::Wanted;
 use rv_shape::catalogue::Catalogue;
 use rv_tree::declaration::ProtectedUnit;
 use rv_tree::unit::UnitTree;
@@ -43,8 +45,7 @@ fn walk<'a>(
     context_names(&tree.context, &mut scope, faults)?;
     declarations(&tree.specification.declarations, &mut scope, faults)?;
     body_name(&tree.body.name, Wanted::PackageBody, &scope, faults);
-    body_items(&tree.body.items, units, &mut scope, faults)?;
-    package_bodies(alloc, tree, faults)
+    body_items(&tree.body.items, units, &mut scope, faults)
 }
 
 // The fault at the least place of those of bindings, or none where each name is bound.
@@ -77,11 +78,14 @@ fn first_fault(
     ensures bodies { IfOk result (λ fault. fault ≡ None → unit_is_completed (unit_view tree.now) ≡ true) }
     ensures ends { IfOk result (λ fault. fault ≡ None → unit_ends (unit_view tree.now) ≡ true) }
     ensures jumps { IfOk result (λ fault. fault ≡ None → unit_is_placed (unit_view tree.now) ≡ true) }
+    ensures distinct { IfOk result (λ fault. fault ≡ None → names_are_distinct (unit_view tree.now) ≡ true) }
+    ensures one_body { IfOk result (λ fault. fault ≡ None → has_one_body_each (unit_view tree.now) ≡ true) }
 {
     let unbound = least_fault(alloc, tree, catalogue)?;
     let bodiless = missing_body(alloc, tree)?;
+    let twice = duplicate(alloc, tree)?;
     let misplaced = earlier(end_name_fault(tree), jump_fault(tree));
-    Ok(earlier(unbound, earlier(bodiless, misplaced)))
+    Ok(earlier(earlier(unbound, bodiless), earlier(twice, misplaced)))
 }
 
 /// Binds each name of a text to the one declaration that is visible, over the loaded units.
@@ -99,6 +103,8 @@ pub fn resolve<'a>(
     ensures bodies { IfOk result (λ named. unit_is_completed (unit_view tree.now) ≡ true) }
     ensures ends { IfOk result (λ named. unit_ends (unit_view tree.now) ≡ true) }
     ensures jumps { IfOk result (λ named. unit_is_placed (unit_view tree.now) ≡ true) }
+    ensures distinct { IfOk result (λ named. names_are_distinct (unit_view tree.now) ≡ true) }
+    ensures one_body { IfOk result (λ named. has_one_body_each (unit_view tree.now) ≡ true) }
 {
     match first_fault(alloc, tree, catalogue)? {
         None => Ok(Named::new(tree, catalogue)),

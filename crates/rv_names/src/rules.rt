@@ -1,10 +1,9 @@
-//! No declaration has two bodies, and a body is that of its declaration (6.3, 7.2, 9.1, 9.4).
+//! The body of an operation has the profile of its declaration (6.3.1, 9.4).
 
 ghost use Rattle.std.specs.Prelude.{◌≡◌, OnOk};
 
 use crate::fault::{Faults, NameFault};
 use crate::marks::Marks;
-use rv_scope::region::Region;
 use rv_scope::scope::Scope;
 use rv_text::is_same_name;
 use rv_tree::body::{OperationBody, ProtectedBody};
@@ -12,43 +11,7 @@ use rv_tree::declaration::{
     Mode, OperationDeclaration, Parameter, ProtectedElement, ProtectedUnit,
 };
 use rv_tree::name::{Identifier, Name};
-use rv_tree::unit::{BodyItem, UnitTree};
 use std::alloc::{AllocError, Global};
-
-// A body of this name, beside those before it.
-fn note(
-    alloc: Global,
-    body: &Identifier,
-    bodies: &mut Region,
-    faults: &mut Faults,
-) -> Result<(), AllocError>
-    ensures { OnOk result (faults.new ≡ faults.old) }
-{
-    let name = body.text.as_str();
-    if bodies.find(name).is_some() {
-        faults.tell(NameFault::Duplicate(body.at));
-    }
-    bodies.declare(alloc, name, None)
-}
-
-/// No protected unit and no task of the package has two bodies.
-pub(crate) fn package_bodies(
-    alloc: Global,
-    tree: &UnitTree,
-    faults: &mut Faults,
-) -> Result<(), AllocError>
-    ensures { OnOk result (faults.new ≡ faults.old) }
-{
-    let mut bodies = Region::new(alloc);
-    for item in &tree.body.items {
-        match item {
-            BodyItem::Declaration(_) => {}
-            BodyItem::Protected(body) => note(alloc, &body.name, &mut bodies, faults)?,
-            BodyItem::Task(body) => note(alloc, &body.name, &mut bodies, faults)?,
-        }
-    }
-    Ok(())
-}
 
 /// The name of a body.
 pub(crate) fn body_name(body: &OperationBody) -> &Identifier {
@@ -76,7 +39,7 @@ pub(crate) fn body_name(body: &OperationBody) -> &Identifier {
     }
 }
 
-/// No operation of a protected unit has two bodies, and each body has the parameters and the result of its declaration.
+/// Each body of a protected unit's operations has the parameters and the result of its declaration.
 pub(crate) fn unit_bodies(
     unit: &ProtectedUnit,
     body: &ProtectedBody,
@@ -86,9 +49,7 @@ pub(crate) fn unit_bodies(
     ensures { OnOk result (faults.new ≡ faults.old) }
 {
     let alloc = scope.allocator();
-    let mut bodies = Region::new(alloc);
     for one in &body.operations {
-        note(alloc, body_name(one), &mut bodies, faults)?;
         conforms(alloc, unit, one, faults)?;
     }
     Ok(())

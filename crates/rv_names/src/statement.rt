@@ -10,12 +10,12 @@ ghost use Rattle.rv_scope.specs.Bound.{judged};
 ghost use Rattle.rv_scope.specs.ExpressionUses.{◌▷◌, simple as simple_name, value_uses, maybe_uses};
 ghost use Rattle.rv_scope.specs.StatementUses.{choice_uses, choices_uses, bounds_uses, statement_uses, iteration_uses, in_loop, statements_uses, elsif_parts_uses, alternatives_uses};
 
-use crate::hide::hide;
-use rv_scope::declared::Declared;
 use crate::expression::{
     expression, expressions, maybe_name, maybe_value, name, range, refuse, two_values, value,
 };
 use crate::fault::{Faults, NameFault};
+use crate::hide::hide;
+use rv_scope::declared::Declared;
 use rv_scope::scope::Scope;
 use rv_scope::wanted::Wanted;
 use rv_tree::name::{Identifier, Name};
@@ -171,7 +171,7 @@ fn turns(
             bounds: over,
         } => {
             scope.enter()?;
-            hide(parameter, scope, faults)?;
+            hide(parameter, scope)?;
             bounds(over, scope, faults);
             scope.declare(parameter, Some(Declared::LoopParameter(parameter.at)))?;
             statements(body, scope, faults)?;

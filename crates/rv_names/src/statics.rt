@@ -5,10 +5,10 @@
 ghost use Rattle.std.specs.Prelude.{◌≡◌, [], OnOk};
 ghost use Rattle.rv_scope.specs.Statics.{with_meaning, or_not_static as this_or_not_static, meaning_of, means as means_at};
 
+use indexmap::IndexMap;
 use rv_scope::declared::Declared;
 use rv_scope::library_meaning::{predefined_meaning, whole_range};
 use rv_scope::scope::Scope;
-use indexmap::IndexMap;
 use rv_shape::kind::{Range, ValueType};
 use rv_static::{Faults, Meaning, Meanings, narrowed, subtype, value_in};
 use rv_tree::expression::{Expression, RangeConstraint};

@@ -2,7 +2,7 @@
 //! of its unit.
 //!
 //! [`outline::outline_of`] walks through the declarations of a text whose names are bound. It keeps what is known of each in a
-//! [`known::Table`], by the place of its identifier, as `rv_names` tells declarations apart. [`point::Point`] gives static
+//! [`known::Table`], by the place of its identifier, as `rv_scope` tells declarations apart. [`point::Point`] gives static
 //! expressions what names mean at a point of the text: the scope says which declaration is visible, the table what is known
 //! of it. A declaration that doesn't fit is told and left out, and the walk goes on behind it.
 #![tactic(auto)]

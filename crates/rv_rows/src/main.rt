@@ -7,13 +7,20 @@
 //! `NAME.file`.
 //! `NAME.fault` is the fault that has to be told, where there is one, and `NAME.explained` what has to be said below it.
 //!
+//! Where there is a `NAME.cuts`, the script is also checked cut at every byte: the file has a line `FIRST..LAST -> WORDS`, or
+//! `BYTES -> WORDS`, for as many bytes kept of it, from none to all, which lead to the same words (`bench/model/cuts.py
+//! --write` writes it, by a judge of its own). The words are the lines that are said, joined by `; `, and a fault at the end
+//! of the last section's text is `at end`.
+//!
 //! With two numbers on its command line, which of how many shares, it cuts and damages each script instead, at the places of
 //! that share, and says how many runs came to which end (`bench/cut_texts.sh`).
 #![tactic(auto)]
 
 mod cut;
+mod fronts;
 
 use cut::{Ends, Share};
+use fronts::fronts_of;
 use rv_check::check::check;
 use rv_exec::machine::STACK_BYTES;
 use rv_explain::explain;
@@ -175,6 +182,24 @@ fn told(rt: &HostRuntime, name: &str) -> io::Result<String> {
     Ok(format!(in alloc; "{name}: differs at line {line}")?)
 }
 
+/// Whether what is said of the fronts of a script is what has to be said, in words.
+fn fronts_told(rt: &HostRuntime, name: &str, due: &[u8]) -> io::Result<String> {
+    let alloc = rt.alloc();
+    let script = bytes_of(rt, name, "raven")?.unwrap_or(Vec::new(alloc));
+    let fronts = fronts_of(alloc, script.as_slice())?;
+    if fronts.lines.as_bytes() == due {
+        let count = fronts.count;
+        return Ok(format!(in alloc; "{name}: {count} cuts ok")?);
+    }
+    let line = first_difference(fronts.lines.as_bytes(), due);
+    let found = fronts
+        .lines
+        .lines()
+        .nth(line.saturating_sub(1))
+        .unwrap_or("nothing");
+    Ok(format!(in alloc; "{name}: cuts differ at line {line}: {found}")?)
+}
+
 /// The names of the scripts, in the order of their bytes.
 fn names_of(rt: &HostRuntime) -> io::Result<Vec<String>> {
     let alloc = rt.alloc();
@@ -214,6 +239,10 @@ fn tell_all(rt: &HostRuntime) -> io::Result<()> {
     for name in names_of(rt)? {
         let line = told(rt, name.as_str())?;
         println!(rt; "{line}")?;
+        if let Some(due) = bytes_of(rt, name.as_str(), "cuts")? {
+            let line = fronts_told(rt, name.as_str(), due.as_slice())?;
+            println!(rt; "{line}")?;
+        }
     }
     Ok(())
 }

@@ -17,12 +17,12 @@ use crate::names::{
 };
 use crate::refused::Refused;
 use crate::setting::Setting;
-use rv_scope::declare::{Form, declare_all};
-use rv_scope::{Declared, Predefined, Scope};
 use rv_outline::known::Known;
 use rv_outline::outline::Outline;
 use rv_outline::point::meaning;
 use rv_outline::scopes::hide_all;
+use rv_scope::declare::{Form, declare_all};
+use rv_scope::{Declared, Predefined, Scope};
 use rv_shape::catalogue::Catalogue;
 use rv_shape::kind::{Parameter, Range, ValueType};
 use rv_static::{Meaning, Meanings, TypeFault};

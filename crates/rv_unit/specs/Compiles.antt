@@ -10,6 +10,8 @@ use Rattle.rv_parse.specs.declared.fault.ParseFault.{ParseFault}
 use Rattle.rv_parse.specs.declared.fault.ParseFault.TheVariants as Parses
 use Rattle.rv_restrict.specs.Conforms.{Conforms, IsFirst, violations}
 use Rattle.rv_scope.specs.Bound.{AllBound, uses}
+use Rattle.rv_distinct.specs.Regions.{names_are_distinct}
+use Rattle.rv_distinct.specs.BodyNames.{has_one_body_each}
 use Rattle.rv_names.specs.Completed.{unit_is_completed}
 use Rattle.rv_names.specs.EndNames.{unit_ends}
 use Rattle.rv_names.specs.Jumps.{unit_is_placed}
@@ -32,6 +34,10 @@ pub record IsBound (shapes : List Shape) (tree : UnitTree) : Type 0 where
   pub ends : unit_ends tree ≡ true
   -- each `exit` stands in a loop, and each `raise` without a name in a handler (5.7, 11.3)
   pub placed : unit_is_placed tree ≡ true
+  -- no region declares a name twice (8.3)
+  pub distinct : names_are_distinct tree ≡ true
+  -- no protected unit, no task and no operation has two bodies (3.11.1)
+  pub one_body : has_one_body_each tree ≡ true
 
 -- and its declarations give this shape
 pub record HasShape (shapes : List Shape) (tree : UnitTree) (shape : Shape) : Type 0 where

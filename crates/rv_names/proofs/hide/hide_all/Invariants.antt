@@ -6,6 +6,5 @@ use Rattle.rv_names.proofs.hide.hide_all.Given as goal
 abbrev pub invariant-loop-identifier : goal.invariant-loop-identifier
 invariant-loop-identifier l = record {
   scope : hiding_all (identifiers_view (drop l.identifier-index l.identifier-items)) l.scope ≡ hiding_all (identifiers_view l.identifier-items) l.initial.scope;
-  faults : l.faults ≡ l.initial.faults;
   only : OnlyDeclares l.initial.scope l.scope;
 }

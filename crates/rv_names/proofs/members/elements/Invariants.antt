@@ -6,7 +6,6 @@ use Rattle.rv_names.proofs.members.elements.Given as goal
 
 abbrev pub invariant-loop-one : goal.invariant-loop-one
 invariant-loop-one l = record {
-  faults : l.faults ≡ l.initial.faults;
   scope : with_elements (map element_view (drop l.one-index l.one-items)) l.scope ≡ with_elements (map element_view l.one-items) l.initial.scope;
   only : OnlyDeclares l.initial.scope l.scope;
 }

@@ -1,0 +1,10 @@
+use Rattle.std.proofs.Common.{◌≡◌, ◌++◌, drop, map}
+use Rattle.std.specs.List.{flat_map}
+use Rattle.rv_tree.specs.UnitView.{body_item_view}
+use Rattle.rv_distinct.specs.BodyNames.{item_bodies}
+use Rattle.rv_distinct.proofs.bodies.package_bodies.Given as goal
+
+abbrev pub invariant-loop-item : goal.invariant-loop-item
+invariant-loop-item l =
+    l.region ++ flat_map item_bodies (map body_item_view (drop l.item-index l.item-items))
+    ≡ l.initial.region ++ flat_map item_bodies (map body_item_view l.item-items)
