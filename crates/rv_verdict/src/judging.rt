@@ -112,7 +112,15 @@ fn audit_file_text<J: Read, W: Write, H: Watch>(
     ensures { AuditsText false (SaysOfFile (J.remaining journal.old) takes_torn) (W.contents writer.old) (W.contents writer.new) text.now result }
 {
     let (capacity, given) = script_of(alloc, text, false)?;
-    audit_reader(alloc, journal, takes_torn, watch, writer, capacity, given.units())
+    audit_reader(
+        alloc,
+        journal,
+        takes_torn,
+        watch,
+        writer,
+        capacity,
+        given.units(),
+    )
 }
 
 // Judges what a reader gives over the script that bytes are, if they are text.
