@@ -1,5 +1,5 @@
 -- What a script brings, from what its parts give.
-use Rattle.std.proofs.Common.{◌≡◌, ◌≤◌, ◌^◌, ℕ, List, Ok, Err, Result, Some, None, Option, refl, sym, subst, ap, arith, inl, inr}
+use Rattle.std.proofs.Common.{◌≡◌, ℕ, List, Ok, Err, Result, Some, None, Option, refl, sym, subst, ap, arith, inl, inr}
 use Rattle.std.specs.Prelude.{Bool}
 use Rattle.rv_text.specs.Sections.{SectionText}
 use Rattle.rv_script.specs.Openings.{OpenedText, opened}
@@ -7,11 +7,10 @@ use Rattle.rv_settings.specs.Settings.{SettingsText}
 use Rattle.rv_fault.specs.Sections.{GivesSettings, Reads, line_of}
 use Rattle.rv_fault.specs.declared.fault.What.{What}
 use Rattle.rv_fault.specs.declared.fault.What.TheVariants.{BadSection}
-use Rattle.rv_fault.specs.declared.fault.ScriptFault.{ScriptFault}
 use Rattle.rv_fault.specs.declared.failure.Failure.{Failure}
 use Rattle.rv_fault.specs.declared.failure.Failure.TheVariants.{Refused, Memory, Io}
 use Rattle.rv_verdict.specs.Given.{GivenText, Gathers, GivesAll, nothing, with_devices}
-use Rattle.rv_verdict.specs.Brought.{Brings, BringsOpened, GivesScript, IsCapacity, brings_by, brought}
+use Rattle.rv_verdict.specs.Brought.{GivesScript, IsCapacity, brings_by}
 
 -- a call that fails, at what a script brings
 abbrev Failed : Bool → List ℕ → Failure → Type 0

@@ -1,8 +1,8 @@
 -- What is said of a script, from what is said of what it brings.
-use Rattle.std.proofs.Common.{◌≡◌, ℕ, ◌<◌, ◌≤◌, ◌+◌, List, [], Some, None, Option, Ok, Err, Result, length, take, refl, sym, ap, ◌∙◌, subst, arith, min, length-take, inl, inr}
+use Rattle.std.proofs.Common.{◌≡◌, ℕ, ◌<◌, ◌≤◌, List, Some, None, Option, Ok, Err, Result, length, take, refl, sym, ap, ◌∙◌, subst, arith, min, length-take, inl, inr}
 use Rattle.std.specs.Prelude.{Bool, IfSome}
 use Rattle.std.proofs.lemmas.List.{take_all}
-use Rattle.rv_script.specs.Whole.{IsScript, IsRefused, most_bytes}
+use Rattle.rv_script.specs.Whole.{IsScript, IsRefused}
 use Rattle.rv_script.specs.declared.read.ReadError.{ReadError}
 use Rattle.rv_script.specs.declared.read.ReadError.TheVariants as Reads
 use Rattle.rv_script.specs.declared.read.TextError.{TextError}
@@ -14,7 +14,7 @@ use Rattle.rv_fault.specs.declared.fault.ScriptFault.{ScriptFault}
 use Rattle.rv_fault.specs.Faults.{of_bytes, of_read}
 use Rattle.rv_verdict.specs.Given.{GivenText}
 use Rattle.rv_verdict.specs.Brought.{Brings, Brought, GivesScript}
-use Rattle.rv_verdict.specs.Audits.{AuditsScript, AuditsText, Fails, RefusesBytes, Saying}
+use Rattle.rv_verdict.specs.Audits.{AuditsScript, AuditsText, Saying}
 
 -- The text of a script
 
