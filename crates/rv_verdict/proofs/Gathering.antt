@@ -1,6 +1,6 @@
 -- What sections give, one after another.
-use Rattle.std.proofs.Common.{◌≡◌, ℕ, List, [], ◌∷◌, ◌++◌, Some, None, Option, Ok, Err, Result, true, false, refl, sym, ap, ◌∙◌, subst, inl, inr}
-use Rattle.std.specs.Prelude.{Bool}
+use Rattle.std.proofs.Common.{◌≡◌, ℕ, List, [], ◌∷◌, ◌++◌, Some, None, Option, Ok, Err, Result, true, false, refl, sym, ap, subst, inl, inr}
+use Rattle.std.specs.Prelude.{Bool, OnOk}
 use Rattle.rv_text.specs.Sections.{SectionText}
 use Rattle.rv_shape.specs.Shape.{Shape}
 use Rattle.rv_shape.specs.Fits.{fault}
@@ -11,7 +11,6 @@ use Rattle.rv_script.specs.Openings.{opening_of}
 use Rattle.rv_script.specs.UnitTexts.{without_returns}
 use Rattle.rv_script.specs.declared.opening.Opening.{Opening}
 use Rattle.rv_script.specs.declared.opening.Opening.TheVariants as Openings
-use Rattle.rv_fault.specs.declared.fault.What.{What}
 use Rattle.rv_fault.specs.declared.fault.ScriptFault.{ScriptFault}
 use Rattle.rv_fault.specs.declared.failure.Failure.{Failure}
 use Rattle.rv_fault.specs.declared.failure.Failure.TheVariants.{Refused, Memory, Io}
@@ -29,6 +28,11 @@ misfits fitting after shape told other memory e = by_fault (fault fitting shape)
     by_fault : (o : Option ShapeFault) → fault fitting shape ≡ o → after ≡ fits_then o fitting shape
     by_fault None none = absurd (other (memory none))
     by_fault (Some found) some = e
+
+pub misfit_on : (fitting after : List Shape) (shape : Shape) (told : ShapeFault) (r : Result (Unit {0}) Failure) → OnOk r (told ≡ NoMemory → ⊥) → (fault fitting shape ≡ None → told ≡ NoMemory) → after ≡ fitting →
+    OnOk r (after ≡ fits_then (fault fitting shape) fitting shape)
+misfit_on fitting after shape told (Ok x) other memory e = misfits fitting after shape told other memory e
+misfit_on fitting after shape told (Err failure) other memory e = tt
 
 -- Sections
 

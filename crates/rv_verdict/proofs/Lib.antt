@@ -1,2 +1,8 @@
-mod Gathering
-mod Saying
+pub mod Bringing
+pub mod Feeding
+pub mod Gathering
+pub mod Lines
+pub mod Longest
+pub mod Saying
+pub mod Telling
+pub mod Wholly

@@ -1,3 +1,6 @@
+pub mod Audits
+pub mod Brought
 pub mod Cutting
 pub mod Given
+pub mod Judging
 pub mod Said

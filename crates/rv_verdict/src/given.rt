@@ -1,6 +1,6 @@
 //! What a journal is judged over: the units that the sections of a script give, in order, those of its devices last.
 
-ghost use Rattle.std.specs.Prelude.{◌≡◌, OnOk, IfErr};
+ghost use Rattle.std.specs.Prelude.{◌≡◌, ◌≢◌, OnOk, IfErr};
 ghost use Rattle.rv_script.specs.Openings.{opening_of};
 ghost use Rattle.rv_shape.specs.Fits.{fault};
 ghost use Rattle.rv_fault.specs.Sections.{Reads};
@@ -63,6 +63,17 @@ fn is_journal(opening: &str, has_journal: bool) -> bool
     }
 }
 
+// A unit that doesn't fit, unless it was memory that was refused.
+fn misfit(told: ShapeFault) -> Result<(), Failure>
+    ensures ok { OnOk result (told ≢ ShapeFault.NoMemory) }
+    ensures err { IfErr result (λ failure. failure ≡ Failure.Memory) }
+{
+    match told {
+        ShapeFault::NoMemory => Err(Failure::Memory),
+        _ => Ok(()),
+    }
+}
+
 // Puts a unit behind those that fit, where it does too.
 fn fit(fitting: &mut Catalogue, shape: &UnitShape) -> Result<(), Failure>
     ensures ok { OnOk result (fitting.new ≡ fits_then (fault fitting.old shape.now) fitting.old shape.now) }
@@ -70,8 +81,7 @@ fn fit(fitting: &mut Catalogue, shape: &UnitShape) -> Result<(), Failure>
 {
     match fitting.add(shape) {
         Ok(()) => Ok(()),
-        Err(ShapeFault::NoMemory) => Err(Failure::Memory),
-        Err(_) => Ok(()),
+        Err(told) => misfit(told),
     }
 }
 

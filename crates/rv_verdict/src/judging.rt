@@ -1,22 +1,20 @@
 //! Audits over any readers and any writer.
 
-use crate::cutter::{Cutter, Next};
-use crate::given::{Given, given_by};
+ghost use Rattle.std.specs.Prelude.{◌≡◌, ◌≤◌, IfSome, length, true, false};
+ghost use Rattle.rv_script.specs.UnitTexts.{without_returns};
+ghost use Rattle.rv_script.specs.Whole.{most_bytes};
+ghost use Rattle.rv_verdict.specs.Audits.{AuditsScript, AuditsText, SaysOf, SaysOfBytes, SaysOfFile, SaysOfSection};
+ghost use Rattle.rv_verdict.specs.Brought.{IsCapacity};
+
+use crate::file::{Watch, judge_file};
 use crate::said::say;
-use rv_audit::audit::Audit;
-use rv_audit::verdict::{Judged, Verdict};
-use rv_fault::{Failure, What, refused, settings_of};
+use crate::script::{audit_over, script_of};
+use rv_fault::{Failure, What, refused};
 use rv_script::unit_text::unit_text;
-use rv_script::{open, read_script, text_of};
+use rv_script::{read_script, text_of};
 use rv_shape::shape::UnitShape;
 use std::alloc::Global;
 use std::io::{Read, Write};
-
-/// Is told how far the audit of a file has come.
-pub trait Watch {
-    /// So many entries were found right.
-    fn passed(&mut self, entries: usize);
-}
 
 /// What came of the audit of a file.
 #[derive(Clone, Copy, Debug, PartialEq, Eq, Drop)]
@@ -27,23 +25,39 @@ pub struct Audited {
     pub torn: usize,
 }
 
-// What a script says of the journal: the capacity, and what its sections give.
-fn script_of(alloc: Global, text: &str, has_journal: bool) -> Result<(usize, Given<'_>), Failure> {
-    let script = match open(text) {
-        Ok(script) => script,
-        Err(line) => return Err(refused(line, What::BadSection)),
-    };
-    let settings = settings_of(alloc, &script.settings)?;
-    let mut given = given_by(alloc, script.sections, has_journal)?;
-    given.add_devices(alloc, settings.devices())?;
-    Ok((settings.capacity(), given))
+// Judges a journal, and says what was found.
+fn audit_journal<W: Write>(
+    alloc: Global,
+    writer: &mut W,
+    capacity: usize,
+    units: &[UnitShape],
+    journal: &str,
+) -> Result<bool, Failure>
+    requires { IsCapacity capacity }
+    ensures { SaysOf (W.contents writer.old) (W.contents writer.new) capacity units.now (without_returns journal.now) result }
+{
+    let journal = unit_text(alloc, journal)?;
+    let mut audit = audit_over(alloc, capacity)?;
+    let verdict = audit.judge_all(units, journal.as_str());
+    say(alloc, writer, audit.catalogue(), &verdict)
 }
 
-// An audit before its first line.
-fn audit_over(alloc: Global, capacity: usize) -> Result<Audit, Failure> {
-    match Audit::new(alloc, capacity) {
-        Ok(audit) => Ok(audit),
-        Err(_) => Err(Failure::Memory),
+// Judges the journal that the text of a script brings.
+fn audit_text<W: Write>(alloc: Global, writer: &mut W, text: &str) -> Result<bool, Failure>
+    requires { length text.now ≤ most_bytes }
+    ensures { AuditsText true SaysOfSection (W.contents writer.old) (W.contents writer.new) text.now result }
+{
+    let (capacity, given) = script_of(alloc, text, true)?;
+    audit_journal(alloc, writer, capacity, given.units(), given.journal())
+}
+
+// Judges the journal of the script that bytes are, if they are text.
+fn audit_bytes<W: Write>(alloc: Global, writer: &mut W, bytes: &[u8]) -> Result<bool, Failure>
+    ensures { AuditsScript true SaysOfSection (W.contents writer.old) (W.contents writer.new) bytes.now result }
+{
+    match text_of(bytes) {
+        Ok(text) => audit_text(alloc, writer, text),
+        Err(error) => Err(refused(1, What::of_bytes(error))),
     }
 }
 
@@ -56,45 +70,74 @@ pub fn audit<R: Read, W: Write>(
     alloc: Global,
     reader: &mut R,
     writer: &mut W,
-) -> Result<bool, Failure> {
-    let bytes = read_script(alloc, reader)?;
-    let text = match text_of(bytes.as_slice()) {
-        Ok(text) => text,
-        Err(error) => return Err(refused(1, What::of_bytes(error))),
-    };
-    let (capacity, given) = script_of(alloc, text, true)?;
-    let journal = unit_text(alloc, given.journal())?;
-    let mut audit = audit_over(alloc, capacity)?;
-    let verdict = audit.judge_all(given.units(), journal.as_str());
-    say(alloc, writer, audit.catalogue(), verdict)
+) -> Result<bool, Failure>
+    ensures { IfSome (R.remaining reader.old) (λ script.
+        AuditsScript true SaysOfSection (W.contents writer.old) (W.contents writer.new) script result) }
+{
+    match read_script(alloc, reader) {
+        Ok(bytes) => audit_bytes(alloc, writer, bytes.as_slice()),
+        Err(error) => Err(Failure::from(error)),
+    }
 }
 
-// What is found of the lines that a reader gives, and how many bytes of a last line were taken as cut off.
-fn judge_file<J: Read, H: Watch>(
+// Judges what a reader gives, and says what was found.
+fn audit_reader<J: Read, W: Write, H: Watch>(
     alloc: Global,
-    audit: &mut Audit,
-    units: &[UnitShape],
     journal: &mut J,
     takes_torn: bool,
     watch: &mut H,
-) -> Result<(Verdict, usize), Failure> {
-    let mut cutter = Cutter::new(alloc)?;
-    for _ in 0..u64::MAX {
-        let number = audit.entries().saturating_add(1);
-        match cutter.next(journal)? {
-            Next::End => break,
-            Next::Torn(bytes) if takes_torn => return Ok((Verdict::Legal(audit.entries()), bytes)),
-            Next::Torn(_) | Next::TooLong => return Ok((Verdict::Unreadable(number), 0)),
-            Next::Line => {}
-        }
-        match audit.judge(units, cutter.line()) {
-            Judged::Right => watch.passed(number),
-            Judged::Wrong(due) => return Ok((Verdict::Wrong(number, due), 0)),
-            Judged::Unreadable => return Ok((Verdict::Unreadable(number), 0)),
-            Judged::NoMemory => return Err(Failure::Memory),
-        }
+    writer: &mut W,
+    capacity: usize,
+    units: &[UnitShape],
+) -> Result<Audited, Failure>
+    requires { IsCapacity capacity }
+    ensures { SaysOfBytes (J.remaining journal.old) takes_torn (W.contents writer.old) (W.contents writer.new) capacity units.now result }
+{
+    let mut audit = audit_over(alloc, capacity)?;
+    let (verdict, torn) = judge_file(alloc, &mut audit, units, journal, takes_torn, watch)?;
+    let is_legal = say(alloc, writer, audit.catalogue(), &verdict)?;
+    Ok(Audited { is_legal, torn })
+}
+
+// Judges what a reader gives over what the text of a script brings.
+fn audit_file_text<J: Read, W: Write, H: Watch>(
+    alloc: Global,
+    journal: &mut J,
+    takes_torn: bool,
+    watch: &mut H,
+    writer: &mut W,
+    text: &str,
+) -> Result<Audited, Failure>
+    requires { length text.now ≤ most_bytes }
+    ensures { AuditsText false (SaysOfFile (J.remaining journal.old) takes_torn) (W.contents writer.old) (W.contents writer.new) text.now result }
+{
+    let (capacity, given) = script_of(alloc, text, false)?;
+    audit_reader(
+        alloc,
+        journal,
+        takes_torn,
+        watch,
+        writer,
+        capacity,
+        given.units(),
+    )
+}
+
+// Judges what a reader gives over the script that bytes are, if they are text.
+fn audit_file_bytes<J: Read, W: Write, H: Watch>(
+    alloc: Global,
+    journal: &mut J,
+    takes_torn: bool,
+    watch: &mut H,
+    writer: &mut W,
+    bytes: &[u8],
+) -> Result<Audited, Failure>
+    ensures { AuditsScript false (SaysOfFile (J.remaining journal.old) takes_torn) (W.contents writer.old) (W.contents writer.new) bytes.now result }
+{
+    match text_of(bytes) {
+        Ok(text) => audit_file_text(alloc, journal, takes_torn, watch, writer, text),
+        Err(error) => Err(refused(1, What::of_bytes(error))),
     }
-    Ok((Verdict::Legal(audit.entries()), 0))
 }
 
 /// Judges the journal that a reader of its own gives, a line at a time and byte for byte, over the sections of a script,
@@ -110,16 +153,12 @@ pub fn audit_file<R: Read, J: Read, W: Write, H: Watch>(
     takes_torn: bool,
     watch: &mut H,
     writer: &mut W,
-) -> Result<Audited, Failure> {
-    let bytes = read_script(alloc, reader)?;
-    let text = match text_of(bytes.as_slice()) {
-        Ok(text) => text,
-        Err(error) => return Err(refused(1, What::of_bytes(error))),
-    };
-    let (capacity, given) = script_of(alloc, text, false)?;
-    let mut audit = audit_over(alloc, capacity)?;
-    let units = given.units();
-    let (verdict, torn) = judge_file(alloc, &mut audit, units, journal, takes_torn, watch)?;
-    let is_legal = say(alloc, writer, audit.catalogue(), verdict)?;
-    Ok(Audited { is_legal, torn })
+) -> Result<Audited, Failure>
+    ensures { IfSome (R.remaining reader.old) (λ script.
+        AuditsScript false (SaysOfFile (J.remaining journal.old) takes_torn) (W.contents writer.old) (W.contents writer.new) script result) }
+{
+    match read_script(alloc, reader) {
+        Ok(bytes) => audit_file_bytes(alloc, journal, takes_torn, watch, writer, bytes.as_slice()),
+        Err(error) => Err(Failure::from(error)),
+    }
 }

@@ -3,8 +3,11 @@
 #![tactic(auto)]
 
 mod cutter;
+mod file;
 mod given;
 mod judging;
 mod said;
+mod script;
 
-pub use judging::{Audited, Watch, audit, audit_file};
+pub use file::Watch;
+pub use judging::{Audited, audit, audit_file};

@@ -1,8 +1,8 @@
 //! The line of a verdict.
 
-ghost use Rattle.std.specs.Prelude.{◌≡◌, ℕ, List, [], IfOk, string_bytes};
+ghost use Rattle.std.specs.Prelude.{◌≡◌, [], IfErr, IfOk, string_bytes};
 ghost use Rattle.rv_audit.specs.declared.verdict.Verdict.TheVariants as Verdicts;
-ghost use Rattle.rv_verdict.specs.Said.{Says, SaysLine, verdict_line};
+ghost use Rattle.rv_verdict.specs.Said.{Says, Tells, verdict_line};
 
 use rv_audit::verdict::Verdict;
 use rv_event::entry::Answer;
@@ -39,18 +39,21 @@ fn unreadable_line(alloc: Global, line: usize) -> Result<String, AllocError>
     format!(in alloc; "line {line}: unreadable\n")
 }
 
-// Says a line, and gives back whether the journal is legal.
-fn say_line<W: Write>(
-    writer: &mut W,
-    line: Result<String, AllocError>,
-    is_legal: bool,
-) -> Result<bool, Failure>
-    ensures { (text : List ℕ) → IfOk line (λ l. string_bytes l ≡ text)
-        → SaysLine (W.contents writer.old) (W.contents writer.new) text is_legal result }
+// The line of a verdict, and whether it is that of a legal history.
+fn line_of(
+    alloc: Global,
+    catalogue: &Catalogue,
+    verdict: &Verdict,
+) -> Result<(String, bool), Failure>
+    ensures ok { IfOk result (λ told. (string_bytes told.0 ≡ verdict_line catalogue.now verdict.now) × Tells verdict.now told.1) }
+    ensures err { IfErr result (λ failure. failure ≡ Failure.Memory) }
 {
-    let line = line?;
-    put(writer, line.as_str())?;
-    Ok(is_legal)
+    match verdict {
+        Verdict::Legal(entries) => Ok((legal_line(alloc, *entries)?, true)),
+        Verdict::Wrong(entry, due) => Ok((wrong_line(alloc, catalogue, *entry, due)?, false)),
+        Verdict::Unreadable(line) => Ok((unreadable_line(alloc, *line)?, false)),
+        Verdict::NoMemory => Err(Failure::Memory),
+    }
 }
 
 /// Says what was found of a journal, by the names of what it loaded, and gives whether it is that of a legal history.
@@ -58,16 +61,11 @@ pub fn say<W: Write>(
     alloc: Global,
     writer: &mut W,
     catalogue: &Catalogue,
-    verdict: Verdict,
+    verdict: &Verdict,
 ) -> Result<bool, Failure>
-    ensures { Says (W.contents writer.old) (W.contents writer.new) catalogue.now verdict result }
+    ensures { Says (W.contents writer.old) (W.contents writer.new) catalogue.now verdict.now result }
 {
-    match verdict {
-        Verdict::Legal(entries) => say_line(writer, legal_line(alloc, entries), true),
-        Verdict::Wrong(entry, due) => {
-            say_line(writer, wrong_line(alloc, catalogue, entry, &due), false)
-        }
-        Verdict::Unreadable(line) => say_line(writer, unreadable_line(alloc, line), false),
-        Verdict::NoMemory => Err(Failure::Memory),
-    }
+    let (line, is_legal) = line_of(alloc, catalogue, verdict)?;
+    put(writer, line.as_str())?;
+    Ok(is_legal)
 }

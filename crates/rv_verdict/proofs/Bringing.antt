@@ -1,0 +1,58 @@
+-- What a script brings, from what its parts give.
+use Rattle.std.proofs.Common.{◌≡◌, ℕ, List, Ok, Err, Result, Some, None, Option, refl, sym, subst, ap, arith, inl, inr}
+use Rattle.std.specs.Prelude.{Bool}
+use Rattle.rv_text.specs.Sections.{SectionText}
+use Rattle.rv_script.specs.Openings.{OpenedText, opened}
+use Rattle.rv_settings.specs.Settings.{SettingsText}
+use Rattle.rv_fault.specs.Sections.{GivesSettings, Reads, line_of}
+use Rattle.rv_fault.specs.declared.fault.What.{What}
+use Rattle.rv_fault.specs.declared.fault.What.TheVariants.{BadSection}
+use Rattle.rv_fault.specs.declared.failure.Failure.{Failure}
+use Rattle.rv_fault.specs.declared.failure.Failure.TheVariants.{Refused, Memory, Io}
+use Rattle.rv_verdict.specs.Given.{GivenText, Gathers, GivesAll, nothing, with_devices}
+use Rattle.rv_verdict.specs.Brought.{GivesScript, IsCapacity, brings_by}
+
+-- a call that fails, at what a script brings
+abbrev Failed : Bool → List ℕ → Failure → Type 0
+Failed has_journal script failure = let r : Result (ℕ × GivenText) Failure = Err failure in GivesScript has_journal script r
+
+pub front_refused : (has_journal : Bool) (script : List ℕ) (line : ℕ) → opened script ≡ Err line → Failed has_journal script (Refused (record { line = line; what = BadSection }))
+front_refused has_journal script line e =
+    subst (λ (o : Result OpenedText ℕ). brings_by has_journal o (Err (record { line = line; what = BadSection }))) (sym e) refl
+
+pub settings_refused : (has_journal : Bool) (script : List ℕ) (whole : OpenedText) (failure : Failure) → opened script ≡ Ok whole → (let r : Result SettingsText Failure = Err failure in Reads (line_of whole.settings) (GivesSettings whole.settings) r) →
+    Failed has_journal script failure
+settings_refused has_journal script whole (Refused told) is settings = subst (λ (o : Result OpenedText ℕ). brings_by has_journal o (Err told)) (sym is) (inl settings)
+settings_refused has_journal script whole Memory is settings = tt
+settings_refused has_journal script whole (Io error) is settings = settings
+
+pub sections_refused : (has_journal : Bool) (script : List ℕ) (whole : OpenedText) (settings : SettingsText) (failure : Failure) → opened script ≡ Ok whole → GivesSettings whole.settings (Ok settings) →
+    (let r : Result GivenText Failure = Err failure in GivesAll has_journal whole.sections r) → Failed has_journal script failure
+sections_refused has_journal script whole settings (Refused told) is gives h =
+    subst (λ (o : Result OpenedText ℕ). brings_by has_journal o (Err told)) (sym is) (inr (settings, gives, h))
+sections_refused has_journal script whole settings Memory is gives h = tt
+sections_refused has_journal script whole settings (Io error) is gives h = h
+
+pub memory_lacks : (has_journal : Bool) (script : List ℕ) (failure : Failure) → failure ≡ Memory → Failed has_journal script failure
+memory_lacks has_journal script failure e = subst (λ (f : Failure). Failed has_journal script f) (sym e) tt
+
+-- the capacities of settings are within their limits
+
+within : (section : Option SectionText) (settings : SettingsText) → GivesSettings section (Ok settings) → IsCapacity settings.capacity
+within None settings e =
+    let same : settings.capacity ≡ 4096 = ap (λ (r : Result SettingsText What). capacity_in r) e in
+    record { least = omega arith; most = omega arith }
+  where
+    capacity_in : Result SettingsText What → ℕ
+    capacity_in (Ok settings) = settings.capacity
+    capacity_in (Err what) = 4096
+within (Some section) settings is = record { least = is.numbers.least; most = omega (arith, is.numbers.most) }
+
+pub all_brought : (has_journal : Bool) (script : List ℕ) (whole : OpenedText) (settings : SettingsText) (given after : GivenText) → opened script ≡ Ok whole → GivesSettings whole.settings (Ok settings) →
+    Gathers has_journal nothing whole.sections (Ok given) → after ≡ record given { units = with_devices given.units settings.devices } →
+    GivesScript has_journal script (Ok (settings.capacity, after))
+all_brought has_journal script whole settings given after is gives gathers e = (
+  within whole.settings settings gives,
+  subst (λ (o : Result OpenedText ℕ). brings_by has_journal o (Ok (record { capacity = settings.capacity; units = after.units; journal = after.journal }))) (sym is)
+      (settings, given, gives, gathers, ap (λ (g : GivenText). record { capacity = settings.capacity; units = g.units; journal = g.journal }) e),
+)
