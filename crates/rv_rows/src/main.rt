@@ -130,7 +130,7 @@ struct Wanted {
 }
 
 // What stands beside a script as what has to be written.
-fn wanted(rt: &HostRuntime, name: &str) -> io::Result<Wanted> {
+fn wanted_for(rt: &HostRuntime, name: &str) -> io::Result<Wanted> {
     let said = bytes_of(rt, name, "said")?;
     let verdict = bytes_of(rt, name, "verdict")?;
     let is_checked = said.is_some();
@@ -161,7 +161,7 @@ fn told(rt: &HostRuntime, name: &str) -> io::Result<String> {
         bytes: mut wanted,
         is_checked,
         is_audited,
-    } = wanted(rt, name)?;
+    } = wanted_for(rt, name)?;
     let explained = bytes_of(rt, name, "explained")?;
     let is_explained = explained.is_some();
     if let Some(explained) = explained {
