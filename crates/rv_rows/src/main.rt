@@ -153,6 +153,17 @@ fn wanted_for(rt: &HostRuntime, name: &str) -> io::Result<Wanted> {
     })
 }
 
+// What is done with a script whose journal stands in no file of its own.
+fn deed_beside(is_checked: bool, is_audited: bool) -> Deed<'static> {
+    if is_audited {
+        Deed::Audit
+    } else if is_checked {
+        Deed::Check
+    } else {
+        Deed::Play
+    }
+}
+
 /// Whether a script gives what stands beside it, in words.
 fn told(rt: &HostRuntime, name: &str) -> io::Result<String> {
     let alloc = rt.alloc();
@@ -167,14 +178,16 @@ fn told(rt: &HostRuntime, name: &str) -> io::Result<String> {
     if let Some(explained) = explained {
         wanted.extend_from_slice(explained.as_slice())?;
     }
-    let file = bytes_of(rt, name, "file")?;
-    let deed = match &file {
-        Some(journal) => Deed::AuditFile(journal.as_slice()),
-        None if is_audited => Deed::Audit,
-        None if is_checked => Deed::Check,
-        None => Deed::Play,
+    let given = match bytes_of(rt, name, "file")? {
+        Some(file) => {
+            let deed = Deed::AuditFile(file.as_slice());
+            given(alloc, script.as_slice(), deed, is_explained)?
+        }
+        None => {
+            let deed = deed_beside(is_checked, is_audited);
+            given(alloc, script.as_slice(), deed, is_explained)?
+        }
     };
-    let given = given(alloc, script.as_slice(), deed, is_explained)?;
     if given.as_slice() == wanted.as_slice() {
         return Ok(format!(in alloc; "{name}: ok")?);
     }

@@ -245,6 +245,8 @@ impl Drawing {
 
     // What comes first: the two units that are called, and a list.
     fn first(acts: &mut Vec<Act>) -> Result<(), AllocError> {
+        // The check is told of this type only where it is named.
+        let _exit: Option<Exit> = None;
         acts.push(Act::Loads(0))?;
         acts.push(Act::Loads(1))?;
         acts.push(Act::Lists(NOTE_DENIED))?;
