@@ -255,6 +255,8 @@ impl Drawing {
 
     // The next extra unit, if there is one.
     fn load_extra(&mut self, acts: &mut Vec<Act>) -> Result<(), AllocError> {
+        // As in `first`.
+        let _exit: Option<Exit> = None;
         if self.extras < EXTRAS {
             acts.push(Act::Loads(self.extras.saturating_add(2)))?;
             self.extras = self.extras.saturating_add(1);
