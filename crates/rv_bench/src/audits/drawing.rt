@@ -246,7 +246,7 @@ impl Drawing {
     // What comes first: the two units that are called, and a list.
     fn first(acts: &mut Vec<Act>) -> Result<(), AllocError> {
         // The check is told of this type only where it is named.
-        let _exit: Option<Exit> = None;
+        let _request: Option<Request> = None;
         acts.push(Act::Loads(0))?;
         acts.push(Act::Loads(1))?;
         acts.push(Act::Lists(NOTE_DENIED))?;
@@ -256,7 +256,7 @@ impl Drawing {
     // The next extra unit, if there is one.
     fn load_extra(&mut self, acts: &mut Vec<Act>) -> Result<(), AllocError> {
         // As in `first`.
-        let _exit: Option<Exit> = None;
+        let _request: Option<Request> = None;
         if self.extras < EXTRAS {
             acts.push(Act::Loads(self.extras.saturating_add(2)))?;
             self.extras = self.extras.saturating_add(1);
