@@ -245,8 +245,9 @@ impl Drawing {
 
     // What comes first: the two units that are called, and a list.
     fn first(acts: &mut Vec<Act>) -> Result<(), AllocError> {
-        // The check is told of this type only where it is named.
+        // The check is told of these types only where they are named.
         let _request: Option<Request> = None;
+        let _exit: Option<Exit> = None;
         acts.push(Act::Loads(0))?;
         acts.push(Act::Loads(1))?;
         acts.push(Act::Lists(NOTE_DENIED))?;
@@ -257,6 +258,7 @@ impl Drawing {
     fn load_extra(&mut self, acts: &mut Vec<Act>) -> Result<(), AllocError> {
         // As in `first`.
         let _request: Option<Request> = None;
+        let _exit: Option<Exit> = None;
         if self.extras < EXTRAS {
             acts.push(Act::Loads(self.extras.saturating_add(2)))?;
             self.extras = self.extras.saturating_add(1);
