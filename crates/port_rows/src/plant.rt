@@ -3,6 +3,7 @@ ghost use Rattle.std.specs.Prelude.{◌≡◌, []};
 
 use crate::bodies::bodies;
 use rv_access::{AccessList, read_list};
+use rv_code::Unit;
 use rv_history::command::Command;
 use rv_host::host::Host;
 use rv_port::control::Control;
@@ -63,6 +64,14 @@ fn plant(alloc: Global) -> Option<UnitShape> {
     read_shape(alloc, PLANT).ok()
 }
 
+// The plant with its bodies.
+fn unit(alloc: Global) -> Option<Unit> {
+    Some(Unit {
+        shape: plant(alloc)?,
+        bodies: bodies(alloc).ok()?,
+    })
+}
+
 fn device(alloc: Global) -> Option<UnitShape> {
     read_shape(alloc, DEVICE).ok()
 }
@@ -74,7 +83,7 @@ fn list(alloc: Global) -> Option<AccessList> {
 /// Loads both units, and lets everybody call everything: three entries.
 pub fn load<R: Wait>(rt: &R, alloc: Global, control: &mut Control) -> Option<()> {
     control.keeps();
-    let _ = control.load(rt, plant(alloc)?, bodies(alloc).ok()?);
+    let _ = control.load(rt, unit(alloc)?);
     let _ = control.load_shape(rt, device(alloc)?);
     let _ = control.set_list(rt, list(alloc)?);
     Some(())

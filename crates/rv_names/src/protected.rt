@@ -11,10 +11,10 @@ ghost use Rattle.rv_scope.specs.DeclarationUses.{aspects_uses, parameters_uses, 
 
 use crate::expression::{maybe_range, maybe_value, name};
 use crate::fault::Faults;
-use crate::hide::{hide, hide_all};
 use crate::pragma::{aspects, pragma, procedure_rules, protected_rules};
 use rv_scope::declare::{Form, declare_all};
-use rv_scope::declared::{Declared, OperationKind};
+use rv_scope::declared::OperationKind;
+use rv_scope::members::{declare_operation, hide, hide_all};
 use rv_scope::scope::Scope;
 use rv_scope::wanted::Wanted;
 use rv_tree::declaration::{
@@ -94,17 +94,6 @@ fn profile(
     result_mark(mark, scope, faults)?;
     scope.leave();
     Ok(())
-}
-
-/// An operation's identifier is declared.
-pub(crate) fn declare_operation(
-    declared: &Identifier,
-    kind: OperationKind,
-    scope: &mut Scope,
-) -> Result<(), AllocError>
-    ensures scope { OnOk result (scope.new ≡ declaring_operation kind (identifier_view declared.now) scope.old) }
-{
-    scope.declare(declared, Some(Declared::Operation(declared.at, kind)))
 }
 
 fn function(

@@ -13,12 +13,12 @@ ghost use Rattle.rv_play.specs.Deeds.{Comes, ComesToDeed, goes, just, if_fits, r
 use crate::deed::Deed;
 use crate::player::Player;
 use rv_access::{Line, ListFault};
+use rv_code::Unit;
 use rv_fault::{Failure, What, list_of, refused, shape_of, unit_of};
 use rv_shape::catalogue::Catalogue;
 use rv_shape::shape::UnitShape;
 use rv_step::lookup::{actor_of, request_of};
 use rv_step::step::{Asked, Asker};
-use rv_unit::Unit;
 use std::alloc::{AllocError, Global};
 
 // A deed that was made, unless memory was refused.
@@ -44,16 +44,16 @@ fn load_deed(
     if let Some(fault) = catalogue.shape_fits(&shape) {
         return Err(refused(line, What::Shape(fault)));
     }
-    let Unit { shape, bodies } = Unit::of_shape(alloc, shape)?;
-    made(Deed::load(alloc, shape, bodies))
+    let unit = Unit::of_shape(alloc, shape)?;
+    made(Deed::load(alloc, unit))
 }
 
 /// What the unit text of a section comes to, which opens at a line.
 pub fn unit_deed(alloc: Global, player: &Player, line: usize, text: &str) -> Result<Deed, Failure>
     ensures { Comes line (ComesToDeed (playing player.now).stage (Compiles line (without_returns text.now))) result }
 {
-    let Unit { shape, bodies } = unit_of(alloc, player.catalogue(), line, text)?;
-    made(Deed::load(alloc, shape, bodies))
+    let unit = unit_of(alloc, player.catalogue(), line, text)?;
+    made(Deed::load(alloc, unit))
 }
 
 /// What the shape of a section comes to, which opens at a line.

@@ -7,12 +7,11 @@ ghost use Rattle.rv_play.specs.Stages.{deed_text};
 ghost use Rattle.rv_play.specs.Deeds.{plain, load, set, ask, go, append, remove, replace};
 
 use rv_access::{AccessList, Line};
-use rv_code::UnitBodies;
+use rv_code::{Unit, UnitBodies};
 use rv_event::entry::Request;
 use rv_event::text::text_of_request;
 use rv_history::command::Command;
 use rv_shape::catalogue::Catalogue;
-use rv_shape::shape::UnitShape;
 use rv_step::lookup::{OPERATOR, line_number};
 use std::alloc::{AllocError, Global};
 
@@ -56,9 +55,10 @@ impl Deed {
     }
 
     /// A unit with its bodies, loaded by the operator.
-    pub fn load(alloc: Global, shape: UnitShape, bodies: UnitBodies) -> Result<Deed, AllocError>
-        ensures { IfOk result (λ d. deed_text d ≡ load shape (unit_view bodies)) }
+    pub fn load(alloc: Global, unit: Unit) -> Result<Deed, AllocError>
+        ensures { IfOk result (λ d. deed_text d ≡ load unit.shape (unit_view unit.bodies)) }
     {
+        let Unit { shape, bodies } = unit;
         let name = shape.name();
         let words = format!(in alloc; "load {name}")?;
         Ok(Deed {

@@ -9,7 +9,7 @@ ghost use Rattle.rv_port.specs.Controls.{Told, LoadTold, Brings, numbered_as, no
 
 use super::{Control, told};
 use crate::event::Ask;
-use rv_code::UnitBodies;
+use rv_code::{Unit, UnitBodies};
 use rv_event::entry::Answer;
 use rv_exec::bodies::{Bodies, SharedUnit};
 use rv_shape::catalogue::Catalogue;
@@ -64,21 +64,16 @@ pub(crate) fn no_bodies_of_all(
 }
 
 impl Control {
-    /// Loads a unit as a text gives it: its shape, which was compiled against `catalogue`, and the
-    /// bodies of the same text. Ports run them from then on. Bodies that have another number of
-    /// objects or tasks than the shape are none of its own: then the shape is loaded alone. Where it
-    /// isn't accepted, it is dropped.
-    pub fn load<R: Wait>(
-        &mut self,
-        rt: &R,
-        shape: UnitShape,
-        bodies: UnitBodies,
-    ) -> Result<Answer, Worn>
+    /// Loads a unit as a text gives it, compiled against `catalogue`: its shape and its bodies, which
+    /// ports run from then on. Bodies that have another number of objects or tasks than the shape are
+    /// none of its own: then the shape is loaded alone. Where it isn't accepted, it is dropped.
+    pub fn load<R: Wait>(&mut self, rt: &R, unit: Unit) -> Result<Answer, Worn>
         ensures { MatchResult
             result
-            (λ r. LoadTold self.old shape (λ u. Brings shape bodies u) r self.new)
+            (λ r. LoadTold self.old unit.shape (λ u. Brings unit.shape unit.bodies u) r self.new)
             (λ _. IsWorn self.old self.new) }
     {
+        let Unit { shape, bodies } = unit;
         if !is_numbered_as(&shape, &bodies) {
             return self.load_shape(rt, shape);
         }

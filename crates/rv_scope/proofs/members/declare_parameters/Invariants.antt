@@ -2,7 +2,7 @@ use Rattle.std.proofs.Common.{◌≡◌, drop, map}
 use Rattle.rv_tree.specs.DeclarationView.{parameter_view}
 use Rattle.rv_scope.specs.Scope.{OnlyDeclares}
 use Rattle.rv_scope.specs.DeclarationUses.{with_parameters}
-use Rattle.rv_outline.proofs.scopes.declare_parameters.Given as goal
+use Rattle.rv_scope.proofs.members.declare_parameters.Given as goal
 
 abbrev pub invariant-loop-one : goal.invariant-loop-one
 invariant-loop-one l = record {

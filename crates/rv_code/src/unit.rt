@@ -4,7 +4,7 @@ ghost use Rattle.std.specs.Prelude.{◌≡◌, IfOk};
 ghost use Rattle.rv_code.specs.Bodies.{without_bodies};
 ghost use Rattle.rv_code.specs.BodyView.{unit_view};
 
-use rv_code::UnitBodies;
+use crate::body::UnitBodies;
 use rv_shape::shape::UnitShape;
 use std::alloc::{AllocError, Global};
 

@@ -2,7 +2,7 @@ use Rattle.std.proofs.Common.{◌≡◌, drop, map}
 use Rattle.rv_tree.specs.DeclarationView.{operation_view}
 use Rattle.rv_scope.specs.Scope.{OnlyDeclares}
 use Rattle.rv_scope.specs.DeclarationUses.{with_operations}
-use Rattle.rv_names.proofs.members.operations.Given as goal
+use Rattle.rv_scope.proofs.members.operations.Given as goal
 
 abbrev pub invariant-loop-one : goal.invariant-loop-one
 invariant-loop-one l = record {

@@ -1,7 +1,7 @@
 use Rattle.std.proofs.Common.{◌≡◌, drop}
 use Rattle.rv_tree.specs.NameView.{identifiers_view}
-use Rattle.rv_scope.specs.Scope.{hiding_all, OnlyDeclares}
-use Rattle.rv_names.proofs.hide.hide_all.Given as goal
+use Rattle.rv_scope.specs.Scope.{OnlyDeclares, hiding_all}
+use Rattle.rv_scope.proofs.members.hide_all.Given as goal
 
 abbrev pub invariant-loop-identifier : goal.invariant-loop-identifier
 invariant-loop-identifier l = record {

@@ -6,9 +6,11 @@ ghost use Rattle.rv_tree.specs.DeclarationView.{parameter_view, operation_view, 
 ghost use Rattle.rv_scope.specs.Scope.{hiding, hiding_all, declaring_all, OnlyDeclares, entered};
 ghost use Rattle.rv_scope.specs.DeclarationUses.{declaring_operation, with_parameters, with_operation, with_operations, with_element, with_elements, with_members};
 
-use rv_scope::declare::{Form, declare_all};
-use rv_scope::{Declared, OperationKind, Scope};
-use rv_tree::{Identifier, OperationDeclaration, Parameter, ProtectedElement, ProtectedUnit};
+use crate::declare::{Form, declare_all};
+use crate::declared::{Declared, OperationKind};
+use crate::scope::Scope;
+use rv_tree::declaration::{OperationDeclaration, Parameter, ProtectedElement, ProtectedUnit};
+use rv_tree::name::Identifier;
 use std::alloc::AllocError;
 
 /// An identifier inside its own declaration, where it denotes nothing and hides what it denoted (8.3).
@@ -55,7 +57,7 @@ pub fn declare_parameters(list: &Vec<Parameter>, scope: &mut Scope) -> Result<()
 }
 
 /// An operation's identifier is declared, behind its declaration (9.4).
-pub(crate) fn declare_operation(
+pub fn declare_operation(
     declared: &Identifier,
     kind: OperationKind,
     scope: &mut Scope,
