@@ -2,14 +2,12 @@
 
 ghost use Rattle.std.specs.Prelude.{◌≡◌, ◌⊎◌, ℕ};
 ghost use Rattle.rv_staff.specs.Giving.{Gives};
-ghost use Rattle.rv_run.specs.Commanding.{Commands, Loads, LoadsIn};
+ghost use Rattle.rv_run.specs.Commanding.{Commands, Loads};
 
 use crate::journal::not_written;
-use rv_code::UnitBodies;
 use rv_event::entry::Answer;
 use rv_fault::{Failure, ScriptFault, text_unit};
 use rv_input::{Input, InputFault};
-use rv_shape::shape::UnitShape;
 use rv_shell::{LineFault, Next, Shell};
 use rv_staff::{Hires, Session, raise, say, start_threads};
 use rv_turn::Worn;
@@ -81,21 +79,6 @@ fn welcome<H: Hires, W: Write>(
     }
 }
 
-// Loads a unit.
-fn load_unit<T: Wait>(
-    rt: &T,
-    session: &mut Session,
-    shape: UnitShape,
-    bodies: UnitBodies,
-) -> Result<Answer, Worn>
-    ensures { LoadsIn session.old.staff.control shape bodies result session.new.staff.control }
-{
-    match session.staff.load(rt, shape, bodies) {
-        Ok(answer) => Ok(answer),
-        Err(worn) => Err(worn),
-    }
-}
-
 // Loads the unit of a text.
 #[tactic(auto, using(crate::proofs::Asked::loads_by))]
 fn load<T: Wait, H: Hires, W: Write>(
@@ -109,7 +92,7 @@ fn load<T: Wait, H: Hires, W: Write>(
 {
     match text_unit(session.alloc, session.staff.catalogue(), NO_LINE, text) {
         Ok(Unit { shape, bodies }) => {
-            let answer = load_unit(rt, session, shape, bodies);
+            let answer = session.staff.load(rt, shape, bodies);
             welcome(hires, session, answer, writer)
         }
         Err(failure) => complain(session.alloc, failure, writer),
