@@ -2,7 +2,7 @@
 ghost use Rattle.std.specs.Prelude.{◌≡◌, []};
 
 use crate::bodies::bodies;
-use rv_access::{AccessList, read_list};
+use rv_access::{AccessList, Change, read_list};
 use rv_code::Unit;
 use rv_history::command::Command;
 use rv_host::host::Host;
@@ -94,6 +94,8 @@ pub fn loads(alloc: Global) -> Option<Vec<Command>> {
     let mut commands = Vec::new(alloc);
     commands.push(Command::Load(plant(alloc)?)).ok()?;
     commands.push(Command::Load(device(alloc)?)).ok()?;
-    commands.push(Command::SetList(list(alloc)?)).ok()?;
+    commands
+        .push(Command::Change(Change::Whole(list(alloc)?)))
+        .ok()?;
     Some(commands)
 }

@@ -2,10 +2,9 @@
 
 ghost use Rattle.std.specs.Prelude.{◌≡◌, ◌⊎◌, ℕ};
 ghost use Rattle.rv_staff.specs.Giving.{Gives};
-ghost use Rattle.rv_run.specs.Commanding.{Commands, Loads, LoadsIn};
+ghost use Rattle.rv_run.specs.Commanding.{Commands, Loads};
 
 use crate::journal::not_written;
-use rv_code::Unit;
 use rv_event::entry::Answer;
 use rv_fault::{Failure, ScriptFault, text_unit};
 use rv_input::{Input, InputFault};
@@ -79,16 +78,6 @@ fn welcome<H: Hires, W: Write>(
     }
 }
 
-// Loads a unit.
-fn load_unit<T: Wait>(rt: &T, session: &mut Session, unit: Unit) -> Result<Answer, Worn>
-    ensures { LoadsIn session.old.staff.control unit.shape unit.bodies result session.new.staff.control }
-{
-    match session.staff.load(rt, unit) {
-        Ok(answer) => Ok(answer),
-        Err(worn) => Err(worn),
-    }
-}
-
 // Loads the unit of a text.
 #[tactic(auto, using(crate::proofs::Asked::loads_by))]
 fn load<T: Wait, H: Hires, W: Write>(
@@ -102,7 +91,7 @@ fn load<T: Wait, H: Hires, W: Write>(
 {
     match text_unit(session.alloc, session.staff.catalogue(), NO_LINE, text) {
         Ok(unit) => {
-            let answer = load_unit(rt, session, unit);
+            let answer = session.staff.load(rt, unit);
             welcome(hires, session, answer, writer)
         }
         Err(failure) => complain(session.alloc, failure, writer),

@@ -7,7 +7,7 @@ ghost use Rattle.rv_exec.specs.Bodies.{held, shared_view, units_of};
 ghost use Rattle.rv_turn.specs.Passes.{IsWorn};
 ghost use Rattle.rv_port.specs.Controls.{Told, LoadTold, Brings, numbered_as, no_bodies_of};
 
-use super::{Control, told};
+use super::{Control, heard};
 use crate::event::Ask;
 use rv_code::{Unit, UnitBodies};
 use rv_event::entry::Answer;
@@ -104,8 +104,8 @@ impl Control {
             (λ r. Told self.old (Ask.LoadWithoutMemory shape) r self.new)
             (λ _. IsWorn self.old self.new) }
     {
-        let ask = Ask::LoadWithoutMemory(shape);
-        told(rt, &mut self.pass, &self.bell, ask)
+        let reply = self.pass.act(rt, Ask::LoadWithoutMemory(shape))?;
+        Ok(heard(&self.bell, &reply))
     }
 
     // A load with bodies that others may hold.
@@ -123,7 +123,8 @@ impl Control {
         let Some(catalogue) = with_unit(self.alloc, &self.catalogue, &shape) else {
             return self.load_nothing(rt, shape);
         };
-        let answer = told(rt, &mut self.pass, &self.bell, Ask::Load(shape, unit))?;
+        let reply = self.pass.act(rt, Ask::Load(shape, unit))?;
+        let answer = heard(&self.bell, &reply);
         if answer.recorded().is_none() {
             return Ok(answer);
         }

@@ -1,14 +1,12 @@
-//! What the operator alone may ask of the host behind the turn: loads, and changes of the list.
+//! Loads by the operator, on the host behind the turn.
 
 ghost use Rattle.std.specs.Prelude.{◌≡◌, ◌++◌, ◌∷◌, [], IfOk};
 ghost use Rattle.std.specs.Arc.{arc_value};
 ghost use Rattle.rv_exec.specs.Bodies.{units_of, held};
-ghost use Rattle.rv_history.specs.Lists.{Whole, Append, Remove, Replace};
 ghost use Rattle.rv_port.specs.Events.{log_in};
-ghost use Rattle.rv_port.specs.Acting.{Loaded, Unloaded, Changed};
+ghost use Rattle.rv_port.specs.Acting.{Loaded, Unloaded};
 
 use super::Behind;
-use rv_access::{AccessList, Line};
 use rv_event::entry::Answer;
 use rv_exec::bodies::{Bodies, SharedUnit};
 use rv_shape::shape::UnitShape;
@@ -60,41 +58,5 @@ impl Behind {
             return Answer::OutOfMemory;
         }
         due
-    }
-
-    /// A list change by the operator, whole.
-    pub(crate) fn set_list(&mut self, list: &AccessList) -> Answer
-        ensures does { Changed self.old.host.value.capacity (log_in self.old.host.value (arc_value self.old.bodies)) (Whole list.now) result (log_in self.new.host.value (arc_value self.new.bodies)) }
-        ensures about { self.new.host.value.capacity ≡ self.old.host.value.capacity }
-    {
-        self.host.replays();
-        self.host.set_list(list)
-    }
-
-    /// A line more.
-    pub(crate) fn append_line(&mut self, line: &Line) -> Answer
-        ensures does { Changed self.old.host.value.capacity (log_in self.old.host.value (arc_value self.old.bodies)) (Append line.now) result (log_in self.new.host.value (arc_value self.new.bodies)) }
-        ensures about { self.new.host.value.capacity ≡ self.old.host.value.capacity }
-    {
-        self.host.replays();
-        self.host.append_line(line)
-    }
-
-    /// A line less.
-    pub(crate) fn remove_line(&mut self, number: usize) -> Answer
-        ensures does { Changed self.old.host.value.capacity (log_in self.old.host.value (arc_value self.old.bodies)) (Remove number) result (log_in self.new.host.value (arc_value self.new.bodies)) }
-        ensures about { self.new.host.value.capacity ≡ self.old.host.value.capacity }
-    {
-        self.host.replays();
-        self.host.remove_line(number)
-    }
-
-    /// Another line in the place of one.
-    pub(crate) fn replace_line(&mut self, number: usize, line: &Line) -> Answer
-        ensures does { Changed self.old.host.value.capacity (log_in self.old.host.value (arc_value self.old.bodies)) (Replace number line.now) result (log_in self.new.host.value (arc_value self.new.bodies)) }
-        ensures about { self.new.host.value.capacity ≡ self.old.host.value.capacity }
-    {
-        self.host.replays();
-        self.host.replace_line(number, line)
     }
 }
