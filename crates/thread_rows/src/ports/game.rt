@@ -56,6 +56,25 @@ fn put_operator(
     Ok(())
 }
 
+// Adds what came of steps: what each thread and the operator were told, and the journal beside one run.
+fn put_end(
+    alloc: Global,
+    told: &[Option<Told>],
+    operator: &Operator,
+    entries: &[Entry],
+    is_late: bool,
+    text: &mut String,
+) -> Option<()> {
+    put_all(told, entries, text).ok()?;
+    put_operator(operator, entries, text).ok()?;
+    let is_as_run = is_as_run(alloc, entries)?;
+    write!(text, " as in one run: {is_as_run};").ok()?;
+    if is_late {
+        return text.push_str(" late;").ok();
+    }
+    Some(())
+}
+
 // Plays steps, and adds what came of them.
 fn play_steps<R: Threads + Wait + Sync>(
     rt: &R,
@@ -78,14 +97,7 @@ fn play_steps<R: Threads + Wait + Sync>(
         text,
     )?;
     let entries = entries_of(rt, alloc, control).ok()?;
-    put_all(&told, &entries, text).ok()?;
-    put_operator(&operator, &entries, text).ok()?;
-    let is_as_run = is_as_run(alloc, &entries)?;
-    write!(text, " as in one run: {is_as_run};").ok()?;
-    if flag.is_late() {
-        text.push_str(" late;").ok()?;
-    }
-    Some(())
+    put_end(alloc, &told, &operator, &entries, flag.is_late(), text)
 }
 
 // Plays a game on a host without units.

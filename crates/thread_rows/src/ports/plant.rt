@@ -62,9 +62,8 @@ pub fn load<R: Wait>(rt: &R, alloc: Global, control: &mut Control) -> Option<()>
 
 /// The same as commands.
 pub fn loads(alloc: Global) -> Option<Vec<Command>> {
-    let mut commands = Vec::new(alloc);
-    commands.push(Command::Load(plant(alloc)?)).ok()?;
-    commands.push(Command::Load(device(alloc)?)).ok()?;
-    commands.push(Command::SetList(list(alloc)?)).ok()?;
-    Some(commands)
+    let plant = Command::Load(plant(alloc)?);
+    let device = Command::Load(device(alloc)?);
+    let list = Command::SetList(list(alloc)?);
+    vec![in alloc; plant, device, list].ok()
 }
