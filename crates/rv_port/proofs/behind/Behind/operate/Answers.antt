@@ -20,8 +20,8 @@ returns-in-Change-clause-does c = let s = c.args.self.now in
     (subst (λ (z : History). MayLackMemory (due_change z c.in-Change.change) c.change_list.result) c.deref_mut.ensures.value c.change_list.ensures.answer)
     (c.change_list.ensures.history ∙ ap (λ (z : History). after_change z c.in-Change.change c.change_list.result) c.deref_mut.ensures.value))
 
-pub invariant_of-self-in-Change : goal.invariant_of-self-in-Change
-invariant_of-self-in-Change c = let s = c.args.self.now in
+pub invariant_of-self : goal.invariant_of-self
+invariant_of-self c = let s = c.args.self.now in
     record {
       brought = brought_change s.host.value _ (units_of (arc_value s.bodies)) c.in-Change.change _ s.brought
           (c.change_list.ensures.history ∙ ap (λ (z : History). after_change z c.in-Change.change c.change_list.result) c.deref_mut.ensures.value);
