@@ -14,7 +14,7 @@ use crate::expression::{
     expression, expressions, maybe_name, maybe_value, name, range, refuse, two_values, value,
 };
 use crate::fault::{Faults, NameFault};
-use crate::hide::hide;
+use rv_conform::scopes::hide;
 use rv_scope::declared::Declared;
 use rv_scope::scope::Scope;
 use rv_scope::wanted::Wanted;
