@@ -77,7 +77,6 @@ fn subtype(
     hide(declared, scope)?;
     name(mark, Wanted::Subtype, scope, faults);
     maybe_range(part, scope, faults);
-    faults.note_subtype(declared, mark, part, scope)?;
     scope.declare(declared, Some(Declared::Subtype(declared.at)))
 }
 
@@ -127,7 +126,6 @@ fn constants(
     hide_all(names, scope)?;
     maybe_name(mark, Wanted::Subtype, scope, faults);
     value(initial, scope, faults);
-    faults.note_constants(names, mark, initial, scope)?;
     declare_all(names, Form::Constant, scope)
 }
 

@@ -14,15 +14,13 @@ mod expression;
 pub mod fault;
 mod firsts;
 mod jumps;
-mod marks;
 mod missing;
+mod nonconforming;
 mod operation_body;
 mod pragma;
 mod protected;
 pub mod resolve;
-mod rules;
 mod statement;
-mod statics;
 mod twice;
 mod unit;
 

@@ -24,19 +24,6 @@ use rv_tree::expression::{Expression, RangeConstraint};
 use rv_tree::name::{Identifier, Name};
 use std::alloc::AllocError;
 
-/// The mark of a parameter or a result. What it denotes is kept, since that of the body has to match it
-/// statically (6.3.1).
-pub(crate) fn profile_mark(
-    mark: &Name,
-    scope: &Scope,
-    faults: &mut Faults,
-) -> Result<(), AllocError>
-    ensures { OnOk result (faults.new ≡ judged scope.now Wanted.Subtype (name_view mark.now) faults.old) }
-{
-    name(mark, Wanted::Subtype, scope, faults);
-    faults.note_mark(mark, scope)
-}
-
 // A parameter specification.
 fn parameter(part: &Parameter, scope: &mut Scope, faults: &mut Faults) -> Result<(), AllocError>
     ensures faults { OnOk result (faults.new
@@ -46,7 +33,7 @@ fn parameter(part: &Parameter, scope: &mut Scope, faults: &mut Faults) -> Result
     ensures only { OnOk result (OnlyDeclares scope.old scope.new) }
 {
     hide_all(&part.names, scope)?;
-    profile_mark(&part.mark, scope, faults)?;
+    name(&part.mark, Wanted::Subtype, scope, faults);
     declare_all(&part.names, Form::Parameter, scope)
 }
 
@@ -67,13 +54,13 @@ pub(crate) fn parameters(
 }
 
 // The mark of a result, if there is one.
-fn result_mark(mark: Option<&Name>, scope: &Scope, faults: &mut Faults) -> Result<(), AllocError>
-    ensures { OnOk result (faults.new
-        ≡ maybe_uses (judged scope.now Wanted.Subtype) (maybe (λ n. name_view n.now) mark.entry) faults.old) }
+fn result_mark(mark: Option<&Name>, scope: &Scope, faults: &mut Faults)
+    ensures { faults.new
+        ≡ maybe_uses (judged scope.now Wanted.Subtype) (maybe (λ n. name_view n.now) mark.entry) faults.old }
 {
     match mark {
-        None => Ok(()),
-        Some(mark) => profile_mark(mark, scope, faults),
+        None => {}
+        Some(mark) => name(mark, Wanted::Subtype, scope, faults),
     }
 }
 
@@ -91,7 +78,7 @@ fn profile(
 {
     scope.enter()?;
     parameters(list, scope, faults)?;
-    result_mark(mark, scope, faults)?;
+    result_mark(mark, scope, faults);
     scope.leave();
     Ok(())
 }

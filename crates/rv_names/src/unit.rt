@@ -15,7 +15,6 @@ use crate::body::block;
 use crate::declaration::declaration;
 use crate::fault::Faults;
 use crate::operation_body::{body_name, operation_bodies};
-use crate::rules::unit_bodies;
 use rv_scope::declared::Declared;
 use rv_scope::members::enter_members;
 use rv_scope::scope::Scope;
@@ -51,7 +50,6 @@ fn current_bodies<'a>(
     scope.set_current(Some(unit.name.at));
     faults.set_unit(Some(unit));
     operation_bodies(&body.operations, scope, faults)?;
-    unit_bodies(unit, body, scope, faults)?;
     faults.set_unit(None);
     scope.set_current(around);
     Ok(())

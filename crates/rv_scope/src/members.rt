@@ -80,7 +80,8 @@ fn operation_name(
     declare_operation(declared, kind, scope)
 }
 
-fn operation(one: &OperationDeclaration, scope: &mut Scope) -> Result<(), AllocError>
+/// The identifier that an operation's declaration declares.
+pub fn operation(one: &OperationDeclaration, scope: &mut Scope) -> Result<(), AllocError>
     ensures scope { OnOk result (scope.new ≡ with_operation (operation_view one.now) scope.old) }
     ensures only { OnOk result (OnlyDeclares scope.old scope.new) }
 {
@@ -114,7 +115,8 @@ fn operations(list: &Vec<OperationDeclaration>, scope: &mut Scope) -> Result<(),
     Ok(())
 }
 
-fn element(one: &ProtectedElement, scope: &mut Scope) -> Result<(), AllocError>
+/// The identifiers that an element of a protected unit declares.
+pub fn element(one: &ProtectedElement, scope: &mut Scope) -> Result<(), AllocError>
     ensures scope { OnOk result (scope.new ≡ with_element (element_view one.now) scope.old) }
     ensures only { OnOk result (OnlyDeclares scope.old scope.new) }
 {

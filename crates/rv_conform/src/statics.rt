@@ -1,9 +1,14 @@
-//! Which subtypes and constants of a text are static, so that it is known which marks match statically (4.9, 4.9.1).
+//! Which subtypes and constants of a package are static, so that it is known which marks match statically (4.9, 4.9.1).
 //!
-//! What is wrong with their types is no fault of names: such a declaration is left out, and told where types are looked at.
+//! What is wrong with their types is told where types are looked at: here such a declaration is left out.
 
-ghost use Rattle.std.specs.Prelude.{◌≡◌, [], OnOk};
+ghost use Rattle.std.specs.Prelude.{◌≡◌, ◌∷◌, [], OnOk};
+ghost use Rattle.rv_tree.specs.NameView.{identifier_view, identifiers_view, name_view};
+ghost use Rattle.rv_tree.specs.ExpressionView.{expression_view, range_view};
+ghost use Rattle.rv_tree.specs.DeclarationView.{maybe};
+ghost use Rattle.rv_static.specs.Meanings.{range_in};
 ghost use Rattle.rv_scope.specs.Statics.{with_meaning, or_not_static as this_or_not_static, meaning_of, means as means_at};
+ghost use Rattle.rv_conform.specs.Statics.{subtype_meaning as meaning_of_subtype, constant_range as range_of_constant, constant_meaning as meaning_of_constant, meaning_all, meaning_if};
 
 use indexmap::IndexMap;
 use rv_scope::declared::Declared;
@@ -62,12 +67,42 @@ fn or_not_static(meaning: Option<Meaning>) -> Meaning
     }
 }
 
+// The meaning of a subtype, if it is static.
+fn subtype_meaning<N: Meanings>(
+    mark: &Name,
+    range: &Option<RangeConstraint>,
+    names: &N,
+) -> Option<Meaning>
+    ensures { result ≡ meaning_of_subtype (N.means names.now) (name_view mark.now) (maybe range_view range.now) }
+{
+    let mut faults = Faults::new();
+    let whole = subtype(mark, names, &mut faults)?;
+    let part = narrowed(whole, range, names, &mut faults)?;
+    Some(Meaning::Subtype(part))
+}
+
 // The subtype of a constant, which is that of its mark, and of a named number (3.3.1, 3.3.2).
-fn constant_range(mark: &Option<Name>, point: &Point, faults: &mut Faults) -> Option<Range> {
+fn constant_range<N: Meanings>(mark: &Option<Name>, names: &N, faults: &mut Faults) -> Option<Range>
+    ensures { result ≡ range_of_constant (N.means names.now) (maybe name_view mark.now) }
+{
     match mark {
         None => Some(whole_range(ValueType::Integer)),
-        Some(mark) => subtype(mark, point, faults),
+        Some(mark) => subtype(mark, names, faults),
     }
+}
+
+// The meaning of a constant or a named number, if it is static.
+fn constant_meaning<N: Meanings>(
+    mark: &Option<Name>,
+    initial: &Expression,
+    names: &N,
+) -> Option<Meaning>
+    ensures { result ≡ meaning_of_constant (N.means names.now) (maybe name_view mark.now) (expression_view initial.now) }
+{
+    let mut faults = Faults::new();
+    let range = constant_range(mark, names, &mut faults)?;
+    let value = value_in(range, initial, names, &mut faults)?;
+    Some(Meaning::Constant(range.of, value))
 }
 
 impl Statics {
@@ -100,8 +135,20 @@ impl Statics {
         Ok(())
     }
 
+    // The same, of several.
+    fn note_all(&mut self, names: &Vec<Identifier>, meaning: Meaning) -> Result<(), AllocError>
+        ensures { OnOk result (self.new ≡ meaning_all meaning (identifiers_view names.now.items) self.old) }
+    {
+        for declared in names {
+            self.note(declared.at, meaning)?;
+        }
+        Ok(())
+    }
+
     /// The static range of the subtype that is declared, if it is one.
-    pub(crate) fn range(&self, found: Option<Declared>) -> Option<Range> {
+    pub(crate) fn range(&self, found: Option<Declared>) -> Option<Range>
+        ensures { result ≡ range_in (meaning_of self.now found) }
+    {
         match self.meaning(found) {
             Meaning::Subtype(range) => Some(range),
             _ => None,
@@ -115,32 +162,19 @@ impl Statics {
         mark: &Name,
         range: &Option<RangeConstraint>,
         scope: &Scope,
-    ) -> Result<(), AllocError> {
-        let mut faults = Faults::new();
+    ) -> Result<(), AllocError>
+        ensures { OnOk result (self.new
+            ≡ meaning_if (meaning_of_subtype (means_at scope.now self.old) (name_view mark.now) (maybe range_view range.now))
+            (identifier_view declared.now ∷ []) self.old) }
+    {
         let point = Point {
             scope,
             statics: self,
         };
-        let found = match subtype(mark, &point, &mut faults) {
-            Some(whole) => narrowed(whole, range, &point, &mut faults),
-            None => None,
-        };
-        match found {
-            Some(range) => self.note(declared.at, Meaning::Subtype(range)),
+        match subtype_meaning(mark, range, &point) {
+            Some(meaning) => self.note(declared.at, meaning),
             None => Ok(()),
         }
-    }
-
-    // The meaning of a constant of the package or a named number, if it is static.
-    fn constant(&self, mark: &Option<Name>, value: &Expression, scope: &Scope) -> Option<Meaning> {
-        let mut faults = Faults::new();
-        let point = Point {
-            scope,
-            statics: self,
-        };
-        let range = constant_range(mark, &point, &mut faults)?;
-        let number = value_in(range, value, &point, &mut faults)?;
-        Some(Meaning::Constant(range.of, number))
     }
 
     /// Constants of the package or named numbers, at the point within their declaration (3.3.1, 3.3.2). Err where memory
@@ -149,14 +183,20 @@ impl Statics {
         &mut self,
         names: &Vec<Identifier>,
         mark: &Option<Name>,
-        value: &Expression,
+        initial: &Expression,
         scope: &Scope,
-    ) -> Result<(), AllocError> {
-        if let Some(meaning) = self.constant(mark, value, scope) {
-            for declared in names {
-                self.note(declared.at, meaning)?;
-            }
+    ) -> Result<(), AllocError>
+        ensures { OnOk result (self.new
+            ≡ meaning_if (meaning_of_constant (means_at scope.now self.old) (maybe name_view mark.now) (expression_view initial.now))
+            (identifiers_view names.now.items) self.old) }
+    {
+        let point = Point {
+            scope,
+            statics: self,
+        };
+        match constant_meaning(mark, initial, &point) {
+            Some(meaning) => self.note_all(names, meaning),
+            None => Ok(()),
         }
-        Ok(())
     }
 }
