@@ -71,7 +71,8 @@ pub fn load<R: Wait>(rt: &R, alloc: Global, control: &mut Control) -> Option<()>
 
 /// The same as commands.
 pub fn loads(alloc: Global) -> Option<Vec<Command>> {
-use crate::ports::bodies::bodies;
-use rv_access::{AccessList, Change, read_list};
-use rv_code::Unit;
+    let plant = Command::Load(plant(alloc)?);
+    let device = Command::Load(device(alloc)?);
+    let list = Command::Change(Change::Whole(list(alloc)?));
+    vec![in alloc; plant, device, list].ok()
 }
