@@ -232,7 +232,7 @@ def functions(form_names=("most",), wrappers=("for", "if", "while", "case"), pla
     whole, given = nested(form_names, PARENTHESES - (place == "declaration"))
     held = STATEMENTS - (2 if place in ("return", "assignment", "declaration") else 3)
     next_objects = "".join(f"elsif K = {k} then return O{k + 1}.Run ({CALLS}, {k + 1}); " for k in range(1, OBJECTS))
-    local = "X : Integer := 0;"
+    local = "X : Integer := 0; Is_On : Boolean; Now : Time;"
     if place == "declaration":
         local = f"X : constant Integer := F (N > 0 and then 0 < {whole});"
     innermost = "return X;" if place == "declaration" else PLACES[place].format(whole)
@@ -308,7 +308,7 @@ def texts():
     yield "overrun", functions(last="return Run (N, K);", exits=["overrun"] + ["raise Program_Error"] * (OBJECTS - 1))
     # It asks the host where 16 objects are held: operations of a suspension object, the clock, and what is refused there.
     state = ["call P.Lamp Set_True -> accepted 0", "call P.Lamp Current_State -> accepted 1", "clock -> accepted 0"]
-    yield "asks", functions(**mixed, last="Set_True (Lamp); return F (Current_State (Lamp) and Since <= Clock);", asked=state)
+    yield "asks", functions(**mixed, last="Set_True (Lamp); Is_On := Current_State (Lamp); Now := Clock; return 1;", asked=state)
     for name, statement, request in (("suspends", "Suspend_Until_True (Lamp);", "call P.Lamp Suspend_Until_True"), ("delays", "delay until Since;", "delay 0")):
         yield name, functions(**mixed, last=f"{statement} return 1;", asked=[f"{request} -> refused 2 line 0 version 1"], exits=["raise Program_Error"] * OBJECTS)
 
