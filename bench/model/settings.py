@@ -49,14 +49,17 @@ def is_wide(value: object) -> bool:
 
 
 def read_toml(text: str) -> dict[str, object]:
-    """The table of a text in TOML 1.1, of which `tomllib` knows all but `\\e`, `\\xHH` and times without seconds: a byte order mark is
-    passed over, and a number past 64 bits is none."""
+    """The table of a text in TOML 1.1, of which `tomllib` knows all but `\\e`, `\\xHH`, times without seconds, and line feeds and a last comma
+    in an inline table, of which the comma alone is told here: a byte order mark is passed over, and a number past 64 bits is none."""
     text = re.sub(r'(?<!\\)((?:\\\\)*)\\e', r"\1\\u001b", text.removeprefix("\ufeff"))
     text = re.sub(r'(?<!\\)((?:\\\\)*)\\x([0-9A-Fa-f]{2})', r"\1\\u00\2", text)
     try:
         table = tomllib.loads(text)
     except tomllib.TOMLDecodeError:
-        raise SettingsFault("NotToml")
+        try:
+            table = tomllib.loads(re.sub(r"(?<=[^,{\s])([ \t]*),([ \t]*\})", r"\1\2", text))
+        except tomllib.TOMLDecodeError:
+            raise SettingsFault("NotToml")
     if is_wide(table):
         raise SettingsFault("NotToml")
     return table
