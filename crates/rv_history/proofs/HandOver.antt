@@ -217,7 +217,7 @@ pub only_dropped : (h : History) (a : ℕ) (vs : List ℤ) (x : Exit) (n line : 
 only_dropped h a vs x n line l e =
     let m = names_at h a vs x (Dropped n line) n (ap recorded e) refl in
     let q = m.served_by in
-    let all : AllWait h.shapes h.past (waiting h.past) = legal_waits h.capacity h.past h.shapes h.lists l in
+    let all : AllWait h.shapes h.past (waiting h.past) = legal_waits h.limits h.past h.shapes h.lists l in
     let v : Waits h.shapes h.past q.call = head_waits h.shapes h.past m.body.object q.call q.rest all q.queued in
     let there : q.call.object ≡ m.body.object = same_number q.call.object m.body.object (head_on h.past m.body.object q.call q.rest q.queued) in
     let few : length (queue m.body.object h.past) ≤ 1 = (legal_orderly_at h l).queues m.body.object in

@@ -20,8 +20,10 @@ use Rattle.rv_event.specs.declared.entry.Request.TheVariants.{Call, Complete, Re
 use Rattle.rv_event.specs.declared.entry.Recorded.{Recorded}
 use Rattle.rv_event.specs.declared.entry.Recorded.TheVariants.{Started, Queued, Done}
 use Rattle.rv_event.proofs.Matching.{by}
+use Rattle.rv_history.specs.declared.limits.Limits.{Limits}
 use Rattle.rv_history.specs.History.{History}
-use Rattle.rv_history.specs.Exclusion.{conflicts, excluded, queue_limit}
+use Rattle.rv_history.specs.Exclusion.{conflicts, excluded}
+use Rattle.rv_history.specs.Limits.{queue_limit}
 use Rattle.rv_history.specs.Rules.{Aim, aim_at}
 use Rattle.rv_history.specs.Fitting.{held_limit, may_call, idle_line, call_fits}
 use Rattle.rv_history.specs.Due.{out}
@@ -183,7 +185,7 @@ pub record Sound (shapes : List Shape) (past : List Entry) : Type 0 where
   pub bodies : Bodies shapes (under_way shapes past)
   pub calls : Calls shapes (waiting past)
 
-sound_more : (c : ℕ) (past : List Entry) (old more : List Shape) (lists : List (List Words)) → IsLegal c past old lists → Sound old past → Sound (old ++ more) past
+sound_more : (c : Limits) (past : List Entry) (old more : List Shape) (lists : List (List Words)) → IsLegal c past old lists → Sound old past → Sound (old ++ more) past
 sound_more c past old more lists l k =
     let ways : under_way (old ++ more) past ≡ under_way old past = way_stays c past old more lists l in
     let bs : List Body = under_way old past in
@@ -200,13 +202,13 @@ sound_more c past old more lists l k =
       };
     }
 
-sound : (c : ℕ) (past : List Entry) (shapes : List Shape) (lists : List (List Words)) → IsLegal c past shapes lists → Sound shapes past
+sound : (c : Limits) (past : List Entry) (shapes : List Shape) (lists : List (List Words)) → IsLegal c past shapes lists → Sound shapes past
 sound c [] shapes lists l = record {
   bodies = record { shared = λ o. inl refl; stacks = λ n. omega arith; known = tt };
   calls = record { queues = λ o. omega arith; known = tt };
 }
 sound c (Asked a r w ∷ past) shapes lists l =
-    let h : History = record { capacity = c; past = past; shapes = shapes; lists = lists } in
+    let h : History = record { limits = c; past = past; shapes = shapes; lists = lists } in
     let k : Sound shapes past = sound c past shapes lists l.0 in
     record {
       bodies = bodies_step h a r w l.1 (legal_waits c past shapes lists l.0) k.calls.known k.bodies;
@@ -230,9 +232,9 @@ orderly_at shapes past k = record {
 }
 
 pub legal_orderly_at : (h : History) → Legal h → Orderly h.shapes h.past
-legal_orderly_at h l = orderly_at h.shapes h.past (sound h.capacity h.past h.shapes h.lists l)
+legal_orderly_at h l = orderly_at h.shapes h.past (sound h.limits h.past h.shapes h.lists l)
 
-orderly_all : (c : ℕ) (past : List Entry) (shapes more : List Shape) (lists : List (List Words)) → IsLegal c past shapes lists → IsOrderly (shapes ++ more) past
+orderly_all : (c : Limits) (past : List Entry) (shapes more : List Shape) (lists : List (List Words)) → IsLegal c past shapes lists → IsOrderly (shapes ++ more) past
 orderly_all c [] shapes more lists l = tt
 orderly_all c (Asked a r w ∷ past) shapes more lists l = (
   orderly_at (shapes ++ more) (Asked a r w ∷ past) (sound_more c (Asked a r w ∷ past) shapes more lists l (sound c (Asked a r w ∷ past) shapes lists l)),
@@ -250,7 +252,7 @@ orderly_all c (ListChange ∷ past) shapes more lists l = (
 -- after each entry of a legal history
 pub legal_orderly : (h : History) → Legal h → IsOrderly h.shapes h.past
 legal_orderly h l =
-    subst (λ (ss : List Shape). IsOrderly ss h.past) (append_none h.shapes) (orderly_all h.capacity h.past h.shapes [] h.lists l)
+    subst (λ (ss : List Shape). IsOrderly ss h.past) (append_none h.shapes) (orderly_all h.limits h.past h.shapes [] h.lists l)
 
 -- so after the first ones
 pub orderly_suffix : (shapes : List Shape) (later past : List Entry) → IsOrderly shapes (later ++ past) → IsOrderly shapes past

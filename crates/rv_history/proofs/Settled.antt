@@ -20,6 +20,7 @@ use Rattle.rv_event.specs.declared.entry.Request.TheVariants.{Call, Complete, Re
 use Rattle.rv_event.specs.declared.entry.Recorded.{Recorded}
 use Rattle.rv_event.specs.declared.entry.Recorded.TheVariants.{Started, Queued, Done}
 use Rattle.rv_shape.proofs.Stay.{object_stays}
+use Rattle.rv_history.specs.declared.limits.Limits.{Limits}
 use Rattle.rv_history.specs.History.{History}
 use Rattle.rv_history.specs.Subject.{subject}
 use Rattle.rv_history.specs.Exclusion.{barrier_at, opens_on, is_open}
@@ -189,7 +190,7 @@ settled_load h more o l was = by_queue (queue o h.past) refl was
     by_queue : (q : List Body) → queue o h.past ≡ q → Settled h.shapes h.past o → Settled (h.shapes ++ more) (Load ∷ h.past) o
     by_queue q e (inl x) = inl x
     by_queue q e (inr (inl x)) =
-        inr (inl (ap (list_any (is_exclusive_on (h.shapes ++ more) o)) (way_stays h.capacity h.past h.shapes more h.lists l)
+        inr (inl (ap (list_any (is_exclusive_on (h.shapes ++ more) o)) (way_stays h.limits h.past h.shapes more h.lists l)
         ∙ exclusive_more h.shapes more o (under_way h.shapes h.past) k.bodies ∙ x))
     by_queue q e (inr (inr (inr x))) = inr (inr (inr x))
     by_queue [] e (inr (inr (inl x))) = inr (inr (inr e))
@@ -202,18 +203,18 @@ settled_load h more o l was = by_queue (queue o h.past) refl was
         let values : scalars (h.shapes ++ more) o h.past ≡ scalars h.shapes o h.past = scalars_stay h more o there.0 l at in
         inr (inr (inl ((λ i. opens_on (barrier_at (same i)) (values i)) ∙ x)))
 
-legal_settled : (c : ℕ) (past : List Entry) (shapes : List Shape) (lists : List (List Words)) (o : ℕ) → IsLegal c past shapes lists → Settled shapes past o
+legal_settled : (c : Limits) (past : List Entry) (shapes : List Shape) (lists : List (List Words)) (o : ℕ) → IsLegal c past shapes lists → Settled shapes past o
 legal_settled c [] shapes lists o l = inr (inr (inr refl))
 legal_settled c (Asked a r w ∷ past) shapes lists o l =
-    let h : History = record { capacity = c; past = past; shapes = shapes; lists = lists } in
+    let h : History = record { limits = c; past = past; shapes = shapes; lists = lists } in
     settled_step h a r w o l.1 (legal_orderly_at h l.0) (legal_waits c past shapes lists l.0) (legal_settled c past shapes lists o l.0)
 legal_settled c (Load ∷ past) shapes lists o l =
-    let h : History = record { capacity = c; past = past; shapes = l.0; lists = lists } in
+    let h : History = record { limits = c; past = past; shapes = l.0; lists = lists } in
     subst (λ (ss : List Shape). Settled ss (Load ∷ past) o) (sym l.2) (settled_load h (l.1 ∷ []) o l.3 (legal_settled c past l.0 lists o l.3))
 legal_settled c (ListChange ∷ past) shapes lists o l = legal_settled c past shapes l.0 o l.3
 
 pub free_settled : (h : History) (o : ℕ) → Legal h → halted h.past ≡ false → list_any (is_exclusive_on h.shapes o) (under_way h.shapes h.past) ≡ false → (is_open h o ≡ false) ⊎ (queue o h.past ≡ [])
-free_settled h o l going free = by_case (legal_settled h.capacity h.past h.shapes h.lists o l)
+free_settled h o l going free = by_case (legal_settled h.limits h.past h.shapes h.lists o l)
   where
     by_case : Settled h.shapes h.past o → (is_open h o ≡ false) ⊎ (queue o h.past ≡ [])
     by_case (inl x) = absurd (off (sym going ∙ x))

@@ -9,6 +9,7 @@ use Rattle.rv_event.specs.declared.entry.Body.{Body}
 use Rattle.rv_shape.specs.declared.kind.Barrier.{Barrier}
 use Rattle.rv_shape.specs.declared.kind.Barrier.TheVariants.{AlwaysOpen, AlwaysClosed, Component}
 use Rattle.rv_shape.specs.declared.kind.Kind.{Kind}
+use Rattle.rv_history.specs.Limits.{queue_limit}
 use Rattle.rv_history.specs.History.{History}
 
 -- the body is on the object, and it or the operation that is asked for isn't a function
@@ -48,10 +49,6 @@ is_open h object = opens_on (barrier_at (place h.shapes object)) (scalars h.shap
 -- the barrier keeps a call of the operation waiting: it is an entry, and its barrier is closed (9.5.3)
 abbrev pub is_barred : History → ℕ → Kind → Bool
 is_barred h object kind = is_entry kind && not (is_open h object)
-
--- how many may wait in a queue (Max_Entry_Queue_Length)
-abbrev pub queue_limit : ℕ
-queue_limit = 1
 
 -- the queue has its limit of callers (D.7)
 abbrev pub full_queue : History → ℕ → Bool

@@ -7,7 +7,7 @@ use Rattle.rv_event.specs.Past.{under_way, held, waiting, queue}
 use Rattle.rv_event.specs.declared.entry.Body.{Body}
 use Rattle.rv_event.specs.declared.entry.Entry.{Entry}
 use Rattle.rv_history.specs.Fitting.{held_limit}
-use Rattle.rv_history.specs.Exclusion.{queue_limit}
+use Rattle.rv_history.specs.Limits.{queue_limit}
 
 -- the body is on the object
 abbrev pub is_on : ℕ → Body → Bool

@@ -133,7 +133,7 @@ served h a r next n l few e f = by_request r (done_at_ends h a r next e) e
     by_request (Complete vs x) is e =
         let m = names_at h a vs x next n e f in
         let q = m.served_by in
-        let all : AllWait h.shapes h.past (waiting h.past) = legal_waits h.capacity h.past h.shapes h.lists l in
+        let all : AllWait h.shapes h.past (waiting h.past) = legal_waits h.limits h.past h.shapes h.lists l in
         let v = head_waits h.shapes h.past m.body.object q.call q.rest all q.queued in
         let orderly = legal_orderly_at h l in
         let there : q.call.object ≡ m.body.object = same_number q.call.object m.body.object (head_on h.past m.body.object q.call q.rest q.queued) in
@@ -159,7 +159,7 @@ served h a r next n l few e f = by_request r (done_at_ends h a r next e) e
     by_request Halt is e = absurd (off is)
 
 named_served : (h : History) (e : Entry) (n : ℕ) → Legal (record h { past = e ∷ h.past }) → IsWithin h.shapes → named_in (next_of e) ≡ Some n → Served h.shapes h.past n
-named_served h (Asked a r (Done next)) n l few is = served (record { capacity = h.capacity; past = h.past; shapes = h.shapes; lists = h.lists }) a r next n l.0 few l.1 is
+named_served h (Asked a r (Done next)) n l few is = served (record { limits = h.limits; past = h.past; shapes = h.shapes; lists = h.lists }) a r next n l.0 few l.1 is
 named_served h (Asked a r Started) n l few is = absurd (cc)
 named_served h (Asked a r Queued) n l few is = absurd (cc)
 named_served h (Asked a r (Refused rule line version)) n l few is = absurd (cc)
@@ -198,7 +198,7 @@ not_full n e = by_test (nat_lt n 1) refl e
 
 queues_at : (h : History) (e : Entry) (c : Body) → Legal (record h { past = e ∷ h.past }) → IsWithin h.shapes → queued_by e ≡ Some c → Queues h e c
 queues_at h (Asked a (Call o p vs) Queued) c l few is =
-    let j = joins (record { capacity = h.capacity; past = h.past; shapes = h.shapes; lists = h.lists }) a o p vs l.1 in
+    let j = joins (record { limits = h.limits; past = h.past; shapes = h.shapes; lists = h.lists }) a o p vs l.1 in
     let there : o ≡ c.object = ap (λ (b : Body). b.object) (some_is (record { actor = a; object = o; operation = p }) c is) in
     let at = protected_place h.shapes o p j.site j.at in
     record {
@@ -248,4 +248,4 @@ head_call h o l = by_queue (queue o h.past) refl
   where
     by_queue : (q : List Body) → queue o h.past ≡ q → slice_get q 0 ≡ call_of (slice_get (map (λ call. call.actor) q) 0) h.past
     by_queue [] is = refl
-    by_queue (c ∷ cs) is = sym (head_waits h.shapes h.past o c cs (legal_waits h.capacity h.past h.shapes h.lists l) is).last
+    by_queue (c ∷ cs) is = sym (head_waits h.shapes h.past o c cs (legal_waits h.limits h.past h.shapes h.lists l) is).last
