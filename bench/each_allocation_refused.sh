@@ -9,8 +9,9 @@
 # Of all but `run` each must end with status 3, want of memory, and must have written a front of the whole output. A `run` must
 # end in a minute, with status 3, or with 0 and its last line. Each line must be an answer, `nomemory` among them; and `audit`
 # must find the journal that it printed legal. Without threads a run that ends with 0 has answered each command with one line.
-# Scripts may be given instead, for `check --explain` alone. It needs a C compiler, for a library of a few lines that stands
-# before malloc. Statuses: 0 all as it should be, 1 not so, 127 a tool is missing.
+# Scripts may be given instead, for `check --explain` alone. RAVENHOST may name the built program, else it is proved first. It
+# needs a C compiler, for a library of a few lines that stands before malloc. Statuses: 0 all as it should be, 1 not so, 127 a
+# tool is missing.
 set -eu
 command -v cc >/dev/null || {
     echo "bench/each_allocation_refused.sh: cc is missing" >&2
@@ -174,8 +175,8 @@ refuse_each_of_run() {
     count "$number"
 }
 
-./ravenhost --prove
-program=$PWD/crates/ravenhost/out/ravenhost
+program=${RAVENHOST:-$PWD/crates/ravenhost/out/ravenhost}
+[ -n "${RAVENHOST:-}" ] || ./ravenhost --prove
 data=crates/rv_rows/data
 scripts=0 all=0 front="status 3 and a front of the output"
 answer='^(accepted 0|full|halted|badline|raised|unattached|bad command|list BadWord at line 1|nomemory|no thread [A-Za-z0-9_.]+|entries [0-9]+|[0-9]+ .* -> .*)$'
