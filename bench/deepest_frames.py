@@ -67,6 +67,12 @@ def body_bytes(of):
     return whole
 
 
+def needs(program):
+    """What the deepest bodies take of the stack at most, with the frames, for each kind of outside that a program has."""
+    found = [(BODIES * body_bytes(of) + REST, of) for of in frames(program).values() if "value::value_of" in of]
+    return found or sys.exit(f"bench/deepest_frames.py: {program} has no symbols of rv_exec::run")
+
+
 def stack_bytes():
     """The constant, as the source gives it."""
     with open(MACHINE, encoding="utf-8") as file:
@@ -81,13 +87,7 @@ def main(programs):
     room = stack_bytes()
     is_enough = True
     for program in programs:
-        kinds = frames(program)
-        if not any("value::value_of" in of for of in kinds.values()):
-            sys.exit(f"bench/deepest_frames.py: {program} has no symbols of rv_exec::run")
-        for of in kinds.values():
-            if "value::value_of" not in of:
-                continue
-            needed = BODIES * body_bytes(of) + REST
+        for needed, of in needs(program):
             is_enough = is_enough and needed <= room
             told = ", ".join(f"{name.split('::')[1]} {size}" for name, size in sorted(of.items()))
             print(f"{program}: {needed:,} bytes at most, of {room:,}: {told}")

@@ -33,22 +33,22 @@ COMMAND = ["gcc", "-c", "-gnatc", "-gnat2012", "-gnatws", "-gnatec=ravenscar.adc
 class Reason(NamedTuple):
     words: str
     due: str  # a pattern of our verdict
-    gnat: str  # a pattern of GNAT's first error, empty where it takes the text
+    gnat: str  # a pattern of GNAT's first error, which writes words in the case of the text; empty where it takes the text
     text: str = ""  # a pattern of the text
 
 
 # The first that fits is told.
 REASONS = (
-    Reason("pragma Profile behind a with clause: Ada wants configuration pragmas first, ours is read and ignored", ": ok$",
+    Reason("pragma Profile behind a with clause: Ada wants configuration pragmas first (10.1.5), ours is read and ignored", ": ok$",
            "incorrect placement for configuration pragma"),
-    Reason("arguments of a pragma that is read and ignored here: GNAT judges them", ": ok$", 'pragma ".*" does not permit identifier'),
-    Reason("a priority outside 1 .. 40 is refused (own): this machine has 0 .. 98", "^types TooLarge", "", r"priority\s*=>\s*(0|41)\b"),
-    Reason("more than 64 variables in a body are refused (own)", "^types TooLarge", "", r"\bV60\b"),
-    Reason("bounds of ranges and constants of packages have to be static (own)", "^types NotStatic", ""),
-    Reason("a function's parameters are in (own)", "^types BadMode", "", r"\bfunction\s+Extra\b"),
+    Reason("arguments of a pragma that is read and ignored here (2.8): GNAT knows the pragma, and judges them", ": ok$", 'pragma ".*" does not permit identifier'),
+    Reason("a priority outside 1 .. 40 is refused (own): Ada leaves the range to the implementation (13.7, D.1), this machine has 0 .. 98", "^types TooLarge", "", r"priority\s*=>\s*(0|41)\b"),
+    Reason("more than 64 variables in a body are refused (own; a capacity, 1.1.3)", "^types TooLarge", "", r"\bV60\b"),
+    Reason("bounds of ranges and constants of packages have to be static (own): Ada evaluates them (3.5, 3.3.1)", "^types NotStatic", ""),
+    Reason("a function's parameters are in (own): Ada 2012 has all modes (6.1)", "^types BadMode", "", r"\bfunction\s+Extra\b"),
     Reason("GNAT takes a second body of a task, of which Ada has one (3.11.1)", "^names Duplicate", "",
            r"\btask\s+body\s+Pilot\b[\s\S]*\btask\s+body\s+Pilot\b"),
-    Reason("limits of a host, a line attached twice, a ceiling below the lines' (own; in Ada at run time)", "^shape", ""),
+    Reason("limits of a host (own); a line attached twice, a ceiling below the lines' (in Ada at run time: C.3.1, D.3)", "^shape", ""),
     Reason("a named number has each result of its operators in Integer (own): Ada's are universal (3.3.2, 4.9)", "^types TooLarge", "",
            r"\bconstant\s*:=\s*2147483647\s*\*"),
     Reason("a barrier's component has both values of Boolean (own; D.7)", "^types Mismatch", "", r"\brange\s+True\s*\.\.\s*True\b"),
@@ -57,15 +57,15 @@ REASONS = (
     Reason("Standard has the names that are listed (own): Ada's has the units that stand alone (10.1.1(1))", "^names Unknown", "",
            r"\bStandard\s*\.\s*(Plant|Nav|U_1|Engine_Room|i_7)\s*\."),
     Reason("two actuals of one object are taken (own; 6.4.1(6.15))", ": ok$", "^error: writable actual for .* overlaps"),
-    Reason("`others` beside another choice, or not last, is taken (own; 11.2(6))", ": ok$", '(?i)^error: "others" must appear alone and last'),
+    Reason("`others` beside another choice, or not last, is taken (own; 11.2(6))", ": ok$", '^error: "others" must appear alone and last'),
     Reason("a function without a return statement is taken (own; 6.5(5))", ": ok$", '^error: missing "return" statement in function body'),
     Reason("a function that calls an entry of its own unit is taken (own; 9.5(7.1))", ": ok$",
            "^error: within protected function, protected object is constant"),
-    Reason("a static value outside its subtype is refused (own): Ada raises Constraint_Error, of which GNAT warns", "^types TooLarge", ""),
-    Reason("use of a unit is refused (own)", "^names WrongKind", "", r"\buse\s+Plant\b"),
-    Reason("a barrier in parentheses is no component's name (own)", "^restriction Simple_Barriers", "", r"\bwhen\s*\(\s*Ready\s*\)"),
-    Reason("an aspect that isn't known is refused (own): GNAT warns", "^names Unknown", "", r"\bwith\s+Foo\b"),
-    Reason("a procedure that a protected body alone has is refused (own)", "^names Unknown", "", r"\bprocedure\s+Extra\s+is\s+begin\b"),
+    Reason("a static value outside its subtype is refused (own): Ada raises Constraint_Error (3.2.2, 4.6), of which GNAT warns", "^types TooLarge", ""),
+    Reason("use of a unit is refused (own): Ada takes each package (8.4)", "^names WrongKind", "", r"\buse\s+Plant\b"),
+    Reason("a barrier in parentheses is no component's name (own; D.7)", "^restriction Simple_Barriers", "", r"\bwhen\s*\(\s*Ready\s*\)"),
+    Reason("an aspect that isn't known is refused: an implementation may have others (13.1.1), and GNAT warns", "^names Unknown", "", r"\bwith\s+Foo\b"),
+    Reason("a procedure that a protected body alone has is refused (own): Ada takes it (9.4)", "^names Unknown", "", r"\bprocedure\s+Extra\s+is\s+begin\b"),
 )
 
 
@@ -117,7 +117,7 @@ def compared(program: Path | None, case: static_rules.Case) -> Outcome:
 def reason_of(outcome: Outcome) -> str | None:
     first = re.sub(r"^[\w-]+\.ad[sb]:\d+:\d+: ", "", outcome.errors[0]) if outcome.errors else ""
     for reason in REASONS:
-        if re.search(reason.due, outcome.verdict) and re.search(reason.gnat, first) and bool(first) == bool(reason.gnat) \
+        if re.search(reason.due, outcome.verdict) and re.search(reason.gnat, first, re.I) and bool(first) == bool(reason.gnat) \
                 and re.search(reason.text, without_comments(outcome.case.text), re.I):
             return reason.words
     return None

@@ -1,6 +1,6 @@
 #!/usr/bin/env bash
-# Plays the games of crates/port_rows, ports in threads, again and again while all processors are busy, and says how many
-# rounds ended within a minute each with each game as due. How often may be given (200). It proves nothing; a round that
+# Plays the rows of crates/thread_rows again and again while all processors are busy, and says how many rounds ended within
+# a minute each with each row as due. How often may be given (200). It proves nothing; a round that
 # stalls has a port that was not woken. The first time it takes some minutes to prove and build. It needs rt, nproc, seq, cmp
 # and timeout.
 set -eu
@@ -13,7 +13,7 @@ for tool in rt nproc seq cmp timeout; do
     command -v "$tool" >/dev/null || missing "$tool"
 done
 
-cd "$(dirname "$(readlink -f "$0")")/../crates/port_rows"
+cd "$(dirname "$(readlink -f "$0")")/../crates/thread_rows"
 log=$(mktemp)
 busy=()
 stop() {
@@ -25,11 +25,11 @@ stop() {
 trap stop EXIT
 # Here, beside its data, the run itself finds no games; what counts is the proved program that it builds.
 rt run >"$log" 2>&1 </dev/null || true
-if ! [ -x out/port_rows ] || ! [ -e out/port_rows.stamp ]; then
+if ! [ -x out/thread_rows ] || ! [ -e out/thread_rows.stamp ]; then
     cat "$log" >&2
     exit 1
 fi
-program=$PWD/out/port_rows
+program=$PWD/out/thread_rows
 due=$PWD/stdout
 cd data
 for _ in $(seq "$(nproc)"); do

@@ -1,10 +1,23 @@
 //! What is told of a command and of an answer.
 
+use rv_access::Change;
 use rv_event::entry::Answer;
 use rv_event::text::{text_of_answer, text_of_request};
 use rv_history::command::Command;
 use rv_shape::catalogue::Catalogue;
 use std::alloc::{AllocError, Global};
+
+// The words of a change of the list.
+fn change_text(alloc: Global, change: &Change) -> Result<String, AllocError> {
+    match change {
+        Change::Whole(list) => format!(in alloc; "list [{}]", list.text(alloc)?),
+        Change::Append(line) => format!(in alloc; "append {}", line.text(alloc)?),
+        Change::Remove(number) => format!(in alloc; "remove {number}"),
+        Change::Replace(number, line) => {
+            format!(in alloc; "replace {number} {}", line.text(alloc)?)
+        }
+    }
+}
 
 /// The words of a command.
 pub fn command_text(
@@ -18,12 +31,7 @@ pub fn command_text(
             format!(in alloc; "actor {actor}: {text}")
         }
         Command::Load(shape) => format!(in alloc; "load {}", shape.name()),
-        Command::SetList(list) => format!(in alloc; "list [{}]", list.text(alloc)?),
-        Command::AppendLine(line) => format!(in alloc; "append {}", line.text(alloc)?),
-        Command::RemoveLine(number) => format!(in alloc; "remove {number}"),
-        Command::ReplaceLine(number, line) => {
-            format!(in alloc; "replace {number} {}", line.text(alloc)?)
-        }
+        Command::Change(change) => change_text(alloc, change),
     }
 }
 

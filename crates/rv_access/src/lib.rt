@@ -1,6 +1,7 @@
 //! Access lists: the last matching line decides.
 #![tactic(auto)]
 
+mod change;
 mod changes;
 mod decision;
 mod fault;
@@ -9,6 +10,7 @@ mod line;
 mod list;
 mod reading;
 
+pub use change::Change;
 pub use decision::decide;
 pub use fault::ListFault;
 pub use line::Line;

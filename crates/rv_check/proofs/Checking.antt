@@ -5,7 +5,7 @@ use Rattle.rv_script.specs.UnitTexts.{most_unit_bytes}
 use Rattle.rv_settings.specs.Settings.{SettingsText}
 use Rattle.rv_code.specs.Bodies.{UnitBodies}
 use Rattle.rv_unit.specs.Compiles.{IsUnit, IsCompiled}
-use Rattle.rv_unit.specs.declared.unit.Unit.{Unit as Compiled}
+use Rattle.rv_code.specs.declared.unit.Unit.{Unit as Compiled}
 use Rattle.rv_fault.specs.declared.failure.Failure.{Failure}
 use Rattle.rv_fault.specs.declared.failure.Failure.TheVariants.{Refused, Memory, Io}
 use Rattle.rv_fault.specs.declared.fault.What.TheVariants as Whats

@@ -6,7 +6,9 @@ pub mod body;
 pub mod expression;
 mod shape_alone;
 pub mod statement;
+mod unit;
 
 pub use body::{Body, Declaration, ExceptionChoice, Handler, MOST_SLOTS, ObjectBodies, UnitBodies};
 pub use expression::{Callee, Expression, Link, Operator, Prefix};
 pub use statement::{Alternative, Branch, Choice, Place, Statement, Target};
+pub use unit::Unit;

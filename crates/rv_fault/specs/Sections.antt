@@ -8,7 +8,7 @@ use Rattle.rv_shape.specs.declared.fault.ShapeFault.TheVariants.{BadText}
 use Rattle.rv_code.specs.BodyView.{unit_view}
 use Rattle.rv_unit.specs.Compiles.{IsCompiled, IsRefused as IsNoUnit}
 use Rattle.rv_unit.specs.declared.fault.UnitFault.TheVariants.{NoMemory as NoRoom}
-use Rattle.rv_unit.specs.declared.unit.Unit.{Unit as Compiled}
+use Rattle.rv_code.specs.declared.unit.Unit.{Unit as Compiled}
 use Rattle.rv_script.specs.UnitTexts.{most_unit_bytes}
 use Rattle.rv_settings.specs.Settings.{DeviceText, SettingsText, IsSettings, IsRefused, default_settings}
 use Rattle.rv_settings.specs.declared.fault.SettingsFault.TheVariants.{NoMemory}

@@ -5,6 +5,7 @@ use Rattle.std.proofs.lemmas.Bool.{false≢true}
 use Rattle.rv_access.specs.Words.{Words}
 use Rattle.rv_shape.specs.Shape.{Shape}
 use Rattle.rv_shape.specs.Fits.{shape_fits}
+use Rattle.rv_access.specs.declared.change.Change.{Change}
 use Rattle.rv_event.specs.Past.{halted}
 use Rattle.rv_event.specs.Recorded.{recorded}
 use Rattle.rv_event.specs.declared.entry.Answer.{Answer}
@@ -15,7 +16,7 @@ use Rattle.rv_event.specs.declared.entry.Entry.TheVariants.{Load, ListChange}
 use Rattle.rv_history.specs.declared.command.Command.{Command}
 use Rattle.rv_history.specs.declared.command.Command.TheVariants as Commands
 use Rattle.rv_history.specs.History.{History, force}
-use Rattle.rv_history.specs.Lists.{Change, Whole, Append, Remove, Replace, changed}
+use Rattle.rv_history.specs.Lists.{changed}
 use Rattle.rv_history.specs.Due.{out, gate, within, nothing_more}
 use Rattle.rv_history.specs.Legal.{Legal, after_load, entered, line_limit, listed, out_list, out_load}
 use Rattle.rv_history.specs.Owed.{has_room}
@@ -57,18 +58,12 @@ legal_list (Some list) true h e legal =
 pub legal_after : (c : Command) (h : History) → Legal h → Legal (after_command h c (due_command h c))
 legal_after (Commands.Ask actor request) h legal = legal_request (recorded (out h actor request)) h actor request refl legal
 legal_after (Commands.Load shape) h legal = legal_load (is_some (recorded (out_load h shape))) h shape refl legal
-legal_after (Commands.SetList list) h legal = legal_list (changed (force h) (Whole list)) (is_some (recorded (out_list h (changed (force h) (Whole list))))) h refl legal
-legal_after (Commands.AppendLine line) h legal = legal_list (changed (force h) (Append line)) (is_some (recorded (out_list h (changed (force h) (Append line))))) h refl legal
-legal_after (Commands.RemoveLine number) h legal = legal_list (changed (force h) (Remove number)) (is_some (recorded (out_list h (changed (force h) (Remove number))))) h refl legal
-legal_after (Commands.ReplaceLine number line) h legal = legal_list (changed (force h) (Replace number line)) (is_some (recorded (out_list h (changed (force h) (Replace number line))))) h refl legal
+legal_after (Commands.Change change) h legal = legal_list (changed (force h) change) (is_some (recorded (out_list h (changed (force h) change)))) h refl legal
 
 is_due : (c : Command) (h : History) → IsAnswer h c (due_command h c)
 is_due (Commands.Ask actor request) h = refl
 is_due (Commands.Load shape) h = inl refl
-is_due (Commands.SetList list) h = inl refl
-is_due (Commands.AppendLine line) h = inl refl
-is_due (Commands.RemoveLine number) h = inl refl
-is_due (Commands.ReplaceLine number line) h = inl refl
+is_due (Commands.Change change) h = inl refl
 
 -- So does any answer that a command may get
 
@@ -87,10 +82,7 @@ legal_change_by h change answer (inr e) legal = subst (λ (a : Answer). Legal (a
 pub legal_by : (c : Command) (h : History) (answer : Answer) → IsAnswer h c answer → Legal h → Legal (after_command h c answer)
 legal_by (Commands.Ask actor request) h answer e legal = legal_request_by h actor request answer e legal
 legal_by (Commands.Load shape) h answer e legal = legal_load_by h shape answer e legal
-legal_by (Commands.SetList list) h answer e legal = legal_change_by h (Whole list) answer e legal
-legal_by (Commands.AppendLine line) h answer e legal = legal_change_by h (Append line) answer e legal
-legal_by (Commands.RemoveLine number) h answer e legal = legal_change_by h (Remove number) answer e legal
-legal_by (Commands.ReplaceLine number line) h answer e legal = legal_change_by h (Replace number line) answer e legal
+legal_by (Commands.Change change) h answer e legal = legal_change_by h change answer e legal
 
 pub steps_legal : (h k : History) (commands : List Command) (answers : List Answer) → Legal h → Steps h commands answers k → Legal k
 steps_legal h k [] [] legal steps = subst Legal (sym steps) legal

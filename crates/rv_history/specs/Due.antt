@@ -156,10 +156,15 @@ table h actor Halt = nothing_more
 
 -- answered on a halted host too
 abbrev pub goes_on : Request → Bool
+goes_on (Call object operation values) = false
 goes_on (Complete values exit) = true
 goes_on Resume = true
+goes_on (DelayUntil time) = false
+goes_on Clock = false
+goes_on Fire = false
 goes_on Quit = true
-goes_on request = false
+goes_on (Tick n) = false
+goes_on Halt = false
 
 -- Misuse where it does not fit, Halted where the host is shut for it
 abbrev pub gate : Bool → Bool → Answer → Answer

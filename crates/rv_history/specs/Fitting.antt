@@ -79,8 +79,12 @@ in_body mode = false
 abbrev pub awaits : Mode → Bool
 awaits Modes.Idle = false
 awaits Modes.InBody = false
+awaits Modes.Queued = true
+awaits Modes.Handed = true
+awaits Modes.Dropped = true
+awaits Modes.Suspended = true
+awaits Modes.Delayed = true
 awaits Modes.Ended = false
-awaits mode = true
 
 -- the actor is the operator
 abbrev pub is_operator : Who → Bool

@@ -1,13 +1,8 @@
 -- What the changes of the access list make of it (own). Its lines are numbered from 1.
 use Rattle.std.specs.Prelude.{ℕ, ◌-◌, nat_lt, if◌then◌else◌, List, [], ◌∷◌, ◌++◌, take, drop, length, Some, None, Option}
 use Rattle.rv_access.specs.Words.{Words}
-
--- a change of the list
-pub data Change : Type 0 where
-  Whole : List Words → Change
-  Append : Words → Change
-  Remove : ℕ → Change
-  Replace : ℕ → Words → Change
+use Rattle.rv_access.specs.declared.change.Change.{Change}
+use Rattle.rv_access.specs.declared.change.Change.TheVariants.{Whole, Append, Remove, Replace}
 
 -- where there is a line of this number
 abbrev pub at_line : ℕ → List Words → List Words → Option (List Words)

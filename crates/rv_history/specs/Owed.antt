@@ -8,7 +8,8 @@ use Rattle.rv_event.specs.declared.entry.Stance.TheVariants.{Free, InQueue, Hand
 use Rattle.rv_event.specs.declared.entry.Stance.TheVariants.{WaitsUntil, Gone}
 use Rattle.rv_event.specs.declared.entry.Entry.{Entry}
 use Rattle.rv_event.specs.declared.entry.Request.{Request}
-use Rattle.rv_event.specs.declared.entry.Request.TheVariants.{Complete, Resume, Quit, Halt}
+use Rattle.rv_event.specs.declared.entry.Request.TheVariants.{Call, Complete, Resume, DelayUntil, Clock, Fire, Quit}
+use Rattle.rv_event.specs.declared.entry.Request.TheVariants.{Tick, Halt}
 use Rattle.rv_history.specs.History.{History}
 
 -- 2 for a queued call; 2 for a handed one, of which its open start is one; 1 for an actor that is dropped, suspended
@@ -64,8 +65,12 @@ IsSolvent h = length h.past + owed h.shapes h.past ≤ h.capacity
 
 -- the requests that pay for themselves: an end, a resume, a quit and the halt
 abbrev pub is_paid : Request → Bool
+is_paid (Call object operation values) = false
 is_paid (Complete values exit) = true
 is_paid Resume = true
+is_paid (DelayUntil time) = false
+is_paid Clock = false
+is_paid Fire = false
 is_paid Quit = true
+is_paid (Tick n) = false
 is_paid Halt = true
-is_paid request = false

@@ -22,7 +22,8 @@ use Rattle.rv_shape.specs.declared.object.Object.TheVariants.{Protected, Suspens
 use Rattle.rv_shape.specs.Objects.{OperationShape, TaskShape}
 use Rattle.rv_shape.specs.Shape.{Shape}
 use Rattle.rv_history.specs.declared.command.Command.{Command}
-use Rattle.rv_history.specs.declared.command.Command.TheVariants.{Ask, Load, SetList, AppendLine, RemoveLine, ReplaceLine}
+use Rattle.rv_history.specs.declared.command.Command.TheVariants.{Ask, Load, Change}
+use Rattle.rv_access.specs.declared.change.Change.TheVariants.{Whole, Append, Remove, Replace}
 use Rattle.rv_history.specs.History.{History}
 use Rattle.rv_history.specs.Legal.{empty}
 use Rattle.rv_history.specs.Steps.{answers_to, history_after}
@@ -129,7 +130,7 @@ abbrev pub loads : List Command
 loads = Load plant ∷ Load nav ∷ []
 
 abbrev pub loaded : ℕ → List Words → History
-loaded capacity list = history_after (empty capacity) (loads ++ SetList list ∷ [])
+loaded capacity list = history_after (empty capacity) (loads ++ Change (Whole list) ∷ [])
 
 -- the commands, on these units under this list, get these answers
 abbrev pub Gives : List Words → List Command → List Answer → Type 0
@@ -174,14 +175,14 @@ SecondCallerWhileProcedureRuns = Gives (allow_all ∷ [])
 
 abbrev pub GrantTakenAwayWhileQueued : Type 0
 GrantTakenAwayWhileQueued = Gives (allow_all ∷ [])
-    (wait pilot ∷ set aux (pos 1) ∷ AppendLine deny_wait ∷ ends aux (pos 1 ∷ pos 1 ∷ []) [] ∷ get low_task
+    (wait pilot ∷ set aux (pos 1) ∷ Change (Append deny_wait) ∷ ends aux (pos 1 ∷ pos 1 ∷ []) [] ∷ get low_task
     ∷ resume pilot ∷ [])
     (Queued ∷ Started (pos 0 ∷ pos 0 ∷ []) ∷ ok ∷ Done (Dropped pilot 2) ∷ Started (pos 1 ∷ pos 1 ∷ [])
     ∷ Refused Rules.Grant 2 2 ∷ [])
 
 abbrev pub GrantTakenAwayAfterHandOver : Type 0
 GrantTakenAwayAfterHandOver = Gives (allow_all ∷ [])
-    (wait pilot ∷ set aux (pos 1) ∷ wait low_task ∷ ends aux (pos 1 ∷ pos 1 ∷ []) [] ∷ AppendLine deny_wait
+    (wait pilot ∷ set aux (pos 1) ∷ wait low_task ∷ ends aux (pos 1 ∷ pos 1 ∷ []) [] ∷ Change (Append deny_wait)
     ∷ resume pilot ∷ ends pilot (pos 0 ∷ pos 1 ∷ []) [] ∷ [])
     (Queued ∷ Started (pos 0 ∷ pos 0 ∷ []) ∷ Busy ∷ Done (HandedTo pilot) ∷ ok ∷ Woken (Some (pos 1 ∷ pos 1 ∷ []))
     ∷ Done Nothing ∷ [])
@@ -218,8 +219,8 @@ fire line = Ask (line + 1) Fire
 
 abbrev pub Interrupts : Type 0
 Interrupts = answers_to (empty 4096)
-    (Load device ∷ SetList (line true (codes "Interrupts") (codes "Dev.Latch") star ∷ []) ∷ fire 5 ∷ fire 4
-    ∷ ends 5 (pos 1 ∷ []) [] ∷ fire 6 ∷ AppendLine (line false (codes "Interrupts") star (codes "Reset")) ∷ fire 4 ∷ [])
+    (Load device ∷ Change (Whole (line true (codes "Interrupts") (codes "Dev.Latch") star ∷ [])) ∷ fire 5 ∷ fire 4
+    ∷ ends 5 (pos 1 ∷ []) [] ∷ fire 6 ∷ Change (Append (line false (codes "Interrupts") star (codes "Reset"))) ∷ fire 4 ∷ [])
     ≡ ok ∷ ok ∷ Refused Rules.Ceiling 0 1 ∷ Started (pos 0 ∷ []) ∷ Done Nothing ∷ Unattached ∷ ok
     ∷ Refused Rules.Grant 2 2 ∷ []
 
@@ -239,7 +240,7 @@ SuspendedAndReleased = Gives (allow_all ∷ [])
 
 abbrev pub ListEdits : Type 0
 ListEdits = Gives (allow_all ∷ line false (codes "Nav") star star ∷ [])
-    (RemoveLine 3 ∷ RemoveLine 2 ∷ ReplaceLine 1 (line false star star star) ∷ get pilot ∷ [])
+    (Change (Remove 3) ∷ Change (Remove 2) ∷ Change (Replace 1 (line false star star star)) ∷ get pilot ∷ [])
     (BadLine ∷ ok ∷ ok ∷ Refused Rules.Grant 1 3 ∷ [])
 
 abbrev pub Delay : Type 0

@@ -1,11 +1,12 @@
 -- What a list of commands leads to, answer by answer (own).
 use Rattle.std.specs.Prelude.{◌≡◌, ◌⊎◌, List, [], ◌∷◌}
+use Rattle.rv_access.specs.declared.change.Change.{Change}
 use Rattle.rv_event.specs.declared.entry.Answer.{Answer}
 use Rattle.rv_event.specs.declared.entry.Answer.TheVariants.{OutOfMemory}
 use Rattle.rv_history.specs.declared.command.Command.{Command}
-use Rattle.rv_history.specs.declared.command.Command.TheVariants.{Ask, Load, SetList, AppendLine, RemoveLine, ReplaceLine}
+use Rattle.rv_history.specs.declared.command.Command.TheVariants as Commands
 use Rattle.rv_history.specs.History.{History, force}
-use Rattle.rv_history.specs.Lists.{Change, Whole, Append, Remove, Replace, changed}
+use Rattle.rv_history.specs.Lists.{changed}
 use Rattle.rv_history.specs.Due.{out, nothing_more}
 use Rattle.rv_history.specs.Legal.{after, out_load, after_load, out_list, after_list}
 
@@ -19,21 +20,15 @@ after_change h change answer = after_list h (changed (force h) change) answer
 
 -- the answer that is due to a command
 abbrev pub due_command : History → Command → Answer
-due_command h (Ask actor request) = out h actor request
-due_command h (Load shape) = out_load h shape
-due_command h (SetList list) = due_change h (Whole list)
-due_command h (AppendLine line) = due_change h (Append line)
-due_command h (RemoveLine number) = due_change h (Remove number)
-due_command h (ReplaceLine number line) = due_change h (Replace number line)
+due_command h (Commands.Ask actor request) = out h actor request
+due_command h (Commands.Load shape) = out_load h shape
+due_command h (Commands.Change change) = due_change h change
 
 -- the history after an answer to a command
 abbrev pub after_command : History → Command → Answer → History
-after_command h (Ask actor request) answer = after h actor request answer
-after_command h (Load shape) answer = after_load h shape answer
-after_command h (SetList list) answer = after_change h (Whole list) answer
-after_command h (AppendLine line) answer = after_change h (Append line) answer
-after_command h (RemoveLine number) answer = after_change h (Remove number) answer
-after_command h (ReplaceLine number line) answer = after_change h (Replace number line) answer
+after_command h (Commands.Ask actor request) answer = after h actor request answer
+after_command h (Commands.Load shape) answer = after_load h shape answer
+after_command h (Commands.Change change) answer = after_change h change answer
 
 -- what takes memory may be answered OutOfMemory, where it was due to be accepted
 abbrev pub MayLackMemory : Answer → Answer → Type 0
@@ -41,12 +36,9 @@ MayLackMemory due answer = (answer ≡ due) ⊎ ((answer ≡ OutOfMemory) × (du
 
 -- an answer that a command may get
 abbrev pub IsAnswer : History → Command → Answer → Type 0
-IsAnswer h (Ask actor request) answer = answer ≡ out h actor request
-IsAnswer h (Load shape) answer = MayLackMemory (out_load h shape) answer
-IsAnswer h (SetList list) answer = MayLackMemory (due_change h (Whole list)) answer
-IsAnswer h (AppendLine line) answer = MayLackMemory (due_change h (Append line)) answer
-IsAnswer h (RemoveLine number) answer = MayLackMemory (due_change h (Remove number)) answer
-IsAnswer h (ReplaceLine number line) answer = MayLackMemory (due_change h (Replace number line)) answer
+IsAnswer h (Commands.Ask actor request) answer = answer ≡ out h actor request
+IsAnswer h (Commands.Load shape) answer = MayLackMemory (out_load h shape) answer
+IsAnswer h (Commands.Change change) answer = MayLackMemory (due_change h change) answer
 
 -- from h the commands may get these answers, and lead to k
 abbrev pub Steps : History → List Command → List Answer → History → Type 0

@@ -1,6 +1,6 @@
 //! Commands: what may be asked of a host, one after another.
 
-use rv_access::{AccessList, Line};
+use rv_access::Change;
 use rv_event::entry::Request;
 use rv_shape::shape::UnitShape;
 
@@ -11,12 +11,6 @@ pub enum Command {
     Ask(usize, Request),
     /// The load of a unit, by the operator.
     Load(UnitShape),
-    /// The access list, set whole.
-    SetList(AccessList),
-    /// A line more, at the end of the list.
-    AppendLine(Line),
-    /// A line less.
-    RemoveLine(usize),
-    /// Another line in the place of one.
-    ReplaceLine(usize, Line),
+    /// A change of the access list, by the operator.
+    Change(Change),
 }

@@ -49,7 +49,8 @@ fn goes_on(request: &Request) -> bool
         Request::Complete(_, _) => true,
         Request::Resume => true,
         Request::Quit => true,
-        _ => false,
+        Request::Call(_, _, _) | Request::DelayUntil(_) | Request::Clock => false,
+        Request::Fire | Request::Tick(_) | Request::Halt => false,
     }
 }
 

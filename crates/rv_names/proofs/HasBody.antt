@@ -1,16 +1,18 @@
--- A name among those of the bodies of a package has a body.
+-- A name among those of the bodies of a package, or of a protected unit's operations, has a body.
 use Rattle.std.specs.Prelude.{ℕ, Bool, true, false, ◌&&◌, ◌||◌, List, [], ◌∷◌, Option, Some, None, is_some, if◌then◌else◌}
 use Rattle.std.proofs.Common.{◌≡◌, ◌∙◌, ap, sym, refl}
 use Rattle.std.specs.List.{list_all, list_any}
 use Rattle.std.specs.Map.{lookup}
 use Rattle.indexmap.specs.IndexMap.{insert_entry}
 use Rattle.rv_text.specs.Names.{is_same_name}
-use Rattle.rv_tree.specs.Declarations.{Declaration, package_pragma, a_subtype, a_protected_unit, a_task, a_variable, a_constant}
+use Rattle.rv_tree.specs.Declarations.{OperationDeclaration, a_pragma, a_function, a_procedure, an_entry, ProtectedElement, an_operation, a_component, ProtectedUnit, Declaration, package_pragma, a_subtype, a_protected_unit, a_task, a_variable, a_constant}
+use Rattle.rv_tree.specs.Bodies.{OperationBody}
 use Rattle.rv_tree.specs.Units.{BodyItem, body_declaration, body_protected, body_task, UnitTree}
 use Rattle.rv_scope.specs.declared.declared.Declared.{Declared}
 use Rattle.rv_scope.specs.Scope.{Region}
 use Rattle.rv_scope.specs.Predefined.{named}
-use Rattle.rv_names.specs.Completed.{is_body_of, wants_among, item_wants_among, has_body, unit_is_completed, with_body, with_bodies, is_in}
+use Rattle.rv_distinct.specs.BodyNames.{operation_body_name}
+use Rattle.rv_names.specs.Completed.{is_body_of, wants_among, item_wants_among, has_body, unit_is_completed, has_operation_body, operation_wants, element_wants, private_wants, unit_wants, with_body, with_bodies, with_operation_bodies, with_bodies_of, with_all_bodies_of, is_in}
 
 -- a name that is noted
 abbrev noted : Option (Option Declared)
@@ -109,3 +111,63 @@ completed tree names is h e =
     (λ u. all_wider (wants_among (is_in names)) (wants_among (has_body tree.body.items)) (wider (is_in names) (has_body tree.body.items) on) tree.specification.declarations h)
     (all_wider (item_wants_among (is_in names)) (item_wants_among (has_body tree.body.items)) (item_wider (is_in names) (has_body tree.body.items) on) tree.body.items)
     e
+
+-- Operations of protected units
+
+-- the body of an operation has this name
+abbrev names_it : List ℕ → OperationBody → Bool
+names_it n body = is_same_name n (operation_body_name body).text
+
+among_operations : (n : List ℕ) (bodies : List OperationBody) (names : Region) → is_in (with_operation_bodies bodies names) n ≡ true →
+    (list_any (names_it n) bodies || is_in names n) ≡ true
+among_operations n [] names h = h
+among_operations n (body ∷ more) names h =
+    let k = (operation_body_name body).text in
+    swapped (list_any (names_it n) more) (is_same_name n k) (is_in names n)
+    (either (list_any (names_it n) more) (is_in (insert_entry is_same_name names k None) n) (is_same_name n k || is_in names n)
+    (found_behind n k names) (among_operations n more (insert_entry is_same_name names k None) h))
+
+-- those of one protected body, where it is one of the unit
+in_body : (same : Bool) (n : List ℕ) (bodies : List OperationBody) (names : Region) →
+    is_in (if same then with_operation_bodies bodies names else names) n ≡ true → ((same && list_any (names_it n) bodies) || is_in names n) ≡ true
+in_body true n bodies names h = among_operations n bodies names h
+in_body false n bodies names h = h
+
+among_items : (unit n : List ℕ) (items : List BodyItem) (names : Region) → is_in (with_all_bodies_of unit items names) n ≡ true →
+    (has_operation_body items unit n || is_in names n) ≡ true
+among_items unit n [] names h = h
+among_items unit n (body_declaration one ∷ more) names h = among_items unit n more names h
+among_items unit n (body_protected body ∷ more) names h =
+    let same = is_same_name unit body.name.text in
+    let here = same && list_any (names_it n) body.operations in
+    let behind = if same then with_operation_bodies body.operations names else names in
+    swapped (has_operation_body more unit n) here (is_in names n)
+    (either (has_operation_body more unit n) (is_in behind n) (here || is_in names n)
+    (in_body same n body.operations names) (among_items unit n more behind h))
+among_items unit n (body_task body ∷ more) names h = among_items unit n more names h
+
+operation_wider : (f g : List ℕ → Bool) → ((n : List ℕ) → f n ≡ true → g n ≡ true) → (one : OperationDeclaration) → operation_wants f one ≡ true → operation_wants g one ≡ true
+operation_wider f g on (a_pragma pragma) h = refl
+operation_wider f g on (a_function at i parameters mark) h = on i.text h
+operation_wider f g on (a_procedure at i parameters aspects) h = on i.text h
+operation_wider f g on (an_entry entry) h = on entry.name.text h
+
+element_wider : (f g : List ℕ → Bool) → ((n : List ℕ) → f n ≡ true → g n ≡ true) → (one : ProtectedElement) → element_wants f one ≡ true → element_wants g one ≡ true
+element_wider f g on (an_operation operation) h = operation_wider f g on operation h
+element_wider f g on (a_component names mark range initial) h = refl
+
+private_wider : (f g : List ℕ → Bool) → ((n : List ℕ) → f n ≡ true → g n ≡ true) → (part : Option (List ProtectedElement)) → private_wants f part ≡ true → private_wants g part ≡ true
+private_wider f g on None h = refl
+private_wider f g on (Some elements) h = all_wider (element_wants f) (element_wants g) (element_wider f g on) elements h
+
+pub operations_completed : (items : List BodyItem) (unit : ProtectedUnit) (names : Region) → names ≡ with_all_bodies_of unit.name.text items [] →
+    unit_wants (is_in names) unit ≡ true → unit_wants (has_operation_body items unit.name.text) unit ≡ true
+operations_completed items unit names is h =
+    let has : List ℕ → Bool = has_operation_body items unit.name.text in
+    let on : (n : List ℕ) → is_in names n ≡ true → has n ≡ true =
+    λ n found. only (has n) (among_items unit.name.text n items [] (ap (λ (r : Region). is_in r n) (sym is) ∙ found)) in
+    and_both (list_all (operation_wants (is_in names)) unit.operations) (private_wants (is_in names) unit.private)
+    (list_all (operation_wants has) unit.operations) (private_wants has unit.private)
+    (all_wider (operation_wants (is_in names)) (operation_wants has) (operation_wider (is_in names) has on) unit.operations)
+    (private_wider (is_in names) has on unit.private)
+    h

@@ -12,10 +12,10 @@ ghost use Rattle.rv_scope.specs.UnitUses.{local_form as form_of_local, local_use
 
 use crate::expression::{maybe_range, maybe_value, name, refuse};
 use crate::fault::Faults;
-use crate::hide::hide_all;
 use crate::pragma::stray_pragma;
 use crate::statement::statements;
 use rv_scope::declare::{Form, declare_all};
+use rv_scope::members::hide_all;
 use rv_scope::scope::Scope;
 use rv_scope::wanted::Wanted;
 use rv_tree::body::{Block, ExceptionChoice, Handler, Local};

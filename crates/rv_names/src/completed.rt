@@ -7,7 +7,7 @@ ghost use Rattle.std.specs.List.{list_all};
 ghost use Rattle.rv_tree.specs.NameView.{identifier_view};
 ghost use Rattle.rv_tree.specs.DeclarationView.{declaration_view};
 ghost use Rattle.rv_tree.specs.UnitView.{body_item_view, unit_view};
-ghost use Rattle.rv_names.specs.Completed.{wants_among, item_wants_among, unit_is_completed, with_body, with_bodies, is_in};
+ghost use Rattle.rv_names.specs.Completed.{wants_among, item_wants_among, unit_is_completed, operations_are_completed, with_body, with_bodies, is_in};
 
 use crate::completed_operations::missing_operation;
 use crate::completion::{Completion, Kind};
@@ -85,9 +85,9 @@ fn package(alloc: Global, tree: &UnitTree) -> Result<Completion, AllocError> {
     Ok(found)
 }
 
-// The fault of a declaration, whose first token stands at this place, without a body. Of a second one of its name no body
-// is asked, but it is a fault by itself.
-fn body_fault(
+/// The fault of a declaration, whose first token stands at this place, without a body. Of a second one of its name no body
+/// is asked, but it is a fault by itself.
+pub(crate) fn body_fault(
     at: usize,
     declared: &Identifier,
     names: &Region,
@@ -167,7 +167,8 @@ fn bodiless(tree: &UnitTree, names: &Region, found: &Completion) -> Option<NameF
 
 /// The fault of the first declaration without a body. Err where memory was refused.
 pub(crate) fn missing_body(alloc: Global, tree: &UnitTree) -> Result<Option<NameFault>, AllocError>
-    ensures { IfOk result (λ fault. fault ≡ None → unit_is_completed (unit_view tree.now) ≡ true) }
+    ensures bodies { IfOk result (λ fault. fault ≡ None → unit_is_completed (unit_view tree.now) ≡ true) }
+    ensures operations { IfOk result (λ fault. fault ≡ None → operations_are_completed (unit_view tree.now) ≡ true) }
 {
     let names = body_names(alloc, &tree.body.items)?;
     let found = package(alloc, tree)?;

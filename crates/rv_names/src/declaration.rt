@@ -12,11 +12,11 @@ ghost use Rattle.rv_scope.specs.DeclarationUses.{task_item_uses, task_items_uses
 
 use crate::expression::{maybe_name, maybe_range, name, refuse, value};
 use crate::fault::Faults;
-use crate::hide::{hide, hide_all};
 use crate::pragma::{aspects, pragma, stray_pragma, task_rules};
 use crate::protected::protected_unit;
 use rv_scope::declare::{Form, declare_all};
 use rv_scope::declared::Declared;
+use rv_scope::members::{hide, hide_all};
 use rv_scope::scope::Scope;
 use rv_scope::wanted::Wanted;
 use rv_tree::declaration::{Declaration, TaskDefinition, TaskItem, TaskUnit};
@@ -77,7 +77,6 @@ fn subtype(
     hide(declared, scope)?;
     name(mark, Wanted::Subtype, scope, faults);
     maybe_range(part, scope, faults);
-    faults.note_subtype(declared, mark, part, scope)?;
     scope.declare(declared, Some(Declared::Subtype(declared.at)))
 }
 
@@ -127,7 +126,6 @@ fn constants(
     hide_all(names, scope)?;
     maybe_name(mark, Wanted::Subtype, scope, faults);
     value(initial, scope, faults);
-    faults.note_constants(names, mark, initial, scope)?;
     declare_all(names, Form::Constant, scope)
 }
 

@@ -1,17 +1,14 @@
 //! Faults of names.
 
-ghost use Rattle.std.specs.Prelude.{◌≡◌, Bool, true, false, None, OnOk};
+ghost use Rattle.std.specs.Prelude.{◌≡◌, Bool, true, false, None};
 ghost use Rattle.rv_names.specs.declared.fault.NameFault.TheVariants.{NoMemory};
 
-use crate::marks::Marks;
 use crate::missing::Around;
-use rv_scope::scope::Scope;
 use rv_text::is_same_name;
 use rv_tree::body::Block;
 use rv_tree::declaration::ProtectedUnit;
-use rv_tree::expression::{Expression, RangeConstraint};
-use rv_tree::name::{Identifier, Name};
-use std::alloc::{AllocError, AllocFailed, Global};
+use rv_tree::name::Identifier;
+use std::alloc::{AllocError, AllocFailed};
 use std::marker::Model;
 use thiserror::Error;
 
@@ -111,8 +108,6 @@ pub(crate) struct Faults<'a> {
     are_bound: bool,
     /// What is declared around the point, wherever it stands.
     pub(crate) around: Around<'a>,
-    /// What the marks of the profiles so far denote.
-    pub(crate) marks: Marks,
 }
 
 impl<'a> Model for Faults<'a> {
@@ -127,14 +122,13 @@ impl<'a> Model for Faults<'a> {
 
 impl<'a> Faults<'a> {
     /// Nothing so far.
-    pub(crate) fn new(alloc: Global, around: Around<'a>) -> Faults<'a>
+    pub(crate) fn new(around: Around<'a>) -> Faults<'a>
         ensures { result ≡ true }
     {
         Faults {
             least: None,
             are_bound: true,
             around,
-            marks: Marks::new(alloc),
         }
     }
 
@@ -176,39 +170,6 @@ impl<'a> Faults<'a> {
             self.least = Some(fault);
         }
         self.are_bound = false;
-    }
-
-    /// Keeps what the mark of a profile denotes at the point. Err where memory was refused.
-    pub(crate) fn note_mark(&mut self, mark: &Name, scope: &Scope) -> Result<(), AllocError>
-        ensures { OnOk result (self.new ≡ self.old) }
-    {
-        self.marks.note(mark, scope)
-    }
-
-    /// Keeps what is static of a subtype of the package, at the point within its declaration. Err where memory was refused.
-    pub(crate) fn note_subtype(
-        &mut self,
-        declared: &Identifier,
-        mark: &Name,
-        range: &Option<RangeConstraint>,
-        scope: &Scope,
-    ) -> Result<(), AllocError>
-        ensures { OnOk result (self.new ≡ self.old) }
-    {
-        self.marks.note_subtype(declared, mark, range, scope)
-    }
-
-    /// The same of constants of the package, or of named numbers.
-    pub(crate) fn note_constants(
-        &mut self,
-        names: &Vec<Identifier>,
-        mark: &Option<Name>,
-        value: &Expression,
-        scope: &Scope,
-    ) -> Result<(), AllocError>
-        ensures { OnOk result (self.new ≡ self.old) }
-    {
-        self.marks.note_constants(names, mark, value, scope)
     }
 
     /// The attributes are First and Last (3.5).

@@ -13,9 +13,9 @@ ghost use Rattle.rv_scope.specs.DeclarationUses.{parameters_uses, with_parameter
 ghost use Rattle.rv_scope.specs.UnitUses.{block_uses, operation_body_uses, operation_bodies_uses};
 
 use crate::body::block;
-use crate::expression::value;
+use crate::expression::{name, value};
 use crate::fault::{Faults, NameFault};
-use crate::protected::{parameters, profile_mark};
+use crate::protected::parameters;
 use rv_scope::scope::Scope;
 use rv_scope::wanted::Wanted;
 use rv_tree::body::{Block, OperationBody};
@@ -70,7 +70,7 @@ fn function_body<'a>(
     body_name(declared, Wanted::FunctionBody, scope, faults);
     let around = scope.enter_body(declared)?;
     parameters(list, scope, faults)?;
-    profile_mark(mark, scope, faults)?;
+    name(mark, Wanted::Subtype, scope, faults);
     block(part, scope, faults)?;
     scope.leave_body(around);
     Ok(())

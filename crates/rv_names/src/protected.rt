@@ -11,10 +11,10 @@ ghost use Rattle.rv_scope.specs.DeclarationUses.{aspects_uses, parameters_uses, 
 
 use crate::expression::{maybe_range, maybe_value, name};
 use crate::fault::Faults;
-use crate::hide::{hide, hide_all};
 use crate::pragma::{aspects, pragma, procedure_rules, protected_rules};
 use rv_scope::declare::{Form, declare_all};
-use rv_scope::declared::{Declared, OperationKind};
+use rv_scope::declared::OperationKind;
+use rv_scope::members::{declare_operation, hide, hide_all};
 use rv_scope::scope::Scope;
 use rv_scope::wanted::Wanted;
 use rv_tree::declaration::{
@@ -23,19 +23,6 @@ use rv_tree::declaration::{
 use rv_tree::expression::{Expression, RangeConstraint};
 use rv_tree::name::{Identifier, Name};
 use std::alloc::AllocError;
-
-/// The mark of a parameter or a result. What it denotes is kept, since that of the body has to match it
-/// statically (6.3.1).
-pub(crate) fn profile_mark(
-    mark: &Name,
-    scope: &Scope,
-    faults: &mut Faults,
-) -> Result<(), AllocError>
-    ensures { OnOk result (faults.new ≡ judged scope.now Wanted.Subtype (name_view mark.now) faults.old) }
-{
-    name(mark, Wanted::Subtype, scope, faults);
-    faults.note_mark(mark, scope)
-}
 
 // A parameter specification.
 fn parameter(part: &Parameter, scope: &mut Scope, faults: &mut Faults) -> Result<(), AllocError>
@@ -46,7 +33,7 @@ fn parameter(part: &Parameter, scope: &mut Scope, faults: &mut Faults) -> Result
     ensures only { OnOk result (OnlyDeclares scope.old scope.new) }
 {
     hide_all(&part.names, scope)?;
-    profile_mark(&part.mark, scope, faults)?;
+    name(&part.mark, Wanted::Subtype, scope, faults);
     declare_all(&part.names, Form::Parameter, scope)
 }
 
@@ -67,13 +54,13 @@ pub(crate) fn parameters(
 }
 
 // The mark of a result, if there is one.
-fn result_mark(mark: Option<&Name>, scope: &Scope, faults: &mut Faults) -> Result<(), AllocError>
-    ensures { OnOk result (faults.new
-        ≡ maybe_uses (judged scope.now Wanted.Subtype) (maybe (λ n. name_view n.now) mark.entry) faults.old) }
+fn result_mark(mark: Option<&Name>, scope: &Scope, faults: &mut Faults)
+    ensures { faults.new
+        ≡ maybe_uses (judged scope.now Wanted.Subtype) (maybe (λ n. name_view n.now) mark.entry) faults.old }
 {
     match mark {
-        None => Ok(()),
-        Some(mark) => profile_mark(mark, scope, faults),
+        None => {}
+        Some(mark) => name(mark, Wanted::Subtype, scope, faults),
     }
 }
 
@@ -91,20 +78,9 @@ fn profile(
 {
     scope.enter()?;
     parameters(list, scope, faults)?;
-    result_mark(mark, scope, faults)?;
+    result_mark(mark, scope, faults);
     scope.leave();
     Ok(())
-}
-
-/// An operation's identifier is declared.
-pub(crate) fn declare_operation(
-    declared: &Identifier,
-    kind: OperationKind,
-    scope: &mut Scope,
-) -> Result<(), AllocError>
-    ensures scope { OnOk result (scope.new ≡ declaring_operation kind (identifier_view declared.now) scope.old) }
-{
-    scope.declare(declared, Some(Declared::Operation(declared.at, kind)))
 }
 
 fn function(

@@ -6,7 +6,8 @@ ghost use Rattle.rv_tree.specs.UnitView.{unit_view};
 ghost use Rattle.rv_scope.specs.Bound.{judged, AreBound, AllBound, uses};
 ghost use Rattle.rv_distinct.specs.Regions.{names_are_distinct};
 ghost use Rattle.rv_distinct.specs.BodyNames.{has_one_body_each};
-ghost use Rattle.rv_names.specs.Completed.{unit_is_completed};
+ghost use Rattle.rv_conform.specs.Conforms.{bodies_conform};
+ghost use Rattle.rv_names.specs.Completed.{unit_is_completed, operations_are_completed};
 ghost use Rattle.rv_names.specs.EndNames.{unit_ends};
 ghost use Rattle.rv_names.specs.Jumps.{unit_is_placed};
 ghost use Rattle.rv_scope.specs.UnitUses.{unit_uses, protected_units as all_protected_units};
@@ -18,6 +19,7 @@ use crate::end_names::end_name_fault;
 use crate::fault::{Faults, NameFault, earlier};
 use crate::jumps::jump_fault;
 use crate::missing::Around;
+use crate::nonconforming::nonconforming;
 use crate::operation_body::body_name;
 use crate::twice::duplicate;
 use crate::unit::body_items;
@@ -63,7 +65,7 @@ fn least_fault(
         unit: None,
         block: None,
     };
-    let mut faults = Faults::new(alloc, around);
+    let mut faults = Faults::new(around);
     walk(alloc, tree, units.as_slice(), catalogue, &mut faults)?;
     Ok(faults.least())
 }
@@ -76,6 +78,8 @@ fn first_fault(
 ) -> Result<Option<NameFault>, AllocError>
     ensures bound { IfOk result (λ fault. fault ≡ None → AreBound catalogue.now (unit_view tree.now)) }
     ensures bodies { IfOk result (λ fault. fault ≡ None → unit_is_completed (unit_view tree.now) ≡ true) }
+    ensures operations { IfOk result (λ fault. fault ≡ None → operations_are_completed (unit_view tree.now) ≡ true) }
+    ensures conforms { IfOk result (λ fault. fault ≡ None → bodies_conform catalogue.now (unit_view tree.now) ≡ true) }
     ensures ends { IfOk result (λ fault. fault ≡ None → unit_ends (unit_view tree.now) ≡ true) }
     ensures jumps { IfOk result (λ fault. fault ≡ None → unit_is_placed (unit_view tree.now) ≡ true) }
     ensures distinct { IfOk result (λ fault. fault ≡ None → names_are_distinct (unit_view tree.now) ≡ true) }
@@ -83,9 +87,11 @@ fn first_fault(
 {
     let unbound = least_fault(alloc, tree, catalogue)?;
     let bodiless = missing_body(alloc, tree)?;
+    let mismatch = nonconforming(alloc, tree, catalogue)?;
     let twice = duplicate(alloc, tree)?;
     let misplaced = earlier(end_name_fault(tree), jump_fault(tree));
-    Ok(earlier(earlier(unbound, bodiless), earlier(twice, misplaced)))
+    let in_body = earlier(earlier(bodiless, mismatch), earlier(twice, misplaced));
+    Ok(earlier(unbound, in_body))
 }
 
 /// Binds each name of a text to the one declaration that is visible, over the loaded units.
@@ -101,6 +107,8 @@ pub fn resolve<'a>(
     ensures catalogue { IfOk result (λ named. named.catalogue.now ≡ catalogue.now) }
     ensures bound { IfOk result (λ named. AllBound (uses catalogue.now (unit_view tree.now))) }
     ensures bodies { IfOk result (λ named. unit_is_completed (unit_view tree.now) ≡ true) }
+    ensures operations { IfOk result (λ named. operations_are_completed (unit_view tree.now) ≡ true) }
+    ensures conforms { IfOk result (λ named. bodies_conform catalogue.now (unit_view tree.now) ≡ true) }
     ensures ends { IfOk result (λ named. unit_ends (unit_view tree.now) ≡ true) }
     ensures jumps { IfOk result (λ named. unit_is_placed (unit_view tree.now) ≡ true) }
     ensures distinct { IfOk result (λ named. names_are_distinct (unit_view tree.now) ≡ true) }

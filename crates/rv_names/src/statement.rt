@@ -14,8 +14,8 @@ use crate::expression::{
     expression, expressions, maybe_name, maybe_value, name, range, refuse, two_values, value,
 };
 use crate::fault::{Faults, NameFault};
-use crate::hide::hide;
 use rv_scope::declared::Declared;
+use rv_scope::members::hide;
 use rv_scope::scope::Scope;
 use rv_scope::wanted::Wanted;
 use rv_tree::name::{Identifier, Name};

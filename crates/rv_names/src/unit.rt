@@ -14,10 +14,9 @@ ghost use Rattle.rv_scope.specs.UnitUses.{operation_bodies_uses, in_protected_un
 use crate::body::block;
 use crate::declaration::declaration;
 use crate::fault::Faults;
-use crate::members::members;
 use crate::operation_body::{body_name, operation_bodies};
-use crate::rules::unit_bodies;
 use rv_scope::declared::Declared;
+use rv_scope::members::enter_members;
 use rv_scope::scope::Scope;
 use rv_scope::wanted::Wanted;
 use rv_tree::body::{OperationBody, ProtectedBody, TaskBody};
@@ -51,7 +50,6 @@ fn current_bodies<'a>(
     scope.set_current(Some(unit.name.at));
     faults.set_unit(Some(unit));
     operation_bodies(&body.operations, scope, faults)?;
-    unit_bodies(unit, body, scope, faults)?;
     faults.set_unit(None);
     scope.set_current(around);
     Ok(())
@@ -68,7 +66,7 @@ fn in_unit<'a>(
         ≡ operation_bodies_uses judged (in_protected_unit (protected_unit_view unit.now) scope.old) (map operation_body_view body.now.operations.items) faults.old) }
     ensures scope { OnOk result (scope.new ≡ scope.old) }
 {
-    members(unit, scope)?;
+    enter_members(unit, scope)?;
     current_bodies(unit, body, scope, faults)?;
     scope.leave();
     Ok(())

@@ -19,7 +19,7 @@ use crate::barrier::barrier;
 use crate::declaration::declaration;
 use crate::draft::Draft;
 use crate::known::Table;
-use crate::scopes::{declare_parameters, enter_members};
+use rv_scope::members::{declare_parameters, enter_members};
 use rv_scope::{Declared, OperationKind, Scope, Wanted};
 use rv_shape::kind::{Barrier, Kind};
 use rv_static::Faults;

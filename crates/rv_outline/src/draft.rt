@@ -77,7 +77,6 @@ impl Drop for OperationDraft {
 }
 
 /// A protected unit or a task, as far as it is declared.
-#[derive(Drop)]
 pub(crate) struct UnitDraft {
     pub(crate) name: String,
     // Whether other units see it.
@@ -86,6 +85,19 @@ pub(crate) struct UnitDraft {
     pub(crate) priority: Option<usize>,
     pub(crate) components: Vec<Component>,
     pub(crate) operations: Vec<OperationDraft>,
+}
+
+impl Drop for UnitDraft {
+    // A function of its own: a derived one is written out wherever a value is let go, and proved there.
+    fn drop(self) {
+        let UnitDraft {
+            name: _,
+            is_visible: _,
+            priority: _,
+            components: _,
+            operations: _,
+        } = self;
+    }
 }
 
 impl Model for UnitDraft {
@@ -131,7 +143,6 @@ impl Model for ObjectDraft {
 }
 
 /// What a walk through the declarations of a text has found so far.
-#[derive(Drop)]
 pub(crate) struct Draft {
     pub(crate) alloc: Global,
     pub(crate) faults: Faults,
@@ -145,6 +156,23 @@ pub(crate) struct Draft {
     pub(crate) first: usize,
     pub(crate) objects: Vec<ObjectDraft>,
     pub(crate) tasks: Vec<Task>,
+}
+
+impl Drop for Draft {
+    // A function of its own: a derived one is written out wherever a value is let go, and proved there.
+    fn drop(self) {
+        let Draft {
+            alloc: _,
+            faults: _,
+            known: _,
+            kinds: _,
+            current: _,
+            units: _,
+            first: _,
+            objects: _,
+            tasks: _,
+        } = self;
+    }
 }
 
 impl Model for Draft {
@@ -179,6 +207,19 @@ impl UnitDraft {
             operations: Vec::new(alloc),
         }
     }
+
+    fn into_name(self) -> String
+        ensures { string_bytes result ≡ self.name }
+    {
+        let UnitDraft {
+            name,
+            is_visible: _,
+            priority: _,
+            components: _,
+            operations: _,
+        } = self;
+        name
+    }
 }
 
 impl Draft {
@@ -198,6 +239,25 @@ impl Draft {
             objects: Vec::new(alloc),
             tasks: Vec::new(alloc),
         }
+    }
+
+    /// What is known, and the tasks.
+    pub(crate) fn into_parts(self) -> (Table, Vec<Task>)
+        ensures known { result.0 ≡ self.known }
+        ensures tasks { result.1.items ≡ self.tasks }
+    {
+        let Draft {
+            alloc: _,
+            faults: _,
+            known,
+            kinds: _,
+            current: _,
+            units: _,
+            first: _,
+            objects: _,
+            tasks,
+        } = self;
+        (known, tasks)
     }
 
     /// Something is known of the declaration of an identifier.
@@ -321,7 +381,7 @@ impl Draft {
             Some(priority) => priority,
             None => 15,
         };
-        self.tasks.push(Task::new(unit.name, priority))?;
+        self.tasks.push(Task::new(unit.into_name(), priority))?;
         Ok(())
     }
 

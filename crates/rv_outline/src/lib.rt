@@ -19,7 +19,6 @@ mod pragma;
 mod priority;
 pub mod profile;
 mod protected;
-pub mod scopes;
 mod shape;
 pub mod subtype;
 mod task;

@@ -1,10 +1,11 @@
 //! The outline of a unit text: what its declarations mean, and the shape of its unit.
 
-ghost use Rattle.std.specs.Prelude.{◌≡◌, ◌≤◌, ◌||◌, IfOk, map, false, Some, true};
+ghost use Rattle.std.specs.Prelude.{◌≡◌, ◌≤◌, ◌||◌, IfOk, OnOk, map, false, Some, true};
 ghost use Rattle.rv_tree.specs.UnitView.{unit_view};
 ghost use Rattle.rv_tree.specs.DeclarationView.{protected_unit_view};
+ghost use Rattle.rv_scope.specs.DeclarationUses.{with_declarations};
 ghost use Rattle.rv_scope.specs.UnitUses.{protected_units as all_protected_units};
-ghost use Rattle.rv_outline.specs.Declarations.{drafted};
+ghost use Rattle.rv_outline.specs.Declarations.{body_items_outlined, declarations_outlined, drafted};
 ghost use Rattle.rv_outline.specs.Shapes.{outline_of as outline_of_draft, outlined, shape_of};
 
 use crate::body::body_items;
@@ -12,11 +13,13 @@ use crate::declaration::declarations;
 use crate::draft::Draft;
 use crate::known::Table;
 use crate::shape::{objects, types, unit_shapes};
+use rv_scope::Scope;
 use rv_scope::context::package_scope;
 use rv_scope::named::{Named, protected_units};
 use rv_shape::object::ProtectedObject;
 use rv_shape::shape::UnitShape;
 use rv_static::Faults;
+use rv_tree::{ProtectedUnit, UnitTree};
 use std::alloc::{AllocError, Global};
 use std::marker::Model;
 
@@ -30,7 +33,6 @@ pub enum ObjectType {
 }
 
 /// What the declarations of a unit text mean. A declaration that doesn't fit is left out, and a fault was told of it.
-#[derive(Drop)]
 pub struct Outline {
     // Whether a fault was told.
     told: bool,
@@ -38,6 +40,19 @@ pub struct Outline {
     units: Vec<ProtectedObject>,
     objects: Vec<ObjectType>,
     shape: UnitShape,
+}
+
+impl Drop for Outline {
+    // A function of its own: a derived one is written out wherever a value is let go, and proved there.
+    fn drop(self) {
+        let Outline {
+            told: _,
+            known: _,
+            units: _,
+            objects: _,
+            shape: _,
+        } = self;
+    }
 }
 
 impl Model for Outline {
@@ -90,8 +105,31 @@ impl Outline {
         ensures shape { result.0 ≡ self.shape }
         ensures known { result.1 ≡ self.known }
     {
-        (self.shape, self.known)
+        let Outline {
+            told: _,
+            known,
+            units: _,
+            objects: _,
+            shape,
+        } = self;
+        (shape, known)
     }
+}
+
+// The declarations of the package, and behind them the items of its body.
+fn declare_all(
+    tree: &UnitTree,
+    units: &[&ProtectedUnit],
+    scope: &mut Scope,
+    draft: &mut Draft,
+) -> Result<(), AllocError>
+    ensures { OnOk result (draft.new
+        ≡ body_items_outlined (map (λ u. protected_unit_view u.now) units.now)
+        (with_declarations (unit_view tree.now).specification.declarations scope.old) (unit_view tree.now).body.items
+        (declarations_outlined scope.old (unit_view tree.now).specification.declarations draft.old)) }
+{
+    declarations(&tree.specification.declarations, scope, draft)?;
+    body_items(&tree.body.items, units, scope, draft)
 }
 
 // All that a text declares, over the loaded units.
@@ -102,8 +140,7 @@ fn draft(alloc: Global, named: &Named) -> Result<Draft, AllocError>
     let units = protected_units(alloc, tree)?;
     let mut scope = package_scope(alloc, tree, named.catalogue)?;
     let mut draft = Draft::new(alloc, named.catalogue.objects());
-    declarations(&tree.specification.declarations, &mut scope, &mut draft)?;
-    body_items(&tree.body.items, units.as_slice(), &mut scope, &mut draft)?;
+    declare_all(tree, units.as_slice(), &mut scope, &mut draft)?;
     Ok(draft)
 }
 
@@ -116,12 +153,13 @@ fn outline_named(alloc: Global, name: &str, draft: Draft) -> Result<Outline, All
     let objects = types(alloc, &draft.objects)?;
     let name = String::from_str(alloc, name)?;
     let told = draft.faults.first().is_some();
+    let (known, tasks) = draft.into_parts();
     Ok(Outline {
         told,
-        known: draft.known,
+        known,
         units,
         objects,
-        shape: UnitShape::new(name, draft.tasks, all),
+        shape: UnitShape::new(name, tasks, all),
     })
 }
 

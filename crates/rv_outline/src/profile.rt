@@ -11,9 +11,9 @@ ghost use Rattle.rv_outline.specs.Profiles.{passing as passing_of, for_each_name
 
 use crate::known::Table;
 use crate::point::Point;
-use crate::scopes::hide_all;
 use rv_scope::Scope;
 use rv_scope::declare::{Form, declare_all};
+use rv_scope::members::hide_all;
 use rv_shape::kind::{Kind, Parameter, ParameterMode};
 use rv_shape::object::Operation;
 use rv_static::{Faults, TypeFault, subtype};

@@ -7,7 +7,7 @@ ghost use Rattle.rv_outline.specs.ProtectedUnits.{task_item_outlined, task_items
 
 use crate::draft::Draft;
 use crate::pragma::{aspects, pragma};
-use crate::scopes::hide;
+use rv_scope::members::hide;
 use rv_scope::{Declared, Scope};
 use rv_tree::{TaskDefinition, TaskItem, TaskUnit};
 use std::alloc::AllocError;

@@ -10,3 +10,4 @@ pub mod BodyRules
 pub mod UnitRules
 pub mod Texts
 pub mod Nesting
+pub mod Closing

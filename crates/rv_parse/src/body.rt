@@ -9,8 +9,10 @@ ghost use Rattle.rv_parse.specs.Reading as spec;
 ghost use Rattle.rv_parse.specs.BodyRules as rules;
 ghost use Rattle.rv_parse.specs.Contract.{Reads};
 
+use crate::closing::before;
 use crate::cursor::Cursor;
 use crate::fault::ParseFault;
+use crate::held::Held;
 use crate::name::end_name;
 use crate::operation::parameters;
 use crate::phrase::{Phrase, at_least_one, listed, many, optional, optional_after};
@@ -31,16 +33,16 @@ fn local_object(alloc: Global, tokens: &mut Cursor<'_>) -> Result<Local, ParseFa
     tokens.expect(Kind::Colon)?;
     let is_constant = tokens.eat(Kind::Constant);
     let mark = Name::read(alloc, tokens)?;
-    let range = optional(alloc, tokens)?;
+    let range = Held::new(optional(alloc, tokens)?);
     let value = optional_after(alloc, tokens, Kind::Becomes)?;
-    tokens.expect(Kind::Semicolon)?;
-    Ok(Local::Object {
+    let read = Local::Object {
         names,
         is_constant,
         mark,
-        range,
+        range: range.take(),
         value,
-    })
+    };
+    before(tokens, Kind::Semicolon, read)
 }
 
 impl Phrase for Local {
@@ -205,14 +207,14 @@ fn entry_body(alloc: Global, tokens: &mut Cursor<'_>) -> Result<OperationBody, P
     let name = Identifier::read(alloc, tokens)?;
     let parameters = parameters(alloc, tokens)?;
     tokens.expect(Kind::When)?;
-    let barrier = Expression::read(alloc, tokens)?;
+    let barrier = Held::new(Expression::read(alloc, tokens)?);
     tokens.expect(Kind::Is)?;
     let block = block(alloc, tokens)?;
     Ok(OperationBody::Entry {
         at,
         name,
         parameters,
-        barrier,
+        barrier: barrier.take(),
         block,
     })
 }

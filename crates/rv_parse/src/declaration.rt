@@ -7,6 +7,7 @@ ghost use Rattle.rv_parse.specs.Reading as spec;
 ghost use Rattle.rv_parse.specs.DeclarationRules as rules;
 ghost use Rattle.rv_parse.specs.Contract.{Reads};
 
+use crate::closing::before;
 use crate::cursor::Cursor;
 use crate::fault::ParseFault;
 use crate::phrase::{Phrase, listed, optional};
@@ -24,13 +25,13 @@ fn subtype(alloc: Global, tokens: &mut Cursor<'_>) -> Result<Declaration, ParseF
     tokens.expect(Kind::Is)?;
     let mark = Name::read(alloc, tokens)?;
     let range = optional(alloc, tokens)?;
-    tokens.expect(Kind::Semicolon)?;
-    Ok(Declaration::Subtype {
+    let read = Declaration::Subtype {
         at,
         name,
         mark,
         range,
-    })
+    };
+    before(tokens, Kind::Semicolon, read)
 }
 
 // "constant" [mark] ":=" expr ";"
@@ -46,8 +47,8 @@ fn constant(
     let mark = optional(alloc, tokens)?;
     tokens.expect(Kind::Becomes)?;
     let value = Expression::read(alloc, tokens)?;
-    tokens.expect(Kind::Semicolon)?;
-    Ok(Declaration::Constant { names, mark, value })
+    let read = Declaration::Constant { names, mark, value };
+    before(tokens, Kind::Semicolon, read)
 }
 
 // mark ";"
@@ -60,8 +61,11 @@ fn variable(
     ensures { Reads view.declaration_view (rules.variable (identifiers_view names.items) tokens.old) result tokens.new }
 {
     let mark = Name::read(alloc, tokens)?;
-    tokens.expect(Kind::Semicolon)?;
-    Ok(Declaration::Variable { names, mark })
+    before(
+        tokens,
+        Kind::Semicolon,
+        Declaration::Variable { names, mark },
+    )
 }
 
 // ids ":" (mark | "constant" [mark] ":=" expr) ";"

@@ -9,6 +9,7 @@ ghost use Rattle.rv_parse.specs.Nests.{Nests};
 
 use crate::cursor::Cursor;
 use crate::fault::ParseFault;
+use crate::held::Held;
 use crate::operator::{adding, highest, joined, joining, multiplying, relational};
 use crate::phrase::Phrase;
 use rv_lex::kind::Kind;
@@ -213,11 +214,12 @@ impl<F: Fn(Global, &mut Cursor<'_>, usize) -> Result<Expression, ParseFault>> Gr
         ensures { Reads expression_view (rules.term (rules.opening self.now.depth) (rules.inside self.now.depth) tokens.old) result tokens.new }
     {
         let first = self.factor(tokens)?;
+        let held = Held::new(first);
         let more = self.factors(tokens)?;
         if more.is_empty() {
-            return Ok(first);
+            return Ok(held.take());
         }
-        Ok(Expression::Product(Box::new(self.alloc, first)?, more))
+        Ok(Expression::Product(Box::new(self.alloc, held.take())?, more))
     }
 
     // [sign] term
@@ -259,11 +261,12 @@ impl<F: Fn(Global, &mut Cursor<'_>, usize) -> Result<Expression, ParseFault>> Gr
         ensures { Reads expression_view (rules.simple (rules.opening self.now.depth) (rules.inside self.now.depth) tokens.old) result tokens.new }
     {
         let first = self.signed_term(tokens)?;
+        let held = Held::new(first);
         let more = self.terms(tokens)?;
         if more.is_empty() {
-            return Ok(first);
+            return Ok(held.take());
         }
-        Ok(Expression::Sum(Box::new(self.alloc, first)?, more))
+        Ok(Expression::Sum(Box::new(self.alloc, held.take())?, more))
     }
 
     // simple [relational simple]

@@ -15,6 +15,7 @@ ghost use Rattle.rv_parse.specs.Contract.{Reads};
 use crate::cursor::Cursor;
 use crate::expression::{MAX_OPEN, expression};
 use crate::fault::ParseFault;
+use crate::held::Held;
 use crate::phrase::{Phrase, enclosed, listed, optional_after};
 use rv_lex::kind::Kind;
 use rv_tree::{Aspect, Expression, Identifier, Pragma, PragmaArgument, RangeConstraint};
@@ -67,10 +68,14 @@ impl Phrase for RangeConstraint {
     #[tactic(auto, unfolding(crate::specs::DeclarationRules::range))]
     fn read(alloc: Global, tokens: &mut Cursor<'_>) -> Result<RangeConstraint, ParseFault> {
         let at = tokens.expect(Kind::Range)?;
-        let low = Expression::read(alloc, tokens)?;
+        let low = Held::new(Expression::read(alloc, tokens)?);
         tokens.expect(Kind::DoubleDot)?;
         let high = Expression::read(alloc, tokens)?;
-        Ok(RangeConstraint { at, low, high })
+        Ok(RangeConstraint {
+            at,
+            low: low.take(),
+            high,
+        })
     }
 }
 

@@ -11,9 +11,11 @@ ghost use Rattle.rv_parse.specs.ExpressionRules.{begins_expression};
 ghost use Rattle.rv_parse.specs.StatementRules as rules;
 ghost use Rattle.rv_parse.specs.Contract.{Reads};
 
+use crate::closing::before;
 use crate::cursor::Cursor;
 use crate::expression::{Grammar, MAX_OPEN, expression};
 use crate::fault::ParseFault;
+use crate::held::Held;
 use crate::phrase::{Phrase, listed, optional, optional_after};
 use rv_lex::kind::Kind;
 use rv_tree::{
@@ -40,12 +42,12 @@ impl Phrase for Choice {
         if tokens.sees(Kind::Others) {
             return Ok(Choice::Others(tokens.expect(Kind::Others)?));
         }
-        let low = Expression::read(alloc, tokens)?;
+        let low = Held::new(Expression::read(alloc, tokens)?);
         if !tokens.eat(Kind::DoubleDot) {
-            return Ok(Choice::Value(low));
+            return Ok(Choice::Value(low.take()));
         }
         let high = Expression::read(alloc, tokens)?;
-        Ok(Choice::Range(low, high))
+        Ok(Choice::Range(low.take(), high))
     }
 }
 
@@ -60,8 +62,9 @@ fn bounds_from(
     if !tokens.eat(Kind::DoubleDot) {
         return Ok(LoopBounds::Whole(low));
     }
+    let low = Held::new(low);
     let high = Expression::read(alloc, tokens)?;
-    Ok(LoopBounds::Between(low, high))
+    Ok(LoopBounds::Between(low.take(), high))
 }
 
 // expr [".." expr] | name range
@@ -90,12 +93,12 @@ fn for_loop(alloc: Global, tokens: &mut Cursor<'_>) -> Result<Iteration, ParseFa
     tokens.expect(Kind::In)?;
     let is_reverse = tokens.eat(Kind::Reverse);
     let bounds = bounds(alloc, tokens)?;
-    tokens.expect(Kind::Loop)?;
-    Ok(Iteration::For {
+    let read = Iteration::For {
         parameter,
         is_reverse,
         bounds,
-    })
+    };
+    before(tokens, Kind::Loop, read)
 }
 
 /// `["while" expr | "for" id "in" ["reverse"] bounds] "loop"`.
@@ -105,8 +108,7 @@ pub fn iteration(alloc: Global, tokens: &mut Cursor<'_>) -> Result<Iteration, Pa
 {
     if tokens.eat(Kind::While) {
         let condition = Expression::read(alloc, tokens)?;
-        tokens.expect(Kind::Loop)?;
-        return Ok(Iteration::While(condition));
+        return before(tokens, Kind::Loop, Iteration::While(condition));
     }
     if tokens.eat(Kind::For) {
         return for_loop(alloc, tokens);
@@ -148,12 +150,10 @@ fn named_statement(alloc: Global, tokens: &mut Cursor<'_>) -> Result<Statement, 
     let name = Name::read(alloc, tokens)?;
     if tokens.eat(Kind::Becomes) {
         let value = Expression::read(alloc, tokens)?;
-        tokens.expect(Kind::Semicolon)?;
-        return Ok(Statement::Assignment(name, value));
+        return before(tokens, Kind::Semicolon, Statement::Assignment(name, value));
     }
     let arguments = call_arguments(alloc, tokens)?;
-    tokens.expect(Kind::Semicolon)?;
-    Ok(Statement::Call(name, arguments))
+    before(tokens, Kind::Semicolon, Statement::Call(name, arguments))
 }
 
 #[tactic(auto, unfolding(crate::specs::StatementRules::exit_statement))]
@@ -162,8 +162,7 @@ fn exit_statement(alloc: Global, tokens: &mut Cursor<'_>) -> Result<Statement, P
 {
     let at = tokens.expect(Kind::Exit)?;
     let condition = optional_after(alloc, tokens, Kind::When)?;
-    tokens.expect(Kind::Semicolon)?;
-    Ok(Statement::Exit(at, condition))
+    before(tokens, Kind::Semicolon, Statement::Exit(at, condition))
 }
 
 #[tactic(auto, unfolding(crate::specs::StatementRules::return_statement))]
@@ -172,8 +171,7 @@ fn return_statement(alloc: Global, tokens: &mut Cursor<'_>) -> Result<Statement,
 {
     let at = tokens.expect(Kind::Return)?;
     let value = optional(alloc, tokens)?;
-    tokens.expect(Kind::Semicolon)?;
-    Ok(Statement::Return(at, value))
+    before(tokens, Kind::Semicolon, Statement::Return(at, value))
 }
 
 #[tactic(auto, unfolding(crate::specs::StatementRules::raise_statement))]
@@ -182,8 +180,7 @@ fn raise_statement(alloc: Global, tokens: &mut Cursor<'_>) -> Result<Statement, 
 {
     let at = tokens.expect(Kind::Raise)?;
     let exception = optional(alloc, tokens)?;
-    tokens.expect(Kind::Semicolon)?;
-    Ok(Statement::Raise(at, exception))
+    before(tokens, Kind::Semicolon, Statement::Raise(at, exception))
 }
 
 #[tactic(auto, unfolding(crate::specs::StatementRules::delay_statement))]
@@ -193,8 +190,11 @@ fn delay_statement(alloc: Global, tokens: &mut Cursor<'_>) -> Result<Statement, 
     let at = tokens.expect(Kind::Delay)?;
     let is_until = tokens.eat(Kind::Until);
     let time = Expression::read(alloc, tokens)?;
-    tokens.expect(Kind::Semicolon)?;
-    Ok(Statement::Delay { at, is_until, time })
+    before(
+        tokens,
+        Kind::Semicolon,
+        Statement::Delay { at, is_until, time },
+    )
 }
 
 #[tactic(auto, unfolding(crate::specs::StatementRules::abort_statement))]
@@ -203,8 +203,7 @@ fn abort_statement(alloc: Global, tokens: &mut Cursor<'_>) -> Result<Statement, 
 {
     let at = tokens.expect(Kind::Abort)?;
     let names = listed(alloc, tokens, Kind::Comma)?;
-    tokens.expect(Kind::Semicolon)?;
-    Ok(Statement::Abort(at, names))
+    before(tokens, Kind::Semicolon, Statement::Abort(at, names))
 }
 
 // ["with" "abort"]
@@ -226,12 +225,12 @@ fn requeue_statement(alloc: Global, tokens: &mut Cursor<'_>) -> Result<Statement
     let at = tokens.expect(Kind::Requeue)?;
     let target = Name::read(alloc, tokens)?;
     let with_abort = with_abort(tokens)?;
-    tokens.expect(Kind::Semicolon)?;
-    Ok(Statement::Requeue {
+    let read = Statement::Requeue {
         at,
         target,
         with_abort,
-    })
+    };
+    before(tokens, Kind::Semicolon, read)
 }
 
 /// A statement that holds no others.
@@ -270,7 +269,6 @@ impl Phrase for Guard {
     fn read(alloc: Global, tokens: &mut Cursor<'_>) -> Result<Guard, ParseFault> {
         let at = tokens.expect(Kind::When)?;
         let condition = Expression::read(alloc, tokens)?;
-        tokens.expect(Kind::Arrow)?;
-        Ok(Guard { at, condition })
+        before(tokens, Kind::Arrow, Guard { at, condition })
     }
 }

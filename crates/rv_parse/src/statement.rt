@@ -11,8 +11,10 @@ ghost use Rattle.rv_parse.specs.StatementRules as rules;
 ghost use Rattle.rv_parse.specs.Contract.{Reads, Refuses};
 ghost use Rattle.rv_parse.specs.NestsStatements.{NestsStatements};
 
+use crate::closing::{before, closed};
 use crate::cursor::Cursor;
 use crate::fault::ParseFault;
+use crate::held::Held;
 use crate::operation::parameters;
 use crate::phrase::{Phrase, listed, optional};
 use crate::simple::{iteration, simple_statement};
@@ -152,12 +154,12 @@ impl<F: Fn(Global, &mut Cursor<'_>, usize) -> Result<Statement, ParseFault>> Nes
         ensures { Reads view.elsif_part_view (rules.elsif_part (rules.statement self.now.depth) tokens.old) result tokens.new }
     {
         let at = tokens.expect(Kind::Elsif)?;
-        let condition = Expression::read(self.alloc, tokens)?;
+        let condition = Held::new(Expression::read(self.alloc, tokens)?);
         tokens.expect(Kind::Then)?;
         let statements = self.statements(tokens)?;
         Ok(ElsifPart {
             at,
-            condition,
+            condition: condition.take(),
             statements,
         })
     }
@@ -183,21 +185,19 @@ impl<F: Fn(Global, &mut Cursor<'_>, usize) -> Result<Statement, ParseFault>> Nes
         ensures { Reads view.statement_view (rules.if_statement (rules.statement self.now.depth) tokens.old) result tokens.new }
     {
         let at = tokens.expect(Kind::If)?;
-        let condition = Expression::read(self.alloc, tokens)?;
+        let condition = Held::new(Expression::read(self.alloc, tokens)?);
         tokens.expect(Kind::Then)?;
         let statements = self.statements(tokens)?;
         let elsif_parts = self.elsif_parts(tokens)?;
         let else_statements = self.statements_after(tokens, Kind::Else)?;
-        tokens.expect(Kind::End)?;
-        tokens.expect(Kind::If)?;
-        tokens.expect(Kind::Semicolon)?;
-        Ok(Statement::If {
+        let read = Statement::If {
             at,
-            condition,
+            condition: condition.take(),
             statements,
             elsif_parts,
             else_statements,
-        })
+        };
+        closed(tokens, Kind::If, read)
     }
 
     // "when" alt {"|" alt} "=>" stmts
@@ -238,17 +238,15 @@ impl<F: Fn(Global, &mut Cursor<'_>, usize) -> Result<Statement, ParseFault>> Nes
         ensures { Reads view.statement_view (rules.case_statement (rules.statement self.now.depth) tokens.old) result tokens.new }
     {
         let at = tokens.expect(Kind::Case)?;
-        let selector = Expression::read(self.alloc, tokens)?;
+        let selector = Held::new(Expression::read(self.alloc, tokens)?);
         tokens.expect(Kind::Is)?;
         let alternatives = self.alternatives(tokens)?;
-        tokens.expect(Kind::End)?;
-        tokens.expect(Kind::Case)?;
-        tokens.expect(Kind::Semicolon)?;
-        Ok(Statement::Case {
+        let read = Statement::Case {
             at,
-            selector,
+            selector: selector.take(),
             alternatives,
-        })
+        };
+        closed(tokens, Kind::Case, read)
     }
 
     // iteration "loop" stmts "end" "loop" ";"
@@ -258,16 +256,14 @@ impl<F: Fn(Global, &mut Cursor<'_>, usize) -> Result<Statement, ParseFault>> Nes
         ensures { Reads view.statement_view (rules.loop_statement (rules.statement self.now.depth) tokens.old) result tokens.new }
     {
         let at = tokens.at();
-        let iteration = iteration(self.alloc, tokens)?;
+        let iteration = Held::new(iteration(self.alloc, tokens)?);
         let statements = self.statements(tokens)?;
-        tokens.expect(Kind::End)?;
-        tokens.expect(Kind::Loop)?;
-        tokens.expect(Kind::Semicolon)?;
-        Ok(Statement::Loop {
+        let read = Statement::Loop {
             at,
-            iteration,
+            iteration: iteration.take(),
             statements,
-        })
+        };
+        closed(tokens, Kind::Loop, read)
     }
 
     // "accept" id [params] ["do" stmts "end" [id]] ";"
@@ -280,14 +276,14 @@ impl<F: Fn(Global, &mut Cursor<'_>, usize) -> Result<Statement, ParseFault>> Nes
         let entry = Identifier::read(self.alloc, tokens)?;
         let parameters = parameters(self.alloc, tokens)?;
         let (statements, end_name) = self.accept_body(tokens)?;
-        tokens.expect(Kind::Semicolon)?;
-        Ok(Statement::Accept {
+        let read = Statement::Accept {
             at,
             entry,
             parameters,
             statements,
             end_name,
-        })
+        };
+        before(tokens, Kind::Semicolon, read)
     }
 
     // ["do" stmts "end" [id]]
@@ -314,14 +310,14 @@ impl<F: Fn(Global, &mut Cursor<'_>, usize) -> Result<Statement, ParseFault>> Nes
         requires { NestsStatements self.now.depth (F.pre self.now.statement) (F.post self.now.statement) }
         ensures { Reads view.selective_view (rules.selective (rules.statement self.now.depth) tokens.old) result tokens.new }
     {
-        let guard = optional(self.alloc, tokens)?;
+        let guard = Held::new(optional(self.alloc, tokens)?);
         if tokens.sees(Kind::Terminate) {
             let at = tokens.expect(Kind::Terminate)?;
             tokens.expect(Kind::Semicolon)?;
-            return Ok(SelectAlternative::Terminate(guard, at));
+            return Ok(SelectAlternative::Terminate(guard.take(), at));
         }
         let statements = self.statements(tokens)?;
-        Ok(SelectAlternative::Statements(guard, statements))
+        Ok(SelectAlternative::Statements(guard.take(), statements))
     }
 
     // sel {"or" sel}
@@ -362,15 +358,13 @@ impl<F: Fn(Global, &mut Cursor<'_>, usize) -> Result<Statement, ParseFault>> Nes
         let alternatives = self.selectives(tokens)?;
         let else_statements = self.statements_after(tokens, Kind::Else)?;
         let abort_statements = self.then_abort(tokens)?;
-        tokens.expect(Kind::End)?;
-        tokens.expect(Kind::Select)?;
-        tokens.expect(Kind::Semicolon)?;
-        Ok(Statement::Select {
+        let read = Statement::Select {
             at,
             alternatives,
             else_statements,
             abort_statements,
-        })
+        };
+        closed(tokens, Kind::Select, read)
     }
 
     /// A statement of any kind.

@@ -8,8 +8,10 @@ ghost use Rattle.rv_parse.specs.Reading as spec;
 ghost use Rattle.rv_parse.specs.DeclarationRules as rules;
 ghost use Rattle.rv_parse.specs.Contract.{Reads};
 
+use crate::closing::before;
 use crate::cursor::Cursor;
 use crate::fault::ParseFault;
+use crate::held::Held;
 use crate::name::end_name;
 use crate::part::aspects;
 use crate::phrase::{Phrase, listed, many, optional, optional_after};
@@ -28,15 +30,15 @@ fn component(alloc: Global, tokens: &mut Cursor<'_>) -> Result<ProtectedElement,
     let names = listed(alloc, tokens, Kind::Comma)?;
     tokens.expect(Kind::Colon)?;
     let mark = Name::read(alloc, tokens)?;
-    let range = optional(alloc, tokens)?;
+    let range = Held::new(optional(alloc, tokens)?);
     let value = optional_after(alloc, tokens, Kind::Becomes)?;
-    tokens.expect(Kind::Semicolon)?;
-    Ok(ProtectedElement::Component {
+    let read = ProtectedElement::Component {
         names,
         mark,
-        range,
+        range: range.take(),
         value,
-    })
+    };
+    before(tokens, Kind::Semicolon, read)
 }
 
 // pragma | op | comp

@@ -122,9 +122,7 @@ one_step a b p q result line asker Asks.Fire other carries = carries
 one_step a b p q result line asker Asks.Quit other carries = carries
 one_step a b p q result line asker (Asks.Tick ticks) other carries = carries
 one_step a b p q result line asker Asks.Halt other carries = carries
-one_step a b p q result line asker (Asks.Append given) other carries = carries
-one_step a b p q result line asker (Asks.Remove number) other carries = carries
-one_step a b p q result line asker (Asks.Replace number given) other carries = carries
+one_step a b p q result line asker (Asks.Change change number) other carries = carries
 
 -- one more `go` behind others
 pub one_more : (count : ℕ) (act : Act) → replicate count act ++ act ∷ [] ≡ replicate (count + 1) act

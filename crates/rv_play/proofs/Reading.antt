@@ -8,7 +8,7 @@ use Rattle.rv_access.specs.declared.fault.ListFault.{ListFault}
 use Rattle.rv_shape.specs.Shape.{Shape}
 use Rattle.rv_shape.specs.ShapeText.{shape_of}
 use Rattle.rv_code.specs.BodyView.{unit_view}
-use Rattle.rv_unit.specs.declared.unit.Unit.{Unit as Compiled}
+use Rattle.rv_code.specs.declared.unit.Unit.{Unit as Compiled}
 use Rattle.rv_settings.specs.Settings.{SettingsText}
 use Rattle.rv_fault.specs.declared.failure.Failure.{Failure}
 use Rattle.rv_fault.specs.declared.failure.Failure.TheVariants.{Refused, Memory, Io}

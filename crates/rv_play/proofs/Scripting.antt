@@ -21,10 +21,7 @@ use Rattle.rv_play.specs.Scripted.{Told, Run, tell, Plays, PlaysActs, PlaysOpene
 is_due : (c : Command) (h : History) → IsAnswer h c (due_command h c)
 is_due (Commands.Ask actor request) h = refl
 is_due (Commands.Load shape) h = inl refl
-is_due (Commands.SetList list) h = inl refl
-is_due (Commands.AppendLine line) h = inl refl
-is_due (Commands.RemoveLine number) h = inl refl
-is_due (Commands.ReplaceLine number line) h = inl refl
+is_due (Commands.Change change) h = inl refl
 
 one_step : (stage : Stage) (o : Option Command) (cs : List Command) (given : List Answer) (k : History) → Steps (history_after stage.history o (due_answer stage o)) cs given k
     → Steps stage.history (commands_onto o cs) (answers_onto o (due_answer stage o) given) k

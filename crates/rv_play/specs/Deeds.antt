@@ -1,9 +1,11 @@
 -- What the acts of a script come to: deeds, with names looked up among the units that are loaded (own).
-use Rattle.std.specs.Prelude.{◌≡◌, ◌<◌, ◌≤◌, ℕ, ℤ, true, false, List, ◌∷◌, ◌++◌, codes, length}
+use Rattle.std.specs.Prelude.{◌≡◌, ◌<◌, ◌≤◌, ℕ, ℤ, pos, true, false, List, ◌∷◌, ◌++◌, codes, length}
 use Rattle.std.specs.Prelude.{Option, Some, None, Result, Ok, Err}
 use Rattle.std.specs.Fmt.{signed_decimal}
 use Rattle.rv_access.specs.Words.{Words}
 use Rattle.rv_access.specs.Text.{line_text, list_text}
+use Rattle.rv_access.specs.declared.change.Change.{Change}
+use Rattle.rv_access.specs.declared.change.Change.TheVariants.{Whole, Append, Remove, Replace}
 use Rattle.rv_access.specs.declared.fault.ListFault.{ListFault}
 use Rattle.rv_shape.specs.Shape.{Shape}
 use Rattle.rv_shape.specs.Fits as fitting
@@ -11,10 +13,10 @@ use Rattle.rv_shape.specs.declared.fault.ShapeFault.{ShapeFault}
 use Rattle.rv_event.specs.Text.{request_text}
 use Rattle.rv_event.specs.declared.entry.Request.{Request}
 use Rattle.rv_history.specs.declared.command.Command.{Command}
-use Rattle.rv_history.specs.declared.command.Command.TheVariants.{Ask, Load, SetList, AppendLine, RemoveLine, ReplaceLine}
+use Rattle.rv_history.specs.declared.command.Command.TheVariants as Commands
 use Rattle.rv_step.specs.declared.step.Asked.{Asked}
-use Rattle.rv_step.specs.declared.step.Asked.TheVariants.{Append, Remove, Replace}
-use Rattle.rv_step.specs.Lookup.{operator, actor_of, request_of, line_number}
+use Rattle.rv_step.specs.declared.step.Asked.TheVariants as Asks
+use Rattle.rv_step.specs.Lookup.{operator, actor_of, request_of}
 use Rattle.rv_step.specs.StepText.{StepWords}
 use Rattle.rv_fault.specs.declared.failure.Failure.{Failure}
 use Rattle.rv_fault.specs.declared.failure.Failure.TheVariants.{Refused, Memory, Io}
@@ -31,50 +33,56 @@ use Rattle.rv_play.specs.Acts.{Act, Loads, Compiles, Sets, Steps, Goes, Stops}
 use Rattle.rv_play.specs.declared.deed.Deed.{Deed}
 use Rattle.rv_play.specs.Stages.{DeedText, deed_text, Stage}
 
--- a command that is no `go` and loads nothing
-abbrev pub plain : ℕ → Command → List ℕ → DeedText
-plain actor command words = record { actor = actor; command = Some command; words = words; goes = false; bodies = no_bodies }
+-- a command that is no `go` and loads nothing, with the number of the line that it names
+abbrev pub plain : ℕ → Command → ℤ → DeedText
+plain actor command number = record { actor = actor; command = Some command; number = number; goes = false; bodies = no_bodies }
 
 -- a request
-abbrev pub ask : List Shape → ℕ → Request → DeedText
-ask shapes actor request = plain actor (Ask actor request) (request_text shapes request)
+abbrev pub ask : ℕ → Request → DeedText
+ask actor request = plain actor (Commands.Ask actor request) (pos 0)
+
+-- the command of an actor's text, if it has something to ask
+abbrev pub asked_command : ℕ → Option Request → Option Command
+asked_command actor None = None
+asked_command actor (Some request) = Some (Commands.Ask actor request)
 
 -- a request of an actor's text, or none where it has nothing to ask
-abbrev pub go : List Shape → ℕ → Option Request → DeedText
-go shapes actor (Some request) = record (ask shapes actor request) { goes = true }
-go shapes actor None = record { actor = actor; command = None; words = codes "go"; goes = true; bodies = no_bodies }
+abbrev pub go : ℕ → Option Request → DeedText
+go actor request = record { actor = actor; command = asked_command actor request; number = pos 0; goes = true; bodies = no_bodies }
 
 -- what `go` asks for an actor
 abbrev pub goes : Stage → ℕ → DeedText
-goes stage actor = go stage.history.shapes actor (going.asks stage.texts stage.history actor)
+goes stage actor = go actor (going.asks stage.texts stage.history actor)
 
--- the words of a step that adds a line
-abbrev pub append_words : Words → List ℕ
-append_words line = codes "append " ++ line_text line
-
--- one more line at the end of the list
-abbrev pub append : ℕ → Words → DeedText
-append actor line = plain actor (AppendLine line) (append_words line)
-
--- the list without the line of a number
-abbrev pub remove : ℕ → ℤ → DeedText
-remove actor number = plain actor (RemoveLine (line_number number)) (codes "remove " ++ signed_decimal number)
-
--- the words of a step that puts a line in place of another
-abbrev pub replace_words : ℤ → Words → List ℕ
-replace_words number line = codes "replace " ++ (signed_decimal number ++ 32 ∷ line_text line)
-
--- another line in place of that of a number
-abbrev pub replace : ℕ → ℤ → Words → DeedText
-replace actor number line = plain actor (ReplaceLine (line_number number) line) (replace_words number line)
+-- a change of one line of the list, which a step names by this number
+abbrev pub changes_line : ℕ → Change → ℤ → DeedText
+changes_line actor change number = plain actor (Commands.Change change) number
 
 -- a unit with its bodies, loaded by the operator
 abbrev pub load : Shape → UnitBodies → DeedText
-load shape bodies = record { actor = operator; command = Some (Load shape); words = codes "load " ++ shape.name; goes = false; bodies = bodies }
+load shape bodies = record { actor = operator; command = Some (Commands.Load shape); number = pos 0; goes = false; bodies = bodies }
 
 -- the list, set whole by the operator
 abbrev pub set : List Words → DeedText
-set list = plain operator (SetList list) (codes "list [" ++ (list_text list ++ codes "]"))
+set list = plain operator (Commands.Change (Whole list)) (pos 0)
+
+-- the words of a change; the number is as the step has it, also below zero
+abbrev pub change_words : Change → ℤ → List ℕ
+change_words (Whole list) number = codes "list [" ++ (list_text list ++ codes "]")
+change_words (Append line) number = codes "append " ++ line_text line
+change_words (Remove line) number = codes "remove " ++ signed_decimal number
+change_words (Replace line other) number = codes "replace " ++ (signed_decimal number ++ 32 ∷ line_text other)
+
+-- the words of a command, or of a `go` that has none
+abbrev pub command_words : List Shape → ℤ → Option Command → List ℕ
+command_words shapes number (Some (Commands.Ask actor request)) = request_text shapes request
+command_words shapes number (Some (Commands.Load shape)) = codes "load " ++ shape.name
+command_words shapes number (Some (Commands.Change change)) = change_words change number
+command_words shapes number None = codes "go"
+
+-- the words of a deed, as an answer that isn't recorded is told
+abbrev pub words_of : List Shape → DeedText → List ℕ
+words_of shapes deed = command_words shapes deed.number deed.command
 
 -- what a name stands for, if it is loaded
 abbrev pub if_known : {X : Type 0} → Option X → Result X What
@@ -87,28 +95,18 @@ abbrev pub ◌>>◌ : {A B : Type 0} → Result A What → (A → Result B What)
 (Ok x) >> f = f x
 (Err what) >> f = Err what
 
--- what was read of a list, or the fault
-abbrev pub if_line : {X : Type 0} → Result X ListFault → Result X What
-if_line (Ok line) = Ok line
-if_line (Err fault) = Err (Whats.List fault)
-
--- a line more, or what is wrong with it
-abbrev pub appends : ℕ → Result Words ListFault → Result DeedText What
-appends actor line = if_line line >> λ l. Ok (append actor l)
-
--- another line in place of one, or what is wrong with it
-abbrev pub replaces : ℕ → ℤ → Result Words ListFault → Result DeedText What
-replaces actor number line = if_line line >> λ l. Ok (replace actor number l)
+-- a change of one line of the list, or what is wrong with its line
+abbrev pub changes : ℕ → Result Change ListFault → ℤ → Result DeedText What
+changes actor (Ok change) number = Ok (changes_line actor change number)
+changes actor (Err fault) number = Err (Whats.List fault)
 
 -- a request of an actor
 abbrev pub requests : List Shape → Asked → ℕ → Result DeedText What
-requests shapes asked actor = if_known (request_of shapes asked) >> λ request. Ok (ask shapes actor request)
+requests shapes asked actor = if_known (request_of shapes asked) >> λ request. Ok (ask actor request)
 
 -- what an actor asks
 abbrev pub asks : List Shape → Asked → ℕ → Result DeedText What
-asks shapes (Append line) actor = appends actor line
-asks shapes (Remove number) actor = Ok (remove actor number)
-asks shapes (Replace number line) actor = replaces actor number line
+asks shapes (Asks.Change change number) actor = changes actor change number
 asks shapes asked actor = requests shapes asked actor
 
 -- a step of who is loaded

@@ -28,7 +28,7 @@ use Rattle.rv_go.specs.Texts.{texts_view}
 use Rattle.rv_play.specs.declared.player.Limits.{Limits}
 use Rattle.rv_play.specs.declared.player.Player.{Player}
 use Rattle.rv_play.specs.Stages.{DeedText, Stage, start, due_answer, after_deed}
-use Rattle.rv_play.specs.Deeds.{ComesToDeed}
+use Rattle.rv_play.specs.Deeds.{ComesToDeed, words_of}
 use Rattle.rv_history.specs.Journal.{journal_text, newest_line}
 
 -- Acts
@@ -117,7 +117,7 @@ BeginsOpened (Err line) run = ⊥
 abbrev pub told_line : Bool → Told → List ℕ
 told_line all t =
     if is_some (recorded t.answer) then newest_line t.after.history
-    else if all then unrecorded_line t.after.history.shapes t.deed.actor t.deed.words t.answer
+    else if all then unrecorded_line t.after.history.shapes t.deed.actor (words_of t.after.history.shapes t.deed) t.answer
     else []
 
 -- the lines of all that was answered
@@ -150,7 +150,7 @@ playing player = record { all = player.all; stage = record { history = player.ho
 abbrev pub command_line : History → Command → Recorded → List ℕ
 command_line h (Commands.Ask actor request) word = entry_line h.shapes (length h.past) (Asked actor request word) [] []
 command_line h (Commands.Load shape) word = entry_line h.shapes (length h.past) Load shape.name []
-command_line h command word = entry_line h.shapes (length h.past) ListChange [] (list_text (force h))
+command_line h (Commands.Change change) word = entry_line h.shapes (length h.past) ListChange [] (list_text (force h))
 
 -- the same of a deed
 abbrev pub entry_told : History → Option Command → Recorded → List ℕ
@@ -160,7 +160,7 @@ entry_told h (Some command) word = command_line h command word
 -- the line of a deed that was answered so and led to this history
 abbrev pub by_answer : Bool → History → DeedText → Answer → Option Recorded → List ℕ
 by_answer all h deed answer (Some word) = entry_told h deed.command word
-by_answer all h deed answer None = if all then unrecorded_line h.shapes deed.actor deed.words answer else []
+by_answer all h deed answer None = if all then unrecorded_line h.shapes deed.actor (words_of h.shapes deed) answer else []
 
 abbrev pub line_told : Bool → History → DeedText → Answer → List ℕ
 line_told all h deed answer = by_answer all h deed answer (recorded answer)

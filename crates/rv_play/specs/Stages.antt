@@ -1,5 +1,5 @@
 -- Where a script stands, and where an answer leads it (own).
-use Rattle.std.specs.Prelude.{ℕ, List, Bool, if◌then◌else◌, is_some, string_bytes, Option, Some, None}
+use Rattle.std.specs.Prelude.{ℕ, ℤ, Bool, if◌then◌else◌, is_some, Option, Some, None}
 use Rattle.rv_event.specs.Recorded.{recorded}
 use Rattle.rv_event.specs.declared.entry.Answer.{Answer}
 use Rattle.rv_event.specs.declared.entry.Answer.TheVariants.{Misuse}
@@ -14,12 +14,13 @@ use Rattle.rv_code.specs.BodyView.{unit_view}
 use Rattle.rv_play.specs.declared.deed.Deed.{Deed}
 use Rattle.rv_play.specs.declared.player.Limits.{Limits}
 
--- what is asked of the host: by which actor, which command (none where the actor has nothing to ask), and in which words; whether
--- it is a `go`, by whose answer the actor's text goes on; and the bodies of the unit that it loads
+-- what is asked of the host: by which actor, which command (none where the actor has nothing to ask); the number of the line that a
+-- change of one names, as a step has it (else 0); whether it is a `go`, by whose answer the actor's text goes on; and the bodies of
+-- the unit that it loads
 pub record DeedText : Type 0 where
   pub actor : ℕ
   pub command : Option Command
-  pub words : List ℕ
+  pub number : ℤ
   pub goes : Bool
   pub bodies : UnitBodies
 
@@ -27,7 +28,7 @@ abbrev pub deed_text : Deed → DeedText
 deed_text deed = record {
   actor = deed.actor;
   command = deed.command;
-  words = string_bytes deed.words;
+  number = deed.number;
   goes = deed.goes;
   bodies = unit_view deed.bodies;
 }

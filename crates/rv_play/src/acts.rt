@@ -1,6 +1,6 @@
 //! What the acts of a script come to: a deed, or a fault that stands against it.
 
-ghost use Rattle.std.specs.Prelude.{◌≡◌, Ok, IfOk, IfErr};
+ghost use Rattle.std.specs.Prelude.{◌≡◌, IfOk, IfErr};
 ghost use Rattle.rv_access.specs.Reading.{list_of};
 ghost use Rattle.rv_shape.specs.Fits.{fault};
 ghost use Rattle.rv_shape.specs.ShapeText.{shape_of};
@@ -8,29 +8,18 @@ ghost use Rattle.rv_script.specs.UnitTexts.{without_returns};
 ghost use Rattle.rv_play.specs.Acts.{Compiles, Goes, Steps, load_act, set_act};
 ghost use Rattle.rv_play.specs.Stages.{deed_text};
 ghost use Rattle.rv_play.specs.Scripted.{playing};
-ghost use Rattle.rv_play.specs.Deeds.{Comes, ComesToDeed, goes, just, if_fits, requests, asks, appends, replaces};
+ghost use Rattle.rv_play.specs.Deeds.{Comes, ComesToDeed, goes, just, if_fits, requests, asks, changes};
 
 use crate::deed::Deed;
 use crate::player::Player;
-use rv_access::{Line, ListFault};
+use rv_access::{Change, ListFault};
+use rv_code::Unit;
 use rv_fault::{Failure, What, list_of, refused, shape_of, unit_of};
 use rv_shape::catalogue::Catalogue;
 use rv_shape::shape::UnitShape;
 use rv_step::lookup::{actor_of, request_of};
 use rv_step::step::{Asked, Asker};
-use rv_unit::Unit;
-use std::alloc::{AllocError, Global};
-
-// A deed that was made, unless memory was refused.
-fn made(deed: Result<Deed, AllocError>) -> Result<Deed, Failure>
-    ensures ok { IfOk result (λ d. deed ≡ Ok d) }
-    ensures err { IfErr result (λ failure. failure ≡ Failure.Memory) }
-{
-    match deed {
-        Ok(deed) => Ok(deed),
-        Err(_) => Err(Failure::Memory),
-    }
-}
+use std::alloc::Global;
 
 // What loading a shape that was read comes to.
 fn load_deed(
@@ -44,16 +33,16 @@ fn load_deed(
     if let Some(fault) = catalogue.shape_fits(&shape) {
         return Err(refused(line, What::Shape(fault)));
     }
-    let Unit { shape, bodies } = Unit::of_shape(alloc, shape)?;
-    made(Deed::load(alloc, shape, bodies))
+    let unit = Unit::of_shape(alloc, shape)?;
+    Ok(Deed::load(unit))
 }
 
 /// What the unit text of a section comes to, which opens at a line.
 pub fn unit_deed(alloc: Global, player: &Player, line: usize, text: &str) -> Result<Deed, Failure>
     ensures { Comes line (ComesToDeed (playing player.now).stage (Compiles line (without_returns text.now))) result }
 {
-    let Unit { shape, bodies } = unit_of(alloc, player.catalogue(), line, text)?;
-    made(Deed::load(alloc, shape, bodies))
+    let unit = unit_of(alloc, player.catalogue(), line, text)?;
+    Ok(Deed::load(unit))
 }
 
 /// What the shape of a section comes to, which opens at a line.
@@ -69,7 +58,7 @@ pub fn list_deed(alloc: Global, player: &Player, line: usize, text: &str) -> Res
     ensures { Comes line (ComesToDeed (playing player.now).stage (set_act line (list_of text.now))) result }
 {
     let list = list_of(alloc, line, text)?;
-    made(Deed::set(alloc, list))
+    Ok(Deed::set(alloc, list))
 }
 
 // What a request comes to, of this actor.
@@ -83,38 +72,23 @@ fn request_deed(
     ensures { Comes line (just (requests catalogue.now asked.now actor)) result }
 {
     match request_of(alloc, catalogue, asked)? {
-        Some(request) => made(Deed::ask(alloc, catalogue, actor, request)),
+        Some(request) => Ok(Deed::ask(alloc, actor, request)),
         None => Err(refused(line, What::UnknownName)),
     }
 }
 
-// What a line more comes to.
-fn append_deed(
+// What a change of one line of the list comes to, which the step names by this number.
+fn change_deed(
     alloc: Global,
     line: usize,
     actor: usize,
-    given: Result<Line, ListFault>,
-) -> Result<Deed, Failure>
-    ensures { Comes line (just (appends actor given)) result }
-{
-    match given {
-        Ok(given) => made(Deed::append(alloc, actor, given)),
-        Err(fault) => Err(refused(line, What::List(fault))),
-    }
-}
-
-// What another line in place of one comes to.
-fn replace_deed(
-    alloc: Global,
-    line: usize,
-    actor: usize,
+    change: Result<Change, ListFault>,
     number: i64,
-    given: Result<Line, ListFault>,
 ) -> Result<Deed, Failure>
-    ensures { Comes line (just (replaces actor number given)) result }
+    ensures { Comes line (just (changes actor change number)) result }
 {
-    match given {
-        Ok(given) => made(Deed::replace(alloc, actor, number, given)),
+    match change {
+        Ok(change) => Ok(Deed::change(alloc, actor, change, number)),
         Err(fault) => Err(refused(line, What::List(fault))),
     }
 }
@@ -130,9 +104,7 @@ fn asked_deed(
     ensures { Comes line (just (asks catalogue.now asked actor)) result }
 {
     match asked {
-        Asked::Append(given) => append_deed(alloc, line, actor, given),
-        Asked::Remove(number) => made(Deed::remove(alloc, actor, number)),
-        Asked::Replace(number, given) => replace_deed(alloc, line, actor, number, given),
+        Asked::Change(change, number) => change_deed(alloc, line, actor, change, number),
         asked => request_deed(alloc, catalogue, line, actor, &asked),
     }
 }
@@ -161,7 +133,7 @@ fn asking_deed(alloc: Global, player: &Player, actor: usize) -> Result<Deed, Fai
     ensures err { IfErr result (λ failure. failure ≡ Failure.Memory) }
 {
     let request = player.asks(actor)?;
-    made(Deed::go(alloc, player.catalogue(), actor, request))
+    Ok(Deed::go(alloc, actor, request))
 }
 
 /// What one `go` comes to.

@@ -1,30 +1,29 @@
 //! Deeds: what a script asks of the host.
 
-ghost use Rattle.std.specs.Prelude.{◌≡◌, IfOk, IfErr, Some, string_bytes};
+ghost use Rattle.std.specs.Prelude.{◌≡◌, IfOk, string_bytes};
 ghost use Rattle.rv_code.specs.BodyView.{unit_view};
 ghost use Rattle.rv_exec.specs.Bodies.{no_bodies};
 ghost use Rattle.rv_play.specs.Stages.{deed_text};
-ghost use Rattle.rv_play.specs.Deeds.{plain, load, set, ask, go, append, remove, replace};
+ghost use Rattle.rv_play.specs.Deeds.{plain, load, set, ask, go, changes_line, change_words, words_of};
 
-use rv_access::{AccessList, Line};
-use rv_code::UnitBodies;
+use rv_access::{AccessList, Change};
+use rv_code::{Unit, UnitBodies};
 use rv_event::entry::Request;
 use rv_event::text::text_of_request;
 use rv_history::command::Command;
 use rv_shape::catalogue::Catalogue;
-use rv_shape::shape::UnitShape;
-use rv_step::lookup::{OPERATOR, line_number};
+use rv_step::lookup::OPERATOR;
 use std::alloc::{AllocError, Global};
 
-/// What is asked of the host: by which actor, which command, and in which words.
+/// What is asked of the host: by which actor, and which command.
 #[derive(Drop)]
 pub struct Deed {
     /// The number of who asks.
     pub actor: usize,
     /// The command; none where the actor has nothing to ask, which is answered misuse.
     pub command: Option<Command>,
-    /// The words of the request, as an answer that isn't recorded is told.
-    pub words: String,
+    /// The number of the line that a change of one names, as a step has it; else 0.
+    pub number: i64,
     /// Whether it is a `go`, so that the actor's text goes on by the answer.
     pub goes: bool,
     /// The bodies of the unit that it loads; none where it loads none.
@@ -41,110 +40,108 @@ fn no_bodies(alloc: Global) -> UnitBodies
     }
 }
 
+// The words of a change, of the line of this number, where it names one.
+fn change_words(alloc: Global, change: &Change, number: i64) -> Result<String, AllocError>
+    ensures { IfOk result (λ words. string_bytes words ≡ change_words change.now number) }
+{
+    match change {
+        Change::Whole(list) => {
+            let text = list.text(alloc)?;
+            let text = text.as_str();
+            format!(in alloc; "list [{text}]")
+        }
+        Change::Append(line) => {
+            let text = line.text(alloc)?;
+            let text = text.as_str();
+            format!(in alloc; "append {text}")
+        }
+        Change::Remove(_) => format!(in alloc; "remove {number}"),
+        Change::Replace(_, line) => {
+            let text = line.text(alloc)?;
+            let text = text.as_str();
+            format!(in alloc; "replace {number} {text}")
+        }
+    }
+}
+
 impl Deed {
-    // A command that is no `go` and loads nothing.
-    fn plain(alloc: Global, actor: usize, command: Command, words: String) -> Deed
-        ensures { deed_text result ≡ plain actor command (string_bytes words) }
+    // A command that is no `go` and loads nothing, with the number of the line that it names.
+    fn plain(alloc: Global, actor: usize, command: Command, number: i64) -> Deed
+        ensures { deed_text result ≡ plain actor command number }
     {
         Deed {
             actor,
             command: Some(command),
-            words,
+            number,
             goes: false,
             bodies: no_bodies(alloc),
         }
     }
 
     /// A unit with its bodies, loaded by the operator.
-    pub fn load(alloc: Global, shape: UnitShape, bodies: UnitBodies) -> Result<Deed, AllocError>
-        ensures { IfOk result (λ d. deed_text d ≡ load shape (unit_view bodies)) }
+    pub fn load(unit: Unit) -> Deed
+        ensures { deed_text result ≡ load unit.shape (unit_view unit.bodies) }
     {
-        let name = shape.name();
-        let words = format!(in alloc; "load {name}")?;
-        Ok(Deed {
+        let Unit { shape, bodies } = unit;
+        Deed {
             actor: OPERATOR,
             command: Some(Command::Load(shape)),
-            words,
+            number: 0,
             goes: false,
             bodies,
-        })
+        }
     }
 
     /// The list, set whole by the operator.
-    pub fn set(alloc: Global, list: AccessList) -> Result<Deed, AllocError>
-        ensures { IfOk result (λ d. deed_text d ≡ set list) }
+    pub fn set(alloc: Global, list: AccessList) -> Deed
+        ensures { deed_text result ≡ set list }
     {
-        let text = list.text(alloc)?;
-        let text = text.as_str();
-        let words = format!(in alloc; "list [{text}]")?;
-        Ok(Deed::plain(alloc, OPERATOR, Command::SetList(list), words))
+        Deed::plain(alloc, OPERATOR, Command::Change(Change::Whole(list)), 0)
     }
 
     /// A request.
-    pub fn ask(
-        alloc: Global,
-        catalogue: &Catalogue,
-        actor: usize,
-        request: Request,
-    ) -> Result<Deed, AllocError>
-        ensures { IfOk result (λ d. deed_text d ≡ ask catalogue.now actor request) }
+    pub fn ask(alloc: Global, actor: usize, request: Request) -> Deed
+        ensures { deed_text result ≡ ask actor request }
     {
-        let words = text_of_request(alloc, catalogue, &request)?;
-        Ok(Deed::plain(alloc, actor, Command::Ask(actor, request), words))
+        Deed::plain(alloc, actor, Command::Ask(actor, request), 0)
     }
 
     /// A request of an actor's text, or none where it has nothing to ask.
-    pub fn go(
-        alloc: Global,
-        catalogue: &Catalogue,
-        actor: usize,
-        request: Option<Request>,
-    ) -> Result<Deed, AllocError>
-        ensures { IfOk result (λ d. deed_text d ≡ go catalogue.now actor request) }
+    pub fn go(alloc: Global, actor: usize, request: Option<Request>) -> Deed
+        ensures { deed_text result ≡ go actor request }
     {
-        let (command, words) = match request {
-            Some(request) => {
-                let words = text_of_request(alloc, catalogue, &request)?;
-                (Some(Command::Ask(actor, request)), words)
-            }
-            None => (None, String::from_str(alloc, "go")?),
+        let command = match request {
+            Some(request) => Some(Command::Ask(actor, request)),
+            None => None,
         };
-        Ok(Deed {
+        Deed {
             actor,
             command,
-            words,
+            number: 0,
             goes: true,
             bodies: no_bodies(alloc),
-        })
+        }
     }
 
-    /// A line more at the end of the list.
-    pub fn append(alloc: Global, actor: usize, line: Line) -> Result<Deed, AllocError>
-        ensures { IfOk result (λ d. deed_text d ≡ append actor line) }
+    /// A change of one line of the list, which a step names by this number.
+    pub fn change(alloc: Global, actor: usize, change: Change, number: i64) -> Deed
+        ensures { deed_text result ≡ changes_line actor change number }
     {
-        let text = line.text(alloc)?;
-        let text = text.as_str();
-        let words = format!(in alloc; "append {text}")?;
-        Ok(Deed::plain(alloc, actor, Command::AppendLine(line), words))
+        Deed::plain(alloc, actor, Command::Change(change), number)
     }
 
-    /// The list without the line of a number.
-    pub fn remove(alloc: Global, actor: usize, number: i64) -> Result<Deed, AllocError>
-        ensures { IfOk result (λ d. deed_text d ≡ remove actor number) }
+    /// The words of the request, as an answer that isn't recorded is told.
+    pub fn words(&self, alloc: Global, catalogue: &Catalogue) -> Result<String, AllocError>
+        ensures { IfOk result (λ words. string_bytes words ≡ words_of catalogue.now (deed_text self.now)) }
     {
-        let words = format!(in alloc; "remove {number}")?;
-        let command = Command::RemoveLine(line_number(number));
-        Ok(Deed::plain(alloc, actor, command, words))
-    }
-
-    /// Another line in place of that of a number.
-    pub fn replace(alloc: Global, actor: usize, number: i64, line: Line) -> Result<Deed, AllocError>
-        ensures { IfOk result (λ d. deed_text d ≡ replace actor number line) }
-    {
-        let text = line.text(alloc)?;
-        let text = text.as_str();
-        let words = format!(in alloc; "replace {number} {text}")?;
-        let command = Command::ReplaceLine(line_number(number), line);
-        Ok(Deed::plain(alloc, actor, command, words))
+        match &self.command {
+            Some(Command::Ask(_, request)) => text_of_request(alloc, catalogue, request),
+            Some(Command::Load(shape)) => {
+                let name = shape.name();
+                format!(in alloc; "load {name}")
+            }
+            Some(Command::Change(change)) => change_words(alloc, change, self.number),
+            None => String::from_str(alloc, "go"),
+        }
     }
 }

@@ -4,6 +4,7 @@ use Rattle.std.specs.Prelude.{is_some, Option, Some, None}
 use Rattle.std.proofs.lemmas.List.{reverse-append, append-nil}
 use Rattle.atomic_table.specs.Seated.{TableId}
 use Rattle.rv_access.specs.Words.{Words}
+use Rattle.rv_access.specs.declared.change.Change.{Change}
 use Rattle.rv_shape.specs.Shape.{Shape}
 use Rattle.rv_history.specs.Legal.{Legal}
 use Rattle.rv_history.specs.History.{History}
@@ -14,7 +15,7 @@ use Rattle.rv_event.specs.declared.entry.Request.{Request}
 use Rattle.rv_event.specs.declared.entry.Answer.{Answer}
 use Rattle.rv_event.specs.declared.entry.Recorded.{Recorded}
 use Rattle.rv_history.specs.History.{force}
-use Rattle.rv_history.specs.Lists.{Change, Whole, Append, Remove, Replace, changed}
+use Rattle.rv_history.specs.Lists.{changed}
 use Rattle.rv_code.specs.declared.body.UnitBodies.{UnitBodies}
 use Rattle.rv_port.specs.Events.{by, log_of, history_at, shapes_of, with_shape, catalogue_of}
 use Rattle.rv_port.specs.Acting.{limits_of, entered, listed as listed_to, Due, Unloaded, Changed, IfOperator}
@@ -98,10 +99,7 @@ pub due_catalogue : (c : ℕ) (log : List Event) (a : ℕ) (ask : Ask) (reply : 
 due_catalogue c log a (Wants.Step q) (Gives.Answered r b lent) after n d = entered_catalogue (recorded r) log a q after d.0.1
 due_catalogue c log a (Wants.Load shape unit) (Gives.Answered r b lent) after n d = absurd n
 due_catalogue c log a (Wants.LoadWithoutMemory shape) (Gives.Answered r b lent) after n d = unload_catalogue (eqb a 0) c log shape r after d
-due_catalogue c log a (Wants.SetList list) (Gives.Answered r b lent) after n d = change_catalogue (eqb a 0) c log (Whole list) r after d
-due_catalogue c log a (Wants.AppendLine line) (Gives.Answered r b lent) after n d = change_catalogue (eqb a 0) c log (Append line) r after d
-due_catalogue c log a (Wants.RemoveLine k) (Gives.Answered r b lent) after n d = change_catalogue (eqb a 0) c log (Remove k) r after d
-due_catalogue c log a (Wants.ReplaceLine k line) (Gives.Answered r b lent) after n d = change_catalogue (eqb a 0) c log (Replace k line) r after d
+due_catalogue c log a (Wants.Change change) (Gives.Answered r b lent) after n d = change_catalogue (eqb a 0) c log change r after d
 due_catalogue c log a (Wants.Read from) (Gives.Read p) after n d = ap catalogue_of d.1
 due_catalogue c log a (Wants.Read from) Gives.Unread after n d = ap catalogue_of d
 due_catalogue c log a (Wants.Read from) (Gives.Answered r b lent) after n d = absurd d
@@ -111,21 +109,12 @@ due_catalogue c log a (Wants.Load shape unit) (Gives.Read p) after n d = absurd 
 due_catalogue c log a (Wants.Load shape unit) Gives.Unread after n d = absurd d
 due_catalogue c log a (Wants.LoadWithoutMemory shape) (Gives.Read p) after n d = absurd d
 due_catalogue c log a (Wants.LoadWithoutMemory shape) Gives.Unread after n d = absurd d
-due_catalogue c log a (Wants.SetList list) (Gives.Read p) after n d = absurd d
-due_catalogue c log a (Wants.SetList list) Gives.Unread after n d = absurd d
-due_catalogue c log a (Wants.AppendLine line) (Gives.Read p) after n d = absurd d
-due_catalogue c log a (Wants.AppendLine line) Gives.Unread after n d = absurd d
-due_catalogue c log a (Wants.RemoveLine k) (Gives.Read p) after n d = absurd d
-due_catalogue c log a (Wants.RemoveLine k) Gives.Unread after n d = absurd d
-due_catalogue c log a (Wants.ReplaceLine k line) (Gives.Read p) after n d = absurd d
-due_catalogue c log a (Wants.ReplaceLine k line) Gives.Unread after n d = absurd d
+due_catalogue c log a (Wants.Change change) (Gives.Read p) after n d = absurd d
+due_catalogue c log a (Wants.Change change) Gives.Unread after n d = absurd d
 due_catalogue c log a (Wants.Step q) (Gives.Bodies lent) after n d = absurd d
 due_catalogue c log a (Wants.Load shape unit) (Gives.Bodies lent) after n d = absurd d
 due_catalogue c log a (Wants.LoadWithoutMemory shape) (Gives.Bodies lent) after n d = absurd d
-due_catalogue c log a (Wants.SetList list) (Gives.Bodies lent) after n d = absurd d
-due_catalogue c log a (Wants.AppendLine line) (Gives.Bodies lent) after n d = absurd d
-due_catalogue c log a (Wants.RemoveLine k) (Gives.Bodies lent) after n d = absurd d
-due_catalogue c log a (Wants.ReplaceLine k line) (Gives.Bodies lent) after n d = absurd d
+due_catalogue c log a (Wants.Change change) (Gives.Bodies lent) after n d = absurd d
 due_catalogue c log a (Wants.Read from) (Gives.Bodies lent) after n d = absurd d
 due_catalogue c log a Wants.Bodies (Gives.Answered r b lent) after n d = absurd d
 due_catalogue c log a Wants.Bodies (Gives.Read p) after n d = absurd d

@@ -4,6 +4,7 @@ use Rattle.std.specs.Prelude.{is_some}
 use Rattle.std.proofs.lemmas.Bool.{ne_eqb}
 use Rattle.std.proofs.lemmas.List.{reverse-append, length-append}
 use Rattle.rv_access.specs.Words.{Words}
+use Rattle.rv_access.specs.declared.change.Change.{Change}
 use Rattle.rv_shape.specs.Shape.{Shape}
 use Rattle.rv_shape.specs.Fits.{shape_fits}
 use Rattle.rv_event.specs.Past.{halted}
@@ -18,7 +19,7 @@ use Rattle.rv_history.specs.Due.{out, gate, within, nothing_more}
 use Rattle.rv_history.specs.Owed.{has_room}
 use Rattle.rv_history.specs.Legal as legal
 use Rattle.rv_history.specs.Legal.{Legal, out_load, after_load}
-use Rattle.rv_history.specs.Lists.{Change, changed}
+use Rattle.rv_history.specs.Lists.{changed}
 use Rattle.rv_history.specs.Steps.{MayLackMemory, due_change, after_change}
 use Rattle.std.specs.Arc.{arc_value}
 use Rattle.std.specs.Prelude.{IfSome}
@@ -217,10 +218,7 @@ misused_due c log a (Wants.Read from) b t e = absurd (cc t)
 misused_due c log a Wants.Bodies b t e = absurd (cc t)
 misused_due c log a (Wants.Load s unit) b t e = misused (eqb a 0) _ log e
 misused_due c log a (Wants.LoadWithoutMemory s) b t e = misused (eqb a 0) _ log e
-misused_due c log a (Wants.SetList s) b t e = misused (eqb a 0) _ log e
-misused_due c log a (Wants.AppendLine s) b t e = misused (eqb a 0) _ log e
-misused_due c log a (Wants.RemoveLine s) b t e = misused (eqb a 0) _ log e
-misused_due c log a (Wants.ReplaceLine n s) b t e = misused (eqb a 0) _ log e
+misused_due c log a (Wants.Change s) b t e = misused (eqb a 0) _ log e
 
 pub does_misuse : (h : History) (us : List UnitBodies) (a : ℕ) (ask : Ask) (b : Begun) → changes ask ≡ true → Legal h → (a ≡ 0 → ⊥)
     → Does (limits_of h) (log_of h us) a ask (Gives.Answered Misuse b None) (log_of h us)

@@ -3,6 +3,7 @@ use Rattle.std.specs.Prelude.{◌≡◌, ℕ, Bool, true, false, ◌==◌, if◌
 use Rattle.std.proofs.Common.{inl, inr, refl, sym, eqb}
 use Rattle.std.proofs.lemmas.Bool.{eqb-true}
 use Rattle.rv_access.specs.Words.{Words}
+use Rattle.rv_access.specs.declared.change.Change.{Change}
 use Rattle.rv_shape.specs.Shape.{Shape}
 use Rattle.rv_event.specs.Recorded.{recorded}
 use Rattle.rv_event.specs.declared.entry.Request.{Request}
@@ -12,7 +13,7 @@ use Rattle.rv_event.specs.declared.entry.Recorded.{Recorded}
 use Rattle.rv_history.specs.History.{History, force}
 use Rattle.rv_history.specs.Due.{out}
 use Rattle.rv_history.specs.Legal.{Legal, out_load}
-use Rattle.rv_history.specs.Lists.{Change, Whole, Append, Remove, Replace, changed}
+use Rattle.rv_history.specs.Lists.{changed}
 use Rattle.rv_history.specs.Steps.{MayLackMemory, due_change}
 use Rattle.rv_host.specs.Pages.{page}
 use Rattle.rv_turn.specs.Histories.{Adds}
@@ -104,14 +105,8 @@ Due c log a (Wants.Load shape unit) (Gives.Answered r b lent) after =
     IfOperator (a == 0) (Loaded c log shape (held unit) r after) r log after
 Due c log a (Wants.LoadWithoutMemory shape) (Gives.Answered r b lent) after =
     IfOperator (a == 0) (Unloaded c log shape r after) r log after
-Due c log a (Wants.SetList list) (Gives.Answered r b lent) after =
-    IfOperator (a == 0) (Changed c log (Whole list) r after) r log after
-Due c log a (Wants.AppendLine line) (Gives.Answered r b lent) after =
-    IfOperator (a == 0) (Changed c log (Append line) r after) r log after
-Due c log a (Wants.RemoveLine n) (Gives.Answered r b lent) after =
-    IfOperator (a == 0) (Changed c log (Remove n) r after) r log after
-Due c log a (Wants.ReplaceLine n line) (Gives.Answered r b lent) after =
-    IfOperator (a == 0) (Changed c log (Replace n line) r after) r log after
+Due c log a (Wants.Change change) (Gives.Answered r b lent) after =
+    IfOperator (a == 0) (Changed c log change r after) r log after
 Due c log a (Wants.Read from) (Gives.Read p) after = (p ≡ page (history_at c log) from) × (after ≡ log)
 Due c log a (Wants.Read from) Gives.Unread after = after ≡ log
 Due c log a Wants.Bodies (Gives.Bodies lent) after = IsLent log (lent_view lent) × (after ≡ log)
@@ -167,10 +162,7 @@ due_adds : (c : ℕ) (log : List Event) (a : ℕ) (ask : Ask) (reply : Reply) (a
 due_adds c log a (Wants.Step q) (Gives.Answered r b lent) after d = entered_adds (recorded r) log a q after d.0.1
 due_adds c log a (Wants.Load shape unit) (Gives.Answered r b lent) after d = load_adds (eqb a 0) c log a shape (held unit) r after (is_zero a) d
 due_adds c log a (Wants.LoadWithoutMemory shape) (Gives.Answered r b lent) after d = unload_adds (eqb a 0) c log a shape r after d
-due_adds c log a (Wants.SetList list) (Gives.Answered r b lent) after d = change_adds (eqb a 0) c log a (Whole list) r after (is_zero a) d
-due_adds c log a (Wants.AppendLine line) (Gives.Answered r b lent) after d = change_adds (eqb a 0) c log a (Append line) r after (is_zero a) d
-due_adds c log a (Wants.RemoveLine n) (Gives.Answered r b lent) after d = change_adds (eqb a 0) c log a (Remove n) r after (is_zero a) d
-due_adds c log a (Wants.ReplaceLine n line) (Gives.Answered r b lent) after d = change_adds (eqb a 0) c log a (Replace n line) r after (is_zero a) d
+due_adds c log a (Wants.Change change) (Gives.Answered r b lent) after d = change_adds (eqb a 0) c log a change r after (is_zero a) d
 due_adds c log a (Wants.Read from) (Gives.Read p) after d = inl d.1
 due_adds c log a (Wants.Read from) Gives.Unread after d = inl d
 due_adds c log a (Wants.Read from) (Gives.Answered r b lent) after d = absurd d
@@ -180,21 +172,12 @@ due_adds c log a (Wants.Load shape unit) (Gives.Read p) after d = absurd d
 due_adds c log a (Wants.Load shape unit) Gives.Unread after d = absurd d
 due_adds c log a (Wants.LoadWithoutMemory shape) (Gives.Read p) after d = absurd d
 due_adds c log a (Wants.LoadWithoutMemory shape) Gives.Unread after d = absurd d
-due_adds c log a (Wants.SetList list) (Gives.Read p) after d = absurd d
-due_adds c log a (Wants.SetList list) Gives.Unread after d = absurd d
-due_adds c log a (Wants.AppendLine line) (Gives.Read p) after d = absurd d
-due_adds c log a (Wants.AppendLine line) Gives.Unread after d = absurd d
-due_adds c log a (Wants.RemoveLine n) (Gives.Read p) after d = absurd d
-due_adds c log a (Wants.RemoveLine n) Gives.Unread after d = absurd d
-due_adds c log a (Wants.ReplaceLine n line) (Gives.Read p) after d = absurd d
-due_adds c log a (Wants.ReplaceLine n line) Gives.Unread after d = absurd d
+due_adds c log a (Wants.Change change) (Gives.Read p) after d = absurd d
+due_adds c log a (Wants.Change change) Gives.Unread after d = absurd d
 due_adds c log a (Wants.Step q) (Gives.Bodies lent) after d = absurd d
 due_adds c log a (Wants.Load shape unit) (Gives.Bodies lent) after d = absurd d
 due_adds c log a (Wants.LoadWithoutMemory shape) (Gives.Bodies lent) after d = absurd d
-due_adds c log a (Wants.SetList list) (Gives.Bodies lent) after d = absurd d
-due_adds c log a (Wants.AppendLine line) (Gives.Bodies lent) after d = absurd d
-due_adds c log a (Wants.RemoveLine n) (Gives.Bodies lent) after d = absurd d
-due_adds c log a (Wants.ReplaceLine n line) (Gives.Bodies lent) after d = absurd d
+due_adds c log a (Wants.Change change) (Gives.Bodies lent) after d = absurd d
 due_adds c log a (Wants.Read from) (Gives.Bodies lent) after d = absurd d
 due_adds c log a Wants.Bodies (Gives.Answered r b lent) after d = absurd d
 due_adds c log a Wants.Bodies (Gives.Read p) after d = absurd d

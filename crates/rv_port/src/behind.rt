@@ -1,7 +1,7 @@
 //! The host behind the turn.
 
 mod begun;
-mod changes;
+mod loads;
 
 ghost use Rattle.std.specs.Prelude.{◌≡◌, true, false, length, IfOk, IfErr, IfSome};
 ghost use Rattle.std.specs.Arc.{arc_value};
@@ -165,12 +165,7 @@ impl Behind {
             Ask::LoadWithoutMemory(shape) => {
                 Reply::Answered(self.load_without_memory(&shape), NONE, None)
             }
-            Ask::SetList(list) => Reply::Answered(self.set_list(&list), NONE, None),
-            Ask::AppendLine(line) => Reply::Answered(self.append_line(&line), NONE, None),
-            Ask::RemoveLine(number) => Reply::Answered(self.remove_line(number), NONE, None),
-            Ask::ReplaceLine(number, line) => {
-                Reply::Answered(self.replace_line(number, &line), NONE, None)
-            }
+            Ask::Change(change) => Reply::Answered(self.host.change_list(&change), NONE, None),
             _ => unreachable!(),
         }
     }

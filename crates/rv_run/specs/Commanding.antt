@@ -1,5 +1,5 @@
 -- What a command of the operator asks of the host. (own)
-use Rattle.std.specs.Prelude.{◌≡◌, ◌⊎◌, ℕ, List, Option, Result, Ok, Err}
+use Rattle.std.specs.Prelude.{◌≡◌, ◌⊎◌, ℕ, List, Option, Result, Ok, Err, MatchResult}
 use Rattle.rv_code.specs.declared.body.UnitBodies.{UnitBodies}
 use Rattle.rv_shape.specs.Shape.{Shape}
 use Rattle.rv_event.specs.declared.entry.Answer.{Answer}
@@ -16,8 +16,7 @@ use Rattle.rv_staff.specs.Giving.{Gives}
 
 -- a load is answered, or no act is left for it
 abbrev pub LoadsIn : Passing → Shape → UnitBodies → Result Answer Worn → Passing → Type 0
-LoadsIn v shape bodies (Ok answer) w = LoadTold v shape (λ u. Brings shape bodies u) answer w
-LoadsIn v shape bodies (Err worn) w = IsWorn v w
+LoadsIn v shape bodies result w = MatchResult result (λ answer. LoadTold v shape (λ u. Brings shape bodies u) answer w) (λ _. IsWorn v w)
 
 -- one unit is loaded, and then ports are given
 pub record Loads (v w : Passing) : Type 0 where

@@ -2,18 +2,15 @@
 
 ghost use Rattle.std.specs.Prelude.{◌≡◌, ◌⊎◌, ℕ};
 ghost use Rattle.rv_staff.specs.Giving.{Gives};
-ghost use Rattle.rv_run.specs.Commanding.{Commands, Loads, LoadsIn};
+ghost use Rattle.rv_run.specs.Commanding.{Commands, Loads};
 
 use crate::journal::not_written;
-use rv_code::UnitBodies;
 use rv_event::entry::Answer;
 use rv_fault::{Failure, ScriptFault, text_unit};
 use rv_input::{Input, InputFault};
-use rv_shape::shape::UnitShape;
 use rv_shell::{LineFault, Next, Shell};
 use rv_staff::{Hires, Session, raise, say, start_threads};
 use rv_turn::Worn;
-use rv_unit::Unit;
 use std::alloc::Global;
 use std::io;
 use std::io::{Read, Write};
@@ -81,21 +78,6 @@ fn welcome<H: Hires, W: Write>(
     }
 }
 
-// Loads a unit.
-fn load_unit<T: Wait>(
-    rt: &T,
-    session: &mut Session,
-    shape: UnitShape,
-    bodies: UnitBodies,
-) -> Result<Answer, Worn>
-    ensures { LoadsIn session.old.staff.control shape bodies result session.new.staff.control }
-{
-    match session.staff.load(rt, shape, bodies) {
-        Ok(answer) => Ok(answer),
-        Err(worn) => Err(worn),
-    }
-}
-
 // Loads the unit of a text.
 #[tactic(auto, using(crate::proofs::Asked::loads_by))]
 fn load<T: Wait, H: Hires, W: Write>(
@@ -108,8 +90,8 @@ fn load<T: Wait, H: Hires, W: Write>(
     ensures { (session.new.staff.control ≡ session.old.staff.control) ⊎ Loads session.old.staff.control session.new.staff.control }
 {
     match text_unit(session.alloc, session.staff.catalogue(), NO_LINE, text) {
-        Ok(Unit { shape, bodies }) => {
-            let answer = load_unit(rt, session, shape, bodies);
+        Ok(unit) => {
+            let answer = session.staff.load(rt, unit);
             welcome(hires, session, answer, writer)
         }
         Err(failure) => complain(session.alloc, failure, writer),

@@ -4,7 +4,6 @@ use rv_event::entry::Answer;
 use rv_fault::{Failure, list_of, unit_of};
 use rv_port::control::Control;
 use rv_turn::Worn;
-use rv_unit::Unit;
 use std::alloc::Global;
 use std::sync::Wait;
 
@@ -24,8 +23,8 @@ pub(crate) fn load_section<R: Wait>(
     line: usize,
     text: &str,
 ) -> Result<(), Failure> {
-    let Unit { shape, bodies } = unit_of(alloc, control.catalogue(), line, text)?;
-    heard(control.load(rt, shape, bodies))
+    let unit = unit_of(alloc, control.catalogue(), line, text)?;
+    heard(control.load(rt, unit))
 }
 
 /// Sets the list of a section, which opens at a line.

@@ -15,6 +15,7 @@ pub mod declare;
 pub mod declared;
 pub mod find;
 pub mod library_meaning;
+pub mod members;
 pub mod named;
 pub mod predefined;
 pub mod protected;

@@ -65,11 +65,8 @@ pages_turn old new v w from (Err NoMemory) (inr pages) = acted_turn v w (Ask.Rea
 pages_turn old new v w from (Err Worn) pages = ap (λ (p : Passing). p.turn) pages.0.1
 
 pub obeys_turn : (old new : Written) (v w : Passing) (order : Order) (result : Result Next LineFault) → Obeys old new v w order result → w.turn ≡ v.turn
-obeys_turn old new v w (Orders.Append (Ok line)) result obeys = asks_turn old new v w _ result obeys
-obeys_turn old new v w (Orders.Append (Err fault)) result obeys = ap (λ (p : Passing). p.turn) obeys.0
-obeys_turn old new v w (Orders.Remove number) result obeys = asks_turn old new v w _ result obeys
-obeys_turn old new v w (Orders.Replace number (Ok line)) result obeys = asks_turn old new v w _ result obeys
-obeys_turn old new v w (Orders.Replace number (Err fault)) result obeys = ap (λ (p : Passing). p.turn) obeys.0
+obeys_turn old new v w (Orders.Change (Ok change)) result obeys = asks_turn old new v w _ result obeys
+obeys_turn old new v w (Orders.Change (Err fault)) result obeys = ap (λ (p : Passing). p.turn) obeys.0
 obeys_turn old new v w (Orders.Tick ticks) result obeys = asks_turn old new v w _ result obeys
 obeys_turn old new v w Orders.Halt result obeys = asks_turn old new v w _ result obeys
 obeys_turn old new v w (Orders.Raise line) result obeys = ap (λ (p : Passing). p.turn) obeys.0

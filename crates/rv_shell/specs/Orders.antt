@@ -7,13 +7,11 @@ use Rattle.rv_step.specs.declared.step.Asked.TheVariants as Asks
 use Rattle.rv_step.specs.StepText.{asked_of}
 use Rattle.rv_text.specs.Numbers.{integer_of}
 use Rattle.rv_shell.specs.declared.order.Order.{Order}
-use Rattle.rv_shell.specs.declared.order.Order.TheVariants.{Append, Remove, Replace, Tick, Halt, Raise, Load, Journal, Quit}
+use Rattle.rv_shell.specs.declared.order.Order.TheVariants.{Change, Tick, Halt, Raise, Load, Journal, Quit}
 
 -- what a step asks, if the operator may command it
 abbrev pub of_step : Asked → Option Order
-of_step (Asks.Append line) = Some (Append line)
-of_step (Asks.Remove number) = Some (Remove number)
-of_step (Asks.Replace number line) = Some (Replace number line)
+of_step (Asks.Change change number) = Some (Change change)
 of_step (Asks.Tick ticks) = Some (Tick ticks)
 of_step Asks.Halt = Some Halt
 of_step asked = None

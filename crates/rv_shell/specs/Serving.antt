@@ -4,7 +4,7 @@ use Rattle.std.specs.Prelude.{◌≡◌, ◌⊎◌, ℕ, ◌+◌, List, [], ◌�
 use Rattle.std.specs.Fmt.{decimal}
 use Rattle.std.specs.Io.KnownBytes.{Appends}
 use Rattle.rv_script.specs.Prefixes.{WritesPrefix}
-use Rattle.rv_access.specs.Words.{Words}
+use Rattle.rv_access.specs.declared.change.Change.{Change}
 use Rattle.rv_access.specs.declared.fault.ListFault.{ListFault}
 use Rattle.rv_access.specs.declared.fault.ListFault.TheVariants as Lists
 use Rattle.rv_shape.specs.Shape.{Shape}
@@ -12,7 +12,6 @@ use Rattle.rv_event.specs.Text.{answer_text, entry_line}
 use Rattle.rv_event.specs.declared.entry.Answer.{Answer}
 use Rattle.rv_event.specs.declared.entry.Request.TheVariants as asks
 use Rattle.rv_host.specs.Pages.{Item}
-use Rattle.rv_step.specs.Lookup.{line_number}
 use Rattle.rv_turn.specs.Passes.{Acted, IsWorn}
 use Rattle.rv_port.specs.Events.{by, catalogue_of}
 use Rattle.rv_port.specs.Acting.{Does}
@@ -114,16 +113,14 @@ TellsCaller old new v w next result = (w ≡ v) × (new ≡ old) × (result ≡ 
 abbrev pub LacksMemory : Written → Written → Passing → Passing → List (List ℕ) → Result Next LineFault → Type 0
 LacksMemory old new v w words result = (w ≡ v) × (new ≡ old) × (result ≡ Err NoMemory) × (own_order words ≡ None)
 
--- a request with a line of the list, or what is wrong with that line
-abbrev pub WithLine : Written → Written → Passing → Passing → Result Words ListFault → (Words → Ask) → Result Next LineFault → Type 0
-WithLine old new v w (Ok line) ask result = RequestsOrWorn old new v w (ask line) result
-WithLine old new v w (Err fault) ask result = WritesOnly old new v w (fault_line fault) result
+-- a change of the list, or what is wrong with its line
+abbrev pub Changes : Written → Written → Passing → Passing → Result Change ListFault → Result Next LineFault → Type 0
+Changes old new v w (Ok change) result = RequestsOrWorn old new v w (Ask.Change change) result
+Changes old new v w (Err fault) result = WritesOnly old new v w (fault_line fault) result
 
 -- what a command does
 abbrev pub Obeys : Written → Written → Passing → Passing → Order → Result Next LineFault → Type 0
-Obeys old new v w (Orders.Append line) result = WithLine old new v w line (λ l. Ask.AppendLine l) result
-Obeys old new v w (Orders.Remove number) result = RequestsOrWorn old new v w (Ask.RemoveLine (line_number number)) result
-Obeys old new v w (Orders.Replace number line) result = WithLine old new v w line (λ l. Ask.ReplaceLine (line_number number) l) result
+Obeys old new v w (Orders.Change change) result = Changes old new v w change result
 Obeys old new v w (Orders.Tick ticks) result = RequestsOrWorn old new v w (Ask.Step (asks.Tick ticks)) result
 Obeys old new v w Orders.Halt result = RequestsOrWorn old new v w (Ask.Step asks.Halt) result
 Obeys old new v w (Orders.Raise line) result = TellsCaller old new v w (Nexts.Raise line) result

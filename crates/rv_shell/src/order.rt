@@ -5,7 +5,7 @@ ghost use Rattle.rv_step.specs.StepText.{Gives};
 ghost use Rattle.rv_shell.specs.Orders.{order_of, own_order, of_step, raise_of, journal_of};
 ghost use Rattle.rv_text.specs.Words.{words};
 
-use rv_access::{Line, ListFault};
+use rv_access::{Change, ListFault};
 use rv_step::reading::{StepError, asked_of};
 use rv_step::step::Asked;
 use rv_text::{integer_of, next_word};
@@ -14,12 +14,8 @@ use std::alloc::Global;
 /// What a command line asks.
 #[derive(Drop)]
 pub enum Order {
-    /// One more line at the end of the list; what is no line comes with its fault.
-    Append(Result<Line, ListFault>),
-    /// The list without the line of this number.
-    Remove(i64),
-    /// The list with another line in place of that of this number.
-    Replace(i64, Result<Line, ListFault>),
+    /// A change of one line of the list; what is no line comes with its fault.
+    Change(Result<Change, ListFault>),
     /// So many ticks of the clock.
     Tick(i64),
     /// The end of the host.
@@ -39,9 +35,7 @@ fn of_step(asked: Asked) -> Result<Order, StepError>
     ensures { Gives result (of_step asked) }
 {
     match asked {
-        Asked::Append(line) => Ok(Order::Append(line)),
-        Asked::Remove(number) => Ok(Order::Remove(number)),
-        Asked::Replace(number, line) => Ok(Order::Replace(number, line)),
+        Asked::Change(change, _) => Ok(Order::Change(change)),
         Asked::Tick(ticks) => Ok(Order::Tick(ticks)),
         Asked::Halt => Ok(Order::Halt),
         _ => Err(StepError::BadStep),

@@ -2,15 +2,12 @@
 
 ghost use Rattle.std.specs.Prelude.{◌≡◌, ℕ, List, Err, IfOk, MatchResult, string_bytes};
 ghost use Rattle.rv_text.specs.Words.{words};
-ghost use Rattle.rv_event.specs.declared.entry.Request.TheVariants as asks;
 ghost use Rattle.rv_port.specs.Events.{catalogue_of};
-ghost use Rattle.rv_port.specs.declared.event.Ask.{Ask};
-ghost use Rattle.rv_step.specs.Lookup.{line_number};
-ghost use Rattle.rv_shell.specs.Serving.{RequestsOrWorn, Obeys, Prints, ReadsOrWorn, Serves, Writes, answer_line, fault_line};
+ghost use Rattle.rv_shell.specs.Serving.{Obeys, Prints, ReadsOrWorn, Serves, Writes, answer_line, fault_line};
 
 use crate::order::{Order, order_of};
 use crate::page::page_text;
-use rv_access::{Line, ListFault};
+use rv_access::ListFault;
 use rv_event::entry::Answer;
 use rv_event::text::text_of_answer;
 use rv_host::pages::Page;
@@ -18,7 +15,6 @@ use rv_port::control::Control;
 use rv_port::fault::PageFault;
 use rv_script::write_whole;
 use rv_shape::catalogue::Catalogue;
-use rv_step::lookup::line_number;
 use rv_step::reading::StepError;
 use rv_turn::Worn;
 use std::alloc::{AllocError, Global};
@@ -136,76 +132,6 @@ impl Shell {
         put_made(writer, line)
     }
 
-    // A line more.
-    fn append<R: Wait, W: Write>(
-        &self,
-        rt: &R,
-        control: &mut Control,
-        line: Line,
-        writer: &mut W,
-    ) -> Result<Next, LineFault>
-        ensures { RequestsOrWorn (W.contents writer.old) (W.contents writer.new) control.old control.new (Ask.AppendLine line) result }
-    {
-        let answer = control.append_line(rt, line);
-        self.tell(&*control, answer, writer)
-    }
-
-    // A line less.
-    fn remove<R: Wait, W: Write>(
-        &self,
-        rt: &R,
-        control: &mut Control,
-        number: i64,
-        writer: &mut W,
-    ) -> Result<Next, LineFault>
-        ensures { RequestsOrWorn (W.contents writer.old) (W.contents writer.new) control.old control.new (Ask.RemoveLine (line_number number)) result }
-    {
-        let answer = control.remove_line(rt, line_number(number));
-        self.tell(&*control, answer, writer)
-    }
-
-    // Another line in place of one.
-    fn replace<R: Wait, W: Write>(
-        &self,
-        rt: &R,
-        control: &mut Control,
-        number: i64,
-        line: Line,
-        writer: &mut W,
-    ) -> Result<Next, LineFault>
-        ensures { RequestsOrWorn (W.contents writer.old) (W.contents writer.new) control.old control.new (Ask.ReplaceLine (line_number number) line) result }
-    {
-        let answer = control.replace_line(rt, line_number(number), line);
-        self.tell(&*control, answer, writer)
-    }
-
-    // Ticks of the clock.
-    fn tick<R: Wait, W: Write>(
-        &self,
-        rt: &R,
-        control: &mut Control,
-        ticks: i64,
-        writer: &mut W,
-    ) -> Result<Next, LineFault>
-        ensures { RequestsOrWorn (W.contents writer.old) (W.contents writer.new) control.old control.new (Ask.Step (asks.Tick ticks)) result }
-    {
-        let answer = control.tick(rt, ticks);
-        self.tell(&*control, answer, writer)
-    }
-
-    // The end of the host.
-    fn halt<R: Wait, W: Write>(
-        &self,
-        rt: &R,
-        control: &mut Control,
-        writer: &mut W,
-    ) -> Result<Next, LineFault>
-        ensures { RequestsOrWorn (W.contents writer.old) (W.contents writer.new) control.old control.new (Ask.Step asks.Halt) result }
-    {
-        let answer = control.halt(rt);
-        self.tell(&*control, answer, writer)
-    }
-
     // The entries of the journal from a number on.
     fn journal<R: Wait, W: Write>(
         &self,
@@ -238,13 +164,19 @@ impl Shell {
         ensures { Obeys (W.contents writer.old) (W.contents writer.new) control.old control.new order result }
     {
         match order {
-            Order::Append(Ok(line)) => self.append(rt, control, line, writer),
-            Order::Append(Err(fault)) => self.complain(fault, writer),
-            Order::Remove(number) => self.remove(rt, control, number, writer),
-            Order::Replace(number, Ok(line)) => self.replace(rt, control, number, line, writer),
-            Order::Replace(_, Err(fault)) => self.complain(fault, writer),
-            Order::Tick(ticks) => self.tick(rt, control, ticks, writer),
-            Order::Halt => self.halt(rt, control, writer),
+            Order::Change(Ok(change)) => {
+                let answer = control.change(rt, change);
+                self.tell(&*control, answer, writer)
+            }
+            Order::Change(Err(fault)) => self.complain(fault, writer),
+            Order::Tick(ticks) => {
+                let answer = control.tick(rt, ticks);
+                self.tell(&*control, answer, writer)
+            }
+            Order::Halt => {
+                let answer = control.halt(rt);
+                self.tell(&*control, answer, writer)
+            }
             Order::Raise(line) => Ok(Next::Raise(line)),
             Order::Load => Ok(Next::Load),
             Order::Journal(from) => self.journal(rt, control, from, writer),

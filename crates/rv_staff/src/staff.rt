@@ -14,14 +14,13 @@ ghost use Rattle.rv_staff.specs.Staffs.{AreOf, no_crew};
 
 use crate::hires::{HireFault, Hires};
 use crate::work::Work;
-use rv_code::UnitBodies;
+use rv_code::Unit;
 use rv_crew::crew::Crew;
 use rv_event::entry::Answer;
 use rv_port::control::Control;
 use rv_port::fault::PortFault;
 use rv_port::port::Port;
 use rv_shape::catalogue::Catalogue;
-use rv_shape::shape::UnitShape;
 use rv_shell::{LineFault, Next, Shell};
 use rv_turn::Worn;
 use std::alloc::Global;
@@ -119,19 +118,14 @@ impl Staff {
 
     /// Loads a unit as a text gives it.
     #[tactic(auto, using(crate::proofs::OneTurn::moved, crate::proofs::OneTurn::loads_stay))]
-    pub fn load<R: Wait>(
-        &mut self,
-        rt: &R,
-        shape: UnitShape,
-        bodies: UnitBodies,
-    ) -> Result<Answer, Worn>
+    pub fn load<R: Wait>(&mut self, rt: &R, unit: Unit) -> Result<Answer, Worn>
         ensures told { MatchResult
             result
-            (λ r. LoadTold self.old.control shape (λ u. Brings shape bodies u) r self.new.control)
+            (λ r. LoadTold self.old.control unit.shape (λ u. Brings unit.shape unit.bodies u) r self.new.control)
             (λ _. IsWorn self.old.control self.new.control) }
         ensures crew { self.new.crew ≡ self.old.crew }
     {
-        self.control.load(rt, shape, bodies)
+        self.control.load(rt, unit)
     }
 
     /// Writes the answer to a request of the operator.

@@ -8,6 +8,8 @@ use Rattle.rv_text.specs.Names.{is_same_name}
 use Rattle.rv_text.specs.Numbers.{integer_of}
 use Rattle.rv_access.specs.Words.{Words}
 use Rattle.rv_access.specs.Reading.{is_comment, line_of}
+use Rattle.rv_access.specs.declared.change.Change.{Change}
+use Rattle.rv_access.specs.declared.change.Change.TheVariants.{Append, Remove, Replace}
 use Rattle.rv_access.specs.declared.fault.ListFault.{ListFault}
 use Rattle.rv_step.specs.declared.step.Asker.{Asker}
 use Rattle.rv_step.specs.declared.step.Asker.TheVariants.{Operator, Line, Task}
@@ -17,6 +19,7 @@ use Rattle.rv_event.specs.Words.{interrupt_of, args_of, scalars_of}
 use Rattle.rv_shape.specs.Items.{◌>>=◌}
 use Rattle.rv_step.specs.StepWords.{dotted_of, identifier_of}
 use Rattle.rv_step.specs.Ends.{exit_of}
+use Rattle.rv_step.specs.Lookup.{line_number}
 
 -- a step
 pub record StepWords : Type 0 where
@@ -56,9 +59,23 @@ abbrev pub list_line : List (List ℕ) → Option (Result Words ListFault)
 list_line [] = None
 list_line (word ∷ words) = if is_comment word then None else Some (line_of 1 (word ∷ words))
 
+-- the change that a line makes, or what is wrong with the line
+abbrev pub with_line : (Words → Change) → Result Words ListFault → Result Change ListFault
+with_line change (Ok line) = Ok (change line)
+with_line change (Err fault) = Err fault
+
+-- `append LINE`, behind the `append`
+abbrev pub append_of : List (List ℕ) → Option Asked
+append_of words = list_line words >>= λ line. Some (Asks.Change (with_line Append line) (pos 0))
+
+-- `remove N`, by its number
+abbrev pub remove_of : ℤ → Asked
+remove_of number = Asks.Change (Ok (Remove (line_number number))) number
+
 -- `replace N LINE`, behind the `replace`
 abbrev pub replace_of : List (List ℕ) → Option Asked
-replace_of (number ∷ words) = integer_of number >>= λ n. list_line words >>= λ line. Some (Asks.Replace n line)
+replace_of (number ∷ words) =
+    integer_of number >>= λ n. list_line words >>= λ line. Some (Asks.Change (with_line (Replace (line_number n)) line) n)
 replace_of [] = None
 
 -- the requests of one word
@@ -82,7 +99,7 @@ abbrev pub numbered_by : List ℕ → ℤ → Option Asked
 numbered_by key number =
     if bytes_eq key (codes "delay") then Some (Asks.DelayUntil number)
     else if bytes_eq key (codes "tick") then Some (Asks.Tick number)
-    else if bytes_eq key (codes "remove") then Some (Asks.Remove number)
+    else if bytes_eq key (codes "remove") then Some (remove_of number)
     else if bytes_eq key (codes "go") then go_of number
     else None
 
@@ -95,7 +112,7 @@ abbrev pub longer : List ℕ → List (List ℕ) → Option Asked
 longer key words =
     if bytes_eq key (codes "call") then call_of words
     else if bytes_eq key (codes "end") then end_of words
-    else if bytes_eq key (codes "append") then (list_line words >>= λ line. Some (Asks.Append line))
+    else if bytes_eq key (codes "append") then append_of words
     else if bytes_eq key (codes "replace") then replace_of words
     else numbered key words
 
@@ -107,9 +124,7 @@ asked_of (key ∷ word ∷ words) = longer key (word ∷ words)
 
 -- the operator alone changes single lines of the list
 abbrev pub is_change : Asked → Bool
-is_change (Asks.Append line) = true
-is_change (Asks.Remove number) = true
-is_change (Asks.Replace number line) = true
+is_change (Asks.Change change number) = true
 is_change asked = false
 
 -- the actor is the operator

@@ -80,7 +80,7 @@ pub fn request_of(
         Asked::Quit => Ok(Some(Request::Quit)),
         Asked::Tick(ticks) => Ok(Some(Request::Tick(*ticks))),
         Asked::Halt => Ok(Some(Request::Halt)),
-        Asked::Go(_) | Asked::Append(_) | Asked::Remove(_) | Asked::Replace(_, _) => Ok(None),
+        Asked::Go(_) | Asked::Change(_, _) => Ok(None),
     }
 }
 

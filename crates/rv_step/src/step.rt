@@ -2,7 +2,7 @@
 
 ghost use Rattle.std.specs.Prelude.{◌≡◌, IfOk, string_bytes};
 
-use rv_access::{Line, ListFault};
+use rv_access::{Change, ListFault};
 use rv_event::entry::Exit;
 use rv_value::{Args, Scalars};
 use std::alloc::{AllocError, Global};
@@ -105,12 +105,9 @@ pub enum Asked {
     Halt,
     /// So many requests of the actor's text, one after another, at least one.
     Go(usize),
-    /// One more line at the end of the list; what is no line comes with its fault.
-    Append(Result<Line, ListFault>),
-    /// The list without the line of this number.
-    Remove(i64),
-    /// The list with another line in place of that of this number.
-    Replace(i64, Result<Line, ListFault>),
+    /// A change of one line of the list; what is no line comes with its fault. And the number of the line as it is
+    /// written, 0 where there is none.
+    Change(Result<Change, ListFault>, i64),
 }
 
 /// One step: who asks, and what.

@@ -1,7 +1,7 @@
 //! What the host's calls give that no script shows: a run of commands, a page of the journal. Its capacities are shown by
 //! the rows `settings_capacity_*`, what its requests cost by `room_*`.
 
-use rv_access::{AccessList, read_list};
+use rv_access::{AccessList, Change, read_list};
 use rv_event::entry::{Answer, Entry, Request};
 use rv_history::command::Command;
 use rv_host::answers::Answers;
@@ -58,7 +58,7 @@ fn answers(alloc: Global) -> Result<Answers, Fail> {
     let mut host = plant(alloc)?;
     let commands = [
         Command::Ask(PILOT, Request::Call(1, 1, Args::new())),
-        Command::RemoveLine(9),
+        Command::Change(Change::Remove(9)),
     ];
     let mut answers = Answers::new(alloc);
     let ran = host.run(&commands, &mut answers);

@@ -12,24 +12,15 @@ use crate::refused::{Refused, least};
 use crate::setting::Setting;
 use crate::text_order::look_in_order;
 use crate::unit::{items, no_bodies};
-use rv_code::UnitBodies;
+use rv_code::{Unit, UnitBodies};
 use rv_outline::outline::{Outline, outline_of};
 use rv_scope::context::package_scope;
 use rv_scope::named::{Named, protected_units};
 use rv_scope::{Declared, Library, Scope, Wanted};
-use rv_shape::shape::UnitShape;
 use rv_static::{Faults, TypeFault};
 use rv_tree::name::Name;
 use rv_tree::unit::ContextItem;
 use std::alloc::Global;
-
-/// What a unit text is: the shape of its unit, and the compiled bodies of its objects and tasks, in the order of their
-/// numbers.
-#[derive(Drop)]
-pub struct Checked {
-    pub shape: UnitShape,
-    pub bodies: UnitBodies,
-}
 
 // Whether it is Ada.Real_Time.
 fn is_real_time(found: Option<Declared>) -> bool
@@ -149,7 +140,7 @@ fn look(alloc: Global, named: &Named, outline: &Outline) -> Result<(), Refused>
 /// # Errors
 /// The fault at the least place: at one place the first in the order of `TypeFault`. `NoMemory` wherever memory was refused,
 /// whatever is wrong besides.
-pub fn check_types(alloc: Global, named: &Named) -> Result<Checked, TypeFault>
+pub fn check_types(alloc: Global, named: &Named) -> Result<Unit, TypeFault>
     ensures shape { IfOk result (λ c. shape_of named.now.catalogue.now (tree_view named.now.tree.now) ≡ Some c.shape) }
     ensures bodies { IfOk result (λ c. bodies_of named.now.catalogue.now (tree_view named.now.tree.now) ≡ Some (unit_view c.bodies)) }
 {
@@ -167,7 +158,7 @@ pub fn check_types(alloc: Global, named: &Named) -> Result<Checked, TypeFault>
                 return Err(fault);
             }
             let (shape, _known) = outline.into_parts();
-            Ok(Checked { shape, bodies })
+            Ok(Unit { shape, bodies })
         }
     }
 }

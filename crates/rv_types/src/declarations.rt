@@ -7,8 +7,8 @@ ghost use Rattle.rv_scope.specs.Scope.{declaring_all, hiding, hiding_all, with_m
 ghost use Rattle.rv_scope.specs.Visible.{visible};
 ghost use Rattle.rv_scope.specs.DeclarationUses.{declaring_protected_unit, object_form, with_declaration, with_declarations};
 
-use rv_outline::scopes::{hide, hide_all};
 use rv_scope::declare::{Form, declare_all};
+use rv_scope::members::{hide, hide_all};
 use rv_scope::{Declared, Scope};
 use rv_tree::declaration::{Declaration, ProtectedUnit};
 use rv_tree::name::{Identifier, Name};

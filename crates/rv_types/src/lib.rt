@@ -29,5 +29,5 @@ mod text_order;
 pub mod typed;
 mod unit;
 
-pub use check::{Checked, check_types};
+pub use check::check_types;
 pub use rv_static::{Faults, TypeFault};

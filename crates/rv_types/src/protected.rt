@@ -13,7 +13,7 @@ use crate::refused::{Refused, mismatch};
 use crate::setting::Setting;
 use rv_code::{Body, ObjectBodies, UnitBodies};
 use rv_outline::outline::ObjectType;
-use rv_outline::scopes::enter_members;
+use rv_scope::members::enter_members;
 use rv_scope::{Declared, Scope, Wanted};
 use rv_tree::body::ProtectedBody;
 use rv_tree::declaration::ProtectedUnit;

@@ -6,7 +6,8 @@ use Rattle.rv_restrict.specs.Conforms.{Conforms}
 use Rattle.rv_scope.specs.Bound.{AllBound, uses}
 use Rattle.rv_distinct.specs.Regions.{names_are_distinct}
 use Rattle.rv_distinct.specs.BodyNames.{has_one_body_each}
-use Rattle.rv_names.specs.Completed.{unit_is_completed}
+use Rattle.rv_conform.specs.Conforms.{bodies_conform}
+use Rattle.rv_names.specs.Completed.{unit_is_completed, operations_are_completed}
 use Rattle.rv_names.specs.EndNames.{unit_ends}
 use Rattle.rv_names.specs.Jumps.{unit_is_placed}
 use Rattle.rv_unit.specs.Compiles.{IsBound}
@@ -15,9 +16,10 @@ use Rattle.rv_unit.specs.Compiles.{IsBound}
 pub bound_as : (shapes others : List Shape) (tree other : UnitTree)
     → others ≡ shapes → other ≡ tree
     → Conforms tree → AllBound (uses shapes tree)
-    → unit_is_completed tree ≡ true → unit_ends tree ≡ true → unit_is_placed tree ≡ true
+    → unit_is_completed tree ≡ true → operations_are_completed tree ≡ true → bodies_conform shapes tree ≡ true
+    → unit_ends tree ≡ true → unit_is_placed tree ≡ true
     → names_are_distinct tree ≡ true → has_one_body_each tree ≡ true
     → IsBound others other
-bound_as shapes others tree other same_units same_tree conforms bound completed ends placed distinct one_body =
-    let here : IsBound shapes tree = record { conforms = conforms; bound = bound; completed = completed; ends = ends; placed = placed; distinct = distinct; one_body = one_body } in
+bound_as shapes others tree other same_units same_tree conforms bound completed operations profiles ends placed distinct one_body =
+    let here : IsBound shapes tree = record { conforms = conforms; bound = bound; completed = completed; operations = operations; profiles = profiles; ends = ends; placed = placed; distinct = distinct; one_body = one_body } in
     subst (λ (units : List Shape). IsBound units other) (sym same_units) (subst (λ (t : UnitTree). IsBound shapes t) (sym same_tree) here)

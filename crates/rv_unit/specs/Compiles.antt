@@ -12,7 +12,8 @@ use Rattle.rv_restrict.specs.Conforms.{Conforms, IsFirst, violations}
 use Rattle.rv_scope.specs.Bound.{AllBound, uses}
 use Rattle.rv_distinct.specs.Regions.{names_are_distinct}
 use Rattle.rv_distinct.specs.BodyNames.{has_one_body_each}
-use Rattle.rv_names.specs.Completed.{unit_is_completed}
+use Rattle.rv_conform.specs.Conforms.{bodies_conform}
+use Rattle.rv_names.specs.Completed.{unit_is_completed, operations_are_completed}
 use Rattle.rv_names.specs.EndNames.{unit_ends}
 use Rattle.rv_names.specs.Jumps.{unit_is_placed}
 use Rattle.rv_outline.specs.Shapes.{shape_of}
@@ -30,6 +31,10 @@ pub record IsBound (shapes : List Shape) (tree : UnitTree) : Type 0 where
   pub bound : AllBound (uses shapes tree)
   -- each protected unit and each task of the package has a body (3.11.1)
   pub completed : unit_is_completed tree ≡ true
+  -- each operation of a protected unit has a body (9.4)
+  pub operations : operations_are_completed tree ≡ true
+  -- each body of an operation conforms to a declaration of its protected unit (6.3.1)
+  pub profiles : bodies_conform shapes tree ≡ true
   -- each name after an `end` is the opening one
   pub ends : unit_ends tree ≡ true
   -- each `exit` stands in a loop, and each `raise` without a name in a handler (5.7, 11.3)

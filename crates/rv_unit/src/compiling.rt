@@ -9,7 +9,7 @@ ghost use Rattle.rv_types.specs.BodiesOf.{bodies_of as code_of_tree};
 ghost use Rattle.rv_unit.specs.Compiles.{IsBound, IsOfText, IsOfTree, GivesUnit, IsUnit, IsCompiled, IsRefused};
 
 use crate::fault::UnitFault;
-use crate::unit::Unit;
+use rv_code::Unit;
 use rv_names::NameFault;
 use rv_names::resolve::resolve;
 use rv_parse::{ParseFault, parse};
@@ -18,7 +18,7 @@ use rv_scope::named::Named;
 use rv_shape::catalogue::Catalogue;
 use rv_static::TypeFault;
 use rv_tree::UnitTree;
-use rv_types::{Checked, check_types};
+use rv_types::check_types;
 use std::alloc::Global;
 
 // The tree of a text.
@@ -35,7 +35,7 @@ fn tree_of(alloc: Global, text: &str) -> Result<UnitTree, UnitFault>
 }
 
 // The shape and the bodies of a text whose names are bound.
-fn checked(alloc: Global, named: &Named) -> Result<Checked, UnitFault>
+fn checked(alloc: Global, named: &Named) -> Result<Unit, UnitFault>
     ensures shape { IfOk result (λ checked.
         shape_of_tree named.now.catalogue.now (unit_view named.now.tree.now) ≡ Some checked.shape) }
     ensures bodies { IfOk result (λ checked.
@@ -64,7 +64,7 @@ fn unit_of(alloc: Global, tree: &UnitTree, catalogue: &Catalogue) -> Result<Unit
         Err(NameFault::NoMemory) => return Err(UnitFault::NoMemory),
         Err(fault) => return Err(UnitFault::Names(fault)),
     };
-    let Checked { shape, bodies } = checked(alloc, &named)?;
+    let Unit { shape, bodies } = checked(alloc, &named)?;
     match catalogue.shape_fits(&shape) {
         None => Ok(Unit { shape, bodies }),
         Some(fault) => Err(UnitFault::Shape(fault)),

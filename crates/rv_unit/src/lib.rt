@@ -4,8 +4,7 @@
 
 mod compiling;
 mod fault;
-mod unit;
 
 pub use compiling::compile;
 pub use fault::UnitFault;
-pub use unit::Unit;
+pub use rv_code::Unit;

@@ -6,7 +6,7 @@ use Rattle.rv_shape.specs.Shape.{Shape}
 use Rattle.rv_shape.specs.Fits.{fault}
 use Rattle.rv_shape.specs.declared.fault.ShapeFault.{ShapeFault}
 use Rattle.rv_shape.specs.declared.fault.ShapeFault.TheVariants.{NoMemory}
-use Rattle.rv_unit.specs.declared.unit.Unit.{Unit as Compiled}
+use Rattle.rv_code.specs.declared.unit.Unit.{Unit as Compiled}
 use Rattle.rv_script.specs.Openings.{opening_of}
 use Rattle.rv_script.specs.UnitTexts.{without_returns}
 use Rattle.rv_script.specs.declared.opening.Opening.{Opening}

@@ -5,6 +5,7 @@ use crate::drawn::numbers::Numbers;
 use crate::drawn::requests::request;
 use crate::drawn::units::unit;
 use crate::scan::Scan;
+use rv_access::Change;
 use rv_event::entry::Request;
 use rv_history::command::Command;
 use std::alloc::{AllocError, Global};
@@ -27,9 +28,9 @@ fn load(alloc: Global, numbers: &mut Numbers, scan: &Scan) -> Result<Option<Comm
 }
 
 // A list set whole.
-fn set(alloc: Global, numbers: &mut Numbers, units: usize) -> Result<Option<Command>, AllocError> {
+fn set(alloc: Global, numbers: &mut Numbers, units: usize) -> Result<Option<Change>, AllocError> {
     match list(alloc, numbers, units)? {
-        Some(list) => Ok(Some(Command::SetList(list))),
+        Some(list) => Ok(Some(Change::Whole(list))),
         None => Ok(None),
     }
 }
@@ -39,18 +40,18 @@ fn append(
     alloc: Global,
     numbers: &mut Numbers,
     units: usize,
-) -> Result<Option<Command>, AllocError> {
+) -> Result<Option<Change>, AllocError> {
     match line(alloc, numbers, units)? {
-        Some(line) => Ok(Some(Command::AppendLine(line))),
+        Some(line) => Ok(Some(Change::Append(line))),
         None => Ok(None),
     }
 }
 
 // A line appended that denies a call that waits, if one does.
-fn deny(alloc: Global, scan: &Scan) -> Result<Option<Command>, AllocError> {
+fn deny(alloc: Global, scan: &Scan) -> Result<Option<Change>, AllocError> {
     let seen = scan.seen()?;
     match denial(alloc, &seen)? {
-        Some(line) => Ok(Some(Command::AppendLine(line))),
+        Some(line) => Ok(Some(Change::Append(line))),
         None => Ok(None),
     }
 }
@@ -67,20 +68,16 @@ fn replace(
     numbers: &mut Numbers,
     units: usize,
     lines: usize,
-) -> Result<Option<Command>, AllocError> {
+) -> Result<Option<Change>, AllocError> {
     let number = line_number(numbers, lines);
     match line(alloc, numbers, units)? {
-        Some(line) => Ok(Some(Command::ReplaceLine(number, line))),
+        Some(line) => Ok(Some(Change::Replace(number, line))),
         None => Ok(None),
     }
 }
 
 // A change of the list, of which the first sets it whole.
-fn change(
-    alloc: Global,
-    numbers: &mut Numbers,
-    scan: &Scan,
-) -> Result<Option<Command>, AllocError> {
+fn change(alloc: Global, numbers: &mut Numbers, scan: &Scan) -> Result<Option<Change>, AllocError> {
     let units = scan.catalogue().shapes().len();
     let lines = scan.in_force().len();
     if scan.lists().is_empty() {
@@ -91,7 +88,7 @@ fn change(
         1..=3 => append(alloc, numbers, units),
         4 | 5 => replace(alloc, numbers, units, lines),
         6 | 7 => deny(alloc, scan),
-        _ => Ok(Some(Command::RemoveLine(line_number(numbers, lines)))),
+        _ => Ok(Some(Change::Remove(line_number(numbers, lines)))),
     }
 }
 
@@ -117,9 +114,11 @@ pub fn command(
         return load(alloc, numbers, scan);
     }
     let percent = if scan.lists().is_empty() { 15 } else { 6 };
-    if numbers.chance(percent) {
-        change(alloc, numbers, scan)
-    } else {
-        ask(numbers, scan, is_late)
+    if !numbers.chance(percent) {
+        return ask(numbers, scan, is_late);
+    }
+    match change(alloc, numbers, scan)? {
+        Some(change) => Ok(Some(Command::Change(change))),
+        None => Ok(None),
     }
 }

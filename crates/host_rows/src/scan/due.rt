@@ -33,7 +33,8 @@ fn answer_fitting(seen: &Seen, actor: usize, request: &Request) -> Answer {
 fn goes_on(request: &Request) -> bool {
     match request {
         Request::Complete(_, _) | Request::Resume | Request::Quit => true,
-        _ => false,
+        Request::Call(_, _, _) | Request::DelayUntil(_) | Request::Clock => false,
+        Request::Fire | Request::Tick(_) | Request::Halt => false,
     }
 }
 

@@ -52,7 +52,7 @@ fn may_quit(seen: &Seen, actor: usize) -> bool {
 fn awaits(mode: Mode) -> bool {
     match mode {
         Mode::Idle | Mode::InBody | Mode::Ended => false,
-        _ => true,
+        Mode::Queued | Mode::Handed | Mode::Dropped | Mode::Suspended | Mode::Delayed => true,
     }
 }
 

@@ -2,7 +2,7 @@
 ghost use Rattle.std.specs.Prelude.{◌≡◌, []};
 
 use rv_access::read_list;
-use rv_code::{Body, Expression, ObjectBodies, Statement, UnitBodies};
+use rv_code::{Body, Expression, ObjectBodies, Statement, Unit, UnitBodies};
 use rv_host::host::Host;
 use rv_port::control::Control;
 use rv_shape::reading::read_shape;
@@ -68,8 +68,9 @@ pub fn bodies(alloc: Global) -> Result<UnitBodies, AllocError> {
 
 /// Makes a new host the same behind its turn, with the bodies.
 pub fn load_all<R: Wait>(rt: &R, alloc: Global, control: &mut Control) -> Option<()> {
-    let plant = read_shape(alloc, PLANT).ok()?;
-    let _ = control.load(rt, plant, bodies(alloc).ok()?);
+    let shape = read_shape(alloc, PLANT).ok()?;
+    let bodies = bodies(alloc).ok()?;
+    let _ = control.load(rt, Unit { shape, bodies });
     let nav = read_shape(alloc, NAV).ok()?;
     let _ = control.load_shape(rt, nav);
     let list = read_list(alloc, ALL).ok()?;

@@ -104,7 +104,7 @@ fn awaits(mode: Mode) -> bool
 {
     match mode {
         Mode::Idle | Mode::InBody | Mode::Ended => false,
-        _ => true,
+        Mode::Queued | Mode::Handed | Mode::Dropped | Mode::Suspended | Mode::Delayed => true,
     }
 }
 

@@ -7,9 +7,9 @@ ghost use Rattle.rv_exec.specs.Bodies.{held, shared_view, units_of};
 ghost use Rattle.rv_turn.specs.Passes.{IsWorn};
 ghost use Rattle.rv_port.specs.Controls.{Told, LoadTold, Brings, numbered_as, no_bodies_of};
 
-use super::{Control, told};
+use super::{Control, heard};
 use crate::event::Ask;
-use rv_code::UnitBodies;
+use rv_code::{Unit, UnitBodies};
 use rv_event::entry::Answer;
 use rv_exec::bodies::{Bodies, SharedUnit};
 use rv_shape::catalogue::Catalogue;
@@ -64,21 +64,16 @@ pub(crate) fn no_bodies_of_all(
 }
 
 impl Control {
-    /// Loads a unit as a text gives it: its shape, which was compiled against `catalogue`, and the
-    /// bodies of the same text. Ports run them from then on. Bodies that have another number of
-    /// objects or tasks than the shape are none of its own: then the shape is loaded alone. Where it
-    /// isn't accepted, it is dropped.
-    pub fn load<R: Wait>(
-        &mut self,
-        rt: &R,
-        shape: UnitShape,
-        bodies: UnitBodies,
-    ) -> Result<Answer, Worn>
+    /// Loads a unit as a text gives it, compiled against `catalogue`: its shape and its bodies, which
+    /// ports run from then on. Bodies that have another number of objects or tasks than the shape are
+    /// none of its own: then the shape is loaded alone. Where it isn't accepted, it is dropped.
+    pub fn load<R: Wait>(&mut self, rt: &R, unit: Unit) -> Result<Answer, Worn>
         ensures { MatchResult
             result
-            (λ r. LoadTold self.old shape (λ u. Brings shape bodies u) r self.new)
+            (λ r. LoadTold self.old unit.shape (λ u. Brings unit.shape unit.bodies u) r self.new)
             (λ _. IsWorn self.old self.new) }
     {
+        let Unit { shape, bodies } = unit;
         if !is_numbered_as(&shape, &bodies) {
             return self.load_shape(rt, shape);
         }
@@ -109,8 +104,8 @@ impl Control {
             (λ r. Told self.old (Ask.LoadWithoutMemory shape) r self.new)
             (λ _. IsWorn self.old self.new) }
     {
-        let ask = Ask::LoadWithoutMemory(shape);
-        told(rt, &mut self.pass, &self.bell, ask)
+        let reply = self.pass.act(rt, Ask::LoadWithoutMemory(shape))?;
+        Ok(heard(&self.bell, &reply))
     }
 
     // A load with bodies that others may hold.
@@ -128,7 +123,8 @@ impl Control {
         let Some(catalogue) = with_unit(self.alloc, &self.catalogue, &shape) else {
             return self.load_nothing(rt, shape);
         };
-        let answer = told(rt, &mut self.pass, &self.bell, Ask::Load(shape, unit))?;
+        let reply = self.pass.act(rt, Ask::Load(shape, unit))?;
+        let answer = heard(&self.bell, &reply);
         if answer.recorded().is_none() {
             return Ok(answer);
         }

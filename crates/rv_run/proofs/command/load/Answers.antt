@@ -3,5 +3,5 @@ use Rattle.rv_run.proofs.command.load.Goals as goal
 
 pub returns-in-Ok : goal.returns-in-Ok
 returns-in-Ok g c =
-    loads_by c.args.session.now.staff.control c.load_unit-answer.new.session.staff.control c.welcome.new.session.staff.control
-    c.in-Ok.field-0.shape c.in-Ok.field-0.bodies c.load_unit-answer.result c.load_unit-answer.ensures c.welcome.ensures
+    loads_by c.args.session.now.staff.control c.load-answer.new.self.control c.welcome.new.session.staff.control
+    c.in-Ok.field-0.shape c.in-Ok.field-0.bodies c.load-answer.result c.load-answer.ensures.told c.welcome.ensures

@@ -17,7 +17,7 @@ returns-in_err-shape-clause-fault c =
     let trees = ap unit_view c.in-Ok.ensures.tree in
     let units = c.in-Ok.ensures.catalogue in
     let bound = bound_as c.args.catalogue.now c.in-Ok.named.catalogue.now (unit_view c.args.tree.now) (unit_view c.in-Ok.named.tree.now) units trees
-    (c.in_default.ensures.conforms.0 refl) c.in-Ok.ensures.bound c.in-Ok.ensures.bodies c.in-Ok.ensures.ends c.in-Ok.ensures.jumps c.in-Ok.ensures.distinct c.in-Ok.ensures.one_body in
+    (c.in_default.ensures.conforms.0 refl) c.in-Ok.ensures.bound c.in-Ok.ensures.bodies c.in-Ok.ensures.operations c.in-Ok.ensures.conforms c.in-Ok.ensures.ends c.in-Ok.ensures.jumps c.in-Ok.ensures.distinct c.in-Ok.ensures.one_body in
     let told = c.in_err-shape.ensures.fault bound in
     let of_tree = subst (λ (t : UnitTree). IsOfTree c.in-Ok.named.catalogue.now t c.in_err-shape.field-0.0) trees told in
     rw (p.1, p.2) (subst (λ (s : List Shape). IsOfTree s (unit_view c.args.tree.now) c.in_err-shape.field-0.0) units of_tree)
@@ -30,6 +30,8 @@ returns-in-Some-shape_fits-clause-fault c =
       conforms = c.in_default.ensures.conforms.0 refl;
       bound = c.in-Ok.ensures.bound;
       completed = c.in-Ok.ensures.bodies;
+      operations = c.in-Ok.ensures.operations;
+      profiles = c.in-Ok.ensures.conforms;
       ends = c.in-Ok.ensures.ends;
       placed = c.in-Ok.ensures.jumps;
       distinct = c.in-Ok.ensures.distinct;

@@ -11,4 +11,4 @@ pub returns : goal.returns
 unfolding term
 returns g c =
     let p = product_is (opening c.args.self.now.depth) (inside c.args.self.now.depth) (expression_view c.in_ok-first.first) (factors_view c.in_ok-more.more.items) (λ e. grind (arith, nat_tests, length-map)) in
-    rw (c.in_ok-first.ensures, c.in_ok-more.ensures, p, ← c.in_ok-new.ensures.ok) (first_of (search rules, search (rules, the_lemmas), grind (arith, the_lemmas)))
+    rw (c.in_ok-first.ensures, c.in_ok-more.ensures, p, c.in_ok-new.ensures.ok, c.take-2.ensures, c.new-held.ensures) (first_of (search rules, search (rules, the_lemmas), grind (arith, the_lemmas)))

@@ -1,0 +1,3 @@
+pub mod Statics
+pub mod Profiles
+pub mod Conforms

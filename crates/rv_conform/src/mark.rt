@@ -1,0 +1,43 @@
+//! What the marks of profiles denote (6.1, 8.3).
+
+ghost use Rattle.std.specs.Prelude.{◌≡◌};
+ghost use Rattle.rv_tree.specs.NameView.{name_view};
+ghost use Rattle.rv_conform.specs.Profiles.{subtype_place as place_of_subtype, mark_at};
+
+use crate::statics::Statics;
+use rv_scope::declared::Declared;
+use rv_scope::scope::Scope;
+use rv_shape::kind::Range;
+use rv_tree::name::Name;
+
+/// What a mark denotes where it stands.
+#[derive(Clone, Copy)]
+pub(crate) struct Mark {
+    /// The subtype, by the place of its identifier, if the text declares it.
+    pub(crate) declared: Option<usize>,
+    /// Its range, if that is static.
+    pub(crate) range: Option<Range>,
+}
+
+// The subtype of the text that is declared, by its place.
+fn subtype_place(found: Option<Declared>) -> Option<usize>
+    ensures { result ≡ place_of_subtype found }
+{
+    match found {
+        Some(Declared::Subtype(at)) => Some(at),
+        _ => None,
+    }
+}
+
+impl Mark {
+    /// What a mark denotes at the point.
+    pub(crate) fn of(name: &Name, scope: &Scope, statics: &Statics) -> Mark
+        ensures { result ≡ mark_at statics.now scope.now (name_view name.now) }
+    {
+        let found = scope.visible(name);
+        Mark {
+            declared: subtype_place(found),
+            range: statics.range(found),
+        }
+    }
+}

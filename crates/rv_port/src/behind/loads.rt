@@ -1,0 +1,62 @@
+//! Loads by the operator, on the host behind the turn.
+
+ghost use Rattle.std.specs.Prelude.{◌≡◌, ◌++◌, ◌∷◌, [], IfOk};
+ghost use Rattle.std.specs.Arc.{arc_value};
+ghost use Rattle.rv_exec.specs.Bodies.{units_of, held};
+ghost use Rattle.rv_port.specs.Events.{log_in};
+ghost use Rattle.rv_port.specs.Acting.{Loaded, Unloaded};
+
+use super::Behind;
+use rv_event::entry::Answer;
+use rv_exec::bodies::{Bodies, SharedUnit};
+use rv_shape::shape::UnitShape;
+use std::alloc::{AllocError, Global};
+use std::sync::Arc;
+
+// The bodies with those of one more unit, which others may hold.
+fn grown(
+    alloc: Global,
+    bodies: &Bodies,
+    unit: SharedUnit,
+) -> Result<Arc<Bodies, Global>, AllocError>
+    ensures { IfOk result (λ b. units_of (arc_value b) ≡ units_of bodies.now ++ held unit ∷ []) }
+{
+    let bodies = bodies.with(unit)?;
+    match Arc::new(alloc, bodies) {
+        Ok(bodies) => Ok(bodies),
+        Err(_) => Err(AllocError),
+    }
+}
+
+impl Behind {
+    /// A load by the operator. The memory of its bodies is taken before its entry is added.
+    pub(crate) fn load(&mut self, shape: &UnitShape, unit: SharedUnit) -> Answer
+        ensures does { Loaded self.old.host.value.capacity (log_in self.old.host.value (arc_value self.old.bodies)) shape.now (held unit) result (log_in self.new.host.value (arc_value self.new.bodies)) }
+        ensures about { self.new.host.value.capacity ≡ self.old.host.value.capacity }
+    {
+        self.host.replays();
+        let Ok(bodies) = grown(self.alloc, &self.bodies, unit) else {
+            return self.load_without_memory(shape);
+        };
+        let answer = self.host.load(shape);
+        if answer.recorded().is_none() {
+            return answer;
+        }
+        self.bodies = bodies;
+        answer
+    }
+
+    /// A load by the operator, for which there is no memory.
+    pub(crate) fn load_without_memory(&mut self, shape: &UnitShape) -> Answer
+        ensures does { Unloaded self.old.host.value.capacity (log_in self.old.host.value (arc_value self.old.bodies)) shape.now result (log_in self.new.host.value (arc_value self.new.bodies)) }
+        ensures about { self.new.host.value.capacity ≡ self.old.host.value.capacity }
+    {
+        let host = &*self.host;
+        host.replays();
+        let due = host.due_load(shape);
+        if due.recorded().is_some() {
+            return Answer::OutOfMemory;
+        }
+        due
+    }
+}

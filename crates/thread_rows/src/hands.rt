@@ -1,0 +1,61 @@
+//! The threads of the crews of all games: each runs a job that is boxed in `main`.
+
+ghost use Rattle.std.specs.Coded.{codes};
+ghost use Rattle.std.specs.Prelude.{◌≡◌};
+ghost use Rattle.rv_port.specs.contracts.event.Event as e;
+ghost use Rattle.rv_staff.specs.Hiring.{hired};
+
+use crate::crews::two_readers::{FirstReader, SecondReader, read_first, read_second};
+use rv_crew::crew::Crew;
+use rv_port::port::{Finished, Port};
+use rv_staff::{HireFault, Hires, Work, perform};
+use std::sync::Wait;
+
+/// What a thread does with the port of its actor.
+#[derive(Drop)]
+pub enum Role {
+    /// What the threads of a run do.
+    Work(Work),
+    /// It reads, and its body is held open.
+    FirstReader(FirstReader),
+    /// It reads meanwhile.
+    SecondReader(SecondReader),
+}
+
+/// Does what a role says, and finishes the port.
+pub fn act<R: Wait>(rt: &R, port: Port, role: Role) -> Finished
+    ensures { (result.turn ≡ port.turn) × (result.actor ≡ port.actor) }
+{
+    match role {
+        Role::Work(work) => perform(rt, port, work),
+        Role::FirstReader(reader) => read_first(rt, port, reader),
+        Role::SecondReader(reader) => read_second(rt, port, reader),
+    }
+}
+
+/// Starts threads by a closure of `main`, which boxes their jobs.
+#[derive(Drop)]
+pub struct Hands {
+    /// The closure.
+    pub begin: Box<dyn Fn(&mut Crew, Port, Role) -> Result<(), HireFault> + Send>,
+    pub ghost callable: { (crew : _) (port : _) (role : _) → pre begin crew port role },
+    pub ghost starts: { (crew : _) (port : _) (role : _) (result : _) (after : _)
+        → post begin crew port role result after → after.now ≡ hired crew.now port result } by { Prim.hlevel (codes, e.the_row.coded) },
+}
+
+impl Hands {
+    /// Starts a thread in a role.
+    pub fn start(&self, crew: &mut Crew, port: Port, role: Role) -> Result<(), HireFault>
+        ensures { crew.new ≡ hired crew.old port result }
+    {
+        (self.begin)(crew, port, role)
+    }
+}
+
+impl Hires for Hands {
+    fn hire(&self, crew: &mut Crew, port: Port, work: Work) -> Result<(), HireFault>
+        ensures { crew.new ≡ hired crew.old port result }
+    {
+        self.start(crew, port, Role::Work(work))
+    }
+}

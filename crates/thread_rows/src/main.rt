@@ -1,0 +1,64 @@
+//! Worked rows on threads: games of ports, jobs of a crew, and runs, each kind under a heading.
+#![tactic(auto)]
+
+ghost use Rattle.std.specs.Prelude.{◌≡◌};
+ghost use Rattle.rv_staff.specs.Hiring.{hired};
+
+mod crews;
+mod hands;
+mod host;
+mod ports;
+mod runs;
+
+use hands::{Hands, Role, act};
+use rv_crew::crew::Crew;
+use rv_crew::job::Job;
+use rv_exec::machine::STACK_BYTES;
+use rv_port::port::{Finished, Port};
+use rv_staff::{HireFault, start};
+use std::fs::Files;
+use std::sync::Wait;
+use std::thread::Threads;
+use std::time::Clock;
+use std::{io, thread};
+
+// Plays all games of each kind.
+fn play_all<R>(rt: &R, hands: &Hands) -> io::Result<()>
+where
+    R: Threads + Wait + Clock + AllocGlobal + Print + Files + Clone + Sync,
+{
+    println!(rt; "# Games of ports")?;
+    ports::play_all(rt)?;
+    println!(rt; "# Jobs of a crew")?;
+    crews::play_all(rt, hands)?;
+    println!(rt; "# Runs")?;
+    runs::play_all(rt, hands)
+}
+
+// The jobs of threads are boxed here, where the runtime is.
+fn main(rt: HostRuntime) -> io::Result<()> {
+    let begin = move |crew: &mut Crew, port: Port, role: Role| -> Result<(), HireFault>
+        ensures { crew.new ≡ hired crew.old port result }
+    {
+        let actor = port.actor();
+        let boxed = Box::new(
+            rt.alloc(),
+            move |port: Port| -> Finished
+                ensures { (result.turn ≡ port.turn) × (result.actor ≡ port.actor) }
+            { act(&rt, port, role) },
+        );
+        match boxed {
+            Ok(run) => start(&rt, crew, Job { actor, run }, port),
+            Err(_) => Err(HireFault::NoMemory),
+        }
+    };
+    let hands = Hands {
+        begin: Box::new(rt.alloc(), begin)?,
+    };
+    // On a thread whose stack holds the deepest bodies, as in `ravenhost`.
+    let wide = thread::Builder::new().stack_size(STACK_BYTES);
+    match wide.spawn(&rt, move || play_all(&rt, &hands)) {
+        Ok(thread) => thread.join(&rt),
+        Err(_) => Err(io::Error::from(io::ErrorKind::OutOfMemory)),
+    }
+}
