@@ -7,6 +7,7 @@ ghost use Rattle.rv_turn.specs.Histories.{Each};
 use crate::said::Outcome;
 use rv_crew::crew::{Crew, StartFault, StillOpen};
 use rv_crew::job::Job;
+use rv_crew::laws::starts_keep_the_turn;
 use rv_crew::tasks::device;
 use rv_port::control::Control;
 use rv_port::port::{Finished, Port};
@@ -29,12 +30,12 @@ pub fn calls<R: Wait>(rt: &R, port: Port) -> Finished
 }
 
 // Starts a job. Where no thread could be started, job and port are gone, and the crew keeps that.
-#[tactic(auto, using(rv_crew::proofs::Turns::started_of_turn, rv_crew::proofs::Turns::lost_of_turn))]
 fn start<R: Threads>(rt: &R, crew: &mut Crew, job: Job, port: Port) -> Outcome
     requires actor { port.actor ≡ job.actor }
     requires turn { IsOfTurn port.turn crew.old }
     ensures { IsOfTurn port.turn crew.new }
 {
+    starts_keep_the_turn();
     match crew.start(rt, job, port) {
         Ok(()) => Outcome::Done,
         Err(StartFault::NoThread) => Outcome::NoMemory,
@@ -43,12 +44,12 @@ fn start<R: Threads>(rt: &R, crew: &mut Crew, job: Job, port: Port) -> Outcome
 }
 
 // The same once more.
-#[tactic(auto, using(rv_crew::proofs::Turns::started_of_turn, rv_crew::proofs::Turns::lost_of_turn))]
 fn start_again<R: Threads>(rt: &R, crew: &mut Crew, job: Job, port: Port) -> Outcome
     requires actor { port.actor ≡ job.actor }
     requires turn { IsOfTurn port.turn crew.old }
     ensures { IsOfTurn port.turn crew.new }
 {
+    starts_keep_the_turn();
     match crew.start(rt, job, port) {
         Ok(()) => Outcome::NoMemory,
         Err(StartFault::NoThread) => Outcome::Failed,
