@@ -1,7 +1,7 @@
 """Plays the deepest texts (`deepest_texts.py`) in built programs, each by `play` and by `run`, and compares each journal
 with the one that is due. A run has a thread for the task or the line, or for a device, which calls through its port.
 
-    bench/deepest_runs.py [--exact] [--jobs N] PROGRAM..
+    bench/deepest_runs.py [--exact] [--by play|run] [--jobs N] PROGRAM..
 
 With --exact it plays copies of the programs whose threads have as little stack as `deepest_frames.py` says that the
 deepest body may take. Statuses: 0 all as due, 1 not so, 2 usage.
@@ -19,14 +19,17 @@ from concurrent.futures import ThreadPoolExecutor
 import deepest_frames
 import deepest_texts
 
-LIMIT = 120  # seconds for one text
+LIMIT = 600  # seconds for one text, by one way
 PAGE = "bad command\n"  # what ends a page of the journal
 
 
 def played(program, text):
     """What `play` prints, and its status."""
     script = f"{deepest_texts.script(text)}@steps\n{text.actor} go {len(text.entries)}\n"
-    ended = subprocess.run([program, "play", "--all"], input=script.encode(), capture_output=True, timeout=LIMIT)
+    try:
+        ended = subprocess.run([program, "play", "--all"], input=script.encode(), capture_output=True, timeout=LIMIT)
+    except subprocess.TimeoutExpired:
+        return [], "no end", 1
     return ended.stdout.decode().splitlines(), ended.stderr.decode(), ended.returncode
 
 
@@ -61,12 +64,14 @@ def run(program, text, due):
     return lines, process.stderr.read(), status
 
 
-def misses(program, name, text):
-    """How often a text was played, and what the program did otherwise than is due, in words."""
+def misses(program, wanted, name, text):
+    """How often a text was played, and how often otherwise than is due, of which it tells."""
     due = deepest_texts.journal(text)
     found = []
-    ways = [("run", run(program, text, len(due)))]
-    if text.actor != "Dev.Main":
+    ways = []
+    if "run" in wanted:
+        ways.append(("run", run(program, text, len(due))))
+    if "play" in wanted and text.actor != "Dev.Main":
         ways.append(("play", played(program, text)))
     for way, (lines, fault, status) in ways:
         if status:
@@ -74,7 +79,9 @@ def misses(program, name, text):
         elif lines != due:
             at = next((k for k, (one, other) in enumerate(zip(lines, due)) if one != other), min(len(lines), len(due)))
             found.append(f"{name} by {way}: {lines[at] if at < len(lines) else 'nothing'} in place of {due[at] if at < len(due) else 'nothing'}")
-    return len(ways), found
+    if found:
+        print("\n".join(found), flush=True)
+    return len(ways), len(found)
 
 
 def with_stack(program, room, folder):
@@ -108,6 +115,7 @@ def with_stack(program, room, folder):
 def main():
     parser = argparse.ArgumentParser(description="The deepest texts, played in built programs.")
     parser.add_argument("--exact", action="store_true", help="gives threads the least stack that is enough")
+    parser.add_argument("--by", choices=("play", "run"), action="append", help="one way alone")
     parser.add_argument("--jobs", metavar="N", type=int, default=2)
     parser.add_argument("programs", metavar="PROGRAM", nargs="+")
     arguments = parser.parse_args()
@@ -122,11 +130,10 @@ def main():
                 program, number = with_stack(program, room, folder)
                 places = f", set at {number} places"
             with ThreadPoolExecutor(arguments.jobs) as pool:
-                told = list(pool.map(lambda it: misses(program, *it), texts))
-            found = [words for _, those in told for words in those]
-            missed += len(found)
-            print(*found, sep="\n", end="\n" if found else "")
-            print(f"{os.path.basename(program)}: {len(texts)} deepest texts, {sum(ways for ways, _ in told)} times played, with {room:,} bytes{places}; {len(found)} missed", flush=True)
+                told = list(pool.map(lambda it: misses(program, arguments.by or ("play", "run"), *it), texts))
+            played_times, misses_found = (sum(column) for column in zip(*told))
+            missed += misses_found
+            print(f"{os.path.basename(program)}: {len(texts)} deepest texts, {played_times} times played, with {room:,} bytes{places}; {misses_found} missed", flush=True)
     return 1 if missed or len(texts) < 40 else 0
 
 

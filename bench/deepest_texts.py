@@ -111,9 +111,9 @@ def most_open(text):
     return most
 
 
-def nested(form_names, parentheses=PARENTHESES):
+def nested(form_names):
     """The text of these forms in turn around a call of Run, and what they give where Run gives a value."""
-    left = parentheses - 1
+    left = PARENTHESES - 1
     chosen = []
     while left:
         text, opened, value = FORMS[form_names[len(chosen) % len(form_names)]]
@@ -131,7 +131,7 @@ def nested(form_names, parentheses=PARENTHESES):
             assert LEAST <= v <= MOST
         return v
 
-    assert most_open(whole) == parentheses
+    assert most_open(whole) == PARENTHESES
     return whole, given
 
 
@@ -227,16 +227,15 @@ def value_of_runs(given, calls):
 
 
 def functions(form_names=("most",), wrappers=("for", "if", "while", "case"), place="return", in_handler=False, last="return 1;", handlers="",
-              first=None, exits=None, asked=()):
+              first=None, exits=None, asked=(), more_locals=""):
     """The text whose functions nest. `last` is the statement of the innermost body of all, `asked` what it asks besides."""
-    whole, given = nested(form_names, PARENTHESES - (place == "declaration"))
+    whole, given = nested(form_names)
     held = STATEMENTS - (2 if place in ("return", "assignment", "declaration") else 3)
     next_objects = "".join(f"elsif K = {k} then return O{k + 1}.Run ({CALLS}, {k + 1}); " for k in range(1, OBJECTS))
-    local = "X : Integer := 0;"
+    local, inner = "X : Integer := 0;" + more_locals, f"if N > 0 then {PLACES[place].format(whole)}" if place in PLACES else "if X then return 1;"
     if place == "declaration":
-        local = f"X : constant Integer := F (N > 0 and then 0 < {whole});"
-    innermost = "return X;" if place == "declaration" else PLACES[place].format(whole)
-    statements = held_by(wrappers, held, f"if N > 0 then {innermost} {next_objects}else {last} end if;")
+        local = f"X : constant Boolean := N > 0 and then 0 < {whole};"
+    statements = held_by(wrappers, held, f"{inner} {next_objects}else {last} end if;")
     if in_handler:
         statements = "   raise Constraint_Error;\nexception\nwhen Constraint_Error =>\n" + statements
     run = f"      function Run {RUN} is\n         {local}\n      begin\n{statements}\n{handlers}      end Run;\n"
@@ -286,8 +285,9 @@ def texts():
         yield f"form_{name}", functions((name,))
     for name in WRAPPERS:
         yield f"statement_{name}", functions(wrappers=(name,))
-    for name in (*PLACES, "declaration"):
+    for name in PLACES:
         yield f"place_{name}", functions(place=name)
+    yield "place_declaration", functions(("most_by_links",), place="declaration")
     yield "handler", functions(in_handler=True)
     yield "handler_of_loops", functions(wrappers=("for", "while"), in_handler=True)
     ones = tuple(name for name, (_, opened, _) in FORMS.items() if opened == 1 and name not in ("divide", "modulo", "remainder"))
@@ -308,7 +308,7 @@ def texts():
     yield "overrun", functions(last="return Run (N, K);", exits=["overrun"] + ["raise Program_Error"] * (OBJECTS - 1))
     # It asks the host where 16 objects are held: operations of a suspension object, the clock, and what is refused there.
     state = ["call P.Lamp Set_True -> accepted 0", "call P.Lamp Current_State -> accepted 1", "clock -> accepted 0"]
-    yield "asks", functions(**mixed, last="Set_True (Lamp); return F (Current_State (Lamp) and Since <= Clock);", asked=state)
+    yield "asks", functions(**mixed, last="Set_True (Lamp); Is_On := Current_State (Lamp); Now := Clock; return 1;", asked=state, more_locals=" Is_On : Boolean; Now : Time;")
     for name, statement, request in (("suspends", "Suspend_Until_True (Lamp);", "call P.Lamp Suspend_Until_True"), ("delays", "delay until Since;", "delay 0")):
         yield name, functions(**mixed, last=f"{statement} return 1;", asked=[f"{request} -> refused 2 line 0 version 1"], exits=["raise Program_Error"] * OBJECTS)
 

@@ -49,7 +49,7 @@ class SectionDrawer:
     def __init__(self, seed: str, plain: bool = False, wide: bool = False) -> None:
         self.dice = random.Random(seed)
         self.plain, self.wide = plain, wide
-        self.player = Player(False)
+        self.player = Player(b"", False, b"")
         self.lines: list[str] = []
         self.in_steps = False
         self.levels = [self.dice.randint(1, 40) for _ in range(self.dice.randint(1, 4))]
@@ -75,7 +75,7 @@ class SectionDrawer:
     def section(self, opening: str, lines: list[str]) -> None:
         self.lines += [opening] + lines
         self.in_steps = False
-        self.player.section(opening, lines, 0)
+        self.player.section_alone(opening, lines)
 
     def level(self) -> int:
         return self.dice.choice(self.levels) if chance(self.dice, .8) else self.dice.randint(1, 40)

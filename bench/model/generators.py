@@ -232,7 +232,7 @@ WAITING_CHANGES = parts("""append deny T P.O0 E | append allow * * * | append de
 
 def draw_waits(seed: int) -> bytes:
     """Steps of tasks and lines that wait on suspension objects, for times and in a queue; most that don't fit are left out."""
-    dice, player = random.Random(f"waits {seed}"), Player(True)
+    dice, player = random.Random(f"waits {seed}"), Player(b"", True, b"")
     tasks = dice.randint(2, 4)
     capacity = dice.choice((4096, dice.randint(20, 64)))
     levels = [dice.choice((1, 10, 35, 36, 40)) for _ in range(tasks)]
@@ -241,7 +241,7 @@ def draw_waits(seed: int) -> bytes:
     lines = []
     for opening, section in [*sections.items(), ("@shape", tasks_unit)]:
         lines += [opening] + section
-        player.section(opening, section, 0)
+        player.section_alone(opening, section)
     lines.append("@steps")
     clock, halts, finishes = 0, chance(dice, .4), dice.choice((1, 8))
     for _ in range(dice.choice((30, 100, 200, 300))):

@@ -48,15 +48,30 @@ def is_wide(value: object) -> bool:
     return isinstance(value, int) and not -(2**63) <= value < 2**63
 
 
+PIECES = re.compile(r'"""[\s\S]*?"""|\'\'\'[\s\S]*?\'\'\'|"(?:\\.|[^"\\\n])*"|\'[^\'\n]*\'|#[^\n]*|[\s\S]')
+
+
+def with_plain_tables(text: str) -> str:
+    """The same with each inline table on one line and without a last comma, as TOML 1.0 has it; its comments are left alone."""
+    pieces, depth = [], 0
+    for piece in PIECES.findall(text):
+        depth += {"{": 1, "}": -1}.get(piece, 0)
+        pieces.append(" " if piece == "\n" and depth > 0 else piece)
+    return re.sub(r"(?<=[^,{\s])([ \t]*),([ \t]*\})", r"\1\2", "".join(pieces))
+
+
 def read_toml(text: str) -> dict[str, object]:
-    """The table of a text in TOML 1.1, of which `tomllib` knows all but `\\e`, `\\xHH` and times without seconds: a byte order mark is
-    passed over, and a number past 64 bits is none."""
+    """The table of a text in TOML 1.1, of which `tomllib` knows all but `\\e`, `\\xHH`, times without seconds, and line feeds and a last comma
+    in an inline table: a byte order mark is passed over, and a number past 64 bits is none."""
     text = re.sub(r'(?<!\\)((?:\\\\)*)\\e', r"\1\\u001b", text.removeprefix("\ufeff"))
     text = re.sub(r'(?<!\\)((?:\\\\)*)\\x([0-9A-Fa-f]{2})', r"\1\\u00\2", text)
     try:
         table = tomllib.loads(text)
     except tomllib.TOMLDecodeError:
-        raise SettingsFault("NotToml")
+        try:
+            table = tomllib.loads(with_plain_tables(text))
+        except tomllib.TOMLDecodeError:
+            raise SettingsFault("NotToml")
     if is_wide(table):
         raise SettingsFault("NotToml")
     return table
