@@ -101,7 +101,8 @@ AWK
 number=0
 while true; do
     number=$((number + 1)) status=0
-    REFUSED=$number LD_PRELOAD=$folder/refuse.so timeout 60 "$program" \
+    # By env, so that the program alone is refused, and not timeout.
+    timeout 60 env REFUSED="$number" LD_PRELOAD="$folder/refuse.so" "$program" \
         >"$folder/written" 2>"$folder/error" 9>"$folder/none" </dev/null || status=$?
     if [ -s "$folder/none" ]; then break; fi
     if [ "$status" -ne 0 ] || ! awk -f "$folder/one.awk" stdout "$folder/written" >>"$folder/said"; then

@@ -89,7 +89,8 @@ refuse() {
     local script=$1 number=$2
     shift 2
     status=0
-    REFUSED=$number LD_PRELOAD=$folder/refuse.so timeout 60 "$program" "$@" <"$script" \
+    # By env, so that the program alone is refused, and not timeout.
+    timeout 60 env REFUSED="$number" LD_PRELOAD="$folder/refuse.so" "$program" "$@" <"$script" \
         >"$folder/written" 2>"$folder/error" 9>"$folder/none" || status=$?
 }
 

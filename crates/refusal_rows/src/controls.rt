@@ -95,14 +95,13 @@ pub fn load_shape<R: Wait>(
 
 /// Loads a unit with its bodies, as the second.
 pub fn load<R: Wait>(rt: &R, alloc: Global, control: &mut Control, first: Unit) -> Outcome {
-    let Unit { shape, bodies } = first;
-    let outcome = told(&control.load(rt, shape, bodies));
+    let outcome = told(&control.load(rt, first));
     if !outcome.is_refused() {
         return outcome;
     }
     let is_same = has(rt, alloc, control, 1, 1);
     match unit(alloc, control.catalogue()) {
-        Some(Unit { shape, bodies }) => told_again(is_same, &control.load(rt, shape, bodies)),
+        Some(again) => told_again(is_same, &control.load(rt, again)),
         None => Outcome::Failed,
     }
 }

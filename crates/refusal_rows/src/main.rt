@@ -45,10 +45,10 @@ struct Parts<'a> {
 
 // The calls over a tree whose names are looked up.
 fn of_names<R: Print>(rt: &R, alloc: Global, named: &Named) {
-    let (outcome, bodies) = texts::check_types(alloc, named);
+    let (outcome, unit) = texts::check_types(alloc, named);
     say(rt, "check_types", outcome);
-    if let Some(bodies) = bodies {
-        say(rt, "Bodies::add", texts::add_bodies(alloc, bodies));
+    if let Some(unit) = unit {
+        say(rt, "Bodies::add", texts::add_bodies(alloc, unit));
     }
 }
 

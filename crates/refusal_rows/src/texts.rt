@@ -1,7 +1,6 @@
 //! Calls over settings and unit texts.
 
 use crate::said::Outcome;
-use rv_code::UnitBodies;
 use rv_exec::bodies::Bodies;
 use rv_exec::machine::Machine;
 use rv_lex::fault::LexFault;
@@ -12,7 +11,7 @@ use rv_scope::named::Named;
 use rv_settings::SettingsFault;
 use rv_shape::catalogue::Catalogue;
 use rv_tree::UnitTree;
-use rv_types::{Checked, TypeFault};
+use rv_types::TypeFault;
 use rv_unit::{Unit, UnitFault};
 use std::alloc::Global;
 
@@ -124,20 +123,12 @@ pub fn resolve<'a>(
     }
 }
 
-/// What the check of types came to, and the bodies that it gave.
-pub fn check_types(alloc: Global, named: &Named) -> (Outcome, Option<UnitBodies>) {
+/// What the check of types came to, and the unit that it gave.
+pub fn check_types(alloc: Global, named: &Named) -> (Outcome, Option<Unit>) {
     match rv_types::check_types(alloc, named) {
-        Ok(Checked { shape: _, bodies }) => (Outcome::Done, Some(bodies)),
-        Err(TypeFault::NoMemory) => (Outcome::NoMemory, checked_bodies(alloc, named)),
+        Ok(unit) => (Outcome::Done, Some(unit)),
+        Err(TypeFault::NoMemory) => (Outcome::NoMemory, rv_types::check_types(alloc, named).ok()),
         Err(_) => (Outcome::Failed, None),
-    }
-}
-
-// The bodies of a tree.
-fn checked_bodies(alloc: Global, named: &Named) -> Option<UnitBodies> {
-    match rv_types::check_types(alloc, named) {
-        Ok(Checked { shape: _, bodies }) => Some(bodies),
-        Err(_) => None,
     }
 }
 
@@ -155,10 +146,14 @@ pub fn compile(alloc: Global, catalogue: &Catalogue) -> (Outcome, Option<Unit>) 
     }
 }
 
-/// Adds bodies to none.
-pub fn add_bodies(alloc: Global, unit: UnitBodies) -> Outcome {
+/// Adds the bodies of a unit to none.
+pub fn add_bodies(alloc: Global, unit: Unit) -> Outcome {
+    let Unit {
+        shape: _,
+        bodies: added,
+    } = unit;
     let mut bodies = Bodies::new(alloc);
-    match bodies.add(unit) {
+    match bodies.add(added) {
         Ok(()) => Outcome::Done,
         Err(_) => Outcome::refused(bodies.operation(1, 1).is_none()),
     }
