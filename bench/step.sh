@@ -1,11 +1,12 @@
 #!/usr/bin/env bash
-# Measures a step of a host (a call of a function, and its end): on a new host, with one and with 512 lines of the list, with one
-# and with 64 units; on a host of the largest journal, new and after a million entries; beside a push of 64 bytes, a lock, and
-# where gnatmake is there the same call under GNAT's Ravenscar with ceilings; a change of a whole list; what a host of the
-# largest journal touches; and, where ravenhost is built, a script of 16 MiB of changes of the list. Then it counts allocations:
-# a step must take none, of whatever kind, with whatever answer. It is no test but of that. A number of rounds may be given, of
-# which the least counts. The first time it takes some minutes to prove and build. It needs rt, python3 (3.9 or newer) and a C
-# compiler. Statuses: 0 done, 1 a step takes memory or isn't answered as is due, 127 a tool is missing.
+# Measures a step of a host (a call of a function, and its end): on a new host, with one and with 512 lines of the list, these
+# with windows and without, with one and with 64 units; on a host of the largest journal, new and after a million entries;
+# beside a push of 64 bytes, a lock, and where gnatmake is there the same call under GNAT's Ravenscar with ceilings; a change
+# of a whole list; what a host of the largest journal touches; and, where ravenhost is built, a script of 16 MiB of changes of
+# the list. Then it counts allocations: a step must take none, of whatever kind, with whatever answer. It is no test but of
+# that. A number of rounds may be given, of which the least counts. The first time it takes some minutes to prove and build.
+# It needs rt, python3 (3.9 or newer) and a C compiler. Statuses: 0 done, 1 a step takes memory or isn't answered as is due,
+# 127 a tool is missing.
 set -eu
 
 missing() {
@@ -112,7 +113,8 @@ told("a step: one unit, one line, a new host", "step", "step", "aim: at most 100
 told("the same with request and answer moved, and not lent", "moved", "step")
 told("a step with 64 units, 256 objects of 16 operations", "units", "step", "aim: within 1.3")
 told("a step with 512 lines, of which the first decides", "lines", "step", "aim: within 1.3")
-told("a step with both", "both", "step")
+told("a step with 512 lines, each with a window of its own", "windows", "lines", "aim: within 1.3 of the line before")
+told("a step with 64 units and 512 lines", "both", "step")
 told("a push of 64 bytes into reserved memory", "push", "step")
 print("on memory that nothing has touched, so that the system gives it page by page:")
 told("a step of a new host of 1,048,576 entries", "new", "new")
@@ -125,7 +127,8 @@ if os.path.exists(f"{folder}/gnat.ns"):
     told("a call of a function under GNAT's Ravenscar with ceilings", "gnat", "step", "(for us two steps)")
 else:
     print("gnatmake isn't there: no call under GNAT")
-print(f"a whole list of 512 lines set over 64 units, 256 objects of 16 operations: {least['list'] / 1e6:.1f} ms (aim: 50)")
+print(f"a whole list of 512 lines set over 64 units, 256 objects of 16 operations: {least['list'] / 1e6:.1f} ms (aim: 50), "
+      f"with 512 windows {least['timed'] / 1e6:.1f} ms")
 
 subprocess.run(["out/rv_bench", "room", "0"], stdout=subprocess.DEVNULL, check=True)
 peak = resource.getrusage(resource.RUSAGE_CHILDREN).ru_maxrss / 1024

@@ -140,7 +140,19 @@ class SectionDrawer:
         dice.shuffle(parts)
         self.section("@shape", [self.joined(words) for words in [["unit", cased(dice, unit)]] + sum(parts, [])])
 
+    def window_words(self) -> list[str]:
+        """The words of a window near the clock, most often."""
+        dice, clock = self.dice, self.host.clock
+        start = max(0, clock + dice.choice((0, 0, 1, -1, 2, 5, -5, 100)))
+        end = start + dice.choice((1, 1, 2, 3, 10, 1000)) if self.plain or chance(dice, .95) else dice.choice((start, 10**15, 10**15 + 1, 0))
+        zeros = "0" * dice.choice((0, 0, 0, 1, 2))
+        return [cased(dice, "from"), zeros + str(start), cased(dice, "until"), str(end)]
+
     def list_words(self, words: tuple[str, ...] = ("allow", "allow", "deny")) -> list[str]:
+        found = self.line_words(words)
+        return found + self.window_words() if chance(self.dice, .25) else found
+
+    def line_words(self, words: tuple[str, ...]) -> list[str]:
         dice, catalogue = self.dice, self.host.catalogue
         units = [unit.name for unit in catalogue.units.values()] + ["Interrupts", "Nowhere"]
         found = [dice.choice(words), "*" if chance(dice, .5) else cased(dice, dice.choice(units))]

@@ -191,7 +191,7 @@ class Drawer(SectionDrawer):
 
     def step_words(self) -> list[str]:
         draws = self.weights()
-        closed = not decide(self.host.list, "none", "none.none", "none")[0]
+        closed = not decide(self.host.list, "none", "none.none", "none", self.host.clock)[0]
         words: list[str] = []
         if self.host.catalogue.objects and not (closed and chance(self.dice, .15)):
             for draw in self.dice.choices(list(draws), list(draws.values()), k=6):

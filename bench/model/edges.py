@@ -24,6 +24,13 @@ NAMES = ["Valve", "o", "1x", "N_", "N__M", "N_M_1", "begin", "Set_True", "x.y", 
 LIST_LINES = parts("""allow * * * * | allow * * | Allow * * * | allow a b c | allow a. b.c d | allow a b.c d.e | allow a.b * *
 | allow * *.a * | allow * a.* * | allow a_ * * | allow _a * * | allow a b.c 1d | allow * * * # x | # | deny | * * * * | allow * * #
 | permit a b c | permit a | allow * ** * | allow a b..c d | allow a b.c.d e | allow é * * | allow * * - | allow begin end.loop if
+| allow * * * from 0 until 1 | allow * * * FROM 05 Until 007 | allow * * * from 5 until 5 | allow * * * from 6 until 5 | allow * * * from 5
+| allow * * * from 5 until | allow * * * from 5 until 6 7 | allow * * * until 5 from 6 | allow * * * form 5 until 6 | allow * * * from 5 untill 6
+| allow * * * from -1 until 6 | allow * * * from +1 until 6 | allow * * * from x until 6 | allow * * * from 1 until 1.5 | allow * * * from -0 until 6
+| allow * * * from 0 until 1000000000000000 | allow * * * from 0 until 1000000000000001 | allow * * * from 999999999999999 until 1000000000000000
+| allow * * * from 1000000000000000 until 1000000000000001 | allow * * * from 000000000000000001 until 000000000000000002
+| allow * * * from 0000000000000000001 until 2 | allow * * * from 1 until 0000000000000000002 | allow a b c from 5 until 5 | permit a b c from 5 until 5
+| allow a b c form 5 until 6 | deny from until.from until from 1 until 2 | allow * * * from 1 until 2 # x | allow * * * from 1 until \u0662
 """) + [" #", " # x", "\t#", "allow\x0b* * *", "allow * *\r *", "#\x00", "\x00", f"allow {LONG} * *", f"allow {TOO_LONG} * *",
         f"deny * * {TOO_LONG}", f"deny * {LONG}.{LONG} {LONG}", f"deny * N.{TOO_LONG} *", " deny\t*  a.B   * "]
 STEP_LINES = parts("""$T | $T call | $T call $O | $T call $O x | $T call $O 1x | $T call $O a.b | $T call $O P 1 2 3 4
@@ -41,6 +48,8 @@ STEP_LINES = parts("""$T | $T call | $T call $O | $T call $O x | $T call $O 1x |
 | operator remove | operator remove 1 1 | operator remove x | operator remove -1 | operator remove 0 | operator remove +1
 | operator remove 999999999999999999 | operator remove 1000000000000000000 | operator replace 0 allow * * * | operator Remove 1
 | operator replace -5 deny * * * | operator replace 0 allow a b c | operator replace 1 allow * * | operator replace a allow * *
+| operator append allow * * * from 5 until 6 | operator append allow * * * from 5 until 5 | operator append allow * * * from 5
+| operator replace 1 deny * * * FROM 00 until 01 | operator replace 99 allow * * * from x until 6 | $T append allow * * * from 1 until 2
 | operator replace 1 # x | operator replace 1 | no.no append allow * * * | no.no end x | no.no call $O | no.no append allow *
 | $T append allow * | operator call nope.x y | Int_5 call nope.x y | # x | é.x resume | $T call $O Get \u0661 | operator
 | $T call $O P 007 | $T call $O P -0 | $T call $O P 0099 | u.s END : return | u.s end 001 -0 : return 0005 | @foo resume

@@ -54,10 +54,15 @@ EXAMPLES = {  # the list's lines or no list, and the steps with their answers; b
         "/Nav.Pilot resume -> woken/Nav.Pilot end 0 1 : return -> done",
         "Nav.Pilot call Plant.Valve Set 1 -> started/Nav.Pilot end 1 1 : return -> done"
         "/Nav.Pilot call Plant.Gauge Bump -> started/Nav.Pilot call Plant.Valve Wait -> refused 2 line 0 version 1"],
+    "allow * * */deny Nav Plant.Valve Set from 5 until 10": [
+        "operator tick 4 -> accepted 0/Nav.Pilot call Plant.Valve Set 1 -> started/operator tick 1 -> accepted 0"
+        "/Nav.Pilot end 0 1 : return -> done/Nav.Pilot call Plant.Valve Set 2 -> refused 1 line 2 version 1"
+        "/operator tick 5 -> accepted 0/Nav.Pilot call Plant.Valve Set 2 -> started"],
     "allow * * */deny Nav * *": ["operator remove 3 -> badline/operator remove 2 = [allow * * *]"
                                  "/operator replace 1 deny * * * = [deny * * *]/Nav.Pilot call Plant.Valve Get -> refused 1 line 1 version 3"],
 }
-MISREAD_LISTS = {"\n# x\nALLOW * * *\n": "BadWord at line 3", "allow * * *\n" * 513: "TooMany at line 513", "allow a b c\n": "BadName at line 1"}
+MISREAD_LISTS = {"\n# x\nALLOW * * *\n": "BadWord at line 3", "allow * * *\n" * 513: "TooMany at line 513", "allow a b c\n": "BadName at line 1",
+                 "allow * * * from 5 until 5\n": "BadWindow at line 1", "allow * * * from 5\n": "BadWord at line 1"}
 
 
 SETTINGS = {  # a text and its fault

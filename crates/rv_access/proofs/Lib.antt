@@ -2,3 +2,4 @@ pub mod Listing
 pub mod Putting
 pub mod Spelling
 pub mod TextLines
+pub mod Timeless

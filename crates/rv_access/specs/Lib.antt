@@ -1,6 +1,8 @@
 pub mod Words
 pub mod Limits
+pub mod Windows
 pub mod Spelled
+pub mod Timeless
 pub mod Lines
 pub mod Changes
 pub mod Reading

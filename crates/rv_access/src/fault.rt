@@ -10,7 +10,8 @@ use thiserror::Error;
 /// ones and comments too.
 #[derive(Clone, Copy, Debug, PartialEq, Eq, Error)]
 pub enum ListFault {
-    /// There are not four words, or the first is neither `allow` nor `deny`.
+    /// There are neither four nor eight words, the first is neither `allow` nor `deny`, the fifth isn't `from`, or the
+    /// seventh isn't `until`.
     #[error("BadWord at line {0}")]
     BadWord(usize),
     /// A word is neither `*` nor a name of its form.
@@ -22,6 +23,9 @@ pub enum ListFault {
     /// Memory was refused.
     #[error("NoMemory")]
     NoMemory,
+    /// A number of the window isn't of 1 to 18 digits, the second is above 10^15, or the first isn't below the second.
+    #[error("BadWindow at line {0}")]
+    BadWindow(usize),
 }
 
 impl From<AllocError> for ListFault {

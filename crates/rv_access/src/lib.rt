@@ -9,6 +9,7 @@ pub mod laws;
 mod line;
 mod list;
 mod reading;
+mod window;
 
 pub use change::Change;
 pub use decision::decide;
@@ -16,3 +17,4 @@ pub use fault::ListFault;
 pub use line::Line;
 pub use list::AccessList;
 pub use reading::{MOST_LINES, read_line, read_list};
+pub use window::{MOST_TICK, Window};

@@ -1,15 +1,17 @@
 //! One line of an access list.
 
-ghost use Rattle.std.specs.Prelude.{◌≡◌, IfOk, IsTrue, string_bytes};
+ghost use Rattle.std.specs.Prelude.{◌≡◌, None, Some, IfOk, IsTrue, option_copied, string_bytes};
 ghost use Rattle.rv_text.specs.Names.{is_identifier};
 ghost use Rattle.rv_access.specs.Spelled.{IsSpelled, is_star_or, is_dotted};
-ghost use Rattle.rv_access.specs.Text.{line_text};
+ghost use Rattle.rv_access.specs.Text.{front_text, line_text};
+ghost use Rattle.rv_access.specs.Windows.{is_open};
 
+use crate::window::Window;
 use std::alloc::{AllocError, Global};
 use std::marker::Model;
 
 /// One line of a list: `allow` or `deny`, a unit, a `Unit.Object` and an operation, each a name as
-/// written or `*`. There is no line that a text couldn't hold.
+/// written or `*`, and a window of ticks, if it has one. There is no line that a text couldn't hold.
 #[derive(Clone, Drop)]
 pub struct Line {
     // Whether it allows what it matches.
@@ -20,6 +22,8 @@ pub struct Line {
     object: String,
     // An operation's name, or `*`.
     operation: String,
+    // When it matches; always where there is none.
+    window: Option<Window>,
 }
 
 impl Model for Line {
@@ -34,6 +38,7 @@ impl Model for Line {
       unit = string_bytes l.unit;
       object = string_bytes l.object;
       operation = string_bytes l.operation;
+      window = l.window;
     } };
 
     ghost invariant = { λ l. IsSpelled (record {
@@ -41,11 +46,12 @@ impl Model for Line {
       unit = string_bytes l.unit;
       object = string_bytes l.object;
       operation = string_bytes l.operation;
+      window = l.window;
     }) };
 }
 
 impl Line {
-    /// A line of these words, each of which must be `*` or a name: of a unit, of an object as
+    /// A line of these words without a window. Each must be `*` or a name: of a unit, of an object as
     /// `Unit.Object`, and of an operation. Err where memory was refused.
     pub fn new(
         alloc: Global,
@@ -57,7 +63,7 @@ impl Line {
         requires unit { IsTrue (is_star_or is_identifier unit.now) }
         requires object { IsTrue (is_star_or is_dotted object.now) }
         requires operation { IsTrue (is_star_or is_identifier operation.now) }
-        ensures { IfOk result (λ l. l ≡ record { allow = allow; unit = unit.now; object = object.now; operation = operation.now }) }
+        ensures { IfOk result (λ l. l ≡ record { allow = allow; unit = unit.now; object = object.now; operation = operation.now; window = None }) }
     {
         let unit = String::from_str(alloc, unit)?;
         let object = String::from_str(alloc, object)?;
@@ -67,7 +73,28 @@ impl Line {
             unit,
             object,
             operation,
+            window: None,
         })
+    }
+
+    /// The line with a window, in place of the one that it has.
+    pub fn within(self, window: Window) -> Line
+        ensures { result ≡ record { allow = self.allow; unit = self.unit; object = self.object; operation = self.operation; window = Some window } }
+    {
+        let Line {
+            allow,
+            unit,
+            object,
+            operation,
+            window: _,
+        } = self;
+        Line {
+            allow,
+            unit,
+            object,
+            operation,
+            window: Some(window),
+        }
     }
 
     /// A copy. Err where memory was refused.
@@ -112,14 +139,43 @@ impl Line {
         self.operation.as_str()
     }
 
-    /// Its words with one space between, as the journal has them. Err where memory was refused.
-    pub fn text(&self, alloc: Global) -> Result<String, AllocError>
-        ensures { IfOk result (λ text. string_bytes text ≡ line_text self.now) }
+    /// Its window, if it has one.
+    pub fn window(&self) -> Option<&Window>
+        ensures { option_copied result ≡ self.now.window }
+    {
+        self.window.as_ref()
+    }
+
+    /// Whether it may match at a tick: its window holds the tick, or it has none.
+    pub fn is_open(&self, tick: u64) -> bool
+        ensures { result ≡ is_open self.now.window tick }
+    {
+        match &self.window {
+            Some(window) => window.holds(tick),
+            None => true,
+        }
+    }
+
+    // Its first four words with one space between. Err where memory was refused.
+    fn front(&self, alloc: Global) -> Result<String, AllocError>
+        ensures { IfOk result (λ text. string_bytes text ≡ front_text self.now) }
     {
         let verb = if self.allow { "allow" } else { "deny" };
         let unit = self.unit();
         let object = self.object();
         let operation = self.operation();
         format!(in alloc; "{verb} {unit} {object} {operation}")
+    }
+
+    /// Its words with one space between, as the journal has them. Err where memory was refused.
+    #[tactic(auto, using(std::proofs::lemmas::List::append-nil))]
+    pub fn text(&self, alloc: Global) -> Result<String, AllocError>
+        ensures { IfOk result (λ text. string_bytes text ≡ line_text self.now) }
+    {
+        let mut text = self.front(alloc)?;
+        if let Some(window) = &self.window {
+            text.push_str(window.text(alloc)?.as_str())?;
+        }
+        Ok(text)
     }
 }

@@ -1,14 +1,16 @@
 //! Reading a list from its text.
 
-ghost use Rattle.std.specs.Prelude.{◌≡◌, List, Ok, IfOk, MatchResult};
+ghost use Rattle.std.specs.Prelude.{◌≡◌, IsTrue, List, Ok, IfOk, MatchResult};
 ghost use Rattle.rv_text.specs.Words.{words};
 ghost use Rattle.rv_access.specs.Words.{Words};
 ghost use Rattle.rv_access.specs.Listed.{IsListOf};
-ghost use Rattle.rv_access.specs.Reading.{Gives, Fails, named, line_of, step, list_of, is_meant};
+ghost use Rattle.rv_access.specs.Reading.{Gives, Fails, named, worded, phrase_of, within, line_of, step, list_of, is_meant};
+ghost use Rattle.rv_access.specs.Windows.{is_framed};
 
 use crate::fault::ListFault;
 use crate::line::Line;
 use crate::list::AccessList;
+use crate::window::{Phrase, Window};
 use rv_text::{dotted_parts, has_words, is_identifier, next_line, next_word};
 use std::alloc::Global;
 
@@ -35,6 +37,70 @@ fn named(
     Err(ListFault::BadName(number))
 }
 
+// A line of these words, the first of which says whether it allows.
+fn worded(
+    alloc: Global,
+    number: usize,
+    verb: &str,
+    unit: &str,
+    object: &str,
+    operation: &str,
+) -> Result<Line, ListFault>
+    ensures { Gives result (worded number verb.now unit.now object.now operation.now) }
+{
+    if verb == "allow" {
+        return named(alloc, number, true, unit, object, operation);
+    }
+    if verb == "deny" {
+        return named(alloc, number, false, unit, object, operation);
+    }
+    Err(ListFault::BadWord(number))
+}
+
+// The four words that stand there, if there are no more.
+fn phrase_of(text: &str) -> Option<Phrase<'_>>
+    ensures { result ≡ phrase_of (words text.now) }
+{
+    let Some((from, rest)) = next_word(text) else {
+        return None;
+    };
+    let Some((opening, rest)) = next_word(rest) else {
+        return None;
+    };
+    let Some((until, rest)) = next_word(rest) else {
+        return None;
+    };
+    let Some((closing, rest)) = next_word(rest) else {
+        return None;
+    };
+    if let Some(_) = next_word(rest) {
+        return None;
+    }
+    Some(Phrase {
+        from,
+        opening,
+        until,
+        closing,
+    })
+}
+
+// The line within the window of these words, if its numbers are those of one.
+fn within(
+    alloc: Global,
+    number: usize,
+    words: &Phrase,
+    line: Line,
+) -> Result<Line, ListFault>
+    requires { IsTrue (is_framed words.now) }
+    ensures { Gives result (within number words.now line) }
+{
+    let Some((first, end)) = words.ticks() else {
+        return Err(ListFault::BadWindow(number));
+    };
+    let window = Window::new(alloc, words, first, end)?;
+    Ok(line.within(window))
+}
+
 // The line of a list that stands on the line of this number.
 fn line_of(alloc: Global, number: usize, text: &str) -> Result<Line, ListFault>
     ensures { Gives result (line_of number (words text.now)) }
@@ -51,16 +117,17 @@ fn line_of(alloc: Global, number: usize, text: &str) -> Result<Line, ListFault>
     let Some((operation, rest)) = next_word(rest) else {
         return Err(ListFault::BadWord(number));
     };
-    if let Some(_) = next_word(rest) {
+    let Some(_) = next_word(rest) else {
+        return worded(alloc, number, verb, unit, object, operation);
+    };
+    let Some(window) = phrase_of(rest) else {
+        return Err(ListFault::BadWord(number));
+    };
+    if !window.is_framed() {
         return Err(ListFault::BadWord(number));
     }
-    if verb == "allow" {
-        return named(alloc, number, true, unit, object, operation);
-    }
-    if verb == "deny" {
-        return named(alloc, number, false, unit, object, operation);
-    }
-    Err(ListFault::BadWord(number))
+    let line = worded(alloc, number, verb, unit, object, operation)?;
+    within(alloc, number, &window, line)
 }
 
 // Whether a line is neither a comment nor blank.
@@ -109,8 +176,8 @@ fn list_of(alloc: Global, text: &str) -> Result<AccessList, ListFault>
 }
 
 /// The list that a text holds: each of its lines but blank ones and comments is a line of the list,
-/// `allow` or `deny` and three words, and there are at most 512. Err names the first bad line, or
-/// is NoMemory where memory was refused.
+/// `allow` or `deny` and three words, then a window `from A until B` or nothing, and there are at most 512. Err names
+/// the first bad line, or is NoMemory where memory was refused.
 pub fn read_list(alloc: Global, text: &str) -> Result<AccessList, ListFault>
     // What is read stands there.
     ensures found { IfOk result (λ list. IsListOf text.now list) }
@@ -122,7 +189,7 @@ pub fn read_list(alloc: Global, text: &str) -> Result<AccessList, ListFault>
     list_of(alloc, text)
 }
 
-/// The one line that a text of four words is, as an operator gives it. Err names what is wrong, at
+/// The one line that a text of four or eight words is, as an operator gives it. Err names what is wrong, at
 /// line 1, or is NoMemory where memory was refused.
 pub fn read_line(alloc: Global, text: &str) -> Result<Line, ListFault>
     ensures { Gives result (line_of 1 (words text.now)) }

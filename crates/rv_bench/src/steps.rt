@@ -25,7 +25,11 @@ const MOST_ENTRIES: usize = 1_048_576;
 
 // How many of so many calls a small host carries out. None where there is no memory.
 fn made(alloc: Global, calls: usize) -> Option<usize> {
-    let plant = Plant { units: 1, lines: 1 };
+    let plant = Plant {
+        units: 1,
+        lines: 1,
+        has_windows: false,
+    };
     let mut host = host(alloc, MOST_ENTRIES, plant)?;
     Some(stepped::calls(&mut host, plant.actor(), calls))
 }

@@ -101,7 +101,10 @@ fn section_at(script: &str, line: usize) -> Option<Section<'_>>
 fn line_of(fault: ScriptFault) -> usize {
     match fault.what {
         What::List(
-            ListFault::BadWord(behind) | ListFault::BadName(behind) | ListFault::TooMany(behind),
+            ListFault::BadWord(behind)
+            | ListFault::BadName(behind)
+            | ListFault::TooMany(behind)
+            | ListFault::BadWindow(behind),
         ) => { fault.line.saturating_add(behind) }
         _ => fault.line,
     }

@@ -222,9 +222,14 @@ fn of_shape(fault: ShapeFault) -> Meaning {
 // Faults of lists.
 fn of_list(fault: ListFault) -> Meaning {
     match fault {
-        ListFault::BadWord(_) => scripts("A line of a list is allow or deny, and three words."),
+        ListFault::BadWord(_) => scripts(
+            "A line of a list is allow or deny and three words, and from A until B behind them if it has a window of ticks.",
+        ),
         ListFault::BadName(_) => scripts(
             "The three words are a unit, a Unit.Object and an operation, or * for any.",
+        ),
+        ListFault::BadWindow(_) => scripts(
+            "The two numbers of a window have 1 to 18 digits each; the first is below the second, which is 10**15 at most.",
         ),
         ListFault::TooMany(_) => scripts("This is the 513th line of the list."),
         ListFault::NoMemory => scripts(NO_MEMORY),

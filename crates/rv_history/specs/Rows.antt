@@ -115,7 +115,7 @@ abbrev pub resume : ℕ → Command
 resume actor = Ask actor Resume
 
 abbrev pub line : Bool → List ℕ → List ℕ → List ℕ → Words
-line allow unit object name = record { allow = allow; unit = unit; object = object; operation = name }
+line allow unit object name = record { allow = allow; unit = unit; object = object; operation = name; window = None }
 
 abbrev pub star : List ℕ
 star = codes "*"

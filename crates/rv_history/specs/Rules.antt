@@ -6,7 +6,7 @@ use Rattle.rv_access.specs.Lines.{decides, grants}
 use Rattle.rv_shape.specs.Shape.{Shape}
 use Rattle.rv_shape.specs.Catalogue.{OperationNumber, Target, Nowhere, OnProtected, OnSuspension, target, handler}
 use Rattle.rv_shape.specs.Catalogue.{is_entry, dotted, suspension_operation_name}
-use Rattle.rv_event.specs.Past.{under_way, held, waiter}
+use Rattle.rv_event.specs.Past.{under_way, held, waiter, clock}
 use Rattle.rv_shape.specs.declared.suspension.SuspensionOperation.{SuspensionOperation}
 use Rattle.rv_shape.specs.declared.suspension.SuspensionOperation.TheVariants.{SetTrue, SetFalse, CurrentState}
 use Rattle.rv_shape.specs.declared.suspension.SuspensionOperation.TheVariants.{SuspendUntilTrue}
@@ -33,19 +33,21 @@ aim shapes actor (Call object operation values) = (object, target shapes object 
 aim shapes actor Fire = aim_at shapes (handler shapes (actor - 1))
 aim shapes actor request = (0, Nowhere)
 
--- the line that decides a call by this unit, 0 where none does (own)
+-- the line that decides a call by this unit at the clock, 0 where none does (own)
 abbrev pub decided : History → List ℕ → Target → ℕ
 decided h unit Nowhere = 0
-decided h unit (OnProtected site) = decides (force h) unit (dotted site.unit site.object.name) site.operation.name
+decided h unit (OnProtected site) =
+    decides (force h) unit (dotted site.unit site.object.name) site.operation.name (clock h.past)
 decided h unit (OnSuspension of_unit object wanted) =
-    decides (force h) unit (dotted of_unit object) (suspension_operation_name wanted)
+    decides (force h) unit (dotted of_unit object) (suspension_operation_name wanted) (clock h.past)
 
--- whether the list in force grants the call to this unit (own)
+-- whether the list in force grants the call to this unit at the clock (own)
 abbrev pub granted : History → List ℕ → Target → Bool
 granted h unit Nowhere = true
-granted h unit (OnProtected site) = grants (force h) unit (dotted site.unit site.object.name) site.operation.name
+granted h unit (OnProtected site) =
+    grants (force h) unit (dotted site.unit site.object.name) site.operation.name (clock h.past)
 granted h unit (OnSuspension of_unit object wanted) =
-    grants (force h) unit (dotted of_unit object) (suspension_operation_name wanted)
+    grants (force h) unit (dotted of_unit object) (suspension_operation_name wanted) (clock h.past)
 
 -- only Suspend_Until_True may wait (D.10)
 abbrev pub waits : SuspensionOperation → Bool

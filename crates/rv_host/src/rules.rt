@@ -2,6 +2,7 @@
 
 pub mod blocking;
 pub mod ceiling;
+pub mod clock;
 pub mod exclusion;
 pub mod fitting;
 pub mod grant;

@@ -39,6 +39,7 @@ abbrev pub fault_words : ListFault → List ℕ
 fault_words (Lists.BadWord at) = codes "list BadWord at line " ++ decimal at
 fault_words (Lists.BadName at) = codes "list BadName at line " ++ decimal at
 fault_words (Lists.TooMany at) = codes "list TooMany at line " ++ decimal at
+fault_words (Lists.BadWindow at) = codes "list BadWindow at line " ++ decimal at
 fault_words Lists.NoMemory = codes "list NoMemory"
 
 abbrev pub fault_line : ListFault → List ℕ

@@ -87,6 +87,7 @@ fn fault_line(alloc: Global, fault: ListFault) -> Result<String, AllocError>
         ListFault::BadWord(at) => format!(in alloc; "list BadWord at line {at}\n"),
         ListFault::BadName(at) => format!(in alloc; "list BadName at line {at}\n"),
         ListFault::TooMany(at) => format!(in alloc; "list TooMany at line {at}\n"),
+        ListFault::BadWindow(at) => format!(in alloc; "list BadWindow at line {at}\n"),
         ListFault::NoMemory => String::from_str(alloc, "list NoMemory\n"),
     }
 }

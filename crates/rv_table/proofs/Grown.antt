@@ -6,6 +6,7 @@ use Rattle.std.proofs.lemmas.List.{map-append}
 use Rattle.rv_access.specs.Words.{Words}
 use Rattle.rv_shape.specs.Catalogue.{all_objects, objects_of}
 use Rattle.rv_shape.specs.Shape.{Shape}
+use Rattle.rv_table.specs.Spans.{IsSpans, SpanMarks}
 use Rattle.rv_table.specs.Tables.{AreSites, IsCaller, IsTable, Marks, callers}
 
 callers_append : (shapes : List Shape) (s : Shape) → callers (shapes ++ s ∷ []) ≡ callers shapes ++ s.name ∷ []
@@ -14,16 +15,18 @@ callers_append shapes s = ap (λ (names : List (List ℕ)). callers [] ++ names)
 objects_append : (shapes : List Shape) (s : Shape) → all_objects (shapes ++ s ∷ []) ≡ all_objects shapes ++ objects_of s
 objects_append shapes s = flat_map-append objects_of shapes (s ∷ []) ∙ ap (λ os. all_objects shapes ++ os) (append-nil (objects_of s))
 
-pub table_more : (list : List Words) (shapes : List Shape) (s : Shape) (t : Marks) (own : List (List ℕ)) (sites : List (List (List ℕ))) →
+pub table_more : (list : List Words) (shapes : List Shape) (s : Shape) (t : Marks) (own : List (List ℕ)) (sites : List (List (List ℕ))) (spans : SpanMarks) →
     IsTable list shapes t →
     AllZip (IsCaller list) (callers shapes ++ s.name ∷ []) own →
     AllZip (AreSites list) (all_objects shapes ++ objects_of s) sites →
-    IsTable list (shapes ++ s ∷ []) (record { callers = own; objects = sites; nameless = t.nameless; allowing = t.allowing; lines = t.lines })
-table_more list shapes s t own sites is mine theirs = record {
+    IsSpans list spans →
+    IsTable list (shapes ++ s ∷ []) (record { callers = own; objects = sites; nameless = t.nameless; allowing = t.allowing; spans = spans; lines = t.lines })
+table_more list shapes s t own sites spans is mine theirs open_rows = record {
   few = is.few;
   count = is.count;
   callers = subst (λ names. AllZip (IsCaller list) names own) (sym (callers_append shapes s)) mine;
   objects = subst (λ os. AllZip (AreSites list) os sites) (sym (objects_append shapes s)) theirs;
   nameless = is.nameless;
   allowing = is.allowing;
+  spans = open_rows;
 }

@@ -3,3 +3,5 @@ mod Firsts
 mod Zips
 mod Looks
 mod Grown
+mod Shared
+mod Reached

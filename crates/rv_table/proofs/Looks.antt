@@ -53,15 +53,22 @@ judged none says Nowhere = none
 judged none says (OnProtected site) = says (dotted site.unit site.object.name) site.operation.name
 judged none says (OnSuspension unit object wanted) = says (dotted unit object) (suspension_operation_name wanted)
 
-decided_is : (list : List Words) (unit : List ℕ) (called : Target) → decided_at list (Some unit) called ≡ judged 0 (decides list unit) called
-decided_is list unit Nowhere = refl
-decided_is list unit (OnProtected site) = refl
-decided_is list unit (OnSuspension of_unit object wanted) = refl
+-- the line that decides at a tick, and whether it grants
+abbrev line_by : List Words → List ℕ → ℕ → List ℕ → List ℕ → ℕ
+line_by list unit tick object operation = decides list unit object operation tick
 
-granted_is : (list : List Words) (unit : List ℕ) (called : Target) → granted_at list (Some unit) called ≡ judged false (grants list unit) called
-granted_is list unit Nowhere = refl
-granted_is list unit (OnProtected site) = refl
-granted_is list unit (OnSuspension of_unit object wanted) = refl
+abbrev grant_by : List Words → List ℕ → ℕ → List ℕ → List ℕ → Bool
+grant_by list unit tick object operation = grants list unit object operation tick
+
+decided_is : (list : List Words) (unit : List ℕ) (tick : ℕ) (called : Target) → decided_at list (Some unit) called tick ≡ judged 0 (line_by list unit tick) called
+decided_is list unit tick Nowhere = refl
+decided_is list unit tick (OnProtected site) = refl
+decided_is list unit tick (OnSuspension of_unit object wanted) = refl
+
+granted_is : (list : List Words) (unit : List ℕ) (tick : ℕ) (called : Target) → granted_at list (Some unit) called tick ≡ judged false (grant_by list unit tick) called
+granted_is list unit tick Nowhere = refl
+granted_is list unit tick (OnProtected site) = refl
+granted_is list unit tick (OnSuspension of_unit object wanted) = refl
 
 at_names : {X : Type 0} (none : X) (says : List ℕ → List ℕ → X) (unit : List ℕ) (object : Object) (operation : ℕ) → judged none says (at_object operation unit object) ≡ by_name none (says (dotted unit (name_of object))) (numbered (operation_names object) operation)
 at_names none says unit (Protected p) operation =
@@ -84,18 +91,18 @@ pub record Found (list : List Words) (called : Target) (row : List ℕ) : Type 0
   pub site : List ℕ
   pub name : List ℕ
   pub is_row : IsRow (of_site site name) list row
-  pub line : (unit : List ℕ) → decided_at list (Some unit) called ≡ decides list unit site name
-  pub grant : (unit : List ℕ) → granted_at list (Some unit) called ≡ grants list unit site name
+  pub line : (unit : List ℕ) (tick : ℕ) → decided_at list (Some unit) called tick ≡ decides list unit site name tick
+  pub grant : (unit : List ℕ) (tick : ℕ) → granted_at list (Some unit) called tick ≡ grants list unit site name tick
 
 -- a call is of the operation of a row, or of nothing where there is none
 abbrev Seen : List Words → Target → Option (List ℕ) → Type 0
-Seen list called None = ((unit : List ℕ) → decided_at list (Some unit) called ≡ 0) × ((unit : List ℕ) → granted_at list (Some unit) called ≡ false)
+Seen list called None = ((unit : List ℕ) (tick : ℕ) → decided_at list (Some unit) called tick ≡ 0) × ((unit : List ℕ) (tick : ℕ) → granted_at list (Some unit) called tick ≡ false)
 Seen list called (Some row) = Found list called row
 
 of_names : (list : List Words) (unit : List ℕ) (object : Object) (operation : ℕ) (name row : Option (List ℕ)) → numbered (operation_names object) operation ≡ name → Both (IsSite list (dotted unit (name_of object))) name row → Seen list (at_object operation unit object) row
 of_names list unit object operation None None is both = (
-  (λ caller. decided_is list caller (at_object operation unit object) ∙ at_names 0 (decides list caller) unit object operation ∙ ap (by_name 0 (decides list caller (dotted unit (name_of object)))) is),
-  (λ caller. granted_is list caller (at_object operation unit object) ∙ at_names false (grants list caller) unit object operation ∙ ap (by_name false (grants list caller (dotted unit (name_of object)))) is),
+  (λ caller tick. decided_is list caller tick (at_object operation unit object) ∙ at_names 0 (line_by list caller tick) unit object operation ∙ ap (by_name 0 (line_by list caller tick (dotted unit (name_of object)))) is),
+  (λ caller tick. granted_is list caller tick (at_object operation unit object) ∙ at_names false (grant_by list caller tick) unit object operation ∙ ap (by_name false (grant_by list caller tick (dotted unit (name_of object)))) is),
 )
 of_names list unit object operation None (Some row) is both = absurd both
 of_names list unit object operation (Some name) None is both = absurd both
@@ -103,12 +110,12 @@ of_names list unit object operation (Some name) (Some row) is both = record {
   site = dotted unit (name_of object);
   name = name;
   is_row = both;
-  line = λ caller. decided_is list caller (at_object operation unit object) ∙ at_names 0 (decides list caller) unit object operation ∙ ap (by_name 0 (decides list caller (dotted unit (name_of object)))) is;
-  grant = λ caller. granted_is list caller (at_object operation unit object) ∙ at_names false (grants list caller) unit object operation ∙ ap (by_name false (grants list caller (dotted unit (name_of object)))) is;
+  line = λ caller tick. decided_is list caller tick (at_object operation unit object) ∙ at_names 0 (line_by list caller tick) unit object operation ∙ ap (by_name 0 (line_by list caller tick (dotted unit (name_of object)))) is;
+  grant = λ caller tick. granted_is list caller tick (at_object operation unit object) ∙ at_names false (grant_by list caller tick) unit object operation ∙ ap (by_name false (grant_by list caller tick (dotted unit (name_of object)))) is;
 }
 
 of_place : (list : List Words) (operation : ℕ) (at : Option UnitObject) (rows : Option (List (List ℕ))) → Both (AreSites list) at rows → Seen list (at_unit_object operation at) (row_in rows operation)
-of_place list operation None None both = ((λ unit. refl), (λ unit. refl))
+of_place list operation None None both = ((λ unit tick. refl), (λ unit tick. refl))
 of_place list operation None (Some rows) both = absurd both
 of_place list operation (Some at) None both = absurd both
 of_place list operation (Some at) (Some rows) both =
@@ -124,11 +131,11 @@ found list shapes t object operation row is there =
     subst (λ (r : Option (List ℕ)). Seen list (target shapes object operation) r) there (seen list shapes t object operation is)
 
 -- where it isn't there, nothing is called
-pub unseen : (list : List Words) (shapes : List Shape) (t : Marks) (object operation : ℕ) (caller : List ℕ) → IsTable list shapes t → row_of t.objects object operation ≡ None
-    → (decided_at list (Some caller) (target shapes object operation) ≡ 0) × (granted_at list (Some caller) (target shapes object operation) ≡ false)
-unseen list shapes t object operation caller is none =
+pub unseen : (list : List Words) (shapes : List Shape) (t : Marks) (object operation : ℕ) (caller : List ℕ) (tick : ℕ) → IsTable list shapes t → row_of t.objects object operation ≡ None
+    → (decided_at list (Some caller) (target shapes object operation) tick ≡ 0) × (granted_at list (Some caller) (target shapes object operation) tick ≡ false)
+unseen list shapes t object operation caller tick is none =
     let nothing : Seen list (target shapes object operation) None = subst (λ (r : Option (List ℕ)). Seen list (target shapes object operation) r) none (seen list shapes t object operation is) in
-    (nothing.0 caller, nothing.1 caller)
+    (nothing.0 caller tick, nothing.1 caller tick)
 
 -- the caller of a row
 pub caller_of : (list : List Words) (names : List (List ℕ)) (rows : List (List ℕ)) (unit : ℕ) (row : List ℕ) → AllZip (IsCaller list) names rows → slice_get rows unit ≡ Some row
@@ -141,12 +148,12 @@ caller_of list names rows unit row all here = by_both (slice_get names unit) (sl
     by_both (Some name) row' is here both = (name, is, subst (λ (r : Option (List ℕ)). Both (IsCaller list) (Some name) r) here both)
 
 -- a line that decides is one of the list
-pub decides_few : (list : List Words) (unit object operation : List ℕ) → decides list unit object operation ≤ length list
-decides_few [] unit object operation = omega arith
-decides_few (line ∷ list) unit object operation =
-    by_test (decides_few list unit object operation) (decides list unit object operation == 0) (matches line unit object operation)
+pub decides_few : (list : List Words) (unit object operation : List ℕ) (tick : ℕ) → decides list unit object operation tick ≤ length list
+decides_few [] unit object operation tick = omega arith
+decides_few (line ∷ list) unit object operation tick =
+    by_test (decides_few list unit object operation tick) (decides list unit object operation tick == 0) (matches line unit object operation tick)
   where
-    by_test : decides list unit object operation ≤ length list → (none fits : Bool) → (if none then (if fits then 1 else 0) else decides list unit object operation + 1) ≤ suc (length list)
+    by_test : decides list unit object operation tick ≤ length list → (none fits : Bool) → (if none then (if fits then 1 else 0) else decides list unit object operation tick + 1) ≤ suc (length list)
     by_test few true true = omega arith
     by_test few true false = omega arith
     by_test few false fits = omega (arith, few)

@@ -2,6 +2,7 @@
 use Rattle.std.specs.Prelude.{ℕ, ◌≡◌, ◌<◌, ◌≤◌, ◌-◌, Bool, true, false, ◌&&◌, length, List, ◌/◌, ◌%◌, slice_index_or, bit_and}
 use Rattle.std.specs.Int.{bit_at}
 use Rattle.rv_access.specs.Words.{Words}
+use Rattle.rv_access.specs.Windows.{is_open}
 use Rattle.rv_access.specs.Lines.{fits}
 
 -- 1 where a place is marked, else 0
@@ -36,3 +37,11 @@ of_site object operation line = fits line.object object && fits line.operation o
 -- a line allows
 abbrev pub is_allowing : Words → Bool
 is_allowing line = line.allow
+
+-- a line's window is open at a tick
+abbrev pub is_open_at : ℕ → Words → Bool
+is_open_at tick line = is_open line.window tick
+
+-- a line passes two tests
+abbrev pub passes_both : (Words → Bool) → (Words → Bool) → Words → Bool
+passes_both first second line = first line && second line

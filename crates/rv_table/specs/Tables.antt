@@ -10,40 +10,48 @@ use Rattle.rv_shape.specs.Shape.{Shape}
 use Rattle.rv_shape.specs.declared.object.Object.{Object}
 use Rattle.rv_shape.specs.declared.object.Object.TheVariants.{Protected, Suspension}
 use Rattle.rv_table.specs.Rows.{IsRow, of_caller, of_site, is_allowing}
+use Rattle.rv_table.specs.Spans.{IsSpans, SpanMarks}
 
 -- who may call, by number: 0 is the home of the lines, and the units follow in the order of load
 abbrev pub callers : List Shape → List (List ℕ)
 callers shapes = codes "Interrupts" ∷ map (λ shape. shape.name) shapes
 
--- the line that decides a call by this caller, 0 where none does
-abbrev pub decided_at : List Words → Option (List ℕ) → Target → ℕ
-decided_at list None called = 0
-decided_at list (Some unit) Nowhere = 0
-decided_at list (Some unit) (OnProtected site) = decides list unit (dotted site.unit site.object.name) site.operation.name
-decided_at list (Some unit) (OnSuspension of_unit object wanted) = decides list unit (dotted of_unit object) (suspension_operation_name wanted)
+-- the line that decides a call by this caller at a tick, 0 where none does
+abbrev pub decided_at : List Words → Option (List ℕ) → Target → ℕ → ℕ
+decided_at list None called tick = 0
+decided_at list (Some unit) Nowhere tick = 0
+decided_at list (Some unit) (OnProtected site) tick =
+    decides list unit (dotted site.unit site.object.name) site.operation.name tick
+decided_at list (Some unit) (OnSuspension of_unit object wanted) tick =
+    decides list unit (dotted of_unit object) (suspension_operation_name wanted) tick
 
--- whether the list grants a call by this caller
-abbrev pub granted_at : List Words → Option (List ℕ) → Target → Bool
-granted_at list None called = false
-granted_at list (Some unit) Nowhere = false
-granted_at list (Some unit) (OnProtected site) = grants list unit (dotted site.unit site.object.name) site.operation.name
-granted_at list (Some unit) (OnSuspension of_unit object wanted) = grants list unit (dotted of_unit object) (suspension_operation_name wanted)
+-- whether the list grants a call by this caller at a tick
+abbrev pub granted_at : List Words → Option (List ℕ) → Target → ℕ → Bool
+granted_at list None called tick = false
+granted_at list (Some unit) Nowhere tick = false
+granted_at list (Some unit) (OnProtected site) tick =
+    grants list unit (dotted site.unit site.object.name) site.operation.name tick
+granted_at list (Some unit) (OnSuspension of_unit object wanted) tick =
+    grants list unit (dotted of_unit object) (suspension_operation_name wanted) tick
 
--- the line that decides a call by the caller of a number, of the operation of these numbers
-abbrev pub decided : List Words → List Shape → ℕ → ℕ → ℕ → ℕ
-decided list shapes unit object operation = decided_at list (slice_get (callers shapes) unit) (target shapes object operation)
+-- the line that decides a call at a tick by the caller of a number, of the operation of these numbers
+abbrev pub decided : List Words → List Shape → ℕ → ℕ → ℕ → ℕ → ℕ
+decided list shapes unit object operation tick =
+    decided_at list (slice_get (callers shapes) unit) (target shapes object operation) tick
 
 -- whether the list grants that call
-abbrev pub granted : List Words → List Shape → ℕ → ℕ → ℕ → Bool
-granted list shapes unit object operation = granted_at list (slice_get (callers shapes) unit) (target shapes object operation)
+abbrev pub granted : List Words → List Shape → ℕ → ℕ → ℕ → ℕ → Bool
+granted list shapes unit object operation tick =
+    granted_at list (slice_get (callers shapes) unit) (target shapes object operation) tick
 
 -- what contracts see of a table: the rows of each caller, of each operation of each object, of a caller without a name, and of
--- the lines that allow; and how many lines there are
+-- the lines that allow; those of the spans between the ends of windows; and how many lines there are
 pub record Marks : Type 0 where
   pub callers : List (List ℕ)
   pub objects : List (List (List ℕ))
   pub nameless : List ℕ
   pub allowing : List ℕ
+  pub spans : SpanMarks
   pub lines : ℕ
 
 -- the names of the operations of an object, in order
@@ -87,3 +95,4 @@ pub record IsTable (list : List Words) (shapes : List Shape) (t : Marks) : Type 
   pub objects : AllZip (AreSites list) (all_objects shapes) t.objects
   pub nameless : IsCaller list [] t.nameless
   pub allowing : IsRow is_allowing list t.allowing
+  pub spans : IsSpans list t.spans

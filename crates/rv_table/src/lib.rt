@@ -3,6 +3,7 @@
 
 mod row;
 mod rows;
+mod spans;
 mod table;
 
 pub use table::Table;

@@ -1,11 +1,11 @@
 //! A row of marks, one for each line of a list, the last line first: the first mark that two rows share is the last line
 //! that both are of.
 
-ghost use Rattle.std.specs.Prelude.{◌≡◌, ◌≢◌, ◌<◌, ◌≤◌, ◌==◌, ℕ, List, length, min, bit_and, IfSome, IfNone};
+ghost use Rattle.std.specs.Prelude.{◌≡◌, ◌≢◌, ◌<◌, ◌≤◌, ◌==◌, ℕ, Bool, List, length, min, bit_and, IfSome, IfNone};
 ghost use Rattle.rv_access.specs.Limits.{most_lines};
 ghost use Rattle.rv_access.specs.Lines as listed;
 ghost use Rattle.rv_access.specs.Words.{Words};
-ghost use Rattle.rv_table.specs.Rows.{has, IsRow, Lowest, is_allowing, of_caller, of_site};
+ghost use Rattle.rv_table.specs.Rows.{has, IsRow, Lowest, is_allowing, is_open_at, of_caller, of_site, passes_both};
 ghost use Rattle.rv_text.specs.Names.{dotted};
 
 use rv_access::{AccessList, MOST_LINES};
@@ -62,11 +62,26 @@ fn first_common(ours: &Row, theirs: &Row) -> Option<usize>
     None
 }
 
-/// The number of the last of so many lines that has a mark in both rows, or 0 where there is none.
+/// The marks that two rows share.
+pub(crate) fn shared(ours: &Row, theirs: &Row) -> Row
+    ensures { (list : List Words) (first second : Words → Bool) → length list ≤ most_lines
+        → IsRow first list ours.now → IsRow second list theirs.now → IsRow (passes_both first second) list result }
+{
+    let mut words = *ours;
+    let mut w: usize = 0;
+    while w < WORDS {
+        words[w] &= theirs[w];
+        w += 1;
+    }
+    words
+}
+
+/// The number of the last of so many lines that has a mark in both rows, or 0 where there is none: ours has the lines
+/// of a caller that are open at a tick, theirs those of an operation.
 pub(crate) fn deciding(ours: &Row, theirs: &Row, lines: usize) -> usize
-    ensures { (list : List Words) (unit object operation : List ℕ) → lines ≡ length list → length list ≤ most_lines
-        → IsRow (of_caller unit) list ours.now → IsRow (of_site object operation) list theirs.now
-        → result ≡ listed.decides list unit object operation }
+    ensures { (list : List Words) (unit object operation : List ℕ) (tick : ℕ) → lines ≡ length list → length list ≤ most_lines
+        → IsRow (passes_both (of_caller unit) (is_open_at tick)) list ours.now → IsRow (of_site object operation) list theirs.now
+        → result ≡ listed.decides list unit object operation tick }
 {
     match first_common(ours, theirs) {
         Some(place) => lines.saturating_sub(place),
@@ -112,6 +127,21 @@ pub(crate) fn site_row(list: &AccessList, unit: &str, object: &str, operation: &
     let mut words = [0; WORDS];
     for i in 0..lines.len() {
         if fits_object(lines[i].object(), unit, object) && fits(lines[i].operation(), operation) {
+            mark(&mut words, lines.len() - 1 - i);
+        }
+    }
+    words
+}
+
+/// The lines that are open at a tick.
+pub(crate) fn open_row(list: &AccessList, tick: u64) -> Row
+    requires { length list.now ≤ most_lines }
+    ensures { IsRow (is_open_at tick) list.now result }
+{
+    let lines = list.lines();
+    let mut words = [0; WORDS];
+    for i in 0..lines.len() {
+        if lines[i].is_open(tick) {
             mark(&mut words, lines.len() - 1 - i);
         }
     }

@@ -69,8 +69,8 @@ pub(crate) fn caller_rows(
     Ok(rows)
 }
 
-// A copy of rows. Err where memory was refused.
-fn copy_rows(alloc: Global, rows: &[Row]) -> Result<Vec<Row>, AllocError>
+/// A copy of rows. Err where memory was refused.
+pub(crate) fn copy_rows(alloc: Global, rows: &[Row]) -> Result<Vec<Row>, AllocError>
     ensures { IfOk result (λ copy. copy.items ≡ rows.now) }
 {
     let mut copy = Vec::new(alloc);

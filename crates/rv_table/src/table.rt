@@ -8,16 +8,18 @@ ghost use Rattle.rv_shape.specs.Catalogue.{target};
 ghost use Rattle.rv_shape.specs.Shape.{Shape};
 ghost use Rattle.rv_table.specs.Tables.{IsCaller, IsTable, allowed, decided, decided_at, granted, granted_at, row_of};
 
-use crate::row::{Row, allowing_row, caller_row, deciding, is_marked};
+use crate::row::{Row, allowing_row, caller_row, deciding, is_marked, shared};
 use crate::rows::{ObjectRows, caller_rows, callers_with, object_rows, objects_with};
+use crate::spans::Spans;
 use rv_access::{AccessList, MOST_LINES};
 use rv_shape::catalogue::Catalogue;
 use rv_shape::shape::UnitShape;
 use std::alloc::{AllocError, Global};
 use std::marker::Model;
 
-/// An access list compiled over the units that are loaded: a row of marks for each unit that may call and for each
-/// operation of each object. It takes 64 bytes a row: 270 kB at most.
+/// An access list compiled over the units that are loaded: a row of marks for each unit that may call, for each
+/// operation of each object, and for each span of ticks between two ends of its windows. It takes 64 bytes a row: 345 kB
+/// at most. It answers for every tick, and keeps no place among them.
 ///
 /// Contracts see its marks, and `IsTable` says of which list and which units they are.
 #[derive(Drop)]
@@ -26,6 +28,7 @@ pub struct Table {
     objects: Vec<ObjectRows>,
     nameless: Row,
     allowing: Row,
+    spans: Spans,
     lines: usize,
 }
 
@@ -34,7 +37,7 @@ impl Model for Table {
 
     ghost Value = { Marks };
 
-    ghost view = { λ t. record { callers = t.callers.items; objects = t.objects.items; nameless = t.nameless; allowing = t.allowing; lines = t.lines } };
+    ghost view = { λ t. record { callers = t.callers.items; objects = t.objects.items; nameless = t.nameless; allowing = t.allowing; spans = t.spans; lines = t.lines } };
 }
 
 impl Table {
@@ -53,6 +56,7 @@ impl Table {
             objects: object_rows(alloc, list, shapes)?,
             nameless: caller_row(list, ""),
             allowing: allowing_row(list),
+            spans: Spans::build(alloc, list)?,
             lines: list.len(),
         })
     }
@@ -73,6 +77,7 @@ impl Table {
             objects: objects_with(alloc, &self.objects, list, shape)?,
             nameless: self.nameless,
             allowing: self.allowing,
+            spans: self.spans.copy(alloc)?,
             lines: self.lines,
         })
     }
@@ -94,42 +99,43 @@ impl Table {
         self.objects.get(object - 1)?.row(operation)
     }
 
-    /// Whether the list grants a unit, by its number from 1 (0 being `Interrupts`), a call of an operation, by the
-    /// numbers of its object and its own, each from 1; and the number of the line that decides, the last that matches.
-    /// Where none does, or one of them is not there, the call is denied with line 0.
-    pub fn look(&self, unit: usize, object: usize, operation: usize) -> (bool, usize)
+    /// Whether the list grants a unit, by its number from 1 (0 being `Interrupts`), a call of an operation at a tick, by
+    /// the numbers of its object and its own, each from 1; and the number of the line that decides, the last that matches
+    /// at that tick. Where none does, or one of them is not there, the call is denied with line 0.
+    pub fn look(&self, unit: usize, object: usize, operation: usize, tick: u64) -> (bool, usize)
         ensures line { (list : List Words) (shapes : List Shape) → IsTable list shapes self.now
-            → result.1 ≡ decided list shapes unit object operation }
+            → result.1 ≡ decided list shapes unit object operation tick }
         ensures granted { (list : List Words) (shapes : List Shape) → IsTable list shapes self.now
-            → result.0 ≡ granted list shapes unit object operation }
+            → result.0 ≡ granted list shapes unit object operation tick }
     {
         let Some(ours) = self.caller(unit) else {
             return (false, 0);
         };
-        self.look_in(ours, object, operation)
+        self.look_in(ours, object, operation, tick)
     }
 
     /// The same of a call by one that has no home, which `*` alone fits.
-    pub fn look_nameless(&self, object: usize, operation: usize) -> (bool, usize)
+    pub fn look_nameless(&self, object: usize, operation: usize, tick: u64) -> (bool, usize)
         ensures line { (list : List Words) (shapes : List Shape) → IsTable list shapes self.now
-            → result.1 ≡ decided_at list (Some []) (target shapes object operation) }
+            → result.1 ≡ decided_at list (Some []) (target shapes object operation) tick }
         ensures granted { (list : List Words) (shapes : List Shape) → IsTable list shapes self.now
-            → result.0 ≡ granted_at list (Some []) (target shapes object operation) }
+            → result.0 ≡ granted_at list (Some []) (target shapes object operation) tick }
     {
-        self.look_in(&self.nameless, object, operation)
+        self.look_in(&self.nameless, object, operation, tick)
     }
 
-    // What is decided of a call by the caller of a row.
-    fn look_in(&self, ours: &Row, object: usize, operation: usize) -> (bool, usize)
+    // What is decided of a call by the caller of a row at a tick.
+    fn look_in(&self, ours: &Row, object: usize, operation: usize, tick: u64) -> (bool, usize)
         ensures line { (list : List Words) (shapes : List Shape) (caller : List ℕ) → IsTable list shapes self.now
-            → IsCaller list caller ours.now → result.1 ≡ decided_at list (Some caller) (target shapes object operation) }
+            → IsCaller list caller ours.now → result.1 ≡ decided_at list (Some caller) (target shapes object operation) tick }
         ensures granted { (list : List Words) (shapes : List Shape) (caller : List ℕ) → IsTable list shapes self.now
-            → IsCaller list caller ours.now → result.0 ≡ granted_at list (Some caller) (target shapes object operation) }
+            → IsCaller list caller ours.now → result.0 ≡ granted_at list (Some caller) (target shapes object operation) tick }
     {
         let Some(theirs) = self.site(object, operation) else {
             return (false, 0);
         };
-        let number = deciding(ours, theirs, self.lines);
+        let open = shared(ours, self.spans.row(tick));
+        let number = deciding(&open, theirs, self.lines);
         (self.allows(number), number)
     }
 

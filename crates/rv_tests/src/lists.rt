@@ -16,10 +16,22 @@ fn listing(alloc: Global, text: &str) -> Result<AccessList, Fail> {
 fn the_last_line_decides(rt: HostRuntime) -> Result<(), Fail> {
     let alloc = rt.alloc();
     let list = listing(alloc, "allow * * *\ndeny nav plant.valve set\n")?;
-    assert!(rt; decide(&list, "Nav", "Plant", "Valve", "Set") == (false, 2));
-    assert!(rt; decide(&list, "Nav", "Plant", "Valve", "Get") == (true, 1));
-    assert!(rt; decide(&list, "Nav", "Plant", "Valve2", "Set") == (true, 1));
-    assert!(rt; decide(&AccessList::new(alloc), "Nav", "Plant", "Valve", "Get") == (false, 0));
+    assert!(rt; decide(&list, "Nav", "Plant", "Valve", "Set", 0) == (false, 2));
+    assert!(rt; decide(&list, "Nav", "Plant", "Valve", "Get", 0) == (true, 1));
+    assert!(rt; decide(&list, "Nav", "Plant", "Valve2", "Set", 0) == (true, 1));
+    assert!(rt; decide(&AccessList::new(alloc), "Nav", "Plant", "Valve", "Get", 0) == (false, 0));
+    Ok(())
+}
+
+#[test]
+fn lines_match_in_their_windows(rt: HostRuntime) -> Result<(), Fail> {
+    let list = listing(rt.alloc(), "allow * * *\ndeny Nav * * FROM 05 until 10\n")?;
+    assert!(rt; decide(&list, "Nav", "Plant", "Valve", "Set", 4) == (true, 1));
+    assert!(rt; decide(&list, "Nav", "Plant", "Valve", "Set", 5) == (false, 2));
+    assert!(rt; decide(&list, "Nav", "Plant", "Valve", "Set", 9) == (false, 2));
+    assert!(rt; decide(&list, "Nav", "Plant", "Valve", "Set", 10) == (true, 1));
+    let words = list.text(rt.alloc())?;
+    assert!(rt; words.as_str() == "allow * * *; deny Nav * * FROM 05 until 10");
     Ok(())
 }
 

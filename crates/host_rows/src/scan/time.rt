@@ -4,12 +4,17 @@ use rv_event::entry::Entry;
 use rv_event::one_entry::{halts, is_list, ticks};
 
 /// The ticks so far.
-pub fn clock(entries: &[Entry]) -> i64 {
+pub fn ticks_so_far(entries: &[Entry]) -> u64 {
     let mut clock = 0u64;
     for entry in entries {
         clock = clock.saturating_add(ticks(&entry.lend()));
     }
-    i64::try_from(clock).unwrap_or(i64::MAX)
+    clock
+}
+
+/// The ticks so far, as a time.
+pub fn clock(entries: &[Entry]) -> i64 {
+    i64::try_from(ticks_so_far(entries)).unwrap_or(i64::MAX)
 }
 
 /// Whether there is an accepted halt.

@@ -16,6 +16,8 @@ pub struct Plant {
     pub units: usize,
     /// 1 .. 512: the first decides, and no other matches.
     pub lines: usize,
+    /// Whether each line has a window of ticks; that of the first is open at all ticks that the hosts come by.
+    pub has_windows: bool,
 }
 
 impl Plant {
@@ -55,9 +57,24 @@ fn list_text(alloc: Global, lines: usize) -> Result<String, AllocError> {
     Ok(text)
 }
 
+// The same with a window on each line, which has ends of its own.
+fn windows_text(alloc: Global, lines: usize) -> Result<String, AllocError> {
+    let mut text = String::from_str(alloc, "allow * * * from 0 until 1000000000000000\n")?;
+    for number in 1..lines {
+        let end = number.saturating_add(MOST_LINES);
+        write!(text, "deny Other{number} U1.O1 Get from {number} until {end}\n")?;
+    }
+    Ok(text)
+}
+
 /// A list of so many lines, which allows all. None where there is no memory.
-pub fn list(alloc: Global, lines: usize) -> Option<AccessList> {
-    let text = list_text(alloc, lines.min(MOST_LINES)).ok()?;
+pub fn list(alloc: Global, lines: usize, has_windows: bool) -> Option<AccessList> {
+    let lines = lines.min(MOST_LINES);
+    let text = if has_windows {
+        windows_text(alloc, lines).ok()?
+    } else {
+        list_text(alloc, lines).ok()?
+    };
     read_list(alloc, text.as_str()).ok()
 }
 
@@ -78,7 +95,7 @@ fn fill(alloc: Global, host: &mut Host, plant: Plant) -> bool {
             return false;
         }
     }
-    match list(alloc, plant.lines) {
+    match list(alloc, plant.lines, plant.has_windows) {
         Some(list) => matches!(host.set_list(&list), Answer::Accepted(_)),
         None => false,
     }

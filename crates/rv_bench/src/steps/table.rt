@@ -21,21 +21,34 @@ const MOST_ENTRIES: usize = 1_048_576;
 // The room for the other figures.
 const ROOM: usize = 65_536;
 
-const SMALL: Plant = Plant { units: 1, lines: 1 };
+const SMALL: Plant = Plant {
+    units: 1,
+    lines: 1,
+    has_windows: false,
+};
 
 const WIDE: Plant = Plant {
     units: MOST_UNITS,
     lines: 1,
+    has_windows: false,
 };
 
 const LISTED: Plant = Plant {
     units: 1,
     lines: MOST_LINES,
+    has_windows: false,
+};
+
+const TIMED: Plant = Plant {
+    units: 1,
+    lines: MOST_LINES,
+    has_windows: true,
 };
 
 const LARGE: Plant = Plant {
     units: MOST_UNITS,
     lines: MOST_LINES,
+    has_windows: false,
 };
 
 // A step on a new host of that plant: its memory is small, so that of the host before is taken again.
@@ -70,9 +83,9 @@ fn time_change<R: Clock>(rt: &R, host: &mut Host, list: &AccessList) -> Option<u
     }
 }
 
-// What a change of a whole list of 512 lines takes over the largest catalogue, in tenths of nanoseconds.
-fn list_change<R: Clock>(rt: &R, alloc: Global) -> Option<u64> {
-    let list = list(alloc, MOST_LINES)?;
+// What a change of a whole list of 512 lines, with windows or without, takes over the largest catalogue, in tenths of nanoseconds.
+fn list_change<R: Clock>(rt: &R, alloc: Global, has_windows: bool) -> Option<u64> {
+    let list = list(alloc, MOST_LINES, has_windows)?;
     let mut host = host(alloc, ROOM, LARGE)?;
     time_change(rt, &mut host, &list)
 }
@@ -101,10 +114,12 @@ fn print_row<R: Clock + Wait + Print>(rt: &R, alloc: Global, round: usize) -> io
     print_figure(rt, step(rt, alloc, SMALL, Way::Moved))?;
     print_figure(rt, step(rt, alloc, WIDE, Way::Lent))?;
     print_figure(rt, step(rt, alloc, LISTED, Way::Lent))?;
+    print_figure(rt, step(rt, alloc, TIMED, Way::Lent))?;
     print_figure(rt, step(rt, alloc, LARGE, Way::Lent))?;
     print_both(rt, beside::push(rt, alloc))?;
     print_figure(rt, beside::lock(rt))?;
-    print_figure(rt, list_change(rt, alloc))?;
+    print_figure(rt, list_change(rt, alloc, false))?;
+    print_figure(rt, list_change(rt, alloc, true))?;
     println!(rt; "")
 }
 
@@ -114,7 +129,7 @@ pub fn print<R: Clock + Wait + Print>(
     alloc: Global,
     rounds: usize,
 ) -> io::Result<ExitCode> {
-    println!(rt; "round step moved units lines both touch push lock list")?;
+    println!(rt; "round step moved units lines windows both touch push lock list timed")?;
     for round in 0..rounds {
         print_row(rt, alloc, round)?;
     }

@@ -1,6 +1,6 @@
 //! What delays and resumes depend on, and the time.
 
-ghost use Rattle.std.specs.Prelude.{◌≡◌, ◌<◌, ◌^◌, List, ℤ, Option, int_le, pos};
+ghost use Rattle.std.specs.Prelude.{◌≡◌, List, ℤ, Option, int_le, pos};
 ghost use Rattle.rv_event.specs.Past as past;
 ghost use Rattle.rv_history.specs.Due as due;
 ghost use Rattle.rv_history.specs.History.{changes, version};
@@ -11,6 +11,7 @@ ghost use Rattle.rv_host.specs.Seen.{IsSeen, history_of};
 
 use crate::facts::{DelayFacts, ResumeFacts};
 use crate::rules::blocking::is_inside;
+use crate::rules::clock::ticks;
 use crate::rules::suspension::is_released;
 use crate::seen::Seen;
 use rv_event::entry::Stance;
@@ -29,15 +30,6 @@ pub fn is_halted(seen: &Seen) -> bool
     ensures { result ≡ past.halted (history_of seen.now).past }
 {
     seen.present.is_halted()
-}
-
-// The ticks so far, a number of 63 bits.
-fn ticks(seen: &Seen) -> u64
-    requires { IsSeen seen.now }
-    ensures value { result ≡ past.clock (history_of seen.now).past }
-    ensures within { result < 2 ^ 63 }
-{
-    seen.present.clock()
 }
 
 /// The ticks so far (D.8).

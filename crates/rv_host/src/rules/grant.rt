@@ -1,6 +1,7 @@
-//! The list in force: for whom an actor calls, and whether that is granted, by the table of the list.
+//! The list in force: for whom an actor calls, and whether that is granted at the clock, by the table of the list.
 
 ghost use Rattle.std.specs.Prelude.{◌≡◌, Some};
+ghost use Rattle.rv_event.specs.Past as past;
 ghost use Rattle.rv_history.specs.History.{force};
 ghost use Rattle.rv_history.specs.Rules as rules;
 ghost use Rattle.rv_history.specs.Subject as subjects;
@@ -10,6 +11,7 @@ ghost use Rattle.rv_shape.specs.Catalogue as catalogues;
 ghost use Rattle.rv_shape.specs.Readers.{target_of};
 ghost use Rattle.rv_table.specs.Tables.{decided_at, granted_at};
 
+use crate::rules::clock::ticks;
 use crate::rules::fitting::innermost;
 use crate::seen::Seen;
 use rv_shape::actor::{Callee, FIRST_TASK};
@@ -49,21 +51,22 @@ fn subject(seen: &Seen, actor: usize) -> Option<usize>
     }
 }
 
-// What the list in force decides of a call by an actor, of what there is at these numbers.
+// What the list in force decides now of a call by an actor, of what there is at these numbers.
 #[inline(always)]
 fn looked_up(seen: &Seen, actor: usize, object: usize, operation: usize) -> (bool, usize)
     requires { IsSeen seen.now }
-    ensures granted { result.0 ≡ granted_at (force (history_of seen.now)) (Some (subjects.subject (history_of seen.now) actor)) (catalogues.target seen.now.catalogue.now object operation) }
-    ensures line { result.1 ≡ decided_at (force (history_of seen.now)) (Some (subjects.subject (history_of seen.now) actor)) (catalogues.target seen.now.catalogue.now object operation) }
+    ensures granted { result.0 ≡ granted_at (force (history_of seen.now)) (Some (subjects.subject (history_of seen.now) actor)) (catalogues.target seen.now.catalogue.now object operation) (past.clock (history_of seen.now).past) }
+    ensures line { result.1 ≡ decided_at (force (history_of seen.now)) (Some (subjects.subject (history_of seen.now) actor)) (catalogues.target seen.now.catalogue.now object operation) (past.clock (history_of seen.now).past) }
 {
+    let tick = ticks(seen);
     match subject(seen, actor) {
-        Some(unit) => seen.table.look(unit, object, operation),
-        None => seen.table.look_nameless(object, operation),
+        Some(unit) => seen.table.look(unit, object, operation, tick),
+        None => seen.table.look_nameless(object, operation, tick),
     }
 }
 
-/// Whether the list in force grants a call to an actor, of what there is at these numbers, and by which
-/// line.
+/// Whether the list in force grants a call to an actor now, of what there is at these numbers, and by
+/// which line.
 #[inline(always)]
 pub fn decide_call(
     seen: &Seen,

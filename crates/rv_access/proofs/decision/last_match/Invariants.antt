@@ -8,5 +8,5 @@ use Rattle.rv_access.proofs.decision.last_match.Given as goal
 abbrev pub invariant-loop-i : goal.invariant-loop-i
 invariant-loop-i l =
     let name = dotted l.unit l.object in
-    let later = decides (drop l.i l.lines) l.caller name l.operation in
-    (if later == 0 then l.last else l.i + later) ≡ decides l.lines l.caller name l.operation
+    let later = decides (drop l.i l.lines) l.caller name l.operation l.tick in
+    (if later == 0 then l.last else l.i + later) ≡ decides l.lines l.caller name l.operation l.tick

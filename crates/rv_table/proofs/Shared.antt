@@ -1,0 +1,70 @@
+-- The marks that two rows share.
+use Rattle.std.proofs.Common.{◌≡◌, ◌≢◌, ℕ, ◌+◌, ◌-◌, ◌*◌, ◌/◌, ◌%◌, ◌<◌, ◌≤◌, List, length, get_or, set, Bool, true, false, arith, ap, sym, ◌∙◌, refl}
+use Rattle.std.specs.Prelude.{◌==◌, ◌&&◌, bit_and, min, nat_lt}
+use Rattle.std.specs.Int.{bit_at}
+use Rattle.std.proofs.lemmas.Bool.Decides.{nat_tests}
+use Rattle.std.proofs.lemmas.Grind.{get_or-set_at}
+use Rattle.std.proofs.lemmas.List.{get_or-set_other}
+use Rattle.std.proofs.lemmas.Nat.Bits.{bit_at_and}
+use Rattle.rv_access.specs.Words.{Words}
+use Rattle.rv_table.specs.Rows.{has, one, IsRow, passes_both}
+
+abbrev pub anded : List ℕ → List ℕ → ℕ → List ℕ
+anded ws ts w = set ws w (bit_and (get_or ws w 0) (get_or ts w 0))
+
+and_here : (ws ts : List ℕ) (w j : ℕ) → w < length ws → j / 64 ≡ w → has (anded ws ts w) j ≡ min (has ws j) (has ts j)
+and_here ws ts w j some same =
+    ap (λ n. bit_at n (j % 64)) (get_or-set_at ws w (j / 64) (bit_and (get_or ws w 0) (get_or ts w 0)) 0 same some)
+    ∙ bit_at_and (get_or ws w 0) (get_or ts w 0) (j % 64)
+    ∙ ap (λ v. min (bit_at (get_or ws v 0) (j % 64)) (bit_at (get_or ts v 0) (j % 64))) (sym same)
+
+and_other : (ws ts : List ℕ) (w j : ℕ) → j / 64 ≢ w → has (anded ws ts w) j ≡ has ws j
+and_other ws ts w j other = ap (λ n. bit_at n (j % 64)) (get_or-set_other ws w (j / 64) (bit_and (get_or ws w 0) (get_or ts w 0)) 0 other)
+
+-- what is done so far, and what is left
+pub record Half (us ts ws : List ℕ) (w : ℕ) : Type 0 where
+  pub within : w ≤ 8
+  pub done : (j : ℕ) → j < 64 * w → has ws j ≡ min (has us j) (has ts j)
+  pub left : (j : ℕ) → 64 * w ≤ j → has ws j ≡ has us j
+
+pub half_more : (us ts ws : List ℕ) (w : ℕ) → w < length ws → w < 8 → Half us ts ws w → Half us ts (anded ws ts w) (w + 1)
+half_more us ts ws w some small h = record {
+  within = omega (arith, small);
+  done = λ j less. by_test j less (j / 64 == w) refl;
+  left = λ j more.
+    let other : j / 64 ≢ w = λ e. omega (arith, more, e) in
+    let past : 64 * w ≤ j = omega (arith, more) in
+    and_other ws ts w j other ∙ h.left j past;
+}
+  where
+    by_test : (j : ℕ) → j < 64 * (w + 1) → (t : Bool) → (j / 64 == w) ≡ t → has (anded ws ts w) j ≡ min (has us j) (has ts j)
+    by_test j less true is =
+        let same : j / 64 ≡ w = grind (arith, nat_tests) in
+        let past : 64 * w ≤ j = omega (arith, same) in
+        and_here ws ts w j some same ∙ ap (λ n. min n (has ts j)) (h.left j past)
+    by_test j less false is =
+        let other : j / 64 ≢ w = grind (arith, nat_tests) in
+        let before : j < 64 * w = omega (arith, less, other) in
+        and_other ws ts w j other ∙ h.done j before
+
+both_ones : (a b : Bool) → min (one a) (one b) ≡ one (a && b)
+both_ones true true = refl
+both_ones true false = refl
+both_ones false true = refl
+both_ones false false = refl
+
+pub shared_row : (list : List Words) (first second : Words → Bool) (us ts ws : List ℕ) → length list ≤ 512 → Half us ts ws 8 → IsRow first list us → IsRow second list ts → IsRow (passes_both first second) list ws
+shared_row list first second us ts ws few h ours theirs = record {
+  lines = λ d i within.
+    let place : length list - 1 - i < 64 * 8 = omega (arith, few, within) in
+    h.done (length list - 1 - i) place ∙ (λ v. min (ours.lines d i within v) (theirs.lines d i within v)) ∙ both_ones (first (get_or list i d)) (second (get_or list i d));
+  behind = λ j past. by_side j past (nat_lt j 512) refl;
+}
+  where
+    by_side : (j : ℕ) → length list ≤ j → (t : Bool) → nat_lt j 512 ≡ t → has ws j ≡ 0
+    by_side j past true is =
+        let inside : j < 64 * 8 = grind (arith, nat_tests) in
+        h.done j inside ∙ ap (λ n. min n (has ts j)) (ours.behind j past)
+    by_side j past false is =
+        let outside : 64 * 8 ≤ j = grind (arith, nat_tests) in
+        h.left j outside ∙ ours.behind j past
