@@ -3,7 +3,7 @@ use Rattle.std.specs.Prelude.{◌≡◌, ◌<◌, ℕ, List, [], ◌∷◌, ◌+
 use Rattle.rv_event.specs.Past.{last_queued, named_in, next_of, queue}
 use Rattle.rv_event.specs.declared.entry.Body.{Body}
 use Rattle.rv_event.specs.declared.entry.Entry.{Entry}
-use Rattle.rv_history.specs.Exclusion.{queue_limit}
+use Rattle.rv_history.specs.Limits.{queue_limit}
 use Rattle.rv_history.specs.History.{History}
 use Rattle.rv_history.specs.Legal.{Legal}
 use Rattle.rv_waiting.specs.Limits.{most_places}
