@@ -2,4 +2,5 @@ pub mod Listing
 pub mod Putting
 pub mod Spelling
 pub mod TextLines
+mod Texting
 pub mod Timeless

@@ -23,14 +23,7 @@ fn fits_object(word: &str, unit: &str, object: &str) -> bool
 }
 
 // Whether each of the three words of a line is `*` or the name, and its window is open at the tick.
-fn matches(
-    line: &Line,
-    caller: &str,
-    unit: &str,
-    object: &str,
-    operation: &str,
-    tick: u64,
-) -> bool
+fn matches(line: &Line, caller: &str, unit: &str, object: &str, operation: &str, tick: u64) -> bool
     ensures { result ≡ matches line.now caller.now (dotted unit.now object.now) operation.now tick }
 {
     fits(line.unit(), caller)

@@ -168,7 +168,7 @@ impl Line {
     }
 
     /// Its words with one space between, as the journal has them. Err where memory was refused.
-    #[tactic(auto, using(std::proofs::lemmas::List::append-nil))]
+    #[tactic(auto, using(crate::proofs::Texting::no_more))]
     pub fn text(&self, alloc: Global) -> Result<String, AllocError>
         ensures { IfOk result (λ text. string_bytes text ≡ line_text self.now) }
     {

@@ -85,12 +85,7 @@ fn phrase_of(text: &str) -> Option<Phrase<'_>>
 }
 
 // The line within the window of these words, if its numbers are those of one.
-fn within(
-    alloc: Global,
-    number: usize,
-    words: &Phrase,
-    line: Line,
-) -> Result<Line, ListFault>
+fn within(alloc: Global, number: usize, words: &Phrase, line: Line) -> Result<Line, ListFault>
     requires { IsTrue (is_framed words.now) }
     ensures { Gives result (within number words.now line) }
 {

@@ -65,12 +65,12 @@ impl Model for Window {
     } };
 
     ghost invariant = { λ w.
-      (w.first ≡ read_on 0 (string_bytes w.opening)) × (w.end ≡ read_on 0 (string_bytes w.closing)) × IsWindow (record {
-      from = string_bytes w.from;
-      opening = string_bytes w.opening;
-      until = string_bytes w.until;
-      closing = string_bytes w.closing;
-    }) };
+        (w.first ≡ read_on 0 (string_bytes w.opening)) × (w.end ≡ read_on 0 (string_bytes w.closing)) × IsWindow (record {
+          from = string_bytes w.from;
+          opening = string_bytes w.opening;
+          until = string_bytes w.until;
+          closing = string_bytes w.closing;
+        }) };
 }
 
 impl<'a> Phrase<'a> {
@@ -101,7 +101,12 @@ impl<'a> Phrase<'a> {
 
 impl Window {
     /// The window of these words, whose ticks these are. Err where memory was refused.
-    pub(crate) fn new(alloc: Global, words: &Phrase, first: u64, end: u64) -> Result<Window, AllocError>
+    pub(crate) fn new(
+        alloc: Global,
+        words: &Phrase,
+        first: u64,
+        end: u64,
+    ) -> Result<Window, AllocError>
         requires framed { IsTrue (is_framed words.now) }
         requires numbers { IsTrue (is_window words.now) }
         requires first { first ≡ first_tick words.now }

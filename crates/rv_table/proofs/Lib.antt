@@ -5,3 +5,4 @@ mod Looks
 mod Grown
 mod Shared
 mod Reached
+mod Ends

@@ -32,9 +32,9 @@ half_more us ts ws w some small h = record {
   within = omega (arith, small);
   done = λ j less. by_test j less (j / 64 == w) refl;
   left = λ j more.
-    let other : j / 64 ≢ w = λ e. omega (arith, more, e) in
-    let past : 64 * w ≤ j = omega (arith, more) in
-    and_other ws ts w j other ∙ h.left j past;
+      let other : j / 64 ≢ w = λ e. omega (arith, more, e) in
+      let past : 64 * w ≤ j = omega (arith, more) in
+      and_other ws ts w j other ∙ h.left j past;
 }
   where
     by_test : (j : ℕ) → j < 64 * (w + 1) → (t : Bool) → (j / 64 == w) ≡ t → has (anded ws ts w) j ≡ min (has us j) (has ts j)
@@ -56,8 +56,8 @@ both_ones false false = refl
 pub shared_row : (list : List Words) (first second : Words → Bool) (us ts ws : List ℕ) → length list ≤ 512 → Half us ts ws 8 → IsRow first list us → IsRow second list ts → IsRow (passes_both first second) list ws
 shared_row list first second us ts ws few h ours theirs = record {
   lines = λ d i within.
-    let place : length list - 1 - i < 64 * 8 = omega (arith, few, within) in
-    h.done (length list - 1 - i) place ∙ (λ v. min (ours.lines d i within v) (theirs.lines d i within v)) ∙ both_ones (first (get_or list i d)) (second (get_or list i d));
+      let place : length list - 1 - i < 64 * 8 = omega (arith, few, within) in
+      h.done (length list - 1 - i) place ∙ (λ v. min (ours.lines d i within v) (theirs.lines d i within v)) ∙ both_ones (first (get_or list i d)) (second (get_or list i d));
   behind = λ j past. by_side j past (nat_lt j 512) refl;
 }
   where

@@ -62,7 +62,10 @@ fn windows_text(alloc: Global, lines: usize) -> Result<String, AllocError> {
     let mut text = String::from_str(alloc, "allow * * * from 0 until 1000000000000000\n")?;
     for number in 1..lines {
         let end = number.saturating_add(MOST_LINES);
-        write!(text, "deny Other{number} U1.O1 Get from {number} until {end}\n")?;
+        write!(
+            text,
+            "deny Other{number} U1.O1 Get from {number} until {end}\n"
+        )?;
     }
     Ok(text)
 }
