@@ -36,7 +36,7 @@ beside ends tick (suc m) k rising span there = by_side (nat_lt k (suc m)) refl
         inr (behind, omega (arith, behind, before))
 
 contained : (ends : List ℕ) (end tick count : ℕ) → IsNonDecreasing ends → IsSpan ends tick count → Contains ends end → Beside end tick (start ends count)
-contained ends end tick count rising span (k, (there, is)) =
+contained ends end tick count rising span (k, there, is) =
     subst (λ (e : ℕ). Beside e tick (start ends count)) (get_or_default ends k 0 end there ∙ is) (beside ends tick count k rising span there)
 
 same_le : (end tick from : ℕ) → Beside end tick from → nat_le end tick ≡ nat_le end from

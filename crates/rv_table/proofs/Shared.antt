@@ -4,7 +4,7 @@ use Rattle.std.specs.Prelude.{◌==◌, ◌&&◌, bit_and, min, nat_lt}
 use Rattle.std.specs.Int.{bit_at}
 use Rattle.std.proofs.lemmas.Bool.Decides.{nat_tests}
 use Rattle.std.proofs.lemmas.Grind.{get_or-set_at}
-use Rattle.std.proofs.lemmas.List.{get_or-set_other}
+use Rattle.std.proofs.lemmas.List.{get_or-set_other, length-set}
 use Rattle.std.proofs.lemmas.Nat.Bits.{bit_at_and}
 use Rattle.rv_access.specs.Words.{Words}
 use Rattle.rv_table.specs.Rows.{has, one, IsRow, passes_both}
@@ -23,12 +23,14 @@ and_other ws ts w j other = ap (λ n. bit_at n (j % 64)) (get_or-set_other ws w 
 
 -- what is done so far, and what is left
 pub record Half (us ts ws : List ℕ) (w : ℕ) : Type 0 where
+  pub long : length ws ≡ 8
   pub within : w ≤ 8
   pub done : (j : ℕ) → j < 64 * w → has ws j ≡ min (has us j) (has ts j)
   pub left : (j : ℕ) → 64 * w ≤ j → has ws j ≡ has us j
 
-pub half_more : (us ts ws : List ℕ) (w : ℕ) → w < length ws → w < 8 → Half us ts ws w → Half us ts (anded ws ts w) (w + 1)
-half_more us ts ws w some small h = record {
+pub half_more : (us ts ws : List ℕ) (w : ℕ) → w < 8 → Half us ts ws w → Half us ts (anded ws ts w) (w + 1)
+half_more us ts ws w small h = record {
+  long = length-set ws w (bit_and (get_or ws w 0) (get_or ts w 0)) ∙ h.long;
   within = omega (arith, small);
   done = λ j less. by_test j less (j / 64 == w) refl;
   left = λ j more.
@@ -41,11 +43,15 @@ half_more us ts ws w some small h = record {
     by_test j less true is =
         let same : j / 64 ≡ w = grind (arith, nat_tests) in
         let past : 64 * w ≤ j = omega (arith, same) in
+        let some : w < length ws = omega (arith, small, h.long) in
         and_here ws ts w j some same ∙ ap (λ n. min n (has ts j)) (h.left j past)
     by_test j less false is =
         let other : j / 64 ≢ w = grind (arith, nat_tests) in
         let before : j < 64 * w = omega (arith, less, other) in
         and_other ws ts w j other ∙ h.done j before
+
+min_zero : (n : ℕ) → min 0 n ≡ 0
+min_zero n = omega arith
 
 both_ones : (a b : Bool) → min (one a) (one b) ≡ one (a && b)
 both_ones true true = refl
@@ -64,7 +70,7 @@ shared_row list first second us ts ws few h ours theirs = record {
     by_side : (j : ℕ) → length list ≤ j → (t : Bool) → nat_lt j 512 ≡ t → has ws j ≡ 0
     by_side j past true is =
         let inside : j < 64 * 8 = grind (arith, nat_tests) in
-        h.done j inside ∙ ap (λ n. min n (has ts j)) (ours.behind j past)
+        h.done j inside ∙ ap (λ n. min n (has ts j)) (ours.behind j past) ∙ min_zero (has ts j)
     by_side j past false is =
         let outside : 64 * 8 ≤ j = grind (arith, nat_tests) in
         h.left j outside ∙ ours.behind j past

@@ -1,5 +1,5 @@
 -- The spans of ticks between the ends of the windows of a list (own).
-use Rattle.std.specs.Prelude.{ℕ, ◌<◌, ◌≤◌, ◌×◌, List, ◌∷◌, length, slice_index_or, Option, Some, None}
+use Rattle.std.specs.Prelude.{ℕ, ◌<◌, ◌≤◌, List, ◌∷◌, length, slice_index_or, Option, Some, None}
 use Rattle.std.specs.List.{All, AllZip, Contains}
 use Rattle.rv_access.specs.Words.{WindowWords, Words}
 use Rattle.rv_access.specs.Windows.{first_tick, end_tick}

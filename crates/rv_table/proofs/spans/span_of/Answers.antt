@@ -9,5 +9,5 @@ returns c =
     record {
       few = c.partition_point.ensures.bound;
       before = λ j less. leb-true _ _ (point.0 j 0 (omega arith) less);
-      behind = λ j past there. ?;
+      behind = λ j past there. leb-false _ _ (point.1 j 0 past there);
     }
