@@ -35,7 +35,7 @@ abbrev pub joined_by : Option Body → List (List ℕ) → List (List ℕ)
 joined_by None queues = queues
 joined_by (Some call) queues = slice_set queues call.object (slice_index_or queues call.object [] ++ call.actor ∷ [])
 
--- the call's object has a queue, and nobody waits in it
+-- the call's object has a queue, with room for one caller more
 abbrev pub CanJoin : Body → List (List ℕ) → Type 0
 CanJoin call queues = (call.object < most_places) × (length (slice_index_or queues call.object []) < queue_limit)
 

@@ -67,7 +67,7 @@ impl Queues {
     }
 
     // How many callers wait on the object.
-    fn waiting(&self, object: usize) -> usize
+    fn callers_on(&self, object: usize) -> usize
         ensures { result ≡ length (slice_index_or self.now object []) }
     {
         match self.items.get(object) {
@@ -82,7 +82,7 @@ impl Queues {
         ensures { (h : History) → h.limits.queue ≡ limit → AreQueues h.past self.now →
             result ≡ full_queue h object }
     {
-        self.waiting(object) >= limit
+        self.callers_on(object) >= limit
     }
 
     // The first caller on the object of a call leaves.
