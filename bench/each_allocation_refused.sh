@@ -12,71 +12,11 @@
 # Scripts may be given instead, for `check --explain` alone. It needs a C compiler, for a library of a few lines that stands
 # before malloc. Statuses: 0 all as it should be, 1 not so, 127 a tool is missing.
 set -eu
-command -v cc >/dev/null || {
-    echo "bench/each_allocation_refused.sh: cc is missing" >&2
-    exit 127
-}
-cd "$(dirname "$(readlink -f "$0")")/.."
-folder=$(mktemp -d)
-trap 'rm -rf "$folder"' EXIT
-
-cat >"$folder/refuse.c" <<'C'
-#define _GNU_SOURCE
-#include <dlfcn.h>
-#include <errno.h>
-#include <stdlib.h>
-#include <sys/syscall.h>
-#include <unistd.h>
-
-/* Refuses the call of that number; at the end of a run that didn't come to it, writes `none` to descriptor 9. */
-static long refused = -1, calls;
-__attribute__((constructor)) static void begin(void) {
-    char *number = getenv("REFUSED");
-    refused = number ? atol(number) : 0;
-}
-static int is_refused(void) {
-    if (refused < 0) begin();
-    /* Threads allocate at once. */
-    return __atomic_add_fetch(&calls, 1, __ATOMIC_RELAXED) == refused;
-}
-static void *next(const char *name) { return dlsym(RTLD_NEXT, name); }
-void *malloc(size_t size) {
-    static void *(*real)(size_t);
-    if (!real) real = next("malloc");
-    if (is_refused()) { errno = ENOMEM; return NULL; }
-    return real(size);
-}
-void *realloc(void *old, size_t size) {
-    static void *(*real)(void *, size_t);
-    if (!real) real = next("realloc");
-    if (is_refused()) { errno = ENOMEM; return NULL; }
-    return real(old, size);
-}
-void *aligned_alloc(size_t alignment, size_t size) {
-    static void *(*real)(size_t, size_t);
-    if (!real) real = next("aligned_alloc");
-    if (is_refused()) { errno = ENOMEM; return NULL; }
-    return real(alignment, size);
-}
-int posix_memalign(void **found, size_t alignment, size_t size) {
-    static int (*real)(void **, size_t, size_t);
-    if (!real) real = next("posix_memalign");
-    if (is_refused()) return ENOMEM;
-    return real(found, alignment, size);
-}
-static void tell(void) {
-    if (calls < refused && write(9, "none\n", 5) < 0) syscall(SYS_exit_group, 9);
-}
-__attribute__((destructor)) static void end(void) { tell(); }
-
-/* A program with threads ends by this. */
-void _exit(int status) {
-    tell();
-    syscall(SYS_exit_group, status);
-    __builtin_unreachable();
-}
-C
-cc -O1 -shared -fPIC -o "$folder/refuse.so" "$folder/refuse.c" -ldl
+bench=$(dirname "$(readlink -f "$0")")
+. "$bench/shared/measuring.sh"
+take_folder
+build_allocations
+cd "$bench/.."
 
 fail() {
     echo "$1"
@@ -88,7 +28,7 @@ refuse() {
     local script=$1 number=$2
     shift 2
     status=0
-    REFUSED=$number LD_PRELOAD=$folder/refuse.so timeout 60 "$program" "$@" <"$script" \
+    timeout 60 env REFUSED="$number" LD_PRELOAD="$allocations" "$program" "$@" <"$script" \
         >"$folder/written" 2>"$folder/error" 9>"$folder/none" || status=$?
 }
 

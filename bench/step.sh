@@ -9,25 +9,13 @@
 # 127 a tool is missing.
 set -eu
 
-missing() {
-    echo "bench/step.sh: $1 is missing" >&2
-    exit 127
-}
-for tool in rt cc nproc cut id seq; do
-    command -v "$tool" >/dev/null || missing "$tool"
-done
+bench=$(dirname "$(readlink -f "$0")")
+. "$bench/shared/measuring.sh"
 python3 -c 'import resource, sys; sys.exit(sys.version_info < (3, 9))' 2>/dev/null || missing "python3 (3.9 or newer)"
-[ -r /proc/loadavg ] || missing /proc/loadavg
-
-top=$(dirname "$(readlink -f "$0")")/..
-folder=$(mktemp -d)
-trap 'rm -rf "$folder"' EXIT
-cd "$top/crates/rv_bench"
-if ! rt run -- room 0 >"$folder/log" 2>&1 </dev/null; then
-    cat "$folder/log" >&2
-    exit 1
-fi
-echo "user $(id -u) (GNAT's ceilings cost what they cost only as root, 0), $(nproc) cores, load $(cut -d ' ' -f 1 /proc/loadavg) before the first run"
+needs cc id seq
+top=$bench/..
+enter_rv_bench room 0
+echo "user $(id -u) (GNAT's ceilings cost what they cost only as root, 0), $(machine)"
 out/rv_bench table "${1:-5}" >"$folder/table"
 # A process of its own for each, so that no memory of an earlier host is taken again.
 for _ in $(seq "${1:-5}"); do
@@ -147,62 +135,13 @@ else:
     print("ravenhost isn't built: no script of changes of the list")
 EOF
 
-cat >"$folder/count.c" <<'C'
-#define _GNU_SOURCE
-#include <dlfcn.h>
-#include <stdio.h>
-#include <stdlib.h>
-#include <sys/syscall.h>
-#include <unistd.h>
-
-/* Counts allocations, and writes at the end of a run how many there were, to descriptor 9. */
-static long calls;
-static void *next(const char *name) { return dlsym(RTLD_NEXT, name); }
-void *malloc(size_t size) {
-    static void *(*real)(size_t);
-    if (!real) real = next("malloc");
-    calls++;
-    return real(size);
-}
-void *realloc(void *old, size_t size) {
-    static void *(*real)(void *, size_t);
-    if (!real) real = next("realloc");
-    calls++;
-    return real(old, size);
-}
-void *aligned_alloc(size_t alignment, size_t size) {
-    static void *(*real)(size_t, size_t);
-    if (!real) real = next("aligned_alloc");
-    calls++;
-    return real(alignment, size);
-}
-int posix_memalign(void **found, size_t alignment, size_t size) {
-    static int (*real)(void **, size_t, size_t);
-    if (!real) real = next("posix_memalign");
-    calls++;
-    return real(found, alignment, size);
-}
-static void tell(void) {
-    char text[24];
-    int length = snprintf(text, sizeof text, "%ld\n", calls);
-    if (write(9, text, length) < 0) syscall(SYS_exit_group, 9);
-}
-__attribute__((destructor)) static void end(void) { tell(); }
-
-/* A program with threads ends by this call, behind which no destructor runs. */
-void _exit(int status) {
-    tell();
-    syscall(SYS_exit_group, status);
-    __builtin_unreachable();
-}
-C
-cc -O1 -shared -fPIC -o "$folder/count.so" "$folder/count.c" -ldl
+build_allocations
 # Runs a part of the program with a small number and with a large one: each time as many as were asked for have to go as is
 # due, and both runs have to make as many allocations.
 count() {
     local part=$1 few=$2 many=$3 what=$4 first="" times written
     for times in "$few" "$many"; do
-        LD_PRELOAD=$folder/count.so out/rv_bench "$part" "$times" >"$folder/written" 9>"$folder/count" || true
+        COUNTED=1 LD_PRELOAD=$allocations out/rv_bench "$part" "$times" >"$folder/written" 9>"$folder/count" || true
         written=$(cat "$folder/written")
         if [ "$written" != "$times" ]; then
             echo "$what, $times times: ${written:-none} went as is due"

@@ -18,7 +18,7 @@ use Rattle.rv_step.specs.declared.step.Asked.TheVariants as Asks
 use Rattle.rv_event.specs.Words.{interrupt_of, args_of, scalars_of}
 use Rattle.rv_shape.specs.Items.{◌>>=◌}
 use Rattle.rv_step.specs.StepWords.{dotted_of, identifier_of}
-use Rattle.rv_step.specs.Ends.{exit_of}
+use Rattle.rv_step.specs.Ends.{exit_of, lone_word}
 use Rattle.rv_step.specs.Lookup.{line_number}
 
 -- a step
@@ -51,8 +51,7 @@ end_of words = scalars_of words >>= λ found. exit_of found.rest >>= λ exit. So
 
 -- one number, and nothing behind it
 abbrev pub one_number : List (List ℕ) → Option ℤ
-one_number (word ∷ []) = integer_of word
-one_number words = None
+one_number words = lone_word words >>= integer_of
 
 -- a line of a list, or what is wrong with it; blank words and a comment are none
 abbrev pub list_line : List (List ℕ) → Option (Result Words ListFault)
