@@ -1,8 +1,10 @@
 -- The settings of a host, as the table of a text has them (own). As in every section, the carriage return before a line feed
 -- is none of the text.
-use Rattle.std.specs.Prelude.{◌≡◌, ◌≤◌, ℕ, ℤ, pos, List, [], codes, Option, Some, None}
-use Rattle.toml.specs.Data.{Data, Members, get_member, as_integer}
+use Rattle.std.specs.Prelude.{◌≡◌, ◌≤◌, ℕ, ℤ, pos, Bool, true, ◌||◌, List, [], ◌∷◌, codes, Option, Some, None, IsSome, ⊤}
+use Rattle.std.specs.Str.{bytes_eq}
+use Rattle.toml.specs.Data.{Data, Items, no_items, item, Members, no_members, member, get_member, as_integer, as_str, as_table, as_array}
 use Rattle.toml.specs.Parse.{parse_document}
+use Rattle.rv_text.specs.Names.{is_identifier, dotted_parts}
 use Rattle.rv_script.specs.UnitTexts.{without_returns}
 use Rattle.rv_settings.specs.declared.fault.SettingsFault.{SettingsFault}
 use Rattle.rv_settings.specs.declared.fault.SettingsFault.TheVariants.{NotToml, UnknownKey, BadValue, NoMemory}
@@ -22,15 +24,6 @@ pub record SettingsText : Type 0 where
   pub budget : ℕ
   pub devices : List DeviceText
 
--- the number of a value, or this one where there is no value
-abbrev pub number_of : ℤ → Option Data → Option ℤ
-number_of default None = Some default
-number_of default (Some value) = as_integer value
-
--- the number at a key, or this one where the key isn't set
-abbrev pub number_at : List ℕ → ℤ → Members → Option ℤ
-number_at key default table = number_of default (get_member key table)
-
 -- where nothing else is set
 abbrev pub default_capacity : ℕ
 default_capacity = 4096
@@ -41,18 +34,105 @@ default_budget = 1000
 abbrev pub default_settings : SettingsText
 default_settings = record { capacity = default_capacity; budget = default_budget; devices = [] }
 
--- settings have the numbers of a table, within their limits; of the devices nothing is said here
-pub record HasNumbers (table : Members) (settings : SettingsText) : Type 0 where
+-- What stands at a key
+
+-- the number of a value, or this one where there is no value
+abbrev pub number_of : ℤ → Option Data → Option ℤ
+number_of default None = Some default
+number_of default (Some value) = as_integer value
+
+-- the number at a key, or this one where the key isn't set
+abbrev pub number_at : List ℕ → ℤ → Members → Option ℤ
+number_at key default table = number_of default (get_member key table)
+
+-- the text of a value, if there is one
+abbrev pub text_of : Option Data → Option (List ℕ)
+text_of None = None
+text_of (Some value) = as_str value
+
+-- the text at a key
+abbrev pub text_at : List ℕ → Members → Option (List ℕ)
+text_at key table = text_of (get_member key table)
+
+-- The keys
+
+-- the keys of a device, each of which it has
+abbrev pub is_key_of_device : List ℕ → Bool
+is_key_of_device key =
+    bytes_eq key (codes "calls") || bytes_eq key (codes "object") || bytes_eq key (codes "operation")
+    || bytes_eq key (codes "priority") || bytes_eq key (codes "task") || bytes_eq key (codes "unit")
+
+-- the keys of settings
+abbrev pub is_key : List ℕ → Bool
+is_key key = bytes_eq key (codes "budget") || bytes_eq key (codes "capacity") || bytes_eq key (codes "device")
+
+-- each key of a table is one of these
+abbrev pub OnlyKeys : (List ℕ → Bool) → Members → Type 0
+OnlyKeys is_known no_members = ⊤
+OnlyKeys is_known (member key value others) = (is_known key ≡ true) × OnlyKeys is_known others
+
+-- Devices
+
+-- a name at a key, which is an identifier
+pub record IsName (key : List ℕ) (table : Members) (name : List ℕ) : Type 0 where
+  pub stands : text_at key table ≡ Some name
+  pub named : is_identifier name ≡ true
+
+-- a device is that of a table, which has its six keys and no other
+pub record IsDevice (table : Members) (device : DeviceText) : Type 0 where
+  pub known : OnlyKeys is_key_of_device table
+  pub unit : IsName (codes "unit") table device.unit
+  pub task : IsName (codes "task") table device.task
+  pub object : text_at (codes "object") table ≡ Some device.object
+  pub dotted : IsSome (dotted_parts device.object)
+  pub operation : IsName (codes "operation") table device.operation
+  pub priority : number_at (codes "priority") (pos 0) table ≡ Some (pos device.priority)
+  pub lowest : 1 ≤ device.priority
+  pub highest : device.priority ≤ 40
+  pub calls : number_at (codes "calls") (pos 0) table ≡ Some (pos device.calls)
+  pub fewest : 1 ≤ device.calls
+  pub most : device.calls ≤ 1000000
+
+-- a device is that of a value, which is a table
+abbrev pub IsDeviceOf : Option Members → DeviceText → Type 0
+IsDeviceOf None device = ⊥
+IsDeviceOf (Some table) device = IsDevice table device
+
+-- devices are those of an array, one after another
+abbrev pub AreDevices : Items → List DeviceText → Type 0
+AreDevices no_items [] = ⊤
+AreDevices no_items (device ∷ devices) = ⊥
+AreDevices (item value values) [] = ⊥
+AreDevices (item value values) (device ∷ devices) = IsDeviceOf (as_table value) device × AreDevices values devices
+
+-- devices are those of a value, which is an array
+abbrev pub AreDevicesOf : Option Items → List DeviceText → Type 0
+AreDevicesOf None devices = ⊥
+AreDevicesOf (Some values) devices = AreDevices values devices
+
+-- devices are those of what stands at their key; there are none where it isn't set
+abbrev pub AreDevicesAt : Option Data → List DeviceText → Type 0
+AreDevicesAt None devices = devices ≡ []
+AreDevicesAt (Some value) devices = AreDevicesOf (as_array value) devices
+
+-- Settings
+
+-- settings are those of a table, which has no other keys
+pub record AreSettings (table : Members) (settings : SettingsText) : Type 0 where
+  pub known : OnlyKeys is_key table
   pub capacity : number_at (codes "capacity") (pos default_capacity) table ≡ Some (pos settings.capacity)
   pub least : 16 ≤ settings.capacity
   pub most : settings.capacity ≤ 1048576
   pub budget : number_at (codes "budget") (pos default_budget) table ≡ Some (pos settings.budget)
+  pub fewest : 1 ≤ settings.budget
+  pub greatest : settings.budget ≤ 1000000
+  pub devices : AreDevicesAt (get_member (codes "device") table) settings.devices
 
 -- settings are those of a table that was read
 pub record AreOfTable (read : Option Members) (settings : SettingsText) : Type 0 where
   pub table : Members
   pub is_table : read ≡ Some table
-  pub numbers : HasNumbers table settings
+  pub values : AreSettings table settings
 
 -- a fault that a table may have
 abbrev pub IsOfValue : SettingsFault → Type 0

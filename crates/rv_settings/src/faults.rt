@@ -1,8 +1,9 @@
 //! The first fault of settings: their keys are looked at in the order of their bytes, those of a device
 //! where `device` stands.
 
-ghost use Rattle.std.specs.Prelude.{IfSome};
-ghost use Rattle.rv_settings.specs.Settings.{IsOfValue};
+ghost use Rattle.std.specs.Prelude.{◌≡◌, true, IfNone, IfSome};
+ghost use Rattle.toml.specs.View.{table_view};
+ghost use Rattle.rv_settings.specs.Settings.{IsOfValue, OnlyKeys, is_key, is_key_of_device};
 
 use crate::fault::SettingsFault;
 use rv_text::{dotted_parts, is_identifier};
@@ -45,7 +46,8 @@ fn unless(is_good: bool) -> Option<SettingsFault>
 
 // What stands against a key of a device.
 fn device_key(key: &str, value: &Value) -> Option<SettingsFault>
-    ensures { IfSome result IsOfValue }
+    ensures none { IfNone result (is_key_of_device key.now ≡ true) }
+    ensures some { IfSome result IsOfValue }
 {
     if key == "calls" {
         return unless(is_number(value, 1, 1_000_000));
@@ -62,19 +64,27 @@ fn device_key(key: &str, value: &Value) -> Option<SettingsFault>
     Some(SettingsFault::UnknownKey)
 }
 
-// What stands against a device.
-fn device_fault(device: &Value) -> Option<SettingsFault>
-    ensures { IfSome result IsOfValue }
+/// What stands against the keys of a device, if something does.
+pub(crate) fn device_table_fault(table: &Table) -> Option<SettingsFault>
+    ensures none { IfNone result (OnlyKeys is_key_of_device (table_view table.now)) }
+    ensures some { IfSome result IsOfValue }
 {
-    let Some(table) = device.as_table() else {
-        return Some(SettingsFault::BadValue);
-    };
     for (key, value) in table.iter() {
         if let Some(fault) = device_key(key.as_str(), value) {
             return Some(fault);
         }
     }
     None
+}
+
+// What stands against a device.
+fn device_fault(device: &Value) -> Option<SettingsFault>
+    ensures { IfSome result IsOfValue }
+{
+    match device.as_table() {
+        Some(table) => device_table_fault(table),
+        None => Some(SettingsFault::BadValue),
+    }
 }
 
 // What stands against devices.
@@ -94,7 +104,8 @@ fn devices_fault(devices: &Value) -> Option<SettingsFault>
 
 // What stands against a key.
 fn key_fault(key: &str, value: &Value) -> Option<SettingsFault>
-    ensures { IfSome result IsOfValue }
+    ensures none { IfNone result (is_key key.now ≡ true) }
+    ensures some { IfSome result IsOfValue }
 {
     if key == "budget" {
         return unless(is_number(value, 1, 1_000_000));
@@ -110,7 +121,8 @@ fn key_fault(key: &str, value: &Value) -> Option<SettingsFault>
 
 /// What stands against the keys that are set, if something does: an unknown key or a bad value.
 pub fn first_fault(table: &Table) -> Option<SettingsFault>
-    ensures { IfSome result IsOfValue }
+    ensures none { IfNone result (OnlyKeys is_key (table_view table.now)) }
+    ensures some { IfSome result IsOfValue }
 {
     for (key, value) in table.iter() {
         if let Some(fault) = key_fault(key.as_str(), value) {

@@ -1,16 +1,20 @@
 //! Reading settings.
 
-ghost use Rattle.std.specs.Prelude.{◌≡◌, ◌≤ℤ◌, Some, IfOk, IfErr};
-ghost use Rattle.toml.specs.View.{table_view};
+ghost use Rattle.std.specs.Prelude.{◌≡◌, ◌≤ℤ◌, Some, IfOk, IfErr, IsSome, codes, string_bytes};
+ghost use Rattle.rv_text.specs.Names.{dotted_parts};
+ghost use Rattle.toml.specs.Data.{as_table, get_member};
+ghost use Rattle.toml.specs.View.{array_view, table_view, view};
 ghost use Rattle.toml.specs.Parse.{parse_document};
-ghost use Rattle.rv_settings.specs.Settings.{number_at, HasNumbers, AreOfTable, IsSettings, IsOfValue, IsRefusedTable, IsRefused};
+ghost use Rattle.rv_settings.specs.Settings.{number_at, text_at, AreDevices, AreDevicesAt, AreOfTable, AreSettings, IsDevice, IsDeviceOf, IsName, IsOfValue, IsRefused, IsRefusedTable, IsSettings};
 
 use crate::device::Device;
 use crate::fault::SettingsFault;
-use crate::faults::first_fault;
+use crate::faults::{device_table_fault, first_fault};
 use crate::settings::Settings;
 use rv_script::unit_text::unit_text;
+use rv_text::{dotted_parts, is_identifier};
 use std::alloc::Global;
+use toml::value::Array;
 use toml::{Table, Value};
 
 // The whole number at a key, or this one where the key isn't set.
@@ -42,6 +46,7 @@ fn within(number: Option<i64>, least: i64, most: i64) -> Result<i64, SettingsFau
 
 // A copy of the text at a key.
 fn text_at(alloc: Global, table: &Table, key: &str) -> Result<String, SettingsFault>
+    ensures ok { IfOk result (λ text. text_at key.now (table_view table.now) ≡ Some (string_bytes text)) }
     ensures err { IfErr result IsOfValue }
 {
     let Some(value) = table.get(key) else {
@@ -56,17 +61,45 @@ fn text_at(alloc: Global, table: &Table, key: &str) -> Result<String, SettingsFa
     }
 }
 
-// A copy of the device that a table is. Its keys were looked at; one that it lacks is a bad value.
-fn device_of(alloc: Global, value: &Value) -> Result<Device, SettingsFault>
+// A copy of the identifier at a key.
+fn name_at(alloc: Global, table: &Table, key: &str) -> Result<String, SettingsFault>
+    ensures ok { IfOk result (λ name. IsName key.now (table_view table.now) (string_bytes name)) }
     ensures err { IfErr result IsOfValue }
 {
-    let Some(table) = value.as_table() else {
-        return Err(SettingsFault::BadValue);
-    };
-    let unit = text_at(alloc, table, "unit")?;
-    let task = text_at(alloc, table, "task")?;
+    let name = text_at(alloc, table, key)?;
+    if is_identifier(name.as_str()) {
+        Ok(name)
+    } else {
+        Err(SettingsFault::BadValue)
+    }
+}
+
+// A copy of the name of an object.
+fn object_at(alloc: Global, table: &Table) -> Result<String, SettingsFault>
+    ensures stands { IfOk result (λ object. text_at (codes "object") (table_view table.now) ≡ Some (string_bytes object)) }
+    ensures dotted { IfOk result (λ object. IsSome (dotted_parts (string_bytes object))) }
+    ensures err { IfErr result IsOfValue }
+{
     let object = text_at(alloc, table, "object")?;
-    let operation = text_at(alloc, table, "operation")?;
+    if dotted_parts(object.as_str()).is_some() {
+        Ok(object)
+    } else {
+        Err(SettingsFault::BadValue)
+    }
+}
+
+// A copy of the device that a table is. One that lacks a key has a bad value there.
+fn device_of(alloc: Global, table: &Table) -> Result<Device, SettingsFault>
+    ensures ok { IfOk result (IsDevice (table_view table.now)) }
+    ensures err { IfErr result IsOfValue }
+{
+    if let Some(fault) = device_table_fault(table) {
+        return Err(fault);
+    }
+    let unit = name_at(alloc, table, "unit")?;
+    let task = name_at(alloc, table, "task")?;
+    let object = object_at(alloc, table)?;
+    let operation = name_at(alloc, table, "operation")?;
     let priority = within(number_at(table, "priority", 0), 1, 40)?;
     let calls = within(number_at(table, "calls", 0), 1, 1_000_000)?;
     Ok(Device {
@@ -79,19 +112,25 @@ fn device_of(alloc: Global, value: &Value) -> Result<Device, SettingsFault>
     })
 }
 
-// Copies of the devices.
-fn devices_of(alloc: Global, table: &Table) -> Result<Vec<Device>, SettingsFault>
+// A copy of the device that a value is.
+fn device_in(alloc: Global, value: &Value) -> Result<Device, SettingsFault>
+    ensures ok { IfOk result (IsDeviceOf (as_table (view value.now))) }
+    ensures err { IfErr result IsOfValue }
+{
+    match value.as_table() {
+        Some(table) => device_of(alloc, table),
+        None => Err(SettingsFault::BadValue),
+    }
+}
+
+// Copies of the devices of an array.
+fn devices_in(alloc: Global, array: &Array) -> Result<Vec<Device>, SettingsFault>
+    ensures ok { IfOk result (λ devices. AreDevices (array_view array.now) devices.items) }
     ensures err { IfErr result IsOfValue }
 {
     let mut devices = Vec::new(alloc);
-    let Some(value) = table.get("device") else {
-        return Ok(devices);
-    };
-    let Some(array) = value.as_array() else {
-        return Err(SettingsFault::BadValue);
-    };
-    for value in array.iter() {
-        let device = device_of(alloc, value)?;
+    'each: for value in array {
+        let device = device_in(alloc, value)?;
         if devices.push(device).is_err() {
             return Err(SettingsFault::NoMemory);
         }
@@ -99,9 +138,23 @@ fn devices_of(alloc: Global, table: &Table) -> Result<Vec<Device>, SettingsFault
     Ok(devices)
 }
 
+// Copies of the devices.
+fn devices_of(alloc: Global, table: &Table) -> Result<Vec<Device>, SettingsFault>
+    ensures ok { IfOk result (λ devices. AreDevicesAt (get_member (codes "device") (table_view table.now)) devices.items) }
+    ensures err { IfErr result IsOfValue }
+{
+    let Some(value) = table.get("device") else {
+        return Ok(Vec::new(alloc));
+    };
+    match value.as_array() {
+        Some(array) => devices_in(alloc, array),
+        None => Err(SettingsFault::BadValue),
+    }
+}
+
 // The settings of a table.
 fn settings_of(alloc: Global, table: &Table) -> Result<Settings, SettingsFault>
-    ensures ok { IfOk result (HasNumbers (table_view table.now)) }
+    ensures ok { IfOk result (AreSettings (table_view table.now)) }
     ensures err { IfErr result IsOfValue }
 {
     if let Some(fault) = first_fault(table) {

@@ -46,7 +46,7 @@ within None settings e =
     capacity_in : Result SettingsText What → ℕ
     capacity_in (Ok settings) = settings.capacity
     capacity_in (Err what) = 4096
-within (Some section) settings is = record { least = is.numbers.least; most = omega (arith, is.numbers.most) }
+within (Some section) settings is = record { least = is.values.least; most = omega (arith, is.values.most) }
 
 pub all_brought : (has_journal : Bool) (script : List ℕ) (whole : OpenedText) (settings : SettingsText) (given after : GivenText) → opened script ≡ Ok whole → GivesSettings whole.settings (Ok settings) →
     Gathers has_journal nothing whole.sections (Ok given) → after ≡ record given { units = with_devices given.units settings.devices } →
