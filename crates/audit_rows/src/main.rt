@@ -14,13 +14,14 @@ mod script;
 mod told;
 
 use damage::{WAYS, Way, damaged};
+use row_files::{bytes_of, names_before};
 use rv_audit::audit::Audit;
 use rv_audit::verdict::Verdict;
 use rv_event::text::text_of_answer;
 use rv_reading::entry::read_entry;
 use script::{Script, script_of};
 use std::alloc::Global;
-use std::{fs, io};
+use std::io;
 use told::{Told, first_other};
 
 // What a verdict says, with the names of what the journal loaded.
@@ -97,21 +98,17 @@ fn damage_told(alloc: Global, script: &Script<'_>, due: &str) -> io::Result<Stri
     Ok(format!(in alloc; "{count} damaged journals ok")?)
 }
 
-// The text of a file, or none where it isn't there.
-fn text_of(rt: &HostRuntime, name: &str, ending: &str) -> io::Result<Option<String>> {
-    let path = format!(in rt.alloc(); "{name}.{ending}")?;
-    match fs::read_to_string(rt, path) {
-        Ok(text) => Ok(Some(text)),
-        Err(e) if e.kind() == io::ErrorKind::NotFound => Ok(None),
-        Err(e) => Err(e),
-    }
+// The text of a file, which is empty where it isn't there.
+fn text_of(rt: &HostRuntime, name: &str, ending: &str) -> io::Result<String> {
+    let bytes = bytes_of(rt, name, ending)?.unwrap_or(Vec::new(rt.alloc()));
+    String::from_utf8(bytes).map_err(|_| io::Error::from(io::ErrorKind::InvalidData))
 }
 
 // Says whether the verdict on a script is the one that stands beside it, and those on its damaged journals.
 fn tell(rt: &HostRuntime, name: &str) -> io::Result<()> {
     let alloc = rt.alloc();
-    let text = text_of(rt, name, "raven")?.unwrap_or(String::new(alloc));
-    let wanted = text_of(rt, name, "said")?.unwrap_or(String::new(alloc));
+    let text = text_of(rt, name, "raven")?;
+    let wanted = text_of(rt, name, "said")?;
     let Some(script) = script_of(alloc, text.as_str()) else {
         return println!(rt; "{name}: no script");
     };
@@ -121,29 +118,16 @@ fn tell(rt: &HostRuntime, name: &str) -> io::Result<()> {
     } else {
         println!(rt; "{name}: {given}")?;
     }
-    if let Some(due) = text_of(rt, name, "damaged")? {
+    let due = text_of(rt, name, "damaged")?;
+    if !due.is_empty() {
         let line = damage_told(alloc, &script, due.as_str())?;
         println!(rt; "{name}: {line}")?;
     }
     Ok(())
 }
 
-// The names of the scripts, in the order of their bytes.
-fn names_of(rt: &HostRuntime) -> io::Result<Vec<String>> {
-    let alloc = rt.alloc();
-    let mut names = Vec::new(alloc);
-    for entry in fs::read_dir(rt, ".")? {
-        let entry = entry?;
-        if let Some(name) = entry.file_name().strip_suffix(".raven") {
-            names.push(String::from_str(alloc, name)?)?;
-        }
-    }
-    names.sort()?;
-    Ok(names)
-}
-
 fn main(rt: HostRuntime) -> io::Result<()> {
-    for name in names_of(&rt)? {
+    for name in names_before(&rt, ".raven")? {
         tell(&rt, name.as_str())?;
     }
     Ok(())

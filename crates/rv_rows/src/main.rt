@@ -21,6 +21,7 @@ mod fronts;
 
 use cut::{Ends, Share};
 use fronts::fronts_of;
+use row_files::{bytes_of, names_before};
 use rv_check::check::check;
 use rv_exec::machine::STACK_BYTES;
 use rv_explain::explain;
@@ -28,7 +29,7 @@ use rv_fault::Failure;
 use rv_play::play::play;
 use rv_verdict::{Watch, audit, audit_file};
 use std::alloc::Global;
-use std::{env, fs, io, thread};
+use std::{env, io, thread};
 
 /// What is done with a script.
 #[derive(Clone, Copy)]
@@ -96,16 +97,6 @@ fn given(alloc: Global, script: &[u8], deed: Deed<'_>, is_explained: bool) -> io
         Err(Failure::Io(e)) => return Err(e),
     }
     Ok(written)
-}
-
-/// The bytes of a file, or none where it isn't there.
-fn bytes_of(rt: &HostRuntime, name: &str, ending: &str) -> io::Result<Option<Vec<u8>>> {
-    let path = format!(in rt.alloc(); "{name}.{ending}")?;
-    match fs::read(rt, path) {
-        Ok(bytes) => Ok(Some(bytes)),
-        Err(e) if e.kind() == io::ErrorKind::NotFound => Ok(None),
-        Err(e) => Err(e),
-    }
 }
 
 /// The number of the first line that differs.
@@ -213,26 +204,12 @@ fn fronts_told(rt: &HostRuntime, name: &str, due: &[u8]) -> io::Result<String> {
     Ok(format!(in alloc; "{name}: cuts differ at line {line}: {found}")?)
 }
 
-/// The names of the scripts, in the order of their bytes.
-fn names_of(rt: &HostRuntime) -> io::Result<Vec<String>> {
-    let alloc = rt.alloc();
-    let mut names = Vec::new(alloc);
-    for entry in fs::read_dir(rt, ".")? {
-        let entry = entry?;
-        if let Some(name) = entry.file_name().strip_suffix(".raven") {
-            names.push(String::from_str(alloc, name)?)?;
-        }
-    }
-    names.sort()?;
-    Ok(names)
-}
-
 /// Runs each script cut before each of its bytes, and with each of its bytes replaced, at the places of a share.
 fn cut_all(rt: &HostRuntime, share: Share) -> io::Result<()> {
     let alloc = rt.alloc();
     let mut cut = Ends::new();
     let mut damaged = Ends::new();
-    for name in names_of(rt)? {
+    for name in names_before(rt, ".raven")? {
         let script = bytes_of(rt, name.as_str(), "raven")?.unwrap_or(Vec::new(alloc));
         cut.run_cut(alloc, script.as_slice(), share);
         damaged.run_damaged(alloc, script.as_slice(), share)?;
@@ -249,7 +226,7 @@ fn cut_all(rt: &HostRuntime, share: Share) -> io::Result<()> {
 
 /// Says of each script whether it gave what stands beside it.
 fn tell_all(rt: &HostRuntime) -> io::Result<()> {
-    for name in names_of(rt)? {
+    for name in names_before(rt, ".raven")? {
         let line = told(rt, name.as_str())?;
         println!(rt; "{line}")?;
         if let Some(due) = bytes_of(rt, name.as_str(), "cuts")? {
