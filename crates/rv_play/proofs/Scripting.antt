@@ -4,6 +4,7 @@ use Rattle.rv_event.specs.declared.entry.Answer.{Answer}
 use Rattle.rv_history.specs.declared.command.Command.{Command}
 use Rattle.rv_history.specs.History.{History}
 use Rattle.rv_history.specs.Legal.{Legal, empty}
+use Rattle.rv_history.specs.Limits.{limits_of}
 use Rattle.rv_history.specs.declared.command.Command.TheVariants as Commands
 use Rattle.rv_history.specs.Steps.{Steps, IsAnswer, due_command}
 use Rattle.rv_history.proofs.Stepping.{legal_after}
@@ -43,7 +44,7 @@ steps_from stage (act ∷ acts) [] None last plays = absurd plays
 steps_from stage (act ∷ acts) [] (Some fault) last plays = ap (λ (s : Stage). s.history) plays.1
 steps_from stage (act ∷ acts) (t ∷ told) fault last plays = told_step stage t (commands told) (answers told) last.history plays.0.told (steps_from t.after acts told fault last plays.1)
 
-pub plays_steps : (limits : Limits) (acts : List Act) (told : List Told) (fault : Option ScriptFault) (last : Stage) → Plays (start limits) acts told fault last → Steps (empty limits.capacity) (commands told) (answers told) last.history
+pub plays_steps : (limits : Limits) (acts : List Act) (told : List Told) (fault : Option ScriptFault) (last : Stage) → Plays (start limits) acts told fault last → Steps (empty (limits_of limits.capacity)) (commands told) (answers told) last.history
 plays_steps limits acts told fault last plays = steps_from (start limits) acts told fault last plays
 
 -- Legal
@@ -63,8 +64,8 @@ legal_from stage (act ∷ acts) [] None last plays legal = absurd plays
 legal_from stage (act ∷ acts) [] (Some fault) last plays legal = subst (λ (s : Stage). Legal s.history) (sym plays.1) legal
 legal_from stage (act ∷ acts) (t ∷ told) fault last plays legal = legal_from t.after acts told fault last plays.1 (legal_told stage t plays.0.told legal)
 
-pub empty_legal : (capacity : ℕ) → Legal (empty capacity)
-empty_legal capacity = (refl, refl)
+pub empty_legal : (capacity : ℕ) → Legal (empty (limits_of capacity))
+empty_legal capacity = (refl, refl, refl)
 
 legal_acts : (limits : Result Limits ScriptFault) (acts : List Act) (run : Run) → PlaysActs limits acts run → Legal run.last.history
 legal_acts (Ok limits) acts run plays = legal_from (start limits) acts run.told run.fault run.last plays (empty_legal limits.capacity)

@@ -14,6 +14,7 @@ use Rattle.rv_event.specs.declared.entry.Answer.{Answer}
 use Rattle.rv_event.specs.declared.entry.Answer.TheVariants.{OutOfMemory, Misuse}
 use Rattle.rv_event.specs.declared.entry.Recorded.{Recorded}
 use Rattle.rv_event.specs.declared.entry.Entry.TheVariants.{Load, ListChange}
+use Rattle.rv_history.specs.declared.limits.Limits.{Limits}
 use Rattle.rv_history.specs.History.{History, force}
 use Rattle.rv_history.specs.Due.{out, gate, within, nothing_more}
 use Rattle.rv_history.specs.Owed.{has_room}
@@ -31,7 +32,7 @@ use Rattle.rv_exec.specs.declared.bodies.Bodies.{Bodies}
 use Rattle.rv_exec.specs.declared.bodies.SharedUnit.{SharedUnit}
 use Rattle.rv_port.specs.declared.event.Lent.{Lent}
 use Rattle.rv_port.specs.Events.{events, back_of, log_of, log_in, history_at, catalogue_of}
-use Rattle.rv_port.specs.Acting.{entered, changes, listed, changed_to, Loaded, Unloaded, Changed, IfOperator, IsLent, lent_view, Due, Does, limits_of, begun_by}
+use Rattle.rv_port.specs.Acting.{entered, changes, listed, changed_to, Loaded, Unloaded, Changed, IfOperator, IsLent, lent_view, Due, Does, begun_by}
 use Rattle.rv_port.specs.declared.event.Begun.{Begun}
 use Rattle.rv_port.specs.declared.event.Ask.{Ask}
 use Rattle.rv_port.specs.declared.event.Ask.TheVariants as Wants
@@ -44,7 +45,7 @@ use Rattle.rv_port.proofs.Zips.{newest, rebuilt, rebuilt_units}
 one_more : (es : List Event) (e : Event) → reverse (e ∷ es) ≡ reverse es ++ e ∷ []
 one_more es e = reverse-append (e ∷ []) es
 
-pub legal_log : (h : History) (us : List UnitBodies) → Legal h → Legal (history_at h.capacity (log_of h us))
+pub legal_log : (h : History) (us : List UnitBodies) → Legal h → Legal (history_at h.limits (log_of h us))
 legal_log h us l = subst (λ (z : History). Legal z) (sym (rebuilt h us l)) l
 
 -- the catalogue of the events is the host's
@@ -67,12 +68,12 @@ lent_log h bodies (Some lent) l e same =
 
 -- the bodies are given
 pub given : (h : History) (bodies : Bodies) (a : ℕ) (lent : Option Lent) → Legal h → length (units_of bodies) ≡ length h.shapes → IfSome lent (λ l. bodies_view (arc_value l.bodies) ≡ bodies_view bodies)
-    → Does (limits_of h) (log_in h bodies) a Wants.Bodies (Gives.Bodies lent) (log_in h bodies)
+    → Does h.limits (log_in h bodies) a Wants.Bodies (Gives.Bodies lent) (log_in h bodies)
 given h bodies a lent l some kept = (legal_log h (units_of bodies) l, (lent_log h bodies lent l some kept, refl))
 
 pub stepped : (h k : History) (bodies : Bodies) (a : ℕ) (q : Request) (r : Answer) (b : Begun) (lent : Option Lent) → Legal h → length (units_of bodies) ≡ length h.shapes → r ≡ out h a q → k ≡ legal.after h a q r
     → b ≡ begun_by k.shapes a q r → k.shapes ≡ h.shapes → IfSome lent (λ l. bodies_view (arc_value l.bodies) ≡ bodies_view bodies)
-    → Does (limits_of h) (log_in h bodies) a (Wants.Step q) (Gives.Answered r b lent) (log_in k bodies)
+    → Does h.limits (log_in h bodies) a (Wants.Step q) (Gives.Answered r b lent) (log_in k bodies)
 stepped h k bodies a q r b lent l some is e begun same kept = let us = units_of bodies in (
   legal_log h us l,
   (
@@ -101,7 +102,7 @@ loaded_log true h us shape unit =
     ∙ one_more (back_of h us) (Loads shape (Some unit))
 
 pub loaded_is : (h k : History) (us vs : List UnitBodies) (shape : Shape) (unit : UnitBodies) (r : Answer) → Legal h → MayLackMemory (out_load h shape) r → k ≡ after_load h shape r
-    → vs ≡ units_if (is_some (recorded r)) us unit → Loaded h.capacity (log_of h us) shape unit r (log_of k vs)
+    → vs ≡ units_if (is_some (recorded r)) us unit → Loaded h.limits (log_of h us) shape unit r (log_of k vs)
 loaded_is h k us vs shape unit r l m e is = (
   subst (λ (z : History). MayLackMemory (out_load z shape) r) (sym (rebuilt h us l)) m,
   (λ i. log_of (e i) (is i)) ∙ loaded_log (is_some (recorded r)) h us shape unit,
@@ -117,15 +118,15 @@ same_units false us unit e = refl
 
 -- a load that was recorded, and one that wasn't
 pub loaded_more : (h k : History) (us vs : List UnitBodies) (shape : Shape) (unit : UnitBodies) (r : Answer) → Legal h → MayLackMemory (out_load h shape) r → k ≡ after_load h shape r
-    → is_some (recorded r) ≡ true → vs ≡ us ++ unit ∷ [] → Loaded h.capacity (log_of h us) shape unit r (log_of k vs)
+    → is_some (recorded r) ≡ true → vs ≡ us ++ unit ∷ [] → Loaded h.limits (log_of h us) shape unit r (log_of k vs)
 loaded_more h k us vs shape unit r l m e b is = loaded_is h k us vs shape unit r l m e (more_units (is_some (recorded r)) us vs unit b is)
 
 pub loaded_same : (h k : History) (us : List UnitBodies) (shape : Shape) (unit : UnitBodies) (r : Answer) → Legal h → MayLackMemory (out_load h shape) r → k ≡ after_load h shape r
-    → is_some (recorded r) ≡ false → Loaded h.capacity (log_of h us) shape unit r (log_of k us)
+    → is_some (recorded r) ≡ false → Loaded h.limits (log_of h us) shape unit r (log_of k us)
 loaded_same h k us shape unit r l m e b = loaded_is h k us us shape unit r l m e (same_units (is_some (recorded r)) us unit b)
 
 -- one that there was no memory for is a load that wasn't accepted
-pub unloaded_loaded : (c : ℕ) (log after : List Event) (shape : Shape) (unit : UnitBodies) (r : Answer) → Unloaded c log shape r after → Loaded c log shape unit r after
+pub unloaded_loaded : (c : Limits) (log after : List Event) (shape : Shape) (unit : UnitBodies) (r : Answer) → Unloaded c log shape r after → Loaded c log shape unit r after
 unloaded_loaded c log after shape unit r d = (d.0, d.2 ∙ ap (λ (z : Option Recorded). if is_some z then log ++ Loads shape (Some unit) ∷ [] else log) (sym d.1))
 
 -- as many shapes as bodies of units, before and after
@@ -165,18 +166,18 @@ gate_kept true true d e = absurd (cc e)
 gate_kept false c d e = absurd (cc e)
 
 load_kept : (h : History) (shape : Shape) → is_some (recorded (out_load h shape)) ≡ true → out_load h shape ≡ nothing_more
-load_kept h shape e = gate_kept (shape_fits h.shapes shape) (halted h.past) (has_room h.capacity (h.shapes ++ shape ∷ []) (Load ∷ h.past)) e
+load_kept h shape e = gate_kept (shape_fits h.shapes shape) (halted h.past) (has_room h.limits.capacity (h.shapes ++ shape ∷ []) (Load ∷ h.past)) e
 
 not_kept : (r : Option Recorded) → is_some r ≡ false → r ≡ None
 not_kept None e = refl
 not_kept (Some w) e = absurd (cc e)
 
 -- a load that there is no memory for
-pub unloaded_due : (h : History) (us : List UnitBodies) (shape : Shape) (r : Answer) → Legal h → r ≡ out_load h shape → is_some (recorded r) ≡ false → Unloaded h.capacity (log_of h us) shape r (log_of h us)
+pub unloaded_due : (h : History) (us : List UnitBodies) (shape : Shape) (r : Answer) → Legal h → r ≡ out_load h shape → is_some (recorded r) ≡ false → Unloaded h.limits (log_of h us) shape r (log_of h us)
 unloaded_due h us shape r l is e =
     (subst (λ (z : History). MayLackMemory (out_load z shape) r) (sym (rebuilt h us l)) (inl is), not_kept (recorded r) e, refl)
 
-pub unloaded_lack : (h : History) (us : List UnitBodies) (shape : Shape) (r : Answer) → Legal h → r ≡ out_load h shape → is_some (recorded r) ≡ true → Unloaded h.capacity (log_of h us) shape OutOfMemory (log_of h us)
+pub unloaded_lack : (h : History) (us : List UnitBodies) (shape : Shape) (r : Answer) → Legal h → r ≡ out_load h shape → is_some (recorded r) ≡ true → Unloaded h.limits (log_of h us) shape OutOfMemory (log_of h us)
 unloaded_lack h us shape r l is e = (
   subst (λ (z : History). MayLackMemory (out_load z shape) OutOfMemory) (sym (rebuilt h us l)) (inr (refl, load_kept h shape (ap (λ (z : Answer). is_some (recorded z)) (sym is) ∙ e))),
   refl,
@@ -195,24 +196,24 @@ changed_log true list h us = listed_log list h us
 changed_log false list h us = refl
 
 pub changed_is : (h k : History) (us : List UnitBodies) (change : Change) (r : Answer) → Legal h → MayLackMemory (due_change h change) r → k ≡ after_change h change r
-    → Changed h.capacity (log_of h us) change r (log_of k us)
-changed_is h k us change r l m e = let same : h ≡ history_at h.capacity (log_of h us) = sym (rebuilt h us l) in (
+    → Changed h.limits (log_of h us) change r (log_of k us)
+changed_is h k us change r l m e = let same : h ≡ history_at h.limits (log_of h us) = sym (rebuilt h us l) in (
   subst (λ (z : History). MayLackMemory (due_change z change) r) same m,
   ap (λ (z : History). log_of z us) e ∙ changed_log (is_some (recorded r)) (changed (force h) change) h us
       ∙ ap (λ (z : History). changed_to (log_of h us) (changed (force z) change) r) same,
 )
 
 -- an ask of an actor
-pub does_ask : (h : History) (us : List UnitBodies) (a : ℕ) (ask wanted : Ask) (reply : Reply) (after : List Event) → ask ≡ wanted → Legal h → Due h.capacity (log_of h us) a wanted reply after
-    → Does (limits_of h) (log_of h us) a ask reply after
-does_ask h us a ask wanted reply after is l d = subst (λ (z : Ask). Does (limits_of h) (log_of h us) a z reply after) (sym is) (legal_log h us l, d)
+pub does_ask : (h : History) (us : List UnitBodies) (a : ℕ) (ask wanted : Ask) (reply : Reply) (after : List Event) → ask ≡ wanted → Legal h → Due h.limits (log_of h us) a wanted reply after
+    → Does h.limits (log_of h us) a ask reply after
+does_ask h us a ask wanted reply after is l d = subst (λ (z : Ask). Does h.limits (log_of h us) a z reply after) (sym is) (legal_log h us l, d)
 
 -- what only the operator may ask
 misused : (b : Bool) (does : Type 0) (log : List Event) → b ≡ false → IfOperator b does Misuse log log
 misused true does log e = absurd (cc e)
 misused false does log e = (refl, refl)
 
-misused_due : (c : ℕ) (log : List Event) (a : ℕ) (ask : Ask) (b : Begun) → changes ask ≡ true → eqb a 0 ≡ false → Due c log a ask (Gives.Answered Misuse b None) log
+misused_due : (c : Limits) (log : List Event) (a : ℕ) (ask : Ask) (b : Begun) → changes ask ≡ true → eqb a 0 ≡ false → Due c log a ask (Gives.Answered Misuse b None) log
 misused_due c log a (Wants.Step q) b t e = absurd (cc t)
 misused_due c log a (Wants.Read from) b t e = absurd (cc t)
 misused_due c log a Wants.Bodies b t e = absurd (cc t)
@@ -221,5 +222,5 @@ misused_due c log a (Wants.LoadWithoutMemory s) b t e = misused (eqb a 0) _ log 
 misused_due c log a (Wants.Change s) b t e = misused (eqb a 0) _ log e
 
 pub does_misuse : (h : History) (us : List UnitBodies) (a : ℕ) (ask : Ask) (b : Begun) → changes ask ≡ true → Legal h → (a ≡ 0 → ⊥)
-    → Does (limits_of h) (log_of h us) a ask (Gives.Answered Misuse b None) (log_of h us)
-does_misuse h us a ask b t l n = (legal_log h us l, misused_due h.capacity (log_of h us) a ask b t (ne_eqb a 0 n))
+    → Does h.limits (log_of h us) a ask (Gives.Answered Misuse b None) (log_of h us)
+does_misuse h us a ask b t l n = (legal_log h us l, misused_due h.limits (log_of h us) a ask b t (ne_eqb a 0 n))

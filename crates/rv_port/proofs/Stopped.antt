@@ -17,7 +17,7 @@ use Rattle.rv_port.specs.Bodies.{Runs}
 use Rattle.rv_port.specs.Calls.{stops_within, StopsBody}
 use Rattle.rv_port.specs.Composing.{went_none, went_both}
 use Rattle.rv_port.specs.Events.{history_at}
-use Rattle.rv_port.specs.Traces.{Passing, Trace, capacity_in, told, Asked, Tells, Steps, Went}
+use Rattle.rv_port.specs.Traces.{Passing, Trace, limits_in, told, Asked, Tells, Steps, Went}
 use Rattle.rv_port.proofs.Asking.{asked_went, worn_told}
 use Rattle.rv_port.proofs.Gets.{of_end, end_gets}
 
@@ -78,7 +78,7 @@ end_within scalars exit Answers.BadLine e t = e
 end_within scalars exit Answers.OutOfMemory e t = e
 
 ends_within : (v w : Passing) (q : Request) (d : Answer) → Asked v q d w → EndsNot q (told d) → stops_within d ≡ true
-ends_within v w (Complete scalars exit) d x t = end_within scalars exit d (ap of_end x.due_is ∙ end_gets (history_at (capacity_in v.about) x.at) v.actor scalars exit) t
+ends_within v w (Complete scalars exit) d x t = end_within scalars exit d (ap of_end x.due_is ∙ end_gets (history_at (limits_in v.about) x.at) v.actor scalars exit) t
 ends_within v w (Call o p vs) d x t = absurd t
 ends_within v w (DelayUntil time) d x t = absurd t
 ends_within v w Clock d x t = absurd t

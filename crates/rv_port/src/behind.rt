@@ -7,12 +7,13 @@ ghost use Rattle.std.specs.Prelude.{◌≡◌, true, false, length, IfOk, IfErr,
 ghost use Rattle.std.specs.Arc.{arc_value};
 ghost use Rattle.rv_exec.specs.Bodies.{bodies_view, units_of};
 ghost use Rattle.rv_port.specs.Events.{log_in};
-ghost use Rattle.rv_port.specs.Acting.{Does, changes, limits_of};
+ghost use Rattle.rv_port.specs.Acting.{Does, changes};
 
-use crate::event::{Ask, Event, Lent, Letter, Limits, NONE, Reply};
+use crate::event::{Ask, Event, Lent, Letter, NONE, Reply};
 use begun::begun_by;
 use rv_event::entry::{Answer, Request};
 use rv_exec::bodies::Bodies;
+use rv_history::limits::Limits;
 use rv_host::host::Host;
 use rv_host::pages::Page;
 use rv_turn::Counted;
@@ -84,7 +85,7 @@ impl Behind {
 
     // The bodies, for a text.
     fn give_bodies(&self, actor: u64) -> Reply
-        ensures { Does (limits_of self.now.host.value) (log_in self.now.host.value (arc_value self.now.bodies)) actor Ask.Bodies result (log_in self.now.host.value (arc_value self.now.bodies)) }
+        ensures { Does self.now.host.value.limits (log_in self.now.host.value (arc_value self.now.bodies)) actor Ask.Bodies result (log_in self.now.host.value (arc_value self.now.bodies)) }
     {
         self.host.replays();
         Reply::Bodies(self.share())
@@ -93,9 +94,9 @@ impl Behind {
     // A request, which is answered in its letter.
     #[tactic(auto, using(crate::proofs::Doing::brought_step))]
     fn step(&mut self, actor: u64, letter: &mut Letter)
-        ensures does { Does (limits_of self.old.host.value) (log_in self.old.host.value (arc_value self.old.bodies)) actor (Ask.Step letter.old.request) (Reply.Answered letter.new.answer letter.new.begun letter.new.lent) (log_in self.new.host.value (arc_value self.new.bodies)) }
+        ensures does { Does self.old.host.value.limits (log_in self.old.host.value (arc_value self.old.bodies)) actor (Ask.Step letter.old.request) (Reply.Answered letter.new.answer letter.new.begun letter.new.lent) (log_in self.new.host.value (arc_value self.new.bodies)) }
         ensures request { letter.new.request ≡ letter.old.request }
-        ensures about { self.new.host.value.capacity ≡ self.old.host.value.capacity }
+        ensures about { self.new.host.value.limits ≡ self.old.host.value.limits }
     {
         let host = &mut *self.host;
         host.replays();
@@ -111,8 +112,8 @@ impl Behind {
 
     // A request, as one of several things to ask.
     fn request(&mut self, actor: u64, request: &Request) -> Reply
-        ensures does { Does (limits_of self.old.host.value) (log_in self.old.host.value (arc_value self.old.bodies)) actor (Ask.Step request.now) result (log_in self.new.host.value (arc_value self.new.bodies)) }
-        ensures about { self.new.host.value.capacity ≡ self.old.host.value.capacity }
+        ensures does { Does self.old.host.value.limits (log_in self.old.host.value (arc_value self.old.bodies)) actor (Ask.Step request.now) result (log_in self.new.host.value (arc_value self.new.bodies)) }
+        ensures about { self.new.host.value.limits ≡ self.old.host.value.limits }
     {
         let mut letter = Letter::new(request);
         self.step(actor, &mut letter);
@@ -127,8 +128,8 @@ impl Behind {
 
     // A page.
     fn read(&mut self, actor: u64, from: usize) -> Reply
-        ensures does { Does (limits_of self.old.host.value) (log_in self.old.host.value (arc_value self.old.bodies)) actor (Ask.Read from) result (log_in self.new.host.value (arc_value self.new.bodies)) }
-        ensures about { self.new.host.value.capacity ≡ self.old.host.value.capacity }
+        ensures does { Does self.old.host.value.limits (log_in self.old.host.value (arc_value self.old.bodies)) actor (Ask.Read from) result (log_in self.new.host.value (arc_value self.new.bodies)) }
+        ensures about { self.new.host.value.limits ≡ self.old.host.value.limits }
     {
         let host = &*self.host;
         host.replays();
@@ -142,8 +143,8 @@ impl Behind {
     // What any actor may ask.
     fn serve(&mut self, actor: u64, ask: &Ask) -> Reply
         requires { changes ask.now ≡ false }
-        ensures does { Does (limits_of self.old.host.value) (log_in self.old.host.value (arc_value self.old.bodies)) actor ask.now result (log_in self.new.host.value (arc_value self.new.bodies)) }
-        ensures about { self.new.host.value.capacity ≡ self.old.host.value.capacity }
+        ensures does { Does self.old.host.value.limits (log_in self.old.host.value (arc_value self.old.bodies)) actor ask.now result (log_in self.new.host.value (arc_value self.new.bodies)) }
+        ensures about { self.new.host.value.limits ≡ self.old.host.value.limits }
     {
         match ask {
             Ask::Step(request) => self.request(actor, request),
@@ -156,8 +157,8 @@ impl Behind {
     // What the operator alone may ask.
     fn operate(&mut self, ask: Ask) -> Reply
         requires { changes ask ≡ true }
-        ensures does { Does (limits_of self.old.host.value) (log_in self.old.host.value (arc_value self.old.bodies)) 0 ask result (log_in self.new.host.value (arc_value self.new.bodies)) }
-        ensures about { self.new.host.value.capacity ≡ self.old.host.value.capacity }
+        ensures does { Does self.old.host.value.limits (log_in self.old.host.value (arc_value self.old.bodies)) 0 ask result (log_in self.new.host.value (arc_value self.new.bodies)) }
+        ensures about { self.new.host.value.limits ≡ self.old.host.value.limits }
     {
         self.host.replays();
         match ask {
@@ -174,7 +175,7 @@ impl Behind {
     fn refuse(&self, actor: u64, ask: &Ask) -> Reply
         requires changes { changes ask.now ≡ true }
         requires other { actor ≡ 0 → ⊥ }
-        ensures { Does (limits_of self.now.host.value) (log_in self.now.host.value (arc_value self.now.bodies)) actor ask.now result (log_in self.now.host.value (arc_value self.now.bodies)) }
+        ensures { Does self.now.host.value.limits (log_in self.now.host.value (arc_value self.now.bodies)) actor ask.now result (log_in self.now.host.value (arc_value self.now.bodies)) }
     {
         self.host.replays();
         let _ = ask;
@@ -183,10 +184,9 @@ impl Behind {
 }
 
 impl Counted for Behind {
-    ghost use Rattle.std.specs.Prelude.{ℕ};
     ghost use Rattle.std.specs.Arc.{arc_value};
     ghost use Rattle.rv_port.specs.Events.{log_in, by};
-    ghost use Rattle.rv_port.specs.Acting.{Does, adds, limits_of};
+    ghost use Rattle.rv_port.specs.Acting.{Does, adds};
     ghost use Rattle.rv_port.specs.declared.event.Ask.{Ask};
     ghost use Rattle.rv_port.specs.declared.event.Reply.{Reply};
 
@@ -202,7 +202,7 @@ impl Counted for Behind {
 
     ghost history = { λ b. log_in b.host.value (arc_value b.bodies) };
 
-    ghost about = { λ b. limits_of b.host.value };
+    ghost about = { λ b. b.host.value.limits };
 
     ghost actor_of = { by };
 

@@ -19,7 +19,7 @@ pub fn catalogue_is_the_operators()
 /// is said of events is said of the host's journal.
 #[tactic(auto, using(crate::proofs::Zips::rebuilt))]
 pub fn events_are_the_journal()
-    ensures { (h : History) (units : List UnitBodies) → Legal h → history_at h.capacity (log_of h units) ≡ h }
+    ensures { (h : History) (units : List UnitBodies) → Legal h → history_at h.limits (log_of h units) ≡ h }
 {}
 
 /// And the bodies in them are these, where there are as many as units.

@@ -2,6 +2,7 @@
 use Rattle.std.proofs.Common.{◌≡◌, ℕ, List, Ok, Err, Result, Some, None, Option, refl, sym, subst, ap, arith, inl, inr}
 use Rattle.std.specs.Prelude.{Bool}
 use Rattle.rv_text.specs.Sections.{SectionText}
+use Rattle.rv_history.specs.Limits.{limits_of}
 use Rattle.rv_script.specs.Openings.{OpenedText, opened}
 use Rattle.rv_settings.specs.Settings.{SettingsText}
 use Rattle.rv_fault.specs.Sections.{GivesSettings, Reads, line_of}
@@ -53,6 +54,6 @@ pub all_brought : (has_journal : Bool) (script : List ℕ) (whole : OpenedText) 
     GivesScript has_journal script (Ok (settings.capacity, after))
 all_brought has_journal script whole settings given after is gives gathers e = (
   within whole.settings settings gives,
-  subst (λ (o : Result OpenedText ℕ). brings_by has_journal o (Ok (record { capacity = settings.capacity; units = after.units; journal = after.journal }))) (sym is)
-      (settings, given, gives, gathers, ap (λ (g : GivenText). record { capacity = settings.capacity; units = g.units; journal = g.journal }) e),
+  subst (λ (o : Result OpenedText ℕ). brings_by has_journal o (Ok (record { limits = limits_of settings.capacity; units = after.units; journal = after.journal }))) (sym is)
+      (settings, given, gives, gathers, ap (λ (g : GivenText). record { limits = limits_of settings.capacity; units = g.units; journal = g.journal }) e),
 )

@@ -1,6 +1,8 @@
 -- What a script brings to an audit, or what stands against it (own).
 use Rattle.std.specs.Prelude.{◌≡◌, ◌⊎◌, ◌≤◌, ◌^◌, ℕ, Bool, List, Result, Ok, Err}
 use Rattle.rv_shape.specs.Shape.{Shape}
+use Rattle.rv_history.specs.declared.limits.Limits.{Limits}
+use Rattle.rv_history.specs.Limits.{limits_of}
 use Rattle.rv_script.specs.Openings.{OpenedText, opened}
 use Rattle.rv_settings.specs.Settings.{SettingsText}
 use Rattle.rv_fault.specs.Sections.{GivesSettings, line_of}
@@ -10,16 +12,16 @@ use Rattle.rv_fault.specs.declared.failure.Failure.{Failure}
 use Rattle.rv_fault.specs.declared.failure.Failure.TheVariants.{Refused, Memory, Io}
 use Rattle.rv_verdict.specs.Given.{GivenText, Gathers, nothing, with_devices}
 
--- the capacity, the units, and the journal
+-- the limits, the units, and the journal
 pub record Brought : Type 0 where
-  pub capacity : ℕ
+  pub limits : Limits
   pub units : List Shape
   pub journal : List ℕ
 
--- the capacity is the settings', and the units of their devices come last
+-- the limits are the settings', and the units of their devices come last
 abbrev pub brought : SettingsText → GivenText → Brought
 brought settings given = record {
-  capacity = settings.capacity;
+  limits = limits_of settings.capacity;
   units = with_devices given.units settings.devices;
   journal = given.journal;
 }
@@ -51,7 +53,7 @@ pub record IsCapacity (capacity : ℕ) : Type 0 where
 abbrev pub GivesScript : Bool → List ℕ → Result (ℕ × GivenText) Failure → Type 0
 GivesScript has_journal script (Ok found) =
     IsCapacity found.0
-    × Brings has_journal script (Ok (record { capacity = found.0; units = found.1.units; journal = found.1.journal }))
+    × Brings has_journal script (Ok (record { limits = limits_of found.0; units = found.1.units; journal = found.1.journal }))
 GivesScript has_journal script (Err (Refused told)) = Brings has_journal script (Err told)
 GivesScript has_journal script (Err Memory) = Unit {0}
 GivesScript has_journal script (Err (Io error)) = ⊥

@@ -3,6 +3,7 @@
 ghost use Rattle.std.specs.Prelude.{◌≡◌, ◌≤◌, IfSome, length, true, false};
 ghost use Rattle.rv_script.specs.UnitTexts.{without_returns};
 ghost use Rattle.rv_script.specs.Whole.{most_bytes};
+ghost use Rattle.rv_history.specs.Limits.{limits_of};
 ghost use Rattle.rv_verdict.specs.Audits.{AuditsScript, AuditsText, SaysOf, SaysOfBytes, SaysOfFile, SaysOfSection};
 ghost use Rattle.rv_verdict.specs.Brought.{IsCapacity};
 
@@ -34,7 +35,7 @@ fn audit_journal<W: Write>(
     journal: &str,
 ) -> Result<bool, Failure>
     requires { IsCapacity capacity }
-    ensures { SaysOf (W.contents writer.old) (W.contents writer.new) capacity units.now (without_returns journal.now) result }
+    ensures { SaysOf (W.contents writer.old) (W.contents writer.new) (limits_of capacity) units.now (without_returns journal.now) result }
 {
     let journal = unit_text(alloc, journal)?;
     let mut audit = audit_over(alloc, capacity)?;
@@ -91,7 +92,7 @@ fn audit_reader<J: Read, W: Write, H: Watch>(
     units: &[UnitShape],
 ) -> Result<Audited, Failure>
     requires { IsCapacity capacity }
-    ensures { SaysOfBytes (J.remaining journal.old) takes_torn (W.contents writer.old) (W.contents writer.new) capacity units.now result }
+    ensures { SaysOfBytes (J.remaining journal.old) takes_torn (W.contents writer.old) (W.contents writer.new) (limits_of capacity) units.now result }
 {
     let mut audit = audit_over(alloc, capacity)?;
     let (verdict, torn) = judge_file(alloc, &mut audit, units, journal, takes_torn, watch)?;

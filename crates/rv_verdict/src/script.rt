@@ -1,6 +1,7 @@
 //! What a script brings to an audit.
 
 ghost use Rattle.std.specs.Prelude.{◌≡◌, ◌≤◌, ◌^◌, length, IfErr, IfOk};
+ghost use Rattle.rv_history.specs.Limits.{limits_of};
 ghost use Rattle.rv_history.specs.Legal.{empty};
 ghost use Rattle.rv_script.specs.Whole.{most_bytes};
 ghost use Rattle.rv_verdict.specs.Brought.{GivesScript};
@@ -32,7 +33,7 @@ pub fn script_of(
 
 /// An audit before its first line. Err where memory was refused.
 pub fn audit_over(alloc: Global, capacity: usize) -> Result<Audit, Failure>
-    ensures ok { IfOk result (λ audit. audit ≡ empty capacity) }
+    ensures ok { IfOk result (λ audit. audit ≡ empty (limits_of capacity)) }
     ensures err { IfErr result (λ failure. failure ≡ Failure.Memory) }
 {
     match Audit::new(alloc, capacity) {

@@ -1,6 +1,7 @@
 use Rattle.std.proofs.Common.{List, subst, false}
 use Rattle.std.proofs.lemmas.Result.{err_from_is_err_and}
 use Rattle.rv_shape.specs.Shape.{Shape}
+use Rattle.rv_history.specs.Limits.{limits_of}
 use Rattle.rv_verdict.specs.Audits.{SaysOfBytes, SaysOfFile}
 use Rattle.rv_verdict.specs.Brought.{Brought}
 use Rattle.rv_verdict.proofs.Telling.{file_never}
@@ -17,6 +18,6 @@ returns g c =
     let journal = g.J.Read.remaining c.args.journal.now in
     let old = g.W.Write.contents c.args.writer.now in
     let new = g.W.Write.contents c.audit_reader.new.writer in
-    let it : Brought = record { capacity = c.in_ok-capacity.capacity; units = c.in_ok-capacity.given.units; journal = c.in_ok-capacity.given.journal } in
+    let it : Brought = record { limits = limits_of c.in_ok-capacity.capacity; units = c.in_ok-capacity.given.units; journal = c.in_ok-capacity.given.journal } in
     said_of false (SaysOfFile journal c.args.takes_torn) old new c.args.text.now it c.audit_reader.result (file_never journal c.args.takes_torn) c.in_ok-capacity.ensures.1
-    (subst (λ (units : List Shape). SaysOfBytes journal c.args.takes_torn old new c.in_ok-capacity.capacity units c.audit_reader.result) c.units.ensures c.audit_reader.ensures)
+    (subst (λ (units : List Shape). SaysOfBytes journal c.args.takes_torn old new (limits_of c.in_ok-capacity.capacity) units c.audit_reader.result) c.units.ensures c.audit_reader.ensures)
