@@ -44,6 +44,16 @@ fn put_operation(
     }
 }
 
+// Adds a window, one time in five, of ticks that a run comes by.
+fn put_window(text: &mut String, numbers: &mut Numbers) -> Result<(), AllocError> {
+    if !numbers.chance(20) {
+        return Ok(());
+    }
+    let first = numbers.below(120);
+    let end = first.saturating_add(numbers.between(1, 60));
+    write!(text, " from {first} until {end}")
+}
+
 // The text of a line, which denies so many times in a hundred.
 fn text_of(
     alloc: Global,
@@ -57,6 +67,7 @@ fn text_of(
     put_caller(&mut text, numbers, units)?;
     put_object(&mut text, numbers, units)?;
     put_operation(&mut text, numbers, is_denied)?;
+    put_window(&mut text, numbers)?;
     Ok(text)
 }
 
