@@ -27,6 +27,8 @@ copy() {
         mkdir -p "$2/${1##*/}"
         [ ! -e "$1/$part" ] || cp -r "$1/$part" "$2/${1##*/}/"
     done
+    # The sources of bench/refusal_rows end in .txt, since the gate takes those of its crates alone.
+    find "$2/${1##*/}" -name '*.txt' | while IFS= read -r part; do mv "$part" "${part%.txt}"; done
 }
 
 # Has rt prove and build the program, in a tree of its own beside copies of the crates.
