@@ -38,7 +38,7 @@ prove() {
     mkdir -p "$tree/crates"
     for crate in "$bench"/../crates/* "$bench/refusal_rows"; do copy "$crate" "$tree/crates"; done
     cp "$bench/../HANDLES" "$tree"
-    cat "$bench/../crates.txt" "$bench/refusal_rows/crates.txt" >"$tree/crates.txt"
+    cat "$bench/../crates.txt" "$bench/refusal_rows/crates.line" >"$tree/crates.txt"
     if ! (cd "$tree/crates/refusal_rows" && rt run) >"$folder/whole" 2>"$folder/log" </dev/null; then
         cat "$folder/log" >&2
         exit 1
