@@ -155,6 +155,15 @@ listed_shapes true None h = refl
 listed_shapes true (Some list) h = refl
 listed_shapes false list h = refl
 
+listed_limits : (is_kept : Bool) (list : Option (List Words)) (h : History) → (if is_kept then legal.listed h list else h).limits ≡ h.limits
+listed_limits true None h = refl
+listed_limits true (Some list) h = refl
+listed_limits false list h = refl
+
+-- a change of the list leaves the limits
+pub changed_limits : (h k : History) (change : Change) (r : Answer) → k ≡ after_change h change r → k.limits ≡ h.limits
+changed_limits h k change r e = ap (λ (z : History). z.limits) e ∙ listed_limits (is_some (recorded r)) (changed (force h) change) h
+
 pub brought_change : (h k : History) (us : List UnitBodies) (change : Change) (r : Answer) → length us ≡ length h.shapes → k ≡ after_change h change r → length us ≡ length k.shapes
 brought_change h k us change r some e = some ∙ sym (ap length (ap (λ (z : History). z.shapes) e ∙ listed_shapes (is_some (recorded r)) (changed (force h) change) h))
 

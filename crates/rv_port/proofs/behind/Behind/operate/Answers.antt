@@ -4,7 +4,7 @@ use Rattle.rv_history.specs.Legal.{Legal}
 use Rattle.rv_history.specs.Steps.{MayLackMemory, due_change, after_change}
 use Rattle.std.specs.Arc.{arc_value}
 use Rattle.rv_exec.specs.Bodies.{units_of}
-use Rattle.rv_port.proofs.Doing.{does_ask, changed_is, brought_change}
+use Rattle.rv_port.proofs.Doing.{does_ask, changed_is, changed_limits, brought_change}
 use Rattle.rv_port.proofs.behind.Behind.operate.Goals as goal
 
 pub returns-in-Load-clause-does : goal.returns-in-Load-clause-does
@@ -19,6 +19,11 @@ returns-in-Change-clause-does c = let s = c.args.self.now in
     (changed_is s.host.value _ (units_of (arc_value s.bodies)) c.in-Change.change _ (subst Legal c.deref.ensures c.replays.ensures.legal)
     (subst (λ (z : History). MayLackMemory (due_change z c.in-Change.change) c.change_list.result) c.deref_mut.ensures.value c.change_list.ensures.answer)
     (c.change_list.ensures.history ∙ ap (λ (z : History). after_change z c.in-Change.change c.change_list.result) c.deref_mut.ensures.value))
+
+pub returns-in-Change-clause-about : goal.returns-in-Change-clause-about
+returns-in-Change-clause-about c = let s = c.args.self.now in
+    changed_limits s.host.value c.change_list.new.self c.in-Change.change c.change_list.result
+    (c.change_list.ensures.history ∙ ap (λ (z : History). after_change z c.in-Change.change c.change_list.result) c.deref_mut.ensures.value)
 
 pub invariant_of-self : goal.invariant_of-self
 invariant_of-self c = let s = c.args.self.now in
