@@ -36,6 +36,7 @@ fn take_passes(passes: &mut Vec<Pass<Behind>>, mut finished: Vec<Finished>)
 }
 
 // From now on the pass has seen all that is noted.
+#[tactic(auto, using(crate::proofs::Closings::none_met, crate::proofs::Closings::next_turn, crate::proofs::Closings::one_met, crate::proofs::Closings::all_met))]
 fn meet_all(pass: &mut Pass<Behind>, notes: Vec<Note>)
     requires { Each (λ note. note.turn ≡ pass.old.turn) notes.items }
     ensures { HasMet pass.old notes.items pass.new }
