@@ -1,1 +1,3 @@
-pub mod Asked
+pub mod Commanded
+pub mod Served
+pub mod Prepared

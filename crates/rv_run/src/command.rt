@@ -1,19 +1,18 @@
 //! The commands of the operator.
 
-ghost use Rattle.std.specs.Prelude.{◌≡◌, ◌⊎◌, ℕ};
-ghost use Rattle.rv_staff.specs.Giving.{Gives};
-ghost use Rattle.rv_run.specs.Commanding.{Commands, Loads};
+ghost use Rattle.std.specs.Prelude.{◌≡◌, ℕ, List, Err};
+ghost use Rattle.rv_run.specs.Commanding.{Behind, Commands, LoadsNext, LoadsText, SaysFault, StartsOn, Welcomes};
+ghost use Rattle.rv_run.specs.Staging.{GoesOn, IsNoFault, IsSaid, SaysOn, stage};
 
-use crate::journal::not_written;
 use rv_event::entry::Answer;
-use rv_fault::{Failure, ScriptFault, text_unit};
+use rv_fault::{Failure, ScriptFault, What, text_unit};
 use rv_input::{Input, InputFault};
 use rv_shell::{LineFault, Next, Shell};
-use rv_staff::{Hires, Session, raise, say, start_threads};
+use rv_staff::{Hires, NO_MEMORY, Session, raise, say, start_threads};
 use rv_turn::Worn;
 use std::alloc::Global;
 use std::io;
-use std::io::{Read, Write};
+use std::io::{ErrorKind, Read, Write};
 use std::sync::Wait;
 
 // A unit text that a command brings stands at no line of the script.
@@ -28,35 +27,73 @@ pub(crate) enum Goes {
     Out,
 }
 
-// The run goes on where a word was written.
-fn said(written: io::Result<()>) -> Result<Goes, Failure> {
-    match written {
-        Ok(()) => Ok(Goes::On),
-        Err(e) => Err(Failure::Io(e)),
+/// The failure of a write. Want of memory is told as such.
+pub(crate) fn of_write(error: io::Error) -> Failure
+    ensures { IsNoFault result }
+{
+    if error.kind() == ErrorKind::OutOfMemory {
+        Failure::Memory
+    } else {
+        Failure::Io(error)
     }
 }
 
-// The failure of an input.
-pub(crate) fn of_input(fault: InputFault) -> Failure {
+// The run goes on where a word was written.
+fn said(written: io::Result<()>) -> Result<Goes, Failure>
+    ensures same { IsSaid written result }
+    ensures goes { GoesOn result }
+{
+    match written {
+        Ok(()) => Ok(Goes::On),
+        Err(e) => Err(of_write(e)),
+    }
+}
+
+/// The failure of an input.
+pub(crate) fn of_input(fault: InputFault) -> Failure
+    ensures { IsNoFault result }
+{
     match fault {
         InputFault::Memory => Failure::Memory,
         InputFault::Io(e) => Failure::Io(e),
     }
 }
 
-// The words of what is wrong with a unit text; None where there are none, or memory was refused.
-fn fault_line(alloc: Global, failure: Failure) -> Option<String> {
-    let Failure::Refused(ScriptFault { what, .. }) = failure else {
-        return None;
-    };
-    format!(in alloc; "{what}\n").ok()
+// Says what is wrong with a unit text.
+#[tactic(auto, using(crate::proofs::Commanded::says_on))]
+fn tell_fault<W: Write>(alloc: Global, what: What, writer: &mut W) -> Result<Goes, Failure>
+    ensures { (line : List ℕ) × SaysOn (W.contents writer.old) (W.contents writer.new) line result }
+{
+    match format!(in alloc; "{what}\n") {
+        Ok(line) => said(say(writer, line.as_str())),
+        Err(_) => said(say(writer, NO_MEMORY)),
+    }
 }
 
 // Says what is wrong with a unit text, or that memory was refused.
-fn complain<W: Write>(alloc: Global, failure: Failure, writer: &mut W) -> Result<Goes, Failure> {
-    match fault_line(alloc, failure) {
-        Some(line) => said(say(writer, line.as_str())),
-        None => said(say(writer, "nomemory\n")),
+#[tactic(auto, using(crate::proofs::Commanded::says_on))]
+fn complain<W: Write>(alloc: Global, failure: Failure, writer: &mut W) -> Result<Goes, Failure>
+    ensures { SaysFault (W.contents writer.old) (W.contents writer.new) failure result }
+{
+    match failure {
+        Failure::Refused(ScriptFault { what, .. }) => tell_fault(alloc, what, writer),
+        _ => said(say(writer, NO_MEMORY)),
+    }
+}
+
+// Starts threads where the run goes on.
+#[tactic(auto, using(crate::proofs::Commanded::said_starts))]
+fn start_on<H: Hires, W: Write>(
+    hires: &H,
+    session: &mut Session,
+    goes: Result<Goes, Failure>,
+    writer: &mut W,
+) -> Result<Goes, Failure>
+    ensures { StartsOn session.old.staff session.new.staff (W.contents writer.old) (W.contents writer.new) goes result }
+{
+    match goes {
+        Ok(Goes::On) => said(start_threads(hires, session, writer)),
+        done => done,
     }
 }
 
@@ -67,19 +104,17 @@ fn welcome<H: Hires, W: Write>(
     answer: Result<Answer, Worn>,
     writer: &mut W,
 ) -> Result<Goes, Failure>
-    ensures { (count : ℕ) × Gives count session.old.staff.control session.new.staff.control }
+    ensures { Welcomes session.old.staff session.new.staff (W.contents writer.old) (W.contents writer.new) answer result }
 {
     let told = session
         .staff
         .tell(&Shell::new(session.alloc), answer, writer);
-    match after(told, writer) {
-        Ok(Goes::On) => said(start_threads(hires, session, writer)),
-        done => done,
-    }
+    let goes = after(told, writer);
+    start_on(hires, session, goes, writer)
 }
 
 // Loads the unit of a text.
-#[tactic(auto, using(crate::proofs::Asked::loads_by))]
+#[tactic(auto, using(crate::proofs::Commanded::loads_by))]
 fn load<T: Wait, H: Hires, W: Write>(
     rt: &T,
     hires: &H,
@@ -87,7 +122,7 @@ fn load<T: Wait, H: Hires, W: Write>(
     text: &str,
     writer: &mut W,
 ) -> Result<Goes, Failure>
-    ensures { (session.new.staff.control ≡ session.old.staff.control) ⊎ Loads session.old.staff.control session.new.staff.control }
+    ensures { LoadsText session.old.staff session.new.staff (W.contents writer.old) (W.contents writer.new) text.now result }
 {
     match text_unit(session.alloc, session.staff.catalogue(), NO_LINE, text) {
         Ok(unit) => {
@@ -107,7 +142,10 @@ fn load_next<T: Wait, H: Hires, R: Read, W: Write>(
     reader: &mut R,
     writer: &mut W,
 ) -> Result<Goes, Failure>
-    ensures { (session.new.staff.control ≡ session.old.staff.control) ⊎ Loads session.old.staff.control session.new.staff.control }
+    ensures { LoadsNext
+        (stage session.old.staff (W.contents writer.old) input.old (R.remaining reader.old))
+        (stage session.new.staff (W.contents writer.new) input.new (R.remaining reader.new))
+        result }
 {
     match input.unit_text(reader) {
         Ok(Some(text)) => load(rt, hires, session, text.as_str(), writer),
@@ -117,17 +155,20 @@ fn load_next<T: Wait, H: Hires, R: Read, W: Write>(
 }
 
 // What comes after a command line that did this.
-fn after<W: Write>(next: Result<Next, LineFault>, writer: &mut W) -> Result<Goes, Failure> {
+#[tactic(auto, using(crate::proofs::Commanded::says_on))]
+fn after<W: Write>(next: Result<Next, LineFault>, writer: &mut W) -> Result<Goes, Failure>
+    ensures { Behind (W.contents writer.old) (W.contents writer.new) next result }
+{
     match next {
         Ok(Next::Quit) | Err(LineFault::Worn) => Ok(Goes::Out),
         Ok(_) => Ok(Goes::On),
-        Err(LineFault::NoMemory) => said(say(writer, "nomemory\n")),
-        Err(LineFault::Write) => Err(not_written()),
+        Err(LineFault::NoMemory) => said(say(writer, NO_MEMORY)),
+        Err(LineFault::Write(e)) => Err(of_write(e)),
     }
 }
 
 /// Carries out a command line.
-#[tactic(auto, using(crate::proofs::Asked::behind_load, crate::proofs::Asked::behind_line))]
+#[tactic(auto, using(crate::proofs::Commanded::commands_by, crate::proofs::Commanded::follows_done, crate::proofs::Commanded::said_of_line))]
 pub(crate) fn command<T: Wait, H: Hires, R: Read, W: Write>(
     rt: &T,
     hires: &H,
@@ -137,7 +178,11 @@ pub(crate) fn command<T: Wait, H: Hires, R: Read, W: Write>(
     writer: &mut W,
     line: &str,
 ) -> Result<Goes, Failure>
-    ensures { Commands (W.contents writer.old) session.old.staff.control session.new.staff.control line.now }
+    ensures { Commands
+        (stage session.old.staff (W.contents writer.old) input.old (R.remaining reader.old))
+        (stage session.new.staff (W.contents writer.new) input.new (R.remaining reader.new))
+        line.now
+        result }
 {
     let shell = Shell::new(session.alloc);
     let next = session.staff.line(rt, &shell, line, writer);

@@ -1,6 +1,9 @@
 //! What stands before the commands: units, lists and devices, carried out in order.
 
-ghost use Rattle.std.specs.Prelude.{◌≡◌, []};
+ghost use Rattle.std.specs.Prelude.{◌≡◌, [], IfSome};
+ghost use Rattle.rv_history.specs.Legal.{empty};
+ghost use Rattle.rv_run.specs.Preparing.{CarriesOut, CarriesOutAll, Prepares};
+ghost use Rattle.rv_run.specs.Running.{IsControlOf};
 
 use crate::devices::load_devices;
 use crate::loads::{list_section, load_section};
@@ -20,7 +23,13 @@ fn carry_out<R: Wait>(
     alloc: Global,
     control: &mut Control,
     section: &Section,
-) -> Result<(), Failure> {
+) -> Result<(), Failure>
+    ensures { CarriesOut
+        control.old
+        control.new
+        (record { line = section.now.line; opening = section.now.opening.now; text = section.now.text.now })
+        result }
+{
     let line = section.line;
     match opening_of(section.opening) {
         Some(Opening::UnitText) => load_section(rt, alloc, control, line, section.text),
@@ -30,14 +39,20 @@ fn carry_out<R: Wait>(
 }
 
 // Carries out sections, in order, up to the first fault.
+#[tactic(auto, using(crate::proofs::Prepared::at_first, crate::proofs::Prepared::goes_further, crate::proofs::Prepared::stops_here, crate::proofs::Prepared::comes_to_its_end))]
 fn carry_out_all<R: Wait>(
     rt: &R,
     alloc: Global,
     control: &mut Control,
     mut sections: Sections<'_>,
-) -> Result<(), Failure> {
+) -> Result<(), Failure>
+    ensures { CarriesOutAll control.old control.new sections result }
+{
     'each: while let Some(section) = sections.next_section() {
-        carry_out(rt, alloc, control, &section)?;
+        match carry_out(rt, alloc, control, &section) {
+            Ok(()) => {}
+            Err(failure) => return Err(failure),
+        }
     }
     Ok(())
 }
@@ -51,20 +66,30 @@ pub(crate) fn prepare<R: Wait>(
     sections: Sections<'_>,
     line: usize,
     settings: &Settings,
-) -> Result<(), Failure> {
-    carry_out_all(rt, alloc, control, sections)?;
-    load_devices(rt, alloc, control, jobs, line, settings.devices())
+) -> Result<(), Failure>
+    ensures { Prepares control.old control.new sections line settings.now.devices result }
+{
+    match carry_out_all(rt, alloc, control, sections) {
+        Ok(()) => load_devices(rt, alloc, control, jobs, line, settings.devices()),
+        Err(failure) => Err(failure),
+    }
 }
 
 // The control of a new host.
 fn made(alloc: Global, host: Host) -> Option<Control>
     requires { host.past ≡ [] }
+    ensures { IfSome result (IsControlOf host) }
 {
-    Control::make(alloc, host).ok()
+    match Control::make(alloc, host) {
+        Ok(control) => Some(control),
+        Err(_) => None,
+    }
 }
 
 /// The control of a host without entries, which may have so many. None where memory was refused.
-pub(crate) fn control_of(alloc: Global, capacity: usize) -> Option<Control> {
+pub(crate) fn control_of(alloc: Global, capacity: usize) -> Option<Control>
+    ensures { IfSome result (IsControlOf (empty capacity)) }
+{
     match Host::new(alloc, capacity) {
         Ok(host) => made(alloc, host),
         Err(_) => None,

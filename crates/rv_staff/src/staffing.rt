@@ -1,7 +1,10 @@
 //! Threads for the actors that have none yet.
 
-ghost use Rattle.std.specs.Prelude.{◌≡◌, ℕ};
-ghost use Rattle.rv_staff.specs.Giving.{Gives, GivesOne};
+ghost use Rattle.std.specs.Prelude.{◌≡◌, ℕ, List};
+ghost use Rattle.rv_port.specs.Events.{catalogue_of};
+ghost use Rattle.rv_staff.specs.Giving.{GivesOne, SaidOfHire, Starts};
+ghost use Rattle.rv_staff.specs.Hiring.{hired};
+ghost use Rattle.rv_staff.specs.Saying.{Says};
 
 use crate::hires::{HireFault, Hires};
 use crate::saying::{NO_MEMORY, say, say_no_thread};
@@ -40,7 +43,7 @@ fn hire_line<H: Hires>(
     port: Port,
 ) -> Result<(), HireFault>
     requires { port.turn ≡ session.old.staff.control.turn }
-    ensures { session.new.staff.control ≡ session.old.staff.control }
+    ensures { session.new.staff ≡ record session.old.staff { crew = hired session.old.staff.crew port result } }
 {
     if session.channels.reserve(1).is_err() {
         return Err(HireFault::NoMemory);
@@ -65,7 +68,7 @@ fn hire<H: Hires>(
     port: Port,
 ) -> Result<(), HireFault>
     requires { port.turn ≡ session.old.staff.control.turn }
-    ensures { session.new.staff.control ≡ session.old.staff.control }
+    ensures { session.new.staff ≡ record session.old.staff { crew = hired session.old.staff.crew port result } }
 {
     if actor < FIRST_TASK {
         return hire_line(hires, session, actor.saturating_sub(1) as u8, port);
@@ -80,7 +83,10 @@ fn explain<W: Write>(
     actor: usize,
     hired: Result<(), HireFault>,
     writer: &mut W,
-) -> io::Result<()> {
+) -> io::Result<()>
+    ensures { (text : List ℕ) × SaidOfHire (catalogue_of session.now.staff.control.seen) actor hired text
+        × Says (W.contents writer.old) (W.contents writer.new) text result }
+{
     match hired {
         Ok(()) => Ok(()),
         Err(HireFault::NoThread) => {
@@ -91,13 +97,15 @@ fn explain<W: Write>(
 }
 
 // A thread for an actor, if it may have a port and had none.
+#[tactic(auto, using(crate::proofs::Starting::one_given, crate::proofs::Starting::none_given))]
 fn staff_one<H: Hires, W: Write>(
     hires: &H,
     session: &mut Session,
     actor: usize,
     writer: &mut W,
 ) -> io::Result<()>
-    ensures { GivesOne session.old.staff.control session.new.staff.control }
+    ensures { (text : List ℕ) × GivesOne session.old.staff session.new.staff actor text
+        × Says (W.contents writer.old) (W.contents writer.new) text result }
 {
     match session.staff.port(actor as u64) {
         Ok(port) => {
@@ -111,12 +119,13 @@ fn staff_one<H: Hires, W: Write>(
 
 /// Starts a thread for each task and attached line that had no port yet, in the order of their
 /// numbers, and says for which none could be started.
+#[tactic(auto, using(crate::proofs::Starting::goes_on, crate::proofs::Starting::fails_at))]
 pub fn start_threads<H: Hires, W: Write>(
     hires: &H,
     session: &mut Session,
     writer: &mut W,
 ) -> io::Result<()>
-    ensures { (count : ℕ) × Gives count session.old.staff.control session.new.staff.control }
+    ensures { Starts session.old.staff session.new.staff (W.contents writer.old) (W.contents writer.new) result }
 {
     let count = FIRST_TASK.saturating_add(session.staff.catalogue().tasks());
     for actor in 1..count {

@@ -1,9 +1,11 @@
 //! Runs: plays each transcript of the folder that the program is run in at a terminal of its own, and says of each whether
 //! the run answered what stands there (`row`).
 
+mod failing;
 mod row;
 mod terminal;
 
+use failing::failures_told;
 use row::{Row, row_of};
 use rv_fault::Failure;
 use rv_run::run::run;
@@ -43,7 +45,11 @@ where
     let mut screen = Screen {
         terminal: &terminal,
     };
-    let outcome = run(rt, hires, alloc, &mut keyboard, &mut screen);
+    let mut errors = Vec::new(alloc);
+    let outcome = run(rt, hires, alloc, &mut keyboard, &mut screen, &mut errors);
+    if errors.len() > 0 {
+        return Ok(format!(in alloc; "{name}: ports were lost")?);
+    }
     let told = told(alloc, outcome)?;
     if let Some(number) = terminal.into_inner().first_wrong() {
         return Ok(format!(in alloc; "{name}: answered otherwise than at line {number}")?);
@@ -90,5 +96,6 @@ where
     for name in names_of(rt)? {
         play(rt, hires, name.as_str())?;
     }
-    Ok(())
+    let line = failures_told(rt, hires, rt.alloc())?;
+    println!(rt; "{line}")
 }
