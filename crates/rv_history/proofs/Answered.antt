@@ -59,7 +59,7 @@ pub record Answered (h : History) (a : ℕ) (r : Request) (w : Recorded) : Type 
   pub fits_in : fits_actor h a r ≡ true
   pub unshut : (halted h.past && not (goes_on r)) ≡ false
   pub said : recorded (table h a r) ≡ Some w
-  pub paid : has_room h.capacity h.shapes (Asked a r w ∷ h.past) ≡ true
+  pub paid : has_room h.limits.capacity h.shapes (Asked a r w ∷ h.past) ≡ true
 
 pub answered : (h : History) (a : ℕ) (r : Request) (w : Recorded) → recorded (out h a r) ≡ Some w → Answered h a r w
 answered h a r w e =

@@ -11,6 +11,7 @@ use Rattle.rv_event.specs.declared.entry.Entry.{Entry}
 use Rattle.rv_event.specs.declared.entry.Entry.TheVariants.{Asked, Load, ListChange}
 use Rattle.rv_event.specs.declared.entry.Recorded.TheVariants.{Accepted}
 use Rattle.rv_event.specs.declared.entry.Request.TheVariants.{Quit}
+use Rattle.rv_history.specs.declared.limits.Limits.{Limits}
 use Rattle.rv_history.specs.Closing.{closes}
 use Rattle.rv_history.specs.Due.{gate, goes_on, nothing_more}
 use Rattle.rv_history.specs.Frame.{is_apart}
@@ -24,14 +25,14 @@ use Rattle.rv_history.proofs.Silent.{gone_apart}
 use Rattle.rv_history.proofs.Stances.{own_stance}
 
 -- what was legal before the later entries
-pub record Was (c : ℕ) (past : List Entry) (shapes : List Shape) : Type 0 where
+pub record Was (c : Limits) (past : List Entry) (shapes : List Shape) : Type 0 where
   pub old : List Shape
   pub more : List Shape
   pub lists : List (List Words)
   pub whole : shapes ≡ old ++ more
   pub legal : IsLegal c past old lists
 
-pub legal_before : (c : ℕ) (later past : List Entry) (shapes : List Shape) (lists : List (List Words)) → IsLegal c (later ++ past) shapes lists → Was c past shapes
+pub legal_before : (c : Limits) (later past : List Entry) (shapes : List Shape) (lists : List (List Words)) → IsLegal c (later ++ past) shapes lists → Was c past shapes
 legal_before c [] past shapes lists l = record { old = shapes; more = []; lists = lists; whole = sym (append_none shapes); legal = l }
 legal_before c (Asked a r w ∷ later) past shapes lists l = legal_before c later past shapes lists l.0
 legal_before c (Load ∷ later) past shapes lists l =
@@ -45,8 +46,8 @@ legal_before c (Load ∷ later) past shapes lists l =
     }
 legal_before c (ListChange ∷ later) past shapes lists l = legal_before c later past shapes l.0 l.3
 
-pub legal_split : (h : History) (later past : List Entry) → Legal h → h.past ≡ later ++ past → IsLegal h.capacity (later ++ past) h.shapes h.lists
-legal_split h later past l split = subst (λ (es : List Entry). IsLegal h.capacity es h.shapes h.lists) split l
+pub legal_split : (h : History) (later past : List Entry) → Legal h → h.past ≡ later ++ past → IsLegal h.limits (later ++ past) h.shapes h.lists
+legal_split h later past l split = subst (λ (es : List Entry). IsLegal h.limits es h.shapes h.lists) split l
 
 -- After a halt
 
@@ -68,17 +69,17 @@ goes true true e f = refl
 goes true false e f = absurd (off (sym f))
 goes false on e f = absurd (off e)
 
-closes_all : (c : ℕ) (later past : List Entry) (shapes : List Shape) (lists : List (List Words)) → IsLegal c (later ++ past) shapes lists → halted past ≡ true → list_all closes later ≡ true
+closes_all : (c : Limits) (later past : List Entry) (shapes : List Shape) (lists : List (List Words)) → IsLegal c (later ++ past) shapes lists → halted past ≡ true → list_all closes later ≡ true
 closes_all c [] past shapes lists l halt = refl
 closes_all c (Asked a r w ∷ later) past shapes lists l halt =
-    let h : History = record { capacity = c; past = later ++ past; shapes = shapes; lists = lists } in
+    let h : History = record { limits = c; past = later ++ past; shapes = shapes; lists = lists } in
     let g = answered h a r w l.1 in
     all_more closes (Asked a r w) later (goes (halted (later ++ past)) (goes_on r) (halt_stays later past halt) g.unshut) (closes_all c later past shapes lists l.0 halt)
 closes_all c (Load ∷ later) past shapes lists l halt = absurd (shut_gate (shape_fits l.0 l.1) (halted (later ++ past)) _ (halt_stays later past halt) l.4)
 closes_all c (ListChange ∷ later) past shapes lists l halt = absurd (shut_gate true (halted (later ++ past)) _ (halt_stays later past halt) l.4)
 
 pub halted_closes : (h : History) (later past : List Entry) → Legal h → h.past ≡ later ++ past → halted past ≡ true → list_all closes later ≡ true
-halted_closes h later past l split halt = closes_all h.capacity later past h.shapes h.lists (legal_split h later past l split) halt
+halted_closes h later past l split halt = closes_all h.limits later past h.shapes h.lists (legal_split h later past l split) halt
 
 -- After a quit
 
@@ -86,7 +87,7 @@ pub quit_apart : (h : History) (a : ℕ) (v : ℤ) (later past : List Entry) →
 quit_apart h a v later past l split =
     let e : Entry = Asked a Quit (Accepted v) in
     let whole = legal_split h later (e ∷ past) l split in
-    let w = legal_before h.capacity later (e ∷ past) h.shapes h.lists whole in
-    let before : History = record { capacity = h.capacity; past = past; shapes = w.old; lists = w.lists } in
+    let w = legal_before h.limits later (e ∷ past) h.shapes h.lists whole in
+    let before : History = record { limits = h.limits; past = past; shapes = w.old; lists = w.lists } in
     let g = answered before a Quit (Accepted v) w.legal.1 in
-    gone_apart h.capacity later (e ∷ past) h.shapes h.lists a whole (own_stance a Quit (Accepted v) past refl) (idle_high w.old a (mode w.old a past) g.fits_in)
+    gone_apart h.limits later (e ∷ past) h.shapes h.lists a whole (own_stance a Quit (Accepted v) past refl) (idle_high w.old a (mode w.old a past) g.fits_in)

@@ -43,7 +43,7 @@ high j n e = grind (arith, nat_tests)
 
 new_due : (h : History) (j : ℕ) → Legal h → actors h.shapes ≤ j → dues h.past j ≡ 1
 new_due h j l beyond =
-    let free : stance j h.past ≡ Free = beyond_free h.capacity h.past h.shapes h.lists j l beyond in
+    let free : stance j h.past ≡ Free = beyond_free h.limits h.past h.shapes h.lists j l beyond in
     λ i. surcharge (free i) + (if high j (length (all_tasks h.shapes)) beyond i then 0 else unfinished (free i))
 
 more_actors : (shapes : List Shape) (s : Shape) → actors (shapes ++ s ∷ []) ≡ actors shapes + length s.tasks
@@ -54,24 +54,24 @@ more_actors shapes s =
 
 load_owed : (h : History) (s : Shape) → Legal h → owed (h.shapes ++ s ∷ []) (Load ∷ h.past) ≡ owed h.shapes h.past + length s.tasks
 load_owed h s l =
-    let ways : length (under_way (h.shapes ++ s ∷ []) h.past) ≡ length (under_way h.shapes h.past) = ap length (way_stays h.capacity h.past h.shapes (s ∷ []) h.lists l) in
+    let ways : length (under_way (h.shapes ++ s ∷ []) h.past) ≡ length (under_way h.shapes h.past) = ap length (way_stays h.limits h.past h.shapes (s ∷ []) h.lists l) in
     let tasks : each (actors (h.shapes ++ s ∷ [])) (dues h.past) ≡ each (actors h.shapes) (dues h.past) + length s.tasks =
     ap (λ n. each n (dues h.past)) (more_actors h.shapes s) ∙ each_ones (actors h.shapes) (length s.tasks) (dues h.past) (λ j beyond. new_due h j l beyond) in
     let now : owed (h.shapes ++ s ∷ []) (Load ∷ h.past) ≡ length (under_way (h.shapes ++ s ∷ []) h.past) + each (actors (h.shapes ++ s ∷ [])) (dues h.past) + halt_due (halted h.past) = refl in
     omega (arith, ways, tasks, now)
 
-pub load_costs : (h : History) (s : Shape) → Legal h → IsSolvent h → (has_room h.capacity (h.shapes ++ s ∷ []) (Load ∷ h.past) ≡ true) ↔ (1 + length s.tasks ≤ room h)
+pub load_costs : (h : History) (s : Shape) → Legal h → IsSolvent h → (has_room h.limits.capacity (h.shapes ++ s ∷ []) (Load ∷ h.past) ≡ true) ↔ (1 + length s.tasks ≤ room h)
 load_costs h s l solvent =
     let more = load_owed h s l in (
-      λ enough. let n = from_room _ h.capacity enough in omega (arith, n, more, solvent),
-      λ cost. to_room _ h.capacity (omega (arith, cost, more, solvent)),
+      λ enough. let n = from_room _ h.limits.capacity enough in omega (arith, n, more, solvent),
+      λ cost. to_room _ h.limits.capacity (omega (arith, cost, more, solvent)),
     )
 
-pub list_costs : (h : History) → IsSolvent h → (has_room h.capacity h.shapes (ListChange ∷ h.past) ≡ true) ↔ (1 ≤ room h)
+pub list_costs : (h : History) → IsSolvent h → (has_room h.limits.capacity h.shapes (ListChange ∷ h.past) ≡ true) ↔ (1 ≤ room h)
 list_costs h solvent =
     let same : owed h.shapes (ListChange ∷ h.past) ≡ owed h.shapes h.past = refl in (
-      λ enough. let n = from_room _ h.capacity enough in omega (arith, n, same, solvent),
-      λ cost. to_room _ h.capacity (omega (arith, cost, same, solvent)),
+      λ enough. let n = from_room _ h.limits.capacity enough in omega (arith, n, same, solvent),
+      λ cost. to_room _ h.limits.capacity (omega (arith, cost, same, solvent)),
     )
 
 -- What is owed has its room

@@ -10,6 +10,7 @@ use Rattle.rv_event.specs.declared.entry.Entry.{Entry}
 use Rattle.rv_event.specs.declared.entry.Entry.TheVariants.{Asked, Load, ListChange}
 use Rattle.rv_event.specs.declared.entry.Request.TheVariants.{Call, Complete, Resume, DelayUntil, Clock, Fire, Quit, Tick, Halt}
 use Rattle.rv_event.proofs.Matching.{by}
+use Rattle.rv_history.specs.declared.limits.Limits.{Limits}
 use Rattle.rv_history.specs.History.{History}
 use Rattle.rv_history.specs.Legal.{Legal}
 use Rattle.rv_history.specs.Orderly.{is_on, is_exclusive_on, IsShared, IsOrderly}
@@ -156,22 +157,22 @@ stays shapes o b (Asked a Halt w) past one apart = record { bodies = one; values
 stays shapes o b Load past one apart = record { bodies = one; values = refl }
 stays shapes o b ListChange past one apart = record { bodies = one; values = refl }
 
-during : (shapes : List Shape) (b : Body) (later past : List Entry) → IsOrderly shapes (later ++ past) → shares (target shapes b.object b.operation) ≡ false → filter (is_on b.object) (under_way shapes past) ≡ b ∷ [] → IsUnended shapes b later past →
+during : (c : Limits) (shapes : List Shape) (b : Body) (later past : List Entry) → IsOrderly c shapes (later ++ past) → shares (target shapes b.object b.operation) ≡ false → filter (is_on b.object) (under_way shapes past) ≡ b ∷ [] → IsUnended shapes b later past →
     (filter (is_on b.object) (under_way shapes (later ++ past)) ≡ b ∷ []) × (scalars shapes b.object (later ++ past) ≡ scalars shapes b.object past)
-during shapes b [] past k is one u = (one, refl)
-during shapes b (e ∷ later) past k is one u =
-    let rest = during shapes b later past k.1 is one u.0 in
+during c shapes b [] past k is one u = (one, refl)
+during c shapes b (e ∷ later) past k is one u =
+    let rest = during c shapes b later past k.1 is one u.0 in
     let s = stays shapes b.object b e (later ++ past) rest.0 u.1 in
     (none_starts shapes b.object b (started shapes (later ++ past) e) (closed (ended e) (under_way shapes (later ++ past))) is s.bodies (k.0.shared b.object), s.values ∙ rest.1)
 
 pub scalars_during : (h : History) (later past : List Entry) (start : Entry) (b : Body) → Legal h → h.past ≡ later ++ start ∷ past → started h.shapes past start ≡ Some b →
     shares (target h.shapes b.object b.operation) ≡ false → IsUnended h.shapes b later (start ∷ past) → scalars h.shapes b.object h.past ≡ scalars h.shapes b.object (start ∷ past)
 scalars_during h later past start b l split starts is u =
-    let all : IsOrderly h.shapes (later ++ start ∷ past) = subst (IsOrderly h.shapes) split (legal_orderly h l) in
-    let here : IsOrderly h.shapes (start ∷ past) = orderly_suffix h.shapes later (start ∷ past) all in
+    let all : IsOrderly h.limits h.shapes (later ++ start ∷ past) = subst (IsOrderly h.limits h.shapes) split (legal_orderly h l) in
+    let here : IsOrderly h.limits h.shapes (start ∷ past) = orderly_suffix h.limits h.shapes later (start ∷ past) all in
     let rest : List Body = closed (ended start) (under_way h.shapes past) in
     let shared : IsShared h.shapes (b ∷ rest) b.object = subst (λ q. IsShared h.shapes (begun q rest) b.object) starts (here.0.shared b.object) in
     let alone : filter (is_on b.object) (b ∷ rest) ≡ b ∷ [] =
     ap (λ t. cond t (b ∷ filter (is_on b.object) rest) (filter (is_on b.object) rest)) (itself b.object) ∙ ap (λ bs. b ∷ bs) (exclusive_few h.shapes b rest is shared) in
     let one : filter (is_on b.object) (under_way h.shapes (start ∷ past)) ≡ b ∷ [] = ap (λ q. filter (is_on b.object) (begun q rest)) starts ∙ alone in
-    ap (scalars h.shapes b.object) split ∙ (during h.shapes b later (start ∷ past) all is one u).1
+    ap (scalars h.shapes b.object) split ∙ (during h.limits h.shapes b later (start ∷ past) all is one u).1

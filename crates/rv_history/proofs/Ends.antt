@@ -123,4 +123,4 @@ end_never_full h a vs x legal solvent = out_due h a (Complete vs x) (λ f c.
     let t = fit_parts h a (Complete vs x) f in
     let m = both (in_body (mode h.shapes a h.past)) (end_fits h.shapes vs x (innermost h.shapes a h.past)) t.1 in
     pays_end h a vs x (innermost h.shapes a h.past) refl (free_in (held h.shapes a h.past) (stance a h.past) m.0) t.0
-    (legal_waits h.capacity h.past h.shapes h.lists legal) solvent)
+    (legal_waits h.limits h.past h.shapes h.lists legal) solvent)

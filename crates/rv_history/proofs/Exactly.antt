@@ -179,10 +179,10 @@ open_gate h a r w =
     let shut : (halted h.past && not (goes_on r)) ≡ false = and_none _ (not (goes_on r)) w.going in
     λ i. gate (w.fitting i) (shut i) (due_allowed h a r w i)
 
-pub allowed_starts : (h : History) (a : ℕ) (r : Request) (w : IsAllowed h a r) → has_room h.capacity h.shapes (Asked a r Started ∷ h.past) ≡ true → out h a r ≡ Answers.Started (scalars h.shapes w.object h.past)
+pub allowed_starts : (h : History) (a : ℕ) (r : Request) (w : IsAllowed h a r) → has_room h.limits.capacity h.shapes (Asked a r Started ∷ h.past) ≡ true → out h a r ≡ Answers.Started (scalars h.shapes w.object h.past)
 allowed_starts h a r w room =
     let values : List ℤ = scalars h.shapes w.object h.past in
     ap (λ (x : Answer). within (enough h a r (recorded x)) x) (open_gate h a r w) ∙ ap (λ b. within b (Answers.Started values)) room
 
-pub exactly : (h : History) (a : ℕ) (r : Request) → has_room h.capacity h.shapes (Asked a r Started ∷ h.past) ≡ true → (recorded (out h a r) ≡ Some Started) ↔ IsAllowed h a r
+pub exactly : (h : History) (a : ℕ) (r : Request) → has_room h.limits.capacity h.shapes (Asked a r Started ∷ h.past) ≡ true → (recorded (out h a r) ≡ Some Started) ↔ IsAllowed h a r
 exactly h a r room = (started_allowed h a r, λ w. ap recorded (allowed_starts h a r w room))

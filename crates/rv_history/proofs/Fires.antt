@@ -167,7 +167,7 @@ allowed_from h a line is m =
     lawful j Queue = refl
     lawful j Waiter = refl
 
-pub fires_exactly : (h : History) (a line : ℕ) → who h.shapes a ≡ Line line → has_room h.capacity h.shapes (Asked a Fire Started ∷ h.past) ≡ true → (recorded (out h a Fire) ≡ Some Started) ↔ MayFire h a line
+pub fires_exactly : (h : History) (a line : ℕ) → who h.shapes a ≡ Line line → has_room h.limits.capacity h.shapes (Asked a Fire Started ∷ h.past) ≡ true → (recorded (out h a Fire) ≡ Some Started) ↔ MayFire h a line
 fires_exactly h a line is room =
     let both_ways = exactly h a Fire room in
     (λ e. attached_at h a line is (both_ways.0 e), λ m. both_ways.1 (allowed_from h a line is m))

@@ -20,6 +20,7 @@ use Rattle.rv_event.specs.Past.{halted}
 use Rattle.rv_event.specs.declared.entry.Answer.{Answer}
 use Rattle.rv_event.specs.declared.entry.Entry.{Entry}
 use Rattle.rv_event.specs.declared.entry.Entry.TheVariants.{Asked, Load, ListChange}
+use Rattle.rv_history.specs.declared.limits.Limits.{Limits}
 use Rattle.rv_history.specs.Due.{gate, nothing_more}
 use Rattle.rv_history.specs.History.{History}
 use Rattle.rv_history.specs.Legal.{IsLegal, Legal}
@@ -35,7 +36,7 @@ faultless : (o : Option ShapeFault) → not (is_some o) ≡ true → o ≡ None
 faultless None e = refl
 faultless (Some f) e = absurd (off e)
 
-distinct : (c : ℕ) (past : List Entry) (shapes : List Shape) (lists : List (List Words)) → IsLegal c past shapes lists → AreDistinct shapes
+distinct : (c : Limits) (past : List Entry) (shapes : List Shape) (lists : List (List Words)) → IsLegal c past shapes lists → AreDistinct shapes
 distinct c [] shapes lists l = subst AreDistinct (sym l.0) distinct_none
 distinct c (Asked a r w ∷ past) shapes lists l = distinct c past shapes lists l.0
 distinct c (Load ∷ past) shapes lists l =
@@ -44,7 +45,7 @@ distinct c (Load ∷ past) shapes lists l =
 distinct c (ListChange ∷ past) shapes lists l = distinct c past shapes l.0 l.3
 
 pub legal_found : (h : History) → Legal h → AreFound h.shapes
-legal_found h l = distinct_found h.shapes (distinct h.capacity h.past h.shapes h.lists l)
+legal_found h l = distinct_found h.shapes (distinct h.limits h.past h.shapes h.lists l)
 
 -- Tests over a list
 
@@ -112,7 +113,7 @@ fitting_objects shapes s e =
 abbrev pub is_bad_at : UnitObject → Bool
 is_bad_at at = is_bad at.object
 
-all_good : (c : ℕ) (past : List Entry) (shapes : List Shape) (lists : List (List Words)) → IsLegal c past shapes lists → list_any is_bad_at (all_objects shapes) ≡ false
+all_good : (c : Limits) (past : List Entry) (shapes : List Shape) (lists : List (List Words)) → IsLegal c past shapes lists → list_any is_bad_at (all_objects shapes) ≡ false
 all_good c [] shapes lists l = ap (λ (ss : List Shape). list_any is_bad_at (all_objects ss)) l.0
 all_good c (Asked a r w ∷ past) shapes lists l = all_good c past shapes lists l.0
 all_good c (Load ∷ past) shapes lists l =
@@ -149,4 +150,4 @@ stands h o p site l e = by_place (place h.shapes o) refl e
 
     by_place : (q : Option UnitObject) → place h.shapes o ≡ q → at_unit_object p q ≡ OnProtected site → Stands h.shapes p site
     by_place None is f = absurd (cc)
-    by_place (Some at) is f = by_object at at.object (none_numbered is_bad_at (all_objects h.shapes) o at (all_good h.capacity h.past h.shapes h.lists l) is) f
+    by_place (Some at) is f = by_object at at.object (none_numbered is_bad_at (all_objects h.shapes) o at (all_good h.limits h.past h.shapes h.lists l) is) f

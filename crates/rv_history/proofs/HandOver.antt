@@ -37,7 +37,7 @@ use Rattle.rv_history.proofs.Stances.{another, same_number, some_is}
 use Rattle.rv_history.proofs.Waits.{Waits, AllWait, legal_waits}
 use Rattle.rv_history.proofs.Bodies.{filter_gone}
 use Rattle.rv_history.proofs.Ending.{Names, names_at, head_waits, head_on}
-use Rattle.rv_history.proofs.Orderly.{legal_orderly_at}
+use Rattle.rv_history.proofs.Orderly.{legal_orderly_at, legal_queue}
 use Rattle.rv_history.proofs.Ends.{end_never_full}
 
 -- what is answered where the end comes to a queued call
@@ -217,10 +217,11 @@ pub only_dropped : (h : History) (a : ℕ) (vs : List ℤ) (x : Exit) (n line : 
 only_dropped h a vs x n line l e =
     let m = names_at h a vs x (Dropped n line) n (ap recorded e) refl in
     let q = m.served_by in
-    let all : AllWait h.shapes h.past (waiting h.past) = legal_waits h.capacity h.past h.shapes h.lists l in
+    let all : AllWait h.shapes h.past (waiting h.past) = legal_waits h.limits h.past h.shapes h.lists l in
     let v : Waits h.shapes h.past q.call = head_waits h.shapes h.past m.body.object q.call q.rest all q.queued in
     let there : q.call.object ≡ m.body.object = same_number q.call.object m.body.object (head_on h.past m.body.object q.call q.rest q.queued) in
-    let few : length (queue m.body.object h.past) ≤ 1 = (legal_orderly_at h l).queues m.body.object in
+    let limit : h.limits.queue ≡ 1 = legal_queue h.limits h.past h.shapes h.lists l in
+    let few : length (queue m.body.object h.past) ≤ 1 = subst (λ k. length (queue m.body.object h.past) ≤ k) limit ((legal_orderly_at h l).queues m.body.object) in
     let none : q.rest ≡ [] = one_only q.call q.rest (subst (λ cs. length cs ≤ 1) q.queued few) in
     let one : queue q.call.object h.past ≡ q.call ∷ [] = ap (λ o. queue o h.past) there ∙ q.queued ∙ ap (λ cs. q.call ∷ cs) none in
     let last : last_queued n h.past ≡ Some q.call = ap (λ j. last_queued j h.past) (sym q.is_its) ∙ v.last in

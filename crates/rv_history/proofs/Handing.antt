@@ -57,9 +57,9 @@ hands_at : (h : History) (a : ℕ) (vs : List ℤ) (x : Exit) (n : ℕ) → Lega
 hands_at h a vs x n l e more =
     let m = names_at h a vs x (HandedTo n) n e refl in
     let q = m.served_by in
-    let v : Waits h.shapes h.past q.call = head_waits h.shapes h.past m.body.object q.call q.rest (legal_waits h.capacity h.past h.shapes h.lists l) q.queued in
+    let v : Waits h.shapes h.past q.call = head_waits h.shapes h.past m.body.object q.call q.rest (legal_waits h.limits h.past h.shapes h.lists l) q.queued in
     let of_entry : IsOfEntry h.shapes q.call = (subst (Each (IsOfEntry h.shapes)) q.queued (each_filter (IsOfEntry h.shapes) (λ c. c.object == m.body.object) (waiting h.past) (legal_orderly_at h l).calls)).0 in
-    let ways : under_way (h.shapes ++ more) h.past ≡ under_way h.shapes h.past = way_stays h.capacity h.past h.shapes more h.lists l in
+    let ways : under_way (h.shapes ++ more) h.past ≡ under_way h.shapes h.past = way_stays h.limits h.past h.shapes more h.lists l in
     record {
       body = m.body;
       inner = ap (λ bs. slice_get (filter (by a) bs) 0) ways ∙ m.inner;
@@ -123,11 +123,11 @@ pub handed_wakes : (h : History) (later past : List Entry) (a : ℕ) (vs : List 
 handed_wakes h later past a vs x n l solvent split silent =
     let e : Entry = Asked a (Complete vs x) (Done (HandedTo n)) in
     let whole = legal_split h later (e ∷ past) l split in
-    let w = legal_before h.capacity later (e ∷ past) h.shapes h.lists whole in
-    let before : History = record { capacity = h.capacity; past = past; shapes = w.old; lists = w.lists } in
+    let w = legal_before h.limits later (e ∷ past) h.shapes h.lists whole in
+    let before : History = record { limits = h.limits; past = past; shapes = w.old; lists = w.lists } in
     let t : Hands h.shapes past a n = subst (λ (ss : List Shape). Hands ss past a n) (sym w.whole) (hands_at before a vs x n w.legal.0 w.legal.1 w.more) in
     let first : stance n (e ∷ past) ≡ HandedOver = stance_then past a vs x n in
-    let apart = apart_while h.capacity later (e ∷ past) h.shapes h.lists n whole (ap is_queued first) silent in
+    let apart = apart_while h.limits later (e ∷ past) h.shapes h.lists n whole (ap is_queued first) silent in
     let at : stance n h.past ≡ HandedOver = ap (stance n) split ∙ stance_stays n later (e ∷ past) apart ∙ first in
     let holds : held h.shapes n h.past ≡ t.call ∷ [] = ap (held h.shapes n) split ∙ held_stays h.shapes n later (e ∷ past) apart ∙ holds_then h.shapes past a vs x n t in
     let quiet : list_any (is_own t.call.actor) later ≡ false = ap (λ j. list_any (is_own j) later) t.its ∙ silent in
@@ -160,7 +160,7 @@ dropped_told h later past a vs x n line l solvent split silent =
     let whole = legal_split h later (e ∷ past) l split in
     let told : said n e ≡ Some (DroppedBy line) = λ i. first_of (if itself n i then Some (DroppedBy line) else None) (if a == n then Some Free else None) in
     let first : stance n (e ∷ past) ≡ DroppedBy line = ap (λ s. or_else s (stance n past)) told in
-    let apart = apart_while h.capacity later (e ∷ past) h.shapes h.lists n whole (ap is_queued first) silent in
+    let apart = apart_while h.limits later (e ∷ past) h.shapes h.lists n whole (ap is_queued first) silent in
     let at : stance n h.past ≡ DroppedBy line = ap (stance n) split ∙ stance_stays n later (e ∷ past) apart ∙ first in
     let then_was : until_then n h.past ≡ past = ap (until_then n) split ∙ until_apart n later (e ∷ past) apart ∙ ap (λ s. if is_some s then past else until_then n past) told in
     resume_due h n (DroppedBy line) l solvent at refl ∙ ap (λ es. Answers.Refused Rules.Grant line (changes es)) then_was

@@ -16,6 +16,7 @@ use Rattle.rv_event.specs.declared.entry.Request.{Request}
 use Rattle.rv_event.specs.declared.entry.Request.TheVariants.{Call, Complete, Resume, DelayUntil, Clock, Fire, Quit, Tick, Halt}
 use Rattle.rv_event.specs.declared.entry.Recorded.{Recorded}
 use Rattle.rv_event.specs.declared.entry.Recorded.TheVariants.{Started}
+use Rattle.rv_history.specs.declared.limits.Limits.{Limits}
 use Rattle.rv_history.specs.History.{History}
 use Rattle.rv_history.specs.Rules.{aim_at, is_protected}
 use Rattle.rv_history.specs.Due.{out}
@@ -42,10 +43,10 @@ start_stays h more a Quit w e = refl
 start_stays h more a (Tick n) w e = refl
 start_stays h more a Halt w e = refl
 
-pub way_stays : (c : ℕ) (past : List Entry) (shapes more : List Shape) (lists : List (List Words)) → IsLegal c past shapes lists → under_way (shapes ++ more) past ≡ under_way shapes past
+pub way_stays : (c : Limits) (past : List Entry) (shapes more : List Shape) (lists : List (List Words)) → IsLegal c past shapes lists → under_way (shapes ++ more) past ≡ under_way shapes past
 way_stays c [] shapes more lists l = refl
 way_stays c (Asked a r w ∷ past) shapes more lists l =
-    let h : History = record { capacity = c; past = past; shapes = shapes; lists = lists } in
+    let h : History = record { limits = c; past = past; shapes = shapes; lists = lists } in
     let start : started (shapes ++ more) past (Asked a r w) ≡ started shapes past (Asked a r w) = start_stays h more a r w l.1 in
     let before : under_way (shapes ++ more) past ≡ under_way shapes past = way_stays c past shapes more lists l.0 in
     λ i. begun (start i) (closed (ended (Asked a r w)) (before i))
@@ -58,7 +59,7 @@ way_stays c (Load ∷ past) shapes more lists l =
 way_stays c (ListChange ∷ past) shapes more lists l = way_stays c past shapes more l.0 l.3
 
 pub under_way_stays : (h : History) (more : List Shape) → Legal h → under_way (h.shapes ++ more) h.past ≡ under_way h.shapes h.past
-under_way_stays h more l = way_stays h.capacity h.past h.shapes more h.lists l
+under_way_stays h more l = way_stays h.limits h.past h.shapes more h.lists l
 
 -- an operation of a protected object keeps its numbers
 pub protected_stays : (old more : List Shape) (o n : ℕ) (s : Site) → target old o n ≡ OnProtected s → target (old ++ more) o n ≡ OnProtected s
@@ -108,7 +109,7 @@ same_after one two o past a Quit w at bodies before = before
 same_after one two o past a (Tick n) w at bodies before = before
 same_after one two o past a Halt w at bodies before = before
 
-pub same_scalars : (c : ℕ) (past : List Entry) (shapes one two : List Shape) (lists : List (List Words)) (o : ℕ) → IsLegal c past shapes lists →
+pub same_scalars : (c : Limits) (past : List Entry) (shapes one two : List Shape) (lists : List (List Words)) (o : ℕ) → IsLegal c past shapes lists →
     place (shapes ++ one) o ≡ place (shapes ++ two) o → scalars (shapes ++ one) o past ≡ scalars (shapes ++ two) o past
 same_scalars c [] shapes one two lists o l at = ap starts_at at
 same_scalars c (Asked a r w ∷ past) shapes one two lists o l at =
@@ -129,5 +130,5 @@ append_none (x ∷ xs) = ap (λ ys. x ∷ ys) (append_none xs)
 pub scalars_stay : (h : History) (more : List Shape) (o : ℕ) (p : UnitObject) → Legal h → place h.shapes o ≡ Some p → scalars (h.shapes ++ more) o h.past ≡ scalars h.shapes o h.past
 scalars_stay h more o p l at =
     let none : h.shapes ++ [] ≡ h.shapes = append_none h.shapes in
-    same_scalars h.capacity h.past h.shapes more [] h.lists o l (object_stays h.shapes more o p at ∙ sym (ap (λ ss. place ss o) none ∙ at))
+    same_scalars h.limits h.past h.shapes more [] h.lists o l (object_stays h.shapes more o p at ∙ sym (ap (λ ss. place ss o) none ∙ at))
     ∙ ap (λ (ss : List Shape). scalars ss o h.past) none

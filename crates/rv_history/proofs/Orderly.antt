@@ -20,8 +20,10 @@ use Rattle.rv_event.specs.declared.entry.Request.TheVariants.{Call, Complete, Re
 use Rattle.rv_event.specs.declared.entry.Recorded.{Recorded}
 use Rattle.rv_event.specs.declared.entry.Recorded.TheVariants.{Started, Queued, Done}
 use Rattle.rv_event.proofs.Matching.{by}
+use Rattle.rv_history.specs.declared.limits.Limits.{Limits}
 use Rattle.rv_history.specs.History.{History}
-use Rattle.rv_history.specs.Exclusion.{conflicts, excluded, queue_limit}
+use Rattle.rv_history.specs.Exclusion.{conflicts, excluded}
+use Rattle.rv_history.specs.Limits.{queue_limit}
 use Rattle.rv_history.specs.Rules.{Aim, aim_at}
 use Rattle.rv_history.specs.Fitting.{held_limit, may_call, idle_line, call_fits}
 use Rattle.rv_history.specs.Due.{out}
@@ -146,44 +148,51 @@ bodies_step h a Halt w e all calls k = k
 
 -- Calls
 
-pub record Calls (shapes : List Shape) (calls : List Body) : Type 0 where
-  pub queues : (object : ℕ) → length (filter (is_on object) calls) ≤ queue_limit
+pub record Calls (c : Limits) (shapes : List Shape) (calls : List Body) : Type 0 where
+  pub queues : (object : ℕ) → length (filter (is_on object) calls) ≤ c.queue
   pub known : Each (IsOfEntry shapes) calls
 
-calls_left : (shapes : List Shape) (n : Option ℕ) (calls : List Body) → Calls shapes calls → Calls shapes (left n calls)
-calls_left shapes n calls k = record {
+calls_left : (c : Limits) (shapes : List Shape) (n : Option ℕ) (calls : List Body) → Calls c shapes calls → Calls c shapes (left n calls)
+calls_left c shapes n calls k = record {
   queues = λ o. omega (arith, count_left (is_on o) n calls, k.queues o);
   known = each_left (IsOfEntry shapes) n calls k.known;
 }
 
-not_full : (n : ℕ) → not (nat_lt n queue_limit) ≡ false → n < queue_limit
-not_full n e = grind (arith, nat_tests)
+not_full : (n m : ℕ) → not (nat_lt n m) ≡ false → n < m
+not_full n m e = grind (arith, nat_tests)
 
-calls_join : (h : History) (a o p : ℕ) (vs : List ℤ) → recorded (out h a (Call o p vs)) ≡ Some Queued → Calls h.shapes (waiting h.past) →
-    Calls h.shapes (waiting h.past ++ record { actor = a; object = o; operation = p } ∷ [])
+calls_join : (h : History) (a o p : ℕ) (vs : List ℤ) → recorded (out h a (Call o p vs)) ≡ Some Queued → Calls h.limits h.shapes (waiting h.past) →
+    Calls h.limits h.shapes (waiting h.past ++ record { actor = a; object = o; operation = p } ∷ [])
 calls_join h a o p vs e k =
     let j = joins h a o p vs e in
     let self : Body = record { actor = a; object = o; operation = p } in
     record {
-      queues = λ n. queue_join queue_limit self (waiting h.past) n (not_full (length (queue o h.past)) j.short) (k.queues n);
+      queues = λ n. queue_join h.limits.queue self (waiting h.past) n (not_full (length (queue o h.past)) h.limits.queue j.short) (k.queues n);
       known = each_append (IsOfEntry h.shapes) (waiting h.past) self k.known (j.site, j.at, j.entry);
     }
 
-calls_step : (h : History) (a : ℕ) (r : Request) (w : Recorded) (q : Option Body) → queued_by (Asked a r w) ≡ q → recorded (out h a r) ≡ Some w → Calls h.shapes (waiting h.past) →
-    Calls h.shapes (joined q (left (named_in (next_of (Asked a r w))) (waiting h.past)))
-calls_step h a r w None is e k = calls_left h.shapes (named_in (next_of (Asked a r w))) (waiting h.past) k
+calls_step : (h : History) (a : ℕ) (r : Request) (w : Recorded) (q : Option Body) → queued_by (Asked a r w) ≡ q → recorded (out h a r) ≡ Some w → Calls h.limits h.shapes (waiting h.past) →
+    Calls h.limits h.shapes (joined q (left (named_in (next_of (Asked a r w))) (waiting h.past)))
+calls_step h a r w None is e k = calls_left h.limits h.shapes (named_in (next_of (Asked a r w))) (waiting h.past) k
 calls_step h a (Call o p vs) Queued (Some b) is e k =
-    subst (λ c. Calls h.shapes (waiting h.past ++ c ∷ [])) (some_is (record { actor = a; object = o; operation = p }) b is) (calls_join h a o p vs e k)
+    subst (λ c. Calls h.limits h.shapes (waiting h.past ++ c ∷ [])) (some_is (record { actor = a; object = o; operation = p }) b is) (calls_join h a o p vs e k)
 calls_step h a (Call o p vs) w (Some b) is e k = absurd (cc)
 calls_step h a r w (Some b) is e k = absurd (cc)
 
+-- the longest queue of a legal history
+pub legal_queue : (c : Limits) (past : List Entry) (shapes : List Shape) (lists : List (List Words)) → IsLegal c past shapes lists → c.queue ≡ queue_limit
+legal_queue c [] shapes lists l = l.2
+legal_queue c (Asked a r w ∷ past) shapes lists l = legal_queue c past shapes lists l.0
+legal_queue c (Load ∷ past) shapes lists l = legal_queue c past l.0 lists l.3
+legal_queue c (ListChange ∷ past) shapes lists l = legal_queue c past shapes l.0 l.3
+
 -- Both, after each entry
 
-pub record Sound (shapes : List Shape) (past : List Entry) : Type 0 where
+pub record Sound (c : Limits) (shapes : List Shape) (past : List Entry) : Type 0 where
   pub bodies : Bodies shapes (under_way shapes past)
-  pub calls : Calls shapes (waiting past)
+  pub calls : Calls c shapes (waiting past)
 
-sound_more : (c : ℕ) (past : List Entry) (old more : List Shape) (lists : List (List Words)) → IsLegal c past old lists → Sound old past → Sound (old ++ more) past
+sound_more : (c : Limits) (past : List Entry) (old more : List Shape) (lists : List (List Words)) → IsLegal c past old lists → Sound c old past → Sound c (old ++ more) past
 sound_more c past old more lists l k =
     let ways : under_way (old ++ more) past ≡ under_way old past = way_stays c past old more lists l in
     let bs : List Body = under_way old past in
@@ -200,28 +209,28 @@ sound_more c past old more lists l k =
       };
     }
 
-sound : (c : ℕ) (past : List Entry) (shapes : List Shape) (lists : List (List Words)) → IsLegal c past shapes lists → Sound shapes past
+sound : (c : Limits) (past : List Entry) (shapes : List Shape) (lists : List (List Words)) → IsLegal c past shapes lists → Sound c shapes past
 sound c [] shapes lists l = record {
   bodies = record { shared = λ o. inl refl; stacks = λ n. omega arith; known = tt };
   calls = record { queues = λ o. omega arith; known = tt };
 }
 sound c (Asked a r w ∷ past) shapes lists l =
-    let h : History = record { capacity = c; past = past; shapes = shapes; lists = lists } in
-    let k : Sound shapes past = sound c past shapes lists l.0 in
+    let h : History = record { limits = c; past = past; shapes = shapes; lists = lists } in
+    let k : Sound c shapes past = sound c past shapes lists l.0 in
     record {
       bodies = bodies_step h a r w l.1 (legal_waits c past shapes lists l.0) k.calls.known k.bodies;
       calls = calls_step h a r w (queued_by (Asked a r w)) refl l.1 k.calls;
     }
 sound c (Load ∷ past) shapes lists l =
-    let k : Sound (l.0 ++ l.1 ∷ []) past = sound_more c past l.0 (l.1 ∷ []) lists l.3 (sound c past l.0 lists l.3) in
-    let now : Sound (l.0 ++ l.1 ∷ []) (Load ∷ past) = record { bodies = k.bodies; calls = k.calls } in
-    subst (λ (ss : List Shape). Sound ss (Load ∷ past)) (sym l.2) now
+    let k : Sound c (l.0 ++ l.1 ∷ []) past = sound_more c past l.0 (l.1 ∷ []) lists l.3 (sound c past l.0 lists l.3) in
+    let now : Sound c (l.0 ++ l.1 ∷ []) (Load ∷ past) = record { bodies = k.bodies; calls = k.calls } in
+    subst (λ (ss : List Shape). Sound c ss (Load ∷ past)) (sym l.2) now
 sound c (ListChange ∷ past) shapes lists l =
-    let k : Sound shapes past = sound c past shapes l.0 l.3 in
+    let k : Sound c shapes past = sound c past shapes l.0 l.3 in
     record { bodies = k.bodies; calls = k.calls }
 
-orderly_at : (shapes : List Shape) (past : List Entry) → Sound shapes past → Orderly shapes past
-orderly_at shapes past k = record {
+orderly_at : (c : Limits) (shapes : List Shape) (past : List Entry) → Sound c shapes past → Orderly c shapes past
+orderly_at c shapes past k = record {
   shared = k.bodies.shared;
   stacks = k.bodies.stacks;
   queues = k.calls.queues;
@@ -229,30 +238,30 @@ orderly_at shapes past k = record {
   calls = k.calls.known;
 }
 
-pub legal_orderly_at : (h : History) → Legal h → Orderly h.shapes h.past
-legal_orderly_at h l = orderly_at h.shapes h.past (sound h.capacity h.past h.shapes h.lists l)
+pub legal_orderly_at : (h : History) → Legal h → Orderly h.limits h.shapes h.past
+legal_orderly_at h l = orderly_at h.limits h.shapes h.past (sound h.limits h.past h.shapes h.lists l)
 
-orderly_all : (c : ℕ) (past : List Entry) (shapes more : List Shape) (lists : List (List Words)) → IsLegal c past shapes lists → IsOrderly (shapes ++ more) past
+orderly_all : (c : Limits) (past : List Entry) (shapes more : List Shape) (lists : List (List Words)) → IsLegal c past shapes lists → IsOrderly c (shapes ++ more) past
 orderly_all c [] shapes more lists l = tt
 orderly_all c (Asked a r w ∷ past) shapes more lists l = (
-  orderly_at (shapes ++ more) (Asked a r w ∷ past) (sound_more c (Asked a r w ∷ past) shapes more lists l (sound c (Asked a r w ∷ past) shapes lists l)),
+  orderly_at c (shapes ++ more) (Asked a r w ∷ past) (sound_more c (Asked a r w ∷ past) shapes more lists l (sound c (Asked a r w ∷ past) shapes lists l)),
   orderly_all c past shapes more lists l.0,
 )
 orderly_all c (Load ∷ past) shapes more lists l = (
-  orderly_at (shapes ++ more) (Load ∷ past) (sound_more c (Load ∷ past) shapes more lists l (sound c (Load ∷ past) shapes lists l)),
-  subst (λ (ss : List Shape). IsOrderly ss past) (sym (append_assoc l.0 (l.1 ∷ []) more) ∙ ap (λ (ss : List Shape). ss ++ more) (sym l.2)) (orderly_all c past l.0 (l.1 ∷ more) lists l.3),
+  orderly_at c (shapes ++ more) (Load ∷ past) (sound_more c (Load ∷ past) shapes more lists l (sound c (Load ∷ past) shapes lists l)),
+  subst (λ (ss : List Shape). IsOrderly c ss past) (sym (append_assoc l.0 (l.1 ∷ []) more) ∙ ap (λ (ss : List Shape). ss ++ more) (sym l.2)) (orderly_all c past l.0 (l.1 ∷ more) lists l.3),
 )
 orderly_all c (ListChange ∷ past) shapes more lists l = (
-  orderly_at (shapes ++ more) (ListChange ∷ past) (sound_more c (ListChange ∷ past) shapes more lists l (sound c (ListChange ∷ past) shapes lists l)),
+  orderly_at c (shapes ++ more) (ListChange ∷ past) (sound_more c (ListChange ∷ past) shapes more lists l (sound c (ListChange ∷ past) shapes lists l)),
   orderly_all c past shapes more l.0 l.3,
 )
 
 -- after each entry of a legal history
-pub legal_orderly : (h : History) → Legal h → IsOrderly h.shapes h.past
+pub legal_orderly : (h : History) → Legal h → IsOrderly h.limits h.shapes h.past
 legal_orderly h l =
-    subst (λ (ss : List Shape). IsOrderly ss h.past) (append_none h.shapes) (orderly_all h.capacity h.past h.shapes [] h.lists l)
+    subst (λ (ss : List Shape). IsOrderly h.limits ss h.past) (append_none h.shapes) (orderly_all h.limits h.past h.shapes [] h.lists l)
 
 -- so after the first ones
-pub orderly_suffix : (shapes : List Shape) (later past : List Entry) → IsOrderly shapes (later ++ past) → IsOrderly shapes past
-orderly_suffix shapes [] past k = k
-orderly_suffix shapes (e ∷ later) past k = orderly_suffix shapes later past k.1
+pub orderly_suffix : (c : Limits) (shapes : List Shape) (later past : List Entry) → IsOrderly c shapes (later ++ past) → IsOrderly c shapes past
+orderly_suffix c shapes [] past k = k
+orderly_suffix c shapes (e ∷ later) past k = orderly_suffix c shapes later past k.1

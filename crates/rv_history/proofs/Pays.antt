@@ -155,7 +155,7 @@ within_paid h a r x p = by_word (recorded x) refl
   where
     by_word : (o : Option Recorded) → recorded x ≡ o → within (enough h a r o) x ≡ x
     by_word None is = refl
-    by_word (Some w) is = ap (λ b. within b x) (to_room _ h.capacity (p.pays w is))
+    by_word (Some w) is = ap (λ b. within b x) (to_room _ h.limits.capacity (p.pays w is))
 
 pub out_due : (h : History) (a : ℕ) (r : Request) → (fits h a r ≡ true → (halted h.past && not (goes_on r)) ≡ false → Pays h a r (table h a r)) → out h a r ≡ due h a r
 out_due h a r p = within_paid h a r (due h a r) (pays_gate h a r (fits h a r) (halted h.past && not (goes_on r)) (table h a r) p)

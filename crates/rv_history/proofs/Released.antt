@@ -24,6 +24,7 @@ use Rattle.rv_event.specs.declared.entry.Request.TheVariants.{Call, Complete, Re
 use Rattle.rv_event.specs.declared.entry.Rule.TheVariants as Rules
 use Rattle.rv_event.specs.declared.entry.Stance.{Stance}
 use Rattle.rv_event.specs.declared.entry.Stance.TheVariants.{HandedOver, DroppedBy, WaitsOn}
+use Rattle.rv_history.specs.declared.limits.Limits.{Limits}
 use Rattle.rv_history.specs.Due.{due_call, judged, or_waiting, out, performed}
 use Rattle.rv_history.specs.Exclusion.{excluded, full_queue, is_barred}
 use Rattle.rv_history.specs.Frame.{is_apart}
@@ -193,7 +194,7 @@ own_waits a o b r w past none own s = inl (
       ∙ ap (λ n. Some n) (same_number b a own),
 )
 
-pub outcome : (c : ℕ) (past : List Entry) (shapes : List Shape) (lists : List (List Words)) (a o : ℕ) → IsLegal c past shapes lists → stance a past ≡ WaitsOn o → Outcome a o past
+pub outcome : (c : Limits) (past : List Entry) (shapes : List Shape) (lists : List (List Words)) (a o : ℕ) → IsLegal c past shapes lists → stance a past ≡ WaitsOn o → Outcome a o past
 outcome c [] shapes lists a o l at = absurd (cc)
 outcome c (Load ∷ past) shapes lists a o l at = apart_step a o Load past refl (λ w. refl) (outcome c past l.0 lists a o l.3 at)
 outcome c (ListChange ∷ past) shapes lists a o l at = apart_step a o ListChange past refl (λ w. refl) (outcome c past shapes l.0 a o l.3 at)
@@ -205,7 +206,7 @@ outcome c (Asked b r w ∷ past) shapes lists a o l at = by_tests (names a (Aske
         own_waits a o b r w past named own (suspends_by b r w o (sym (ap (λ s. or_else s (stance a past)) (own_said a (Asked b r w) named own)) ∙ at))
     by_tests false false named own rest =
         let apart = apart_of a (Asked b r w) own named in
-        let h : History = record { capacity = c; past = past; shapes = shapes; lists = lists } in
+        let h : History = record { limits = c; past = past; shapes = shapes; lists = lists } in
         apart_step a o (Asked b r w) past apart (λ there. touches h b r o w a l.1 there) (rest (sym (ap (λ s. or_else s (stance a past)) (unsaid a (Asked b r w) apart)) ∙ at))
 
 -- A Set_True since then releases it
@@ -230,7 +231,7 @@ pub woken_exactly : (h : History) (a o : ℕ) → Legal h → IsSolvent h → st
 woken_exactly h a o l solvent at = (to, from)
   where
     to : out h a Resume ≡ Answers.Woken None → IsReleased a o h.past
-    to e = by_outcome (outcome h.capacity h.past h.shapes h.lists a o l at)
+    to e = by_outcome (outcome h.limits h.past h.shapes h.lists a o l at)
       where
         by_outcome : Outcome a o h.past → IsReleased a o h.past
         by_outcome (inl was) = absurd (off (sym was.0 ∙ woken_ready h (released a o h.past) (sym (resume_answer h a o l solvent at) ∙ e)))
@@ -281,7 +282,7 @@ one_waits h a b o l at bt none nobody_set =
     some_number a b (sym first ∙ second)
   where
     waiter_of : (h : History) (a o : ℕ) → Legal h → stance a h.past ≡ WaitsOn o → released a o h.past ≡ false → waiter o h.past ≡ Some a
-    waiter_of h a o l at none = by_outcome (outcome h.capacity h.past h.shapes h.lists a o l at)
+    waiter_of h a o l at none = by_outcome (outcome h.limits h.past h.shapes h.lists a o l at)
       where
         by_outcome : Outcome a o h.past → waiter o h.past ≡ Some a
         by_outcome (inl was) = was.1

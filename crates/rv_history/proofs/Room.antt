@@ -10,6 +10,7 @@ use Rattle.rv_event.specs.declared.entry.Entry.{Entry}
 use Rattle.rv_event.specs.declared.entry.Entry.TheVariants.{Asked, Load, ListChange}
 use Rattle.rv_event.specs.declared.entry.Answer.TheVariants as Answers
 use Rattle.rv_shape.specs.Fits.{shape_fits}
+use Rattle.rv_history.specs.declared.limits.Limits.{Limits}
 use Rattle.rv_history.specs.History.{History}
 use Rattle.rv_history.specs.Owed.{owed, room, has_room, IsSolvent}
 use Rattle.rv_history.specs.Due.{within, gate, nothing_more}
@@ -28,31 +29,31 @@ accepted_within b c enough e =
     let g = gate_recorded b c (within enough nothing_more) _ (ap recorded e) in
     (within_recorded enough nothing_more _ g.said).0
 
-list_within : (h : History) (list : List Words) → out_list h (Some list) ≡ nothing_more → has_room h.capacity h.shapes (ListChange ∷ h.past) ≡ true
+list_within : (h : History) (list : List Words) → out_list h (Some list) ≡ nothing_more → has_room h.limits.capacity h.shapes (ListChange ∷ h.past) ≡ true
 list_within h list e = by_length _ (gate_recorded true (halted h.past) (due_list h (Some list)) _ (ap recorded e)).said
   where
-    by_length : (b : Bool) → recorded (if b then Answers.BadLine else within (has_room h.capacity h.shapes (ListChange ∷ h.past)) nothing_more) ≡ recorded nothing_more → has_room h.capacity h.shapes (ListChange ∷ h.past) ≡ true
+    by_length : (b : Bool) → recorded (if b then Answers.BadLine else within (has_room h.limits.capacity h.shapes (ListChange ∷ h.past)) nothing_more) ≡ recorded nothing_more → has_room h.limits.capacity h.shapes (ListChange ∷ h.past) ≡ true
     by_length true f = absurd (cc)
-    by_length false f = (within_recorded (has_room h.capacity h.shapes (ListChange ∷ h.past)) nothing_more _ f).0
+    by_length false f = (within_recorded (has_room h.limits.capacity h.shapes (ListChange ∷ h.past)) nothing_more _ f).0
 
-pub solvent : (c : ℕ) (past : List Entry) (shapes : List Shape) (lists : List (List Words)) → 1 ≤ c → IsLegal c past shapes lists → length past + owed shapes past ≤ c
-solvent c [] shapes lists some l = subst (λ (ss : List Shape). length {A = Entry} [] + owed ss [] ≤ c) (sym l.0) some
+pub solvent : (c : Limits) (past : List Entry) (shapes : List Shape) (lists : List (List Words)) → 1 ≤ c.capacity → IsLegal c past shapes lists → length past + owed shapes past ≤ c.capacity
+solvent c [] shapes lists some l = subst (λ (ss : List Shape). length {A = Entry} [] + owed ss [] ≤ c.capacity) (sym l.0) some
 solvent c (Asked a r w ∷ past) shapes lists some l =
-    let h : History = record { capacity = c; past = past; shapes = shapes; lists = lists } in
-    from_room _ c (answered h a r w l.1).paid
+    let h : History = record { limits = c; past = past; shapes = shapes; lists = lists } in
+    from_room _ c.capacity (answered h a r w l.1).paid
 solvent c (Load ∷ past) shapes lists some l =
-    let has = accepted_within (shape_fits l.0 l.1) (halted past) (has_room c (l.0 ++ l.1 ∷ []) (Load ∷ past)) l.4 in
-    subst (λ (ss : List Shape). length (Load ∷ past) + owed ss (Load ∷ past) ≤ c) (sym l.2) (from_room _ c has)
+    let has = accepted_within (shape_fits l.0 l.1) (halted past) (has_room c.capacity (l.0 ++ l.1 ∷ []) (Load ∷ past)) l.4 in
+    subst (λ (ss : List Shape). length (Load ∷ past) + owed ss (Load ∷ past) ≤ c.capacity) (sym l.2) (from_room _ c.capacity has)
 solvent c (ListChange ∷ past) shapes lists some l =
-    let h : History = record { capacity = c; past = past; shapes = shapes; lists = l.0 } in
-    from_room _ c (list_within h l.1 l.4)
+    let h : History = record { limits = c; past = past; shapes = shapes; lists = l.0 } in
+    from_room _ c.capacity (list_within h l.1 l.4)
 
-pub legal_solvent : (h : History) → 1 ≤ h.capacity → Legal h → IsSolvent h
-legal_solvent h some l = solvent h.capacity h.past h.shapes h.lists some l
+pub legal_solvent : (h : History) → 1 ≤ h.limits.capacity → Legal h → IsSolvent h
+legal_solvent h some l = solvent h.limits h.past h.shapes h.lists some l
 
 -- an entry has its room where its cost, one entry and the change of what is owed, is no greater than the room
-pub room_reads : (h : History) (e : Entry) (now : List Shape) → IsSolvent h → (has_room h.capacity now (e ∷ h.past) ≡ true) ↔ (1 + owed now (e ∷ h.past) ≤ room h + owed h.shapes h.past)
+pub room_reads : (h : History) (e : Entry) (now : List Shape) → IsSolvent h → (has_room h.limits.capacity now (e ∷ h.past) ≡ true) ↔ (1 + owed now (e ∷ h.past) ≤ room h + owed h.shapes h.past)
 room_reads h e now solvent = (
-  λ enough. let n = from_room _ h.capacity enough in omega (arith, n, solvent),
-  λ cost. to_room _ h.capacity (omega (arith, cost, solvent)),
+  λ enough. let n = from_room _ h.limits.capacity enough in omega (arith, n, solvent),
+  λ cost. to_room _ h.limits.capacity (omega (arith, cost, solvent)),
 )

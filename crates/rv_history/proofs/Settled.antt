@@ -20,6 +20,7 @@ use Rattle.rv_event.specs.declared.entry.Request.TheVariants.{Call, Complete, Re
 use Rattle.rv_event.specs.declared.entry.Recorded.{Recorded}
 use Rattle.rv_event.specs.declared.entry.Recorded.TheVariants.{Started, Queued, Done}
 use Rattle.rv_shape.proofs.Stay.{object_stays}
+use Rattle.rv_history.specs.declared.limits.Limits.{Limits}
 use Rattle.rv_history.specs.History.{History}
 use Rattle.rv_history.specs.Subject.{subject}
 use Rattle.rv_history.specs.Exclusion.{barrier_at, opens_on, is_open}
@@ -33,7 +34,7 @@ use Rattle.rv_history.proofs.Stances.{same_number}
 use Rattle.rv_history.proofs.Waits.{joins, Waits, AllWait, legal_waits}
 use Rattle.rv_history.proofs.Bodies.{any_kept, count_left, each_filter, exclusive_more, filter_append, filter_gone}
 use Rattle.rv_history.proofs.Ending.{Ends, ends, head_waits, head_on}
-use Rattle.rv_history.proofs.Orderly.{legal_orderly_at}
+use Rattle.rv_history.proofs.Orderly.{legal_orderly_at, legal_queue}
 
 abbrev pub open_at : List Shape → ℕ → List Entry → Bool
 open_at shapes o past = opens_on (barrier_at (place shapes o)) (scalars shapes o past)
@@ -117,9 +118,9 @@ entry_excludes (EntryKind barrier) e = refl
 entry_excludes (Handler line) e = refl
 
 -- an end of an exclusive body on the object
-end_here : (h : History) (a : ℕ) (vs : List ℤ) (x : Exit) (b : Body) (o : ℕ) → Orderly h.shapes h.past → AllWait h.shapes h.past (waiting h.past) → b.object ≡ o → writes h.shapes o (innermost h.shapes a h.past) ≡ true →
+end_here : (h : History) (a : ℕ) (vs : List ℤ) (x : Exit) (b : Body) (o : ℕ) → h.limits.queue ≡ 1 → Orderly h.limits h.shapes h.past → AllWait h.shapes h.past (waiting h.past) → b.object ≡ o → writes h.shapes o (innermost h.shapes a h.past) ≡ true →
     Settled h.shapes (Asked a (Complete vs x) (Done (after_end h b.object vs)) ∷ h.past) o
-end_here h a vs x b o k all is wrote = by_tests (halted h.past) (opens_on (barrier_at (place h.shapes b.object)) vs) refl refl
+end_here h a vs x b o limit k all is wrote = by_tests (halted h.past) (opens_on (barrier_at (place h.shapes b.object)) vs) refl refl
   where
     by_grant : (c : Body) (cs : List Body) (g : Bool) (line : ℕ) → queue b.object h.past ≡ c ∷ cs → Settled h.shapes (Asked a (Complete vs x) (Done (judged_head g line c.actor)) ∷ h.past) o
     by_grant c cs true line q =
@@ -131,7 +132,7 @@ end_here h a vs x b o k all is wrote = by_tests (halted h.past) (opens_on (barri
         let rest : List Body = without a (under_way h.shapes h.past) in
         inr (inl (ap (λ l. list_any (is_exclusive_on h.shapes o) (begun l rest)) v.last ∙ ap (λ t. t || list_any (is_exclusive_on h.shapes o) rest) exclusive))
     by_grant c cs false line q =
-        let few : length (queue b.object h.past) ≤ 1 = k.queues b.object in
+        let few : length (queue b.object h.past) ≤ 1 = subst (λ n. length (queue b.object h.past) ≤ n) limit (k.queues b.object) in
         let count : length (queue b.object h.past) ≡ length (c ∷ cs) = ap length q in
         let none : cs ≡ [] = no_length cs (omega (arith, few, count)) in
         let one : filter (is_on o) (waiting h.past) ≡ c ∷ [] = ap (λ n. filter (is_on n) (waiting h.past)) (sym is) ∙ q ∙ ap (λ ds. c ∷ ds) none in
@@ -147,12 +148,12 @@ end_here h a vs x b o k all is wrote = by_tests (halted h.past) (opens_on (barri
         inr (inr (inl (ap (λ t. opens_on (barrier_at (place h.shapes o)) (if t then vs else scalars h.shapes o h.past)) wrote ∙ ap (λ n. opens_on (barrier_at (place h.shapes n)) vs) (sym is) ∙ opened)))
     by_tests false true halt opened = by_queue (queue b.object h.past) refl
 
-end_step : (h : History) (a : ℕ) (vs : List ℤ) (x : Exit) (w : Recorded) (o : ℕ) → Orderly h.shapes h.past → AllWait h.shapes h.past (waiting h.past) → Ends h a vs w → Settled h.shapes h.past o → Settled h.shapes (Asked a (Complete vs x) w ∷ h.past) o
-end_step h a vs x w o k all t was = subst (λ u. Settled h.shapes (Asked a (Complete vs x) u ∷ h.past) o) (sym t.word) (by_kind (is_function t.site.operation.kind) refl)
+end_step : (h : History) (a : ℕ) (vs : List ℤ) (x : Exit) (w : Recorded) (o : ℕ) → h.limits.queue ≡ 1 → Orderly h.limits h.shapes h.past → AllWait h.shapes h.past (waiting h.past) → Ends h a vs w → Settled h.shapes h.past o → Settled h.shapes (Asked a (Complete vs x) w ∷ h.past) o
+end_step h a vs x w o limit k all t was = subst (λ u. Settled h.shapes (Asked a (Complete vs x) u ∷ h.past) o) (sym t.word) (by_kind (is_function t.site.operation.kind) refl)
   where
     by_object : (u : Bool) → (t.body.object == o) ≡ u → is_function t.site.operation.kind ≡ false → Settled h.shapes (Asked a (Complete vs x) (Done (after_end h t.body.object vs)) ∷ h.past) o
     by_object true on is =
-        end_here h a vs x t.body o k all (same_number t.body.object o on) (own_writes h.shapes h.past a o t.body t.inner on (ap shares t.at ∙ is))
+        end_here h a vs x t.body o limit k all (same_number t.body.object o on) (own_writes h.shapes h.past a o t.body t.inner on (ap shares t.at ∙ is))
     by_object false on is =
         end_quiet h a vs x (after_end h t.body.object vs) t.body o t.inner (ap (λ u. u && not (shares (target h.shapes t.body.object t.body.operation))) on) (other_writes h.shapes h.past a o t.body t.inner on) was
 
@@ -163,33 +164,33 @@ end_step h a vs x w o k all t was = subst (λ u. Settled h.shapes (Asked a (Comp
         end_quiet h a vs x Nothing t.body o t.inner other (function_writes h.shapes h.past a o t.body t.inner shared) was
     by_kind false is = by_object (t.body.object == o) refl is
 
-settled_step : (h : History) (a : ℕ) (r : Request) (w : Recorded) (o : ℕ) → recorded (out h a r) ≡ Some w → Orderly h.shapes h.past → AllWait h.shapes h.past (waiting h.past) →
+settled_step : (h : History) (a : ℕ) (r : Request) (w : Recorded) (o : ℕ) → recorded (out h a r) ≡ Some w → h.limits.queue ≡ 1 → Orderly h.limits h.shapes h.past → AllWait h.shapes h.past (waiting h.past) →
     Settled h.shapes h.past o → Settled h.shapes (Asked a r w ∷ h.past) o
-settled_step h a (Call m p vs) Started o e k all was =
+settled_step h a (Call m p vs) Started o e limit k all was =
     quiet h.shapes h.past (Asked a (Call m p vs) Started) o (or_right (is_exclusive_on h.shapes o (record { actor = a; object = m; operation = p })) (exclusive_at h.shapes o h.past)) refl refl was
-settled_step h a (Call m p vs) Queued o e k all was = queue_step h a m p vs o e was
-settled_step h a (Call m p vs) w o e k all was = quiet h.shapes h.past (Asked a (Call m p vs) w) o (λ x. x) refl refl was
-settled_step h a Fire Started o e k all was = quiet h.shapes h.past (Asked a Fire Started) o (fire_stays h.shapes h.past a o (handler h.shapes (a - 1))) refl refl was
-settled_step h a Fire w o e k all was = quiet h.shapes h.past (Asked a Fire w) o (λ x. x) refl refl was
-settled_step h a (Complete vs x) w o e k all was = end_step h a vs x w o k all (ends h a vs x w e) was
-settled_step h a Resume w o e k all was = quiet h.shapes h.past (Asked a Resume w) o (λ x. x) refl refl was
-settled_step h a (DelayUntil t) w o e k all was = quiet h.shapes h.past (Asked a (DelayUntil t) w) o (λ x. x) refl refl was
-settled_step h a Clock w o e k all was = quiet h.shapes h.past (Asked a Clock w) o (λ x. x) refl refl was
-settled_step h a Quit w o e k all was = quiet h.shapes h.past (Asked a Quit w) o (λ x. x) refl refl was
-settled_step h a (Tick n) w o e k all was = quiet h.shapes h.past (Asked a (Tick n) w) o (λ x. x) refl refl was
-settled_step h a Halt w o e k all was = quiet h.shapes h.past (Asked a Halt w) o (λ x. x) refl refl was
+settled_step h a (Call m p vs) Queued o e limit k all was = queue_step h a m p vs o e was
+settled_step h a (Call m p vs) w o e limit k all was = quiet h.shapes h.past (Asked a (Call m p vs) w) o (λ x. x) refl refl was
+settled_step h a Fire Started o e limit k all was = quiet h.shapes h.past (Asked a Fire Started) o (fire_stays h.shapes h.past a o (handler h.shapes (a - 1))) refl refl was
+settled_step h a Fire w o e limit k all was = quiet h.shapes h.past (Asked a Fire w) o (λ x. x) refl refl was
+settled_step h a (Complete vs x) w o e limit k all was = end_step h a vs x w o limit k all (ends h a vs x w e) was
+settled_step h a Resume w o e limit k all was = quiet h.shapes h.past (Asked a Resume w) o (λ x. x) refl refl was
+settled_step h a (DelayUntil t) w o e limit k all was = quiet h.shapes h.past (Asked a (DelayUntil t) w) o (λ x. x) refl refl was
+settled_step h a Clock w o e limit k all was = quiet h.shapes h.past (Asked a Clock w) o (λ x. x) refl refl was
+settled_step h a Quit w o e limit k all was = quiet h.shapes h.past (Asked a Quit w) o (λ x. x) refl refl was
+settled_step h a (Tick n) w o e limit k all was = quiet h.shapes h.past (Asked a (Tick n) w) o (λ x. x) refl refl was
+settled_step h a Halt w o e limit k all was = quiet h.shapes h.past (Asked a Halt w) o (λ x. x) refl refl was
 
 -- a load
 settled_load : (h : History) (more : List Shape) (o : ℕ) → Legal h → Settled h.shapes h.past o → Settled (h.shapes ++ more) (Load ∷ h.past) o
 settled_load h more o l was = by_queue (queue o h.past) refl was
   where
-    k : Orderly h.shapes h.past
+    k : Orderly h.limits h.shapes h.past
     k = legal_orderly_at h l
 
     by_queue : (q : List Body) → queue o h.past ≡ q → Settled h.shapes h.past o → Settled (h.shapes ++ more) (Load ∷ h.past) o
     by_queue q e (inl x) = inl x
     by_queue q e (inr (inl x)) =
-        inr (inl (ap (list_any (is_exclusive_on (h.shapes ++ more) o)) (way_stays h.capacity h.past h.shapes more h.lists l)
+        inr (inl (ap (list_any (is_exclusive_on (h.shapes ++ more) o)) (way_stays h.limits h.past h.shapes more h.lists l)
         ∙ exclusive_more h.shapes more o (under_way h.shapes h.past) k.bodies ∙ x))
     by_queue q e (inr (inr (inr x))) = inr (inr (inr x))
     by_queue [] e (inr (inr (inl x))) = inr (inr (inr e))
@@ -202,18 +203,18 @@ settled_load h more o l was = by_queue (queue o h.past) refl was
         let values : scalars (h.shapes ++ more) o h.past ≡ scalars h.shapes o h.past = scalars_stay h more o there.0 l at in
         inr (inr (inl ((λ i. opens_on (barrier_at (same i)) (values i)) ∙ x)))
 
-legal_settled : (c : ℕ) (past : List Entry) (shapes : List Shape) (lists : List (List Words)) (o : ℕ) → IsLegal c past shapes lists → Settled shapes past o
+legal_settled : (c : Limits) (past : List Entry) (shapes : List Shape) (lists : List (List Words)) (o : ℕ) → IsLegal c past shapes lists → Settled shapes past o
 legal_settled c [] shapes lists o l = inr (inr (inr refl))
 legal_settled c (Asked a r w ∷ past) shapes lists o l =
-    let h : History = record { capacity = c; past = past; shapes = shapes; lists = lists } in
-    settled_step h a r w o l.1 (legal_orderly_at h l.0) (legal_waits c past shapes lists l.0) (legal_settled c past shapes lists o l.0)
+    let h : History = record { limits = c; past = past; shapes = shapes; lists = lists } in
+    settled_step h a r w o l.1 (legal_queue c past shapes lists l.0) (legal_orderly_at h l.0) (legal_waits c past shapes lists l.0) (legal_settled c past shapes lists o l.0)
 legal_settled c (Load ∷ past) shapes lists o l =
-    let h : History = record { capacity = c; past = past; shapes = l.0; lists = lists } in
+    let h : History = record { limits = c; past = past; shapes = l.0; lists = lists } in
     subst (λ (ss : List Shape). Settled ss (Load ∷ past) o) (sym l.2) (settled_load h (l.1 ∷ []) o l.3 (legal_settled c past l.0 lists o l.3))
 legal_settled c (ListChange ∷ past) shapes lists o l = legal_settled c past shapes l.0 o l.3
 
 pub free_settled : (h : History) (o : ℕ) → Legal h → halted h.past ≡ false → list_any (is_exclusive_on h.shapes o) (under_way h.shapes h.past) ≡ false → (is_open h o ≡ false) ⊎ (queue o h.past ≡ [])
-free_settled h o l going free = by_case (legal_settled h.capacity h.past h.shapes h.lists o l)
+free_settled h o l going free = by_case (legal_settled h.limits h.past h.shapes h.lists o l)
   where
     by_case : Settled h.shapes h.past o → (is_open h o ≡ false) ⊎ (queue o h.past ≡ [])
     by_case (inl x) = absurd (off (sym going ∙ x))

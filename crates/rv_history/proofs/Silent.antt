@@ -20,6 +20,7 @@ use Rattle.rv_event.specs.declared.entry.Request.{Request}
 use Rattle.rv_event.specs.declared.entry.Request.TheVariants.{Call, Complete, Resume, DelayUntil, Clock, Fire, Quit, Tick, Halt}
 use Rattle.rv_event.specs.declared.entry.Stance.{Stance}
 use Rattle.rv_event.specs.declared.entry.Stance.TheVariants.{Free, InQueue, HandedOver, DroppedBy, WaitsOn, WaitsUntil, Gone}
+use Rattle.rv_history.specs.declared.limits.Limits.{Limits}
 use Rattle.rv_history.specs.Due.{out}
 use Rattle.rv_history.specs.Fitting.{awaits, call_fits, fits_actor, idle_line, idle_task, in_body, is_tick, is_time, may_call}
 use Rattle.rv_history.specs.Frame.{is_apart}
@@ -47,7 +48,7 @@ named_next h a r next n l e f = by_request r (done_at_ends h a r next e) e
     by_request : (r : Request) → is_complete r ≡ true → recorded (out h a r) ≡ Some (Done next) → IsQueued h n
     by_request (Complete vs x) is e =
         let q = (names_at h a vs x next n e f).served_by in
-        record { call = q.call; its = q.is_its; waits = head_waits h.shapes h.past _ q.call q.rest (legal_waits h.capacity h.past h.shapes h.lists l) q.queued }
+        record { call = q.call; its = q.is_its; waits = head_waits h.shapes h.past _ q.call q.rest (legal_waits h.limits h.past h.shapes h.lists l) q.queued }
     by_request (Call o p vs) is e = absurd (off is)
     by_request Resume is e = absurd (off is)
     by_request (DelayUntil t) is e = absurd (off is)
@@ -95,11 +96,11 @@ neither false c e = (refl, e)
 
 -- Whoever isn't queued, and asks nothing that is recorded, stays what it is
 
-pub apart_while : (c : ℕ) (later past : List Entry) (shapes : List Shape) (lists : List (List Words)) (n : ℕ) → IsLegal c (later ++ past) shapes lists → is_queued (stance n past) ≡ false → list_any (is_own n) later ≡ false →
+pub apart_while : (c : Limits) (later past : List Entry) (shapes : List Shape) (lists : List (List Words)) (n : ℕ) → IsLegal c (later ++ past) shapes lists → is_queued (stance n past) ≡ false → list_any (is_own n) later ≡ false →
     list_all (is_apart n) later ≡ true
 apart_while c [] past shapes lists n l calm none = refl
 apart_while c (Asked a r w ∷ later) past shapes lists n l calm none =
-    let h : History = record { capacity = c; past = later ++ past; shapes = shapes; lists = lists } in
+    let h : History = record { limits = c; past = later ++ past; shapes = shapes; lists = lists } in
     let parts = neither (a == n) (list_any (is_own n) later) none in
     let rest = apart_while c later past shapes lists n l.0 calm parts.1 in
     let still : is_queued (stance n (later ++ past)) ≡ false = ap is_queued (stance_stays n later past rest) ∙ calm in
@@ -157,11 +158,11 @@ gone_other h a r w n e gone task = by_test (a == n) refl
     by_test false is = refl
 
 -- adds no entry, and none names it
-pub gone_apart : (c : ℕ) (later past : List Entry) (shapes : List Shape) (lists : List (List Words)) (n : ℕ) → IsLegal c (later ++ past) shapes lists → stance n past ≡ Gone → nat_lt n 11 ≡ false →
+pub gone_apart : (c : Limits) (later past : List Entry) (shapes : List Shape) (lists : List (List Words)) (n : ℕ) → IsLegal c (later ++ past) shapes lists → stance n past ≡ Gone → nat_lt n 11 ≡ false →
     list_all (is_apart n) later ≡ true
 gone_apart c [] past shapes lists n l gone task = refl
 gone_apart c (Asked a r w ∷ later) past shapes lists n l gone task =
-    let h : History = record { capacity = c; past = later ++ past; shapes = shapes; lists = lists } in
+    let h : History = record { limits = c; past = later ++ past; shapes = shapes; lists = lists } in
     let rest = gone_apart c later past shapes lists n l.0 gone task in
     let still : stance n (later ++ past) ≡ Gone = stance_stays n later past rest ∙ gone in
     all_more (is_apart n) (Asked a r w) later (apart_of n (Asked a r w) (gone_other h a r w n l.1 still task) (unnamed h a r w n l.0 l.1 (ap is_queued still))) rest
@@ -176,10 +177,10 @@ apart_numbers a n less = grind (arith, nat_tests)
 above : (n m : ℕ) → nat_lt n m ≡ false → m ≤ n
 above n m e = grind (arith, nat_tests)
 
-pub beyond_free : (c : ℕ) (past : List Entry) (shapes : List Shape) (lists : List (List Words)) (n : ℕ) → IsLegal c past shapes lists → actors shapes ≤ n → stance n past ≡ Free
+pub beyond_free : (c : Limits) (past : List Entry) (shapes : List Shape) (lists : List (List Words)) (n : ℕ) → IsLegal c past shapes lists → actors shapes ≤ n → stance n past ≡ Free
 beyond_free c [] shapes lists n l high = refl
 beyond_free c (Asked a r w ∷ past) shapes lists n l high =
-    let h : History = record { capacity = c; past = past; shapes = shapes; lists = lists } in
+    let h : History = record { limits = c; past = past; shapes = shapes; lists = lists } in
     let before = beyond_free c past shapes lists n l.0 high in
     let low : a < actors shapes = below a (actors shapes) (answered h a r w l.1).known in
     let other : (a == n) ≡ false = apart_numbers a n (omega (arith, low, high)) in
@@ -196,4 +197,4 @@ known_actor h n l busy = by_test (nat_lt n (actors h.shapes)) refl
   where
     by_test : (b : Bool) → nat_lt n (actors h.shapes) ≡ b → n < actors h.shapes
     by_test true e = below n (actors h.shapes) e
-    by_test false e = absurd (busy (beyond_free h.capacity h.past h.shapes h.lists n l (above n (actors h.shapes) e)))
+    by_test false e = absurd (busy (beyond_free h.limits h.past h.shapes h.lists n l (above n (actors h.shapes) e)))

@@ -41,7 +41,7 @@ legal_request (Some word) h actor request e legal = (legal, e)
 legal_load : (b : Bool) (h : History) (shape : Shape) → is_some (recorded (out_load h shape)) ≡ b → Legal h → Legal (if b then record h { past = Load ∷ h.past; shapes = h.shapes ++ shape ∷ [] } else h)
 legal_load false h shape e legal = legal
 legal_load true h shape e legal =
-    (h.shapes, shape, refl, legal, accepted (shape_fits h.shapes shape) (halted h.past) (has_room h.capacity (h.shapes ++ shape ∷ []) (Load ∷ h.past)) e)
+    (h.shapes, shape, refl, legal, accepted (shape_fits h.shapes shape) (halted h.past) (has_room h.limits.capacity (h.shapes ++ shape ∷ []) (Load ∷ h.past)) e)
 
 accepted_list : (shut long room : Bool) → let answer = gate true shut (if long then BadLine else within room nothing_more) in is_some (recorded answer) ≡ true → answer ≡ nothing_more
 accepted_list true long room some = absurd (false≢true some)
@@ -53,7 +53,7 @@ legal_list : (o : Option (List Words)) (b : Bool) (h : History) → is_some (rec
 legal_list o false h e legal = legal
 legal_list None true h e legal = absurd (never (halted h.past) (out_list h None) refl e)
 legal_list (Some list) true h e legal =
-    (h.lists, list, refl, legal, accepted_list (halted h.past) (nat_lt line_limit (length list)) (has_room h.capacity h.shapes (ListChange ∷ h.past)) e)
+    (h.lists, list, refl, legal, accepted_list (halted h.past) (nat_lt line_limit (length list)) (has_room h.limits.capacity h.shapes (ListChange ∷ h.past)) e)
 
 pub legal_after : (c : Command) (h : History) → Legal h → Legal (after_command h c (due_command h c))
 legal_after (Commands.Ask actor request) h legal = legal_request (recorded (out h actor request)) h actor request refl legal

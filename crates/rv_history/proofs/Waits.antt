@@ -23,6 +23,7 @@ use Rattle.rv_event.specs.declared.entry.Recorded.{Recorded}
 use Rattle.rv_event.specs.declared.entry.Recorded.TheVariants.{Queued}
 use Rattle.rv_event.specs.declared.entry.Answer.{Answer}
 use Rattle.rv_event.specs.declared.entry.Answer.TheVariants as Answers
+use Rattle.rv_history.specs.declared.limits.Limits.{Limits}
 use Rattle.rv_history.specs.History.{History, version}
 use Rattle.rv_history.specs.Exclusion.{excluded, is_barred, full_queue, is_open}
 use Rattle.rv_history.specs.Owed.{actors}
@@ -274,10 +275,10 @@ more_tasks [] s = omega arith
 more_tasks (x ∷ old) s =
     omega (arith, more_tasks old s, length-append (tasks_of x) (all_tasks old), length-append (tasks_of x) (all_tasks (old ++ s ∷ [])))
 
-pub legal_waits : (c : ℕ) (past : List Entry) (shapes : List Shape) (lists : List (List Words)) → IsLegal c past shapes lists → AllWait shapes past (waiting past)
+pub legal_waits : (c : Limits) (past : List Entry) (shapes : List Shape) (lists : List (List Words)) → IsLegal c past shapes lists → AllWait shapes past (waiting past)
 legal_waits c [] shapes lists l = tt
 legal_waits c (Asked a r w ∷ past) shapes lists l =
-    let h : History = record { capacity = c; past = past; shapes = shapes; lists = lists } in
+    let h : History = record { limits = c; past = past; shapes = shapes; lists = lists } in
     let before = legal_waits c past shapes lists l.0 in
     new_wait h a r w (queued_by (Asked a r w)) refl l.1 _
     (others_stay shapes past a r w (waiting past) (named_in (next_of (Asked a r w))) refl

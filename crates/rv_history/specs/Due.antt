@@ -178,7 +178,7 @@ due h actor request =
 -- the room is enough for an answer: for one that isn't recorded it is
 abbrev pub enough : History → ℕ → Request → Option Recorded → Bool
 enough h actor request None = true
-enough h actor request (Some word) = has_room h.capacity h.shapes (Asked actor request word ∷ h.past)
+enough h actor request (Some word) = has_room h.limits.capacity h.shapes (Asked actor request word ∷ h.past)
 
 -- Full in place of a recorded answer that costs more than the room
 abbrev pub within : Bool → Answer → Answer

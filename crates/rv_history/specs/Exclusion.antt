@@ -49,10 +49,6 @@ is_open h object = opens_on (barrier_at (place h.shapes object)) (scalars h.shap
 abbrev pub is_barred : History → ℕ → Kind → Bool
 is_barred h object kind = is_entry kind && not (is_open h object)
 
--- how many may wait in a queue (Max_Entry_Queue_Length)
-abbrev pub queue_limit : ℕ
-queue_limit = 1
-
 -- the queue has its limit of callers (D.7)
 abbrev pub full_queue : History → ℕ → Bool
-full_queue h object = not (nat_lt (length (queue object h.past)) queue_limit)
+full_queue h object = not (nat_lt (length (queue object h.past)) h.limits.queue)

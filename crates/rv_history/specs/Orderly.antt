@@ -7,7 +7,7 @@ use Rattle.rv_event.specs.Past.{under_way, held, waiting, queue}
 use Rattle.rv_event.specs.declared.entry.Body.{Body}
 use Rattle.rv_event.specs.declared.entry.Entry.{Entry}
 use Rattle.rv_history.specs.Fitting.{held_limit}
-use Rattle.rv_history.specs.Exclusion.{queue_limit}
+use Rattle.rv_history.specs.declared.limits.Limits.{Limits}
 
 -- the body is on the object
 abbrev pub is_on : ℕ → Body → Bool
@@ -35,15 +35,15 @@ abbrev pub Each : (Body → Type 0) → List Body → Type 0
 Each P [] = Unit {0}
 Each P (body ∷ bodies) = P body × Each P bodies
 
--- what holds after the entries of a past
-pub record Orderly (shapes : List Shape) (past : List Entry) : Type 0 where
+-- what holds after the entries of a past, under these limits
+pub record Orderly (limits : Limits) (shapes : List Shape) (past : List Entry) : Type 0 where
   pub shared : (object : ℕ) → IsShared shapes (under_way shapes past) object
   pub stacks : (actor : ℕ) → length (held shapes actor past) ≤ held_limit
-  pub queues : (object : ℕ) → length (queue object past) ≤ queue_limit
+  pub queues : (object : ℕ) → length (queue object past) ≤ limits.queue
   pub bodies : Each (IsProtected shapes) (under_way shapes past)
   pub calls : Each (IsOfEntry shapes) (waiting past)
 
 -- it holds after each entry, with the shapes of the whole history
-abbrev pub IsOrderly : List Shape → List Entry → Type 0
-IsOrderly shapes [] = Unit {0}
-IsOrderly shapes (e ∷ past) = Orderly shapes (e ∷ past) × IsOrderly shapes past
+abbrev pub IsOrderly : Limits → List Shape → List Entry → Type 0
+IsOrderly limits shapes [] = Unit {0}
+IsOrderly limits shapes (e ∷ past) = Orderly limits shapes (e ∷ past) × IsOrderly limits shapes past

@@ -57,11 +57,11 @@ has_room capacity shapes past = nat_le (length past + owed shapes past) capacity
 
 -- what is left beside the entries and what is owed
 abbrev pub room : History → ℕ
-room h = h.capacity - (length h.past + owed h.shapes h.past)
+room h = h.limits.capacity - (length h.past + owed h.shapes h.past)
 
 -- the entries and what is owed are within the capacity
 abbrev pub IsSolvent : History → Type 0
-IsSolvent h = length h.past + owed h.shapes h.past ≤ h.capacity
+IsSolvent h = length h.past + owed h.shapes h.past ≤ h.limits.capacity
 
 -- the requests that pay for themselves: an end, a resume, a quit and the halt
 abbrev pub is_paid : Request → Bool

@@ -24,6 +24,7 @@ use Rattle.rv_shape.specs.Shape.{Shape}
 use Rattle.rv_history.specs.declared.command.Command.{Command}
 use Rattle.rv_history.specs.declared.command.Command.TheVariants.{Ask, Load, Change}
 use Rattle.rv_access.specs.declared.change.Change.TheVariants.{Whole, Append, Remove, Replace}
+use Rattle.rv_history.specs.Limits.{limits_of}
 use Rattle.rv_history.specs.History.{History}
 use Rattle.rv_history.specs.Legal.{empty}
 use Rattle.rv_history.specs.Steps.{answers_to, history_after}
@@ -130,7 +131,7 @@ abbrev pub loads : List Command
 loads = Load plant ∷ Load nav ∷ []
 
 abbrev pub loaded : ℕ → List Words → History
-loaded capacity list = history_after (empty capacity) (loads ++ Change (Whole list) ∷ [])
+loaded capacity list = history_after (empty (limits_of capacity)) (loads ++ Change (Whole list) ∷ [])
 
 -- the commands, on these units under this list, get these answers
 abbrev pub Gives : List Words → List Command → List Answer → Type 0
@@ -140,7 +141,7 @@ abbrev pub ok : Answer
 ok = Accepted (pos 0)
 
 abbrev pub NoList : Type 0
-NoList = answers_to (history_after (empty 4096) loads) (get pilot
+NoList = answers_to (history_after (empty (limits_of 4096)) loads) (get pilot
     ∷ []) ≡ Refused Rules.Grant 0 0 ∷ []
 
 abbrev pub DeniedCallGrantedFunction : Type 0
@@ -218,7 +219,7 @@ abbrev pub fire : ℕ → Command
 fire line = Ask (line + 1) Fire
 
 abbrev pub Interrupts : Type 0
-Interrupts = answers_to (empty 4096)
+Interrupts = answers_to (empty (limits_of 4096))
     (Load device ∷ Change (Whole (line true (codes "Interrupts") (codes "Dev.Latch") star ∷ [])) ∷ fire 5 ∷ fire 4
     ∷ ends 5 (pos 1 ∷ []) [] ∷ fire 6 ∷ Change (Append (line false (codes "Interrupts") star (codes "Reset"))) ∷ fire 4 ∷ [])
     ≡ ok ∷ ok ∷ Refused Rules.Ceiling 0 1 ∷ Started (pos 0 ∷ []) ∷ Done Nothing ∷ Unattached ∷ ok

@@ -6,3 +6,4 @@
 
 pub mod command;
 pub mod laws;
+pub mod limits;

@@ -11,20 +11,14 @@ use Rattle.rv_waiting.specs.Waiting.{IsWaiting}
 -- the history that is meant
 abbrev pub history_of : Seen → History
 history_of seen =
-    record {
-      capacity = seen.capacity;
-      past = seen.journal.now.past;
-      shapes = seen.catalogue.now;
-      lists =
-          seen.lists.now;
-    }
+    record { limits = seen.limits; past = seen.journal.now.past; shapes = seen.catalogue.now; lists = seen.lists.now }
 
 -- that history is legal, of a capacity that hosts have, and its clock is a number of 63 bits; the fields stand for it, and
 -- the table is of the last of its lists over what is loaded
 pub record IsSeen (seen : Seen) : Type 0 where
-  pub legal : IsLegal seen.capacity seen.journal.now.past seen.catalogue.now seen.lists.now
-  pub least : 1 ≤ seen.capacity
-  pub most : seen.capacity ≤ 2 ^ 20
+  pub legal : IsLegal seen.limits seen.journal.now.past seen.catalogue.now seen.lists.now
+  pub least : 1 ≤ seen.limits.capacity
+  pub most : seen.limits.capacity ≤ 2 ^ 20
   pub timely : clock seen.journal.now.past < 2 ^ 63
   pub is_present : IsPresent seen.catalogue.now seen.journal.now.past seen.present.now
   pub is_waiting : IsWaiting seen.journal.now.past seen.waiting.now

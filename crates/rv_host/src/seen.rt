@@ -2,6 +2,7 @@
 //! list in force.
 
 use rv_access::AccessList;
+use rv_history::limits::Limits;
 use rv_journal::journal::Journal;
 use rv_present::Present;
 use rv_shape::catalogue::Catalogue;
@@ -12,7 +13,7 @@ use rv_waiting::waiting::Waiting;
 /// reads them.
 #[derive(Clone, Copy)]
 pub struct Seen<'a> {
-    pub capacity: usize,
+    pub limits: Limits,
     pub catalogue: &'a Catalogue,
     pub journal: &'a Journal,
     pub lists: &'a [AccessList],

@@ -18,6 +18,7 @@ use Rattle.rv_event.specs.declared.entry.Request.{Request}
 use Rattle.rv_event.specs.declared.entry.Request.TheVariants.{Call, Complete, Resume, DelayUntil, Clock, Fire, Quit, Tick, Halt}
 use Rattle.rv_event.specs.declared.entry.Recorded.{Recorded}
 use Rattle.rv_event.proofs.Matching.{by}
+use Rattle.rv_history.specs.declared.limits.Limits.{Limits}
 use Rattle.rv_history.specs.History.{History}
 use Rattle.rv_history.specs.Legal.{IsLegal, Legal}
 use Rattle.rv_history.specs.Orderly.{Each, IsProtected, is_on}
@@ -93,10 +94,10 @@ none_before old more o none = by_place (place old o) refl
     by_place None is = is
     by_place (Some p) is = absurd (some_place p (place (old ++ more) o) (object_stays old more o p is) none)
 
-fresh : (c : ℕ) (past : List Entry) (shapes more : List Shape) (lists : List (List Words)) (o : ℕ) → IsLegal c past shapes lists → place shapes o ≡ None → scalars (shapes ++ more) o past ≡ initial (shapes ++ more) o
+fresh : (c : Limits) (past : List Entry) (shapes more : List Shape) (lists : List (List Words)) (o : ℕ) → IsLegal c past shapes lists → place shapes o ≡ None → scalars (shapes ++ more) o past ≡ initial (shapes ++ more) o
 fresh c [] shapes more lists o l none = refl
 fresh c (Asked a r w ∷ past) shapes more lists o l none =
-    fresh_after (record { capacity = c; past = past; shapes = shapes; lists = lists }) more o a r w l.0 none ∙ fresh c past shapes more lists o l.0 none
+    fresh_after (record { limits = c; past = past; shapes = shapes; lists = lists }) more o a r w l.0 none ∙ fresh c past shapes more lists o l.0 none
 fresh c (Load ∷ past) shapes more lists o l none =
     let all : shapes ++ more ≡ l.0 ++ (l.1 ∷ more) = ap (λ (ss : List Shape). ss ++ more) l.2 ∙ append_assoc l.0 (l.1 ∷ []) more in
     ap (λ (ss : List Shape). scalars ss o past) all
@@ -105,7 +106,7 @@ fresh c (Load ∷ past) shapes more lists o l none =
 fresh c (ListChange ∷ past) shapes more lists o l none = fresh c past shapes more l.0 o l.3 none
 
 pub fresh_scalars : (h : History) (more : List Shape) (o : ℕ) → Legal h → place h.shapes o ≡ None → scalars (h.shapes ++ more) o h.past ≡ initial (h.shapes ++ more) o
-fresh_scalars h more o l none = fresh h.capacity h.past h.shapes more h.lists o l none
+fresh_scalars h more o l none = fresh h.limits h.past h.shapes more h.lists o l none
 
 -- Where objects stand
 
@@ -231,13 +232,13 @@ grown h more p q l k g =
       calls_long = ap (λ cs. length cs) g.calls_are ∙ k.calls_long;
     }
 
-pub load_grown : (c : ℕ) (past : List Entry) (shapes : List Shape) (lists : List (List Words)) (p q : Present) (l : IsLegal c (Load ∷ past) shapes lists) → IsPresent l.0 past p → HasGrown shapes p q → IsPresent shapes past q
+pub load_grown : (c : Limits) (past : List Entry) (shapes : List Shape) (lists : List (List Words)) (p q : Present) (l : IsLegal c (Load ∷ past) shapes lists) → IsPresent l.0 past p → HasGrown shapes p q → IsPresent shapes past q
 load_grown c past shapes lists p q l k g =
     subst (λ ss. IsPresent ss past q) (sym l.2)
-    (grown (record { capacity = c; past = past; shapes = l.0; lists = lists }) (l.1 ∷ []) p q l.3 k (subst (λ ss. HasGrown ss p q) l.2 g))
+    (grown (record { limits = c; past = past; shapes = l.0; lists = lists }) (l.1 ∷ []) p q l.3 k (subst (λ ss. HasGrown ss p q) l.2 g))
 
 -- there are no fewer objects
-pub more_objects : (c : ℕ) (past : List Entry) (shapes : List Shape) (lists : List (List Words)) (l : IsLegal c (Load ∷ past) shapes lists) → length (all_objects l.0) ≤ length (all_objects shapes)
+pub more_objects : (c : Limits) (past : List Entry) (shapes : List Shape) (lists : List (List Words)) (l : IsLegal c (Load ∷ past) shapes lists) → length (all_objects l.0) ≤ length (all_objects shapes)
 more_objects c past shapes lists l =
     let all : length (all_objects shapes) ≡ length (all_objects (l.0 ++ l.1 ∷ [])) = ap (λ ss. length (all_objects ss)) l.2 in
     let split : length (all_objects (l.0 ++ l.1 ∷ [])) ≡ length (all_objects l.0 ++ all_objects (l.1 ∷ [])) = ap (λ ps. length ps) (objects_append l.0 (l.1 ∷ [])) in

@@ -20,6 +20,7 @@ use Rattle.rv_event.specs.declared.entry.Request.TheVariants.{Call, Complete, Fi
 use Rattle.rv_event.specs.declared.entry.Recorded.{Recorded}
 use Rattle.rv_event.specs.declared.entry.Recorded.TheVariants.{Started, Queued, Refused, Done, Suspended, Delayed, Woken, Accepted}
 use Rattle.rv_event.proofs.Matching.{by}
+use Rattle.rv_history.specs.declared.limits.Limits.{Limits}
 use Rattle.rv_history.specs.History.{History, changes}
 use Rattle.rv_history.specs.Owed.{actors}
 use Rattle.rv_history.specs.Due.{out}
@@ -44,7 +45,7 @@ use Rattle.rv_present.proofs.Starting.{starts_free}
 named_known : (h : History) (a : ℕ) (vs : List ℤ) (x : Exit) (next : Next) (n : ℕ) → Legal h → recorded (out h a (Complete vs x)) ≡ Some (Done next) → named_in next ≡ Some n → n < actors h.shapes
 named_known h a vs x next n l e is =
     let m = names_at h a vs x next n e is in
-    let v = head_waits h.shapes h.past m.body.object m.served_by.call m.served_by.rest (legal_waits h.capacity h.past h.shapes h.lists l) m.served_by.queued in
+    let v = head_waits h.shapes h.past m.body.object m.served_by.call m.served_by.rest (legal_waits h.limits h.past h.shapes h.lists l) m.served_by.queued in
     subst (λ k. k < actors h.shapes) m.served_by.is_its v.known
 
 done_known : (h : History) (a : ℕ) (r : Request) (next : Next) → Legal h → recorded (out h a r) ≡ Some (Done next) → IsNamedBelow (actors h.shapes) next
@@ -67,8 +68,8 @@ step_known h a r w l e = (below a (actors h.shapes) (answered h a r w e).known, 
     by_word (Accepted value) e = tt
 
 -- all of whom it speaks
-entry_known : (c : ℕ) (past : List Entry) (shapes : List Shape) (lists : List (List Words)) (e : Entry) → IsLegal c (e ∷ past) shapes lists → AreBelow (actors shapes) e
-entry_known c past shapes lists (Asked a r w) l = step_known (record { capacity = c; past = past; shapes = shapes; lists = lists }) a r w l.0 l.1
+entry_known : (c : Limits) (past : List Entry) (shapes : List Shape) (lists : List (List Words)) (e : Entry) → IsLegal c (e ∷ past) shapes lists → AreBelow (actors shapes) e
+entry_known c past shapes lists (Asked a r w) l = step_known (record { limits = c; past = past; shapes = shapes; lists = lists }) a r w l.0 l.1
 entry_known c past shapes lists Load l = tt
 entry_known c past shapes lists ListChange l = tt
 
@@ -77,7 +78,7 @@ more_known n m Nothing less k = tt
 more_known n m (HandedTo a) less k = omega (arith, less, k)
 more_known n m (Dropped a line) less k = omega (arith, less, k)
 
-pub known_below : (c : ℕ) (past : List Entry) (shapes : List Shape) (lists : List (List Words)) (e : Entry) (m : ℕ) → IsLegal c (e ∷ past) shapes lists → actors shapes ≤ m → AreBelow m e
+pub known_below : (c : Limits) (past : List Entry) (shapes : List Shape) (lists : List (List Words)) (e : Entry) (m : ℕ) → IsLegal c (e ∷ past) shapes lists → actors shapes ≤ m → AreBelow m e
 known_below c past shapes lists e m l few = by_entry e (entry_known c past shapes lists e l)
   where
     by_entry : (e : Entry) → AreBelow (actors shapes) e → AreBelow m e
@@ -108,9 +109,9 @@ within_objects shapes o p e = by_test (nat_lt o 1) refl e
         omega (arith, some, slice_get_within (all_objects shapes) (o - 1) p f)
 
 -- what an orderly history starts could start
-may_start : (shapes : List Shape) (past : List Entry) (e : Entry) (b : Body) (n m : ℕ) → Orderly shapes (e ∷ past) → started shapes past e ≡ Some b → b.actor < n → b.object < m →
+may_start : (c : Limits) (shapes : List Shape) (past : List Entry) (e : Entry) (b : Body) (n m : ℕ) → Orderly c shapes (e ∷ past) → started shapes past e ≡ Some b → b.actor < n → b.object < m →
     length (under_way shapes (e ∷ past)) ≤ 2000000 → CanStart shapes (closed (ended e) (under_way shapes past)) n m b
-may_start shapes past e b n m k is someone something few =
+may_start c shapes past e b n m k is someone something few =
     let bs = closed (ended e) (under_way shapes past) in
     let all : under_way shapes (e ∷ past) ≡ b ∷ bs = ap (λ q. begun q bs) is in
     let stack : length (filter (by b.actor) (b ∷ bs)) ≤ 16 = subst (λ cs. length (filter (by b.actor) cs) ≤ 16) all (k.stacks b.actor) in
@@ -124,24 +125,24 @@ may_start shapes past e b n m k is someone something few =
       few = omega (arith, few, count);
     }
 
-pub next_may_start : (c : ℕ) (past : List Entry) (shapes : List Shape) (lists : List (List Words)) (e : Entry) (b : Body) → IsLegal c (e ∷ past) shapes lists → 1 ≤ c → c ≤ 2 ^ 20 → actors shapes ≤ 75 → length (all_objects shapes) < 257 →
+pub next_may_start : (c : Limits) (past : List Entry) (shapes : List Shape) (lists : List (List Words)) (e : Entry) (b : Body) → IsLegal c (e ∷ past) shapes lists → 1 ≤ c.capacity → c.capacity ≤ 2 ^ 20 → actors shapes ≤ 75 → length (all_objects shapes) < 257 →
     started shapes past e ≡ Some b → CanStart shapes (closed (ended e) (under_way shapes past)) 75 257 b
 next_may_start c past shapes lists e b l some few actors_few objects_few is =
-    let new : History = record { capacity = c; past = e ∷ past; shapes = shapes; lists = lists } in
-    let orderly : Orderly shapes (e ∷ past) = legal_orderly_at new l in
+    let new : History = record { limits = c; past = e ∷ past; shapes = shapes; lists = lists } in
+    let orderly : Orderly c shapes (e ∷ past) = legal_orderly_at new l in
     let bs = closed (ended e) (under_way shapes past) in
     let all : under_way shapes (e ∷ past) ≡ b ∷ bs = ap (λ q. begun q bs) is in
     let protected : Each (IsProtected shapes) (b ∷ bs) = subst (Each (IsProtected shapes)) all orderly.bodies in
     let at = protected_place shapes b.object b.operation protected.0.0 protected.0.1 in
     let room = legal_solvent new some l in
     let placed : b.object ≤ length (all_objects shapes) = within_objects shapes b.object at.0 at.1 in
-    may_start shapes past e b 75 257 orderly is
+    may_start c shapes past e b 75 257 orderly is
     (starter_known shapes past e b 75 is (known_below c past shapes lists e 75 l actors_few)) (omega (arith, placed, objects_few)) (omega (arith, room, few))
 
 -- how much there is: bodies, entries, list changes
-pub few_bodies : (c : ℕ) (past : List Entry) (shapes : List Shape) (lists : List (List Words)) → IsLegal c past shapes lists → 1 ≤ c → length past + length (under_way shapes past) ≤ c
+pub few_bodies : (c : Limits) (past : List Entry) (shapes : List Shape) (lists : List (List Words)) → IsLegal c past shapes lists → 1 ≤ c.capacity → length past + length (under_way shapes past) ≤ c.capacity
 few_bodies c past shapes lists l some =
-    let room = legal_solvent (record { capacity = c; past = past; shapes = shapes; lists = lists }) some l in
+    let room = legal_solvent (record { limits = c; past = past; shapes = shapes; lists = lists }) some l in
     omega (arith, room)
 
 -- there are fewer list changes than entries
@@ -152,10 +153,10 @@ few_changes (Load ∷ past) = omega (arith, few_changes past)
 few_changes (ListChange ∷ past) = omega (arith, few_changes past)
 
 pub next_known : {shapes : List Shape} {e : Entry} {x : Change} {p : Present} → IsNext shapes e x p → AreBelow 75 e
-next_known {shapes} {e} k = known_below k.capacity k.past shapes k.lists e 75 k.legal k.is_present.few_actors
+next_known {shapes} {e} k = known_below k.limits k.past shapes k.lists e 75 k.legal k.is_present.few_actors
 
 pub next_few : {shapes : List Shape} {e : Entry} {x : Change} {p : Present} (k : IsNext shapes e x p) → length k.past ≤ 1048575
-next_few {shapes} {e} k = omega (arith, few_bodies k.capacity (e ∷ k.past) shapes k.lists k.legal k.least, k.most)
+next_few {shapes} {e} k = omega (arith, few_bodies k.limits (e ∷ k.past) shapes k.lists k.legal k.least, k.most)
 
 -- entries and all that is owed
 pub little_sum : (n d m r k : ℕ) → r ≤ n + 1 → n ≤ 1048576 → d ≤ 225 → m ≤ 1 → k ≤ 1048576 → k + 1 + (r + d + m) < 4294967296

@@ -7,6 +7,7 @@ use Rattle.rv_shape.specs.Shape.{Shape}
 use Rattle.rv_event.specs.Past.{started, under_way, scalars}
 use Rattle.rv_event.specs.declared.entry.Entry.{Entry}
 use Rattle.rv_event.specs.declared.entry.Entry.TheVariants.{Load}
+use Rattle.rv_history.specs.declared.limits.Limits.{Limits}
 use Rattle.rv_history.specs.History.{History}
 use Rattle.rv_history.specs.Legal.{IsLegal}
 use Rattle.rv_history.specs.Owed.{actors, dues, each}
@@ -46,12 +47,12 @@ WherePresent present Fact = (h : History) → IsPresent h.shapes h.past present 
 
 -- it is the present of a legal history of a capacity that hosts have
 pub record Stands (shapes : List Shape) (present : Present) : Type 0 where
-  pub capacity : ℕ
+  pub limits : Limits
   pub past : List Entry
   pub lists : List (List Words)
-  pub legal : IsLegal capacity past shapes lists
-  pub least : 1 ≤ capacity
-  pub most : capacity ≤ 2 ^ 20
+  pub legal : IsLegal limits past shapes lists
+  pub least : 1 ≤ limits.capacity
+  pub most : limits.capacity ≤ 2 ^ 20
   pub is_present : IsPresent shapes past present
 
 -- what an entry changes after these: the body that it starts, and what all owe once it stands, beside their open starts
@@ -61,21 +62,21 @@ pub record IsChange (shapes : List Shape) (past : List Entry) (entry : Entry) (c
 
 -- and the entry, which changes this, is the next of a legal history
 pub record IsNext (shapes : List Shape) (entry : Entry) (change : Change) (present : Present) : Type 0 where
-  pub capacity : ℕ
+  pub limits : Limits
   pub past : List Entry
   pub lists : List (List Words)
-  pub legal : IsLegal capacity (entry ∷ past) shapes lists
-  pub least : 1 ≤ capacity
-  pub most : capacity ≤ 2 ^ 20
+  pub legal : IsLegal limits (entry ∷ past) shapes lists
+  pub least : 1 ≤ limits.capacity
+  pub most : limits.capacity ≤ 2 ^ 20
   pub is_present : IsPresent shapes past present
   pub is_change : IsChange shapes past entry change
 
 -- it is the present before the last of these units was loaded
 pub record IsBeforeLoad (shapes : List Shape) (present : Present) : Type 0 where
-  pub capacity : ℕ
+  pub limits : Limits
   pub past : List Entry
   pub lists : List (List Words)
-  pub legal : IsLegal capacity (Load ∷ past) shapes lists
-  pub least : 1 ≤ capacity
-  pub most : capacity ≤ 2 ^ 20
+  pub legal : IsLegal limits (Load ∷ past) shapes lists
+  pub least : 1 ≤ limits.capacity
+  pub most : limits.capacity ≤ 2 ^ 20
   pub is_present : IsPresent legal.0 past present

@@ -32,7 +32,7 @@ there shapes o p holding vs few fit = by_place (place shapes o) refl
 
 pub called_known : (h : History) (e : Entry) (o : ℕ) → Legal (record h { past = e ∷ h.past }) → called e ≡ Some o → o < most_places
 called_known h (Asked a (Call q p vs) w) o l is =
-    let g = answered (record { capacity = h.capacity; past = h.past; shapes = h.shapes; lists = h.lists }) a (Call q p vs) w l.1 in
+    let g = answered (record { limits = h.limits; past = h.past; shapes = h.shapes; lists = h.lists }) a (Call q p vs) w l.1 in
     let fit = (both (may_call (who h.shapes a) (mode h.shapes a h.past)) (call_fits (length (held h.shapes a h.past)) vs (target h.shapes q p)) g.fits_in).1 in
     let known : q < most_places = there h.shapes q p (length (held h.shapes a h.past)) vs (entry_within h (Asked a (Call q p vs) w) l) fit in
     omega (arith, known, some_number q o is)
@@ -51,7 +51,7 @@ called_known h ListChange o l is = absurd (cc)
 
 pub asker_known : (h : History) (e : Entry) (a : ℕ) → Legal (record h { past = e ∷ h.past }) → asker e ≡ Some a → a < most_actors
 asker_known h (Asked b r w) a l is =
-    let g = answered (record { capacity = h.capacity; past = h.past; shapes = h.shapes; lists = h.lists }) b r w l.1 in
+    let g = answered (record { limits = h.limits; past = h.past; shapes = h.shapes; lists = h.lists }) b r w l.1 in
     let few = entry_within h (Asked b r w) l in
     omega (arith, below b (actors h.shapes) g.known, few.tasks, some_number b a is)
 asker_known h Load a l is = absurd (cc)

@@ -29,7 +29,7 @@ use Rattle.rv_history.proofs.Answered.{off}
 use Rattle.rv_history.proofs.Ending.{head_on, head_waits, names_at}
 use Rattle.rv_history.proofs.HandOver.{done_at_ends}
 use Rattle.rv_history.proofs.Loaded.{protected_place}
-use Rattle.rv_history.proofs.Orderly.{legal_orderly_at}
+use Rattle.rv_history.proofs.Orderly.{legal_orderly_at, legal_queue}
 use Rattle.rv_history.proofs.Stances.{same_number, some_is}
 use Rattle.rv_history.proofs.Waits.{AllWait, joins, legal_waits}
 use Rattle.rv_waiting.proofs.Limits.{entry_within}
@@ -133,11 +133,13 @@ served h a r next n l few e f = by_request r (done_at_ends h a r next e) e
     by_request (Complete vs x) is e =
         let m = names_at h a vs x next n e f in
         let q = m.served_by in
-        let all : AllWait h.shapes h.past (waiting h.past) = legal_waits h.capacity h.past h.shapes h.lists l in
+        let all : AllWait h.shapes h.past (waiting h.past) = legal_waits h.limits h.past h.shapes h.lists l in
         let v = head_waits h.shapes h.past m.body.object q.call q.rest all q.queued in
         let orderly = legal_orderly_at h l in
         let there : q.call.object ≡ m.body.object = same_number q.call.object m.body.object (head_on h.past m.body.object q.call q.rest q.queued) in
-        let none : q.rest ≡ [] = one_only q.call q.rest (subst (λ cs. length cs ≤ 1) q.queued (orderly.queues m.body.object)) in
+        let limit : h.limits.queue ≡ 1 = legal_queue h.limits h.past h.shapes h.lists l in
+        let shortest : length (queue m.body.object h.past) ≤ 1 = subst (λ k. length (queue m.body.object h.past) ≤ k) limit (orderly.queues m.body.object) in
+        let none : q.rest ≡ [] = one_only q.call q.rest (subst (λ cs. length cs ≤ 1) q.queued shortest) in
         let of_entry : IsOfEntry h.shapes q.call = (subst (Each (IsOfEntry h.shapes)) q.queued (each_filter (IsOfEntry h.shapes) (λ c. c.object == m.body.object) (waiting h.past) orderly.calls)).0 in
         let at = protected_place h.shapes q.call.object q.call.operation of_entry.0 of_entry.1 in
         record {
@@ -159,7 +161,7 @@ served h a r next n l few e f = by_request r (done_at_ends h a r next e) e
     by_request Halt is e = absurd (off is)
 
 named_served : (h : History) (e : Entry) (n : ℕ) → Legal (record h { past = e ∷ h.past }) → IsWithin h.shapes → named_in (next_of e) ≡ Some n → Served h.shapes h.past n
-named_served h (Asked a r (Done next)) n l few is = served (record { capacity = h.capacity; past = h.past; shapes = h.shapes; lists = h.lists }) a r next n l.0 few l.1 is
+named_served h (Asked a r (Done next)) n l few is = served (record { limits = h.limits; past = h.past; shapes = h.shapes; lists = h.lists }) a r next n l.0 few l.1 is
 named_served h (Asked a r Started) n l few is = absurd (cc)
 named_served h (Asked a r Queued) n l few is = absurd (cc)
 named_served h (Asked a r (Refused rule line version)) n l few is = absurd (cc)
@@ -198,12 +200,13 @@ not_full n e = by_test (nat_lt n 1) refl e
 
 queues_at : (h : History) (e : Entry) (c : Body) → Legal (record h { past = e ∷ h.past }) → IsWithin h.shapes → queued_by e ≡ Some c → Queues h e c
 queues_at h (Asked a (Call o p vs) Queued) c l few is =
-    let j = joins (record { capacity = h.capacity; past = h.past; shapes = h.shapes; lists = h.lists }) a o p vs l.1 in
+    let j = joins (record { limits = h.limits; past = h.past; shapes = h.shapes; lists = h.lists }) a o p vs l.1 in
     let there : o ≡ c.object = ap (λ (b : Body). b.object) (some_is (record { actor = a; object = o; operation = p }) c is) in
     let at = protected_place h.shapes o p j.site j.at in
+    let limit : h.limits.queue ≡ 1 = legal_queue h.limits h.past h.shapes h.lists l.0 in
     record {
       known = subst (λ m. m < most_places) there (within_objects h.shapes o at.0 few at.1);
-      short = not_full (length (queue c.object h.past)) (ap (λ m. full_queue h m) (sym there) ∙ j.short);
+      short = not_full (length (queue c.object h.past)) (ap (λ k. not (nat_lt (length (queue c.object h.past)) k)) (sym limit) ∙ ap (λ m. full_queue h m) (sym there) ∙ j.short);
       nobody = refl;
     }
 queues_at h (Asked a (Call o p vs) w) c l few is = absurd (cc)
@@ -242,10 +245,16 @@ moved h e named queues long m = then_joins (queued_by e) refl
         let known : c.object < length (left_by named queues) = omega (arith, long, same_length named queues, (queues_at h e c m.legal (entry_within h e m.legal) is).known) in
         one_more (left (named_in (next_of e)) (waiting h.past)) (left_by named queues) c known left_now
 
+-- as many callers as the limit
+pub is_full : (h : History) (o n limit : ℕ) (queues : List (List ℕ)) → h.limits.queue ≡ limit → AreQueues h.past queues → n ≡ length (get_or queues o []) → not (nat_lt n limit) ≡ full_queue h o
+is_full h o n limit queues bound are is =
+    let count : n ≡ length (queue o h.past) = is ∙ ap (λ (ns : List ℕ). length ns) (are o) ∙ length-map (queue o h.past) (λ (call : Body). call.actor) in
+    λ i. not (nat_lt (count i) (sym bound i))
+
 -- the call at the head of a queue is the last queued one of its caller
 pub head_call : (h : History) (o : ℕ) → Legal h → slice_get (queue o h.past) 0 ≡ call_of (slice_get (callers o h.past) 0) h.past
 head_call h o l = by_queue (queue o h.past) refl
   where
     by_queue : (q : List Body) → queue o h.past ≡ q → slice_get q 0 ≡ call_of (slice_get (map (λ call. call.actor) q) 0) h.past
     by_queue [] is = refl
-    by_queue (c ∷ cs) is = sym (head_waits h.shapes h.past o c cs (legal_waits h.capacity h.past h.shapes h.lists l) is).last
+    by_queue (c ∷ cs) is = sym (head_waits h.shapes h.past o c cs (legal_waits h.limits h.past h.shapes h.lists l) is).last

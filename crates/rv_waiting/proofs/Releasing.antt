@@ -77,7 +77,7 @@ another_waits a o (e ∷ later) set earlier silent sets =
     waits_itself a o e (waiter o (later ++ set ∷ earlier)) (not_own a e parts.0) (another_waits a o later set earlier parts.1 sets)
 
 pub released_is : (h : History) (a o : ℕ) → Legal h → stance a h.past ≡ WaitsOn o → not (is_named a (waiter o h.past)) ≡ released a o h.past
-released_is h a o l at = by_outcome (outcome h.capacity h.past h.shapes h.lists a o l at)
+released_is h a o l at = by_outcome (outcome h.limits h.past h.shapes h.lists a o l at)
   where
     by_outcome : Outcome a o h.past → not (is_named a (waiter o h.past)) ≡ released a o h.past
     by_outcome (inl was) = ap (λ w. not (is_named a w)) was.1 ∙ ap not (itself a) ∙ sym was.0

@@ -3,7 +3,7 @@ use Rattle.std.specs.Prelude.{◌≡◌, ◌<◌, ℕ, List, [], ◌∷◌, ◌+
 use Rattle.rv_event.specs.Past.{last_queued, named_in, next_of, queue}
 use Rattle.rv_event.specs.declared.entry.Body.{Body}
 use Rattle.rv_event.specs.declared.entry.Entry.{Entry}
-use Rattle.rv_history.specs.Exclusion.{queue_limit}
+use Rattle.rv_history.specs.Limits.{queue_limit}
 use Rattle.rv_history.specs.History.{History}
 use Rattle.rv_history.specs.Legal.{Legal}
 use Rattle.rv_waiting.specs.Limits.{most_places}
@@ -35,7 +35,7 @@ abbrev pub joined_by : Option Body → List (List ℕ) → List (List ℕ)
 joined_by None queues = queues
 joined_by (Some call) queues = slice_set queues call.object (slice_index_or queues call.object [] ++ call.actor ∷ [])
 
--- the call's object has a queue, and nobody waits in it
+-- the call's object has a queue, with room for one caller more
 abbrev pub CanJoin : Body → List (List ℕ) → Type 0
 CanJoin call queues = (call.object < most_places) × (length (slice_index_or queues call.object []) < queue_limit)
 

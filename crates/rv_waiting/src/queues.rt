@@ -1,6 +1,7 @@
 //! The queues of the objects' entries, each as the entries so far leave it (9.5.3, D.7).
 
-ghost use Rattle.std.specs.Prelude.{◌≡◌, ◌<◌, [], ◌∷◌, ℕ, List, Some, replicate, slice_get, IfOk};
+ghost use Rattle.std.specs.Prelude.{◌≡◌, ◌<◌, [], ◌∷◌, ℕ, List, Some, length, replicate, slice_get};
+ghost use Rattle.std.specs.Prelude.{slice_index_or, IfOk};
 ghost use Rattle.rv_event.specs.Lent.{whole};
 ghost use Rattle.rv_event.specs.Past as past;
 ghost use Rattle.rv_event.specs.declared.entry.Body.{Body as Call};
@@ -65,11 +66,23 @@ impl Queues {
         self.items.get(object)?.head()
     }
 
-    /// Whether the queue of the object is full.
-    pub fn is_full(&self, object: usize) -> bool
-        ensures { (h : History) → AreQueues h.past self.now → result ≡ full_queue h object }
+    // How many callers wait on the object.
+    fn callers_on(&self, object: usize) -> usize
+        ensures { result ≡ length (slice_index_or self.now object []) }
     {
-        object < self.items.len() && self.items[object].is_full()
+        match self.items.get(object) {
+            Some(queue) => queue.len(),
+            None => 0,
+        }
+    }
+
+    /// Whether the queue of the object is full, where queues have this limit.
+    #[tactic(auto, using(crate::proofs::Queueing::is_full))]
+    pub fn is_full(&self, object: usize, limit: usize) -> bool
+        ensures { (h : History) → h.limits.queue ≡ limit → AreQueues h.past self.now →
+            result ≡ full_queue h object }
+    {
+        self.callers_on(object) >= limit
     }
 
     // The first caller on the object of a call leaves.

@@ -68,11 +68,12 @@ impl Waiting {
         self.queues.head(object)
     }
 
-    /// Whether the queue of the object is full (D.7).
-    pub fn is_full(&self, object: usize) -> bool
-        ensures { (h : History) → IsWaiting h.past self.now → result ≡ full_queue h object }
+    /// Whether the queue of the object is full, where queues have this limit (D.7).
+    pub fn is_full(&self, object: usize, limit: usize) -> bool
+        ensures { (h : History) → h.limits.queue ≡ limit → IsWaiting h.past self.now →
+            result ≡ full_queue h object }
     {
-        self.queues.is_full(object)
+        self.queues.is_full(object, limit)
     }
 
     /// Whether the suspension object is True (Current_State, D.10).

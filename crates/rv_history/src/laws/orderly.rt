@@ -11,7 +11,7 @@ ghost use Rattle.rv_history.specs.Orderly.{IsOrderly, is_exclusive_on, is_on};
 /// and queues keep their limits, and bodies and queued calls are of operations that there are.
 #[tactic(auto, using(crate::proofs::Orderly::legal_orderly))]
 pub fn legal_histories_are_orderly()
-    ensures { (h : History) → Legal h → IsOrderly h.shapes h.past }
+    ensures { (h : History) → Legal h → IsOrderly h.limits h.shapes h.past }
 {}
 
 /// An object that somebody holds exclusively is held by that one alone.

@@ -16,7 +16,7 @@ ghost use Rattle.rv_history.specs.Owed.{IsSolvent, has_room, is_paid, owed, room
 /// On a legal history what is owed has its room: room is never negative.
 #[tactic(auto, using(crate::proofs::Room::legal_solvent))]
 pub fn room_is_never_negative()
-    ensures { (h : History) → 1 ≤ h.capacity → Legal h → IsSolvent h }
+    ensures { (h : History) → 1 ≤ h.limits.capacity → Legal h → IsSolvent h }
 {}
 
 /// An entry, with the shapes that there are then, has its room exactly where its cost, one and the
@@ -24,7 +24,7 @@ pub fn room_is_never_negative()
 #[tactic(auto, using(crate::proofs::Room::room_reads))]
 pub fn cost_is_one_and_the_change_of_owed()
     ensures { (h : History) (entry : Entry) (shapes : List Shape) → IsSolvent h →
-        (has_room h.capacity shapes (entry ∷ h.past) ≡ true)
+        (has_room h.limits.capacity shapes (entry ∷ h.past) ≡ true)
         ↔ (1 + owed shapes (entry ∷ h.past) ≤ room h + owed h.shapes h.past) }
 {}
 
@@ -32,7 +32,7 @@ pub fn cost_is_one_and_the_change_of_owed()
 #[tactic(auto, using(crate::proofs::Costs::load_costs))]
 pub fn loads_cost_one_and_their_tasks()
     ensures { (h : History) (shape : Shape) → Legal h → IsSolvent h →
-        (has_room h.capacity (h.shapes ++ shape ∷ []) (Load ∷ h.past) ≡ true)
+        (has_room h.limits.capacity (h.shapes ++ shape ∷ []) (Load ∷ h.past) ≡ true)
         ↔ (1 + length shape.tasks ≤ room h) }
 {}
 
@@ -40,7 +40,7 @@ pub fn loads_cost_one_and_their_tasks()
 #[tactic(auto, using(crate::proofs::Costs::list_costs))]
 pub fn list_changes_cost_one()
     ensures { (h : History) → IsSolvent h →
-        (has_room h.capacity h.shapes (ListChange ∷ h.past) ≡ true) ↔ (1 ≤ room h) }
+        (has_room h.limits.capacity h.shapes (ListChange ∷ h.past) ≡ true) ↔ (1 ≤ room h) }
 {}
 
 /// Full is never due: it stands in for an answer that has no room.

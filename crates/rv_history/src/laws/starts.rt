@@ -18,7 +18,7 @@ ghost use Rattle.rv_history.specs.Owed.{has_room};
 #[tactic(auto, using(crate::proofs::Exactly::exactly))]
 pub fn starts_exactly_when_allowed()
     ensures { (h : History) (actor : ℕ) (request : Request) →
-        has_room h.capacity h.shapes (Asked actor request Started ∷ h.past) ≡ true →
+        has_room h.limits.capacity h.shapes (Asked actor request Started ∷ h.past) ≡ true →
         (recorded (out h actor request) ≡ Some Started) ↔ IsAllowed h actor request }
 {}
 
@@ -27,7 +27,7 @@ pub fn starts_exactly_when_allowed()
 pub fn start_gives_the_scalars()
     ensures { (h : History) (actor : ℕ) (request : Request)
         (allowed : IsAllowed h actor request) →
-        has_room h.capacity h.shapes (Asked actor request Started ∷ h.past) ≡ true →
+        has_room h.limits.capacity h.shapes (Asked actor request Started ∷ h.past) ≡ true →
         out h actor request ≡ answers.Started (scalars h.shapes allowed.object h.past) }
 {}
 
@@ -36,6 +36,6 @@ pub fn start_gives_the_scalars()
 /// priority isn't above the ceiling, and nobody holds the object.
 pub fn fired_lines_start_exactly_when_they_may()
     ensures { (h : History) (actor line : ℕ) → who h.shapes actor ≡ Line line →
-        has_room h.capacity h.shapes (Asked actor Fire Started ∷ h.past) ≡ true →
+        has_room h.limits.capacity h.shapes (Asked actor Fire Started ∷ h.past) ≡ true →
         (recorded (out h actor Fire) ≡ Some Started) ↔ MayFire h actor line }
 {}

@@ -1,9 +1,10 @@
 //! Loads of units.
 
-ghost use Rattle.std.specs.Prelude.{◌≡◌, ◌≤◌, ◌+◌, ◌++◌, ◌∷◌, [], ℕ, List, length};
+ghost use Rattle.std.specs.Prelude.{◌≡◌, ◌≤◌, ◌+◌, ◌++◌, ◌∷◌, [], List, length};
 ghost use Rattle.rv_access.specs.Words.{Words};
 ghost use Rattle.rv_event.specs.declared.entry.Entry.{Entry};
 ghost use Rattle.rv_history.specs.Legal.{IsLegal};
+ghost use Rattle.rv_history.specs.declared.limits.Limits.{Limits};
 ghost use Rattle.rv_history.specs.Owed as owed;
 ghost use Rattle.rv_present.specs.Limits.{most_actors};
 ghost use Rattle.rv_present.specs.Loads.{HasGrown};
@@ -22,8 +23,8 @@ impl Present {
     pub fn taken_with_load(&self, catalogue: &Catalogue, shape: &UnitShape) -> usize
         requires stands { Stands catalogue.now self.now }
         requires few { owed.actors catalogue.now + length shape.now.tasks ≤ most_actors }
-        ensures { (capacity : ℕ) (before : List Entry) (lists : List (List Words)) →
-            IsLegal capacity before catalogue.now lists → IsPresent catalogue.now before self.now →
+        ensures { (limits : Limits) (before : List Entry) (lists : List (List Words)) →
+            IsLegal limits before catalogue.now lists → IsPresent catalogue.now before self.now →
             result ≡ length (Entry.Load ∷ before) + owed.owed (catalogue.now ++ shape.now ∷ []) (Entry.Load ∷ before) }
     {
         let actors = self.stances.actors() + shape.tasks().len();
@@ -45,8 +46,8 @@ impl Present {
     /// One more load, of the last of the units.
     pub fn note_load(&mut self, catalogue: &Catalogue)
         requires { IsBeforeLoad catalogue.now self.old }
-        ensures { (capacity : ℕ) (before : List Entry) (lists : List (List Words))
-            (legal : IsLegal capacity (Entry.Load ∷ before) catalogue.now lists) →
+        ensures { (limits : Limits) (before : List Entry) (lists : List (List Words))
+            (legal : IsLegal limits (Entry.Load ∷ before) catalogue.now lists) →
             IsPresent legal.0 before self.old →
             IsPresent catalogue.now (Entry.Load ∷ before) self.new }
     {

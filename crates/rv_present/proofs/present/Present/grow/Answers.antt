@@ -6,4 +6,4 @@ use Rattle.rv_present.proofs.present.Present.grow.Goals as goal
 pub put_after-requires-clause-small : goal.put_after-requires-clause-small
 put_after-requires-clause-small c =
     let k = c.requires in
-    λ object. small (record { capacity = k.capacity; past = Load ∷ k.past; shapes = c.args.catalogue.now; lists = k.lists }) object k.legal
+    λ object. small (record { limits = k.limits; past = Load ∷ k.past; shapes = c.args.catalogue.now; lists = k.lists }) object k.legal

@@ -8,7 +8,7 @@ use Rattle.rv_present.proofs.present.Present.taken.Goals as goal
 all_little : (c : goal.After-halt_due-halt) → c.args.self.now.counts.entries + 1 + (c.args.self.now.bodies.number + c.dues-dues.result + c.halt_due-halt.result) < 4294967296
 all_little c =
     let k = c.requires.1 in
-    let few = few_bodies k.capacity k.past c.requires.0 k.lists k.legal k.least in
+    let few = few_bodies k.limits k.past c.requires.0 k.lists k.legal k.least in
     let ss = c.args.self.now.stances in
     little_sum c.args.self.now.bodies.number c.dues-dues.result c.halt_due-halt.result c.args.self.now.bodies.number c.args.self.now.counts.entries (omega arith)
     (omega (arith, k.is_present.bodies_are.count, few, k.most))

@@ -11,7 +11,7 @@ use Rattle.rv_present.proofs.present.Present.taken_with_load.Goals as goal
 all_little : (c : goal.After-halt_due_with-halt) → c.args.self.now.counts.entries + 1 + (c.args.self.now.bodies.number + c.dues_of-dues.result + c.halt_due_with-halt.result) < 4294967296
 all_little c =
     let k = c.requires.stands in
-    let few = few_bodies k.capacity k.past c.args.catalogue.now k.lists k.legal k.least in
+    let few = few_bodies k.limits k.past c.args.catalogue.now k.lists k.legal k.least in
     little_sum c.args.self.now.bodies.number c.dues_of-dues.result c.halt_due_with-halt.result c.args.self.now.bodies.number c.args.self.now.counts.entries (omega arith)
     (omega (arith, k.is_present.bodies_are.count, few, k.most))
     (omega (arith, c.dues_of-dues.ensures.within, c.actors.ensures.value, ap (λ ts. length ts) c.tasks.ensures, c.requires.few, k.is_present.actors_are)) c.halt_due_with-halt.ensures.within
@@ -30,9 +30,9 @@ pub overflow_add-result-4 : goal.overflow_add-result-4
 overflow_add-result-4 c = omega (arith, all_little c)
 
 pub returns : goal.returns
-returns c = λ capacity past lists legal was.
+returns c = λ limits past lists legal was.
     let shapes = c.args.catalogue.now in
-    let h : History = record { capacity = capacity; past = past; shapes = shapes; lists = lists } in
+    let h : History = record { limits = limits; past = past; shapes = shapes; lists = lists } in
     let ss = c.args.self.now.stances in
     let n : c.actors.result + length c.tasks.result.now ≡ actors shapes + length c.args.shape.now.tasks =
     omega (arith, c.actors.ensures.value, was.actors_are, ap (λ ts. length ts) c.tasks.ensures) in

@@ -1,0 +1,28 @@
+//! What bounds a host.
+
+ghost use Rattle.std.specs.Prelude.{◌≡◌};
+ghost use Rattle.rv_history.specs.Limits.{limits_of};
+
+/// What bounds a host, and no act changes.
+#[derive(Clone, Copy, Drop)]
+pub struct Limits {
+    /// How many entries there may be, 16 .. 1,048,576.
+    pub capacity: usize,
+    /// How many callers may wait in a queue (D.7): 1.
+    pub queue: usize,
+}
+
+/// How many callers may wait in a queue (D.7).
+const QUEUE_LIMIT: usize = 1;
+
+impl Limits {
+    /// Those of a host with room for that many entries, 16 .. 1,048,576.
+    pub fn of(capacity: usize) -> Limits
+        ensures { result ≡ limits_of capacity }
+    {
+        Limits {
+            capacity,
+            queue: QUEUE_LIMIT,
+        }
+    }
+}
