@@ -5,13 +5,14 @@ use Rattle.rv_event.specs.declared.entry.Request.{Request}
 use Rattle.rv_event.specs.declared.entry.Answer.{Answer}
 use Rattle.rv_event.specs.declared.entry.Answer.TheVariants as Answers
 use Rattle.rv_event.specs.declared.entry.Recorded.{Recorded}
+use Rattle.rv_history.specs.declared.limits.Limits.{Limits}
 use Rattle.rv_history.specs.Due.{out}
 use Rattle.rv_history.specs.Legal.{Legal}
 use Rattle.rv_turn.specs.Histories.{mine, StartsWith}
 use Rattle.rv_turn.specs.Passes.{Acted, IsWorn}
 use Rattle.rv_port.specs.Events.{by, history_at, catalogue_of}
 use Rattle.rv_port.specs.Acting.{entered, grown, Does, begun_by}
-use Rattle.rv_port.specs.Traces.{Passing, capacity_in, told, IsTold, asks_on, noted, noted_if, EachInVain, InVain, WoreOut, Went, Asked, Replied, RepliedOnce, Settled}
+use Rattle.rv_port.specs.Traces.{Passing, limits_in, told, IsTold, asks_on, noted, noted_if, EachInVain, InVain, WoreOut, Went, Asked, Replied, RepliedOnce, Settled}
 use Rattle.std.specs.Prelude.{Result, Ok, Err, MatchResult}
 use Rattle.rv_turn.specs.declared.pass.Worn.{Worn}
 use Rattle.rv_exec.specs.Asking.{stands}
@@ -20,7 +21,6 @@ use Rattle.rv_port.specs.declared.event.Begun.{Begun}
 use Rattle.rv_port.specs.declared.event.Lent.{Lent}
 use Rattle.rv_port.specs.declared.event.Event.{Event}
 use Rattle.rv_port.specs.declared.event.Event.TheVariants.{Asks, Lists}
-use Rattle.rv_port.specs.declared.event.Limits.{Limits}
 use Rattle.rv_port.specs.declared.event.Ask.TheVariants as Wants
 use Rattle.rv_port.specs.declared.event.Reply.TheVariants as Gives
 
@@ -93,23 +93,23 @@ not_kept Answers.OutOfMemory e = refl
 in_vain_none : (v : Passing) (q : Request) → InVain v q v
 in_vain_none v q = record { times = []; each = refl; acts = omega arith; same = refl }
 
-each_both : (limit a : ℕ) (q : Request) (seen mid last : List Event) (xs ys : List (List Event)) → EachInVain limit a q seen xs mid → EachInVain limit a q mid ys last → EachInVain limit a q seen (xs ++ ys) last
-each_both limit a q seen mid last [] ys t u = subst (λ (z : List Event). EachInVain limit a q z ys last) t u
-each_both limit a q seen mid last (x ∷ xs) ys t u = (t.0, t.1, t.2, each_both limit a q x mid last xs ys t.3 u)
+each_both : (limits : Limits) (a : ℕ) (q : Request) (seen mid last : List Event) (xs ys : List (List Event)) → EachInVain limits a q seen xs mid → EachInVain limits a q mid ys last → EachInVain limits a q seen (xs ++ ys) last
+each_both limits a q seen mid last [] ys t u = subst (λ (z : List Event). EachInVain limits a q z ys last) t u
+each_both limits a q seen mid last (x ∷ xs) ys t u = (t.0, t.1, t.2, each_both limits a q x mid last xs ys t.3 u)
 
-each_later : (limit a : ℕ) (q : Request) (seen last : List Event) (xs : List (List Event)) → EachInVain limit a q seen xs last → StartsWith last seen
-each_later limit a q seen last [] t = subst (λ (z : List Event). StartsWith z seen) (sym t) (starts_self seen)
-each_later limit a q seen last (x ∷ xs) t = starts_both seen x last t.0 (each_later limit a q x last xs t.3)
+each_later : (limits : Limits) (a : ℕ) (q : Request) (seen last : List Event) (xs : List (List Event)) → EachInVain limits a q seen xs last → StartsWith last seen
+each_later limits a q seen last [] t = subst (λ (z : List Event). StartsWith z seen) (sym t) (starts_self seen)
+each_later limits a q seen last (x ∷ xs) t = starts_both seen x last t.0 (each_later limits a q x last xs t.3)
 
 pub in_vain_later : (v w : Passing) (q : Request) → InVain v q w → StartsWith w.seen v.seen
-in_vain_later v w q p = each_later (capacity_in v.about) v.actor q v.seen w.seen p.times p.each
+in_vain_later v w q p = each_later (limits_in v.about) v.actor q v.seen w.seen p.times p.each
 
 in_vain_both : (v u w : Passing) (q : Request) → InVain v q u → InVain u q w → InVain v q w
 in_vain_both v u w q p r = let sa : u.actor ≡ v.actor = ap (λ (k : Passing). k.actor) p.same in let sl : u.about ≡ v.about = ap (λ (k : Passing). k.about) p.same in
     let one : u.left + length p.times ≡ v.left = p.acts in let two : w.left + length r.times ≡ u.left = r.acts in record {
       times = p.times ++ r.times;
-      each = each_both (capacity_in v.about) v.actor q v.seen u.seen w.seen p.times r.times p.each
-          (subst (λ (z : Option Limits × ℕ). EachInVain (capacity_in z.0) z.1 q u.seen r.times w.seen) (λ i. (sl i, sa i)) r.each);
+      each = each_both (limits_in v.about) v.actor q v.seen u.seen w.seen p.times r.times p.each
+          (subst (λ (z : Option Limits × ℕ). EachInVain (limits_in z.0) z.1 q u.seen r.times w.seen) (λ i. (sl i, sa i)) r.each);
       acts = omega (arith, one, two, length-append p.times r.times);
       same = r.same ∙ ap (λ (k : Passing). record k { seen = w.seen; left = w.left }) p.same;
     }
@@ -135,7 +135,7 @@ in_vain_more v u w q r p x e = in_vain_both v u w q p (one) where
   one : InVain u q w
   one = record {
     times = x.in_vain.times ++ x.at ∷ [];
-    each = each_both (capacity_in u.about) u.actor q u.seen x.before.seen w.seen x.in_vain.times (x.at ∷ []) x.in_vain.each
+    each = each_both (limits_in u.about) u.actor q u.seen x.before.seen w.seen x.in_vain.times (x.at ∷ []) x.in_vain.each
         (x.later, x.legal, sym (ap asks_on x.due_is) ∙ e, same_seen);
     acts = omega (arith, act, acts, length-append x.in_vain.times (x.at ∷ []));
     same = x.same ∙ ap (λ (l : List Event). record u { seen = w.seen; own = l; left = w.left }) same_own;
@@ -150,13 +150,13 @@ asked_later v w q r x = starts_both v.seen x.at w.seen x.from (subst (λ (l : Li
 
 -- one act is one ask
 pub asked_act : (v w : Passing) (q : Request) (r : Answer) (at : List Event) (limits : Limits) → v.about ≡ Some limits → StartsWith at v.seen → mine by v.actor at ≡ v.base ++ v.own
-    → Legal (history_at limits.capacity at) → r ≡ out (history_at limits.capacity at) v.actor q → w.seen ≡ grown at v.actor q r
+    → Legal (history_at limits at) → r ≡ out (history_at limits at) v.actor q → w.seen ≡ grown at v.actor q r
     → ((w.seen ≡ at) × (w.own ≡ v.own)) ⊎ ((e : Event) × (by e ≡ v.actor) × (w.seen ≡ at ++ e ∷ []) × (w.own ≡ v.own ++ e ∷ []))
     → mine by w.actor w.seen ≡ w.base ++ w.own → 0 < v.left → w ≡ record v { seen = w.seen; own = w.own; left = v.left - 1 } → Asked v q r w
 asked_act v w q r at limits about later owned legal due grew entry owns some same =
-    let cap : limits.capacity ≡ capacity_in v.about = sym (ap capacity_in about) in
-    let legal' : Legal (history_at (capacity_in v.about) at) = subst (λ (n : ℕ). Legal (history_at n at)) cap legal in
-    let due' : r ≡ out (history_at (capacity_in v.about) at) v.actor q = due ∙ ap (λ (n : ℕ). out (history_at n at) v.actor q) cap in
+    let same_limits : limits ≡ limits_in v.about = sym (ap limits_in about) in
+    let legal' : Legal (history_at (limits_in v.about) at) = subst (λ (n : Limits). Legal (history_at n at)) same_limits legal in
+    let due' : r ≡ out (history_at (limits_in v.about) at) v.actor q = due ∙ ap (λ (n : Limits). out (history_at n at) v.actor q) same_limits in
     let own : w.own ≡ v.own ++ noted v.actor ((q, r) ∷ []) = own_grows (recorded r) v.actor q at w.seen v.own w.own grew entry in
     let fewer : w.left ≡ v.left - 1 = ap (λ (k : Passing). k.left) same in record {
       before = v;
@@ -209,8 +209,8 @@ asked_after v u w q r p x = let sa : u.actor ≡ v.actor = ap (λ (k : Passing).
       later = x.later;
       from = starts_both v.seen u.seen x.at (in_vain_later v u q p) x.from;
       owned = subst (λ (n : ℕ). mine by n x.at ≡ v.base ++ v.own) sa (x.owned ∙ (λ i. sb i ++ so i));
-      legal = subst (λ (n : Option Limits). Legal (history_at (capacity_in n) x.at)) sl x.legal;
-      due_is = x.due_is ∙ (λ i. out (history_at (capacity_in (sl i)) x.at) (sa i) q);
+      legal = subst (λ (n : Option Limits). Legal (history_at (limits_in n) x.at)) sl x.legal;
+      due_is = x.due_is ∙ (λ i. out (history_at (limits_in (sl i)) x.at) (sa i) q);
       seen_is = x.seen_is ∙ ap (λ (n : ℕ). grown x.at n q r) sa;
       own_is = x.own_is ∙ (ap (λ (n : ℕ). u.own ++ noted n ((q, r) ∷ [])) sa ∙ ap (λ (l : List Event). l ++ noted v.actor ((q, r) ∷ [])) so);
       owns = x.owns;

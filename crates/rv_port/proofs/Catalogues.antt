@@ -6,6 +6,7 @@ use Rattle.atomic_table.specs.Seated.{TableId}
 use Rattle.rv_access.specs.Words.{Words}
 use Rattle.rv_access.specs.declared.change.Change.{Change}
 use Rattle.rv_shape.specs.Shape.{Shape}
+use Rattle.rv_history.specs.declared.limits.Limits.{Limits}
 use Rattle.rv_history.specs.Legal.{Legal}
 use Rattle.rv_history.specs.History.{History}
 use Rattle.rv_turn.specs.Histories.{mine}
@@ -18,7 +19,7 @@ use Rattle.rv_history.specs.History.{force}
 use Rattle.rv_history.specs.Lists.{changed}
 use Rattle.rv_code.specs.declared.body.UnitBodies.{UnitBodies}
 use Rattle.rv_port.specs.Events.{by, log_of, history_at, shapes_of, with_shape, catalogue_of}
-use Rattle.rv_port.specs.Acting.{limits_of, entered, listed as listed_to, Due, Unloaded, Changed, IfOperator}
+use Rattle.rv_port.specs.Acting.{entered, listed as listed_to, Due, Unloaded, Changed, IfOperator}
 use Rattle.rv_port.specs.Controls.{IsControl}
 use Rattle.rv_port.specs.declared.event.Ask.{Ask}
 use Rattle.rv_port.specs.declared.event.Ask.TheVariants as Wants
@@ -53,7 +54,7 @@ pub same_catalogue : (one two : List Event) → mine by 0 one ≡ mine by 0 two 
 same_catalogue one two e = sym (catalogue_mine one) ∙ (ap catalogue_of e ∙ catalogue_mine two)
 
 -- a new control
-pub opened : (turn : TableId) (h : History) (us : List UnitBodies) → Legal h → IsControl turn (opening_of turn (limits_of h) by (log_of h us)) [] h.shapes
+pub opened : (turn : TableId) (h : History) (us : List UnitBodies) → Legal h → IsControl turn (opening_of turn h.limits by (log_of h us)) [] h.shapes
 opened turn h us l = record {
   here = refl;
   first = refl;
@@ -87,15 +88,15 @@ changed_catalogue : (b : Bool) (list : Option (List Words)) (log after : List Ev
 changed_catalogue true list log after e = listed_catalogue list log after e
 changed_catalogue false list log after e = ap catalogue_of e
 
-change_catalogue : (b : Bool) (c : ℕ) (log : List Event) (change : Change) (r : Answer) (after : List Event) → IfOperator b (Changed c log change r after) r log after → catalogue_of after ≡ catalogue_of log
+change_catalogue : (b : Bool) (c : Limits) (log : List Event) (change : Change) (r : Answer) (after : List Event) → IfOperator b (Changed c log change r after) r log after → catalogue_of after ≡ catalogue_of log
 change_catalogue true c log change r after d = changed_catalogue (is_some (recorded r)) (changed (force (history_at c log)) change) log after d.1
 change_catalogue false c log change r after d = ap catalogue_of d.1
 
-unload_catalogue : (b : Bool) (c : ℕ) (log : List Event) (shape : Shape) (r : Answer) (after : List Event) → IfOperator b (Unloaded c log shape r after) r log after → catalogue_of after ≡ catalogue_of log
+unload_catalogue : (b : Bool) (c : Limits) (log : List Event) (shape : Shape) (r : Answer) (after : List Event) → IfOperator b (Unloaded c log shape r after) r log after → catalogue_of after ≡ catalogue_of log
 unload_catalogue true c log shape r after d = ap catalogue_of d.2
 unload_catalogue false c log shape r after d = ap catalogue_of d.1
 
-pub due_catalogue : (c : ℕ) (log : List Event) (a : ℕ) (ask : Ask) (reply : Reply) (after : List Event) → LoadsNothing ask → Due c log a ask reply after → catalogue_of after ≡ catalogue_of log
+pub due_catalogue : (c : Limits) (log : List Event) (a : ℕ) (ask : Ask) (reply : Reply) (after : List Event) → LoadsNothing ask → Due c log a ask reply after → catalogue_of after ≡ catalogue_of log
 due_catalogue c log a (Wants.Step q) (Gives.Answered r b lent) after n d = entered_catalogue (recorded r) log a q after d.0.1
 due_catalogue c log a (Wants.Load shape unit) (Gives.Answered r b lent) after n d = absurd n
 due_catalogue c log a (Wants.LoadWithoutMemory shape) (Gives.Answered r b lent) after n d = unload_catalogue (eqb a 0) c log shape r after d

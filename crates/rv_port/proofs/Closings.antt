@@ -10,7 +10,6 @@ use Rattle.rv_turn.specs.Passes.{StandsIn}
 use Rattle.std.specs.Prelude.{Some}
 use Rattle.atomic_table.specs.Seated.{TableId}
 use Rattle.rv_port.specs.Events.{by, log_of}
-use Rattle.rv_port.specs.Acting.{limits_of}
 use Rattle.rv_port.specs.Traces.{Passing}
 use Rattle.rv_port.specs.Ports.{Porting, pass_of}
 use Rattle.rv_port.specs.Closing.{KeepsAll, IsClosed}
@@ -68,7 +67,7 @@ each_keeps log [] t = tt
 each_keeps log (p ∷ ps) t = ((λ a. mine_later a p.seen log t.0.0), each_keeps log ps t.1)
 
 pub closed : (control : Passing) (finished passes : List Passing) (h : History) (us : List UnitBodies) → Legal h → length us ≡ length h.shapes → passes ≡ reverse finished → StandsIn by (log_of h us) control
-    → Each (StandsIn by (log_of h us)) passes → NoStrangers by (log_of h us) control.given → control.about ≡ Some (limits_of h) → IsClosed control finished h
+    → Each (StandsIn by (log_of h us)) passes → NoStrangers by (log_of h us) control.given → control.about ≡ Some h.limits → IsClosed control finished h
 closed control finished passes h us l some is own stand none about = let stood : Each (StandsIn by (log_of h us)) finished = each_forth (StandsIn by (log_of h us)) finished passes is stand in record {
   legal = l;
   units = us;

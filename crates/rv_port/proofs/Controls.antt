@@ -4,6 +4,7 @@ use Rattle.std.specs.Prelude.{◌-◌, is_some, Some, Result, Ok, Err, MatchResu
 use Rattle.rv_turn.specs.declared.pass.Worn.{Worn}
 use Rattle.atomic_table.specs.Seated.{TableId}
 use Rattle.rv_shape.specs.Shape.{Shape}
+use Rattle.rv_history.specs.declared.limits.Limits.{Limits}
 use Rattle.rv_history.specs.Legal.{Legal}
 use Rattle.rv_history.specs.History.{History}
 use Rattle.rv_turn.specs.Histories.{mine}
@@ -16,7 +17,7 @@ use Rattle.rv_exec.specs.Bodies.{held}
 use Rattle.rv_exec.specs.declared.bodies.SharedUnit.{SharedUnit}
 use Rattle.rv_exec.specs.declared.bodies.Bodies.{Bodies}
 use Rattle.rv_port.specs.Events.{by, log_of, log_in, rest_of, catalogue_of}
-use Rattle.rv_port.specs.Acting.{limits_of, Does, Due, LoadedIf, fits_behind, IfOperator}
+use Rattle.rv_port.specs.Acting.{Does, Due, LoadedIf, fits_behind, IfOperator}
 use Rattle.rv_port.specs.Traces.{Passing}
 use Rattle.rv_port.specs.Controls.{IsControl, Told, LoadTold, BeginsWith, are_of, BringsIf, Brings, no_bodies_of, answer_in}
 use Rattle.rv_port.specs.declared.event.Ask.{Ask}
@@ -51,7 +52,7 @@ acted_control turn v w given catalogue more k same owns is =
 pub act_kept : (turn : TableId) (v w : Passing) (given : List ℕ) (catalogue : List Shape) (ask : Ask) (reply : Reply) → IsControl turn v given catalogue → LoadsNothing ask → Acted by Does v ask reply w → IsControl turn w given catalogue
 act_kept turn v w given catalogue ask reply k n a =
     acted_control turn v w given catalogue catalogue k a.same a.owns
-    (at_catalogue turn v given catalogue a.at k a.owned ∙ sym (due_catalogue a.about.capacity a.at v.actor ask reply w.seen n a.answer.1))
+    (at_catalogue turn v given catalogue a.at k a.owned ∙ sym (due_catalogue a.about a.at v.actor ask reply w.seen n a.answer.1))
 
 pub told_kept : (turn : TableId) (v w : Passing) (given : List ℕ) (catalogue : List Shape) (ask : Ask) (r : Answer) → IsControl turn v given catalogue → LoadsNothing ask → Told v ask r w → IsControl turn w given catalogue
 told_kept turn v w given catalogue ask r k n t = act_kept turn v w given catalogue ask t.0 k n t.2
@@ -72,11 +73,11 @@ unkept : (b : Bool) (catalogue : List Shape) (shape : Shape) → b ≡ false →
 unkept true catalogue shape e = absurd (cc e)
 unkept false catalogue shape e = refl
 
-if_catalogue : (fits : Bool) (c : ℕ) (log after : List Event) (shape : Shape) (unit : UnitBodies) (r : Answer) → LoadedIf fits c log shape unit r after → catalogue_of after ≡ with_loaded (is_some (recorded r)) (catalogue_of log) shape
+if_catalogue : (fits : Bool) (c : Limits) (log after : List Event) (shape : Shape) (unit : UnitBodies) (r : Answer) → LoadedIf fits c log shape unit r after → catalogue_of after ≡ with_loaded (is_some (recorded r)) (catalogue_of log) shape
 if_catalogue true c log after shape unit r d = loaded_catalogue (is_some (recorded r)) log after shape unit d.1
 if_catalogue false c log after shape unit r d = ap catalogue_of d.1 ∙ unkept (is_some (recorded r)) (catalogue_of log) shape (ap is_some d.0)
 
-load_due : (c : ℕ) (log : List Event) (a : ℕ) (shape : Shape) (unit : SharedUnit) (reply : Reply) (after : List Event) → a ≡ 0 → Due c log a (Wants.Load shape unit) reply after
+load_due : (c : Limits) (log : List Event) (a : ℕ) (shape : Shape) (unit : SharedUnit) (reply : Reply) (after : List Event) → a ≡ 0 → Due c log a (Wants.Load shape unit) reply after
     → catalogue_of after ≡ with_loaded (is_some (recorded (answer_in reply))) (catalogue_of log) shape
 load_due c log a shape unit (Gives.Answered r b lent) after none d =
     if_catalogue (fits_behind log shape (held unit)) c log after shape (held unit) r (subst (λ (n : ℕ). IfOperator (eqb n 0) (LoadedIf (fits_behind log shape (held unit)) c log shape (held unit) r after) r log after) none d)
@@ -89,7 +90,7 @@ pub load_told : (turn : TableId) (v w : Passing) (given : List ℕ) (catalogue :
 load_told turn v w given catalogue shape unit r k t = let a = t.2 in
     acted_control turn v w given catalogue (with_loaded (is_some (recorded r)) catalogue shape) k a.same a.owns
     ((λ i. with_loaded (is_some (recorded (t.1 i))) (at_catalogue turn v given catalogue a.at k a.owned i) shape)
-    ∙ sym (load_due a.about.capacity a.at v.actor shape unit t.0 w.seen k.operator a.answer.1))
+    ∙ sym (load_due a.about a.at v.actor shape unit t.0 w.seen k.operator a.answer.1))
 
 -- the bodies of a load, told otherwise
 pub load_such : (v w : Passing) (shape : Shape) (P Q : UnitBodies → Type 0) (r : Answer) → ((u : UnitBodies) → P u → Q u) → LoadTold v shape P r w → LoadTold v shape Q r w
@@ -139,20 +140,20 @@ pub act_or_worn : (turn : TableId) (v w : Passing) (given : List ℕ) (catalogue
 act_or_worn turn v w given catalogue ask (Ok r) k n t = act_kept turn v w given catalogue ask r k n t
 act_or_worn turn v w given catalogue ask (Err e) k n t = worn_kept turn v w given catalogue k t
 
-pub opened_by : (turn : TableId) (pass : Passing) (given : List ℕ) (catalogue : List Shape) (h : History) (us : List UnitBodies) → Legal h → pass ≡ opening_of turn (limits_of h) by (log_of h us) → given ≡ [] → catalogue ≡ h.shapes
+pub opened_by : (turn : TableId) (pass : Passing) (given : List ℕ) (catalogue : List Shape) (h : History) (us : List UnitBodies) → Legal h → pass ≡ opening_of turn h.limits by (log_of h us) → given ≡ [] → catalogue ≡ h.shapes
     → IsControl turn pass given catalogue
 opened_by turn pass given catalogue h us l is none same =
     subst (λ (z : Passing × List ℕ × List Shape). IsControl turn z.0 z.1 z.2) (λ i. (sym is i, sym none i, sym same i)) (opened turn h us l)
 
 -- the opening view of this host, behind whatever it stands
-pub opens_on : (turn : TableId) (pass : Passing) (h k : History) (b d : Bodies) → h ≡ k → b ≡ d → pass ≡ opening_of turn (limits_of h) by (log_in h b) → pass ≡ opening_of turn (limits_of k) by (log_in k d)
-opens_on turn pass h k b d here same is = is ∙ (λ i. opening_of turn (limits_of (here i)) by (log_in (here i) (same i)))
+pub opens_on : (turn : TableId) (pass : Passing) (h k : History) (b d : Bodies) → h ≡ k → b ≡ d → pass ≡ opening_of turn h.limits by (log_in h b) → pass ≡ opening_of turn k.limits by (log_in k d)
+opens_on turn pass h k b d here same is = is ∙ (λ i. opening_of turn (here i).limits by (log_in (here i) (same i)))
 
 -- what a control begins with
-pub begins : (turn : TableId) (pass : Passing) (h : History) (us : List UnitBodies) → map unit_view us ≡ map no_bodies_of h.shapes → pass ≡ opening_of turn (limits_of h) by (log_of h us)
-    → BeginsWith h pass.seen × (pass ≡ opening_of pass.turn (limits_of h) by pass.seen)
+pub begins : (turn : TableId) (pass : Passing) (h : History) (us : List UnitBodies) → map unit_view us ≡ map no_bodies_of h.shapes → pass ≡ opening_of turn h.limits by (log_of h us)
+    → BeginsWith h pass.seen × (pass ≡ opening_of pass.turn h.limits by pass.seen)
 begins turn pass h us none is = let seen : pass.seen ≡ log_of h us = ap (λ (z : Passing). z.seen) is in let here : pass.turn ≡ turn = ap (λ (z : Passing). z.turn) is in
-    ((us, none, seen), is ∙ (λ i. opening_of (sym here i) (limits_of h) by (sym seen i)))
+    ((us, none, seen), is ∙ (λ i. opening_of (sym here i) h.limits by (sym seen i)))
 
 -- as many bodies of units as shapes
 pub as_many : (us : List UnitBodies) (shapes : List Shape) → map unit_view us ≡ map no_bodies_of shapes → length us ≡ length shapes
@@ -178,6 +179,6 @@ port_handles turn v w p given catalogue actor acts k t e =
     subst (λ (z : List Shape × ℕ). HasHandler z.0 z.1)
     (λ i. ((after.catalogue_is ∙ sym (ap (λ (z : Passing). catalogue_of z.seen) t.new_is)) i, sym (ap (λ (z : Passing). z.actor) t.new_is) i)) (performer_handles catalogue actor e)
 
--- a port has the control's capacity
+-- a port has the control's limits
 pub port_limited : (turn : TableId) (v w p : Passing) (given : List ℕ) (catalogue : List Shape) (actor acts : ℕ) → IsControl turn v given catalogue → Parted by v actor acts w p → is_some p.about ≡ true
 port_limited turn v w p given catalogue actor acts k t = ap (λ (z : Passing). is_some z.about) t.new_is ∙ k.limited

@@ -14,6 +14,7 @@ use Rattle.rv_event.specs.declared.entry.Answer.{Answer}
 use Rattle.rv_event.specs.declared.entry.Answer.TheVariants.{OutOfMemory, Misuse}
 use Rattle.rv_event.specs.declared.entry.Recorded.{Recorded}
 use Rattle.rv_event.specs.declared.entry.Entry.TheVariants.{Load, ListChange}
+use Rattle.rv_history.specs.declared.limits.Limits.{Limits}
 use Rattle.rv_history.specs.History.{History, force}
 use Rattle.rv_history.specs.Due.{out, gate, within, nothing_more}
 use Rattle.rv_history.specs.Owed.{has_room}
@@ -37,7 +38,7 @@ use Rattle.rv_exec.specs.declared.bodies.Bodies.{Bodies}
 use Rattle.rv_exec.specs.declared.bodies.SharedUnit.{SharedUnit}
 use Rattle.rv_port.specs.declared.event.Lent.{Lent}
 use Rattle.rv_port.specs.Events.{events, back_of, log_of, log_in, history_at, catalogue_of}
-use Rattle.rv_port.specs.Acting.{entered, changes, listed, changed_to, Loaded, LoadedIf, fits_behind, Unloaded, Changed, IfOperator, IsLent, lent_view, Due, Does, limits_of, begun_by}
+use Rattle.rv_port.specs.Acting.{AreBrought, entered, changes, listed, changed_to, Loaded, LoadedIf, fits_behind, Unloaded, Changed, IfOperator, IsLent, lent_view, Due, Does, begun_by}
 use Rattle.rv_port.specs.declared.event.Begun.{Begun}
 use Rattle.rv_port.specs.declared.event.Ask.{Ask}
 use Rattle.rv_port.specs.declared.event.Ask.TheVariants as Wants
@@ -50,7 +51,7 @@ use Rattle.rv_port.proofs.Zips.{newest, rebuilt, rebuilt_units}
 one_more : (es : List Event) (e : Event) → reverse (e ∷ es) ≡ reverse es ++ e ∷ []
 one_more es e = reverse-append (e ∷ []) es
 
-pub legal_log : (h : History) (us : List UnitBodies) → Legal h → Legal (history_at h.capacity (log_of h us))
+pub legal_log : (h : History) (us : List UnitBodies) → Legal h → Legal (history_at h.limits (log_of h us))
 legal_log h us l = subst (λ (z : History). Legal z) (sym (rebuilt h us l)) l
 
 -- the catalogue of the events is the host's
@@ -66,28 +67,28 @@ views_of [] = refl
 views_of (u ∷ us) = ap (λ (z : List Code.UnitBodies). shared_view u ∷ z) (views_of us)
 
 -- what was lent are the bodies of the events
-lent_log : (h : History) (bodies : Bodies) (lent : Option Lent) → Legal h → length (units_of bodies) ≡ length h.shapes → calls_fit h.shapes (bodies_view bodies) ≡ true
+lent_log : (h : History) (bodies : Bodies) (lent : Option Lent) → Legal h → AreBrought h bodies
     → IfSome lent (λ l. bodies_view (arc_value l.bodies) ≡ bodies_view bodies) → IsLent (log_in h bodies) (lent_view lent)
-lent_log h bodies None l e fit same = tt
-lent_log h bodies (Some lent) l e fit same = (
-  same ∙ (ap all_of (views_of bodies.units.items) ∙ ap (λ (z : List UnitBodies). all_of (map unit_view z)) (sym (rebuilt_units h (units_of bodies) l e))),
-  (λ i. calls_fit (catalogue_log h (units_of bodies) l i) (same i)) ∙ fit,
+lent_log h bodies None l b same = tt
+lent_log h bodies (Some lent) l b same = (
+  same ∙ (ap all_of (views_of bodies.units.items) ∙ ap (λ (z : List UnitBodies). all_of (map unit_view z)) (sym (rebuilt_units h (units_of bodies) l b.count))),
+  (λ i. calls_fit (catalogue_log h (units_of bodies) l i) (same i)) ∙ b.fit,
 )
 
 -- the bodies are given
-pub given : (h : History) (bodies : Bodies) (a : ℕ) (lent : Option Lent) → Legal h → length (units_of bodies) ≡ length h.shapes → calls_fit h.shapes (bodies_view bodies) ≡ true → IfSome lent (λ l. bodies_view (arc_value l.bodies) ≡ bodies_view bodies)
-    → Does (limits_of h) (log_in h bodies) a Wants.Bodies (Gives.Bodies lent) (log_in h bodies)
-given h bodies a lent l some fit kept = (legal_log h (units_of bodies) l, (lent_log h bodies lent l some fit kept, refl))
+pub given : (h : History) (bodies : Bodies) (a : ℕ) (lent : Option Lent) → Legal h → AreBrought h bodies → IfSome lent (λ l. bodies_view (arc_value l.bodies) ≡ bodies_view bodies)
+    → Does h.limits (log_in h bodies) a Wants.Bodies (Gives.Bodies lent) (log_in h bodies)
+given h bodies a lent l some kept = (legal_log h (units_of bodies) l, (lent_log h bodies lent l some kept, refl))
 
-pub stepped : (h k : History) (bodies : Bodies) (a : ℕ) (q : Request) (r : Answer) (b : Begun) (lent : Option Lent) → Legal h → length (units_of bodies) ≡ length h.shapes → calls_fit h.shapes (bodies_view bodies) ≡ true → r ≡ out h a q → k ≡ legal.after h a q r
+pub stepped : (h k : History) (bodies : Bodies) (a : ℕ) (q : Request) (r : Answer) (b : Begun) (lent : Option Lent) → Legal h → AreBrought h bodies → r ≡ out h a q → k ≡ legal.after h a q r
     → b ≡ begun_by k.shapes a q r → k.shapes ≡ h.shapes → IfSome lent (λ l. bodies_view (arc_value l.bodies) ≡ bodies_view bodies)
-    → Does (limits_of h) (log_in h bodies) a (Wants.Step q) (Gives.Answered r b lent) (log_in k bodies)
-stepped h k bodies a q r b lent l some fit is e begun same kept = let us = units_of bodies in (
+    → Does h.limits (log_in h bodies) a (Wants.Step q) (Gives.Answered r b lent) (log_in k bodies)
+stepped h k bodies a q r b lent l some is e begun same kept = let us = units_of bodies in (
   legal_log h us l,
   (
     (is ∙ ap (λ (z : History). out z a q) (sym (rebuilt h us l)), ap (λ (z : History). log_of z us) e ∙ entered_log (recorded r) h us a q),
     begun ∙ ap (λ (z : List Shape). begun_by z a q r) (same ∙ sym (catalogue_log h us l)),
-    lent_log h bodies lent l some fit kept,
+    lent_log h bodies lent l some kept,
   ),
 )
 
@@ -110,7 +111,7 @@ loaded_log true h us shape unit =
     ∙ one_more (back_of h us) (Loads shape (Some unit))
 
 pub loaded_is : (h k : History) (us vs : List UnitBodies) (shape : Shape) (unit : UnitBodies) (r : Answer) → Legal h → MayLackMemory (out_load h shape) r → k ≡ after_load h shape r
-    → vs ≡ units_if (is_some (recorded r)) us unit → Loaded h.capacity (log_of h us) shape unit r (log_of k vs)
+    → vs ≡ units_if (is_some (recorded r)) us unit → Loaded h.limits (log_of h us) shape unit r (log_of k vs)
 loaded_is h k us vs shape unit r l m e is = (
   subst (λ (z : History). MayLackMemory (out_load z shape) r) (sym (rebuilt h us l)) m,
   (λ i. log_of (e i) (is i)) ∙ loaded_log (is_some (recorded r)) h us shape unit,
@@ -126,23 +127,23 @@ same_units false us unit e = refl
 
 -- a load that was recorded, and one that wasn't
 pub loaded_more : (h k : History) (us vs : List UnitBodies) (shape : Shape) (unit : UnitBodies) (r : Answer) → Legal h → MayLackMemory (out_load h shape) r → k ≡ after_load h shape r
-    → is_some (recorded r) ≡ true → vs ≡ us ++ unit ∷ [] → Loaded h.capacity (log_of h us) shape unit r (log_of k vs)
+    → is_some (recorded r) ≡ true → vs ≡ us ++ unit ∷ [] → Loaded h.limits (log_of h us) shape unit r (log_of k vs)
 loaded_more h k us vs shape unit r l m e b is = loaded_is h k us vs shape unit r l m e (more_units (is_some (recorded r)) us vs unit b is)
 
 pub loaded_same : (h k : History) (us : List UnitBodies) (shape : Shape) (unit : UnitBodies) (r : Answer) → Legal h → MayLackMemory (out_load h shape) r → k ≡ after_load h shape r
-    → is_some (recorded r) ≡ false → Loaded h.capacity (log_of h us) shape unit r (log_of k us)
+    → is_some (recorded r) ≡ false → Loaded h.limits (log_of h us) shape unit r (log_of k us)
 loaded_same h k us shape unit r l m e b = loaded_is h k us us shape unit r l m e (same_units (is_some (recorded r)) us unit b)
 
 -- one that there was no memory for is a load that wasn't accepted
-pub unloaded_loaded : (c : ℕ) (log after : List Event) (shape : Shape) (unit : UnitBodies) (r : Answer) → Unloaded c log shape r after → Loaded c log shape unit r after
+pub unloaded_loaded : (c : Limits) (log after : List Event) (shape : Shape) (unit : UnitBodies) (r : Answer) → Unloaded c log shape r after → Loaded c log shape unit r after
 unloaded_loaded c log after shape unit r d = (d.0, d.2 ∙ ap (λ (z : Option Recorded). if is_some z then log ++ Loads shape (Some unit) ∷ [] else log) (sym d.1))
 
 -- the same of one whose calls fit, and of one that wasn't accepted, whether they do or not
-pub loaded_if : (fits : Bool) (c : ℕ) (log after : List Event) (shape : Shape) (unit : UnitBodies) (r : Answer) → fits ≡ true → Loaded c log shape unit r after → LoadedIf fits c log shape unit r after
+pub loaded_if : (fits : Bool) (c : Limits) (log after : List Event) (shape : Shape) (unit : UnitBodies) (r : Answer) → fits ≡ true → Loaded c log shape unit r after → LoadedIf fits c log shape unit r after
 loaded_if true c log after shape unit r e d = d
 loaded_if false c log after shape unit r e d = absurd (cc e)
 
-pub unloaded_if : (fits : Bool) (c : ℕ) (log after : List Event) (shape : Shape) (unit : UnitBodies) (r : Answer) → Unloaded c log shape r after → LoadedIf fits c log shape unit r after
+pub unloaded_if : (fits : Bool) (c : Limits) (log after : List Event) (shape : Shape) (unit : UnitBodies) (r : Answer) → Unloaded c log shape r after → LoadedIf fits c log shape unit r after
 unloaded_if true c log after shape unit r d = unloaded_loaded c log after shape unit r d
 unloaded_if false c log after shape unit r d = (d.1, d.2)
 
@@ -175,9 +176,9 @@ parts_call : (such : Callee → Bool) (u v : Code.UnitBodies) → every_call suc
 parts_call such u v e =
     let objects = first_of_both (list_all (object_calls such) (u.objects ++ v.objects)) (list_all (task_calls such) (u.tasks ++ v.tasks)) e in
     let tasks = second_of_both (list_all (object_calls such) (u.objects ++ v.objects)) (list_all (task_calls such) (u.tasks ++ v.tasks)) e in (
-  both_hold (list_all (object_calls such) u.objects) (list_all (task_calls such) u.tasks) (all_first (object_calls such) u.objects v.objects objects) (all_first (task_calls such) u.tasks v.tasks tasks),
-  both_hold (list_all (object_calls such) v.objects) (list_all (task_calls such) v.tasks) (all_second (object_calls such) u.objects v.objects objects) (all_second (task_calls such) u.tasks v.tasks tasks),
-)
+      both_hold (list_all (object_calls such) u.objects) (list_all (task_calls such) u.tasks) (all_first (object_calls such) u.objects v.objects objects) (all_first (task_calls such) u.tasks v.tasks tasks),
+      both_hold (list_all (object_calls such) v.objects) (list_all (task_calls such) v.tasks) (all_second (object_calls such) u.objects v.objects objects) (all_second (task_calls such) u.tasks v.tasks tasks),
+    )
 
 units_call : (such : Callee → Bool) (us vs : List Code.UnitBodies) → every_call such (all_of us) ≡ true → every_call such (all_of vs) ≡ true → every_call such (all_of (us ++ vs)) ≡ true
 units_call such [] vs e f = f
@@ -216,7 +217,7 @@ fits_found h bodies units shape unit r l more is e =
     ap (λ (z : List Shape). calls_fit (z ++ shape ∷ []) (unit_view unit)) (catalogue_log h (units_of bodies) l)
     ∙ (ap (λ (z : List Shape). calls_fit z (unit_view unit)) (sym more) ∙ (sym is ∙ e))
 
-pub fits_more : (h k : History) (bodies more : Bodies) (shape : Shape) (unit : UnitBodies) (r : Answer) → Legal h → calls_fit h.shapes (bodies_view bodies) ≡ true → fits_behind (log_in h bodies) shape unit ≡ true → k ≡ after_load h shape r
+fits_more : (h k : History) (bodies more : Bodies) (shape : Shape) (unit : UnitBodies) (r : Answer) → Legal h → calls_fit h.shapes (bodies_view bodies) ≡ true → fits_behind (log_in h bodies) shape unit ≡ true → k ≡ after_load h shape r
     → is_some (recorded r) ≡ true → units_of more ≡ units_of bodies ++ unit ∷ [] → calls_fit k.shapes (bodies_view more) ≡ true
 fits_more h k bodies more shape unit r l old new e b is =
     let shapes : List Shape = h.shapes ++ shape ∷ [] in
@@ -225,10 +226,10 @@ fits_more h k bodies more shape unit r l old new e b is =
     (λ i. calls_fit ((ap (λ (z : History). z.shapes) e ∙ shapes_more (is_some (recorded r)) h shape b) i) ((view_is more ∙ (ap (λ (z : List UnitBodies). all_of (map unit_view z)) is ∙ ap all_of (views_more (units_of bodies) unit))) i))
     ∙ units_call (callee_fits shapes) (map unit_view (units_of bodies)) (unit_view unit ∷ []) these (one_calls (callee_fits shapes) (unit_view unit) this)
 
-pub fits_same : (h k : History) (bodies : Bodies) (shape : Shape) (r : Answer) → calls_fit h.shapes (bodies_view bodies) ≡ true → k ≡ after_load h shape r → is_some (recorded r) ≡ false → calls_fit k.shapes (bodies_view bodies) ≡ true
+fits_same : (h k : History) (bodies : Bodies) (shape : Shape) (r : Answer) → calls_fit h.shapes (bodies_view bodies) ≡ true → k ≡ after_load h shape r → is_some (recorded r) ≡ false → calls_fit k.shapes (bodies_view bodies) ≡ true
 fits_same h k bodies shape r fit e b = ap (λ (z : List Shape). calls_fit z (bodies_view bodies)) (ap (λ (z : History). z.shapes) e ∙ shapes_same (is_some (recorded r)) h shape b) ∙ fit
 
-pub fits_step : (h k : History) (bodies : Bodies) (a : ℕ) (q : Request) (r : Answer) → calls_fit h.shapes (bodies_view bodies) ≡ true → k ≡ legal.after h a q r → calls_fit k.shapes (bodies_view bodies) ≡ true
+fits_step : (h k : History) (bodies : Bodies) (a : ℕ) (q : Request) (r : Answer) → calls_fit h.shapes (bodies_view bodies) ≡ true → k ≡ legal.after h a q r → calls_fit k.shapes (bodies_view bodies) ≡ true
 fits_step h k bodies a q r fit e = ap (λ (z : List Shape). calls_fit z (bodies_view bodies)) (step_shapes h k a q r e) ∙ fit
 
 -- as many shapes as bodies of units, before and after
@@ -237,19 +238,19 @@ shapes_if : (b : Bool) (h : History) (us : List UnitBodies) (shape : Shape) (uni
 shapes_if true h us shape unit e = omega (arith, e, length-append us (unit ∷ []), length-append h.shapes (shape ∷ []))
 shapes_if false h us shape unit e = e
 
-pub brought_more : (h k : History) (us vs : List UnitBodies) (shape : Shape) (unit : UnitBodies) (r : Answer) → length us ≡ length h.shapes → k ≡ after_load h shape r
+brought_more : (h k : History) (us vs : List UnitBodies) (shape : Shape) (unit : UnitBodies) (r : Answer) → length us ≡ length h.shapes → k ≡ after_load h shape r
     → is_some (recorded r) ≡ true → vs ≡ us ++ unit ∷ [] → length vs ≡ length k.shapes
 brought_more h k us vs shape unit r some e b is =
     ap length (more_units (is_some (recorded r)) us vs unit b is) ∙ (shapes_if (is_some (recorded r)) h us shape unit some ∙ sym (ap (λ (z : History). length z.shapes) e))
 
-pub brought_same : (h k : History) (us : List UnitBodies) (shape : Shape) (r : Answer) → length us ≡ length h.shapes → k ≡ after_load h shape r
+brought_same : (h k : History) (us : List UnitBodies) (shape : Shape) (r : Answer) → length us ≡ length h.shapes → k ≡ after_load h shape r
     → is_some (recorded r) ≡ false → length us ≡ length k.shapes
 brought_same h k us shape r some e b = some ∙ sym (ap (λ (z : History). length z.shapes) e ∙ unchanged (is_some (recorded r)) b) where
   unchanged : (b : Bool) → b ≡ false → length (if b then record h { past = Load ∷ h.past; shapes = h.shapes ++ shape ∷ [] } else h).shapes ≡ length h.shapes
   unchanged true e = absurd (cc e)
   unchanged false e = refl
 
-pub brought_step : (h k : History) (us : List UnitBodies) (a : ℕ) (q : Request) (r : Answer) → length us ≡ length h.shapes → k ≡ legal.after h a q r → length us ≡ length k.shapes
+brought_step : (h k : History) (us : List UnitBodies) (a : ℕ) (q : Request) (r : Answer) → length us ≡ length h.shapes → k ≡ legal.after h a q r → length us ≡ length k.shapes
 brought_step h k us a q r some e = some ∙ sym (ap length (step_shapes h k a q r e))
 
 listed_shapes : (b : Bool) (list : Option (List Words)) (h : History) → (if b then legal.listed h list else h).shapes ≡ h.shapes
@@ -257,12 +258,27 @@ listed_shapes true None h = refl
 listed_shapes true (Some list) h = refl
 listed_shapes false list h = refl
 
-pub brought_change : (h k : History) (us : List UnitBodies) (change : Change) (r : Answer) → length us ≡ length h.shapes → k ≡ after_change h change r → length us ≡ length k.shapes
+brought_change : (h k : History) (us : List UnitBodies) (change : Change) (r : Answer) → length us ≡ length h.shapes → k ≡ after_change h change r → length us ≡ length k.shapes
 brought_change h k us change r some e = some ∙ sym (ap length (ap (λ (z : History). z.shapes) e ∙ listed_shapes (is_some (recorded r)) (changed (force h) change) h))
 
-pub fits_change : (h k : History) (bodies : Bodies) (change : Change) (r : Answer) → calls_fit h.shapes (bodies_view bodies) ≡ true → k ≡ after_change h change r → calls_fit k.shapes (bodies_view bodies) ≡ true
+fits_change : (h k : History) (bodies : Bodies) (change : Change) (r : Answer) → calls_fit h.shapes (bodies_view bodies) ≡ true → k ≡ after_change h change r → calls_fit k.shapes (bodies_view bodies) ≡ true
 fits_change h k bodies change r fit e =
     ap (λ (z : List Shape). calls_fit z (bodies_view bodies)) (ap (λ (z : History). z.shapes) e ∙ listed_shapes (is_some (recorded r)) (changed (force h) change) h) ∙ fit
+
+-- both, after what the host does
+pub brings_more : (h k : History) (bodies more : Bodies) (shape : Shape) (unit : UnitBodies) (r : Answer) → Legal h → AreBrought h bodies → fits_behind (log_in h bodies) shape unit ≡ true → k ≡ after_load h shape r
+    → is_some (recorded r) ≡ true → units_of more ≡ units_of bodies ++ unit ∷ [] → AreBrought k more
+brings_more h k bodies more shape unit r l b new e kept is =
+    record { count = brought_more h k (units_of bodies) (units_of more) shape unit r b.count e kept is; fit = fits_more h k bodies more shape unit r l b.fit new e kept is }
+
+pub brings_same : (h k : History) (bodies : Bodies) (shape : Shape) (r : Answer) → AreBrought h bodies → k ≡ after_load h shape r → is_some (recorded r) ≡ false → AreBrought k bodies
+brings_same h k bodies shape r b e kept = record { count = brought_same h k (units_of bodies) shape r b.count e kept; fit = fits_same h k bodies shape r b.fit e kept }
+
+pub brings_step : (h k : History) (bodies : Bodies) (a : ℕ) (q : Request) (r : Answer) → AreBrought h bodies → k ≡ legal.after h a q r → AreBrought k bodies
+brings_step h k bodies a q r b e = record { count = brought_step h k (units_of bodies) a q r b.count e; fit = fits_step h k bodies a q r b.fit e }
+
+pub brings_change : (h k : History) (bodies : Bodies) (change : Change) (r : Answer) → AreBrought h bodies → k ≡ after_change h change r → AreBrought k bodies
+brings_change h k bodies change r b e = record { count = brought_change h k (units_of bodies) change r b.count e; fit = fits_change h k bodies change r b.fit e }
 
 -- a load that is due to be recorded is due to be accepted
 gate_kept : (b c d : Bool) → is_some (recorded (gate b c (within d nothing_more))) ≡ true → gate b c (within d nothing_more) ≡ nothing_more
@@ -272,18 +288,18 @@ gate_kept true true d e = absurd (cc e)
 gate_kept false c d e = absurd (cc e)
 
 load_kept : (h : History) (shape : Shape) → is_some (recorded (out_load h shape)) ≡ true → out_load h shape ≡ nothing_more
-load_kept h shape e = gate_kept (shape_fits h.shapes shape) (halted h.past) (has_room h.capacity (h.shapes ++ shape ∷ []) (Load ∷ h.past)) e
+load_kept h shape e = gate_kept (shape_fits h.shapes shape) (halted h.past) (has_room h.limits.capacity (h.shapes ++ shape ∷ []) (Load ∷ h.past)) e
 
 not_kept : (r : Option Recorded) → is_some r ≡ false → r ≡ None
 not_kept None e = refl
 not_kept (Some w) e = absurd (cc e)
 
 -- a load that there is no memory for
-pub unloaded_due : (h : History) (us : List UnitBodies) (shape : Shape) (r : Answer) → Legal h → r ≡ out_load h shape → is_some (recorded r) ≡ false → Unloaded h.capacity (log_of h us) shape r (log_of h us)
+pub unloaded_due : (h : History) (us : List UnitBodies) (shape : Shape) (r : Answer) → Legal h → r ≡ out_load h shape → is_some (recorded r) ≡ false → Unloaded h.limits (log_of h us) shape r (log_of h us)
 unloaded_due h us shape r l is e =
     (subst (λ (z : History). MayLackMemory (out_load z shape) r) (sym (rebuilt h us l)) (inl is), not_kept (recorded r) e, refl)
 
-pub unloaded_lack : (h : History) (us : List UnitBodies) (shape : Shape) (r : Answer) → Legal h → r ≡ out_load h shape → is_some (recorded r) ≡ true → Unloaded h.capacity (log_of h us) shape OutOfMemory (log_of h us)
+pub unloaded_lack : (h : History) (us : List UnitBodies) (shape : Shape) (r : Answer) → Legal h → r ≡ out_load h shape → is_some (recorded r) ≡ true → Unloaded h.limits (log_of h us) shape OutOfMemory (log_of h us)
 unloaded_lack h us shape r l is e = (
   subst (λ (z : History). MayLackMemory (out_load z shape) OutOfMemory) (sym (rebuilt h us l)) (inr (refl, load_kept h shape (ap (λ (z : Answer). is_some (recorded z)) (sym is) ∙ e))),
   refl,
@@ -302,24 +318,24 @@ changed_log true list h us = listed_log list h us
 changed_log false list h us = refl
 
 pub changed_is : (h k : History) (us : List UnitBodies) (change : Change) (r : Answer) → Legal h → MayLackMemory (due_change h change) r → k ≡ after_change h change r
-    → Changed h.capacity (log_of h us) change r (log_of k us)
-changed_is h k us change r l m e = let same : h ≡ history_at h.capacity (log_of h us) = sym (rebuilt h us l) in (
+    → Changed h.limits (log_of h us) change r (log_of k us)
+changed_is h k us change r l m e = let same : h ≡ history_at h.limits (log_of h us) = sym (rebuilt h us l) in (
   subst (λ (z : History). MayLackMemory (due_change z change) r) same m,
   ap (λ (z : History). log_of z us) e ∙ changed_log (is_some (recorded r)) (changed (force h) change) h us
       ∙ ap (λ (z : History). changed_to (log_of h us) (changed (force z) change) r) same,
 )
 
 -- an ask of an actor
-pub does_ask : (h : History) (us : List UnitBodies) (a : ℕ) (ask wanted : Ask) (reply : Reply) (after : List Event) → ask ≡ wanted → Legal h → Due h.capacity (log_of h us) a wanted reply after
-    → Does (limits_of h) (log_of h us) a ask reply after
-does_ask h us a ask wanted reply after is l d = subst (λ (z : Ask). Does (limits_of h) (log_of h us) a z reply after) (sym is) (legal_log h us l, d)
+pub does_ask : (h : History) (us : List UnitBodies) (a : ℕ) (ask wanted : Ask) (reply : Reply) (after : List Event) → ask ≡ wanted → Legal h → Due h.limits (log_of h us) a wanted reply after
+    → Does h.limits (log_of h us) a ask reply after
+does_ask h us a ask wanted reply after is l d = subst (λ (z : Ask). Does h.limits (log_of h us) a z reply after) (sym is) (legal_log h us l, d)
 
 -- what only the operator may ask
 misused : (b : Bool) (does : Type 0) (log : List Event) → b ≡ false → IfOperator b does Misuse log log
 misused true does log e = absurd (cc e)
 misused false does log e = (refl, refl)
 
-misused_due : (c : ℕ) (log : List Event) (a : ℕ) (ask : Ask) (b : Begun) → changes ask ≡ true → eqb a 0 ≡ false → Due c log a ask (Gives.Answered Misuse b None) log
+misused_due : (c : Limits) (log : List Event) (a : ℕ) (ask : Ask) (b : Begun) → changes ask ≡ true → eqb a 0 ≡ false → Due c log a ask (Gives.Answered Misuse b None) log
 misused_due c log a (Wants.Step q) b t e = absurd (cc t)
 misused_due c log a (Wants.Read from) b t e = absurd (cc t)
 misused_due c log a Wants.Bodies b t e = absurd (cc t)
@@ -328,5 +344,5 @@ misused_due c log a (Wants.LoadWithoutMemory s) b t e = misused (eqb a 0) _ log 
 misused_due c log a (Wants.Change s) b t e = misused (eqb a 0) _ log e
 
 pub does_misuse : (h : History) (us : List UnitBodies) (a : ℕ) (ask : Ask) (b : Begun) → changes ask ≡ true → Legal h → (a ≡ 0 → ⊥)
-    → Does (limits_of h) (log_of h us) a ask (Gives.Answered Misuse b None) (log_of h us)
-does_misuse h us a ask b t l n = (legal_log h us l, misused_due h.capacity (log_of h us) a ask b t (ne_eqb a 0 n))
+    → Does h.limits (log_of h us) a ask (Gives.Answered Misuse b None) (log_of h us)
+does_misuse h us a ask b t l n = (legal_log h us l, misused_due h.limits (log_of h us) a ask b t (ne_eqb a 0 n))

@@ -19,7 +19,7 @@ use Rattle.rv_port.specs.declared.reached.Reached.TheVariants as Reaches
 use Rattle.rv_fits.specs.Fits.{callee_fits}
 use Rattle.rv_port.specs.Acting.{IsLent}
 use Rattle.rv_port.specs.Events.{catalogue_of, history_at}
-use Rattle.rv_port.specs.Traces.{Passing, capacity_in, Trace, noted, WoreOut, Went, Asked}
+use Rattle.rv_port.specs.Traces.{Passing, limits_in, Trace, noted, WoreOut, Went, Asked}
 use Rattle.rv_port.specs.Reaching.{reached_by, end_of}
 use Rattle.rv_port.specs.Calls.{RanOn, InBody, EndedBy, stops_at, StoppedAsking, StoppedInside, Tied}
 use Rattle.rv_port.proofs.Asking.{asked_later}
@@ -151,7 +151,7 @@ ran_end log u w trace k scalars exit Answers.BadLine later p x e f = absurd (cc 
 ran_end log u w trace k scalars exit Answers.OutOfMemory later p x e f = absurd (cc e)
 
 ended_so : (v w : Passing) (scalars : List ℤ) (exit : Exit) (d : Answer) → Asked v (Complete scalars exit) d w → of_end d ≡ true
-ended_so v w scalars exit d x = ap of_end x.due_is ∙ end_gets (history_at (capacity_in v.about) x.at) v.actor scalars exit
+ended_so v w scalars exit d x = ap of_end x.due_is ∙ end_gets (history_at (limits_in v.about) x.at) v.actor scalars exit
 
 pub ran_to : (log : List Event) (u w : Passing) (bodies : Option UnitBodies) (b : Begun) (scalars arguments : List ℤ) (reached : Reached) → IsLent log bodies → StartsWith u.seen log → RanOn bodies u b scalars arguments reached w → RanTo u reached w
 ran_to log u w bodies b scalars arguments reached lent later n =

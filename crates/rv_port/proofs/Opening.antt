@@ -13,7 +13,7 @@ use Rattle.rv_event.specs.declared.entry.Recorded.TheVariants as Words
 use Rattle.rv_port.specs.declared.event.Event.{Event}
 use Rattle.rv_port.specs.declared.event.Event.TheVariants.{Asks}
 use Rattle.rv_port.specs.Events.{marks, history_at}
-use Rattle.rv_port.specs.Traces.{Passing, capacity_in, Asked}
+use Rattle.rv_port.specs.Traces.{Passing, limits_in, Asked}
 use Rattle.rv_port.specs.Reaching.{waits_on}
 use Rattle.rv_port.specs.Calls.{Opens, IsNew, Stays}
 use Rattle.rv_port.proofs.Asking.{asked_later}
@@ -92,7 +92,7 @@ opened_by_wait v u w o p vs scalars k x = record {
 
   handed : is_handed (stance v.actor (marks (reverse x.from.0 ++ Asks v.actor q Words.Queued ∷ reverse k.asked.at))) ≡ true
   handed = subst (λ (z : ℕ × List Event). is_handed (stance z.0 (marks z.1)) ≡ true) (λ i. (k.actor_is i, back_at v u q Words.Queued x.at k x.from i))
-      (woken_handed (history_at (capacity_in u.about) x.at) u.actor scalars (sym x.due_is))
+      (woken_handed (history_at (limits_in u.about) x.at) u.actor scalars (sym x.due_is))
 
   found : HandOverIn v.actor (reverse x.from.0)
   found = handed_in v.actor (reverse x.from.0) (Asks v.actor q Words.Queued ∷ reverse k.asked.at) (waits_still v.actor o p vs (reverse k.asked.at)) handed

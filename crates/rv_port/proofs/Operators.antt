@@ -14,7 +14,6 @@ use Rattle.rv_turn.specs.Prefixes.{mine-append}
 use Rattle.rv_turn.specs.Passes.{opening_of}
 use Rattle.rv_code.specs.declared.body.UnitBodies.{UnitBodies}
 use Rattle.rv_port.specs.Events.{by, events, log_of, first_or, first_of, rest_of, no_shape}
-use Rattle.rv_port.specs.Acting.{limits_of}
 use Rattle.rv_port.specs.Traces.{Passing}
 use Rattle.rv_port.specs.Controls.{listed, OperatorAlone, IsControl, IsOperators}
 use Rattle.rv_port.specs.declared.event.Event.{Event}
@@ -66,7 +65,7 @@ all_back (Asked b q w ∷ past) ss us ls t = one_kept (Asks b q w) (events past 
 all_back (Load ∷ past) ss us ls t = one_kept (Loads (first_or no_shape ss) (first_of us)) (events past (rest_of ss) (rest_of us) ls) (all_back past (rest_of ss) (rest_of us) ls t) refl
 all_back (ListChange ∷ past) ss us ls t = one_kept (Lists (first_or [] ls)) (events past ss us (rest_of ls)) (all_back past ss us (rest_of ls) t) refl
 
-pub begins_alone : (turn : TableId) (pass : Passing) (h : History) (us : List UnitBodies) → OperatorAlone h.past → pass ≡ opening_of turn (limits_of h) by (log_of h us) → pass.base ≡ pass.seen
+pub begins_alone : (turn : TableId) (pass : Passing) (h : History) (us : List UnitBodies) → OperatorAlone h.past → pass ≡ opening_of turn h.limits by (log_of h us) → pass.base ≡ pass.seen
 begins_alone turn pass h us t is =
     ap (λ (z : Passing). z.base) is ∙ (all_back h.past (reverse h.shapes) (reverse us) (reverse h.lists) t ∙ sym (ap (λ (z : Passing). z.seen) is))
 

@@ -22,6 +22,7 @@ use Rattle.rv_event.specs.declared.entry.Recorded.{Recorded}
 use Rattle.rv_event.specs.declared.entry.Recorded.TheVariants as Words
 use Rattle.rv_event.specs.declared.entry.Next.{Next}
 use Rattle.rv_event.specs.declared.entry.Next.TheVariants.{Nothing, HandedTo, Dropped}
+use Rattle.rv_history.specs.declared.limits.Limits.{Limits}
 use Rattle.rv_history.specs.History.{History}
 use Rattle.rv_history.specs.Legal.{Legal, IsLegal}
 use Rattle.rv_history.specs.Fitting.{awaits, fits}
@@ -179,7 +180,7 @@ pub still_in_queue : (a o p : ℕ) (vs : List ℤ) (later past : List Entry) →
 still_in_queue a o p vs later past none = queue_stays a later (Asked a (Call o p vs) Words.Queued ∷ past) none (ap in_queue (queued_now a o p vs past))
 
 -- nobody names one at a pause
-pub still_paused : (c : ℕ) (shapes : List Shape) (lists : List (List Words_of)) (a : ℕ) (q : Request) (wait : Recorded) (later past : List Entry) → IsLegal c (later ++ Asked a q wait ∷ past) shapes lists → IsPause q wait → list_any (is_own a) later ≡ false
+pub still_paused : (c : Limits) (shapes : List Shape) (lists : List (List Words_of)) (a : ℕ) (q : Request) (wait : Recorded) (later past : List Entry) → IsLegal c (later ++ Asked a q wait ∷ past) shapes lists → IsPause q wait → list_any (is_own a) later ≡ false
     → paused (stance a (later ++ Asked a q wait ∷ past)) ≡ true
 still_paused c shapes lists a q wait later past legal is none =
     let now = paused_now a q wait past is in
@@ -317,14 +318,14 @@ none_after : (a : ℕ) (seen at own : List Event) (w : StartsWith at seen) → m
 none_after a seen at own w e f = none_own a (reverse w.0) (ap (mine by a) (reverse-reverse w.0) ∙ none_since a seen at own w e f)
 
 -- one whose last event was to be queued
-pub in_queue_at : (c a : ℕ) (seen at own front : List Event) (o p : ℕ) (vs : List ℤ) (w : StartsWith at seen) → seen ≡ front ++ Asks a (Call o p vs) Words.Queued ∷ [] → mine by a seen ≡ own → mine by a at ≡ own
+pub in_queue_at : (c : Limits) (a : ℕ) (seen at own front : List Event) (o p : ℕ) (vs : List ℤ) (w : StartsWith at seen) → seen ≡ front ++ Asks a (Call o p vs) Words.Queued ∷ [] → mine by a seen ≡ own → mine by a at ≡ own
     → in_queue (stance a (history_at c at).past) ≡ true
 in_queue_at c a seen at own front o p vs w is e f =
     ap (λ (l : List Entry). in_queue (stance a l)) (back_from seen at front (Asks a (Call o p vs) Words.Queued) w is)
     ∙ still_in_queue a o p vs (marks (reverse w.0)) (marks (reverse front)) (none_after a seen at own w e f)
 
 -- one whose last event was to begin a pause
-pub paused_at : (c a : ℕ) (seen at own front : List Event) (q : Request) (wait : Recorded) (w : StartsWith at seen) → seen ≡ front ++ Asks a q wait ∷ [] → mine by a seen ≡ own → mine by a at ≡ own
+pub paused_at : (c : Limits) (a : ℕ) (seen at own front : List Event) (q : Request) (wait : Recorded) (w : StartsWith at seen) → seen ≡ front ++ Asks a q wait ∷ [] → mine by a seen ≡ own → mine by a at ≡ own
     → IsPause q wait → Legal (history_at c at) → paused (stance a (history_at c at).past) ≡ true
 paused_at c a seen at own front q wait w is e f pause legal =
     let back : marks (reverse at) ≡ marks (reverse w.0) ++ Asked a q wait ∷ marks (reverse front) = back_from seen at front (Asks a q wait) w is in

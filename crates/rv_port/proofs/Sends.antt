@@ -31,6 +31,7 @@ use Rattle.rv_code.proofs.statement.Target.TheSendSync as target_crosses
 use Rattle.rv_code.proofs.body.ExceptionChoice.TheSendSync as choice_crosses
 use Rattle.rv_exec.specs.contracts.bodies.SharedUnit as shared
 use Rattle.rv_exec.specs.contracts.bodies.Bodies as bodies
+use Rattle.rv_history.specs.contracts.limits.Limits as limits
 use Rattle.rv_host.specs.contracts.host.Host as host
 use Rattle.rv_host.proofs.host.Host.TheSendSync as host_crosses
 use Rattle.rv_port.specs.contracts.behind.Behind as behind
@@ -39,7 +40,6 @@ use Rattle.rv_port.specs.contracts.event.Ask as ask
 use Rattle.rv_port.specs.contracts.event.Reply as reply
 use Rattle.rv_port.specs.contracts.event.Letter as letter
 use Rattle.rv_port.specs.contracts.event.Event as event
-use Rattle.rv_port.specs.contracts.event.Limits as limits
 use Rattle.rv_port.specs.contracts.bell.Bell as bell
 use Rattle.rv_port.proofs.bell.Bell.TheSendSync as bell_crosses
 use Rattle.rv_port.specs.contracts.asker.Asker as asker

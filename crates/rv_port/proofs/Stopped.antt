@@ -42,7 +42,7 @@ use Rattle.rv_port.specs.Calls.{stops_within, StopsBody}
 use Rattle.rv_port.specs.Composing.{went_none, went_both}
 use Rattle.rv_port.specs.Acting.{IsLent}
 use Rattle.rv_port.specs.Events.{catalogue_of, history_at}
-use Rattle.rv_port.specs.Traces.{Passing, Trace, capacity_in, told, asks_on, Asked, WoreOut, Tells, Steps, Went}
+use Rattle.rv_port.specs.Traces.{Passing, Trace, limits_in, told, asks_on, Asked, WoreOut, Tells, Steps, Went}
 use Rattle.rv_port.proofs.Actors.{catalogue-append}
 use Rattle.rv_port.proofs.Asking.{asked_went, is_told, told_stands, worn_told}
 use Rattle.rv_port.proofs.Opening.{Waits, here}
@@ -107,7 +107,7 @@ end_within scalars exit Answers.BadLine e t = e
 end_within scalars exit Answers.OutOfMemory e t = e
 
 ends_within : (v w : Passing) (q : Request) (d : Answer) → Asked v q d w → EndsNot q (told d) → stops_within d ≡ true
-ends_within v w (Complete scalars exit) d x t = end_within scalars exit d (ap of_end x.due_is ∙ end_gets (history_at (capacity_in v.about) x.at) v.actor scalars exit) t
+ends_within v w (Complete scalars exit) d x t = end_within scalars exit d (ap of_end x.due_is ∙ end_gets (history_at (limits_in v.about) x.at) v.actor scalars exit) t
 ends_within v w (Call o p vs) d x t = absurd t
 ends_within v w (DelayUntil time) d x t = absurd t
 ends_within v w Clock d x t = absurd t
@@ -129,12 +129,12 @@ unlike b e f = absurd (cc (e, f))
 
 never_unfit : {X : Type 0} (log : List Event) (v w : Passing) (q : Request) (d : Answer) (x : Asked v q d w) → StartsWith x.at log → asks_on d ≡ false → IsUnfit (callee_fits (catalogue_of log)) q (told d) → X
 never_unfit log v w q d x later n t =
-    let h : History = history_at (capacity_in v.about) x.at in
+    let h : History = history_at (limits_in v.about) x.at in
     let r : Answer = out h v.actor (request_of t.1 t.4) in
     let due : told d ≡ r = told_same d t.0 ∙ (x.due_is ∙ ap (out h v.actor) t.5) in
     let goes : stops_at_once (replied t.1 r) ≡ false =
-        calls_go_on h v.actor t.1 t.4 t.2 (later_fits log x.at t.1 later t.3)
-        (ap stands (sym due) ∙ told_stands (told d) (is_told d n)) (ap is_final (sym due) ∙ t.0) in
+    calls_go_on h v.actor t.1 t.4 t.2 (later_fits log x.at t.1 later t.3)
+    (ap stands (sym due) ∙ told_stands (told d) (is_told d n)) (ap is_final (sym due) ∙ t.0) in
     unlike (stops_at_once (replied t.1 r)) (ap (λ (z : Answer). stops_at_once (replied t.1 z)) (sym due) ∙ t.6) goes
 
 stops_so : (log : List Event) (v w : Passing) (q : Request) (d : Answer) (x : Asked v q d w) → StartsWith x.at log → asks_on d ≡ false → Stops (callee_fits (catalogue_of log)) q (told d) → stops_within d ≡ true
@@ -170,28 +170,28 @@ paused_as Gone e = absurd (cc e)
 
 -- where the actor is at its resume
 abbrev at_resume : (u k : Passing) (r : Answer) → Asked u Resume r k → Stance
-at_resume u k r y = stance u.actor (history_at (capacity_in u.about) y.at).past
+at_resume u k r y = stance u.actor (history_at (limits_in u.about) y.at).past
 
 queue_waits_by : (v u k : Passing) (o p : ℕ) (values : List ℤ) (q : Request) (r : Answer) → q ≡ Call o p values → Asked v q Answers.Queued u → (y : Asked u Resume r k) → queued (at_resume u k r y) ≡ true
 queue_waits_by v u k o p values q r is x y =
     let z : Asked v (Call o p values) Answers.Queued u = subst (λ (c : Request). Asked v c Answers.Queued u) is x in
     let a : Waits v (Call o p values) Words.Queued u = record { answer = Answers.Queued; asked = z; on = refl; seen_is = z.seen_is; own_is = z.own_is; actor_is = asked_actor v u (Call o p values) Answers.Queued z } in
     in_queue_as (at_resume u k r y)
-    (in_queue_at (capacity_in u.about) u.actor u.seen y.at (u.base ++ u.own) z.at o p values y.from (here v u (Call o p values) Words.Queued a) z.owns y.owned)
+    (in_queue_at (limits_in u.about) u.actor u.seen y.at (u.base ++ u.own) z.at o p values y.from (here v u (Call o p values) Words.Queued a) z.owns y.owned)
 
 suspension_waits_by : (v u k : Passing) (o p : ℕ) (values : List ℤ) (q : Request) (r : Answer) → q ≡ Call o p values → Asked v q Answers.Suspended u → (y : Asked u Resume r k) → is_paused (at_resume u k r y) ≡ true
 suspension_waits_by v u k o p values q r is x y =
     let z : Asked v (Call o p values) Answers.Suspended u = subst (λ (c : Request). Asked v c Answers.Suspended u) is x in
     let a : Waits v (Call o p values) Words.Suspended u = record { answer = Answers.Suspended; asked = z; on = refl; seen_is = z.seen_is; own_is = z.own_is; actor_is = asked_actor v u (Call o p values) Answers.Suspended z } in
     paused_as (at_resume u k r y)
-    (paused_at (capacity_in u.about) u.actor u.seen y.at (u.base ++ u.own) z.at (Call o p values) Words.Suspended y.from (here v u (Call o p values) Words.Suspended a) z.owns y.owned tt y.legal)
+    (paused_at (limits_in u.about) u.actor u.seen y.at (u.base ++ u.own) z.at (Call o p values) Words.Suspended y.from (here v u (Call o p values) Words.Suspended a) z.owns y.owned tt y.legal)
 
 delay_waits_by : (v u k : Passing) (time : ℤ) (q : Request) (r : Answer) → q ≡ DelayUntil time → Asked v q Answers.Delayed u → (y : Asked u Resume r k) → is_paused (at_resume u k r y) ≡ true
 delay_waits_by v u k time q r is x y =
     let z : Asked v (DelayUntil time) Answers.Delayed u = subst (λ (c : Request). Asked v c Answers.Delayed u) is x in
     let a : Waits v (DelayUntil time) Words.Delayed u = record { answer = Answers.Delayed; asked = z; on = refl; seen_is = z.seen_is; own_is = z.own_is; actor_is = asked_actor v u (DelayUntil time) Answers.Delayed z } in
     paused_as (at_resume u k r y)
-    (paused_at (capacity_in u.about) u.actor u.seen y.at (u.base ++ u.own) z.at (DelayUntil time) Words.Delayed y.from (here v u (DelayUntil time) Words.Delayed a) z.owns y.owned tt y.legal)
+    (paused_at (limits_in u.about) u.actor u.seen y.at (u.base ++ u.own) z.at (DelayUntil time) Words.Delayed y.from (here v u (DelayUntil time) Words.Delayed a) z.owns y.owned tt y.legal)
 
 module _ (v u k : Passing) (q : Request) (r : Answer) (y : Asked u Resume r k) (values : List ℤ) where
   by_queue : (c : Callee) → q ≡ request_of c values → Asked v q Answers.Queued u → is_waits (replied c Answers.Queued) ≡ true → waits_by c (at_resume u k r y) ≡ true
@@ -288,12 +288,12 @@ module _ (v u k : Passing) (q : Request) (r : Answer) (y : Asked u Resume r k) (
 never_unfit_woken : {X : Type 0} (such : Callee → Bool) (v u k : Passing) (q p : Request) (d r : Answer) → Asked v q d u → Asked u p r k → asks_on r ≡ false → IsUnfitWoken such q (told d) p (told r) → X
 never_unfit_woken such v u k q p d r x z n t =
     let y : Asked u Resume r k = subst (λ (c : Request). Asked u c r k) t.6 z in
-    let h : History = history_at (capacity_in u.about) y.at in
+    let h : History = history_at (limits_in u.about) y.at in
     let s : Answer = out h u.actor Resume in
     let due : told r ≡ s = told_same r t.0 ∙ y.due_is in
     let goes : is_stopped (resumed t.1 s) ≡ false =
-        resumes_go_on h u.actor t.1 (waits_so v u k q r y t.3 t.1 d t.4 x (ap is_waits t.5))
-        (ap stands (sym due) ∙ told_stands (told r) (is_told r n)) (ap is_final (sym due) ∙ t.0) in
+    resumes_go_on h u.actor t.1 (waits_so v u k q r y t.3 t.1 d t.4 x (ap is_waits t.5))
+    (ap stands (sym due) ∙ told_stands (told r) (is_told r n)) (ap is_final (sym due) ∙ t.0) in
     unlike (is_stopped (resumed t.1 s)) (ap (λ (a : Answer). is_stopped (resumed t.1 a)) (sym due) ∙ t.7) goes
 
 -- The pairs before it

@@ -20,7 +20,7 @@ use Rattle.rv_port.specs.declared.reached.Reached.TheVariants as Reaches
 use Rattle.rv_port.specs.Actors.{HasHandler}
 use Rattle.rv_port.specs.Events.{marks, history_at, catalogue_of, called}
 use Rattle.rv_port.specs.Later.{version_seen}
-use Rattle.rv_port.specs.Traces.{Passing, capacity_in, Asked, asks_on}
+use Rattle.rv_port.specs.Traces.{Passing, limits_in, Asked, asks_on}
 use Rattle.rv_port.specs.Reaching.{Performs, arguments_of, reads, values_of, waited_for}
 use Rattle.rv_port.specs.Calls.{Wore, Resumed, Waited, Followed, Performed, IsPause, stops_at, StoppedAsking, Tied}
 use Rattle.rv_turn.specs.Histories.{StartsWith}
@@ -51,7 +51,7 @@ as_told v u w m n q to reached is t = subst (λ (z : Reached × Passing). Tied v
 -- the version of a refusal at once
 refused_at : (v u : Passing) (q : Request) (rule : Rule) (line version : ℕ) → goes_on q ≡ false → Asked v q (Answers.Refused rule line version) u → version_seen v.seen ≤ version
 refused_at v u q rule line version g x =
-    let is : version ≡ version_seen x.at = (names_first (history_at (capacity_in v.about) x.at) v.actor q rule line version g (sym x.due_is)).version_is in
+    let is : version ≡ version_seen x.at = (names_first (history_at (limits_in v.about) x.at) v.actor q rule line version g (sym x.due_is)).version_is in
     let more : version_seen v.seen ≤ version_seen x.at = version_later v.seen x.at x.from in omega (arith, is, more)
 
 -- and that of one after a wait
@@ -61,7 +61,7 @@ refused_then v u w o p vs rule line version k x = omega (arith, is, drop, more) 
   past = reverse x.from.0 ++ Asks v.actor (Call o p vs) Words.Queued ∷ reverse k.asked.at
 
   is : version ≡ changes (until_then v.actor (marks past))
-  is = refused_resume (history_at (capacity_in u.about) x.at) u.actor rule line version (sym x.due_is)
+  is = refused_resume (history_at (limits_in u.about) x.at) u.actor rule line version (sym x.due_is)
       ∙ (λ i. changes (until_then (k.actor_is i) (marks (back_at v u (Call o p vs) Words.Queued x.at k x.from i))))
 
   drop : changes (marks (reverse k.asked.at)) ≤ changes (until_then v.actor (marks past))
@@ -71,22 +71,22 @@ refused_then v u w o p vs rule line version k x = omega (arith, is, drop, more) 
   more = version_later v.seen k.asked.at k.asked.from
 
 -- it is in the queue, or was named since
-queue_at : (v u k : Passing) (o p : ℕ) (vs : List ℤ) (r : Answer) → Waits v (Call o p vs) Words.Queued u → (x : Asked u Resume r k) → in_queue (stance u.actor (history_at (capacity_in u.about) x.at).past) ≡ true
-queue_at v u k o p vs r a x = in_queue_at (capacity_in u.about) u.actor u.seen x.at (u.base ++ u.own) a.asked.at o p vs x.from (here v u (Call o p vs) Words.Queued a) a.asked.owns x.owned
+queue_at : (v u k : Passing) (o p : ℕ) (vs : List ℤ) (r : Answer) → Waits v (Call o p vs) Words.Queued u → (x : Asked u Resume r k) → in_queue (stance u.actor (history_at (limits_in u.about) x.at).past) ≡ true
+queue_at v u k o p vs r a x = in_queue_at (limits_in u.about) u.actor u.seen x.at (u.base ++ u.own) a.asked.at o p vs x.from (here v u (Call o p vs) Words.Queued a) a.asked.owns x.owned
 
 -- it is still at its pause
-pause_at : (v u k : Passing) (q : Request) (wait : Recorded) (r : Answer) → Waits v q wait u → IsPause q wait → (x : Asked u Resume r k) → paused (stance u.actor (history_at (capacity_in u.about) x.at).past) ≡ true
-pause_at v u k q wait r a pause x = paused_at (capacity_in u.about) u.actor u.seen x.at (u.base ++ u.own) a.asked.at q wait x.from (here v u q wait a) a.asked.owns x.owned pause x.legal
+pause_at : (v u k : Passing) (q : Request) (wait : Recorded) (r : Answer) → Waits v q wait u → IsPause q wait → (x : Asked u Resume r k) → paused (stance u.actor (history_at (limits_in u.about) x.at).past) ≡ true
+pause_at v u k q wait r a pause x = paused_at (limits_in u.about) u.actor u.seen x.at (u.base ++ u.own) a.asked.at q wait x.from (here v u q wait a) a.asked.owns x.owned pause x.legal
 
 -- the resume of one that waits is no misuse
-no_misuse : {X : Type 0} (u k : Passing) (x : Asked u Resume Answers.Misuse k) → waits (stance u.actor (history_at (capacity_in u.about) x.at).past) ≡ true → X
-no_misuse u k x e = absurd (cc (ap is_sound x.due_is ∙ resume_sound (history_at (capacity_in u.about) x.at) u.actor x.legal e))
+no_misuse : {X : Type 0} (u k : Passing) (x : Asked u Resume Answers.Misuse k) → waits (stance u.actor (history_at (limits_in u.about) x.at).past) ≡ true → X
+no_misuse u k x e = absurd (cc (ap is_sound x.due_is ∙ resume_sound (history_at (limits_in u.about) x.at) u.actor x.legal e))
 
 tied_queue : (v u k w : Passing) (m f : Bool) (o p : ℕ) (vs : List ℤ) (r : Answer) (log : List Event) (reached : Reached) → StartsWith k.seen log → Waits v (Call o p vs) Words.Queued u → Asked u Resume r k → of_resume r ≡ true → asks_on r ≡ false
     → Resumed r log k m (Call o p vs) reached w f → Tied v (Call o p vs) reached w
 tied_queue v u k w m f o p vs (Answers.Woken (Some s)) log reached l a x e n t =
     tied_body v k w (Call o p vs) reached (opened_by_wait v u k o p vs s a x) (ran_to log k w t.0 (waited_for (Call o p vs)) s vs reached t.1 l t.3)
-tied_queue v u k w m f o p vs (Answers.Woken None) log reached l a x e n t = queue_wakes (history_at (capacity_in u.about) x.at) u.actor (queue_at v u k o p vs (Answers.Woken None) a x) (sym x.due_is)
+tied_queue v u k w m f o p vs (Answers.Woken None) log reached l a x e n t = queue_wakes (history_at (limits_in u.about) x.at) u.actor (queue_at v u k o p vs (Answers.Woken None) a x) (sym x.due_is)
 tied_queue v u k w m f o p vs (Answers.Refused rule line version) log reached l a x e n t =
     as_told v k w m f (Call o p vs) (Reaches.Refused rule line version) reached (inr (both_own v u k (Call o p vs) Words.Queued (Words.Refused rule line version) a x.own_is), refused_then v u k o p vs rule line version a x) t
 tied_queue v u k w m f o p vs Answers.Misuse log reached l a x e n t = no_misuse u k x (queue_waits _ (queue_at v u k o p vs Answers.Misuse a x))
@@ -107,10 +107,10 @@ tied_queue v u k w m f o p vs Answers.OutOfMemory log reached l a x e n t = absu
 tied_pause : (v u k w : Passing) (m f : Bool) (q : Request) (wait : Recorded) (r : Answer) (log : List Event) (reached : Reached) → Waits v q wait u → IsPause q wait → Asked u Resume r k → of_resume r ≡ true → asks_on r ≡ false
     → Resumed r log k m q reached w f → Tied v q reached w
 tied_pause v u k w m f q wait (Answers.Woken (Some s)) log reached a h x e n t =
-    pause_unnamed (history_at (capacity_in u.about) x.at) u.actor (Answers.Woken (Some s)) (pause_at v u k q wait (Answers.Woken (Some s)) a h x) (sym x.due_is) refl
+    pause_unnamed (history_at (limits_in u.about) x.at) u.actor (Answers.Woken (Some s)) (pause_at v u k q wait (Answers.Woken (Some s)) a h x) (sym x.due_is) refl
 tied_pause v u k w m f q wait (Answers.Woken None) log reached a h x e n t = as_told v k w m f q (Reaches.Returned []) reached (inr (inr (wait, h, refl, both_own v u k q wait Words.Woken a x.own_is))) t
 tied_pause v u k w m f q wait (Answers.Refused rule line version) log reached a h x e n t =
-    pause_unnamed (history_at (capacity_in u.about) x.at) u.actor (Answers.Refused rule line version) (pause_at v u k q wait (Answers.Refused rule line version) a h x) (sym x.due_is) refl
+    pause_unnamed (history_at (limits_in u.about) x.at) u.actor (Answers.Refused rule line version) (pause_at v u k q wait (Answers.Refused rule line version) a h x) (sym x.due_is) refl
 tied_pause v u k w m f q wait Answers.Misuse log reached a h x e n t = no_misuse u k x (pause_waits _ (pause_at v u k q wait Answers.Misuse a h x))
 tied_pause v u k w m f q wait Answers.Halted log reached a h x e n t = as_told v k w m f q Reaches.Stopped reached (inl (stopped_then v u k q wait Answers.Halted a x refl)) t
 tied_pause v u k w m f q wait Answers.Full log reached a h x e n t = as_told v k w m f q Reaches.Stopped reached (inl (stopped_then v u k q wait Answers.Full a x refl)) t
@@ -131,7 +131,7 @@ wore_then v u w q wait reached k t = subst (λ (z : Reached). Tied v q z w) (sym
     (inl (record { asker = u; same = asked_stays v u q k.answer k.asked; request = Resume; last = inr (inl (k.answer, k.asked, k.on, refl)); reason = inl t.0 }))
 
 resumed_so : (u k : Passing) (r : Answer) → Asked u Resume r k → of_resume r ≡ true
-resumed_so u k r x = ap of_resume x.due_is ∙ resume_gets (history_at (capacity_in u.about) x.at) u.actor
+resumed_so u k r x = ap of_resume x.due_is ∙ resume_gets (history_at (limits_in u.about) x.at) u.actor
 
 -- a call that was queued
 after_queue : (v u w : Passing) (m f : Bool) (q : Request) (reached : Reached) → calls q ≡ true → Waits v q Words.Queued u → Waited u m q reached w f → Tied v q reached w
@@ -210,4 +210,4 @@ stops_on_halt Halt t = absurd t
 pub tied : (v w : Passing) (m f : Bool) (q : Request) (reached : Reached) → HasHandler (catalogue_of v.seen) v.actor → Performs q → Performed v m q reached w f → Tied v q reached w
 tied v w m f q reached has p t = ⊎_elim (λ wore. tied_wore v w q reached wore.0)
     (λ x. tied_followed v x.1 w m f q x.0 x.2.at (called (catalogue_of x.2.at) v.actor q) reached (asked_grown v x.1 q x.0 x.2) (stops_on_halt q p)
-    (ap (of_first q) x.2.due_is ∙ first_gets (history_at (capacity_in v.about) x.2.at) v.actor q (handler_later v.seen x.2.at v.actor x.2.from has) p) x.3 x.2 x.4) t
+    (ap (of_first q) x.2.due_is ∙ first_gets (history_at (limits_in v.about) x.2.at) v.actor q (handler_later v.seen x.2.at v.actor x.2.from has) p) x.3 x.2 x.4) t

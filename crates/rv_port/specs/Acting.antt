@@ -1,5 +1,5 @@
 -- What an act of the host behind the turn may do. (own)
-use Rattle.std.specs.Prelude.{◌≡◌, ℕ, Bool, true, false, ◌==◌, if◌then◌else◌, List, [], ◌∷◌, ◌++◌, Option, Some, None, is_some}
+use Rattle.std.specs.Prelude.{◌≡◌, ℕ, Bool, true, false, ◌==◌, if◌then◌else◌, List, [], ◌∷◌, ◌++◌, Option, Some, None, is_some, length}
 use Rattle.std.proofs.Common.{inl, inr, refl, sym, eqb}
 use Rattle.std.proofs.lemmas.Bool.{eqb-true}
 use Rattle.rv_access.specs.Words.{Words}
@@ -10,7 +10,8 @@ use Rattle.rv_event.specs.declared.entry.Request.{Request}
 use Rattle.rv_event.specs.declared.entry.Answer.{Answer}
 use Rattle.rv_event.specs.declared.entry.Answer.TheVariants as Answers
 use Rattle.rv_event.specs.declared.entry.Recorded.{Recorded}
-use Rattle.rv_history.specs.History.{History, force}
+use Rattle.rv_history.specs.declared.limits.Limits.{Limits}
+use Rattle.rv_history.specs.History.{force}
 use Rattle.rv_history.specs.Due.{out}
 use Rattle.rv_history.specs.Legal.{Legal, out_load}
 use Rattle.rv_history.specs.Lists.{changed}
@@ -22,13 +23,13 @@ use Rattle.rv_code.specs.Bodies as Code
 use Rattle.rv_code.specs.BodyView.{unit_view}
 use Rattle.rv_code.specs.declared.body.UnitBodies.{UnitBodies}
 use Rattle.rv_fits.specs.Fits.{calls_fit}
-use Rattle.rv_exec.specs.Bodies.{bodies_view, held}
+use Rattle.rv_exec.specs.Bodies.{bodies_view, held, units_of}
+use Rattle.rv_exec.specs.declared.bodies.Bodies.{Bodies}
 use Rattle.rv_port.specs.Events.{by, history_at, catalogue_of, bodies_at, called, no_operation}
 use Rattle.rv_port.specs.declared.event.Lent.{Lent}
 use Rattle.rv_port.specs.declared.event.Begun.{Begun}
 use Rattle.rv_port.specs.declared.event.Event.{Event}
 use Rattle.rv_port.specs.declared.event.Event.TheVariants.{Asks, Loads, Lists}
-use Rattle.rv_port.specs.declared.event.Limits.{Limits}
 use Rattle.rv_port.specs.declared.event.Ask.{Ask}
 use Rattle.rv_port.specs.declared.event.Ask.TheVariants as Wants
 use Rattle.rv_port.specs.declared.event.Reply.{Reply}
@@ -59,20 +60,20 @@ begun_by shapes actor request (Answers.Started values) = called shapes actor req
 begun_by shapes actor request answer = no_operation
 
 -- the answer to a request, and the history after it (own)
-abbrev pub Stepped : ℕ → List Event → ℕ → Request → Answer → List Event → Type 0
+abbrev pub Stepped : Limits → List Event → ℕ → Request → Answer → List Event → Type 0
 Stepped c log a q r after = (r ≡ out (history_at c log) a q) × (after ≡ grown log a q r)
 
 -- the answer to a load (own)
-abbrev pub Loaded : ℕ → List Event → Shape → UnitBodies → Answer → List Event → Type 0
+abbrev pub Loaded : Limits → List Event → Shape → UnitBodies → Answer → List Event → Type 0
 Loaded c log shape unit r after = MayLackMemory (out_load (history_at c log) shape) r × (after ≡ loaded log shape unit r)
 
 -- the same, where it can't be accepted for want of memory (own)
-abbrev pub Unloaded : ℕ → List Event → Shape → Answer → List Event → Type 0
+abbrev pub Unloaded : Limits → List Event → Shape → Answer → List Event → Type 0
 Unloaded c log shape r after =
     MayLackMemory (out_load (history_at c log) shape) r × (recorded r ≡ None) × (after ≡ log)
 
 -- the same of a unit whose calls fit, or not: such a one is never accepted (own)
-abbrev pub LoadedIf : Bool → ℕ → List Event → Shape → UnitBodies → Answer → List Event → Type 0
+abbrev pub LoadedIf : Bool → Limits → List Event → Shape → UnitBodies → Answer → List Event → Type 0
 LoadedIf true c log shape unit r after = Loaded c log shape unit r after
 LoadedIf false c log shape unit r after = (recorded r ≡ None) × (after ≡ log)
 
@@ -80,8 +81,13 @@ LoadedIf false c log shape unit r after = (recorded r ≡ None) × (after ≡ lo
 abbrev pub fits_behind : List Event → Shape → UnitBodies → Bool
 fits_behind log shape unit = calls_fit (catalogue_of log ++ shape ∷ []) (unit_view unit)
 
+-- Each unit of the host has bodies, and the calls of all bodies fit the units. (own)
+pub record AreBrought (h : History) (bodies : Bodies) : Type 0 where
+  pub count : length (units_of bodies) ≡ length h.shapes
+  pub fit : calls_fit h.shapes (bodies_view bodies) ≡ true
+
 -- the answer to a list change (own)
-abbrev pub Changed : ℕ → List Event → Change → Answer → List Event → Type 0
+abbrev pub Changed : Limits → List Event → Change → Answer → List Event → Type 0
 Changed c log change r after =
     MayLackMemory (due_change (history_at c log) change) r
     × (after ≡ changed_to log (changed (force (history_at c log)) change) r)
@@ -110,7 +116,7 @@ lent_view None = None
 lent_view (Some lent) = Some (bodies_view (arc_value lent.bodies))
 
 -- what is due to an ask, on a legal history (own)
-abbrev pub Due : ℕ → List Event → ℕ → Ask → Reply → List Event → Type 0
+abbrev pub Due : Limits → List Event → ℕ → Ask → Reply → List Event → Type 0
 Due c log a (Wants.Step q) (Gives.Answered r b lent) after =
     Stepped c log a q r after × (b ≡ begun_by (catalogue_of log) a q r) × IsLent log (lent_view lent)
 Due c log a (Wants.Load shape unit) (Gives.Answered r b lent) after =
@@ -124,13 +130,9 @@ Due c log a (Wants.Read from) Gives.Unread after = after ≡ log
 Due c log a Wants.Bodies (Gives.Bodies lent) after = IsLent log (lent_view lent) × (after ≡ log)
 Due c log a ask reply after = ⊥
 
--- what no act changes (own)
-abbrev pub limits_of : History → Limits
-limits_of h = record { capacity = h.capacity }
-
 -- an act of the host behind the turn (own)
 abbrev pub Does : Limits → List Event → ℕ → Ask → Reply → List Event → Type 0
-Does limits log a ask reply after = Legal (history_at limits.capacity log) × Due limits.capacity log a ask reply after
+Does limits log a ask reply after = Legal (history_at limits log) × Due limits log a ask reply after
 
 -- The law: one event of the actor more, or none
 
@@ -152,18 +154,18 @@ changed_adds : (b : Bool) (list : Option (List Words)) (log : List Event) (a : �
 changed_adds true list log a after is e = listed_adds list log a after is e
 changed_adds false list log a after is e = inl e
 
-load_adds : (b fits : Bool) (c : ℕ) (log : List Event) (a : ℕ) (shape : Shape) (unit : UnitBodies) (r : Answer) (after : List Event) → (b ≡ true → 0 ≡ a)
+load_adds : (b fits : Bool) (c : Limits) (log : List Event) (a : ℕ) (shape : Shape) (unit : UnitBodies) (r : Answer) (after : List Event) → (b ≡ true → 0 ≡ a)
     → IfOperator b (LoadedIf fits c log shape unit r after) r log after → Adds by log a after
 load_adds true true c log a shape unit r after is d = loaded_adds (is_some (recorded r)) log a shape unit after (is refl) d.1
 load_adds true false c log a shape unit r after is d = inl d.1
 load_adds false fits c log a shape unit r after is d = inl d.1
 
-unload_adds : (b : Bool) (c : ℕ) (log : List Event) (a : ℕ) (shape : Shape) (r : Answer) (after : List Event)
+unload_adds : (b : Bool) (c : Limits) (log : List Event) (a : ℕ) (shape : Shape) (r : Answer) (after : List Event)
     → IfOperator b (Unloaded c log shape r after) r log after → Adds by log a after
 unload_adds true c log a shape r after d = inl d.2
 unload_adds false c log a shape r after d = inl d.1
 
-change_adds : (b : Bool) (c : ℕ) (log : List Event) (a : ℕ) (change : Change) (r : Answer) (after : List Event) → (b ≡ true → 0 ≡ a)
+change_adds : (b : Bool) (c : Limits) (log : List Event) (a : ℕ) (change : Change) (r : Answer) (after : List Event) → (b ≡ true → 0 ≡ a)
     → IfOperator b (Changed c log change r after) r log after → Adds by log a after
 change_adds true c log a change r after is d = changed_adds (is_some (recorded r)) (changed (force (history_at c log)) change) log a after (is refl) d.1
 change_adds false c log a change r after is d = inl d.1
@@ -171,7 +173,7 @@ change_adds false c log a change r after is d = inl d.1
 is_zero : (a : ℕ) → eqb a 0 ≡ true → 0 ≡ a
 is_zero a e = sym (eqb-true a 0 e)
 
-due_adds : (c : ℕ) (log : List Event) (a : ℕ) (ask : Ask) (reply : Reply) (after : List Event) → Due c log a ask reply after → Adds by log a after
+due_adds : (c : Limits) (log : List Event) (a : ℕ) (ask : Ask) (reply : Reply) (after : List Event) → Due c log a ask reply after → Adds by log a after
 due_adds c log a (Wants.Step q) (Gives.Answered r b lent) after d = entered_adds (recorded r) log a q after d.0.1
 due_adds c log a (Wants.Load shape unit) (Gives.Answered r b lent) after d = load_adds (eqb a 0) (fits_behind log shape (held unit)) c log a shape (held unit) r after (is_zero a) d
 due_adds c log a (Wants.LoadWithoutMemory shape) (Gives.Answered r b lent) after d = unload_adds (eqb a 0) c log a shape r after d
@@ -198,4 +200,4 @@ due_adds c log a Wants.Bodies Gives.Unread after d = absurd d
 due_adds c log a Wants.Bodies (Gives.Bodies lent) after d = inl d.1
 
 pub adds : (limits : Limits) (log : List Event) (a : ℕ) (ask : Ask) (reply : Reply) (after : List Event) → Does limits log a ask reply after → Adds by log a after
-adds limits log a ask reply after d = due_adds limits.capacity log a ask reply after d.1
+adds limits log a ask reply after d = due_adds limits log a ask reply after d.1

@@ -31,7 +31,7 @@ use Rattle.rv_port.specs.Reaching.{arguments_of, reads, values_of, plain_of, end
 abbrev pub Grown : Passing → Passing → Type 0
 Grown v w = (more : List Event) × (w.own ≡ v.own ++ more)
 
--- A port stays what it was: of one control and one actor, with the same capacity, it forgets nothing that it saw or did, and
+-- A port stays what it was: of one control and one actor, with the same limits, it forgets nothing that it saw or did, and
 -- gains no act. (own)
 pub record Stays (v w : Passing) : Type 0 where
   pub turn : w.turn ≡ v.turn

@@ -6,7 +6,6 @@ use Rattle.rv_history.specs.Legal.{Legal}
 use Rattle.rv_turn.specs.Histories.{mine, Each, NoStrangers, StartsWith}
 use Rattle.rv_turn.specs.Passes.{StandsIn}
 use Rattle.rv_port.specs.Events.{by, log_of}
-use Rattle.rv_port.specs.Acting.{limits_of}
 use Rattle.rv_port.specs.Traces.{Passing}
 use Rattle.rv_port.specs.declared.event.Event.{Event}
 
@@ -27,4 +26,4 @@ pub record IsClosed (control : Passing) (ports : List Passing) (h : History) : T
   pub control_keeps : KeepsAll (log_of h units) control
   pub ports_keep : Each (KeepsAll (log_of h units)) ports
   pub strangers : NoStrangers by (log_of h units) control.given
-  pub limits : control.about ≡ Some (limits_of h)
+  pub limits : control.about ≡ Some h.limits

@@ -4,12 +4,12 @@ use Rattle.rv_event.specs.Recorded.{recorded}
 use Rattle.rv_event.specs.declared.entry.Request.{Request}
 use Rattle.rv_event.specs.declared.entry.Answer.{Answer}
 use Rattle.rv_event.specs.declared.entry.Recorded.{Recorded}
+use Rattle.rv_history.specs.declared.limits.Limits.{Limits}
 use Rattle.rv_turn.specs.Histories.{StartsWith}
 use Rattle.rv_turn.specs.Prefixes.{starts_self, starts_both}
 use Rattle.rv_port.specs.Acting.{grown}
-use Rattle.rv_port.specs.Traces.{Passing, capacity_in, Trace, noted, noted_if, IsAnswered, EachAnswered, Steps, Went}
+use Rattle.rv_port.specs.Traces.{Passing, limits_in, Trace, noted, noted_if, IsAnswered, EachAnswered, Steps, Went}
 use Rattle.rv_port.specs.declared.event.Event.{Event}
-use Rattle.rv_port.specs.declared.event.Limits.{Limits}
 
 noted_if-append : (b : Option Recorded) (a : ℕ) (q : Request) (es fs : List Event) → noted_if b a q (es ++ fs) ≡ noted_if b a q es ++ fs
 noted_if-append (Some w) a q es fs = refl
@@ -24,26 +24,26 @@ no_length [] e = refl
 no_length (x ∷ xs) e = absurd (omega (arith, e))
 
 -- a pair that was answered is answered still when more is seen later, and when less had been seen before
-pub answered_wider : (limit a : ℕ) (seen seen' own own' later later' : List Event) (q : Request) (r : Answer) → StartsWith seen seen' → StartsWith later' later → own ≡ own' → IsAnswered limit a seen own later q r → IsAnswered limit a seen' own' later' q r
-answered_wider limit a seen seen' own own' later later' q r before after is x =
+pub answered_wider : (limits : Limits) (a : ℕ) (seen seen' own own' later later' : List Event) (q : Request) (r : Answer) → StartsWith seen seen' → StartsWith later' later → own ≡ own' → IsAnswered limits a seen own later q r → IsAnswered limits a seen' own' later' q r
+answered_wider limits a seen seen' own own' later later' q r before after is x =
     record { at = x.at; from = starts_both seen' seen x.at before x.from; to = starts_both (grown x.at a q r) later later' x.to after; own_is = x.own_is ∙ is; legal = x.legal; due_is = x.due_is }
 
 -- a trace, and another one after it
-pub each_both : (limit a : ℕ) (seen mid later : List Event) (left₁ left₂ : ℕ) (own : List Event) (xs ys : Trace) → StartsWith mid seen → StartsWith later mid → left₂ + length (noted a ys) ≤ left₁
-    → EachAnswered limit a seen mid left₁ own xs → EachAnswered limit a mid later left₂ (own ++ noted a xs) ys → EachAnswered limit a seen later left₂ own (xs ++ ys)
-each_both limit a seen mid later l₁ l₂ own [] ys p q few x y = wider own (own ++ []) ys (append-nil own) y where
-  wider : (own own' : List Event) (ys : Trace) → own' ≡ own → EachAnswered limit a mid later l₂ own' ys → EachAnswered limit a seen later l₂ own ys
+pub each_both : (limits : Limits) (a : ℕ) (seen mid later : List Event) (left₁ left₂ : ℕ) (own : List Event) (xs ys : Trace) → StartsWith mid seen → StartsWith later mid → left₂ + length (noted a ys) ≤ left₁
+    → EachAnswered limits a seen mid left₁ own xs → EachAnswered limits a mid later left₂ (own ++ noted a xs) ys → EachAnswered limits a seen later left₂ own (xs ++ ys)
+each_both limits a seen mid later l₁ l₂ own [] ys p q few x y = wider own (own ++ []) ys (append-nil own) y where
+  wider : (own own' : List Event) (ys : Trace) → own' ≡ own → EachAnswered limits a mid later l₂ own' ys → EachAnswered limits a seen later l₂ own ys
   wider own own' [] is t = tt
   wider own own' (y ∷ ys) is t = (
-    ⊎_elim (λ h. inl (answered_wider limit a mid seen own' own later later y.0 y.1 p (starts_self later) is h)) (λ h. inr h) t.0,
+    ⊎_elim (λ h. inl (answered_wider limits a mid seen own' own later later y.0 y.1 p (starts_self later) is h)) (λ h. inr h) t.0,
     wider (own ++ noted a (y ∷ [])) (own' ++ noted a (y ∷ [])) ys (ap (λ (l : List Event). l ++ noted a (y ∷ [])) is) t.1,
   )
-each_both limit a seen mid later l₁ l₂ own (x ∷ xs) ys p q few t u = (
-  ⊎_elim (λ h. inl (answered_wider limit a seen seen own own mid later x.0 x.1 (starts_self seen) q refl h))
+each_both limits a seen mid later l₁ l₂ own (x ∷ xs) ys p q few t u = (
+  ⊎_elim (λ h. inl (answered_wider limits a seen seen own own mid later x.0 x.1 (starts_self seen) q refl h))
       (λ h. inr (h.0, omega (arith, h.1, few), noted-append a xs ys ∙ (ap (λ (l : List Event). l ++ noted a ys) h.2 ∙ no_length (noted a ys) (omega (arith, h.1, few)))))
       t.0,
-  each_both limit a seen mid later l₁ l₂ (own ++ noted a (x ∷ [])) xs ys p q few t.1
-      (subst (λ (l : List Event). EachAnswered limit a mid later l₂ l ys) (ap (λ (l : List Event). own ++ l) (first_of_all x xs) ∙ sym (append_assoc own (noted a (x ∷ [])) (noted a xs))) u),
+  each_both limits a seen mid later l₁ l₂ (own ++ noted a (x ∷ [])) xs ys p q few t.1
+      (subst (λ (l : List Event). EachAnswered limits a mid later l₂ l ys) (ap (λ (l : List Event). own ++ l) (first_of_all x xs) ∙ sym (append_assoc own (noted a (x ∷ [])) (noted a xs))) u),
 ) where
   first_of_all : (x : Request × Answer) (xs : Trace) → noted a (x ∷ xs) ≡ noted a (x ∷ []) ++ noted a xs
   first_of_all x xs = noted-append a (x ∷ []) xs
@@ -62,12 +62,12 @@ went_both v u w xs ys p q = let sa : u.actor ≡ v.actor = ap (λ k. k.actor) p.
     let acts_w : w.left + length (noted v.actor ys) ≤ u.left = subst (λ (n : ℕ). w.left + length (noted n ys) ≤ u.left) sa q.acts in
     let both : noted v.actor (xs ++ ys) ≡ noted v.actor xs ++ noted v.actor ys = noted-append v.actor xs ys in
     let owned : u.base ++ u.own ≡ (v.base ++ v.own) ++ noted v.actor xs = ap (λ (l : List Event). l ++ u.own) sb ∙ (ap (λ (l : List Event). v.base ++ l) own_u ∙ sym (append_assoc v.base v.own (noted v.actor xs))) in
-    let each_w : EachAnswered (capacity_in v.about) v.actor u.seen w.seen w.left ((v.base ++ v.own) ++ noted v.actor xs) ys
-    = subst (λ (z : Option Limits × ℕ × List Event). EachAnswered (capacity_in z.0) z.1 u.seen w.seen w.left z.2 ys) (λ i. (sl i, sa i, owned i)) q.each in record {
+    let each_w : EachAnswered (limits_in v.about) v.actor u.seen w.seen w.left ((v.base ++ v.own) ++ noted v.actor xs) ys
+    = subst (λ (z : Option Limits × ℕ × List Event). EachAnswered (limits_in z.0) z.1 u.seen w.seen w.left z.2 ys) (λ i. (sl i, sa i, owned i)) q.each in record {
       later = starts_both v.seen u.seen w.seen p.later q.later;
       own = own_w ∙ (ap (λ (l : List Event). l ++ noted v.actor ys) own_u ∙ (append_assoc v.own (noted v.actor xs) (noted v.actor ys) ∙ ap (λ (l : List Event). v.own ++ l) (sym both)));
       acts = let long = ap length both ∙ length-append (noted v.actor xs) (noted v.actor ys) in let fewer = p.acts in omega (arith, long, fewer, acts_w);
-      each = each_both (capacity_in v.about) v.actor v.seen u.seen w.seen u.left w.left (v.base ++ v.own) xs ys p.later q.later acts_w p.each each_w;
+      each = each_both (limits_in v.about) v.actor v.seen u.seen w.seen u.left w.left (v.base ++ v.own) xs ys p.later q.later acts_w p.each each_w;
       steps = steps_both v u w xs ys p.steps q.steps;
       same = q.same ∙ ap (λ (k : Passing). record k { seen = w.seen; own = w.own; left = w.left }) p.same;
     }

@@ -110,7 +110,7 @@ pub record IsControl (turn : TableId) (pass : Passing) (given : List ℕ) (catal
   pub limited : is_some pass.about ≡ true
   pub catalogue_is : catalogue ≡ catalogue_of pass.seen
 
--- What every control keeps: it is the operator's, its capacity is known, and its own events are the operator's in all that it has seen, behind those
+-- What every control keeps: it is the operator's, its limits are known, and its own events are the operator's in all that it has seen, behind those
 -- that the host had at first, which are the operator's too. (own)
 pub record IsOperators (control : Passing) : Type 0 where
   pub first : control.first ≡ true
@@ -119,7 +119,7 @@ pub record IsOperators (control : Passing) : Type 0 where
   pub opening : mine by 0 control.base ≡ control.base
   pub owns : mine by 0 control.seen ≡ control.base ++ control.own
 
--- What every port keeps, also one that is done: its capacity is known, and its own events are its actor's in all that it has
+-- What every port keeps, also one that is done: its limits are known, and its own events are its actor's in all that it has
 -- seen, each once and in their order. (own)
 pub record IsPorts (port : Passing) : Type 0 where
   pub first : port.first ≡ false

@@ -5,6 +5,8 @@ use Rattle.rv_event.specs.declared.entry.Request.{Request}
 use Rattle.rv_event.specs.declared.entry.Answer.{Answer}
 use Rattle.rv_event.specs.declared.entry.Answer.TheVariants as Answers
 use Rattle.rv_event.specs.declared.entry.Recorded.{Recorded}
+use Rattle.rv_history.specs.declared.limits.Limits.{Limits}
+use Rattle.rv_history.specs.Limits.{limits_of}
 use Rattle.rv_history.specs.Due.{out}
 use Rattle.rv_history.specs.Legal.{Legal}
 use Rattle.rv_turn.specs.Histories.{mine, StartsWith}
@@ -15,16 +17,15 @@ use Rattle.rv_port.specs.declared.event.Lent.{Lent}
 use Rattle.rv_port.specs.declared.event.Begun.{Begun}
 use Rattle.rv_port.specs.declared.event.Event.{Event}
 use Rattle.rv_port.specs.declared.event.Event.TheVariants.{Asks}
-use Rattle.rv_port.specs.declared.event.Limits.{Limits}
 
 -- what a port knows (own)
 abbrev pub Passing : Type 0
 Passing = Known Event Limits
 
--- the capacity that a pass knows (own)
-abbrev pub capacity_in : Option Limits → ℕ
-capacity_in None = 0
-capacity_in (Some limits) = limits.capacity
+-- the limits that a pass knows, else those of no room (own)
+abbrev pub limits_in : Option Limits → Limits
+limits_in None = limits_of 0
+limits_in (Some limits) = limits
 
 -- what a body is told of an answer: Full in place of Misuse (own)
 abbrev pub told : Answer → Answer
@@ -58,35 +59,35 @@ noted a (x ∷ xs) = noted_if (recorded x.1) a x.0 (noted a xs)
 
 -- The reply is due on a legal history, which begins with all that was seen, and has of the actor's events these alone.
 -- What is seen later begins with that history, and with the event where there is one. (own)
-pub record IsAnswered (limit a : ℕ) (seen own later : List Event) (q : Request) (r : Answer) : Type 0 where
+pub record IsAnswered (limits : Limits) (a : ℕ) (seen own later : List Event) (q : Request) (r : Answer) : Type 0 where
   pub at : List Event
   pub from : StartsWith at seen
   pub to : StartsWith later (grown at a q r)
   pub own_is : mine by a at ≡ own
-  pub legal : Legal (history_at limit at)
-  pub due_is : r ≡ told (out (history_at limit at) a q)
+  pub legal : Legal (history_at limits at)
+  pub due_is : r ≡ told (out (history_at limits at) a q)
 
 -- No act is left, and so no event follows. (own)
 abbrev pub IsWorn : ℕ → ℕ → Answer → Trace → Type 0
 IsWorn a left r rest = (r ≡ Answers.Full) × (left ≡ 0) × (noted a rest ≡ [])
 
 -- each pair of a trace, from a pass's events so far (own)
-abbrev pub EachAnswered : ℕ → ℕ → List Event → List Event → ℕ → List Event → Trace → Type 0
-EachAnswered limit a seen later left own [] = Unit {0}
-EachAnswered limit a seen later left own (x ∷ xs) =
-    (IsAnswered limit a seen own later x.0 x.1 ⊎ IsWorn a left x.1 xs) × EachAnswered limit a seen later left (own ++ noted a (x ∷ [])) xs
+abbrev pub EachAnswered : Limits → ℕ → List Event → List Event → ℕ → List Event → Trace → Type 0
+EachAnswered limits a seen later left own [] = Unit {0}
+EachAnswered limits a seen later left own (x ∷ xs) =
+    (IsAnswered limits a seen own later x.0 x.1 ⊎ IsWorn a left x.1 xs) × EachAnswered limits a seen later left (own ++ noted a (x ∷ [])) xs
 
 -- On these legal histories, of which each begins with all that was seen before it, Busy or Waiting was due. The last is seen
 -- then. (own)
-abbrev pub EachInVain : ℕ → ℕ → Request → List Event → List (List Event) → List Event → Type 0
-EachInVain limit a q seen [] last = last ≡ seen
-EachInVain limit a q seen (at ∷ more) last =
-    StartsWith at seen × Legal (history_at limit at) × (asks_on (out (history_at limit at) a q) ≡ true) × EachInVain limit a q at more last
+abbrev pub EachInVain : Limits → ℕ → Request → List Event → List (List Event) → List Event → Type 0
+EachInVain limits a q seen [] last = last ≡ seen
+EachInVain limits a q seen (at ∷ more) last =
+    StartsWith at seen × Legal (history_at limits at) × (asks_on (out (history_at limits at) a q) ≡ true) × EachInVain limits a q at more last
 
 -- A request was made in vain, so many times: each answer was Busy or Waiting, and took one act. (own)
 pub record InVain (v : Passing) (q : Request) (w : Passing) : Type 0 where
   pub times : List (List Event)
-  pub each : EachInVain (capacity_in v.about) v.actor q v.seen times w.seen
+  pub each : EachInVain (limits_in v.about) v.actor q v.seen times w.seen
   pub acts : w.left + length times ≡ v.left
   pub same : w ≡ record v { seen = w.seen; left = w.left }
 
@@ -99,8 +100,8 @@ pub record Asked (v : Passing) (q : Request) (r : Answer) (w : Passing) : Type 0
   pub later : StartsWith at before.seen
   pub from : StartsWith at v.seen
   pub owned : mine by v.actor at ≡ v.base ++ v.own
-  pub legal : Legal (history_at (capacity_in v.about) at)
-  pub due_is : r ≡ out (history_at (capacity_in v.about) at) v.actor q
+  pub legal : Legal (history_at (limits_in v.about) at)
+  pub due_is : r ≡ out (history_at (limits_in v.about) at) v.actor q
   pub seen_is : w.seen ≡ grown at v.actor q r
   pub own_is : w.own ≡ v.own ++ noted v.actor ((q, r) ∷ [])
   pub owns : mine by w.actor w.seen ≡ w.base ++ w.own
@@ -125,7 +126,7 @@ pub record Went (v : Passing) (xs : Trace) (w : Passing) : Type 0 where
   pub later : StartsWith w.seen v.seen
   pub own : w.own ≡ v.own ++ noted v.actor xs
   pub acts : w.left + length (noted v.actor xs) ≤ v.left
-  pub each : EachAnswered (capacity_in v.about) v.actor v.seen w.seen w.left (v.base ++ v.own) xs
+  pub each : EachAnswered (limits_in v.about) v.actor v.seen w.seen w.left (v.base ++ v.own) xs
   pub steps : Steps v xs w
   pub same : w ≡ record v { seen = w.seen; own = w.own; left = w.left }
 

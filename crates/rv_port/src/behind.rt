@@ -3,17 +3,17 @@
 mod begun;
 mod loads;
 
-ghost use Rattle.std.specs.Prelude.{◌≡◌, true, false, length, IfOk, IfErr, IfSome};
+ghost use Rattle.std.specs.Prelude.{◌≡◌, true, false, IfOk, IfErr, IfSome};
 ghost use Rattle.std.specs.Arc.{arc_value};
-ghost use Rattle.rv_exec.specs.Bodies.{bodies_view, units_of};
-ghost use Rattle.rv_fits.specs.Fits.{calls_fit};
+ghost use Rattle.rv_exec.specs.Bodies.{bodies_view};
 ghost use Rattle.rv_port.specs.Events.{log_in};
-ghost use Rattle.rv_port.specs.Acting.{Does, changes, limits_of};
+ghost use Rattle.rv_port.specs.Acting.{AreBrought, Does, changes};
 
-use crate::event::{Ask, Event, Lent, Letter, Limits, NONE, Reply};
+use crate::event::{Ask, Event, Lent, Letter, NONE, Reply};
 use begun::begun_by;
 use rv_event::entry::{Answer, Request};
 use rv_exec::bodies::Bodies;
+use rv_history::limits::Limits;
 use rv_host::host::Host;
 use rv_host::pages::Page;
 use rv_turn::Counted;
@@ -28,8 +28,7 @@ pub struct Behind {
     pub(crate) alloc: Global,
     pub(crate) host: Box<Host>,
     pub(crate) bodies: Arc<Bodies, Global>,
-    pub(crate) ghost brought: { length (units_of (arc_value bodies)) ≡ length host.value.shapes },
-    pub(crate) ghost fitting: { calls_fit host.value.shapes (bodies_view (arc_value bodies)) ≡ true },
+    pub(crate) ghost brought: { AreBrought host.value (arc_value bodies) },
 }
 
 // Whether a body starts with the answer.
@@ -51,8 +50,7 @@ impl Behind {
         host: Host,
         bodies: Arc<Bodies, Global>,
     ) -> Result<Behind, Host>
-        requires { (length (units_of (arc_value bodies)) ≡ length host.shapes)
-            × (calls_fit host.shapes (bodies_view (arc_value bodies)) ≡ true) }
+        requires { AreBrought host (arc_value bodies) }
         ensures ok { IfOk result (λ b. (b.host.value ≡ host) × (arc_value b.bodies ≡ arc_value bodies)) }
         ensures err { IfErr result (λ h. h ≡ host) }
     {
@@ -88,18 +86,18 @@ impl Behind {
 
     // The bodies, for a text.
     fn give_bodies(&self, actor: u64) -> Reply
-        ensures { Does (limits_of self.now.host.value) (log_in self.now.host.value (arc_value self.now.bodies)) actor Ask.Bodies result (log_in self.now.host.value (arc_value self.now.bodies)) }
+        ensures { Does self.now.host.value.limits (log_in self.now.host.value (arc_value self.now.bodies)) actor Ask.Bodies result (log_in self.now.host.value (arc_value self.now.bodies)) }
     {
         self.host.replays();
         Reply::Bodies(self.share())
     }
 
     // A request, which is answered in its letter.
-    #[tactic(auto, using(crate::proofs::Doing::brought_step, crate::proofs::Doing::fits_step))]
+    #[tactic(auto, using(crate::proofs::Doing::brings_step))]
     fn step(&mut self, actor: u64, letter: &mut Letter)
-        ensures does { Does (limits_of self.old.host.value) (log_in self.old.host.value (arc_value self.old.bodies)) actor (Ask.Step letter.old.request) (Reply.Answered letter.new.answer letter.new.begun letter.new.lent) (log_in self.new.host.value (arc_value self.new.bodies)) }
+        ensures does { Does self.old.host.value.limits (log_in self.old.host.value (arc_value self.old.bodies)) actor (Ask.Step letter.old.request) (Reply.Answered letter.new.answer letter.new.begun letter.new.lent) (log_in self.new.host.value (arc_value self.new.bodies)) }
         ensures request { letter.new.request ≡ letter.old.request }
-        ensures about { self.new.host.value.capacity ≡ self.old.host.value.capacity }
+        ensures about { self.new.host.value.limits ≡ self.old.host.value.limits }
     {
         let host = &mut *self.host;
         host.replays();
@@ -115,8 +113,8 @@ impl Behind {
 
     // A request, as one of several things to ask.
     fn request(&mut self, actor: u64, request: &Request) -> Reply
-        ensures does { Does (limits_of self.old.host.value) (log_in self.old.host.value (arc_value self.old.bodies)) actor (Ask.Step request.now) result (log_in self.new.host.value (arc_value self.new.bodies)) }
-        ensures about { self.new.host.value.capacity ≡ self.old.host.value.capacity }
+        ensures does { Does self.old.host.value.limits (log_in self.old.host.value (arc_value self.old.bodies)) actor (Ask.Step request.now) result (log_in self.new.host.value (arc_value self.new.bodies)) }
+        ensures about { self.new.host.value.limits ≡ self.old.host.value.limits }
     {
         let mut letter = Letter::new(request);
         self.step(actor, &mut letter);
@@ -131,8 +129,8 @@ impl Behind {
 
     // A page.
     fn read(&mut self, actor: u64, from: usize) -> Reply
-        ensures does { Does (limits_of self.old.host.value) (log_in self.old.host.value (arc_value self.old.bodies)) actor (Ask.Read from) result (log_in self.new.host.value (arc_value self.new.bodies)) }
-        ensures about { self.new.host.value.capacity ≡ self.old.host.value.capacity }
+        ensures does { Does self.old.host.value.limits (log_in self.old.host.value (arc_value self.old.bodies)) actor (Ask.Read from) result (log_in self.new.host.value (arc_value self.new.bodies)) }
+        ensures about { self.new.host.value.limits ≡ self.old.host.value.limits }
     {
         let host = &*self.host;
         host.replays();
@@ -146,8 +144,8 @@ impl Behind {
     // What any actor may ask.
     fn serve(&mut self, actor: u64, ask: &Ask) -> Reply
         requires { changes ask.now ≡ false }
-        ensures does { Does (limits_of self.old.host.value) (log_in self.old.host.value (arc_value self.old.bodies)) actor ask.now result (log_in self.new.host.value (arc_value self.new.bodies)) }
-        ensures about { self.new.host.value.capacity ≡ self.old.host.value.capacity }
+        ensures does { Does self.old.host.value.limits (log_in self.old.host.value (arc_value self.old.bodies)) actor ask.now result (log_in self.new.host.value (arc_value self.new.bodies)) }
+        ensures about { self.new.host.value.limits ≡ self.old.host.value.limits }
     {
         match ask {
             Ask::Step(request) => self.request(actor, request),
@@ -160,8 +158,8 @@ impl Behind {
     // What the operator alone may ask.
     fn operate(&mut self, ask: Ask) -> Reply
         requires { changes ask ≡ true }
-        ensures does { Does (limits_of self.old.host.value) (log_in self.old.host.value (arc_value self.old.bodies)) 0 ask result (log_in self.new.host.value (arc_value self.new.bodies)) }
-        ensures about { self.new.host.value.capacity ≡ self.old.host.value.capacity }
+        ensures does { Does self.old.host.value.limits (log_in self.old.host.value (arc_value self.old.bodies)) 0 ask result (log_in self.new.host.value (arc_value self.new.bodies)) }
+        ensures about { self.new.host.value.limits ≡ self.old.host.value.limits }
     {
         self.host.replays();
         match ask {
@@ -178,7 +176,7 @@ impl Behind {
     fn refuse(&self, actor: u64, ask: &Ask) -> Reply
         requires changes { changes ask.now ≡ true }
         requires other { actor ≡ 0 → ⊥ }
-        ensures { Does (limits_of self.now.host.value) (log_in self.now.host.value (arc_value self.now.bodies)) actor ask.now result (log_in self.now.host.value (arc_value self.now.bodies)) }
+        ensures { Does self.now.host.value.limits (log_in self.now.host.value (arc_value self.now.bodies)) actor ask.now result (log_in self.now.host.value (arc_value self.now.bodies)) }
     {
         self.host.replays();
         let _ = ask;
@@ -187,10 +185,9 @@ impl Behind {
 }
 
 impl Counted for Behind {
-    ghost use Rattle.std.specs.Prelude.{ℕ};
     ghost use Rattle.std.specs.Arc.{arc_value};
     ghost use Rattle.rv_port.specs.Events.{log_in, by};
-    ghost use Rattle.rv_port.specs.Acting.{Does, adds, limits_of};
+    ghost use Rattle.rv_port.specs.Acting.{Does, adds};
     ghost use Rattle.rv_port.specs.declared.event.Ask.{Ask};
     ghost use Rattle.rv_port.specs.declared.event.Reply.{Reply};
 
@@ -206,7 +203,7 @@ impl Counted for Behind {
 
     ghost history = { λ b. log_in b.host.value (arc_value b.bodies) };
 
-    ghost about = { λ b. limits_of b.host.value };
+    ghost about = { λ b. b.host.value.limits };
 
     ghost actor_of = { by };
 

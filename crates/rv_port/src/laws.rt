@@ -19,7 +19,7 @@ pub fn catalogue_is_the_operators()
 /// is said of events is said of the host's journal.
 #[tactic(auto, using(crate::proofs::Zips::rebuilt))]
 pub fn events_are_the_journal()
-    ensures { (h : History) (units : List UnitBodies) → Legal h → history_at h.capacity (log_of h units) ≡ h }
+    ensures { (h : History) (units : List UnitBodies) → Legal h → history_at h.limits (log_of h units) ≡ h }
 {}
 
 /// And the bodies in them are these, where there are as many as units.
@@ -43,9 +43,4 @@ pub fn events_stay()
 /// that was handed an object runs by the bodies of then, and those of units loaded since.
 pub fn bodies_stay()
     ensures { (seen log : List Event) → StartsWith log seen → KeepsBodies seen log }
-{}
-
-/// Temporary.
-pub fn temp_modules()
-    ensures { 1 ≡ 1 }
 {}

@@ -61,8 +61,8 @@ impl Behind {
     /// A load by the operator. The memory of its bodies is taken before its entry is added. A unit whose calls don't fit
     /// isn't accepted.
     pub(crate) fn load(&mut self, shape: &UnitShape, unit: SharedUnit) -> Answer
-        ensures does { LoadedIf (fits_behind (log_in self.old.host.value (arc_value self.old.bodies)) shape.now (held unit)) self.old.host.value.capacity (log_in self.old.host.value (arc_value self.old.bodies)) shape.now (held unit) result (log_in self.new.host.value (arc_value self.new.bodies)) }
-        ensures about { self.new.host.value.capacity ≡ self.old.host.value.capacity }
+        ensures does { LoadedIf (fits_behind (log_in self.old.host.value (arc_value self.old.bodies)) shape.now (held unit)) self.old.host.value.limits (log_in self.old.host.value (arc_value self.old.bodies)) shape.now (held unit) result (log_in self.new.host.value (arc_value self.new.bodies)) }
+        ensures about { self.new.host.value.limits ≡ self.old.host.value.limits }
     {
         self.host.replays();
         let Some(bodies) = self.grown_by(shape, unit) else {
@@ -78,8 +78,8 @@ impl Behind {
 
     /// A load by the operator, for which there is no memory.
     pub(crate) fn load_without_memory(&mut self, shape: &UnitShape) -> Answer
-        ensures does { Unloaded self.old.host.value.capacity (log_in self.old.host.value (arc_value self.old.bodies)) shape.now result (log_in self.new.host.value (arc_value self.new.bodies)) }
-        ensures about { self.new.host.value.capacity ≡ self.old.host.value.capacity }
+        ensures does { Unloaded self.old.host.value.limits (log_in self.old.host.value (arc_value self.old.bodies)) shape.now result (log_in self.new.host.value (arc_value self.new.bodies)) }
+        ensures about { self.new.host.value.limits ≡ self.old.host.value.limits }
     {
         let host = &*self.host;
         host.replays();

@@ -18,7 +18,7 @@ returns-in-Ok-make-clause-ok c = let none : map unit_view (units_of (arc_value c
 
 pub boxed-requires : goal.boxed-requires
 boxed-requires c = let none : map unit_view (units_of (arc_value c.in-Ok-no_bodies_of_all.bodies)) ≡ map no_bodies_of c.args.host.shapes = search rules in
-    (as_many (units_of (arc_value c.in-Ok-no_bodies_of_all.bodies)) c.args.host.shapes none, none_fit c.args.host.shapes c.args.host.shapes (arc_value c.in-Ok-no_bodies_of_all.bodies) none)
+    record { count = as_many (units_of (arc_value c.in-Ok-no_bodies_of_all.bodies)) c.args.host.shapes none; fit = none_fit c.args.host.shapes c.args.host.shapes (arc_value c.in-Ok-no_bodies_of_all.bodies) none }
 
 pub returns-in-Ok-make-clause-alone : goal.returns-in-Ok-make-clause-alone
 returns-in-Ok-make-clause-alone c = begins_alone _ _ c.args.host (units_of (arc_value c.in-Ok-no_bodies_of_all.bodies)) c.requires (opens_on _ _ _ c.args.host _ (arc_value c.in-Ok-no_bodies_of_all.bodies) c.in-Ok-boxed.ensures.ok.0 c.in-Ok-boxed.ensures.ok.1 c.in-Ok-make.ensures.ok)
