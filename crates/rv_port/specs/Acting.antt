@@ -11,7 +11,7 @@ use Rattle.rv_event.specs.declared.entry.Answer.{Answer}
 use Rattle.rv_event.specs.declared.entry.Answer.TheVariants as Answers
 use Rattle.rv_event.specs.declared.entry.Recorded.{Recorded}
 use Rattle.rv_history.specs.declared.limits.Limits.{Limits}
-use Rattle.rv_history.specs.History.{force}
+use Rattle.rv_history.specs.History.{History, force}
 use Rattle.rv_history.specs.Due.{out}
 use Rattle.rv_history.specs.Legal.{Legal, out_load}
 use Rattle.rv_history.specs.Lists.{changed}
