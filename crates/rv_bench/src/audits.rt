@@ -4,15 +4,16 @@
 mod act;
 mod drawing;
 mod numbers;
+mod paging;
 mod stepping;
 mod stock;
-mod writing;
 
-use crate::audits::stepping::time_steps;
-use crate::audits::stock::{CAPACITY, Stock, host, script};
-use crate::audits::writing::{print_lines, text_of};
+use crate::audits::paging::{print_lines, text_of};
+use crate::audits::stepping::stepped;
+use crate::audits::stock::{CAPACITY, Stock, script};
 use rv_audit::audit::Audit;
 use rv_audit::verdict::Verdict;
+use rv_host::host::Host;
 use std::alloc::Global;
 use std::io;
 use std::process::ExitCode;
@@ -25,16 +26,10 @@ struct Audited {
     verdict: Verdict,
 }
 
-// Tells that an act wasn't carried out, or a journal not legal.
+// Tells why there is no figure.
 fn print_wrong<R: Eprint>(rt: &R, what: &str) -> ExitCode {
     let _ = eprintln!(rt; "rv_bench: {what}");
     ExitCode::from(1)
-}
-
-// Tells that memory was refused, or the clock.
-fn print_lack<R: Eprint>(rt: &R) -> ExitCode {
-    let _ = eprintln!(rt; "rv_bench: no memory, or no clock");
-    ExitCode::from(3)
 }
 
 // Tenths of nanoseconds for each of so many.
@@ -44,44 +39,31 @@ fn tenths_each(nanos: u64, count: usize) -> u64 {
 
 /// Prints the script over which each of these journals is legal.
 pub fn print_script<R: Print + Eprint>(rt: &R, alloc: Global) -> io::Result<ExitCode> {
-    match script(alloc) {
-        Ok(text) => {
-            print!(rt; "{text}")?;
-            Ok(ExitCode::SUCCESS)
-        }
-        Err(_) => Ok(print_lack(rt)),
-    }
+    let Ok(text) = script(alloc) else {
+        return Ok(print_wrong(rt, "no memory"));
+    };
+    print!(rt; "{text}")?;
+    Ok(ExitCode::SUCCESS)
+}
+
+// The units and lists, and a host that carried out so many acts over them, with what they took in nanoseconds.
+fn made<R: Clock>(rt: &R, alloc: Global, entries: usize) -> Option<(Stock, Host, u64)> {
+    let stock = Stock::new(alloc)?;
+    let (host, nanos) = stepped(rt, alloc, &stock, entries)?;
+    Some((stock, host, nanos))
 }
 
 /// Prints the journal of so many entries.
-pub fn print_journal<R: Print + Eprint>(
+pub fn print_journal<R: Clock + Print + Eprint>(
     rt: &R,
     alloc: Global,
     entries: usize,
 ) -> io::Result<ExitCode> {
-    let Some(stock) = Stock::new(alloc) else {
-        return Ok(print_lack(rt));
+    let Some((_stock, host, _)) = made(rt, alloc, entries) else {
+        return Ok(print_wrong(rt, "no memory, or an act wasn't recorded"));
     };
-    let Some(mut host) = host(alloc) else {
-        return Ok(print_lack(rt));
-    };
-    let made = print_lines(rt, alloc, &mut host, &stock, entries)?;
-    Ok(match made {
-        Some(made) if made == entries => ExitCode::SUCCESS,
-        Some(_) => print_wrong(rt, "an act wasn't recorded"),
-        None => print_lack(rt),
-    })
-}
-
-// The nanoseconds of so many steps on a new host. None where there is no memory, or an act wasn't recorded.
-fn steps_alone<R: Clock>(rt: &R, alloc: Global, stock: &Stock, entries: usize) -> Option<u64> {
-    let mut host = host(alloc)?;
-    let nanos = time_steps(rt, alloc, &mut host, stock, entries)?;
-    if host.used() == entries {
-        Some(nanos)
-    } else {
-        None
-    }
+    print_lines(rt, alloc, &host)?;
+    Ok(ExitCode::SUCCESS)
 }
 
 /// Prints what each of so many steps takes on a host alone.
@@ -90,11 +72,8 @@ pub fn print_steps<R: Clock + Print + Eprint>(
     alloc: Global,
     entries: usize,
 ) -> io::Result<ExitCode> {
-    let Some(stock) = Stock::new(alloc) else {
-        return Ok(print_lack(rt));
-    };
-    let Some(nanos) = steps_alone(rt, alloc, &stock, entries) else {
-        return Ok(print_wrong(rt, "an act wasn't recorded"));
+    let Some((_stock, _host, nanos)) = made(rt, alloc, entries) else {
+        return Ok(print_wrong(rt, "no memory, or an act wasn't recorded"));
     };
     let steps = tenths_each(nanos, entries);
     println!(rt;
@@ -112,17 +91,6 @@ fn time_audit<R: Clock>(rt: &R, alloc: Global, stock: &Stock, text: &str) -> Opt
     let verdict = audit.judge_all(stock.units(), text);
     let nanos = u64::try_from(start.elapsed(rt).ok()?.as_nanos()).ok()?;
     Some(Audited { nanos, verdict })
-}
-
-// The text of the journal of so many entries on a new host. None where there is no memory, or an act wasn't recorded.
-fn journal(alloc: Global, stock: &Stock, entries: usize) -> Option<String> {
-    let mut host = host(alloc)?;
-    let text = text_of(alloc, &mut host, stock, entries)?;
-    if host.used() == entries {
-        Some(text)
-    } else {
-        None
-    }
 }
 
 // Prints what was measured, where the journal is legal.
@@ -148,23 +116,23 @@ fn print_ratio<R: Print + Eprint>(
     Ok(ExitCode::SUCCESS)
 }
 
+// What so many steps took, and what the audit of their journal takes.
+fn measured<R: Clock>(rt: &R, alloc: Global, entries: usize) -> Option<(u64, Audited)> {
+    let (stock, host, nanos) = made(rt, alloc, entries)?;
+    let text = text_of(alloc, &host).ok()?;
+    drop(host);
+    let audited = time_audit(rt, alloc, &stock, text.as_str())?;
+    Some((nanos, audited))
+}
+
 /// Prints what the audit of each of so many entries takes, beside a step alone.
 pub fn print_audit<R: Clock + Print + Eprint>(
     rt: &R,
     alloc: Global,
     entries: usize,
 ) -> io::Result<ExitCode> {
-    let Some(stock) = Stock::new(alloc) else {
-        return Ok(print_lack(rt));
-    };
-    let Some(text) = journal(alloc, &stock, entries) else {
-        return Ok(print_wrong(rt, "an act wasn't recorded"));
-    };
-    let Some(nanos) = steps_alone(rt, alloc, &stock, entries) else {
-        return Ok(print_wrong(rt, "an act wasn't recorded"));
-    };
-    match time_audit(rt, alloc, &stock, text.as_str()) {
-        Some(audited) => print_ratio(rt, entries, nanos, audited),
-        None => Ok(print_lack(rt)),
+    match measured(rt, alloc, entries) {
+        Some((nanos, audited)) => print_ratio(rt, entries, nanos, audited),
+        None => Ok(print_wrong(rt, "no memory, or an act wasn't recorded")),
     }
 }

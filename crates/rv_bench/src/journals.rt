@@ -32,7 +32,7 @@ pub fn print_pushes<R: Clock + Print>(
     )?;
     println!(rt; "round   whole entries  narrow records        64 bytes")?;
     for round in 1..ROUNDS + 1 {
-        let Some(filled) = Filled::measure(rt, alloc, entries)? else {
+        let Some(filled) = Filled::measure(rt, alloc, entries) else {
             return Ok(ExitCode::from(3));
         };
         print_round(rt, round, filled)?;

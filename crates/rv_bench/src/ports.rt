@@ -57,52 +57,45 @@ impl Runs {
     }
 }
 
-// One run of calls, by ports and by a lock.
-fn call_both<R: Threads + Wait + Clock + Sync>(
-    rt: &R,
-    alloc: Global,
-    threads: u64,
-    calls: u64,
-    runs: &mut Runs,
-) -> Option<()> {
-    let port = calls::through_ports(rt, alloc, threads, calls)?;
-    let mutex = calls::under_mutex(rt, alloc, threads, calls)?;
-    runs.add(port, mutex)
+/// What is run.
+#[derive(Clone, Copy)]
+enum Load {
+    /// Calls by so many threads.
+    Calls(u64),
+    /// Hand-overs between two.
+    HandOvers,
 }
 
-fn calls_cost<R: Threads + Wait + Clock + Sync>(
+// One run of so many calls or turns, by ports and by a lock, in nanoseconds each.
+fn run_both<R: Threads + Wait + Clock + Sync>(
     rt: &R,
     alloc: Global,
-    threads: u64,
+    load: Load,
     calls: u64,
-) -> Option<Pair> {
-    let mut runs = Runs::new(alloc);
-    for _ in 0..ROUNDS {
-        call_both(rt, alloc, threads, calls, &mut runs)?;
+) -> Option<(u64, u64)> {
+    match load {
+        Load::Calls(threads) => Some((
+            calls::through_ports(rt, alloc, threads, calls)?,
+            calls::under_mutex(rt, alloc, threads, calls)?,
+        )),
+        Load::HandOvers => Some((
+            hand_over::between_ports(rt, alloc, calls)?,
+            hand_over::by_condvar(rt, alloc, calls)?,
+        )),
     }
-    runs.pair()
 }
 
-// One run of hand-overs, by ports and by a lock.
-fn hand_over_both<R: Threads + Wait + Clock + Sync>(
+// What a load costs over all rounds.
+fn costs<R: Threads + Wait + Clock + Sync>(
     rt: &R,
     alloc: Global,
-    turns: u64,
-    runs: &mut Runs,
-) -> Option<()> {
-    let ports = hand_over::between_ports(rt, alloc, turns)?;
-    let condvar = hand_over::by_condvar(rt, alloc, turns)?;
-    runs.add(ports, condvar)
-}
-
-fn hand_over_costs<R: Threads + Wait + Clock + Sync>(
-    rt: &R,
-    alloc: Global,
-    turns: u64,
+    load: Load,
+    calls: u64,
 ) -> Option<Pair> {
     let mut runs = Runs::new(alloc);
     for _ in 0..ROUNDS {
-        hand_over_both(rt, alloc, turns, &mut runs)?;
+        let (port, beside) = run_both(rt, alloc, load, calls)?;
+        runs.add(port, beside)?;
     }
     runs.pair()
 }
@@ -161,9 +154,9 @@ pub fn print_table<R: Threads + Wait + Clock + Print + Sync>(
         "ns a call or a hand-over, of {ROUNDS} runs of {calls} calls or turns a thread, each on a new journal: the least, and the median"
     )?;
     println!(rt; "what      threads      port    beside   ratio      port    beside   ratio")?;
-    print_row(rt, "call", 1, calls_cost(rt, alloc, 1, calls))?;
-    print_row(rt, "call", 4, calls_cost(rt, alloc, 4, calls))?;
-    print_row(rt, "hand-over", 2, hand_over_costs(rt, alloc, calls))?;
+    print_row(rt, "call", 1, costs(rt, alloc, Load::Calls(1), calls))?;
+    print_row(rt, "call", 4, costs(rt, alloc, Load::Calls(4), calls))?;
+    print_row(rt, "hand-over", 2, costs(rt, alloc, Load::HandOvers, calls))?;
     print_storm(rt, calls, storm_costs(rt, alloc, calls))?;
     Ok(ExitCode::SUCCESS)
 }

@@ -6,12 +6,12 @@ mod beside;
 mod closing;
 mod kinds;
 mod plant;
-mod requests;
 mod stepped;
 mod table;
+mod told;
 
 use crate::usage::print_usage;
-use closing::Closing;
+use closing::closing_of;
 use plant::{Plant, host};
 use rv_host::host::Host;
 use std::alloc::Global;
@@ -28,13 +28,6 @@ fn made(alloc: Global, calls: usize) -> Option<usize> {
     let plant = Plant { units: 1, lines: 1 };
     let mut host = host(alloc, MOST_ENTRIES, plant)?;
     Some(stepped::calls(&mut host, plant.actor(), calls))
-}
-
-// How many rounds of steps of each kind go as is due. None where there is no memory.
-fn rounds(alloc: Global, count: usize) -> Option<usize> {
-    let mut host = requests::host(alloc, MOST_ENTRIES)?;
-    let count = i64::try_from(count).ok()?;
-    Some(kinds::rounds(&mut host, count))
 }
 
 // The room of a new host of the largest journal. None where there is no memory.
@@ -65,13 +58,11 @@ pub fn print_task<R: Clock + Wait + Print + Eprint>(
         "table" => table::print(rt, alloc, number),
         "far" => table::print_far(rt, alloc),
         "step" => print_number(rt, made(alloc, number)),
-        "kinds" => print_number(rt, rounds(alloc, number)),
-        "dropped" => print_number(rt, Closing::Dropped.count(alloc, number)),
-        "quit" => print_number(rt, Closing::Quit.count(alloc, number)),
-        "halted" => print_number(rt, Closing::Halted.count(alloc, number)),
-        "resumed" => print_number(rt, Closing::Resumed.count(alloc, number)),
-        "full" => print_number(rt, Closing::Full.count(alloc, number)),
+        "kinds" => print_number(rt, kinds::rounds(alloc, MOST_ENTRIES, number as i64)),
         "room" => print_number(rt, room(alloc)),
-        _ => Ok(print_usage(rt)),
+        _ => match closing_of(task) {
+            Some(closing) => print_number(rt, closing.count(alloc, number)),
+            None => Ok(print_usage(rt)),
+        },
     }
 }

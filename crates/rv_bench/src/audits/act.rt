@@ -1,8 +1,10 @@
 //! What a host carries out.
 
 use crate::audits::stock::Stock;
-use rv_event::entry::{Answer, Recorded, Request};
+use rv_event::entry::{Answer, Entry, Request};
 use rv_host::host::Host;
+use rv_reading::entry::read_entry;
+use std::alloc::Global;
 
 /// An act of an actor or of the operator.
 #[derive(Clone, Copy, Drop)]
@@ -16,8 +18,23 @@ pub enum Act {
 }
 
 impl Act {
-    /// Carries it out, and gives the answer.
-    fn answer(&self, host: &mut Host, stock: &Stock) -> Answer {
+    /// That of a line: `load PLACE`, `list PLACE`, or `ACTOR REQUEST` as in a journal. None where there is no memory.
+    pub fn of(alloc: Global, stock: &Stock, line: &str) -> Option<Act> {
+        if let Some(place) = line.strip_prefix("load ") {
+            return Some(Act::Loads(place.parse().ok()?));
+        }
+        if let Some(place) = line.strip_prefix("list ") {
+            return Some(Act::Lists(place.parse().ok()?));
+        }
+        let line = format!(in alloc; "1 {line} -> started").ok()?;
+        match read_entry(alloc, stock.catalogue(), line.as_str()) {
+            Ok(Entry::Asked(actor, request, _)) => Some(Act::Asks(actor, request)),
+            _ => None,
+        }
+    }
+
+    /// Carries it out, and says whether the answer is recorded.
+    pub fn is_carried_out(&self, host: &mut Host, stock: &Stock) -> bool {
         let mut answer = Answer::Misuse;
         match self {
             Act::Asks(actor, request) => host.put_answer(*actor, request, &mut answer),
@@ -32,11 +49,6 @@ impl Act {
                 }
             }
         }
-        answer
-    }
-
-    /// Carries it out, and gives the answer that is recorded, if it is.
-    pub fn carry_out(&self, host: &mut Host, stock: &Stock) -> Option<Recorded> {
-        self.answer(host, stock).recorded()
+        answer.recorded().is_some()
     }
 }

@@ -2,7 +2,7 @@
 
 use crate::audits::act::Act;
 use crate::audits::drawing::Drawing;
-use crate::audits::stock::Stock;
+use crate::audits::stock::{CAPACITY, Stock};
 use rv_host::host::Host;
 use std::alloc::Global;
 use std::time::{Clock, Instant};
@@ -11,39 +11,50 @@ use std::time::{Clock, Instant};
 fn step_all(host: &mut Host, stock: &Stock, acts: &[Act], most: usize) -> usize {
     let mut made = 0usize;
     for act in acts.iter().take(most) {
-        if act.carry_out(host, stock).is_some() {
+        if act.is_carried_out(host, stock) {
             made = made.saturating_add(1);
         }
     }
     made
 }
 
-/// What so many drawn acts take, in nanoseconds; their drawing isn't counted. None where there is no memory, or one wasn't
-/// recorded.
-pub fn time_steps<R: Clock>(
+// The same, and what they take in nanoseconds. None where one wasn't recorded.
+fn time_acts<R: Clock>(
     rt: &R,
-    alloc: Global,
     host: &mut Host,
     stock: &Stock,
-    entries: usize,
+    acts: &[Act],
+    most: usize,
 ) -> Option<u64> {
+    let start = Instant::now(rt).ok()?;
+    let made = step_all(host, stock, acts, most);
+    let nanos = u64::try_from(start.elapsed(rt).ok()?.as_nanos()).ok()?;
+    if made < most.min(acts.len()) {
+        return None;
+    }
+    Some(nanos)
+}
+
+/// A new host that carried out so many drawn acts, and what they took in nanoseconds; their drawing isn't counted. None where
+/// there is no memory, or one wasn't recorded.
+pub fn stepped<R: Clock>(
+    rt: &R,
+    alloc: Global,
+    stock: &Stock,
+    entries: usize,
+) -> Option<(Host, u64)> {
+    let mut host = Host::new(alloc, CAPACITY).ok()?;
     let mut drawing = Drawing::new();
     let mut acts = Vec::new(alloc);
     let mut nanos = 0u64;
-    let mut left = entries;
     for _ in 0..entries {
-        drawing.draw(&mut acts).ok()?;
-        let start = Instant::now(rt).ok()?;
-        let made = step_all(host, stock, acts.as_slice(), left);
-        let taken = u64::try_from(start.elapsed(rt).ok()?.as_nanos()).ok()?;
-        if made < left.min(acts.len()) {
-            return None;
-        }
-        nanos = nanos.saturating_add(taken);
-        left = left.saturating_sub(made);
+        let left = entries.saturating_sub(host.used());
         if left == 0 {
             break;
         }
+        drawing.draw(alloc, stock, &mut acts)?;
+        let taken = time_acts(rt, &mut host, stock, acts.as_slice(), left)?;
+        nanos = nanos.saturating_add(taken);
     }
-    Some(nanos)
+    Some((host, nanos))
 }

@@ -1,7 +1,7 @@
 //! The units and the lists of the host whose journal is judged.
 
 use rv_access::{AccessList, read_list};
-use rv_host::host::Host;
+use rv_shape::catalogue::Catalogue;
 use rv_shape::reading::read_shape;
 use rv_shape::shape::UnitShape;
 use std::alloc::{AllocError, Global};
@@ -54,16 +54,22 @@ fn extra(alloc: Global, number: usize) -> Result<String, AllocError> {
     )
 }
 
-/// The units, and the lists that are set in turn: of either of the first two lines deny Note, of the third Wait.
+/// The units, the lists that are set in turn, of whose lines either of the first two deny Note and the third Wait, and the two
+/// units that are called.
 pub struct Stock {
     units: Vec<UnitShape>,
     lists: Vec<AccessList>,
+    called: Catalogue,
 }
 
 impl Drop for Stock {
     // A function of its own: a derived one is written out wherever a value is let go, and proved there.
     fn drop(self) {
-        let Stock { units: _, lists: _ } = self;
+        let Stock {
+            units: _,
+            lists: _,
+            called: _,
+        } = self;
     }
 }
 
@@ -100,7 +106,15 @@ impl Stock {
     pub fn new(alloc: Global) -> Option<Stock> {
         let units = units(alloc)?;
         let lists = lists(alloc)?;
-        Some(Stock { units, lists })
+        let mut called = Catalogue::new(alloc);
+        for unit in units.iter().take(2) {
+            called.add(unit).ok()?;
+        }
+        Some(Stock {
+            units,
+            lists,
+            called,
+        })
     }
 
     /// The units.
@@ -113,15 +127,15 @@ impl Stock {
         self.units.as_slice().get(place)
     }
 
+    /// The units that are called, by whose names acts are read.
+    pub fn catalogue(&self) -> &Catalogue {
+        &self.called
+    }
+
     /// The list at a place, from 0.
     pub fn list(&self, place: usize) -> Option<&AccessList> {
         self.lists.as_slice().get(place)
     }
-}
-
-/// A new host. None where there is no memory.
-pub fn host(alloc: Global) -> Option<Host> {
-    Host::new(alloc, CAPACITY).ok()
 }
 
 /// The script of a host of that capacity with these units.

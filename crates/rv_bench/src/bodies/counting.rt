@@ -30,65 +30,80 @@ const Z: usize = 2;
 // The turns of the loop: each takes a step, and three for its statements; the loop takes one.
 const TURNS: i64 = 24_999;
 
-fn set(slot: usize, value: Expression) -> Statement {
-    let target = Target {
-        place: Place::Variable(slot),
-        range: INTEGER,
-    };
-    Statement::Assign(target, value)
+/// An operand.
+#[derive(Clone, Copy)]
+enum Term {
+    Variable(usize),
+    Value(i64),
 }
 
-// An operand, an operator and another operand.
-fn of_two(
+/// `TARGET := FIRST` with the operators and operands behind it, from left to right.
+#[derive(Clone, Copy)]
+struct Assignment {
+    target: usize,
+    first: usize,
+    behind: &'static [(Operator, Term)],
+}
+
+// The loop's statements.
+const TURN: [Assignment; 3] = [
+    Assignment {
+        target: X,
+        first: X,
+        behind: &[(Operator::Add, Term::Value(1))],
+    },
+    Assignment {
+        target: Y,
+        first: Y,
+        behind: &[
+            (Operator::Multiply, Term::Value(3)),
+            (Operator::Modulo, Term::Value(1_000)),
+            (Operator::Add, Term::Variable(X)),
+        ],
+    },
+    Assignment {
+        target: Z,
+        first: Y,
+        behind: &[(Operator::Subtract, Term::Variable(X))],
+    },
+];
+
+// A variable with the operators and operands behind it.
+fn chain(
     alloc: Global,
-    first: Expression,
-    operator: Operator,
-    operand: Expression,
+    first: usize,
+    behind: &[(Operator, Term)],
 ) -> Result<Expression, AllocError> {
     let mut links = Vec::new(alloc);
-    links.push(Link { operator, operand })?;
-    Ok(Expression::Chain(Box::new(alloc, first)?, links))
-}
-
-// `Y * 3 mod 1_000 + X`
-fn next_y(alloc: Global) -> Result<Expression, AllocError> {
-    let tripled = of_two(
-        alloc,
-        Expression::Variable(Y),
-        Operator::Multiply,
-        Expression::Value(3),
-    )?;
-    let rest = of_two(alloc, tripled, Operator::Modulo, Expression::Value(1_000))?;
-    of_two(alloc, rest, Operator::Add, Expression::Variable(X))
+    for (operator, term) in behind {
+        let operand = match *term {
+            Term::Variable(slot) => Expression::Variable(slot),
+            Term::Value(value) => Expression::Value(value),
+        };
+        links.push(Link {
+            operator: *operator,
+            operand,
+        })?;
+    }
+    let first = Box::new(alloc, Expression::Variable(first))?;
+    Ok(Expression::Chain(first, links))
 }
 
 fn turn(alloc: Global) -> Result<Vec<Statement>, AllocError> {
     let mut statements = Vec::new(alloc);
-    let next_x = of_two(
-        alloc,
-        Expression::Variable(X),
-        Operator::Add,
-        Expression::Value(1),
-    )?;
-    statements.push(set(X, next_x))?;
-    statements.push(set(Y, next_y(alloc)?))?;
-    let difference = of_two(
-        alloc,
-        Expression::Variable(Y),
-        Operator::Subtract,
-        Expression::Variable(X),
-    )?;
-    statements.push(set(Z, difference))?;
+    for assignment in TURN {
+        let target = Target {
+            place: Place::Variable(assignment.target),
+            range: INTEGER,
+        };
+        let value = chain(alloc, assignment.first, assignment.behind)?;
+        statements.push(Statement::Assign(target, value))?;
+    }
     Ok(statements)
 }
 
 fn body(alloc: Global) -> Result<Body, AllocError> {
-    let condition = of_two(
-        alloc,
-        Expression::Variable(X),
-        Operator::Less,
-        Expression::Value(TURNS),
-    )?;
+    let condition = chain(alloc, X, &[(Operator::Less, Term::Value(TURNS))])?;
     let mut statements = Vec::new(alloc);
     statements.push(Statement::While(condition, turn(alloc)?))?;
     statements.push(Statement::Return)?;

@@ -19,22 +19,16 @@ fn is_carried_out(reached: Reached) -> bool {
     matches!(reached, Reached::Returned(_))
 }
 
-// The turns of who begins: it sets the other's object, and waits for its own.
-fn begin_all<R: Wait>(rt: &R, port: &mut Port, turns: u64) -> bool {
+// The turns of one side. Who begins sets the other's object and waits for its own; the other waits and sets.
+fn play_all<R: Wait>(rt: &R, port: &mut Port, turns: u64, begins: bool) -> bool {
     let mut all = true;
     for _ in 0..turns {
-        all = is_carried_out(port.set_true(rt, 3)) && all;
-        all = is_carried_out(port.suspend(rt, 2)) && all;
-    }
-    all
-}
-
-// The turns of who goes on: it waits for its own object, and sets the other's.
-fn go_on_all<R: Wait>(rt: &R, port: &mut Port, turns: u64) -> bool {
-    let mut all = true;
-    for _ in 0..turns {
-        all = is_carried_out(port.suspend(rt, 3)) && all;
-        all = is_carried_out(port.set_true(rt, 2)) && all;
+        let (first, second) = if begins {
+            (port.set_true(rt, 3), port.suspend(rt, 2))
+        } else {
+            (port.suspend(rt, 3), port.set_true(rt, 2))
+        };
+        all = is_carried_out(first) && is_carried_out(second) && all;
     }
     all
 }
@@ -44,11 +38,8 @@ fn time_side<R: Wait + Clock>(rt: &R, line: &StartLine, port: Port, turns: u64) 
     let mut port = port;
     line.wait();
     let start = Instant::now(rt).ok()?;
-    let all = if port.actor() == FIRST {
-        begin_all(rt, &mut port, turns)
-    } else {
-        go_on_all(rt, &mut port, turns)
-    };
+    let begins = port.actor() == FIRST;
+    let all = play_all(rt, &mut port, turns, begins);
     nanos_since(rt, start, all)
 }
 

@@ -12,17 +12,12 @@ pub struct Locked {
 }
 
 impl Hold for Locked {
-    fn alone(alloc: Global, acts: u64) -> Option<Self> {
-        let ledger = Ledger::new(alloc, acts).ok()?;
-        let ledger = Arc::new(alloc, Mutex::new(ledger)).ok()?;
-        Some(Locked { ledger })
-    }
-
     fn shared(alloc: Global, threads: u64, acts: u64) -> Option<Vec<Self>> {
-        let first = Locked::alone(alloc, threads.saturating_mul(acts))?;
+        let ledger = Ledger::new(alloc, threads.saturating_mul(acts)).ok()?;
+        let first = Arc::new(alloc, Mutex::new(ledger)).ok()?;
         let mut all = Vec::new(alloc);
         for _ in 0..threads {
-            let ledger = Arc::try_clone(&first.ledger).ok()?;
+            let ledger = Arc::try_clone(&first).ok()?;
             all.push(Locked { ledger }).ok()?;
         }
         Some(all)
@@ -47,21 +42,16 @@ pub struct Awaited {
 }
 
 impl Hold for Awaited {
-    fn alone(alloc: Global, acts: u64) -> Option<Self> {
-        let ledger = Ledger::new(alloc, acts).ok()?;
+    fn shared(alloc: Global, threads: u64, acts: u64) -> Option<Vec<Self>> {
+        let ledger = Ledger::new(alloc, threads.saturating_mul(acts)).ok()?;
         let desk = Desk {
             ledger: Mutex::new(Some(ledger)),
             back: Condvar::new(),
         };
-        let desk = Arc::new(alloc, desk).ok()?;
-        Some(Awaited { desk })
-    }
-
-    fn shared(alloc: Global, threads: u64, acts: u64) -> Option<Vec<Self>> {
-        let first = Awaited::alone(alloc, threads.saturating_mul(acts))?;
+        let first = Arc::new(alloc, desk).ok()?;
         let mut all = Vec::new(alloc);
         for _ in 0..threads {
-            let desk = Arc::try_clone(&first.desk).ok()?;
+            let desk = Arc::try_clone(&first).ok()?;
             all.push(Awaited { desk }).ok()?;
         }
         Some(all)

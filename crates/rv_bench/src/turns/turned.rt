@@ -8,14 +8,6 @@ use std::alloc::Global;
 use std::sync::Wait;
 
 impl Hold for Pass<Ledger> {
-    fn alone(alloc: Global, acts: u64) -> Option<Self> {
-        let ledger = Ledger::new(alloc, acts).ok()?;
-        match Turn::make(alloc, ledger) {
-            Ok((_turn, first)) => Some(first),
-            Err(_) => None,
-        }
-    }
-
     fn shared(alloc: Global, threads: u64, acts: u64) -> Option<Vec<Self>> {
         let ledger = Ledger::new(alloc, threads.saturating_mul(acts)).ok()?;
         match Turn::make(alloc, ledger) {
