@@ -37,7 +37,7 @@ use std::alloc::{AllocError, Global};
 /// product, `abs` and the call. So a body has at most 64 frames of `run_all`, 520 of `value_of`, 64 of `arguments` and one
 /// of each other function of the recursion. `bench/deepest_frames.py` reads the sizes of these frames in a built program,
 /// adds them up, and fails where this constant is less.
-pub const STACK_BYTES: usize = 320 * 1024 * 1024;
+pub const STACK_BYTES: usize = 512 * 1024 * 1024;
 
 /// What runs the bodies of an actor.
 #[derive(Drop)]
