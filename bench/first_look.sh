@@ -71,7 +71,7 @@ due "check" 0 "$folder/checked" "$told"
 
 printf '@list\nallow * *\n' >"$folder/in"
 run check
-due "a refused script" 1 "$folder/nothing" 'script line 2: *'
+due "a refused script" 1 "$folder/nothing" 'script line 1: list BadWord at line 1'
 
 : >"$folder/in"
 run play --nonsense
