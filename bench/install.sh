@@ -184,6 +184,7 @@ mv "$folder/kept" "$folder/clone/docs/ravenhost.1"
 if [ "$(id -u)" = 0 ] && command -v setpriv >/dev/null; then
     chmod -R go+rX "$folder/clone" && mkdir -p "$folder/mine/bin" && echo old >"$folder/mine/bin/ravenhost"
     chmod -R 755 "$folder/mine"
+    chmod 700 "$program"
     cat >"$folder/nobody" <<END
 #!/bin/sh
 exec setpriv --reuid=65534 --regid=65534 --clear-groups "$launcher" "\$@"

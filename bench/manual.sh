@@ -42,12 +42,13 @@ sentences() {
 
 # Each flag of the help pages and of the launcher's.
 flags_named() {
-    local word missing=0
+    local word missing=0 count=0
     mandoc -Tutf8 docs/ravenhost.1 | LC_ALL=C.UTF-8 col -bx >"$folder/page"
-    for word in $(sed -n '/^ /p' crates/ravenhost/usage/help* crates/ravenhost/usage/launcher | grep -oE -e '(^| )--?[a-zA-Z]+' | sort -u); do
+    while read -r word; do
+        count=$((count + 1))
         grep -qE -e "(^|[^-a-z])$word([^-a-z]|\$)" "$folder/page" || { echo "$word isn't in the page"; missing=1; }
-    done
-    return "$missing"
+    done < <(sed -n '/^ /p' crates/ravenhost/usage/help* crates/ravenhost/usage/launcher | grep -oE -e '(^| )--?[a-zA-Z]+' | sort -u)
+    [ "$missing:$((count > 8))" = 0:1 ]
 }
 
 # The 73 reserved words of Ada 2012: those that the grammar quotes are words of the syntax, the others are errors there.

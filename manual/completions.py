@@ -12,6 +12,9 @@ import sys
 TOP = os.path.dirname(os.path.dirname(os.path.abspath(__file__)))
 PAGES = "crates/ravenhost/usage"
 
+# The flags that stand alone.
+HELP, VERSION = ("-h", "--help"), ("-V", "--version")
+
 # What completes a value, by the name that the help gives it.
 FILES, FOLDERS = "files", "folders"
 VALUES = {"FILE": FILES, "PREFIX": FOLDERS}
@@ -170,7 +173,9 @@ _ravenhost() {
             *) if [ -z "$command" ]; then command=$word; else given+="$word "; fi ;;
         esac
     done
-    case $given in *" -h "* | *" --help "* | *" -V "* | *" --version "*@alone@) return 0 ;; esac
+    case $given in
+        @alone@) return 0 ;;
+    esac
     if [ "$command" = help ]; then
         if [ "$given" = " " ]; then _ravenhost_offer "@subjects@"; fi
         return 0
@@ -183,8 +188,8 @@ _ravenhost() {
     fi
     for word in $flags; do
         case $word in
-            # Help stands alone.
-            -h | --help | -V | --version) [ "$given" = " " ] || continue ;;
+            # Help and version stand alone.
+            @told@) [ "$given" = " " ] || continue ;;
         esac
         case $given in *" $word "*) ;; *) _ravenhost_offer "$word" ;; esac
     done
@@ -205,11 +210,11 @@ def bash(commands):
     launched = [(name or '""', spelled(command.launcher)) for name, command in commands.items() if command.launcher]
     of_all = [flag for command in commands.values() for flag in command.flags + command.launcher]
     values = [(" | ".join(flag.spellings), VALUES[flag.value]) for flag in of_all if flag.value]
-    alone = [spelling for command in commands.values() for flag in command.launcher for spelling in flag.spellings]
+    alone = [*HELP, *VERSION, *(spelling for command in commands.values() for flag in command.launcher for spelling in flag.spellings)]
     text = BASH
     for mark, words in (("made", MADE), ("flags", bash_rows(flagged)), ("launcher", bash_rows(launched)),
                         ("values", bash_rows(values)), ("commands", " ".join(names)),
-                        ("alone", "".join(f' | *" {word} "*' for word in alone)),
+                        ("alone", " | ".join(f'*" {word} "*' for word in alone)), ("told", " | ".join((*HELP, *VERSION))),
                         ("subjects", " ".join(name for name in names if name != "help"))):
         text = text.replace(f"@{mark}@", words)
     return text
@@ -273,13 +278,13 @@ def quoted(text):
     return "'" + text.replace("'", "'\\''") + "'"
 
 
-def zsh_flag(flag, alone, help_spellings=("-h", "--help")):
+def zsh_flag(flag, alone):
     """A flag as _arguments takes it; one that stands alone shuts out all others, another only help."""
     about = re.sub(r"([\\\[\]:])", r"\\\1", flag.about)
     value = ""
     if flag.value:
         value = f":{flag.value}:" + ("_files" if VALUES[flag.value] == FILES else "_path_files -/")
-    front = quoted("(- :)" if alone else f"({' '.join(help_spellings)})")
+    front = quoted("(- :)" if alone else f"({' '.join(HELP)})")
     spelled_out = [spelling + ("=" if flag.value and spelling.startswith("--") else "") for spelling in flag.spellings]
     names = spelled_out[0] if len(spelled_out) == 1 else "{" + ",".join(spelled_out) + "}"
     return f"{front}{names}{quoted(f'[{about}]{value}')}"
@@ -287,7 +292,7 @@ def zsh_flag(flag, alone, help_spellings=("-h", "--help")):
 
 def is_alone(flag):
     """Help and version stand alone."""
-    return flag.spellings[-1] in ("--help", "--version")
+    return set(flag.spellings) <= {*HELP, *VERSION}
 
 
 def zsh_commands(commands, without=()):

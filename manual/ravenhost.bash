@@ -86,7 +86,9 @@ _ravenhost() {
             *) if [ -z "$command" ]; then command=$word; else given+="$word "; fi ;;
         esac
     done
-    case $given in *" -h "* | *" --help "* | *" -V "* | *" --version "* | *" --prove "* | *" --install "* | *" --trial "*) return 0 ;; esac
+    case $given in
+        *" -h "* | *" --help "* | *" -V "* | *" --version "* | *" --prove "* | *" --install "* | *" --trial "*) return 0 ;;
+    esac
     if [ "$command" = help ]; then
         if [ "$given" = " " ]; then _ravenhost_offer "play check run audit"; fi
         return 0
@@ -99,7 +101,7 @@ _ravenhost() {
     fi
     for word in $flags; do
         case $word in
-            # Help stands alone.
+            # Help and version stand alone.
             -h | --help | -V | --version) [ "$given" = " " ] || continue ;;
         esac
         case $given in *" $word "*) ;; *) _ravenhost_offer "$word" ;; esac
