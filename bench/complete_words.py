@@ -17,9 +17,10 @@ import time
 
 LIMIT = 20  # the longest that a shell may take for a line, in seconds
 
+# $COMPLETION is Debian's bash-completion, which finds the file by itself, or the file alone.
 BASH = """\
 PS1='> '
-. /usr/share/bash-completion/bash_completion
+. "$COMPLETION"
 bind 'set bell-style none' 2>/dev/null
 bind '"\\C-t": insert-completions' 2>/dev/null
 told() { printf '%s\\n' "$READLINE_LINE" >"$TOLD.part"; mv "$TOLD.part" "$TOLD"; READLINE_LINE=; }
@@ -166,8 +167,10 @@ def main():
         with open(os.path.join(home, ".zshrc"), "w", encoding="utf-8") as file:
             file.write(ZSH)
         share = os.path.join(prefix, "share")
-        shells = [Shell("bash", ["bash", "--noprofile", "--rcfile", os.path.join(folder, "bashrc"), "-i"], folder, prefix,
-                        XDG_DATA_DIRS=share),
+        bash = ["bash", "--noprofile", "--rcfile", os.path.join(folder, "bashrc"), "-i"]
+        shells = [Shell("bash", bash, folder, prefix, XDG_DATA_DIRS=share, COMPLETION="/usr/share/bash-completion/bash_completion"),
+                  Shell("bash alone", bash, folder, prefix,
+                        COMPLETION=os.path.join(share, "bash-completion/completions/ravenhost")),
                   Shell("zsh", ["zsh", "-d", "-i"], folder, prefix, SITE=os.path.join(share, "zsh/site-functions"))]
         for shell in shells:
             faults += faults_of(shell, "ravenhost", ROWS + OF_PROGRAM)

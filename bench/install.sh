@@ -83,7 +83,8 @@ for pair in docs/ravenhost.1:man/man1/ravenhost.1 manual/ravenhost.bash:bash-com
     README.md:doc/ravenhost/README.md examples/first.raven:doc/ravenhost/examples/first.raven; do
     holds "share/${pair#*:}" cmp "$folder/clone/${pair%%:*}" "$share/${pair#*:}"
 done
-holds "the version" test "$(cat "$share/doc/ravenhost/VERSION")" = "ravenhost $(sed 's/^ravenhost //' "$folder/clone/crates/ravenhost/usage/version") (proved, rattle-kit-0)"
+version="$(cat "$folder/clone/crates/ravenhost/usage/version") (proved, rattle-kit-0)"
+holds "the version" test "$(cat "$share/doc/ravenhost/VERSION")" = "$version"
 holds "man finds the page" test "$(man -M "$share/man" -w ravenhost)" = "$share/man/man1/ravenhost.1"
 
 # The sources may be gone.
@@ -128,11 +129,13 @@ due "a folder from here" 0 "" --install here
 holds "it is there" test -x "$folder/here/bin/ravenhost"
 holds "places are whole names" grep -qx "$folder/here/bin/ravenhost" "$folder/out"
 ln -s clone/ravenhost link
-launcher=$folder/link due "through a link to the launcher" 0 "" --install "$folder/by_link"
+launcher=$folder/link
+due "through a link to the launcher" 0 "" --install "$folder/by_link"
+launcher=$folder/clone/ravenhost
 holds "it is there" test -x "$folder/by_link/bin/ravenhost"
-ln -s elsewhere "$folder/by_link/share/man/man1/link" && mv "$folder/by_link/share/man/man1/link" "$folder/by_link/share/man/man1/ravenhost.1"
+ln -sf "$folder/file" "$folder/by_link/share/man/man1/ravenhost.1"
 due "over a link" 0 "" --install "$folder/by_link"
-holds "the link is replaced" test ! -L "$folder/by_link/share/man/man1/ravenhost.1"
+holds "the link is replaced" test ! -L "$folder/by_link/share/man/man1/ravenhost.1" -a ! -e "$folder/file"
 
 # DESTDIR.
 export DESTDIR=$folder/stage/deep
@@ -190,12 +193,13 @@ if [ "$(id -u)" = 0 ] && command -v setpriv >/dev/null; then
 exec setpriv --reuid=65534 --regid=65534 --clear-groups "$launcher" "\$@"
 END
     chmod 755 "$folder/nobody"
-    launcher=$folder/nobody due "a program that may not be read" 126 "ravenhost: --install asks for the proved program, and nothing is proved yet*" \
-        --install "$folder/mine"
+    launcher=$folder/nobody
+    due "a program that may not be run" 126 "ravenhost: --install asks for the proved program, and nothing is proved yet*" --install "$folder/mine"
     chmod 755 "$program"
-    launcher=$folder/nobody due "a folder that may not be written to" 4 "ravenhost: the folder $folder/mine/bin can't be written to" --install "$folder/mine"
+    due "a folder that may not be written to" 4 "ravenhost: the folder $folder/mine/bin can't be written to" --install "$folder/mine"
     holds "the old one stays" test "$(cat "$folder/mine/bin/ravenhost")" = old
-    launcher=$folder/nobody due "a folder that may not be made" 4 "ravenhost: the folder $folder/nobodys/bin can't be made" --install "$folder/nobodys"
+    due "a folder that may not be made" 4 "ravenhost: the folder $folder/nobodys/bin can't be made" --install "$folder/nobodys"
+    launcher=$folder/clone/ravenhost
 fi
 
 # An end in the midst: cat is slow here.
@@ -218,8 +222,7 @@ due "while it is being proved" 126 'ravenhost: --install asks for the proved pro
 exec 8<&-
 sleep 1
 touch "$folder/clone/crates/rv_text/src/lib.rt"
-due "a source newer than it" 126 'ravenhost: --install asks for the proved program, and crates/rv_text/src/lib.rt is newer*: ./ravenhost --prove first' \
-    --install "$folder/prefix"
+due "a source newer than it" 126 'ravenhost: --install asks for the proved program, and crates/rv_text/src/lib.rt is newer*' --install "$folder/prefix"
 
 "$launcher" --help </dev/null >/dev/null 2>"$folder/err"
 holds "the help names it" grep -q -- '--install PREFIX' "$folder/err"

@@ -150,12 +150,15 @@ completions() {
         bench/complete_words.py "$folder/prefix" ./ravenhost
 }
 
-# A changed help makes the stored completions stale.
+# A changed help makes the stored completions stale, and new ones have its listed values.
 stale() {
     mkdir -p "$folder/copy/crates/ravenhost" && cp -R manual "$folder/copy" && cp -R crates/ravenhost/usage "$folder/copy/crates/ravenhost" &&
         "$folder/copy/manual/completions.py" --check || return
-    sed -i 's/^      --all   /      --every /' "$folder/copy/crates/ravenhost/usage/help-play"
-    ! "$folder/copy/manual/completions.py" --check 2>/dev/null
+    sed -i 's/^      --all   .*/      --when <WHEN>\n          In [brackets]: it is long [possible values: a, b]\n/' \
+        "$folder/copy/crates/ravenhost/usage/help-play"
+    ! "$folder/copy/manual/completions.py" --check 2>/dev/null && "$folder/copy/manual/completions.py" &&
+        grep -qx '        --when) echo "a b" ;;' "$folder/copy/manual/ravenhost.bash" && bash -n "$folder/copy/manual/ravenhost.bash" &&
+        grep -qF ":WHEN:(a b)'" "$folder/copy/manual/_ravenhost" && zsh -n "$folder/copy/manual/_ravenhost"
 }
 
 due "mandoc -Tlint" lint

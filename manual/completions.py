@@ -15,18 +15,22 @@ PAGES = "crates/ravenhost/usage"
 # The flags that stand alone.
 HELP, VERSION = ("-h", "--help"), ("-V", "--version")
 
-# What completes a value, by the name that the help gives it.
+# What completes a value of no listed words, by the name that the help gives it.
 FILES, FOLDERS = "files", "folders"
 VALUES = {"FILE": FILES, "PREFIX": FOLDERS}
 
 
 class Flag:
-    """A flag: its spellings, the name of its value or None, and what it is for."""
+    """A flag: its spellings, what completes its value or None, the value's name, and what it is for."""
 
     def __init__(self, spellings, value, about):
-        self.spellings, self.value, self.about = spellings, value, about
-        if value and value not in VALUES:
-            sys.exit(f"manual/completions.py: nothing is known of the value {value} of {spellings[-1]}")
+        listed = re.search(r" ?\[possible values: ([^\]]*)\]", about)
+        self.spellings, self.value, self.name = spellings, None, value
+        self.about = about.replace(listed[0], "") if listed else about
+        if listed:
+            self.value = listed[1].split(", ")
+        elif value:
+            self.value = VALUES.get(value) or sys.exit(f"manual/completions.py: what completes {spellings[-1]} {value}?")
 
 
 class Command:
@@ -42,16 +46,19 @@ def page(name):
 
 
 def rows(text, heading):
-    """The rows below a heading: what stands left, and what it is for."""
-    below = re.search(rf"^{re.escape(heading)}\n((?:  .*\n)+)", text, re.MULTILINE)
+    """The rows below a heading: what stands left, and what it is for, beside it or, where that is long, below it."""
+    below = re.search(rf"^{re.escape(heading)}\n((?:(?: .*)?\n)+)", text, re.MULTILINE)
     if not below:
         sys.exit(f"manual/completions.py: {PAGES} has nothing below {heading!r} where it should")
     found = []
-    for line in below[1].splitlines():
-        row = re.fullmatch(r" +(\S(?:.*?\S)?)  +(\S.*)", line)
-        if not row:
+    for line in filter(str.strip, below[1].splitlines()):
+        row = re.fullmatch(r" {2,6}(\S(?:.*?\S)??)(?:  +(\S.*))?", line)
+        if row:
+            found.append([row[1], row[2] or ""])
+        elif found:
+            found[-1][1] = f"{found[-1][1]} {line.strip()}".strip()
+        else:
             sys.exit(f"manual/completions.py: a line of another form: {line!r}")
-        found.append((row[1], row[2]))
     return found
 
 
@@ -124,15 +131,15 @@ _ravenhost_is_launcher() {
     [ -f "$command" ] && IFS= read -r -n 2 start <"$command" 2>/dev/null && [ "$start" = "#!" ]
 }
 
-# Offers the words that begin with the current one.
+# Offers the words that begin with the current one, behind what stands of it before them.
 _ravenhost_offer() {
     local word
     for word in $1; do
-        case $word in "$current"*) COMPREPLY+=("$word") ;; esac
+        case $word in "$current"*) COMPREPLY+=("$2$word") ;; esac
     done
 }
 
-# Offers names of files (-f) or folders (-d), behind what stands of the word before them.
+# Offers names of files (-f) or folders (-d) in the same way.
 _ravenhost_names() {
     local name
     compopt -o filenames 2>/dev/null
@@ -153,10 +160,11 @@ _ravenhost() {
         *[\\<\\>] | *[\\<\\>][\\|\\&]) _ravenhost_names -f "" && return ;;
     esac
     case $(_ravenhost_value "$previous") in
+        "") [ -z "$front" ] || return 0 ;;
         files) _ravenhost_names -f "$front" && return ;;
         folders) _ravenhost_names -d "$front" && return ;;
+        *) _ravenhost_offer "$(_ravenhost_value "$previous")" "$front" && return ;;
     esac
-    [ -z "$front" ] || return 0
 
     # The subcommand, and the flags that are given.
     for ((n = 1; n < COMP_CWORD; n++)); do
@@ -177,7 +185,7 @@ _ravenhost() {
         @alone@) return 0 ;;
     esac
     if [ "$command" = help ]; then
-        if [ "$given" = " " ]; then _ravenhost_offer "@subjects@"; fi
+        if [ "$given" = " " ]; then _ravenhost_offer "@subjects@" ""; fi
         return 0
     fi
 
@@ -191,7 +199,7 @@ _ravenhost() {
             # Help and version stand alone.
             @told@) [ "$given" = " " ] || continue ;;
         esac
-        case $given in *" $word "*) ;; *) _ravenhost_offer "$word" ;; esac
+        case $given in *" $word "*) ;; *) _ravenhost_offer "$word" "" ;; esac
     done
 }
 
@@ -209,7 +217,8 @@ def bash(commands):
     flagged = [(name or '""', spelled(command.flags)) for name, command in commands.items() if command.flags]
     launched = [(name or '""', spelled(command.launcher)) for name, command in commands.items() if command.launcher]
     of_all = [flag for command in commands.values() for flag in command.flags + command.launcher]
-    values = [(" | ".join(flag.spellings), VALUES[flag.value]) for flag in of_all if flag.value]
+    values = [(" | ".join(flag.spellings), flag.value if isinstance(flag.value, str) else " ".join(flag.value))
+              for flag in of_all if flag.value]
     alone = [*HELP, *VERSION, *(spelling for command in commands.values() for flag in command.launcher for spelling in flag.spellings)]
     text = BASH
     for mark, words in (("made", MADE), ("flags", bash_rows(flagged)), ("launcher", bash_rows(launched)),
@@ -278,12 +287,15 @@ def quoted(text):
     return "'" + text.replace("'", "'\\''") + "'"
 
 
+ZSH_VALUES = {FILES: "_files", FOLDERS: "_path_files -/"}
+
+
 def zsh_flag(flag, alone):
     """A flag as _arguments takes it; one that stands alone shuts out all others, another only help."""
     about = re.sub(r"([\\\[\]:])", r"\\\1", flag.about)
     value = ""
     if flag.value:
-        value = f":{flag.value}:" + ("_files" if VALUES[flag.value] == FILES else "_path_files -/")
+        value = f":{flag.name}:" + ZSH_VALUES.get(str(flag.value), f"({' '.join(flag.value)})")
     front = quoted("(- :)" if alone else f"({' '.join(HELP)})")
     spelled_out = [spelling + ("=" if flag.value and spelling.startswith("--") else "") for spelling in flag.spellings]
     names = spelled_out[0] if len(spelled_out) == 1 else "{" + ",".join(spelled_out) + "}"

@@ -37,15 +37,15 @@ _ravenhost_is_launcher() {
     [ -f "$command" ] && IFS= read -r -n 2 start <"$command" 2>/dev/null && [ "$start" = "#!" ]
 }
 
-# Offers the words that begin with the current one.
+# Offers the words that begin with the current one, behind what stands of it before them.
 _ravenhost_offer() {
     local word
     for word in $1; do
-        case $word in "$current"*) COMPREPLY+=("$word") ;; esac
+        case $word in "$current"*) COMPREPLY+=("$2$word") ;; esac
     done
 }
 
-# Offers names of files (-f) or folders (-d), behind what stands of the word before them.
+# Offers names of files (-f) or folders (-d) in the same way.
 _ravenhost_names() {
     local name
     compopt -o filenames 2>/dev/null
@@ -66,10 +66,11 @@ _ravenhost() {
         *[\<\>] | *[\<\>][\|\&]) _ravenhost_names -f "" && return ;;
     esac
     case $(_ravenhost_value "$previous") in
+        "") [ -z "$front" ] || return 0 ;;
         files) _ravenhost_names -f "$front" && return ;;
         folders) _ravenhost_names -d "$front" && return ;;
+        *) _ravenhost_offer "$(_ravenhost_value "$previous")" "$front" && return ;;
     esac
-    [ -z "$front" ] || return 0
 
     # The subcommand, and the flags that are given.
     for ((n = 1; n < COMP_CWORD; n++)); do
@@ -90,7 +91,7 @@ _ravenhost() {
         *" -h "* | *" --help "* | *" -V "* | *" --version "* | *" --prove "* | *" --install "* | *" --trial "*) return 0 ;;
     esac
     if [ "$command" = help ]; then
-        if [ "$given" = " " ]; then _ravenhost_offer "play check run audit"; fi
+        if [ "$given" = " " ]; then _ravenhost_offer "play check run audit" ""; fi
         return 0
     fi
 
@@ -104,7 +105,7 @@ _ravenhost() {
             # Help and version stand alone.
             -h | --help | -V | --version) [ "$given" = " " ] || continue ;;
         esac
-        case $given in *" $word "*) ;; *) _ravenhost_offer "$word" ;; esac
+        case $given in *" $word "*) ;; *) _ravenhost_offer "$word" "" ;; esac
     done
 }
 

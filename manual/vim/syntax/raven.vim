@@ -88,8 +88,10 @@ syntax match ravenShapeBarrier contained /\%(open\|closed\)\ze\%(\s\|$\)/ nextgr
 " Steps: an actor and its request. There are no comments.
 syntax cluster ravenRequests contains=ravenActor,ravenRequestError
 syntax match ravenRequestError contained /\S.*/
-syntax match ravenActor contained /^\s*\zs\a\w*\.\a\w*\ze\%(\s\|$\)/ nextgroup=ravenRequest,ravenCall,ravenEnd,ravenRequestError skipwhite
-syntax match ravenActor contained /^\s*\zs\c\%(operator\|Int_\d\)\ze\%(\s\|$\)/ nextgroup=ravenRequest,ravenChange,ravenCall,ravenEnd,ravenRequestError skipwhite
+syntax cluster ravenAsked contains=ravenRequest,ravenCall,ravenEnd,ravenRequestError
+syntax match ravenActor contained /^\s*\zs\a\w*\.\a\w*\ze\%(\s\|$\)/ nextgroup=@ravenAsked skipwhite
+syntax match ravenActor contained /^\s*\zs\cInt_\d\ze\%(\s\|$\)/ nextgroup=@ravenAsked skipwhite
+syntax match ravenActor contained /^\s*\zs\coperator\ze\%(\s\|$\)/ nextgroup=@ravenAsked,ravenChange skipwhite
 syntax match ravenRequest contained /\%(resume\|clock\|fire\|finish\|halt\)\ze\%(\s\|$\)/ nextgroup=ravenRequestError skipwhite
 syntax match ravenRequest contained /\%(delay\|tick\)\ze\s/ nextgroup=ravenLastNumber,ravenRequestError skipwhite
 syntax match ravenRequest contained /go\ze\%(\s\|$\)/ nextgroup=ravenLastNumber,ravenRequestError skipwhite
@@ -125,8 +127,10 @@ syntax cluster ravenEntries contains=ravenEntryNumber,ravenEntryError
 syntax match ravenEntryError contained /\S.*/
 syntax match ravenEntryNumber contained /^\d\+\ze / nextgroup=ravenEntryActor,ravenEntryError skipwhite
 syntax match ravenEntryActor contained /\a\w*\%(\.\a\w*\)\=\ze / nextgroup=ravenEntryRequest,ravenEntryError skipwhite
-syntax match ravenEntryRequest contained /\S.*\ze -> / contains=ravenEntryWord,ravenEntryLine,ravenEntryValue nextgroup=ravenArrow skipwhite
-syntax match ravenEntryWord contained /\<\%(load\|list\|call\|end\|resume\|delay\|clock\|fire\|tick\|halt\|finish\|return\|raise\|overrun\|stopped\)\>/
+syntax cluster ravenEntryWords contains=ravenEntryWord,ravenEntryLine,ravenEntryValue
+syntax match ravenEntryRequest contained /\S.*\ze -> / contains=@ravenEntryWords nextgroup=ravenArrow skipwhite
+syntax match ravenEntryWord contained /\<\%(load\|list\|call\|end\|resume\|delay\|clock\|fire\|tick\|halt\|finish\)\>/
+syntax match ravenEntryWord contained /\<\%(return\|raise\|overrun\|stopped\)\>/
 syntax match ravenEntryLine contained /\<\%(allow\|deny\|from\|until\)\>/
 syntax match ravenEntryValue contained /\%(^\|\s\)\@1<=-\=\d\+\ze\%(\s\|$\)/
 syntax match ravenArrow contained /->/ nextgroup=ravenRefusal,ravenAnswer,ravenEntryError skipwhite
