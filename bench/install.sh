@@ -1,7 +1,7 @@
 #!/usr/bin/env bash
 # Tries ./ravenhost --install in a fresh clone of what is committed, with a stand-in for the proved program: what it puts where,
 # that the sources may be gone afterwards, that files are replaced at once, DESTDIR, and each error. It proves and builds
-# nothing. Needs git, man and flock; what a person without rights meets is only tried by root, through setpriv.
+# nothing. Needs git, man and flock, and Python, zsh and vim for a last look; what a person without rights meets is only tried by root, through setpriv.
 set -u
 
 top=$(dirname "$(dirname "$(readlink -f "$0")")")
@@ -135,7 +135,8 @@ launcher=$folder/clone/ravenhost
 holds "it is there" test -x "$folder/by_link/bin/ravenhost"
 ln -sf "$folder/file" "$folder/by_link/share/man/man1/ravenhost.1"
 due "over a link" 0 "" --install "$folder/by_link"
-holds "the link is replaced" test ! -L "$folder/by_link/share/man/man1/ravenhost.1" -a ! -e "$folder/file"
+holds "the link is replaced" test ! -L "$folder/by_link/share/man/man1/ravenhost.1"
+holds "what it named isn't touched" test ! -e "$folder/file"
 
 # DESTDIR.
 export DESTDIR=$folder/stage/deep
@@ -222,7 +223,20 @@ due "while it is being proved" 126 'ravenhost: --install asks for the proved pro
 exec 8<&-
 sleep 1
 touch "$folder/clone/crates/rv_text/src/lib.rt"
-due "a source newer than it" 126 'ravenhost: --install asks for the proved program, and crates/rv_text/src/lib.rt is newer*' --install "$folder/prefix"
+newer='ravenhost: --install asks for the proved program, and crates/rv_text/src/lib.rt is newer than the proved program: *first'
+due "a source newer than it" 126 "$newer" --install "$folder/prefix"
+
+# What is installed as shells and the editor find it, with a program that is no script.
+if command -v zsh >/dev/null && command -v vim >/dev/null && command -v python3 >/dev/null; then
+    cp "$(type -P true)" "$program"
+    due "a program that is no script" 0 "" --install "$folder/whole"
+    holds "completions of what is installed" "$top/bench/complete_words.py" "$folder/whole" "$launcher"
+    echo "$folder/whole/share/doc/ravenhost/examples/plant.raven" >"$folder/files"
+    WHAT=errors FILES=$folder/files SHOWN=$folder/shown vim -u NONE -i NONE -n -es -N \
+        --cmd "set runtimepath^=$folder/whole/share/vim/vimfiles" --cmd 'filetype on' --cmd 'syntax on' \
+        -S "$top/bench/editor/shown.vim" </dev/null
+    holds "the syntax of what is installed" test "$(stat -c %s "$folder/shown")" = 0
+fi
 
 "$launcher" --help </dev/null >/dev/null 2>"$folder/err"
 holds "the help names it" grep -q -- '--install PREFIX' "$folder/err"
