@@ -1,7 +1,8 @@
 #!/usr/bin/env bash
 # Tries ./ravenhost --install in a fresh clone of what is committed, with a stand-in for the proved program: what it puts where,
 # that the sources may be gone afterwards, that files are replaced at once, DESTDIR, and each error. It proves and builds
-# nothing. Needs git, man and flock, and Python, zsh and vim for a last look; what a person without rights meets is only tried by root, through setpriv.
+# nothing, and takes a minute. Needs git, man and flock; the last look at completions and syntax needs Python, zsh and vim.
+# What a person without rights meets is only tried by root, through setpriv.
 set -u
 
 top=$(dirname "$(dirname "$(readlink -f "$0")")")
@@ -118,7 +119,8 @@ due "a folder that isn't there yet" 0 "" --install "$folder/fresh"
 holds "it is made" test -x "$folder/fresh/bin/ravenhost"
 due "behind =" 0 "" "--install=$folder/equal"
 holds "it is there" test -x "$folder/equal/bin/ravenhost"
-due "a stroke at the end" 0 "" --install "$folder/fresh/"
+due "strokes at the end" 0 "" --install "$folder/strokes//"
+holds "it is there" test -x "$folder/strokes/bin/ravenhost"
 holds "places have no stroke twice" test -z "$(grep // "$folder/out")"
 odd="$folder/an odd 'place' \$HOME * é"
 due "a name of odd characters" 0 "" --install "$odd"
