@@ -51,6 +51,19 @@ flags_named() {
     [ "$missing:$((count > 8))" = 0:1 ]
 }
 
+# What clap is told in the source stands in the stored help. bench/first_look.sh --proved compares it with the program's own.
+stored_help() {
+    python3 - <<'END'
+import glob, re
+pages = " ".join(" ".join(open(page).read() for page in sorted(glob.glob("crates/ravenhost/usage/help*"))).split())
+source = re.sub(r"^\s*(//|ghost ).*$", "", open("crates/ravenhost/src/chosen.rt").read(), flags=re.M)
+told = [words for words in re.findall(r'"([^"\n]*)"', source) if " " in words]
+assert len(told) > 8, told
+missing = [words for words in told if " ".join(words.split()) not in pages]
+assert not missing, missing
+END
+}
+
 # The 73 reserved words of Ada 2012: those that the grammar quotes are words of the syntax, the others are errors there.
 words_of_ada() {
     python3 - <<'END'
@@ -165,6 +178,7 @@ due "mandoc -Tlint" lint
 due "man --warnings" groff_page
 due "sentences of at most 20 words" sentences
 due "each flag stands in the page" flags_named
+due "the stored help has the words of the source" stored_help
 due "completions are those of the help" manual/completions.py --check
 due "a changed help is seen" stale
 due "shellcheck" shellcheck ravenhost manual/ravenhost.bash bench/manual.sh bench/install.sh
