@@ -1,0 +1,370 @@
+#!/usr/bin/env python3
+"""Makes the completions for bash and zsh from the help of the command line, as clap prints it and as the launcher has it
+stored in crates/ravenhost/usage, and from the launcher's own flags there.
+
+    manual/completions.py            writes manual/ravenhost.bash and manual/_ravenhost
+    manual/completions.py --check    writes nothing; ends with 1 where either isn't what would be written
+"""
+import os
+import re
+import sys
+
+TOP = os.path.dirname(os.path.dirname(os.path.abspath(__file__)))
+PAGES = "crates/ravenhost/usage"
+
+# The flags that stand alone.
+HELP, VERSION = ("-h", "--help"), ("-V", "--version")
+
+# What completes a value of no listed words, by the name that the help gives it.
+FILES, FOLDERS = "files", "folders"
+VALUES = {"FILE": FILES, "PREFIX": FOLDERS}
+
+
+class Flag:
+    """A flag: its spellings, what completes its value or None, the value's name, and what it is for."""
+
+    def __init__(self, spellings, value, about):
+        listed = re.search(r" ?\[possible values: ([^\]]*)\]", about)
+        self.spellings, self.value, self.name = spellings, None, value
+        self.about = about.replace(listed[0], "") if listed else about
+        if listed:
+            self.value = listed[1].split(", ")
+        elif value:
+            self.value = VALUES.get(value) or sys.exit(f"manual/completions.py: what completes {spellings[-1]} {value}?")
+
+
+class Command:
+    """A subcommand, or the program itself: its flags, and those that the launcher adds."""
+
+    def __init__(self, about):
+        self.about, self.flags, self.launcher = about, [], []
+
+
+def page(name):
+    with open(os.path.join(TOP, PAGES, name), encoding="utf-8") as file:
+        return file.read()
+
+
+def rows(text, heading):
+    """The rows below a heading: what stands left, and what it is for, beside it or, where that is long, below it."""
+    below = re.search(rf"^{re.escape(heading)}\n((?:(?: .*)?\n)+)", text, re.MULTILINE)
+    if not below:
+        sys.exit(f"manual/completions.py: {PAGES} has nothing below {heading!r} where it should")
+    found = []
+    for line in filter(str.strip, below[1].splitlines()):
+        row = re.fullmatch(r" {2,6}(\S(?:.*?\S)??)(?:  +(\S.*))?", line)
+        if row:
+            found.append([row[1], row[2] or ""])
+        elif found:
+            found[-1][1] = f"{found[-1][1]} {line.strip()}".strip()
+        else:
+            sys.exit(f"manual/completions.py: a line of another form: {line!r}")
+    return found
+
+
+def flags(text):
+    """The flags of a help page."""
+    found = []
+    for left, about in rows(text, "Options:"):
+        row = re.fullmatch(r"(?:(-\w), )?(--[\w-]+)(?: <(\w+)>)?", left)
+        if not row:
+            sys.exit(f"manual/completions.py: a flag of another form: {left!r}")
+        found.append(Flag([word for word in row.group(1, 2) if word], row[3], about))
+    return found
+
+
+def described():
+    """The program, below the name "", and its subcommands, in the order of the help."""
+    help_page = page("help")
+    commands = {"": Command(help_page.splitlines()[0])}
+    for name, about in rows(help_page, "Commands:"):
+        commands[name] = Command(about)
+    commands[""].flags = flags(help_page)
+    for name, command in commands.items():
+        if name not in ("", "help"):
+            command.flags = flags(page(f"help-{name}"))
+    for left, about in rows(page("launcher"), "Of the script ./ravenhost:"):
+        row = re.fullmatch(r"(?:(\w+) )?(--[\w-]+)(?: ([A-Z]+))?(?: < FILE)?", left)
+        if not row or (row[1] or "") not in commands:
+            sys.exit(f"manual/completions.py: a flag of the launcher of another form: {left!r}")
+        commands[row[1] or ""].launcher.append(Flag([row[2]], row[3], about))
+    return commands
+
+
+def spelled(of):
+    return " ".join(spelling for flag in of for spelling in flag.spellings)
+
+
+MADE = "Made by manual/completions.py from the help of the command line: change it there."
+
+BASH = """\
+# Completion for bash of ravenhost, and of its launcher ./ravenhost. It needs bash 4, and no other file.
+# @made@
+
+# The flags of a subcommand, or of the program where the name is empty.
+_ravenhost_flags() {
+    case $1 in
+@flags@
+    esac
+}
+
+# The flags that the launcher adds.
+_ravenhost_launcher_flags() {
+    case $1 in
+@launcher@
+    esac
+}
+
+# What the value of a flag is; nothing where it takes none.
+_ravenhost_value() {
+    case $1 in
+@values@
+    esac
+}
+
+# Whether the command is the launcher, which is a script, and not the program.
+_ravenhost_is_launcher() {
+    local command=$1 start
+    # shellcheck disable=SC2088 # it stands so in the line that is typed
+    case $command in "~/"*) command=$HOME/${command#"~/"} ;; esac
+    case $command in */*) ;; *) command=$(type -P -- "$command") ;; esac
+    [ -f "$command" ] && IFS= read -r -n 2 start <"$command" 2>/dev/null && [ "$start" = "#!" ]
+}
+
+# Offers the words that begin with the current one, behind what stands of it before them.
+_ravenhost_offer() {
+    local word
+    for word in $1; do
+        case $word in "$current"*) COMPREPLY+=("$2$word") ;; esac
+    done
+}
+
+# Offers names of files (-f) or folders (-d) in the same way.
+_ravenhost_names() {
+    local name
+    compopt -o filenames 2>/dev/null
+    while IFS= read -r name; do COMPREPLY+=("$2$name"); done < <(compgen "$1" -- "$current")
+}
+
+_ravenhost() {
+    local current=${COMP_WORDS[COMP_CWORD]} previous=${COMP_WORDS[COMP_CWORD - 1]} front="" word command="" given=" " flags n
+    COMPREPLY=()
+    # A flag, = and its value are three words, or one where = breaks no words.
+    case $current in
+        =) current="" ;;
+        --*=*) previous=${current%%=*} front=$previous= current=${current#*=} ;;
+        *) if [ "$previous" = = ]; then previous=${COMP_WORDS[COMP_CWORD - 2]}; fi ;;
+    esac
+    case $current in *[\\<\\>]) previous=$current current="" ;; esac
+    case $previous in
+        *[\\<\\>] | *[\\<\\>][\\|\\&]) _ravenhost_names -f "" && return ;;
+    esac
+    case $(_ravenhost_value "$previous") in
+        "") [ -z "$front" ] || return 0 ;;
+        files) _ravenhost_names -f "$front" && return ;;
+        folders) _ravenhost_names -d "$front" && return ;;
+        *) _ravenhost_offer "$(_ravenhost_value "$previous")" "$front" && return ;;
+    esac
+
+    # The subcommand, and the flags that are given.
+    for ((n = 1; n < COMP_CWORD; n++)); do
+        word=${COMP_WORDS[n]}
+        case $word in
+            *[\\<\\>]) n=$((n + 1)) ;;
+            -*)
+                given+="$word "
+                if [ -n "$(_ravenhost_value "$word")" ]; then
+                    if [ "${COMP_WORDS[n + 1]}" = = ]; then n=$((n + 1)); fi
+                    n=$((n + 1))
+                fi
+                ;;
+            *) if [ -z "$command" ]; then command=$word; else given+="$word "; fi ;;
+        esac
+    done
+    case $given in
+        @alone@) return 0 ;;
+    esac
+    if [ "$command" = help ]; then
+        if [ "$given" = " " ]; then _ravenhost_offer "@subjects@" ""; fi
+        return 0
+    fi
+
+    flags=$(_ravenhost_flags "$command")
+    if _ravenhost_is_launcher "${COMP_WORDS[0]}"; then flags+=" $(_ravenhost_launcher_flags "$command")"; fi
+    if [ -z "$command" ]; then
+        case $current in -*) ;; *) flags="@commands@" ;; esac
+    fi
+    for word in $flags; do
+        case $word in
+            # Help and version stand alone.
+            @told@) [ "$given" = " " ] || continue ;;
+        esac
+        case $given in *" $word "*) ;; *) _ravenhost_offer "$word" "" ;; esac
+    done
+}
+
+complete -F _ravenhost ravenhost
+"""
+
+
+def bash_rows(pairs):
+    lines = [f'        {pattern}) echo "{words}" ;;' for pattern, words in pairs]
+    return "\n".join(lines)
+
+
+def bash(commands):
+    names = [name for name in commands if name]
+    flagged = [(name or '""', spelled(command.flags)) for name, command in commands.items() if command.flags]
+    launched = [(name or '""', spelled(command.launcher)) for name, command in commands.items() if command.launcher]
+    of_all = [flag for command in commands.values() for flag in command.flags + command.launcher]
+    values = [(" | ".join(flag.spellings), flag.value if isinstance(flag.value, str) else " ".join(flag.value))
+              for flag in of_all if flag.value]
+    alone = [*HELP, *VERSION, *(spelling for command in commands.values() for flag in command.launcher for spelling in flag.spellings)]
+    text = BASH
+    for mark, words in (("made", MADE), ("flags", bash_rows(flagged)), ("launcher", bash_rows(launched)),
+                        ("values", bash_rows(values)), ("commands", " ".join(names)),
+                        ("alone", " | ".join(f'*" {word} "*' for word in alone)), ("told", " | ".join((*HELP, *VERSION))),
+                        ("subjects", " ".join(name for name in names if name != "help"))):
+        text = text.replace(f"@{mark}@", words)
+    return text
+
+
+ZSH = """\
+#compdef ravenhost
+# Completion for zsh of ravenhost, and of its launcher ./ravenhost.
+# @made@
+
+# Whether the command is the launcher, which is a script, and not the program.
+_ravenhost_is_launcher() {
+    local command=${(Q)1} start
+    command=${command/#\\~\\//$HOME/}
+    [[ $command == */* ]] || command=${commands[$command]}
+    [[ -f $command ]] && IFS= read -r -u 0 -k 2 start <$command 2>/dev/null && [[ $start == '#!' ]]
+}
+
+_ravenhost_subcommands() {
+    local -a subcommands=(
+@commands@
+    )
+    _describe -t commands subcommand subcommands
+}
+
+# What help is given of.
+_ravenhost_subjects() {
+    local -a subcommands=(
+@subjects@
+    )
+    _describe -t commands subcommand subcommands
+}
+
+_ravenhost() {
+    local curcontext=$curcontext state line ret=1
+    local -a launcher launcher_of
+    typeset -A opt_args
+    if _ravenhost_is_launcher $words[1]; then
+        launcher=(
+@launcher@
+        )
+    fi
+    _arguments -C \\
+@flags@
+        $launcher \\
+        '(-): :_ravenhost_subcommands' \\
+        '(-)*:: :->of' && ret=0
+    [[ $state == of ]] || return ret
+    curcontext=${curcontext%:*:*}:ravenhost-$line[1]:
+    case $line[1] in
+@cases@
+    esac
+    return ret
+}
+
+_ravenhost "$@"
+"""
+
+
+def quoted(text):
+    return "'" + text.replace("'", "'\\''") + "'"
+
+
+ZSH_VALUES = {FILES: "_files", FOLDERS: "_path_files -/"}
+
+
+def zsh_flag(flag, alone):
+    """A flag as _arguments takes it; one that stands alone shuts out all others, another only help."""
+    about = re.sub(r"([\\\[\]:])", r"\\\1", flag.about)
+    value = ""
+    if flag.value:
+        value = f":{flag.name}:" + ZSH_VALUES.get(str(flag.value), f"({' '.join(flag.value)})")
+    front = quoted("(- :)" if alone else f"({' '.join(HELP)})")
+    spelled_out = [spelling + ("=" if flag.value and spelling.startswith("--") else "") for spelling in flag.spellings]
+    names = spelled_out[0] if len(spelled_out) == 1 else "{" + ",".join(spelled_out) + "}"
+    return f"{front}{names}{quoted(f'[{about}]{value}')}"
+
+
+def is_alone(flag):
+    """Help and version stand alone."""
+    return set(flag.spellings) <= {*HELP, *VERSION}
+
+
+def zsh_commands(commands, without=()):
+    lines = []
+    for name, command in commands.items():
+        if name and name not in without:
+            about = command.about.replace("\\", "\\\\").replace(":", "\\:")
+            lines.append(f"        {quoted(f'{name}:{about}')}")
+    return "\n".join(lines)
+
+
+def zsh_case(name, command):
+    if name == "help":
+        return "        help) _arguments '1: :_ravenhost_subjects' && ret=0 ;;"
+    lines = [f"        {name})"]
+    if command.launcher:
+        lines += ["            if (( $#launcher )); then", "                launcher_of=("]
+        lines += [f"                    {zsh_flag(flag, True)}" for flag in command.launcher]
+        lines += ["                )", "            fi"]
+    lines.append("            _arguments \\")
+    lines += [f"                {zsh_flag(flag, is_alone(flag))} \\" for flag in command.flags]
+    if command.launcher:
+        lines.append("                $launcher_of \\")
+    lines[-1] = lines[-1][:-2] + " && ret=0"
+    lines.append("            ;;")
+    return "\n".join(lines)
+
+
+def zsh(commands):
+    program = commands[""]
+    text = ZSH
+    for mark, words in (("made", MADE), ("commands", zsh_commands(commands)), ("subjects", zsh_commands(commands, ("help",))),
+                        ("flags", "\n".join(f"        {zsh_flag(flag, is_alone(flag))} \\" for flag in program.flags)),
+                        ("launcher", "\n".join(f"            {zsh_flag(flag, True)}" for flag in program.launcher)),
+                        ("cases", "\n".join(zsh_case(name, command) for name, command in commands.items() if name))):
+        text = text.replace(f"@{mark}@", words)
+    return text
+
+
+def main():
+    if sys.argv[1:] not in ([], ["--check"]):
+        sys.exit(__doc__)
+    commands = described()
+    stale = 0
+    for name, text in (("manual/ravenhost.bash", bash(commands)), ("manual/_ravenhost", zsh(commands))):
+        path = os.path.join(TOP, name)
+        if not sys.argv[1:]:
+            with open(path, "w", encoding="utf-8") as file:
+                file.write(text)
+            continue
+        try:
+            with open(path, encoding="utf-8") as file:
+                kept = file.read()
+        except OSError:
+            kept = None
+        if kept != text:
+            print(f"{name} isn't what manual/completions.py writes of {PAGES}: run it", file=sys.stderr)
+            stale += 1
+    return 1 if stale else 0
+
+
+if __name__ == "__main__":
+    sys.exit(main())

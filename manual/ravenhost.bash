@@ -1,0 +1,112 @@
+# Completion for bash of ravenhost, and of its launcher ./ravenhost. It needs bash 4, and no other file.
+# Made by manual/completions.py from the help of the command line: change it there.
+
+# The flags of a subcommand, or of the program where the name is empty.
+_ravenhost_flags() {
+    case $1 in
+        "") echo "-h --help -V --version" ;;
+        play) echo "--all -h --help" ;;
+        check) echo "--explain -h --help" ;;
+        run) echo "-h --help" ;;
+        audit) echo "--journal --torn -h --help" ;;
+    esac
+}
+
+# The flags that the launcher adds.
+_ravenhost_launcher_flags() {
+    case $1 in
+        "") echo "--prove --install" ;;
+        run) echo "--trial" ;;
+    esac
+}
+
+# What the value of a flag is; nothing where it takes none.
+_ravenhost_value() {
+    case $1 in
+        --install) echo "folders" ;;
+        --journal) echo "files" ;;
+    esac
+}
+
+# Whether the command is the launcher, which is a script, and not the program.
+_ravenhost_is_launcher() {
+    local command=$1 start
+    # shellcheck disable=SC2088 # it stands so in the line that is typed
+    case $command in "~/"*) command=$HOME/${command#"~/"} ;; esac
+    case $command in */*) ;; *) command=$(type -P -- "$command") ;; esac
+    [ -f "$command" ] && IFS= read -r -n 2 start <"$command" 2>/dev/null && [ "$start" = "#!" ]
+}
+
+# Offers the words that begin with the current one, behind what stands of it before them.
+_ravenhost_offer() {
+    local word
+    for word in $1; do
+        case $word in "$current"*) COMPREPLY+=("$2$word") ;; esac
+    done
+}
+
+# Offers names of files (-f) or folders (-d) in the same way.
+_ravenhost_names() {
+    local name
+    compopt -o filenames 2>/dev/null
+    while IFS= read -r name; do COMPREPLY+=("$2$name"); done < <(compgen "$1" -- "$current")
+}
+
+_ravenhost() {
+    local current=${COMP_WORDS[COMP_CWORD]} previous=${COMP_WORDS[COMP_CWORD - 1]} front="" word command="" given=" " flags n
+    COMPREPLY=()
+    # A flag, = and its value are three words, or one where = breaks no words.
+    case $current in
+        =) current="" ;;
+        --*=*) previous=${current%%=*} front=$previous= current=${current#*=} ;;
+        *) if [ "$previous" = = ]; then previous=${COMP_WORDS[COMP_CWORD - 2]}; fi ;;
+    esac
+    case $current in *[\<\>]) previous=$current current="" ;; esac
+    case $previous in
+        *[\<\>] | *[\<\>][\|\&]) _ravenhost_names -f "" && return ;;
+    esac
+    case $(_ravenhost_value "$previous") in
+        "") [ -z "$front" ] || return 0 ;;
+        files) _ravenhost_names -f "$front" && return ;;
+        folders) _ravenhost_names -d "$front" && return ;;
+        *) _ravenhost_offer "$(_ravenhost_value "$previous")" "$front" && return ;;
+    esac
+
+    # The subcommand, and the flags that are given.
+    for ((n = 1; n < COMP_CWORD; n++)); do
+        word=${COMP_WORDS[n]}
+        case $word in
+            *[\<\>]) n=$((n + 1)) ;;
+            -*)
+                given+="$word "
+                if [ -n "$(_ravenhost_value "$word")" ]; then
+                    if [ "${COMP_WORDS[n + 1]}" = = ]; then n=$((n + 1)); fi
+                    n=$((n + 1))
+                fi
+                ;;
+            *) if [ -z "$command" ]; then command=$word; else given+="$word "; fi ;;
+        esac
+    done
+    case $given in
+        *" -h "* | *" --help "* | *" -V "* | *" --version "* | *" --prove "* | *" --install "* | *" --trial "*) return 0 ;;
+    esac
+    if [ "$command" = help ]; then
+        if [ "$given" = " " ]; then _ravenhost_offer "play check run audit" ""; fi
+        return 0
+    fi
+
+    flags=$(_ravenhost_flags "$command")
+    if _ravenhost_is_launcher "${COMP_WORDS[0]}"; then flags+=" $(_ravenhost_launcher_flags "$command")"; fi
+    if [ -z "$command" ]; then
+        case $current in -*) ;; *) flags="play check run audit help" ;; esac
+    fi
+    for word in $flags; do
+        case $word in
+            # Help and version stand alone.
+            -h | --help | -V | --version) [ "$given" = " " ] || continue ;;
+        esac
+        case $given in *" $word "*) ;; *) _ravenhost_offer "$word" "" ;; esac
+    done
+}
+
+complete -F _ravenhost ravenhost

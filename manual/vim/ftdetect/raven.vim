@@ -1,0 +1,2 @@
+" Scripts of ravenhost.
+autocmd BufNewFile,BufRead *.raven setfiletype raven
