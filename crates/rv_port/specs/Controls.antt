@@ -11,6 +11,7 @@ use Rattle.rv_turn.specs.Passes.{Acted, Parted, IsWorn}
 use Rattle.rv_code.specs.Bodies as Code
 use Rattle.rv_code.specs.BodyView.{unit_view}
 use Rattle.rv_code.specs.declared.body.UnitBodies.{UnitBodies}
+use Rattle.rv_fits.specs.Fits.{calls_fit}
 use Rattle.rv_exec.specs.Bodies.{held}
 use Rattle.rv_exec.specs.declared.bodies.SharedUnit.{SharedUnit}
 use Rattle.rv_history.specs.History.{History}
@@ -83,13 +84,17 @@ no_bodies_of = Code.without_bodies
 abbrev pub numbered_as : Shape → Code.UnitBodies → Bool
 numbered_as shape unit = (length unit.objects == length shape.objects) && (length unit.tasks == length shape.tasks)
 
--- the bodies that a load brings: those given with the shape, where they are numbered as it is, else none (own)
+-- a unit's bodies may be loaded with its shape, over these units: they are numbered as it is, and their calls fit (own)
+abbrev pub are_of : List Shape → Shape → Code.UnitBodies → Bool
+are_of shapes shape unit = numbered_as shape unit && calls_fit (shapes ++ shape ∷ []) unit
+
+-- the bodies that a load brings: those given with the shape, where they may be, else none (own)
 abbrev pub BringsIf : Bool → Shape → UnitBodies → UnitBodies → Type 0
 BringsIf true shape given unit = unit ≡ given
 BringsIf false shape given unit = unit_view unit ≡ no_bodies_of shape
 
-abbrev pub Brings : Shape → UnitBodies → UnitBodies → Type 0
-Brings shape given unit = BringsIf (numbered_as shape (unit_view given)) shape given unit
+abbrev pub Brings : List Shape → Shape → UnitBodies → UnitBodies → Type 0
+Brings shapes shape given unit = BringsIf (are_of shapes shape (unit_view given)) shape given unit
 
 -- The history that a control begins with is that of the host, whose units have no bodies. (own)
 abbrev pub BeginsWith : History → List Event → Type 0

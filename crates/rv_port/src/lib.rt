@@ -15,3 +15,4 @@ mod performance;
 pub mod port;
 pub mod reached;
 mod text;
+mod units;
