@@ -21,11 +21,11 @@ use Rattle.rv_port.specs.Acting.{IsLent}
 use Rattle.rv_port.specs.Events.{catalogue_of, history_at}
 use Rattle.rv_port.specs.Traces.{Passing, limits_in, Trace, noted, WoreOut, Went, Asked}
 use Rattle.rv_port.specs.Reaching.{reached_by, end_of}
-use Rattle.rv_port.specs.Calls.{RanOn, InBody, EndedBy, stops_at, StoppedAsking, StoppedInside, Tied}
+use Rattle.rv_port.specs.Calls.{RanOn, InBody, EndedBy, stops_at, StoppedAsking, StoppedAt, StoppedInside, Tied}
 use Rattle.rv_port.proofs.Asking.{asked_later}
 use Rattle.rv_port.proofs.Gets.{of_end, end_gets}
 use Rattle.rv_port.proofs.Performing.{stays_both, went_stays}
-use Rattle.rv_port.proofs.Stopped.{StopAt, stop_at, runs_stop}
+use Rattle.rv_port.proofs.Stopped.{stop_at, runs_stop}
 use Rattle.rv_turn.specs.Histories.{StartsWith}
 use Rattle.rv_turn.specs.Prefixes.{starts_both}
 use Rattle.rv_port.proofs.Opening.{new_later, Opened}
@@ -51,7 +51,7 @@ pub record NoEnd (u w : Passing) : Type 0 where
 abbrev RanTo : Passing → Reached → Passing → Type 0
 RanTo u (Reaches.Returned values) w = LastEnd u (Exits.Return values) w
 RanTo u (Reaches.Raised exception) w = (exit : Exit) × (reached_by exit ≡ Reaches.Raised exception) × LastEnd u exit w
-RanTo u Reaches.Stopped w = NoEnd u w ⊎ ((t : LastEnd u Exits.Stopped w) × StopAt u t.asked)
+RanTo u Reaches.Stopped w = NoEnd u w ⊎ ((t : LastEnd u Exits.Stopped w) × StoppedAt u t.asked)
 RanTo u reached w = ⊥
 
 ended_by : (v u w : Passing) (q : Request) (exit : Exit) → Opened v q u → LastEnd u exit w → EndedBy v q exit w
@@ -87,7 +87,7 @@ no_end v u w q o t = record {
   reason = t.reason;
 }
 
-stopped_inside : (v u w : Passing) (q : Request) → Opened v q u → (t : LastEnd u Exits.Stopped w) → StopAt u t.asked → StoppedInside v q w
+stopped_inside : (v u w : Passing) (q : Request) → Opened v q u → (t : LastEnd u Exits.Stopped w) → StoppedAt u t.asked → StoppedInside v q w
 unfolding ended_by
 stopped_inside v u w q o t s = record {
   ended = ended_by v u w q Exits.Stopped o t;
@@ -121,7 +121,7 @@ done_last u w trace k scalars exit next p x = record {
   later = starts_both u.seen k.seen w.seen p.later (asked_later k w _ _ x);
 }
 
-by_exit : (u w : Passing) (exit : Exit) (t : LastEnd u exit w) → (exit ≡ Exits.Stopped → StopAt u t.asked) → RanTo u (reached_by exit) w
+by_exit : (u w : Passing) (exit : Exit) (t : LastEnd u exit w) → (exit ≡ Exits.Stopped → StoppedAt u t.asked) → RanTo u (reached_by exit) w
 by_exit u w (Exits.Return values) t f = t
 by_exit u w (Exits.Raise e) t f = (Exits.Raise e, refl, t)
 by_exit u w Exits.Overrun t f = (Exits.Overrun, refl, t)

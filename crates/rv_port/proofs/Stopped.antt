@@ -34,11 +34,12 @@ use Rattle.rv_exec.specs.Asking.{stands, Along}
 use Rattle.rv_exec.specs.Calls.{can_refuse, done, refusal, replied, request_of, resumed}
 use Rattle.rv_exec.specs.Blocks.{operation_run}
 use Rattle.rv_exec.specs.Stops.{is_final, is_stopped, stops_at_once, IsUnfit, IsUnfitWoken, EndsNot, Stops, Unwinds, StopsWaiting, StopsIn}
-use Rattle.rv_exec.proofs.StoppedBodies.{bodies_stop_by}
+use Rattle.rv_exec.proofs.StoppedBodies.{bodies_stop_by, tasks_stop_by}
 use Rattle.rv_port.specs.declared.body.Ended.{Ended}
 use Rattle.rv_port.specs.declared.event.Begun.{Begun}
 use Rattle.rv_port.specs.Bodies.{Runs}
-use Rattle.rv_port.specs.Calls.{stops_within, StopsBody}
+use Rattle.rv_port.specs.Calls.{stops_within, StopsBody, StoppedAt}
+use Rattle.rv_port.specs.Texts.{TextRuns, TextStops}
 use Rattle.rv_port.specs.Composing.{went_none, went_both}
 use Rattle.rv_port.specs.Acting.{IsLent}
 use Rattle.rv_port.specs.Events.{catalogue_of, history_at}
@@ -302,23 +303,11 @@ tells_went : (v w : Passing) (q : Request) (r : Answer) → Tells v q r w → We
 tells_went v w q r t = ⊎_elim (λ x. subst (λ (z : Answer). Went v ((q, z) ∷ []) w) (sym x.3) (asked_went v w q x.0 x.1 x.2))
     (λ x. subst (λ (z : Answer). Went v ((q, z) ∷ []) w) (sym x.1) (worn_told v w q x.0)) t
 
-pub record StopAt (u : Passing) (asked : Trace) : Type 0 where
-  pub before : Trace
-  pub asker : Passing
-  pub went : Went u before asker
-  pub request : Request
-  pub answer : Answer
-  pub after : Passing
-  pub reason : StopsBody asker request answer after
-  pub behind : Trace
-  pub unwinds : Unwinds behind
-  pub asked_is : asked ≡ before ++ (request, answer) ∷ behind
-
-stop_with : (u w : Passing) (q : Request) (r : Answer) (more : Trace) → StopsBody u q r w → Unwinds more → StopAt u ((q, r) ∷ more)
+stop_with : (u w : Passing) (q : Request) (r : Answer) (more : Trace) → StopsBody u q r w → Unwinds more → StoppedAt u ((q, r) ∷ more)
 stop_with u w q r more reason b =
     record { before = []; asker = u; went = went_none u; request = q; answer = r; after = w; reason = reason; behind = more; unwinds = b; asked_is = refl }
 
-stop_later : (u w : Passing) (q : Request) (r : Answer) (more : Trace) → Tells u q r w → StopAt w more → StopAt u ((q, r) ∷ more)
+stop_later : (u w : Passing) (q : Request) (r : Answer) (more : Trace) → Tells u q r w → StoppedAt w more → StoppedAt u ((q, r) ∷ more)
 stop_later u w q r more t p = record {
   before = (q, r) ∷ p.before;
   asker = p.asker;
@@ -338,12 +327,12 @@ wore_waiting such v u k q p r s f t w =
     ⊎_elim (λ y. ⊎_elim (λ x. never_unfit_woken such v u k q p x.0 y.0 x.1 y.1 y.2 (subst (λ (z : Answer × Answer). IsUnfitWoken such q z.0 p z.1) (λ i. (x.3 i, y.3 i)) w))
     (λ x. unlike false (sym (ap (λ (z : Answer). is_waits (replied w.1 z)) x.1) ∙ ap is_waits w.5) refl) f) (λ wore. wore) t
 
-stop_waiting : (such : Callee → Bool) (u w k : Passing) (q : Request) (r : Answer) (more : Trace) → StopsWaiting such (q, r) more → Tells u q r w → Steps w more k → StopAt u ((q, r) ∷ more)
+stop_waiting : (such : Callee → Bool) (u w k : Passing) (q : Request) (r : Answer) (more : Trace) → StopsWaiting such (q, r) more → Tells u q r w → Steps w more k → StoppedAt u ((q, r) ∷ more)
 stop_waiting such u w k q r [] s f t = absurd s
 stop_waiting such u w k q r ((p, a) ∷ more) s f t =
     stop_later u w q r ((p, a) ∷ more) f (stop_with w t.0 p a more (inl (wore_waiting such u w t.0 q p r a f t.1 s.0)) s.1)
 
-pub stop_at : (log : List Event) (u : Passing) (trace : Trace) (k : Passing) → StartsWith u.seen log → StopsIn (callee_fits (catalogue_of log)) trace → Steps u trace k → StopAt u trace
+pub stop_at : (log : List Event) (u : Passing) (trace : Trace) (k : Passing) → StartsWith u.seen log → StopsIn (callee_fits (catalogue_of log)) trace → Steps u trace k → StoppedAt u trace
 stop_at log u [] k later s t = absurd s
 stop_at log u ((q, r) ∷ more) k later s t =
     ⊎_elim (λ h. stop_with u t.0 q r more (stops_body log u t.0 q r later h.0 t.1) h.1)
@@ -358,3 +347,13 @@ runs_stop log None b scalars arguments trace last lent t e = absurd (cc (sym e �
 runs_stop log (Some bodies) b scalars arguments trace last lent t e =
     bodies_stop_by (callee_fits (catalogue_of log)) bodies b.object b.operation arguments scalars t.0 trace lent.1
     (subst (λ (x : Exit). Along (operation_run bodies b.object b.operation arguments scalars) trace (x, t.0)) e t.1)
+
+-- and so has a task's text
+pub text_stops : (log : List Event) (u w : Passing) (bodies : Option UnitBodies) (budget : ℕ) (trace : Trace) (exit : Exit) → IsLent log bodies → StartsWith u.seen log → TextRuns bodies u.actor budget trace exit → Went u trace w
+    → TextStops bodies exit u trace
+text_stops log u w None budget trace exit lent later t p = tt
+text_stops log u w (Some bodies) budget trace (Exits.Return values) lent later t p = tt
+text_stops log u w (Some bodies) budget trace (Exits.Raise exception) lent later t p = tt
+text_stops log u w (Some bodies) budget trace Exits.Overrun lent later t p = tt
+text_stops log u w (Some bodies) budget trace Exits.Stopped lent later t p =
+    stop_at log u trace w later (tasks_stop_by (callee_fits (catalogue_of log)) bodies u.actor budget trace lent.1 t) p.steps

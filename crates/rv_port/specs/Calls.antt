@@ -203,6 +203,19 @@ abbrev pub StopsBody : Passing → Request → Answer → Passing → Type 0
 StopsBody v q r w =
     (WoreOut v q w × (r ≡ Answers.Full)) ⊎ ((d : Answer) × Asked v q d w × (r ≡ told d) × (stops_within d ≡ true))
 
+-- By this request a run was stopped that asked all this: what it asked before, the request, and behind it ends by stopped alone. (own)
+pub record StoppedAt (u : Passing) (asked : Trace) : Type 0 where
+  pub before : Trace
+  pub asker : Passing
+  pub went : Went u before asker
+  pub request : Request
+  pub answer : Answer
+  pub after : Passing
+  pub reason : StopsBody asker request answer after
+  pub behind : Trace
+  pub unwinds : Unwinds behind
+  pub asked_is : asked ≡ before ++ (request, answer) ∷ behind
+
 -- The call's body exited by stopped: so it, or a body inside it, was told behind what it had asked, and behind that come ends
 -- by stopped alone. (own)
 pub record StoppedInside (v : Passing) (q : Request) (w : Passing) : Type 0 where
