@@ -1,5 +1,5 @@
 -- Whether what a unit's bodies call is what they call it for, in a catalogue (own).
-use Rattle.std.specs.Prelude.{ℕ, Bool, true, false, ◌||◌, not, List, Option, Some, None}
+use Rattle.std.specs.Prelude.{ℕ, ◌==◌, Bool, true, false, ◌&&◌, ◌||◌, not, List, [], ◌∷◌, ◌++◌, length, Option, Some, None}
 use Rattle.rv_shape.specs.declared.object.Object.{Object}
 use Rattle.rv_shape.specs.declared.object.Object.TheVariants.{Protected, Suspension}
 use Rattle.rv_shape.specs.Shape.{Shape}
@@ -50,3 +50,11 @@ callee_fits shapes callee.Clock = true
 -- the calls of a unit's bodies fit the catalogue
 abbrev pub calls_fit : List Shape → UnitBodies → Bool
 calls_fit shapes bodies = every_call (callee_fits shapes) bodies
+
+-- A unit's bodies have as many objects and tasks as its shape, so that by the catalogue's numbers no unit's body is another's.
+abbrev pub numbered_as : Shape → UnitBodies → Bool
+numbered_as shape bodies = (length bodies.objects == length shape.objects) && (length bodies.tasks == length shape.tasks)
+
+-- bodies may be loaded with a shape, over these units: they are numbered as it is, and their calls fit
+abbrev pub are_of : List Shape → Shape → UnitBodies → Bool
+are_of shapes shape bodies = numbered_as shape bodies && calls_fit (shapes ++ shape ∷ []) bodies

@@ -7,5 +7,7 @@ mod callee;
 mod expression;
 pub mod laws;
 mod statement;
+mod units;
 
 pub use body::calls_fit;
+pub use units::{may_load, with_unit};

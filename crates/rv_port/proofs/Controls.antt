@@ -19,7 +19,8 @@ use Rattle.rv_exec.specs.declared.bodies.Bodies.{Bodies}
 use Rattle.rv_port.specs.Events.{by, log_of, log_in, rest_of, catalogue_of}
 use Rattle.rv_port.specs.Acting.{Does, Due, LoadedIf, fits_behind, IfOperator}
 use Rattle.rv_port.specs.Traces.{Passing}
-use Rattle.rv_port.specs.Controls.{IsControl, Told, LoadTold, BeginsWith, are_of, BringsIf, Brings, no_bodies_of, answer_in}
+use Rattle.rv_fits.specs.Fits.{are_of}
+use Rattle.rv_port.specs.Controls.{IsControl, Told, LoadTold, BeginsWith, BringsIf, Brings, no_bodies_of, answer_in}
 use Rattle.rv_port.specs.declared.event.Ask.{Ask}
 use Rattle.rv_port.specs.declared.event.Ask.TheVariants as Wants
 use Rattle.rv_port.specs.declared.event.Reply.{Reply}

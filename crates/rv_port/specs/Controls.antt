@@ -1,5 +1,5 @@
 -- What the control of a host behind a turn gives out. (own)
-use Rattle.std.specs.Prelude.{◌≡◌, ◌⊎◌, ℕ, length, map, is_some, ◌<◌, ◌≤◌, Bool, true, false, ◌==◌, ◌&&◌, ◌||◌, List, [], ◌∷◌, ◌++◌}
+use Rattle.std.specs.Prelude.{◌≡◌, ◌⊎◌, ℕ, map, is_some, ◌<◌, ◌≤◌, Bool, true, false, ◌==◌, ◌||◌, List, [], ◌∷◌, ◌++◌}
 use Rattle.atomic_table.specs.Seated.{TableId}
 use Rattle.rv_shape.specs.Shape.{Shape}
 use Rattle.rv_event.specs.declared.entry.Entry.{Entry}
@@ -11,7 +11,7 @@ use Rattle.rv_turn.specs.Passes.{Acted, Parted, IsWorn}
 use Rattle.rv_code.specs.Bodies as Code
 use Rattle.rv_code.specs.BodyView.{unit_view}
 use Rattle.rv_code.specs.declared.body.UnitBodies.{UnitBodies}
-use Rattle.rv_fits.specs.Fits.{calls_fit}
+use Rattle.rv_fits.specs.Fits.{are_of}
 use Rattle.rv_exec.specs.Bodies.{held}
 use Rattle.rv_exec.specs.declared.bodies.SharedUnit.{SharedUnit}
 use Rattle.rv_history.specs.History.{History}
@@ -78,15 +78,6 @@ LoadTold v shape Such r w =
 -- the bodies of a unit that was loaded as a shape alone: none (own)
 abbrev pub no_bodies_of : Shape → Code.UnitBodies
 no_bodies_of = Code.without_bodies
-
--- A unit's bodies have as many objects and tasks as its shape, so that by the catalogue's numbers no unit's body is another's.
--- (own)
-abbrev pub numbered_as : Shape → Code.UnitBodies → Bool
-numbered_as shape unit = (length unit.objects == length shape.objects) && (length unit.tasks == length shape.tasks)
-
--- a unit's bodies may be loaded with its shape, over these units: they are numbered as it is, and their calls fit (own)
-abbrev pub are_of : List Shape → Shape → Code.UnitBodies → Bool
-are_of shapes shape unit = numbered_as shape unit && calls_fit (shapes ++ shape ∷ []) unit
 
 -- the bodies that a load brings: those given with the shape, where they may be, else none (own)
 abbrev pub BringsIf : Bool → Shape → UnitBodies → UnitBodies → Type 0

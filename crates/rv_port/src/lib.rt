@@ -15,4 +15,3 @@ mod performance;
 pub mod port;
 pub mod reached;
 mod text;
-mod units;

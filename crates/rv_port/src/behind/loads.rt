@@ -7,11 +7,10 @@ ghost use Rattle.rv_port.specs.Events.{log_in};
 ghost use Rattle.rv_port.specs.Acting.{LoadedIf, Unloaded, fits_behind};
 
 use super::Behind;
-use crate::units::with_unit;
 use rv_code::UnitBodies;
 use rv_event::entry::Answer;
 use rv_exec::bodies::{Bodies, SharedUnit};
-use rv_fits::calls_fit;
+use rv_fits::{calls_fit, with_unit};
 use rv_shape::shape::UnitShape;
 use std::alloc::{AllocError, Global};
 use std::sync::Arc;

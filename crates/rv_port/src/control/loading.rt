@@ -1,40 +1,24 @@
 //! Loads of units, with their bodies and as shapes alone.
 
-ghost use Rattle.std.specs.Prelude.{◌≡◌, ◌&&◌, ◌++◌, ◌∷◌, [], IfOk, IfSome, MatchResult, map};
+ghost use Rattle.std.specs.Prelude.{◌≡◌, IfOk, IfSome, MatchResult, map};
 ghost use Rattle.std.specs.Arc.{arc_value};
 ghost use Rattle.rv_code.specs.BodyView.{unit_view};
-ghost use Rattle.rv_fits.specs.Fits.{calls_fit};
+ghost use Rattle.rv_fits.specs.Fits.{are_of};
 ghost use Rattle.rv_exec.specs.Bodies.{held, shared_view, units_of};
 ghost use Rattle.rv_turn.specs.Passes.{IsWorn};
-ghost use Rattle.rv_port.specs.Controls.{Told, LoadTold, Brings, are_of, numbered_as, no_bodies_of};
+ghost use Rattle.rv_port.specs.Controls.{Told, LoadTold, Brings, no_bodies_of};
 ghost use Rattle.rv_port.specs.Events.{catalogue_of};
 
 use super::{Control, heard};
 use crate::event::Ask;
-use crate::units::with_unit;
 use rv_code::{Unit, UnitBodies};
 use rv_event::entry::Answer;
 use rv_exec::bodies::{Bodies, SharedUnit};
-use rv_fits::calls_fit;
-use rv_shape::catalogue::Catalogue;
+use rv_fits::{may_load, with_unit};
 use rv_shape::shape::UnitShape;
 use rv_turn::Worn;
 use std::alloc::{AllocError, Global};
 use std::sync::{Arc, Wait};
-
-// Whether a unit's bodies have as many objects and tasks as its shape.
-fn is_numbered_as(shape: &UnitShape, bodies: &UnitBodies) -> bool
-    ensures { result ≡ numbered_as shape.now (unit_view bodies.now) }
-{
-    bodies.objects.len() == shape.objects().len() && bodies.tasks.len() == shape.tasks().len()
-}
-
-// The same, and whether their calls fit these units, of which it is the last.
-fn are_whole(units: &Catalogue, shape: &UnitShape, bodies: &UnitBodies) -> bool
-    ensures { result ≡ (numbered_as shape.now (unit_view bodies.now) && calls_fit units.now (unit_view bodies.now)) }
-{
-    is_numbered_as(shape, bodies) && calls_fit(bodies, units)
-}
 
 // The bodies of a unit that is loaded as a shape alone.
 fn no_bodies_of(alloc: Global, shape: &UnitShape) -> Result<SharedUnit, AllocError>
@@ -62,21 +46,11 @@ pub(crate) fn no_bodies_of_all(
 }
 
 impl Control {
-    // The units that the pass has seen loaded, with one more, where it fits and there is memory.
-    fn with_one(&self, shape: &UnitShape) -> Option<Catalogue>
-        ensures { IfSome result (λ c. c ≡ catalogue_of self.now.seen ++ shape.now ∷ []) }
-    {
-        with_unit(self.alloc, self.catalogue(), shape)
-    }
-
     // Whether a unit's bodies may be loaded with its shape. None where the shape doesn't fit, or memory is refused.
     fn allows(&self, shape: &UnitShape, bodies: &UnitBodies) -> Option<bool>
         ensures { IfSome result (λ b. b ≡ are_of (catalogue_of self.now.seen) shape.now (unit_view bodies.now)) }
     {
-        match self.with_one(shape) {
-            Some(units) => Some(are_whole(&units, shape, bodies)),
-            None => None,
-        }
+        may_load(self.alloc, self.catalogue(), shape, bodies)
     }
 
     /// Loads a unit as a text gives it, compiled against `catalogue`: its shape and its bodies, which
