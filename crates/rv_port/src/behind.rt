@@ -93,7 +93,6 @@ impl Behind {
     }
 
     // A request, which is answered in its letter.
-    #[tactic(auto, using(crate::proofs::Doing::brings_step))]
     fn step(&mut self, actor: u64, letter: &mut Letter)
         ensures does { Does self.old.host.value.limits (log_in self.old.host.value (arc_value self.old.bodies)) actor (Ask.Step letter.old.request) (Reply.Answered letter.new.answer letter.new.begun letter.new.lent) (log_in self.new.host.value (arc_value self.new.bodies)) }
         ensures request { letter.new.request ≡ letter.old.request }
