@@ -1,10 +1,13 @@
 -- Statements stop only by an answer.
 use Rattle.std.proofs.Common.{◌≡◌, ℕ, zero, suc, ℤ, pos, List, [], ◌∷◌, Bool, true, false, cond, refl, Option, Some, None, Result, Ok, Err}
-use Rattle.std.specs.Prelude.{int_lt, slice_index_or}
+use Rattle.std.specs.Prelude.{◌&&◌, int_lt, slice_index_or}
 use Rattle.rv_event.specs.declared.entry.Exception.{Exception}
 use Rattle.rv_event.specs.declared.entry.Exception.TheVariants.{ConstraintError}
 use Rattle.rv_shape.specs.declared.kind.Range.{Range}
+use Rattle.rv_code.specs.declared.expression.Callee.{Callee}
 use Rattle.rv_code.specs.declared.statement.Target.{Target}
+use Rattle.rv_fits.proofs.Both.{first_of_both, second_of_both}
+use Rattle.rv_fits.specs.Calls.{expression_calls, expressions_call, statement_calls, statements_call, branches_call, alternatives_call}
 use Rattle.rv_code.specs.Statements.{Statement, null_statement, assign, choice, selection, while_loop, for_loop, exit_when, returns, returns_value, raises, reraises, calls, Statements, no_statements, and_statement, Branches, no_branches, and_branch, Alternatives, no_alternatives, and_alternative}
 use Rattle.rv_exec.specs.declared.activation.Activation.{Activation}
 use Rattle.rv_exec.specs.declared.end.Cause.{Cause}
@@ -51,74 +54,89 @@ again_goes (Some exception) = refl
 
 -- Steps and turns
 
-on_step_sound : (a : Activation) (go : Activation → Run) (o : Option Activation) → ((b : Activation) → Sound stopped_run (go b)) → Sound stopped_run (on_step a go o)
-on_step_sound a go None f = sound_end stopped_run (end.Abandoned cause.Overrun, a) refl
-on_step_sound a go (Some b) f = f b
+on_step_sound : (such : Callee → Bool) (a : Activation) (go : Activation → Run) (o : Option Activation) → ((b : Activation) → Sound such stopped_run (go b)) → Sound such stopped_run (on_step a go o)
+on_step_sound such a go None f = sound_end such stopped_run (end.Abandoned cause.Overrun, a) refl
+on_step_sound such a go (Some b) f = f b
 
-step_sound : (a : Activation) (go : Activation → Run) → ((b : Activation) → Sound stopped_run (go b)) → Sound stopped_run (step a go)
+step_sound : (such : Callee → Bool) (a : Activation) (go : Activation → Run) → ((b : Activation) → Sound such stopped_run (go b)) → Sound such stopped_run (step a go)
 unfolding step
-step_sound a go f = on_step_sound a go (stepped a) f
+step_sound such a go f = on_step_sound such a go (stepped a) f
 
-turns_sound : (n : ℕ) (condition : Activation → Asking Got) (body : Activation → Run) (a : Activation) → ((b : Activation) → Sound stopped_got (condition b)) → ((b : Activation) → Sound stopped_run (body b)) → Sound stopped_run (turns n condition body a)
+turns_sound : (such : Callee → Bool) (n : ℕ) (condition : Activation → Asking Got) (body : Activation → Run) (a : Activation) → ((b : Activation) → Sound such stopped_got (condition b)) → ((b : Activation) → Sound such stopped_run (body b)) → Sound such stopped_run (turns n condition body a)
 unfolding turns
-turns_sound zero condition body a f g = sound_end stopped_run (end.Abandoned cause.Overrun, a) refl
-turns_sound (suc n) condition body a f g =
-    sound_in_run (condition a) (λ v b. cond (is_true v) (step b (λ c. and_then (body c) (again (turns n condition body)))) (ended (end.Next, b))) (f a)
-    (λ v b. sound_if (is_true v) stopped_run (step b (λ c. and_then (body c) (again (turns n condition body)))) (ended (end.Next, b))
-    (step_sound b (λ c. and_then (body c) (again (turns n condition body))) (λ c. sound_turn (body c) (turns n condition body) (g c) (λ d. turns_sound n condition body d f g)))
-    (sound_end stopped_run (end.Next, b) refl))
+turns_sound such zero condition body a f g = sound_end such stopped_run (end.Abandoned cause.Overrun, a) refl
+turns_sound such (suc n) condition body a f g =
+    sound_in_run such (condition a) (λ v b. cond (is_true v) (step b (λ c. and_then (body c) (again (turns n condition body)))) (ended (end.Next, b))) (f a)
+    (λ v b. sound_if such (is_true v) stopped_run (step b (λ c. and_then (body c) (again (turns n condition body)))) (ended (end.Next, b))
+    (step_sound such b (λ c. and_then (body c) (again (turns n condition body))) (λ c. sound_turn such (body c) (turns n condition body) (g c) (λ d. turns_sound such n condition body d f g)))
+    (sound_end such stopped_run (end.Next, b) refl))
 
-values_sound : (n : ℕ) (is_reverse : Bool) (low high : ℤ) (slot : ℕ) (body : Activation → Run) (a : Activation) → ((b : Activation) → Sound stopped_run (body b)) → Sound stopped_run (values_over n is_reverse low high slot body a)
+values_sound : (such : Callee → Bool) (n : ℕ) (is_reverse : Bool) (low high : ℤ) (slot : ℕ) (body : Activation → Run) (a : Activation) → ((b : Activation) → Sound such stopped_run (body b)) → Sound such stopped_run (values_over n is_reverse low high slot body a)
 unfolding values_over
-values_sound zero is_reverse low high slot body a g = sound_end stopped_run (end.Next, a) refl
-values_sound (suc n) is_reverse low high slot body a g =
-    step_sound a (λ b. and_then (body (put_slot slot (value_before is_reverse low high n) b)) (again (values_over n is_reverse low high slot body)))
-    (λ b. sound_turn (body (put_slot slot (value_before is_reverse low high n) b)) (values_over n is_reverse low high slot body) (g (put_slot slot (value_before is_reverse low high n) b))
-    (λ c. values_sound n is_reverse low high slot body c g))
+values_sound such zero is_reverse low high slot body a g = sound_end such stopped_run (end.Next, a) refl
+values_sound such (suc n) is_reverse low high slot body a g =
+    step_sound such a (λ b. and_then (body (put_slot slot (value_before is_reverse low high n) b)) (again (values_over n is_reverse low high slot body)))
+    (λ b. sound_turn such (body (put_slot slot (value_before is_reverse low high n) b)) (values_over n is_reverse low high slot body) (g (put_slot slot (value_before is_reverse low high n) b))
+    (λ c. values_sound such n is_reverse low high slot body c g))
 
-each_sound : (is_reverse : Bool) (range : Range) (slot : ℕ) (body : Activation → Run) (low high : ℤ) (a : Activation) → ((b : Activation) → Sound stopped_run (body b)) → Sound stopped_run (for_each is_reverse range slot body low high a)
-each_sound is_reverse range slot body low high a g =
-    sound_if (int_lt high low) stopped_run (ended (end.Next, a)) (cond (fits range low high) (values_over (span low high) is_reverse low high slot body a) (ended (end.Abandoned (cause.Raised ConstraintError), a)))
-    (sound_end stopped_run (end.Next, a) refl)
-    (sound_if (fits range low high) stopped_run (values_over (span low high) is_reverse low high slot body a) (ended (end.Abandoned (cause.Raised ConstraintError), a))
-    (values_sound (span low high) is_reverse low high slot body a g)
-    (sound_end stopped_run (end.Abandoned (cause.Raised ConstraintError), a) refl))
+each_sound : (such : Callee → Bool) (is_reverse : Bool) (range : Range) (slot : ℕ) (body : Activation → Run) (low high : ℤ) (a : Activation) → ((b : Activation) → Sound such stopped_run (body b)) → Sound such stopped_run (for_each is_reverse range slot body low high a)
+each_sound such is_reverse range slot body low high a g =
+    sound_if such (int_lt high low) stopped_run (ended (end.Next, a)) (cond (fits range low high) (values_over (span low high) is_reverse low high slot body a) (ended (end.Abandoned (cause.Raised ConstraintError), a)))
+    (sound_end such stopped_run (end.Next, a) refl)
+    (sound_if such (fits range low high) stopped_run (values_over (span low high) is_reverse low high slot body a) (ended (end.Abandoned (cause.Raised ConstraintError), a))
+    (values_sound such (span low high) is_reverse low high slot body a g)
+    (sound_end such stopped_run (end.Abandoned (cause.Raised ConstraintError), a) refl))
 
-module _ (w : World) (k : SoundWorld w) where
+module _ (such : Callee → Bool) (w : World) (k : SoundWorld such w) where
   mutual
     unfolding meaning
 
-    statement_sound : (s : Statement) (a : Activation) → Sound stopped_run (meaning w s a)
-    statement_sound null_statement a = sound_end stopped_run (end.Next, a) refl
-    statement_sound (assign target e) a = sound_in_run (value w e a) (λ v b. ended (assigned target v b)) (value_sound w k e a) (λ v b. sound_end stopped_run (assigned target v b) (assigned_goes target v b))
-    statement_sound (choice branches otherwise) a = branches_sound branches (meanings w otherwise) a (λ b. statements_sound otherwise b)
-    statement_sound (selection e alternatives) a = sound_in_run (value w e a) (selected w alternatives) (value_sound w k e a) (λ v b. alternatives_sound alternatives v b)
-    statement_sound (while_loop e ss) a = turns_sound (suc (steps_left a)) (value w e) (meanings w ss) a (λ b. value_sound w k e b) (λ b. statements_sound ss b)
-    statement_sound (for_loop slot is_reverse range low high ss) a =
-        sound_in_run (value w low a) (λ v b. and_then (value w high b) (on_value abandons (for_each is_reverse range slot (meanings w ss) v))) (value_sound w k low a)
-        (λ v b. sound_in_run (value w high b) (for_each is_reverse range slot (meanings w ss) v) (value_sound w k high b)
-        (λ u c. each_sound is_reverse range slot (meanings w ss) v u c (λ d. statements_sound ss d)))
-    statement_sound (exit_when e) a = sound_in_run (value w e a) (λ v b. ended (exit_where v, b)) (value_sound w k e a) (λ v b. sound_end stopped_run (exit_where v, b) (exit_goes (is_true v)))
-    statement_sound returns a = sound_end stopped_run (end.Return None, a) refl
-    statement_sound (returns_value e) a = sound_in_run (value w e a) (λ v b. ended (end.Return (Some v), b)) (value_sound w k e a) (λ v b. sound_end stopped_run (end.Return (Some v), b) refl)
-    statement_sound (raises exception) a = sound_end stopped_run (end.Abandoned (cause.Raised exception), a) refl
-    statement_sound reraises a = sound_end stopped_run (end.Abandoned (raised_again w.handling), a) (again_goes w.handling)
-    statement_sound (calls c es targets) a =
-        sound_in_run (passing w c (arguments w es [] a)) (λ given b. ended (copied_back targets 0 given b)) (passing_sound w k c (arguments w es [] a) (arguments_sound w k es [] a))
-        (λ given b. sound_end stopped_run (copied_back targets 0 given b) (copied_goes targets 0 given b))
+    statement_sound : (s : Statement) (a : Activation) → statement_calls such s ≡ true → Sound such stopped_run (meaning w s a)
+    statement_sound null_statement a m = sound_end such stopped_run (end.Next, a) refl
+    statement_sound (assign target e) a m = sound_in_run such (value w e a) (λ v b. ended (assigned target v b)) (value_sound such w k e a m) (λ v b. sound_end such stopped_run (assigned target v b) (assigned_goes target v b))
+    statement_sound (choice branches otherwise) a m =
+        branches_sound branches (meanings w otherwise) a (first_of_both (branches_call such branches) (statements_call such otherwise) m)
+        (λ b. statements_sound otherwise b (second_of_both (branches_call such branches) (statements_call such otherwise) m))
+    statement_sound (selection e alternatives) a m =
+        sound_in_run such (value w e a) (selected w alternatives) (value_sound such w k e a (first_of_both (expression_calls such e) (alternatives_call such alternatives) m))
+        (λ v b. alternatives_sound alternatives v b (second_of_both (expression_calls such e) (alternatives_call such alternatives) m))
+    statement_sound (while_loop e ss) a m =
+        turns_sound such (suc (steps_left a)) (value w e) (meanings w ss) a (λ b. value_sound such w k e b (first_of_both (expression_calls such e) (statements_call such ss) m))
+        (λ b. statements_sound ss b (second_of_both (expression_calls such e) (statements_call such ss) m))
+    statement_sound (for_loop slot is_reverse range low high ss) a m =
+        let bounds = first_of_both (expression_calls such low && expression_calls such high) (statements_call such ss) m in
+        sound_in_run such (value w low a) (λ v b. and_then (value w high b) (on_value abandons (for_each is_reverse range slot (meanings w ss) v)))
+        (value_sound such w k low a (first_of_both (expression_calls such low) (expression_calls such high) bounds))
+        (λ v b. sound_in_run such (value w high b) (for_each is_reverse range slot (meanings w ss) v) (value_sound such w k high b (second_of_both (expression_calls such low) (expression_calls such high) bounds))
+        (λ u c. each_sound such is_reverse range slot (meanings w ss) v u c (λ d. statements_sound ss d (second_of_both (expression_calls such low && expression_calls such high) (statements_call such ss) m))))
+    statement_sound (exit_when e) a m = sound_in_run such (value w e a) (λ v b. ended (exit_where v, b)) (value_sound such w k e a m) (λ v b. sound_end such stopped_run (exit_where v, b) (exit_goes (is_true v)))
+    statement_sound returns a m = sound_end such stopped_run (end.Return None, a) refl
+    statement_sound (returns_value e) a m = sound_in_run such (value w e a) (λ v b. ended (end.Return (Some v), b)) (value_sound such w k e a m) (λ v b. sound_end such stopped_run (end.Return (Some v), b) refl)
+    statement_sound (raises exception) a m = sound_end such stopped_run (end.Abandoned (cause.Raised exception), a) refl
+    statement_sound reraises a m = sound_end such stopped_run (end.Abandoned (raised_again w.handling), a) (again_goes w.handling)
+    statement_sound (calls c es targets) a m =
+        sound_in_run such (passing w c (arguments w es [] a)) (λ given b. ended (copied_back targets 0 given b))
+        (passing_sound such w k c (arguments w es [] a) (first_of_both (such c) (expressions_call such es) m) (arguments_sound such w k es [] a (second_of_both (such c) (expressions_call such es) m)))
+        (λ given b. sound_end such stopped_run (copied_back targets 0 given b) (copied_goes targets 0 given b))
 
-    pub statements_sound : (ss : Statements) (a : Activation) → Sound stopped_run (meanings w ss a)
-    statements_sound no_statements a = sound_end stopped_run (end.Next, a) refl
-    statements_sound (and_statement s more) a =
-        step_sound a (λ b. and_then (meaning w s b) (go_on (meanings w more))) (λ b. sound_run (meaning w s b) (meanings w more) (statement_sound s b) (λ c. statements_sound more c))
+    pub statements_sound : (ss : Statements) (a : Activation) → statements_call such ss ≡ true → Sound such stopped_run (meanings w ss a)
+    statements_sound no_statements a m = sound_end such stopped_run (end.Next, a) refl
+    statements_sound (and_statement s more) a m =
+        step_sound such a (λ b. and_then (meaning w s b) (go_on (meanings w more)))
+        (λ b. sound_run such (meaning w s b) (meanings w more) (statement_sound s b (first_of_both (statement_calls such s) (statements_call such more) m))
+        (λ c. statements_sound more c (second_of_both (statement_calls such s) (statements_call such more) m)))
 
-    branches_sound : (branches : Branches) (otherwise : Activation → Run) (a : Activation) → ((b : Activation) → Sound stopped_run (otherwise b)) → Sound stopped_run (first_true w branches otherwise a)
-    branches_sound no_branches otherwise a f = f a
-    branches_sound (and_branch e ss more) otherwise a f =
-        sound_in_run (value w e a) (λ v b. cond (is_true v) (meanings w ss b) (first_true w more otherwise b)) (value_sound w k e a)
-        (λ v b. sound_if (is_true v) stopped_run (meanings w ss b) (first_true w more otherwise b) (statements_sound ss b) (branches_sound more otherwise b f))
+    branches_sound : (branches : Branches) (otherwise : Activation → Run) (a : Activation) → branches_call such branches ≡ true → ((b : Activation) → Sound such stopped_run (otherwise b)) → Sound such stopped_run (first_true w branches otherwise a)
+    branches_sound no_branches otherwise a m f = f a
+    branches_sound (and_branch e ss more) otherwise a m f =
+        let here = first_of_both (expression_calls such e && statements_call such ss) (branches_call such more) m in
+        sound_in_run such (value w e a) (λ v b. cond (is_true v) (meanings w ss b) (first_true w more otherwise b))
+        (value_sound such w k e a (first_of_both (expression_calls such e) (statements_call such ss) here))
+        (λ v b. sound_if such (is_true v) stopped_run (meanings w ss b) (first_true w more otherwise b) (statements_sound ss b (second_of_both (expression_calls such e) (statements_call such ss) here))
+        (branches_sound more otherwise b (second_of_both (expression_calls such e && statements_call such ss) (branches_call such more) m) f))
 
-    alternatives_sound : (alternatives : Alternatives) (v : ℤ) (a : Activation) → Sound stopped_run (selected w alternatives v a)
-    alternatives_sound no_alternatives v a = sound_end stopped_run (end.Abandoned (cause.Raised ConstraintError), a) refl
-    alternatives_sound (and_alternative choices ss more) v a =
-        sound_if (covered choices v) stopped_run (meanings w ss a) (selected w more v a) (statements_sound ss a) (alternatives_sound more v a)
+    alternatives_sound : (alternatives : Alternatives) (v : ℤ) (a : Activation) → alternatives_call such alternatives ≡ true → Sound such stopped_run (selected w alternatives v a)
+    alternatives_sound no_alternatives v a m = sound_end such stopped_run (end.Abandoned (cause.Raised ConstraintError), a) refl
+    alternatives_sound (and_alternative choices ss more) v a m =
+        sound_if such (covered choices v) stopped_run (meanings w ss a) (selected w more v a) (statements_sound ss a (first_of_both (statements_call such ss) (alternatives_call such more) m))
+        (alternatives_sound more v a (second_of_both (statements_call such ss) (alternatives_call such more) m))

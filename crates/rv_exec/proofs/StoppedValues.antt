@@ -10,6 +10,8 @@ use Rattle.rv_code.specs.declared.expression.Prefix.{Prefix}
 use Rattle.rv_code.specs.declared.expression.Prefix.TheVariants as prefix
 use Rattle.rv_code.specs.Expressions.{Expression, literal, variable, component, prefixed, chain, call, Expressions, no_expressions, and_expression, Links, no_links, and_link}
 use Rattle.rv_code.specs.Expressions as code
+use Rattle.rv_fits.proofs.Both.{first_of_both, second_of_both}
+use Rattle.rv_fits.specs.Calls.{expression_calls, expressions_call, links_call}
 use Rattle.rv_value.specs.Arithmetic.{whole, divided, modulus}
 use Rattle.std.specs.Prelude.{pos, negsuc, neg_ℤ, unsigned_abs, ◌+ℤ◌, ◌-ℤ◌, ◌*ℤ◌}
 use Rattle.std.specs.Int.RustNames.{int_div, int_rem}
@@ -65,59 +67,65 @@ result_goes operator.Greater v u = refl
 result_goes operator.GreaterEqual v u = refl
 
 -- a world whose calls stop only by an answer
-pub record SoundWorld (w : World) : Type 0 where
-  pub inner : (operation : ℕ) (values components : List ℤ) (steps : ℕ) → Sound stopped_got (w.inner operation values components steps)
-  pub outer : (c : Callee) (values : List ℤ) → internal c ≡ None → Sound stopped_result (w.outer c values)
+pub record SoundWorld (such : Callee → Bool) (w : World) : Type 0 where
+  pub inner : (operation : ℕ) (values components : List ℤ) (steps : ℕ) → Sound such stopped_got (w.inner operation values components steps)
+  pub outer : (c : Callee) (values : List ℤ) → internal c ≡ None → such c ≡ true → Sound such stopped_result (w.outer c values)
 
-follows_returned : (a : Activation) (got : Outcome × (List ℤ × ℕ)) → Follows (stopped_got got) stopped_got (returned a got)
-follows_returned a (outcome, (components, steps)) = follows_end (stopped_result outcome) stopped_got (outcome, record a { components = components; steps = steps }) refl
+follows_returned : (such : Callee → Bool) (a : Activation) (got : Outcome × (List ℤ × ℕ)) → Follows such (stopped_got got) stopped_got (returned a got)
+follows_returned such a (outcome, (components, steps)) = follows_end such (stopped_result outcome) stopped_got (outcome, record a { components = components; steps = steps }) refl
 
-follows_given : (got : GotAll) → Follows (stopped_got got) stopped_got (given got)
-follows_given (Ok values, a) = sound_end stopped_got _ refl
-follows_given (Err why, a) = follows_end (by_stop why) stopped_got (Err why, a) refl
+follows_given : (such : Callee → Bool) (got : GotAll) → Follows such (stopped_got got) stopped_got (given got)
+follows_given such (Ok values, a) = sound_end such stopped_got _ refl
+follows_given such (Err why, a) = follows_end such (by_stop why) stopped_got (Err why, a) refl
 
-module _ (w : World) (k : SoundWorld w) where
-  follows_answered : (a : Activation) (outcome : Outcome) → Follows (stopped_result outcome) stopped_got (answered w a outcome)
-  follows_answered a outcome = follows_end (stopped_result outcome) stopped_got _ refl
+module _ (such : Callee → Bool) (w : World) (k : SoundWorld such w) where
+  follows_answered : (a : Activation) (outcome : Outcome) → Follows such (stopped_result outcome) stopped_got (answered w a outcome)
+  follows_answered a outcome = follows_end such (stopped_result outcome) stopped_got _ refl
 
-  asked_sound : (c : Callee) (values : List ℤ) (a : Activation) (o : Option Activation) → internal c ≡ None → Sound stopped_got (asked_by w c values a o)
-  asked_sound c values a None e = sound_end stopped_got _ refl
-  asked_sound c values a (Some b) e = sound_then stopped_result stopped_got (w.outer c values) (answered w b) (k.outer c values e) (follows_answered b)
+  asked_sound : (c : Callee) (values : List ℤ) (a : Activation) (o : Option Activation) → internal c ≡ None → such c ≡ true → Sound such stopped_got (asked_by w c values a o)
+  asked_sound c values a None e m = sound_end such stopped_got _ refl
+  asked_sound c values a (Some b) e m = sound_then such stopped_result stopped_got (w.outer c values) (answered w b) (k.outer c values e m) (follows_answered b)
 
-  called_so : (o : Option ℕ) (c : Callee) (values : List ℤ) (a : Activation) → internal c ≡ o → Sound stopped_got (called_by w o c values a)
-  called_so (Some operation) c values a e = sound_then stopped_got stopped_got (w.inner operation values a.components a.steps) (returned a) (k.inner operation values a.components a.steps) (follows_returned a)
-  called_so None c values a e = asked_sound c values a (spent w.is_task a) e
+  called_so : (o : Option ℕ) (c : Callee) (values : List ℤ) (a : Activation) → internal c ≡ o → such c ≡ true → Sound such stopped_got (called_by w o c values a)
+  called_so (Some operation) c values a e m = sound_then such stopped_got stopped_got (w.inner operation values a.components a.steps) (returned a) (k.inner operation values a.components a.steps) (follows_returned such a)
+  called_so None c values a e m = asked_sound c values a (spent w.is_task a) e m
 
-  called_sound : (c : Callee) (values : List ℤ) (a : Activation) → Sound stopped_got (called w c values a)
+  called_sound : (c : Callee) (values : List ℤ) (a : Activation) → such c ≡ true → Sound such stopped_got (called w c values a)
   unfolding called
-  called_sound c values a = called_so (internal c) c values a refl
+  called_sound c values a m = called_so (internal c) c values a refl m
 
-  pub passing_sound : (c : Callee) (what : Asking GotAll) → Sound stopped_got what → Sound stopped_got (passing w c what)
-  passing_sound c what f = sound_value what (called w c) f (λ values a. called_sound c values a)
+  pub passing_sound : (c : Callee) (what : Asking GotAll) → such c ≡ true → Sound such stopped_got what → Sound such stopped_got (passing w c what)
+  passing_sound c what m f = sound_value such what (called w c) f (λ values a. called_sound c values a m)
 
   mutual
     unfolding value
 
-    pub value_sound : (e : Expression) (a : Activation) → Sound stopped_got (value w e a)
-    value_sound (literal n) a = sound_end stopped_got _ refl
-    value_sound (variable slot) a = sound_end stopped_got _ refl
-    value_sound (component index) a = sound_end stopped_got _ refl
-    value_sound (prefixed op e) a = sound_value (value w e a) _ (value_sound e a) (λ v b. sound_end stopped_got (prefix_of op v, b) (prefix_goes op v))
-    value_sound (chain e links) a = sound_value (value w e a) (linked w links) (value_sound e a) (λ v b. linked_sound links v b)
-    value_sound (code.within range e) a = sound_value (value w e a) _ (value_sound e a) (λ v b. sound_end stopped_got (within range v, b) (within_goes range v))
-    value_sound (call c es) a =
-        sound_then stopped_got stopped_got (passing w c (arguments w es [] a)) given (passing_sound c (arguments w es [] a) (arguments_sound es [] a)) follows_given
+    pub value_sound : (e : Expression) (a : Activation) → expression_calls such e ≡ true → Sound such stopped_got (value w e a)
+    value_sound (literal n) a m = sound_end such stopped_got _ refl
+    value_sound (variable slot) a m = sound_end such stopped_got _ refl
+    value_sound (component index) a m = sound_end such stopped_got _ refl
+    value_sound (prefixed op e) a m = sound_value such (value w e a) _ (value_sound e a m) (λ v b. sound_end such stopped_got (prefix_of op v, b) (prefix_goes op v))
+    value_sound (chain e links) a m =
+        sound_value such (value w e a) (linked w links) (value_sound e a (first_of_both (expression_calls such e) (links_call such links) m))
+        (λ v b. linked_sound links v b (second_of_both (expression_calls such e) (links_call such links) m))
+    value_sound (code.within range e) a m = sound_value such (value w e a) _ (value_sound e a m) (λ v b. sound_end such stopped_got (within range v, b) (within_goes range v))
+    value_sound (call c es) a m =
+        sound_then such stopped_got stopped_got (passing w c (arguments w es [] a)) given
+        (passing_sound c (arguments w es [] a) (first_of_both (such c) (expressions_call such es) m) (arguments_sound es [] a (second_of_both (such c) (expressions_call such es) m))) (follows_given such)
 
-    linked_sound : (links : Links) (v : ℤ) (a : Activation) → Sound stopped_got (linked w links v a)
-    linked_sound no_links v a = sound_end stopped_got _ refl
-    linked_sound (and_link op e more) v a =
-        sound_if (decides op v) stopped_got (linked w more v a) (and_then (value w e a) (on_value fails (λ u b. on_value fails (linked w more) (result_of op v u, b))))
-        (linked_sound more v a)
-        (sound_value (value w e a) (λ u b. on_value fails (linked w more) (result_of op v u, b)) (value_sound e a)
-        (λ u b. sound_where (stopped_result (result_of op v u)) stopped_got (on_value fails (linked w more) (result_of op v u, b)) (result_goes op v u)
-        (follows_value (linked w more) (λ x c. linked_sound more x c) (result_of op v u, b))))
+    linked_sound : (links : Links) (v : ℤ) (a : Activation) → links_call such links ≡ true → Sound such stopped_got (linked w links v a)
+    linked_sound no_links v a m = sound_end such stopped_got _ refl
+    linked_sound (and_link op e more) v a m =
+        let here = first_of_both (expression_calls such e) (links_call such more) m in
+        let there = second_of_both (expression_calls such e) (links_call such more) m in
+        sound_if such (decides op v) stopped_got (linked w more v a) (and_then (value w e a) (on_value fails (λ u b. on_value fails (linked w more) (result_of op v u, b))))
+        (linked_sound more v a there)
+        (sound_value such (value w e a) (λ u b. on_value fails (linked w more) (result_of op v u, b)) (value_sound e a here)
+        (λ u b. sound_where such (stopped_result (result_of op v u)) stopped_got (on_value fails (linked w more) (result_of op v u, b)) (result_goes op v u)
+        (follows_value such (linked w more) (λ x c. linked_sound more x c there) (result_of op v u, b))))
 
-    pub arguments_sound : (es : Expressions) (values : List ℤ) (a : Activation) → Sound stopped_got (arguments w es values a)
-    arguments_sound no_expressions values a = sound_end stopped_got _ refl
-    arguments_sound (and_expression e more) values a =
-        sound_value (value w e a) (λ v b. arguments w more (joined values v) b) (value_sound e a) (λ v b. arguments_sound more (joined values v) b)
+    pub arguments_sound : (es : Expressions) (values : List ℤ) (a : Activation) → expressions_call such es ≡ true → Sound such stopped_got (arguments w es values a)
+    arguments_sound no_expressions values a m = sound_end such stopped_got _ refl
+    arguments_sound (and_expression e more) values a m =
+        sound_value such (value w e a) (λ v b. arguments w more (joined values v) b) (value_sound e a (first_of_both (expression_calls such e) (expressions_call such more) m))
+        (λ v b. arguments_sound more (joined values v) b (second_of_both (expression_calls such e) (expressions_call such more) m))

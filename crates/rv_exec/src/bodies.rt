@@ -28,6 +28,13 @@ impl SharedUnit {
         }
     }
 
+    /// The bodies.
+    pub fn bodies(&self) -> &UnitBodies
+        ensures { result.now ≡ held self.now }
+    {
+        &self.unit
+    }
+
     /// One more holder of the bodies. Err where there are too many.
     pub fn share(&self) -> Result<SharedUnit, AllocError>
         ensures { IfOk result (λ u. held u ≡ held self.now) }

@@ -142,6 +142,9 @@ in_vain_more v u w q r p x e = in_vain_both v u w q p (one) where
   }
 
 -- what was seen then begins with what was seen before
+pub asked_grown : (v w : Passing) (q : Request) (r : Answer) (x : Asked v q r w) → StartsWith w.seen x.at
+asked_grown v w q r x = subst (λ (l : List Event). StartsWith l x.at) (sym x.seen_is) (starts_entered (recorded r) v.actor q x.at)
+
 pub asked_later : (v w : Passing) (q : Request) (r : Answer) → Asked v q r w → StartsWith w.seen v.seen
 asked_later v w q r x = starts_both v.seen x.at w.seen x.from (subst (λ (l : List Event). StartsWith l x.at) (sym x.seen_is) (starts_entered (recorded r) v.actor q x.at))
 

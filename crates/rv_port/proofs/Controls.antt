@@ -17,9 +17,10 @@ use Rattle.rv_exec.specs.Bodies.{held}
 use Rattle.rv_exec.specs.declared.bodies.SharedUnit.{SharedUnit}
 use Rattle.rv_exec.specs.declared.bodies.Bodies.{Bodies}
 use Rattle.rv_port.specs.Events.{by, log_of, log_in, rest_of, catalogue_of}
-use Rattle.rv_port.specs.Acting.{Does, Due, Loaded, IfOperator}
+use Rattle.rv_port.specs.Acting.{Does, Due, LoadedIf, fits_behind, IfOperator}
 use Rattle.rv_port.specs.Traces.{Passing}
-use Rattle.rv_port.specs.Controls.{IsControl, Told, LoadTold, BeginsWith, numbered_as, BringsIf, Brings, no_bodies_of, answer_in}
+use Rattle.rv_fits.specs.Fits.{are_of}
+use Rattle.rv_port.specs.Controls.{IsControl, Told, LoadTold, BeginsWith, BringsIf, Brings, no_bodies_of, answer_in}
 use Rattle.rv_port.specs.declared.event.Ask.{Ask}
 use Rattle.rv_port.specs.declared.event.Ask.TheVariants as Wants
 use Rattle.rv_port.specs.declared.event.Reply.{Reply}
@@ -69,10 +70,18 @@ loaded_catalogue false log after shape unit e = ap catalogue_of e
 abbrev pub with_loaded : Bool → List Shape → Shape → List Shape
 with_loaded b catalogue shape = if b then catalogue ++ shape ∷ [] else catalogue
 
+unkept : (b : Bool) (catalogue : List Shape) (shape : Shape) → b ≡ false → catalogue ≡ with_loaded b catalogue shape
+unkept true catalogue shape e = absurd (cc e)
+unkept false catalogue shape e = refl
+
+if_catalogue : (fits : Bool) (c : Limits) (log after : List Event) (shape : Shape) (unit : UnitBodies) (r : Answer) → LoadedIf fits c log shape unit r after → catalogue_of after ≡ with_loaded (is_some (recorded r)) (catalogue_of log) shape
+if_catalogue true c log after shape unit r d = loaded_catalogue (is_some (recorded r)) log after shape unit d.1
+if_catalogue false c log after shape unit r d = ap catalogue_of d.1 ∙ unkept (is_some (recorded r)) (catalogue_of log) shape (ap is_some d.0)
+
 load_due : (c : Limits) (log : List Event) (a : ℕ) (shape : Shape) (unit : SharedUnit) (reply : Reply) (after : List Event) → a ≡ 0 → Due c log a (Wants.Load shape unit) reply after
     → catalogue_of after ≡ with_loaded (is_some (recorded (answer_in reply))) (catalogue_of log) shape
 load_due c log a shape unit (Gives.Answered r b lent) after none d =
-    loaded_catalogue (is_some (recorded r)) log after shape (held unit) (subst (λ (n : ℕ). IfOperator (eqb n 0) (Loaded c log shape (held unit) r after) r log after) none d).1
+    if_catalogue (fits_behind log shape (held unit)) c log after shape (held unit) r (subst (λ (n : ℕ). IfOperator (eqb n 0) (LoadedIf (fits_behind log shape (held unit)) c log shape (held unit) r after) r log after) none d)
 load_due c log a shape unit (Gives.Read p) after none d = absurd d
 load_due c log a shape unit Gives.Unread after none d = absurd d
 load_due c log a shape unit (Gives.Bodies lent) after none d = absurd d
@@ -94,11 +103,11 @@ such_or_worn v w shape P Q (Ok r) such t = load_such v w shape P Q r such t
 such_or_worn v w shape P Q (Err e) such t = t
 
 -- the bodies that a load brings
-pub brings_given : (shape : Shape) (given unit : UnitBodies) → numbered_as shape (unit_view given) ≡ true → unit ≡ given → Brings shape given unit
-brings_given shape given unit e is = subst (λ (b : Bool). BringsIf b shape given unit) (sym e) is
+pub brings_given : (shapes : List Shape) (shape : Shape) (given unit : UnitBodies) → are_of shapes shape (unit_view given) ≡ true → unit ≡ given → Brings shapes shape given unit
+brings_given shapes shape given unit e is = subst (λ (b : Bool). BringsIf b shape given unit) (sym e) is
 
-pub brings_none : (shape : Shape) (given unit : UnitBodies) → numbered_as shape (unit_view given) ≡ false → unit_view unit ≡ no_bodies_of shape → Brings shape given unit
-brings_none shape given unit e is = subst (λ (b : Bool). BringsIf b shape given unit) (sym e) is
+pub brings_none : (shapes : List Shape) (shape : Shape) (given unit : UnitBodies) → are_of shapes shape (unit_view given) ≡ false → unit_view unit ≡ no_bodies_of shape → Brings shapes shape given unit
+brings_none shapes shape given unit e is = subst (λ (b : Bool). BringsIf b shape given unit) (sym e) is
 
 -- a load that there is no memory for
 pub none_or_worn : (v w : Passing) (shape : Shape) (P : UnitBodies → Type 0) (answer : Result Answer Worn)

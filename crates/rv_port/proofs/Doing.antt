@@ -24,7 +24,13 @@ use Rattle.rv_history.specs.Lists.{changed}
 use Rattle.rv_history.specs.Steps.{MayLackMemory, due_change, after_change}
 use Rattle.std.specs.Arc.{arc_value}
 use Rattle.std.specs.Prelude.{IfSome}
+use Rattle.std.specs.List.{list_all}
 use Rattle.rv_code.specs.Bodies as Code
+use Rattle.rv_code.specs.declared.expression.Callee.{Callee}
+use Rattle.rv_fits.proofs.Both.{first_of_both, second_of_both, both_hold}
+use Rattle.rv_fits.proofs.Keeps.{calls_keep, alone_fits}
+use Rattle.rv_fits.specs.Calls.{object_calls, task_calls, every_call}
+use Rattle.rv_fits.specs.Fits.{callee_fits, calls_fit}
 use Rattle.rv_code.specs.BodyView.{unit_view}
 use Rattle.rv_code.specs.declared.body.UnitBodies.{UnitBodies}
 use Rattle.rv_exec.specs.Bodies.{all_of, bodies_view, held, shared_view, units_of}
@@ -32,7 +38,7 @@ use Rattle.rv_exec.specs.declared.bodies.Bodies.{Bodies}
 use Rattle.rv_exec.specs.declared.bodies.SharedUnit.{SharedUnit}
 use Rattle.rv_port.specs.declared.event.Lent.{Lent}
 use Rattle.rv_port.specs.Events.{events, back_of, log_of, log_in, history_at, catalogue_of}
-use Rattle.rv_port.specs.Acting.{entered, changes, listed, changed_to, Loaded, Unloaded, Changed, IfOperator, IsLent, lent_view, Due, Does, begun_by}
+use Rattle.rv_port.specs.Acting.{AreBrought, entered, changes, listed, changed_to, Loaded, LoadedIf, fits_behind, Unloaded, Changed, IfOperator, IsLent, lent_view, Due, Does, begun_by}
 use Rattle.rv_port.specs.declared.event.Begun.{Begun}
 use Rattle.rv_port.specs.declared.event.Ask.{Ask}
 use Rattle.rv_port.specs.declared.event.Ask.TheVariants as Wants
@@ -56,22 +62,25 @@ entered_log : (word : Option Recorded) (h : History) (us : List UnitBodies) (a :
 entered_log None h us a q = refl
 entered_log (Some word) h us a q = one_more (back_of h us) (Asks a q word)
 
+views_of : (us : List SharedUnit) → map shared_view us ≡ map unit_view (map held us)
+views_of [] = refl
+views_of (u ∷ us) = ap (λ (z : List Code.UnitBodies). shared_view u ∷ z) (views_of us)
+
 -- what was lent are the bodies of the events
-lent_log : (h : History) (bodies : Bodies) (lent : Option Lent) → Legal h → length (units_of bodies) ≡ length h.shapes
+lent_log : (h : History) (bodies : Bodies) (lent : Option Lent) → Legal h → AreBrought h bodies
     → IfSome lent (λ l. bodies_view (arc_value l.bodies) ≡ bodies_view bodies) → IsLent (log_in h bodies) (lent_view lent)
-lent_log h bodies None l e same = tt
-lent_log h bodies (Some lent) l e same =
-    same ∙ (ap all_of (views_of bodies.units.items) ∙ ap (λ (z : List UnitBodies). all_of (map unit_view z)) (sym (rebuilt_units h (units_of bodies) l e))) where
-      views_of : (us : List SharedUnit) → map shared_view us ≡ map unit_view (map held us)
-      views_of [] = refl
-      views_of (u ∷ us) = ap (λ (z : List Code.UnitBodies). shared_view u ∷ z) (views_of us)
+lent_log h bodies None l b same = tt
+lent_log h bodies (Some lent) l b same = (
+  same ∙ (ap all_of (views_of bodies.units.items) ∙ ap (λ (z : List UnitBodies). all_of (map unit_view z)) (sym (rebuilt_units h (units_of bodies) l b.count))),
+  (λ i. calls_fit (catalogue_log h (units_of bodies) l i) (same i)) ∙ b.fit,
+)
 
 -- the bodies are given
-pub given : (h : History) (bodies : Bodies) (a : ℕ) (lent : Option Lent) → Legal h → length (units_of bodies) ≡ length h.shapes → IfSome lent (λ l. bodies_view (arc_value l.bodies) ≡ bodies_view bodies)
+pub given : (h : History) (bodies : Bodies) (a : ℕ) (lent : Option Lent) → Legal h → AreBrought h bodies → IfSome lent (λ l. bodies_view (arc_value l.bodies) ≡ bodies_view bodies)
     → Does h.limits (log_in h bodies) a Wants.Bodies (Gives.Bodies lent) (log_in h bodies)
 given h bodies a lent l some kept = (legal_log h (units_of bodies) l, (lent_log h bodies lent l some kept, refl))
 
-pub stepped : (h k : History) (bodies : Bodies) (a : ℕ) (q : Request) (r : Answer) (b : Begun) (lent : Option Lent) → Legal h → length (units_of bodies) ≡ length h.shapes → r ≡ out h a q → k ≡ legal.after h a q r
+pub stepped : (h k : History) (bodies : Bodies) (a : ℕ) (q : Request) (r : Answer) (b : Begun) (lent : Option Lent) → Legal h → AreBrought h bodies → r ≡ out h a q → k ≡ legal.after h a q r
     → b ≡ begun_by k.shapes a q r → k.shapes ≡ h.shapes → IfSome lent (λ l. bodies_view (arc_value l.bodies) ≡ bodies_view bodies)
     → Does h.limits (log_in h bodies) a (Wants.Step q) (Gives.Answered r b lent) (log_in k bodies)
 stepped h k bodies a q r b lent l some is e begun same kept = let us = units_of bodies in (
@@ -129,25 +138,119 @@ loaded_same h k us shape unit r l m e b = loaded_is h k us us shape unit r l m e
 pub unloaded_loaded : (c : Limits) (log after : List Event) (shape : Shape) (unit : UnitBodies) (r : Answer) → Unloaded c log shape r after → Loaded c log shape unit r after
 unloaded_loaded c log after shape unit r d = (d.0, d.2 ∙ ap (λ (z : Option Recorded). if is_some z then log ++ Loads shape (Some unit) ∷ [] else log) (sym d.1))
 
+-- the same of one whose calls fit, and of one that wasn't accepted, whether they do or not
+pub loaded_if : (fits : Bool) (c : Limits) (log after : List Event) (shape : Shape) (unit : UnitBodies) (r : Answer) → fits ≡ true → Loaded c log shape unit r after → LoadedIf fits c log shape unit r after
+loaded_if true c log after shape unit r e d = d
+loaded_if false c log after shape unit r e d = absurd (cc e)
+
+pub unloaded_if : (fits : Bool) (c : Limits) (log after : List Event) (shape : Shape) (unit : UnitBodies) (r : Answer) → Unloaded c log shape r after → LoadedIf fits c log shape unit r after
+unloaded_if true c log after shape unit r d = unloaded_loaded c log after shape unit r d
+unloaded_if false c log after shape unit r d = (d.1, d.2)
+
+-- The calls of all bodies fit the units that are loaded
+
+all_first : {A : Type 0} (p : A → Bool) (xs ys : List A) → list_all p (xs ++ ys) ≡ true → list_all p xs ≡ true
+all_first p [] ys e = refl
+all_first p (x ∷ xs) ys e = both_hold (p x) (list_all p xs) (first_of_both (p x) (list_all p (xs ++ ys)) e) (all_first p xs ys (second_of_both (p x) (list_all p (xs ++ ys)) e))
+
+all_second : {A : Type 0} (p : A → Bool) (xs ys : List A) → list_all p (xs ++ ys) ≡ true → list_all p ys ≡ true
+all_second p [] ys e = e
+all_second p (x ∷ xs) ys e = all_second p xs ys (second_of_both (p x) (list_all p (xs ++ ys)) e)
+
+all_both : {A : Type 0} (p : A → Bool) (xs ys : List A) → list_all p xs ≡ true → list_all p ys ≡ true → list_all p (xs ++ ys) ≡ true
+all_both p [] ys e f = f
+all_both p (x ∷ xs) ys e f = both_hold (p x) (list_all p (xs ++ ys)) (first_of_both (p x) (list_all p xs) e) (all_both p xs ys (second_of_both (p x) (list_all p xs) e) f)
+
+objects_call : (such : Callee → Bool) (u : Code.UnitBodies) → every_call such u ≡ true → list_all (object_calls such) u.objects ≡ true
+objects_call such u e = first_of_both (list_all (object_calls such) u.objects) (list_all (task_calls such) u.tasks) e
+
+tasks_call : (such : Callee → Bool) (u : Code.UnitBodies) → every_call such u ≡ true → list_all (task_calls such) u.tasks ≡ true
+tasks_call such u e = second_of_both (list_all (object_calls such) u.objects) (list_all (task_calls such) u.tasks) e
+
+joined_call : (such : Callee → Bool) (u v : Code.UnitBodies) → every_call such u ≡ true → every_call such v ≡ true → every_call such (record { objects = u.objects ++ v.objects; tasks = u.tasks ++ v.tasks }) ≡ true
+joined_call such u v e f =
+    both_hold (list_all (object_calls such) (u.objects ++ v.objects)) (list_all (task_calls such) (u.tasks ++ v.tasks))
+    (all_both (object_calls such) u.objects v.objects (objects_call such u e) (objects_call such v f)) (all_both (task_calls such) u.tasks v.tasks (tasks_call such u e) (tasks_call such v f))
+
+parts_call : (such : Callee → Bool) (u v : Code.UnitBodies) → every_call such (record { objects = u.objects ++ v.objects; tasks = u.tasks ++ v.tasks }) ≡ true → (every_call such u ≡ true) × (every_call such v ≡ true)
+parts_call such u v e =
+    let objects = first_of_both (list_all (object_calls such) (u.objects ++ v.objects)) (list_all (task_calls such) (u.tasks ++ v.tasks)) e in
+    let tasks = second_of_both (list_all (object_calls such) (u.objects ++ v.objects)) (list_all (task_calls such) (u.tasks ++ v.tasks)) e in (
+      both_hold (list_all (object_calls such) u.objects) (list_all (task_calls such) u.tasks) (all_first (object_calls such) u.objects v.objects objects) (all_first (task_calls such) u.tasks v.tasks tasks),
+      both_hold (list_all (object_calls such) v.objects) (list_all (task_calls such) v.tasks) (all_second (object_calls such) u.objects v.objects objects) (all_second (task_calls such) u.tasks v.tasks tasks),
+    )
+
+units_call : (such : Callee → Bool) (us vs : List Code.UnitBodies) → every_call such (all_of us) ≡ true → every_call such (all_of vs) ≡ true → every_call such (all_of (us ++ vs)) ≡ true
+units_call such [] vs e f = f
+units_call such (u ∷ us) vs e f =
+    let parts = parts_call such u (all_of us) e in joined_call such u (all_of (us ++ vs)) parts.0 (units_call such us vs parts.1 f)
+
+one_calls : (such : Callee → Bool) (u : Code.UnitBodies) → every_call such u ≡ true → every_call such (all_of (u ∷ [])) ≡ true
+one_calls such u e = joined_call such u (all_of []) e refl
+
+view_is : (bodies : Bodies) → bodies_view bodies ≡ all_of (map unit_view (units_of bodies))
+view_is bodies = ap all_of (views_of bodies.units.items)
+
+views_more : (us : List UnitBodies) (unit : UnitBodies) → map unit_view (us ++ unit ∷ []) ≡ map unit_view us ++ unit_view unit ∷ []
+views_more [] unit = refl
+views_more (u ∷ us) unit = ap (λ (z : List Code.UnitBodies). unit_view u ∷ z) (views_more us unit)
+
+shapes_same : (b : Bool) (h : History) (shape : Shape) → b ≡ false → (if b then record h { past = Load ∷ h.past; shapes = h.shapes ++ shape ∷ [] } else h).shapes ≡ h.shapes
+shapes_same true h shape e = absurd (cc e)
+shapes_same false h shape e = refl
+
+shapes_more : (b : Bool) (h : History) (shape : Shape) → b ≡ true → (if b then record h { past = Load ∷ h.past; shapes = h.shapes ++ shape ∷ [] } else h).shapes ≡ h.shapes ++ shape ∷ []
+shapes_more true h shape e = refl
+shapes_more false h shape e = absurd (cc e)
+
+-- no bodies call anything
+pub none_fit : (all shapes : List Shape) (bodies : Bodies) → map unit_view (units_of bodies) ≡ map Code.without_bodies shapes → calls_fit all (bodies_view bodies) ≡ true
+none_fit all shapes bodies none = ap (λ (z : Code.UnitBodies). calls_fit all z) (view_is bodies ∙ ap all_of none) ∙ each shapes where
+  each : (ss : List Shape) → calls_fit all (all_of (map Code.without_bodies ss)) ≡ true
+  each [] = refl
+  each (s ∷ ss) = joined_call (callee_fits all) (Code.without_bodies s) (all_of (map Code.without_bodies ss)) (alone_fits all s) (each ss)
+
+-- they were found to fit
+pub fits_found : (h : History) (bodies : Bodies) (units : List Shape) (shape : Shape) (unit : UnitBodies) (r : Bool) → Legal h → units ≡ h.shapes ++ shape ∷ [] → r ≡ calls_fit units (unit_view unit) → r ≡ true
+    → fits_behind (log_in h bodies) shape unit ≡ true
+fits_found h bodies units shape unit r l more is e =
+    ap (λ (z : List Shape). calls_fit (z ++ shape ∷ []) (unit_view unit)) (catalogue_log h (units_of bodies) l)
+    ∙ (ap (λ (z : List Shape). calls_fit z (unit_view unit)) (sym more) ∙ (sym is ∙ e))
+
+fits_more : (h k : History) (bodies more : Bodies) (shape : Shape) (unit : UnitBodies) (r : Answer) → Legal h → calls_fit h.shapes (bodies_view bodies) ≡ true → fits_behind (log_in h bodies) shape unit ≡ true → k ≡ after_load h shape r
+    → is_some (recorded r) ≡ true → units_of more ≡ units_of bodies ++ unit ∷ [] → calls_fit k.shapes (bodies_view more) ≡ true
+fits_more h k bodies more shape unit r l old new e b is =
+    let shapes : List Shape = h.shapes ++ shape ∷ [] in
+    let these : calls_fit shapes (all_of (map unit_view (units_of bodies))) ≡ true = ap (λ (z : Code.UnitBodies). calls_fit shapes z) (sym (view_is bodies)) ∙ calls_keep h.shapes (shape ∷ []) (bodies_view bodies) old in
+    let this : calls_fit shapes (unit_view unit) ≡ true = ap (λ (z : List Shape). calls_fit (z ++ shape ∷ []) (unit_view unit)) (sym (catalogue_log h (units_of bodies) l)) ∙ new in
+    (λ i. calls_fit ((ap (λ (z : History). z.shapes) e ∙ shapes_more (is_some (recorded r)) h shape b) i) ((view_is more ∙ (ap (λ (z : List UnitBodies). all_of (map unit_view z)) is ∙ ap all_of (views_more (units_of bodies) unit))) i))
+    ∙ units_call (callee_fits shapes) (map unit_view (units_of bodies)) (unit_view unit ∷ []) these (one_calls (callee_fits shapes) (unit_view unit) this)
+
+fits_same : (h k : History) (bodies : Bodies) (shape : Shape) (r : Answer) → calls_fit h.shapes (bodies_view bodies) ≡ true → k ≡ after_load h shape r → is_some (recorded r) ≡ false → calls_fit k.shapes (bodies_view bodies) ≡ true
+fits_same h k bodies shape r fit e b = ap (λ (z : List Shape). calls_fit z (bodies_view bodies)) (ap (λ (z : History). z.shapes) e ∙ shapes_same (is_some (recorded r)) h shape b) ∙ fit
+
+fits_step : (h k : History) (bodies : Bodies) (a : ℕ) (q : Request) (r : Answer) → calls_fit h.shapes (bodies_view bodies) ≡ true → k ≡ legal.after h a q r → calls_fit k.shapes (bodies_view bodies) ≡ true
+fits_step h k bodies a q r fit e = ap (λ (z : List Shape). calls_fit z (bodies_view bodies)) (step_shapes h k a q r e) ∙ fit
+
 -- as many shapes as bodies of units, before and after
 shapes_if : (b : Bool) (h : History) (us : List UnitBodies) (shape : Shape) (unit : UnitBodies) → length us ≡ length h.shapes
     → length (units_if b us unit) ≡ length (if b then record h { past = Load ∷ h.past; shapes = h.shapes ++ shape ∷ [] } else h).shapes
 shapes_if true h us shape unit e = omega (arith, e, length-append us (unit ∷ []), length-append h.shapes (shape ∷ []))
 shapes_if false h us shape unit e = e
 
-pub brought_more : (h k : History) (us vs : List UnitBodies) (shape : Shape) (unit : UnitBodies) (r : Answer) → length us ≡ length h.shapes → k ≡ after_load h shape r
+brought_more : (h k : History) (us vs : List UnitBodies) (shape : Shape) (unit : UnitBodies) (r : Answer) → length us ≡ length h.shapes → k ≡ after_load h shape r
     → is_some (recorded r) ≡ true → vs ≡ us ++ unit ∷ [] → length vs ≡ length k.shapes
 brought_more h k us vs shape unit r some e b is =
     ap length (more_units (is_some (recorded r)) us vs unit b is) ∙ (shapes_if (is_some (recorded r)) h us shape unit some ∙ sym (ap (λ (z : History). length z.shapes) e))
 
-pub brought_same : (h k : History) (us : List UnitBodies) (shape : Shape) (r : Answer) → length us ≡ length h.shapes → k ≡ after_load h shape r
+brought_same : (h k : History) (us : List UnitBodies) (shape : Shape) (r : Answer) → length us ≡ length h.shapes → k ≡ after_load h shape r
     → is_some (recorded r) ≡ false → length us ≡ length k.shapes
 brought_same h k us shape r some e b = some ∙ sym (ap (λ (z : History). length z.shapes) e ∙ unchanged (is_some (recorded r)) b) where
   unchanged : (b : Bool) → b ≡ false → length (if b then record h { past = Load ∷ h.past; shapes = h.shapes ++ shape ∷ [] } else h).shapes ≡ length h.shapes
   unchanged true e = absurd (cc e)
   unchanged false e = refl
 
-pub brought_step : (h k : History) (us : List UnitBodies) (a : ℕ) (q : Request) (r : Answer) → length us ≡ length h.shapes → k ≡ legal.after h a q r → length us ≡ length k.shapes
+brought_step : (h k : History) (us : List UnitBodies) (a : ℕ) (q : Request) (r : Answer) → length us ≡ length h.shapes → k ≡ legal.after h a q r → length us ≡ length k.shapes
 brought_step h k us a q r some e = some ∙ sym (ap length (step_shapes h k a q r e))
 
 listed_shapes : (b : Bool) (list : Option (List Words)) (h : History) → (if b then legal.listed h list else h).shapes ≡ h.shapes
@@ -164,8 +267,27 @@ listed_limits false list h = refl
 pub changed_limits : (h k : History) (change : Change) (r : Answer) → k ≡ after_change h change r → k.limits ≡ h.limits
 changed_limits h k change r e = ap (λ (z : History). z.limits) e ∙ listed_limits (is_some (recorded r)) (changed (force h) change) h
 
-pub brought_change : (h k : History) (us : List UnitBodies) (change : Change) (r : Answer) → length us ≡ length h.shapes → k ≡ after_change h change r → length us ≡ length k.shapes
+brought_change : (h k : History) (us : List UnitBodies) (change : Change) (r : Answer) → length us ≡ length h.shapes → k ≡ after_change h change r → length us ≡ length k.shapes
 brought_change h k us change r some e = some ∙ sym (ap length (ap (λ (z : History). z.shapes) e ∙ listed_shapes (is_some (recorded r)) (changed (force h) change) h))
+
+fits_change : (h k : History) (bodies : Bodies) (change : Change) (r : Answer) → calls_fit h.shapes (bodies_view bodies) ≡ true → k ≡ after_change h change r → calls_fit k.shapes (bodies_view bodies) ≡ true
+fits_change h k bodies change r fit e =
+    ap (λ (z : List Shape). calls_fit z (bodies_view bodies)) (ap (λ (z : History). z.shapes) e ∙ listed_shapes (is_some (recorded r)) (changed (force h) change) h) ∙ fit
+
+-- both, after what the host does
+pub brings_more : (h k : History) (bodies more : Bodies) (shape : Shape) (unit : UnitBodies) (r : Answer) → Legal h → AreBrought h bodies → fits_behind (log_in h bodies) shape unit ≡ true → k ≡ after_load h shape r
+    → is_some (recorded r) ≡ true → units_of more ≡ units_of bodies ++ unit ∷ [] → AreBrought k more
+brings_more h k bodies more shape unit r l b new e kept is =
+    record { count = brought_more h k (units_of bodies) (units_of more) shape unit r b.count e kept is; fit = fits_more h k bodies more shape unit r l b.fit new e kept is }
+
+pub brings_same : (h k : History) (bodies : Bodies) (shape : Shape) (r : Answer) → AreBrought h bodies → k ≡ after_load h shape r → is_some (recorded r) ≡ false → AreBrought k bodies
+brings_same h k bodies shape r b e kept = record { count = brought_same h k (units_of bodies) shape r b.count e kept; fit = fits_same h k bodies shape r b.fit e kept }
+
+pub brings_step : (h k : History) (bodies : Bodies) (a : ℕ) (q : Request) (r : Answer) → AreBrought h bodies → k ≡ legal.after h a q r → AreBrought k bodies
+brings_step h k bodies a q r b e = record { count = brought_step h k (units_of bodies) a q r b.count e; fit = fits_step h k bodies a q r b.fit e }
+
+pub brings_change : (h k : History) (bodies : Bodies) (change : Change) (r : Answer) → AreBrought h bodies → k ≡ after_change h change r → AreBrought k bodies
+brings_change h k bodies change r b e = record { count = brought_change h k (units_of bodies) change r b.count e; fit = fits_change h k bodies change r b.fit e }
 
 -- a load that is due to be recorded is due to be accepted
 gate_kept : (b c d : Bool) → is_some (recorded (gate b c (within d nothing_more))) ≡ true → gate b c (within d nothing_more) ≡ nothing_more

@@ -16,14 +16,16 @@ use Rattle.rv_port.specs.declared.event.Event.{Event}
 use Rattle.rv_port.specs.declared.event.Event.TheVariants.{Asks}
 use Rattle.rv_port.specs.declared.reached.Reached.{Reached}
 use Rattle.rv_port.specs.declared.reached.Reached.TheVariants as Reaches
-use Rattle.rv_port.specs.Events.{history_at}
+use Rattle.rv_fits.specs.Fits.{callee_fits}
+use Rattle.rv_port.specs.Acting.{IsLent}
+use Rattle.rv_port.specs.Events.{catalogue_of, history_at}
 use Rattle.rv_port.specs.Traces.{Passing, limits_in, Trace, noted, WoreOut, Went, Asked}
 use Rattle.rv_port.specs.Reaching.{reached_by, end_of}
-use Rattle.rv_port.specs.Calls.{RanOn, InBody, EndedBy, stops_at, StoppedAsking, StoppedInside, Tied}
+use Rattle.rv_port.specs.Calls.{RanOn, InBody, EndedBy, stops_at, StoppedAsking, StoppedAt, StoppedInside, Tied}
 use Rattle.rv_port.proofs.Asking.{asked_later}
 use Rattle.rv_port.proofs.Gets.{of_end, end_gets}
 use Rattle.rv_port.proofs.Performing.{stays_both, went_stays}
-use Rattle.rv_port.proofs.Stopped.{StopAt, stop_at, runs_stop}
+use Rattle.rv_port.proofs.Stopped.{stop_at, runs_stop}
 use Rattle.rv_turn.specs.Histories.{StartsWith}
 use Rattle.rv_turn.specs.Prefixes.{starts_both}
 use Rattle.rv_port.proofs.Opening.{new_later, Opened}
@@ -49,7 +51,7 @@ pub record NoEnd (u w : Passing) : Type 0 where
 abbrev RanTo : Passing → Reached → Passing → Type 0
 RanTo u (Reaches.Returned values) w = LastEnd u (Exits.Return values) w
 RanTo u (Reaches.Raised exception) w = (exit : Exit) × (reached_by exit ≡ Reaches.Raised exception) × LastEnd u exit w
-RanTo u Reaches.Stopped w = NoEnd u w ⊎ ((t : LastEnd u Exits.Stopped w) × StopAt u t.asked)
+RanTo u Reaches.Stopped w = NoEnd u w ⊎ ((t : LastEnd u Exits.Stopped w) × StoppedAt u t.asked)
 RanTo u reached w = ⊥
 
 ended_by : (v u w : Passing) (q : Request) (exit : Exit) → Opened v q u → LastEnd u exit w → EndedBy v q exit w
@@ -85,7 +87,7 @@ no_end v u w q o t = record {
   reason = t.reason;
 }
 
-stopped_inside : (v u w : Passing) (q : Request) → Opened v q u → (t : LastEnd u Exits.Stopped w) → StopAt u t.asked → StoppedInside v q w
+stopped_inside : (v u w : Passing) (q : Request) → Opened v q u → (t : LastEnd u Exits.Stopped w) → StoppedAt u t.asked → StoppedInside v q w
 unfolding ended_by
 stopped_inside v u w q o t s = record {
   ended = ended_by v u w q Exits.Stopped o t;
@@ -119,7 +121,7 @@ done_last u w trace k scalars exit next p x = record {
   later = starts_both u.seen k.seen w.seen p.later (asked_later k w _ _ x);
 }
 
-by_exit : (u w : Passing) (exit : Exit) (t : LastEnd u exit w) → (exit ≡ Exits.Stopped → StopAt u t.asked) → RanTo u (reached_by exit) w
+by_exit : (u w : Passing) (exit : Exit) (t : LastEnd u exit w) → (exit ≡ Exits.Stopped → StoppedAt u t.asked) → RanTo u (reached_by exit) w
 by_exit u w (Exits.Return values) t f = t
 by_exit u w (Exits.Raise e) t f = (Exits.Raise e, refl, t)
 by_exit u w Exits.Overrun t f = (Exits.Overrun, refl, t)
@@ -129,29 +131,29 @@ by_exit u w Exits.Stopped t f = inr (t, f refl)
 stopped_end : (u w : Passing) (trace : Trace) (k : Passing) (scalars : List ℤ) (exit : Exit) (d : Answer) → Went u trace k → Asked k (Complete scalars exit) d w → stops_at (Complete scalars exit) d ≡ true → NoEnd u w
 stopped_end u w trace k scalars exit d p x e = record { asked = trace; body = k; went = p; scalars = scalars; exit = exit; reason = inr (d, x, e) }
 
-ran_end : (u w : Passing) (trace : Trace) (k : Passing) (scalars : List ℤ) (exit : Exit) (d : Answer) → Went u trace k → Asked k (Complete scalars exit) d w → of_end d ≡ true → (exit ≡ Exits.Stopped → StopsIn trace) → RanTo u (end_of d exit) w
+ran_end : (log : List Event) (u w : Passing) (trace : Trace) (k : Passing) (scalars : List ℤ) (exit : Exit) (d : Answer) → StartsWith u.seen log → Went u trace k → Asked k (Complete scalars exit) d w → of_end d ≡ true → (exit ≡ Exits.Stopped → StopsIn (callee_fits (catalogue_of log)) trace) → RanTo u (end_of d exit) w
 unfolding done_last
-ran_end u w trace k scalars exit (Answers.Done next) p x e f = by_exit u w exit (done_last u w trace k scalars exit next p x) (λ is. stop_at u trace k (f is) p.steps)
-ran_end u w trace k scalars exit Answers.Misuse p x e f = inl (stopped_end u w trace k scalars exit Answers.Misuse p x refl)
-ran_end u w trace k scalars exit Answers.Full p x e f = inl (stopped_end u w trace k scalars exit Answers.Full p x refl)
-ran_end u w trace k scalars exit (Answers.Refused rule line version) p x e f = absurd (cc e)
-ran_end u w trace k scalars exit (Answers.Accepted value) p x e f = absurd (cc e)
-ran_end u w trace k scalars exit (Answers.Woken s) p x e f = absurd (cc e)
-ran_end u w trace k scalars exit (Answers.Started s) p x e f = absurd (cc e)
-ran_end u w trace k scalars exit Answers.Queued p x e f = absurd (cc e)
-ran_end u w trace k scalars exit Answers.Suspended p x e f = absurd (cc e)
-ran_end u w trace k scalars exit Answers.Delayed p x e f = absurd (cc e)
-ran_end u w trace k scalars exit Answers.Halted p x e f = absurd (cc e)
-ran_end u w trace k scalars exit Answers.Busy p x e f = absurd (cc e)
-ran_end u w trace k scalars exit Answers.Waiting p x e f = absurd (cc e)
-ran_end u w trace k scalars exit Answers.Unattached p x e f = absurd (cc e)
-ran_end u w trace k scalars exit Answers.BadLine p x e f = absurd (cc e)
-ran_end u w trace k scalars exit Answers.OutOfMemory p x e f = absurd (cc e)
+ran_end log u w trace k scalars exit (Answers.Done next) later p x e f = by_exit u w exit (done_last u w trace k scalars exit next p x) (λ is. stop_at log u trace k later (f is) p.steps)
+ran_end log u w trace k scalars exit Answers.Misuse later p x e f = inl (stopped_end u w trace k scalars exit Answers.Misuse p x refl)
+ran_end log u w trace k scalars exit Answers.Full later p x e f = inl (stopped_end u w trace k scalars exit Answers.Full p x refl)
+ran_end log u w trace k scalars exit (Answers.Refused rule line version) later p x e f = absurd (cc e)
+ran_end log u w trace k scalars exit (Answers.Accepted value) later p x e f = absurd (cc e)
+ran_end log u w trace k scalars exit (Answers.Woken s) later p x e f = absurd (cc e)
+ran_end log u w trace k scalars exit (Answers.Started s) later p x e f = absurd (cc e)
+ran_end log u w trace k scalars exit Answers.Queued later p x e f = absurd (cc e)
+ran_end log u w trace k scalars exit Answers.Suspended later p x e f = absurd (cc e)
+ran_end log u w trace k scalars exit Answers.Delayed later p x e f = absurd (cc e)
+ran_end log u w trace k scalars exit Answers.Halted later p x e f = absurd (cc e)
+ran_end log u w trace k scalars exit Answers.Busy later p x e f = absurd (cc e)
+ran_end log u w trace k scalars exit Answers.Waiting later p x e f = absurd (cc e)
+ran_end log u w trace k scalars exit Answers.Unattached later p x e f = absurd (cc e)
+ran_end log u w trace k scalars exit Answers.BadLine later p x e f = absurd (cc e)
+ran_end log u w trace k scalars exit Answers.OutOfMemory later p x e f = absurd (cc e)
 
 ended_so : (v w : Passing) (scalars : List ℤ) (exit : Exit) (d : Answer) → Asked v (Complete scalars exit) d w → of_end d ≡ true
 ended_so v w scalars exit d x = ap of_end x.due_is ∙ end_gets (history_at (limits_in v.about) x.at) v.actor scalars exit
 
-pub ran_to : (u w : Passing) (bodies : Option UnitBodies) (b : Begun) (scalars arguments : List ℤ) (reached : Reached) → RanOn bodies u b scalars arguments reached w → RanTo u reached w
-ran_to u w bodies b scalars arguments reached n =
+pub ran_to : (log : List Event) (u w : Passing) (bodies : Option UnitBodies) (b : Begun) (scalars arguments : List ℤ) (reached : Reached) → IsLent log bodies → StartsWith u.seen log → RanOn bodies u b scalars arguments reached w → RanTo u reached w
+ran_to log u w bodies b scalars arguments reached lent later n =
     ⊎_elim (λ wore. subst (λ (z : Reached). RanTo u z w) (sym wore.1) (inl (record { asked = n.trace; body = n.body; went = n.went; scalars = n.ended.scalars; exit = n.ended.exit; reason = inl wore.0 })))
-    (λ t. subst (λ (z : Reached). RanTo u z w) (sym t.3) (ran_end u w n.trace n.body n.ended.scalars n.ended.exit t.0 n.went t.1 (ended_so n.body w n.ended.scalars n.ended.exit t.0 t.1) (runs_stop bodies b scalars arguments n.trace n.ended n.runs))) n.end_is
+    (λ t. subst (λ (z : Reached). RanTo u z w) (sym t.3) (ran_end log u w n.trace n.body n.ended.scalars n.ended.exit t.0 later n.went t.1 (ended_so n.body w n.ended.scalars n.ended.exit t.0 t.1) (runs_stop log bodies b scalars arguments n.trace n.ended lent n.runs))) n.end_is

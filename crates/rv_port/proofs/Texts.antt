@@ -1,20 +1,23 @@
 -- The bodies that a text runs by, and what it leaves.
-use Rattle.std.proofs.Common.{◌≡◌, ℕ, Bool, ◌-◌, [], ◌∷◌, refl, sym, ap, ◌∙◌, subst, inr, ⊎_elim, arith, append-nil}
+use Rattle.std.proofs.Common.{◌≡◌, ℕ, Bool, ◌-◌, List, [], ◌∷◌, refl, sym, ap, ◌∙◌, subst, inr, ⊎_elim, arith, append-nil}
 use Rattle.std.specs.Prelude.{Option}
 use Rattle.rv_event.specs.declared.entry.Exit.{Exit}
 use Rattle.rv_turn.specs.Passes.{Acted}
+use Rattle.rv_turn.specs.Prefixes.{starts_self}
 use Rattle.rv_port.specs.Events.{by}
-use Rattle.rv_port.specs.Acting.{Does, lent_view}
+use Rattle.rv_port.specs.Acting.{Does, IsLent, lent_view}
 use Rattle.rv_port.specs.Traces.{Passing, Trace, Went}
 use Rattle.rv_port.specs.Calls.{marked, Stays}
 use Rattle.rv_port.specs.Texts.{TextRuns, TextRan}
 use Rattle.rv_port.specs.declared.event.Lent.{Lent}
+use Rattle.rv_port.specs.declared.event.Event.{Event}
 use Rattle.rv_port.specs.declared.event.Ask.{Ask}
 use Rattle.rv_port.specs.declared.event.Ask.TheVariants as Wants
 use Rattle.rv_port.specs.declared.event.Reply.{Reply}
 use Rattle.rv_port.specs.declared.event.Reply.TheVariants as Gives
 use Rattle.rv_port.proofs.Actors.{later_entry}
 use Rattle.rv_port.proofs.Performing.{stays_self, stays_both, went_stays}
+use Rattle.rv_port.proofs.Stopped.{text_stops}
 
 -- one act, whatever it asks
 acted_stays : (v w : Passing) (ask : Ask) (reply : Reply) → Acted by Does v ask reply w → Stays v w
@@ -37,6 +40,9 @@ ran_lent v u w mark same after budget exit lent a is t k = inr record {
   trace = t.0;
   runs = subst (λ (n : ℕ). TextRuns (lent_view lent) n budget t.0 exit) (ap (λ (z : Passing). z.actor) a.same) t.1;
   went = t.2;
+  stops = text_stops u.seen u w (lent_view lent) budget t.0 exit
+      (subst (λ (l : List Event). IsLent l (lent_view lent)) (sym a.answer.1.1) a.answer.1.0) (starts_self u.seen)
+      t.1 t.2;
   marked_is = k ∙ ap (λ (b : Bool). marked b (lent_view lent)) is;
 }
 

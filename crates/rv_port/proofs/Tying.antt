@@ -23,7 +23,9 @@ use Rattle.rv_port.specs.Later.{version_seen}
 use Rattle.rv_port.specs.Traces.{Passing, limits_in, Asked, asks_on}
 use Rattle.rv_port.specs.Reaching.{Performs, arguments_of, reads, values_of, waited_for}
 use Rattle.rv_port.specs.Calls.{Wore, Resumed, Waited, Followed, Performed, IsPause, stops_at, StoppedAsking, Tied}
+use Rattle.rv_turn.specs.Histories.{StartsWith}
 use Rattle.rv_port.proofs.Actors.{handler_later}
+use Rattle.rv_port.proofs.Asking.{asked_grown}
 use Rattle.rv_port.proofs.Gets.{calls, delays, of_first, first_gets, of_resume, resume_gets}
 use Rattle.rv_port.proofs.Later.{version_later, dropped_later, refused_resume}
 use Rattle.rv_port.proofs.Performing.{asked_actor, stays_self, asked_stays}
@@ -80,27 +82,27 @@ pause_at v u k q wait r a pause x = paused_at (limits_in u.about) u.actor u.seen
 no_misuse : {X : Type 0} (u k : Passing) (x : Asked u Resume Answers.Misuse k) → waits (stance u.actor (history_at (limits_in u.about) x.at).past) ≡ true → X
 no_misuse u k x e = absurd (cc (ap is_sound x.due_is ∙ resume_sound (history_at (limits_in u.about) x.at) u.actor x.legal e))
 
-tied_queue : (v u k w : Passing) (m f : Bool) (o p : ℕ) (vs : List ℤ) (r : Answer) (log : List Event) (reached : Reached) → Waits v (Call o p vs) Words.Queued u → Asked u Resume r k → of_resume r ≡ true → asks_on r ≡ false
+tied_queue : (v u k w : Passing) (m f : Bool) (o p : ℕ) (vs : List ℤ) (r : Answer) (log : List Event) (reached : Reached) → StartsWith k.seen log → Waits v (Call o p vs) Words.Queued u → Asked u Resume r k → of_resume r ≡ true → asks_on r ≡ false
     → Resumed r log k m (Call o p vs) reached w f → Tied v (Call o p vs) reached w
-tied_queue v u k w m f o p vs (Answers.Woken (Some s)) log reached a x e n t =
-    tied_body v k w (Call o p vs) reached (opened_by_wait v u k o p vs s a x) (ran_to k w t.0 (waited_for (Call o p vs)) s vs reached t.3)
-tied_queue v u k w m f o p vs (Answers.Woken None) log reached a x e n t = queue_wakes (history_at (limits_in u.about) x.at) u.actor (queue_at v u k o p vs (Answers.Woken None) a x) (sym x.due_is)
-tied_queue v u k w m f o p vs (Answers.Refused rule line version) log reached a x e n t =
+tied_queue v u k w m f o p vs (Answers.Woken (Some s)) log reached l a x e n t =
+    tied_body v k w (Call o p vs) reached (opened_by_wait v u k o p vs s a x) (ran_to log k w t.0 (waited_for (Call o p vs)) s vs reached t.1 l t.3)
+tied_queue v u k w m f o p vs (Answers.Woken None) log reached l a x e n t = queue_wakes (history_at (limits_in u.about) x.at) u.actor (queue_at v u k o p vs (Answers.Woken None) a x) (sym x.due_is)
+tied_queue v u k w m f o p vs (Answers.Refused rule line version) log reached l a x e n t =
     as_told v k w m f (Call o p vs) (Reaches.Refused rule line version) reached (inr (both_own v u k (Call o p vs) Words.Queued (Words.Refused rule line version) a x.own_is), refused_then v u k o p vs rule line version a x) t
-tied_queue v u k w m f o p vs Answers.Misuse log reached a x e n t = no_misuse u k x (queue_waits _ (queue_at v u k o p vs Answers.Misuse a x))
-tied_queue v u k w m f o p vs Answers.Halted log reached a x e n t = as_told v k w m f (Call o p vs) Reaches.Stopped reached (inl (stopped_then v u k (Call o p vs) Words.Queued Answers.Halted a x refl)) t
-tied_queue v u k w m f o p vs Answers.Full log reached a x e n t = as_told v k w m f (Call o p vs) Reaches.Stopped reached (inl (stopped_then v u k (Call o p vs) Words.Queued Answers.Full a x refl)) t
-tied_queue v u k w m f o p vs Answers.Waiting log reached a x e n t = absurd (cc n)
-tied_queue v u k w m f o p vs (Answers.Started s) log reached a x e n t = absurd (cc e)
-tied_queue v u k w m f o p vs (Answers.Done d) log reached a x e n t = absurd (cc e)
-tied_queue v u k w m f o p vs (Answers.Accepted value) log reached a x e n t = absurd (cc e)
-tied_queue v u k w m f o p vs Answers.Queued log reached a x e n t = absurd (cc e)
-tied_queue v u k w m f o p vs Answers.Suspended log reached a x e n t = absurd (cc e)
-tied_queue v u k w m f o p vs Answers.Delayed log reached a x e n t = absurd (cc e)
-tied_queue v u k w m f o p vs Answers.Busy log reached a x e n t = absurd (cc e)
-tied_queue v u k w m f o p vs Answers.Unattached log reached a x e n t = absurd (cc e)
-tied_queue v u k w m f o p vs Answers.BadLine log reached a x e n t = absurd (cc e)
-tied_queue v u k w m f o p vs Answers.OutOfMemory log reached a x e n t = absurd (cc e)
+tied_queue v u k w m f o p vs Answers.Misuse log reached l a x e n t = no_misuse u k x (queue_waits _ (queue_at v u k o p vs Answers.Misuse a x))
+tied_queue v u k w m f o p vs Answers.Halted log reached l a x e n t = as_told v k w m f (Call o p vs) Reaches.Stopped reached (inl (stopped_then v u k (Call o p vs) Words.Queued Answers.Halted a x refl)) t
+tied_queue v u k w m f o p vs Answers.Full log reached l a x e n t = as_told v k w m f (Call o p vs) Reaches.Stopped reached (inl (stopped_then v u k (Call o p vs) Words.Queued Answers.Full a x refl)) t
+tied_queue v u k w m f o p vs Answers.Waiting log reached l a x e n t = absurd (cc n)
+tied_queue v u k w m f o p vs (Answers.Started s) log reached l a x e n t = absurd (cc e)
+tied_queue v u k w m f o p vs (Answers.Done d) log reached l a x e n t = absurd (cc e)
+tied_queue v u k w m f o p vs (Answers.Accepted value) log reached l a x e n t = absurd (cc e)
+tied_queue v u k w m f o p vs Answers.Queued log reached l a x e n t = absurd (cc e)
+tied_queue v u k w m f o p vs Answers.Suspended log reached l a x e n t = absurd (cc e)
+tied_queue v u k w m f o p vs Answers.Delayed log reached l a x e n t = absurd (cc e)
+tied_queue v u k w m f o p vs Answers.Busy log reached l a x e n t = absurd (cc e)
+tied_queue v u k w m f o p vs Answers.Unattached log reached l a x e n t = absurd (cc e)
+tied_queue v u k w m f o p vs Answers.BadLine log reached l a x e n t = absurd (cc e)
+tied_queue v u k w m f o p vs Answers.OutOfMemory log reached l a x e n t = absurd (cc e)
 
 tied_pause : (v u k w : Passing) (m f : Bool) (q : Request) (wait : Recorded) (r : Answer) (log : List Event) (reached : Reached) → Waits v q wait u → IsPause q wait → Asked u Resume r k → of_resume r ≡ true → asks_on r ≡ false
     → Resumed r log k m q reached w f → Tied v q reached w
@@ -134,7 +136,7 @@ resumed_so u k r x = ap of_resume x.due_is ∙ resume_gets (history_at (limits_i
 -- a call that was queued
 after_queue : (v u w : Passing) (m f : Bool) (q : Request) (reached : Reached) → calls q ≡ true → Waits v q Words.Queued u → Waited u m q reached w f → Tied v q reached w
 after_queue v u w m f (Call o p vs) reached c a t = ⊎_elim (λ wore. wore_then v u w (Call o p vs) Words.Queued reached a wore.0)
-    (λ x. tied_queue v u x.1 w m f o p vs x.0 x.2.at reached a x.2 (resumed_so u x.1 x.0 x.2) x.3 x.4) t
+    (λ x. tied_queue v u x.1 w m f o p vs x.0 x.2.at reached (asked_grown u x.1 Resume x.0 x.2) a x.2 (resumed_so u x.1 x.0 x.2) x.3 x.4) t
 after_queue v u w m f (DelayUntil time) reached c a t = absurd (cc c)
 after_queue v u w m f Clock reached c a t = absurd (cc c)
 after_queue v u w m f Fire reached c a t = absurd (cc c)
@@ -171,27 +173,27 @@ delayed Quit e = absurd (cc e)
 delayed (Tick n) e = absurd (cc e)
 delayed Halt e = absurd (cc e)
 
-tied_followed : (v u w : Passing) (m f : Bool) (q : Request) (r : Answer) (log : List Event) (b : Begun) (reached : Reached) → goes_on q ≡ false → of_first q r ≡ true → asks_on r ≡ false → Asked v q r u
+tied_followed : (v u w : Passing) (m f : Bool) (q : Request) (r : Answer) (log : List Event) (b : Begun) (reached : Reached) → StartsWith u.seen log → goes_on q ≡ false → of_first q r ≡ true → asks_on r ≡ false → Asked v q r u
     → Followed r log b u m q reached w f → Tied v q reached w
-tied_followed v u w m f q (Answers.Started s) log b reached g e n x t = tied_body v u w q reached (opened_at_once v u q s x) (ran_to u w t.0 b s (arguments_of q) reached t.3)
-tied_followed v u w m f q Answers.Queued log b reached g e n x t =
+tied_followed v u w m f q (Answers.Started s) log b reached l g e n x t = tied_body v u w q reached (opened_at_once v u q s x) (ran_to log u w t.0 b s (arguments_of q) reached t.1 l t.3)
+tied_followed v u w m f q Answers.Queued log b reached l g e n x t =
     after_queue v u w m f q reached e (record { answer = Answers.Queued; asked = x; on = refl; seen_is = x.seen_is; own_is = x.own_is; actor_is = asked_actor v u q _ x }) t
-tied_followed v u w m f q Answers.Suspended log b reached g e n x t =
+tied_followed v u w m f q Answers.Suspended log b reached l g e n x t =
     after_pause v u w m f q Words.Suspended reached (suspends q e) (record { answer = Answers.Suspended; asked = x; on = refl; seen_is = x.seen_is; own_is = x.own_is; actor_is = asked_actor v u q _ x }) t
-tied_followed v u w m f q Answers.Delayed log b reached g e n x t =
+tied_followed v u w m f q Answers.Delayed log b reached l g e n x t =
     after_pause v u w m f q Words.Delayed reached (delayed q e) (record { answer = Answers.Delayed; asked = x; on = refl; seen_is = x.seen_is; own_is = x.own_is; actor_is = asked_actor v u q _ x }) t
-tied_followed v u w m f q (Answers.Refused rule line version) log b reached g e n x t = as_told v u w m f q (Reaches.Refused rule line version) reached (inl x.own_is, refused_at v u q rule line version g x) t
-tied_followed v u w m f q (Answers.Accepted value) log b reached g e n x t = as_told v u w m f q (Reaches.Returned (values_of (reads q) value)) reached (inr (inl (value, refl, x.own_is))) t
-tied_followed v u w m f q Answers.Misuse log b reached g e n x t = as_told v u w m f q Reaches.Misuse reached x t
-tied_followed v u w m f q Answers.Halted log b reached g e n x t = as_told v u w m f q Reaches.Stopped reached (inl (stopped_first v u q Answers.Halted x refl)) t
-tied_followed v u w m f q Answers.Full log b reached g e n x t = as_told v u w m f q Reaches.Stopped reached (inl (stopped_first v u q Answers.Full x refl)) t
-tied_followed v u w m f q Answers.Busy log b reached g e n x t = absurd (cc n)
-tied_followed v u w m f q (Answers.Woken s) log b reached g e n x t = absurd (cc e)
-tied_followed v u w m f q (Answers.Done d) log b reached g e n x t = absurd (cc e)
-tied_followed v u w m f q Answers.Waiting log b reached g e n x t = absurd (cc e)
-tied_followed v u w m f q Answers.Unattached log b reached g e n x t = absurd (cc e)
-tied_followed v u w m f q Answers.BadLine log b reached g e n x t = absurd (cc e)
-tied_followed v u w m f q Answers.OutOfMemory log b reached g e n x t = absurd (cc e)
+tied_followed v u w m f q (Answers.Refused rule line version) log b reached l g e n x t = as_told v u w m f q (Reaches.Refused rule line version) reached (inl x.own_is, refused_at v u q rule line version g x) t
+tied_followed v u w m f q (Answers.Accepted value) log b reached l g e n x t = as_told v u w m f q (Reaches.Returned (values_of (reads q) value)) reached (inr (inl (value, refl, x.own_is))) t
+tied_followed v u w m f q Answers.Misuse log b reached l g e n x t = as_told v u w m f q Reaches.Misuse reached x t
+tied_followed v u w m f q Answers.Halted log b reached l g e n x t = as_told v u w m f q Reaches.Stopped reached (inl (stopped_first v u q Answers.Halted x refl)) t
+tied_followed v u w m f q Answers.Full log b reached l g e n x t = as_told v u w m f q Reaches.Stopped reached (inl (stopped_first v u q Answers.Full x refl)) t
+tied_followed v u w m f q Answers.Busy log b reached l g e n x t = absurd (cc n)
+tied_followed v u w m f q (Answers.Woken s) log b reached l g e n x t = absurd (cc e)
+tied_followed v u w m f q (Answers.Done d) log b reached l g e n x t = absurd (cc e)
+tied_followed v u w m f q Answers.Waiting log b reached l g e n x t = absurd (cc e)
+tied_followed v u w m f q Answers.Unattached log b reached l g e n x t = absurd (cc e)
+tied_followed v u w m f q Answers.BadLine log b reached l g e n x t = absurd (cc e)
+tied_followed v u w m f q Answers.OutOfMemory log b reached l g e n x t = absurd (cc e)
 
 stops_on_halt : (q : Request) → Performs q → goes_on q ≡ false
 stops_on_halt (Call o p vs) t = refl
@@ -207,5 +209,5 @@ stops_on_halt Halt t = absurd t
 -- one performance, by a line that has its handler or by a task
 pub tied : (v w : Passing) (m f : Bool) (q : Request) (reached : Reached) → HasHandler (catalogue_of v.seen) v.actor → Performs q → Performed v m q reached w f → Tied v q reached w
 tied v w m f q reached has p t = ⊎_elim (λ wore. tied_wore v w q reached wore.0)
-    (λ x. tied_followed v x.1 w m f q x.0 x.2.at (called (catalogue_of x.2.at) v.actor q) reached (stops_on_halt q p)
+    (λ x. tied_followed v x.1 w m f q x.0 x.2.at (called (catalogue_of x.2.at) v.actor q) reached (asked_grown v x.1 q x.0 x.2) (stops_on_halt q p)
     (ap (of_first q) x.2.due_is ∙ first_gets (history_at (limits_in v.about) x.2.at) v.actor q (handler_later v.seen x.2.at v.actor x.2.from has) p) x.3 x.2 x.4) t

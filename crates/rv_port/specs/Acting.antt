@@ -1,5 +1,5 @@
 -- What an act of the host behind the turn may do. (own)
-use Rattle.std.specs.Prelude.{◌≡◌, ℕ, Bool, true, false, ◌==◌, if◌then◌else◌, List, [], ◌∷◌, ◌++◌, Option, Some, None, is_some}
+use Rattle.std.specs.Prelude.{◌≡◌, ℕ, Bool, true, false, ◌==◌, if◌then◌else◌, List, [], ◌∷◌, ◌++◌, Option, Some, None, is_some, length}
 use Rattle.std.proofs.Common.{inl, inr, refl, sym, eqb}
 use Rattle.std.proofs.lemmas.Bool.{eqb-true}
 use Rattle.rv_access.specs.Words.{Words}
@@ -11,7 +11,7 @@ use Rattle.rv_event.specs.declared.entry.Answer.{Answer}
 use Rattle.rv_event.specs.declared.entry.Answer.TheVariants as Answers
 use Rattle.rv_event.specs.declared.entry.Recorded.{Recorded}
 use Rattle.rv_history.specs.declared.limits.Limits.{Limits}
-use Rattle.rv_history.specs.History.{force}
+use Rattle.rv_history.specs.History.{History, force}
 use Rattle.rv_history.specs.Due.{out}
 use Rattle.rv_history.specs.Legal.{Legal, out_load}
 use Rattle.rv_history.specs.Lists.{changed}
@@ -20,8 +20,11 @@ use Rattle.rv_host.specs.Pages.{page}
 use Rattle.rv_turn.specs.Histories.{Adds}
 use Rattle.std.specs.Arc.{arc_value}
 use Rattle.rv_code.specs.Bodies as Code
+use Rattle.rv_code.specs.BodyView.{unit_view}
 use Rattle.rv_code.specs.declared.body.UnitBodies.{UnitBodies}
-use Rattle.rv_exec.specs.Bodies.{bodies_view, held}
+use Rattle.rv_fits.specs.Fits.{calls_fit}
+use Rattle.rv_exec.specs.Bodies.{bodies_view, held, units_of}
+use Rattle.rv_exec.specs.declared.bodies.Bodies.{Bodies}
 use Rattle.rv_port.specs.Events.{by, history_at, catalogue_of, bodies_at, called, no_operation}
 use Rattle.rv_port.specs.declared.event.Lent.{Lent}
 use Rattle.rv_port.specs.declared.event.Begun.{Begun}
@@ -69,6 +72,20 @@ abbrev pub Unloaded : Limits → List Event → Shape → Answer → List Event 
 Unloaded c log shape r after =
     MayLackMemory (out_load (history_at c log) shape) r × (recorded r ≡ None) × (after ≡ log)
 
+-- the same of a unit whose calls fit, or not: such a one is never accepted (own)
+abbrev pub LoadedIf : Bool → Limits → List Event → Shape → UnitBodies → Answer → List Event → Type 0
+LoadedIf true c log shape unit r after = Loaded c log shape unit r after
+LoadedIf false c log shape unit r after = (recorded r ≡ None) × (after ≡ log)
+
+-- the calls of a unit's bodies fit the units of this history, with its own (own)
+abbrev pub fits_behind : List Event → Shape → UnitBodies → Bool
+fits_behind log shape unit = calls_fit (catalogue_of log ++ shape ∷ []) (unit_view unit)
+
+-- Each unit of the host has bodies, and the calls of all bodies fit the units. (own)
+pub record AreBrought (h : History) (bodies : Bodies) : Type 0 where
+  pub count : length (units_of bodies) ≡ length h.shapes
+  pub fit : calls_fit h.shapes (bodies_view bodies) ≡ true
+
 -- the answer to a list change (own)
 abbrev pub Changed : Limits → List Event → Change → Answer → List Event → Type 0
 Changed c log change r after =
@@ -87,10 +104,11 @@ abbrev pub IfOperator : Bool → Type 0 → Answer → List Event → List Event
 IfOperator true does r log after = does
 IfOperator false does r log after = (r ≡ Answers.Misuse) × (after ≡ log)
 
--- The bodies that a port is lent are those of all units loaded then; none where there were too many holders of them. (own)
+-- The bodies that a port is lent are those of all units loaded then, whose calls fit these units; none where there were too
+-- many holders of them. (own)
 abbrev pub IsLent : List Event → Option Code.UnitBodies → Type 0
 IsLent log None = Unit {0}
-IsLent log (Some bodies) = bodies ≡ bodies_at log
+IsLent log (Some bodies) = (bodies ≡ bodies_at log) × (calls_fit (catalogue_of log) bodies ≡ true)
 
 -- the bodies that an answer brings, if it does (own)
 abbrev pub lent_view : Option Lent → Option Code.UnitBodies
@@ -102,7 +120,7 @@ abbrev pub Due : Limits → List Event → ℕ → Ask → Reply → List Event 
 Due c log a (Wants.Step q) (Gives.Answered r b lent) after =
     Stepped c log a q r after × (b ≡ begun_by (catalogue_of log) a q r) × IsLent log (lent_view lent)
 Due c log a (Wants.Load shape unit) (Gives.Answered r b lent) after =
-    IfOperator (a == 0) (Loaded c log shape (held unit) r after) r log after
+    IfOperator (a == 0) (LoadedIf (fits_behind log shape (held unit)) c log shape (held unit) r after) r log after
 Due c log a (Wants.LoadWithoutMemory shape) (Gives.Answered r b lent) after =
     IfOperator (a == 0) (Unloaded c log shape r after) r log after
 Due c log a (Wants.Change change) (Gives.Answered r b lent) after =
@@ -136,10 +154,11 @@ changed_adds : (b : Bool) (list : Option (List Words)) (log : List Event) (a : �
 changed_adds true list log a after is e = listed_adds list log a after is e
 changed_adds false list log a after is e = inl e
 
-load_adds : (b : Bool) (c : Limits) (log : List Event) (a : ℕ) (shape : Shape) (unit : UnitBodies) (r : Answer) (after : List Event) → (b ≡ true → 0 ≡ a)
-    → IfOperator b (Loaded c log shape unit r after) r log after → Adds by log a after
-load_adds true c log a shape unit r after is d = loaded_adds (is_some (recorded r)) log a shape unit after (is refl) d.1
-load_adds false c log a shape unit r after is d = inl d.1
+load_adds : (b fits : Bool) (c : Limits) (log : List Event) (a : ℕ) (shape : Shape) (unit : UnitBodies) (r : Answer) (after : List Event) → (b ≡ true → 0 ≡ a)
+    → IfOperator b (LoadedIf fits c log shape unit r after) r log after → Adds by log a after
+load_adds true true c log a shape unit r after is d = loaded_adds (is_some (recorded r)) log a shape unit after (is refl) d.1
+load_adds true false c log a shape unit r after is d = inl d.1
+load_adds false fits c log a shape unit r after is d = inl d.1
 
 unload_adds : (b : Bool) (c : Limits) (log : List Event) (a : ℕ) (shape : Shape) (r : Answer) (after : List Event)
     → IfOperator b (Unloaded c log shape r after) r log after → Adds by log a after
@@ -156,7 +175,7 @@ is_zero a e = sym (eqb-true a 0 e)
 
 due_adds : (c : Limits) (log : List Event) (a : ℕ) (ask : Ask) (reply : Reply) (after : List Event) → Due c log a ask reply after → Adds by log a after
 due_adds c log a (Wants.Step q) (Gives.Answered r b lent) after d = entered_adds (recorded r) log a q after d.0.1
-due_adds c log a (Wants.Load shape unit) (Gives.Answered r b lent) after d = load_adds (eqb a 0) c log a shape (held unit) r after (is_zero a) d
+due_adds c log a (Wants.Load shape unit) (Gives.Answered r b lent) after d = load_adds (eqb a 0) (fits_behind log shape (held unit)) c log a shape (held unit) r after (is_zero a) d
 due_adds c log a (Wants.LoadWithoutMemory shape) (Gives.Answered r b lent) after d = unload_adds (eqb a 0) c log a shape r after d
 due_adds c log a (Wants.Change change) (Gives.Answered r b lent) after d = change_adds (eqb a 0) c log a change r after (is_zero a) d
 due_adds c log a (Wants.Read from) (Gives.Read p) after d = inl d.1

@@ -1,7 +1,7 @@
 -- What a call on a port did. (own)
 use Rattle.std.specs.Prelude.{◌≡◌, ◌⊎◌, ℕ, ℤ, ◌≤◌, nat_lt, Bool, true, false, List, [], ◌∷◌, ◌++◌, Option, Some, None}
 use Rattle.rv_code.specs.Bodies.{UnitBodies}
-use Rattle.rv_exec.specs.Stops.{IsUnfit, Unwinds}
+use Rattle.rv_exec.specs.Stops.{Unwinds}
 use Rattle.rv_event.specs.declared.entry.Request.{Request}
 use Rattle.rv_event.specs.declared.entry.Request.TheVariants.{Call, Complete, Resume, DelayUntil, Quit}
 use Rattle.rv_event.specs.declared.entry.Exit.{Exit}
@@ -198,12 +198,23 @@ stops_within Answers.Full = true
 stops_within Answers.Misuse = true
 stops_within answer = false
 
--- Why a request within a body stopped it, which was told this: no act was left, or its answer stops bodies, or is of a form
--- that isn't given to what was called. (own)
+-- why a request within a body stopped it, which was told this: no act was left, or its answer stops bodies (own)
 abbrev pub StopsBody : Passing → Request → Answer → Passing → Type 0
 StopsBody v q r w =
-    (WoreOut v q w × (r ≡ Answers.Full))
-    ⊎ ((d : Answer) × Asked v q d w × (r ≡ told d) × ((stops_within d ≡ true) ⊎ IsUnfit q d))
+    (WoreOut v q w × (r ≡ Answers.Full)) ⊎ ((d : Answer) × Asked v q d w × (r ≡ told d) × (stops_within d ≡ true))
+
+-- By this request a run was stopped that asked all this: what it asked before, the request, and behind it ends by stopped alone. (own)
+pub record StoppedAt (u : Passing) (asked : Trace) : Type 0 where
+  pub before : Trace
+  pub asker : Passing
+  pub went : Went u before asker
+  pub request : Request
+  pub answer : Answer
+  pub after : Passing
+  pub reason : StopsBody asker request answer after
+  pub behind : Trace
+  pub unwinds : Unwinds behind
+  pub asked_is : asked ≡ before ++ (request, answer) ∷ behind
 
 -- The call's body exited by stopped: so it, or a body inside it, was told behind what it had asked, and behind that come ends
 -- by stopped alone. (own)

@@ -1,5 +1,5 @@
 -- What the control of a host behind a turn gives out. (own)
-use Rattle.std.specs.Prelude.{◌≡◌, ◌⊎◌, ℕ, length, map, is_some, ◌<◌, ◌≤◌, Bool, true, false, ◌==◌, ◌&&◌, ◌||◌, List, [], ◌∷◌, ◌++◌}
+use Rattle.std.specs.Prelude.{◌≡◌, ◌⊎◌, ℕ, map, is_some, ◌<◌, ◌≤◌, Bool, true, false, ◌==◌, ◌||◌, List, [], ◌∷◌, ◌++◌}
 use Rattle.atomic_table.specs.Seated.{TableId}
 use Rattle.rv_shape.specs.Shape.{Shape}
 use Rattle.rv_event.specs.declared.entry.Entry.{Entry}
@@ -11,6 +11,7 @@ use Rattle.rv_turn.specs.Passes.{Acted, Parted, IsWorn}
 use Rattle.rv_code.specs.Bodies as Code
 use Rattle.rv_code.specs.BodyView.{unit_view}
 use Rattle.rv_code.specs.declared.body.UnitBodies.{UnitBodies}
+use Rattle.rv_fits.specs.Fits.{are_of}
 use Rattle.rv_exec.specs.Bodies.{held}
 use Rattle.rv_exec.specs.declared.bodies.SharedUnit.{SharedUnit}
 use Rattle.rv_history.specs.History.{History}
@@ -78,18 +79,13 @@ LoadTold v shape Such r w =
 abbrev pub no_bodies_of : Shape → Code.UnitBodies
 no_bodies_of = Code.without_bodies
 
--- A unit's bodies have as many objects and tasks as its shape, so that by the catalogue's numbers no unit's body is another's.
--- (own)
-abbrev pub numbered_as : Shape → Code.UnitBodies → Bool
-numbered_as shape unit = (length unit.objects == length shape.objects) && (length unit.tasks == length shape.tasks)
-
--- the bodies that a load brings: those given with the shape, where they are numbered as it is, else none (own)
+-- the bodies that a load brings: those given with the shape, where they may be, else none (own)
 abbrev pub BringsIf : Bool → Shape → UnitBodies → UnitBodies → Type 0
 BringsIf true shape given unit = unit ≡ given
 BringsIf false shape given unit = unit_view unit ≡ no_bodies_of shape
 
-abbrev pub Brings : Shape → UnitBodies → UnitBodies → Type 0
-Brings shape given unit = BringsIf (numbered_as shape (unit_view given)) shape given unit
+abbrev pub Brings : List Shape → Shape → UnitBodies → UnitBodies → Type 0
+Brings shapes shape given unit = BringsIf (are_of shapes shape (unit_view given)) shape given unit
 
 -- The history that a control begins with is that of the host, whose units have no bodies. (own)
 abbrev pub BeginsWith : History → List Event → Type 0

@@ -11,7 +11,7 @@ use Rattle.rv_port.specs.declared.event.Ask.TheVariants as Wants
 use Rattle.rv_port.specs.declared.event.Reply.TheVariants as Gives
 use Rattle.rv_port.specs.Acting.{Does, lent_view}
 use Rattle.rv_port.specs.Events.{by}
-use Rattle.rv_port.specs.Calls.{marked}
+use Rattle.rv_port.specs.Calls.{marked, StoppedAt}
 use Rattle.rv_port.specs.Traces.{Passing, Trace, Went}
 
 -- In one act the port was lent the bodies of all units loaded in a history that begins with all that it had seen, and that
@@ -27,6 +27,12 @@ abbrev pub TextRuns : Option UnitBodies → ℕ → ℕ → Trace → Exit → T
 TextRuns None actor budget trace exit = (trace ≡ []) × (exit ≡ Stopped)
 TextRuns (Some bodies) actor budget trace exit = Along (task_run bodies actor budget) trace exit
 
+-- Where it was stopped, and had bodies, a request stopped it, or a body that started for it: no act was left, or it was
+-- answered Halted, Full or Misuse. (own)
+abbrev pub TextStops : Option UnitBodies → Exit → Passing → Trace → Type 0
+TextStops (Some bodies) Stopped lent trace = StoppedAt lent trace
+TextStops bodies exit lent trace = Unit {0}
+
 -- one run of a task's text by the bodies that were lent, with the mark that bodies which were wanted couldn't be had (own)
 pub record TextLent (v : Passing) (mark : Bool) (budget : ℕ) (exit : Exit) (w : Passing) (after : Bool) : Type 0 where
   pub bodies : Option UnitBodies
@@ -35,6 +41,7 @@ pub record TextLent (v : Passing) (mark : Bool) (budget : ℕ) (exit : Exit) (w 
   pub trace : Trace
   pub runs : TextRuns bodies v.actor budget trace exit
   pub went : Went lent trace w
+  pub stops : TextStops bodies exit lent trace
   pub marked_is : after ≡ marked mark bodies
 
 -- One run of a task's text. Where no act was left for the bodies, nothing changed, and it is stopped. (own)

@@ -3,11 +3,11 @@
 mod begun;
 mod loads;
 
-ghost use Rattle.std.specs.Prelude.{◌≡◌, true, false, length, IfOk, IfErr, IfSome};
+ghost use Rattle.std.specs.Prelude.{◌≡◌, true, false, IfOk, IfErr, IfSome};
 ghost use Rattle.std.specs.Arc.{arc_value};
-ghost use Rattle.rv_exec.specs.Bodies.{bodies_view, units_of};
+ghost use Rattle.rv_exec.specs.Bodies.{bodies_view};
 ghost use Rattle.rv_port.specs.Events.{log_in};
-ghost use Rattle.rv_port.specs.Acting.{Does, changes};
+ghost use Rattle.rv_port.specs.Acting.{AreBrought, Does, changes};
 
 use crate::event::{Ask, Event, Lent, Letter, NONE, Reply};
 use begun::begun_by;
@@ -21,13 +21,14 @@ use std::alloc::{AllocFailed, Global};
 use std::sync::Arc;
 
 /// The host, as what threads act on one at a time, and the bodies of its units, of which each load
-/// brings those of one. The host is in a box, since an act moves this value twice.
+/// brings those of one, and whose calls fit these units. The host is in a box, since an act moves this
+/// value twice.
 #[derive(Drop)]
 pub struct Behind {
     pub(crate) alloc: Global,
     pub(crate) host: Box<Host>,
     pub(crate) bodies: Arc<Bodies, Global>,
-    pub(crate) ghost brought: { length (units_of (arc_value bodies)) ≡ length host.value.shapes },
+    pub(crate) ghost brought: { AreBrought host.value (arc_value bodies) },
 }
 
 // Whether a body starts with the answer.
@@ -49,7 +50,7 @@ impl Behind {
         host: Host,
         bodies: Arc<Bodies, Global>,
     ) -> Result<Behind, Host>
-        requires { length (units_of (arc_value bodies)) ≡ length host.shapes }
+        requires { AreBrought host (arc_value bodies) }
         ensures ok { IfOk result (λ b. (b.host.value ≡ host) × (arc_value b.bodies ≡ arc_value bodies)) }
         ensures err { IfErr result (λ h. h ≡ host) }
     {
@@ -92,7 +93,6 @@ impl Behind {
     }
 
     // A request, which is answered in its letter.
-    #[tactic(auto, using(crate::proofs::Doing::brought_step))]
     fn step(&mut self, actor: u64, letter: &mut Letter)
         ensures does { Does self.old.host.value.limits (log_in self.old.host.value (arc_value self.old.bodies)) actor (Ask.Step letter.old.request) (Reply.Answered letter.new.answer letter.new.begun letter.new.lent) (log_in self.new.host.value (arc_value self.new.bodies)) }
         ensures request { letter.new.request ≡ letter.old.request }

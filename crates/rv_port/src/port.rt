@@ -141,8 +141,9 @@ impl Port {
 
     /// A call of an operation (9.5.1, 9.5.3, D.10): by the numbers of its object and of the
     /// operation, each from 1, with the values of the `in` and `in out` parameters. It waits while
-    /// the object is held by others, and where the call is queued. The body runs outside the turn, on
-    /// the stack of the calling thread: one with `rv_exec::machine::STACK_BYTES` of it holds any body.
+    /// the object is held by others, and where the call is queued. The body, and each that it calls,
+    /// runs outside the turn, on the stack of the calling thread: `rv_exec::machine::STACK_BYTES` of
+    /// it, 512 MiB, hold the deepest that a text can give; the 8 MiB of a thread by default do not.
     pub fn call<R: Wait>(&mut self, rt: &R, object: usize, operation: usize, args: Args) -> Reached
         ensures performed { PerformedBy self.old (asks.Call object operation args) result self.new }
         ensures tied { Tied (pass_of self.old) (asks.Call object operation args) result (pass_of self.new) }

@@ -6,6 +6,7 @@ use Rattle.rv_event.specs.declared.entry.Answer.{Answer}
 use Rattle.rv_turn.specs.Passes.{IsWorn}
 use Rattle.rv_turn.specs.declared.pass.Worn.{Worn}
 use Rattle.rv_port.specs.Traces.{Passing}
+use Rattle.rv_port.specs.Events.{catalogue_of}
 use Rattle.rv_port.specs.Controls.{Brings, LoadTold}
 use Rattle.rv_shell.specs.Serving.{Serves, Written}
 use Rattle.rv_shell.specs.declared.shell.Next.TheVariants as Nexts
@@ -16,7 +17,7 @@ use Rattle.rv_staff.specs.Giving.{Gives}
 
 -- a load is answered, or no act is left for it
 abbrev pub LoadsIn : Passing → Shape → UnitBodies → Result Answer Worn → Passing → Type 0
-LoadsIn v shape bodies result w = MatchResult result (λ answer. LoadTold v shape (λ u. Brings shape bodies u) answer w) (λ _. IsWorn v w)
+LoadsIn v shape bodies result w = MatchResult result (λ answer. LoadTold v shape (λ u. Brings (catalogue_of v.seen) shape bodies u) answer w) (λ _. IsWorn v w)
 
 -- one unit is loaded, and then ports are given
 pub record Loads (v w : Passing) : Type 0 where

@@ -121,7 +121,7 @@ impl Staff {
     pub fn load<R: Wait>(&mut self, rt: &R, unit: Unit) -> Result<Answer, Worn>
         ensures told { MatchResult
             result
-            (λ r. LoadTold self.old.control unit.shape (λ u. Brings unit.shape unit.bodies u) r self.new.control)
+            (λ r. LoadTold self.old.control unit.shape (λ u. Brings (catalogue_of self.old.control.seen) unit.shape unit.bodies u) r self.new.control)
             (λ _. IsWorn self.old.control self.new.control) }
         ensures crew { self.new.crew ≡ self.old.crew }
     {

@@ -1,42 +1,24 @@
 //! Loads of units, with their bodies and as shapes alone.
 
-ghost use Rattle.std.specs.Prelude.{◌≡◌, ◌++◌, ◌∷◌, [], IfOk, IfSome, MatchResult, map};
+ghost use Rattle.std.specs.Prelude.{◌≡◌, IfOk, IfSome, MatchResult, map};
 ghost use Rattle.std.specs.Arc.{arc_value};
 ghost use Rattle.rv_code.specs.BodyView.{unit_view};
+ghost use Rattle.rv_fits.specs.Fits.{are_of};
 ghost use Rattle.rv_exec.specs.Bodies.{held, shared_view, units_of};
 ghost use Rattle.rv_turn.specs.Passes.{IsWorn};
-ghost use Rattle.rv_port.specs.Controls.{Told, LoadTold, Brings, numbered_as, no_bodies_of};
+ghost use Rattle.rv_port.specs.Controls.{Told, LoadTold, Brings, no_bodies_of};
+ghost use Rattle.rv_port.specs.Events.{catalogue_of};
 
 use super::{Control, heard};
 use crate::event::Ask;
 use rv_code::{Unit, UnitBodies};
 use rv_event::entry::Answer;
 use rv_exec::bodies::{Bodies, SharedUnit};
-use rv_shape::catalogue::Catalogue;
+use rv_fits::{may_load, with_unit};
 use rv_shape::shape::UnitShape;
 use rv_turn::Worn;
 use std::alloc::{AllocError, Global};
 use std::sync::{Arc, Wait};
-
-// The catalogue with one unit more, where it fits and there is memory.
-fn with_unit(alloc: Global, catalogue: &Catalogue, shape: &UnitShape) -> Option<Catalogue>
-    ensures { IfSome result (λ c. c ≡ catalogue.now ++ shape.now ∷ []) }
-{
-    let Ok(mut copy) = catalogue.copy(alloc) else {
-        return None;
-    };
-    match copy.add(shape) {
-        Ok(()) => Some(copy),
-        Err(_) => None,
-    }
-}
-
-// Whether a unit's bodies have as many objects and tasks as its shape.
-fn is_numbered_as(shape: &UnitShape, bodies: &UnitBodies) -> bool
-    ensures { result ≡ numbered_as shape.now (unit_view bodies.now) }
-{
-    bodies.objects.len() == shape.objects().len() && bodies.tasks.len() == shape.tasks().len()
-}
 
 // The bodies of a unit that is loaded as a shape alone.
 fn no_bodies_of(alloc: Global, shape: &UnitShape) -> Result<SharedUnit, AllocError>
@@ -64,17 +46,28 @@ pub(crate) fn no_bodies_of_all(
 }
 
 impl Control {
+    // Whether a unit's bodies may be loaded with its shape. None where the shape doesn't fit, or memory is refused.
+    fn allows(&self, shape: &UnitShape, bodies: &UnitBodies) -> Option<bool>
+        ensures { IfSome result (λ b. b ≡ are_of (catalogue_of self.now.seen) shape.now (unit_view bodies.now)) }
+    {
+        may_load(self.alloc, self.catalogue(), shape, bodies)
+    }
+
     /// Loads a unit as a text gives it, compiled against `catalogue`: its shape and its bodies, which
-    /// ports run from then on. Bodies that have another number of objects or tasks than the shape are
-    /// none of its own: then the shape is loaded alone. Where it isn't accepted, it is dropped.
+    /// ports run from then on. Bodies that have another number of objects or tasks than the shape, or
+    /// that call what isn't there, are none of its own: then the shape is loaded alone. Where it isn't
+    /// accepted, it is dropped.
     pub fn load<R: Wait>(&mut self, rt: &R, unit: Unit) -> Result<Answer, Worn>
         ensures { MatchResult
             result
-            (λ r. LoadTold self.old unit.shape (λ u. Brings unit.shape unit.bodies u) r self.new)
+            (λ r. LoadTold self.old unit.shape (λ u. Brings (catalogue_of self.old.seen) unit.shape unit.bodies u) r self.new)
             (λ _. IsWorn self.old self.new) }
     {
         let Unit { shape, bodies } = unit;
-        if !is_numbered_as(&shape, &bodies) {
+        let Some(is_whole) = self.allows(&shape, &bodies) else {
+            return self.load_nothing(rt, shape);
+        };
+        if !is_whole {
             return self.load_shape(rt, shape);
         }
         let Ok(unit) = SharedUnit::new(self.alloc, bodies) else {

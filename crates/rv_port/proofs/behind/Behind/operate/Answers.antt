@@ -4,7 +4,7 @@ use Rattle.rv_history.specs.Legal.{Legal}
 use Rattle.rv_history.specs.Steps.{MayLackMemory, due_change, after_change}
 use Rattle.std.specs.Arc.{arc_value}
 use Rattle.rv_exec.specs.Bodies.{units_of}
-use Rattle.rv_port.proofs.Doing.{does_ask, changed_is, changed_limits, brought_change}
+use Rattle.rv_port.proofs.Doing.{does_ask, changed_is, changed_limits, brings_change}
 use Rattle.rv_port.proofs.behind.Behind.operate.Goals as goal
 
 pub returns-in-Load-clause-does : goal.returns-in-Load-clause-does
@@ -28,6 +28,6 @@ returns-in-Change-clause-about c = let s = c.args.self.now in
 pub invariant_of-self : goal.invariant_of-self
 invariant_of-self c = let s = c.args.self.now in
     record {
-      brought = brought_change s.host.value _ (units_of (arc_value s.bodies)) c.in-Change.change _ s.brought
+      brought = brings_change s.host.value _ (arc_value s.bodies) c.in-Change.change _ s.brought
           (c.change_list.ensures.history ∙ ap (λ (z : History). after_change z c.in-Change.change c.change_list.result) c.deref_mut.ensures.value);
     }

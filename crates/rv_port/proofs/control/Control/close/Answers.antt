@@ -21,7 +21,7 @@ close-host-requires-clause-others g c =
 pub returns-clause-ok : goal.returns-clause-ok
 returns-clause-ok g c = let b = c.close-host.result in let h = b.host.value in let us = units_of (arc_value b.bodies) in let same : c.into_inner-host.result ≡ h = c.into_inner-host.ensures in
     subst (λ (z : History). IsClosed c.args.self (map pass_of c.args.finished.items) z) (sym same)
-    (closed c.args.self (map pass_of c.args.finished.items) c.take_passes.new.passes.items h us (subst Legal same c.replays.ensures.legal) b.brought c.take_passes.ensures.passes
+    (closed c.args.self (map pass_of c.args.finished.items) c.take_passes.new.passes.items h us (subst Legal same c.replays.ensures.legal) b.brought.count c.take_passes.ensures.passes
     (subst (λ (v : Passing). StandsIn by (log_of h us) v) c.self.view_is c.close-host.ensures.first) c.close-host.ensures.others
     (subst (λ (v : Passing). NoStrangers by (log_of h us) v.given) c.self.view_is c.close-host.ensures.strangers)
     (subst (λ (v : Passing). v.about ≡ Some h.limits) c.self.view_is c.close-host.ensures.about))

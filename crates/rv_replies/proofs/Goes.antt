@@ -1,0 +1,251 @@
+-- The answers that are due go on.
+use Rattle.std.proofs.Common.{◌≡◌, ℕ, Bool, true, false, if◌then◌else◌, List, [], Option, Some, None, refl, sym, ap, ◌∙◌}
+use Rattle.std.specs.Prelude.{ℤ, pos, int_le, slice_index_or, ◌&&◌, ◌||◌, not}
+use Rattle.rv_code.specs.declared.expression.Callee.{Callee}
+use Rattle.rv_code.specs.declared.expression.Callee.TheVariants as callee
+use Rattle.rv_shape.specs.Catalogue.{UnitObject, Target, Nowhere, OnProtected, OnSuspension, place, target, at_object, at_unit_object, is_function, is_entry}
+use Rattle.rv_shape.specs.declared.kind.Kind.{Kind}
+use Rattle.rv_shape.specs.declared.kind.Kind.TheVariants.{Function, Procedure, Entry as EntryKind, Handler}
+use Rattle.rv_shape.specs.declared.suspension.SuspensionOperation.TheVariants as operation
+use Rattle.rv_shape.specs.declared.object.Object.{Object}
+use Rattle.rv_shape.specs.declared.object.Object.TheVariants.{Protected, Suspension}
+use Rattle.rv_event.specs.Past.{clock, halted, released, scalars, stance, state}
+use Rattle.rv_event.specs.Recorded.{recorded}
+use Rattle.rv_event.specs.declared.entry.Answer.{Answer}
+use Rattle.rv_event.specs.declared.entry.Answer.TheVariants as Answers
+use Rattle.rv_event.specs.declared.entry.Request.{Request}
+use Rattle.rv_event.specs.declared.entry.Request.TheVariants.{Call, Resume, DelayUntil, Clock}
+use Rattle.rv_event.specs.declared.entry.Rule.TheVariants as Rules
+use Rattle.rv_event.specs.declared.entry.Stance.{Stance}
+use Rattle.rv_event.specs.declared.entry.Stance.TheVariants.{Free, InQueue, HandedOver, DroppedBy, WaitsOn, WaitsUntil, Gone}
+use Rattle.rv_exec.specs.Asking.{stands}
+use Rattle.rv_exec.specs.Calls.{internal, request_of, replied, resumed}
+use Rattle.rv_exec.specs.Stops.{is_final, is_stopped, stops_at_once}
+use Rattle.rv_fits.specs.Fits.{calls_function, calls_procedure, calls_entry, suspends, is_suspension, callee_fits}
+use Rattle.rv_history.specs.Due.{out, due, table, nothing_more, gate, within, enough, goes_on, judged, suspended, due_call, due_delay, due_resume, one_or_none, or_waiting}
+use Rattle.rv_history.specs.Exclusion.{excluded, is_open, is_barred, full_queue}
+use Rattle.rv_history.specs.Fitting.{fits}
+use Rattle.rv_history.specs.History.{History, version}
+use Rattle.rv_history.specs.Rules.{decided, breaks, holds_any}
+use Rattle.rv_history.specs.Subject.{subject}
+use Rattle.rv_replies.specs.Answers.{queued, paused, waits_by, CallsGoOn, ResumesGoOn}
+
+-- it stands, is final, or goes on
+abbrev goes : Callee → Answer → Bool
+goes c r = stands r || (is_final r || not (stops_at_once (replied c r)))
+
+abbrev wakes : Callee → Answer → Bool
+wakes c r = stands r || (is_final r || not (is_stopped (resumed c r)))
+
+last_of : (a b d : Bool) → (a || (b || not d)) ≡ true → a ≡ false → b ≡ false → d ≡ false
+last_of true b d e f g = absurd (cc f)
+last_of false true d e f g = absurd (cc g)
+last_of false false true e f g = absurd (cc e)
+last_of false false false e f g = refl
+
+if_goes : (P : Answer → Bool) (b : Bool) (x y : Answer) → P x ≡ true → P y ≡ true → P (if b then x else y) ≡ true
+if_goes P true x y p q = p
+if_goes P false x y p q = q
+
+gate_goes : (P : Answer → Bool) (fit shut : Bool) (r : Answer) → P Answers.Misuse ≡ true → P Answers.Halted ≡ true → P r ≡ true → P (gate fit shut r) ≡ true
+gate_goes P true true r m k p = k
+gate_goes P true false r m k p = p
+gate_goes P false shut r m k p = m
+
+within_goes : (P : Answer → Bool) (room : Bool) (r : Answer) → P Answers.Full ≡ true → P r ≡ true → P (within room r) ≡ true
+within_goes P true r f p = p
+within_goes P false r f p = f
+
+out_goes : (P : Answer → Bool) → P Answers.Misuse ≡ true → P Answers.Halted ≡ true → P Answers.Full ≡ true → (h : History) (a : ℕ) (q : Request) → P (table h a q) ≡ true → P (out h a q) ≡ true
+out_goes P m k f h a q e =
+    within_goes P (enough h a q (recorded (due h a q))) (due h a q) f
+    (gate_goes P (fits h a q) (halted h.past && not (goes_on q)) (table h a q) m k e)
+
+-- Operations of protected objects
+
+and_not : (b c : Bool) → c ≡ false → (b && c) ≡ false
+and_not true c e = e
+and_not false c e = refl
+
+function_no_entry : (kind : Kind) → is_function kind ≡ true → is_entry kind ≡ false
+function_no_entry (Function range) e = refl
+function_no_entry Procedure e = refl
+function_no_entry (EntryKind barrier) e = absurd (cc e)
+function_no_entry (Handler line) e = refl
+
+procedure_no_entry : (kind : Kind) → not (is_function kind || is_entry kind) ≡ true → is_entry kind ≡ false
+procedure_no_entry (Function range) e = refl
+procedure_no_entry Procedure e = refl
+procedure_no_entry (EntryKind barrier) e = absurd (cc e)
+procedure_no_entry (Handler line) e = refl
+
+function_judged : (o p number line : ℕ) (values : List ℤ) (denied blocking reentry above busy barred full : Bool) → blocking ≡ false → barred ≡ false
+    → goes (callee.Function o p) (judged number line values denied blocking reentry above busy barred full) ≡ true
+function_judged o p number line values true blocking reentry above busy barred full e f = refl
+function_judged o p number line values false true reentry above busy barred full e f = absurd (cc e)
+function_judged o p number line values false false true above busy barred full e f = refl
+function_judged o p number line values false false false true busy barred full e f = refl
+function_judged o p number line values false false false false true barred full e f = refl
+function_judged o p number line values false false false false false true full e f = absurd (cc f)
+function_judged o p number line values false false false false false false full e f = refl
+
+procedure_judged : (o p number line : ℕ) (values : List ℤ) (denied blocking reentry above busy barred full : Bool) → blocking ≡ false → barred ≡ false
+    → goes (callee.Procedure o p) (judged number line values denied blocking reentry above busy barred full) ≡ true
+procedure_judged o p number line values true blocking reentry above busy barred full e f = refl
+procedure_judged o p number line values false true reentry above busy barred full e f = absurd (cc e)
+procedure_judged o p number line values false false true above busy barred full e f = refl
+procedure_judged o p number line values false false false true busy barred full e f = refl
+procedure_judged o p number line values false false false false true barred full e f = refl
+procedure_judged o p number line values false false false false false true full e f = absurd (cc f)
+procedure_judged o p number line values false false false false false false full e f = refl
+
+entry_judged : (o p number line : ℕ) (values : List ℤ) (denied blocking reentry above busy barred full : Bool)
+    → goes (callee.Entry o p) (judged number line values denied blocking reentry above busy barred full) ≡ true
+entry_judged o p number line values true blocking reentry above busy barred full = refl
+entry_judged o p number line values false true reentry above busy barred full = refl
+entry_judged o p number line values false false true above busy barred full = refl
+entry_judged o p number line values false false false true busy barred full = refl
+entry_judged o p number line values false false false false true barred full = refl
+entry_judged o p number line values false false false false false true true = refl
+entry_judged o p number line values false false false false false true false = refl
+entry_judged o p number line values false false false false false false full = refl
+
+function_goes : (h : History) (a o p : ℕ) (vs : List ℤ) (t : Target) → calls_function t ≡ true → goes (callee.Function o p) (due_call h a (Call o p vs) o t) ≡ true
+function_goes h a o p vs Nowhere e = absurd (cc e)
+function_goes h a o p vs (OnSuspension unit name wanted) e = absurd (cc e)
+function_goes h a o p vs (OnProtected site) e =
+    let q : Request = Call o p vs in let called : Target = OnProtected site in
+    let none : is_entry site.operation.kind ≡ false = function_no_entry site.operation.kind e in
+    function_judged o p (version h) (decided h (subject h a) called) (scalars h.shapes o h.past)
+    (breaks h Rules.Grant a q o called) (breaks h Rules.Blocking a q o called) (breaks h Rules.Reentry a q o called) (breaks h Rules.Ceiling a q o called)
+    (excluded h o (is_function site.operation.kind)) (is_barred h o site.operation.kind) (full_queue h o)
+    (and_not (holds_any h a) (is_entry site.operation.kind) none) (ap (λ (b : Bool). b && not (is_open h o)) none)
+
+procedure_goes : (h : History) (a o p : ℕ) (vs : List ℤ) (t : Target) → calls_procedure t ≡ true → goes (callee.Procedure o p) (due_call h a (Call o p vs) o t) ≡ true
+procedure_goes h a o p vs Nowhere e = absurd (cc e)
+procedure_goes h a o p vs (OnSuspension unit name wanted) e = absurd (cc e)
+procedure_goes h a o p vs (OnProtected site) e =
+    let q : Request = Call o p vs in let called : Target = OnProtected site in
+    let none : is_entry site.operation.kind ≡ false = procedure_no_entry site.operation.kind e in
+    procedure_judged o p (version h) (decided h (subject h a) called) (scalars h.shapes o h.past)
+    (breaks h Rules.Grant a q o called) (breaks h Rules.Blocking a q o called) (breaks h Rules.Reentry a q o called) (breaks h Rules.Ceiling a q o called)
+    (excluded h o (is_function site.operation.kind)) (is_barred h o site.operation.kind) (full_queue h o)
+    (and_not (holds_any h a) (is_entry site.operation.kind) none) (ap (λ (b : Bool). b && not (is_open h o)) none)
+
+entry_goes : (h : History) (a o p : ℕ) (vs : List ℤ) (t : Target) → calls_entry t ≡ true → goes (callee.Entry o p) (due_call h a (Call o p vs) o t) ≡ true
+entry_goes h a o p vs Nowhere e = absurd (cc e)
+entry_goes h a o p vs (OnSuspension unit name wanted) e = absurd (cc e)
+entry_goes h a o p vs (OnProtected site) e =
+    let q : Request = Call o p vs in let called : Target = OnProtected site in
+    entry_judged o p (version h) (decided h (subject h a) called) (scalars h.shapes o h.past)
+    (breaks h Rules.Grant a q o called) (breaks h Rules.Blocking a q o called) (breaks h Rules.Reentry a q o called) (breaks h Rules.Ceiling a q o called)
+    (excluded h o (is_function site.operation.kind)) (is_barred h o site.operation.kind) (full_queue h o)
+
+-- Operations of suspension objects
+
+state_goes : (o : ℕ) (now : Bool) → goes (callee.CurrentState o) (Answers.Accepted (one_or_none now)) ≡ true
+state_goes o true = refl
+state_goes o false = refl
+
+suspended_goes : (o number : ℕ) (blocking waited now : Bool) → goes (callee.SuspendUntilTrue o) (suspended number blocking waited now) ≡ true
+suspended_goes o number true waited now = refl
+suspended_goes o number false true now = refl
+suspended_goes o number false false true = refl
+suspended_goes o number false false false = refl
+
+on_suspension : (c : Callee) (p : ℕ) (h : History) (a o : ℕ) (at : Option UnitObject) → ((unit : List ℕ) (object : Object) → suspends object ≡ true → goes c (due_call h a (Call o p []) o (at_object p unit object)) ≡ true)
+    → is_suspension at ≡ true → goes c (due_call h a (Call o p []) o (at_unit_object p at)) ≡ true
+on_suspension c p h a o None f e = absurd (cc e)
+on_suspension c p h a o (Some at) f e = f at.unit at.object e
+
+set_true_goes : (h : History) (a o : ℕ) (unit : List ℕ) (object : Object) → suspends object ≡ true → goes (callee.SetTrue o) (due_call h a (Call o 1 []) o (at_object 1 unit object)) ≡ true
+set_true_goes h a o unit (Protected object) e = absurd (cc e)
+set_true_goes h a o unit (Suspension object) e =
+    let q : Request = Call o 1 [] in let called : Target = OnSuspension unit object.name operation.SetTrue in
+    if_goes (goes (callee.SetTrue o)) (breaks h Rules.Grant a q o called) (Answers.Refused Rules.Grant (decided h (subject h a) called) (version h)) nothing_more refl refl
+
+set_false_goes : (h : History) (a o : ℕ) (unit : List ℕ) (object : Object) → suspends object ≡ true → goes (callee.SetFalse o) (due_call h a (Call o 2 []) o (at_object 2 unit object)) ≡ true
+set_false_goes h a o unit (Protected object) e = absurd (cc e)
+set_false_goes h a o unit (Suspension object) e =
+    let q : Request = Call o 2 [] in let called : Target = OnSuspension unit object.name operation.SetFalse in
+    if_goes (goes (callee.SetFalse o)) (breaks h Rules.Grant a q o called) (Answers.Refused Rules.Grant (decided h (subject h a) called) (version h)) nothing_more refl refl
+
+current_goes : (h : History) (a o : ℕ) (unit : List ℕ) (object : Object) → suspends object ≡ true → goes (callee.CurrentState o) (due_call h a (Call o 3 []) o (at_object 3 unit object)) ≡ true
+current_goes h a o unit (Protected object) e = absurd (cc e)
+current_goes h a o unit (Suspension object) e =
+    let q : Request = Call o 3 [] in let called : Target = OnSuspension unit object.name operation.CurrentState in
+    if_goes (goes (callee.CurrentState o)) (breaks h Rules.Grant a q o called) (Answers.Refused Rules.Grant (decided h (subject h a) called) (version h)) (Answers.Accepted (one_or_none (state o h.past))) refl (state_goes o (state o h.past))
+
+suspend_goes : (h : History) (a o : ℕ) (unit : List ℕ) (object : Object) → suspends object ≡ true → goes (callee.SuspendUntilTrue o) (due_call h a (Call o 4 []) o (at_object 4 unit object)) ≡ true
+suspend_goes h a o unit (Protected object) e = absurd (cc e)
+suspend_goes h a o unit (Suspension object) e =
+    let q : Request = Call o 4 [] in let called : Target = OnSuspension unit object.name operation.SuspendUntilTrue in
+    if_goes (goes (callee.SuspendUntilTrue o)) (breaks h Rules.Grant a q o called) (Answers.Refused Rules.Grant (decided h (subject h a) called) (version h)) (suspended (version h) (breaks h Rules.Blocking a q o called) (breaks h Rules.Waiter a q o called) (state o h.past)) refl (suspended_goes o (version h) (breaks h Rules.Blocking a q o called) (breaks h Rules.Waiter a q o called) (state o h.past))
+
+delay_goes : (h : History) (blocking over : Bool) → goes callee.DelayUntil (due_delay h blocking over) ≡ true
+delay_goes h true over = refl
+delay_goes h false true = refl
+delay_goes h false false = refl
+
+-- Requests
+
+request_goes : (h : History) (a : ℕ) (c : Callee) (vs : List ℤ) → internal c ≡ None → callee_fits h.shapes c ≡ true → goes c (table h a (request_of c vs)) ≡ true
+request_goes h a (callee.Internal operation) vs n e = absurd (cc n)
+request_goes h a (callee.Function o p) vs n e = function_goes h a o p vs (target h.shapes o p) e
+request_goes h a (callee.Procedure o p) vs n e = procedure_goes h a o p vs (target h.shapes o p) e
+request_goes h a (callee.Entry o p) vs n e = entry_goes h a o p vs (target h.shapes o p) e
+request_goes h a (callee.SetTrue o) vs n e = on_suspension (callee.SetTrue o) 1 h a o (place h.shapes o) (set_true_goes h a o) e
+request_goes h a (callee.SetFalse o) vs n e = on_suspension (callee.SetFalse o) 2 h a o (place h.shapes o) (set_false_goes h a o) e
+request_goes h a (callee.CurrentState o) vs n e = on_suspension (callee.CurrentState o) 3 h a o (place h.shapes o) (current_goes h a o) e
+request_goes h a (callee.SuspendUntilTrue o) vs n e = on_suspension (callee.SuspendUntilTrue o) 4 h a o (place h.shapes o) (suspend_goes h a o) e
+request_goes h a callee.DelayUntil vs n e = delay_goes h (holds_any h a) (int_le (slice_index_or vs 0 (pos 0)) (pos (clock h.past)))
+request_goes h a callee.Clock vs n e = refl
+
+pub calls_go_on : CallsGoOn
+calls_go_on h a c vs n e f g =
+    last_of (stands (out h a (request_of c vs))) (is_final (out h a (request_of c vs))) (stops_at_once (replied c (out h a (request_of c vs))))
+    (out_goes (goes c) refl refl refl h a (request_of c vs) (request_goes h a c vs n e)) f g
+
+-- Resumes
+
+waiting_wakes : (c : Callee) (h : History) → wakes c (or_waiting h false) ≡ true
+waiting_wakes c h = if_goes (wakes c) (halted h.past) Answers.Halted Answers.Waiting refl refl
+
+entry_wakes : (h : History) (a o p : ℕ) (s : Stance) → queued s ≡ true → wakes (callee.Entry o p) (due_resume h a s) ≡ true
+entry_wakes h a o p Free e = absurd (cc e)
+entry_wakes h a o p InQueue e = waiting_wakes (callee.Entry o p) h
+entry_wakes h a o p HandedOver e = refl
+entry_wakes h a o p (DroppedBy line) e = refl
+entry_wakes h a o p (WaitsOn object) e = absurd (cc e)
+entry_wakes h a o p (WaitsUntil time) e = absurd (cc e)
+entry_wakes h a o p Gone e = absurd (cc e)
+
+pause_wakes : (c : Callee) (h : History) (a : ℕ) → wakes c (Answers.Woken None) ≡ true → (ready : Bool) → wakes c (or_waiting h ready) ≡ true
+pause_wakes c h a f true = f
+pause_wakes c h a f false = waiting_wakes c h
+
+paused_wakes : (c : Callee) (h : History) (a : ℕ) → wakes c (Answers.Woken None) ≡ true → (s : Stance) → paused s ≡ true → wakes c (due_resume h a s) ≡ true
+paused_wakes c h a f Free e = absurd (cc e)
+paused_wakes c h a f InQueue e = absurd (cc e)
+paused_wakes c h a f HandedOver e = absurd (cc e)
+paused_wakes c h a f (DroppedBy line) e = absurd (cc e)
+paused_wakes c h a f (WaitsOn object) e = pause_wakes c h a f (released a object h.past)
+paused_wakes c h a f (WaitsUntil time) e = pause_wakes c h a f (int_le time (pos (clock h.past)))
+paused_wakes c h a f Gone e = absurd (cc e)
+
+resume_wakes : (h : History) (a : ℕ) (c : Callee) (s : Stance) → waits_by c s ≡ true → wakes c (due_resume h a s) ≡ true
+resume_wakes h a (callee.Entry o p) s e = entry_wakes h a o p s e
+resume_wakes h a (callee.SuspendUntilTrue o) s e = paused_wakes (callee.SuspendUntilTrue o) h a refl s e
+resume_wakes h a callee.DelayUntil s e = paused_wakes callee.DelayUntil h a refl s e
+resume_wakes h a (callee.Internal operation) s e = absurd (cc e)
+resume_wakes h a (callee.Function o p) s e = absurd (cc e)
+resume_wakes h a (callee.Procedure o p) s e = absurd (cc e)
+resume_wakes h a (callee.SetTrue o) s e = absurd (cc e)
+resume_wakes h a (callee.SetFalse o) s e = absurd (cc e)
+resume_wakes h a (callee.CurrentState o) s e = absurd (cc e)
+resume_wakes h a callee.Clock s e = absurd (cc e)
+
+pub resumes_go_on : ResumesGoOn
+resumes_go_on h a c e f g =
+    last_of (stands (out h a Resume)) (is_final (out h a Resume)) (is_stopped (resumed c (out h a Resume)))
+    (out_goes (wakes c) refl refl refl h a Resume (resume_wakes h a c (stance a h.past) e)) f g
