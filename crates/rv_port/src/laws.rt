@@ -7,6 +7,7 @@ ghost use Rattle.rv_history.specs.Legal.{Legal};
 ghost use Rattle.rv_turn.specs.Histories.{mine, StartsWith};
 ghost use Rattle.rv_port.specs.Alone.{IsUnused, quit_alone};
 ghost use Rattle.rv_port.specs.Calls.{Quits};
+ghost use Rattle.rv_port.specs.Controls.{IsGiven};
 ghost use Rattle.rv_port.specs.Events.{by, catalogue_of, history_at, log_of, units_in};
 ghost use Rattle.rv_port.specs.Later.{NoEarlierList, KeepsBodies};
 ghost use Rattle.rv_port.specs.Traces.{Passing};
@@ -52,4 +53,10 @@ pub fn bodies_stay()
 #[tactic(auto, using(crate::proofs::Alone::quits_alone))]
 pub fn unused_ports_quit_alone()
     ensures { (port done : Passing) → IsUnused port → Quits port done → done.own ≡ quit_alone port.actor }
+{}
+
+/// A port as it is given is such a port.
+#[tactic(auto, using(crate::proofs::Alone::given_unused))]
+pub fn given_ports_are_unused()
+    ensures { (control : Passing) → (after : Passing) → (port : Passing) → (actor : ℕ) → IsGiven control actor after port → IsUnused port }
 {}
