@@ -66,6 +66,7 @@ pub fn play_all<R: Threads + Wait + AllocGlobal + Print>(rt: &R, hands: &Hands) 
     tell(rt, "two_readers_at_once", two_readers::play(rt, hands))?;
     tell(rt, "told_revoke_is_seen", told_revoke::play(rt, hands))?;
     tell(rt, "second_start_fails", starts::second_fails(rt, hands))?;
+    tell(rt, "given_up_port_is_lost", starts::given_up(rt))?;
     tell(rt, "finishes_without_a_call", starts::no_call(rt, hands))?;
     tell_storm(rt, hands)
 }
