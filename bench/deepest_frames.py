@@ -6,7 +6,9 @@ it. A compiler may put a function into its caller; it has no frame of its own th
 each function of the recursion of rv_exec::run is open at once; `rv_exec::machine::STACK_BYTES` tells why. What is asked
 of the host where the recursion is deepest, and what called it, is allowed 64 KiB.
 
-    bench/deepest_frames.py [PROGRAM..]
+    bench/deepest_frames.py [--room BYTES] [PROGRAM..]
+
+--room gives what threads have where it isn't the constant, as in a trial.
 """
 import os
 import re
@@ -85,6 +87,8 @@ def stack_bytes():
 
 def main(programs):
     room = stack_bytes()
+    if programs[:1] == ["--room"]:
+        room, programs = int(programs[1]), programs[2:]
     is_enough = True
     for program in programs:
         for needed, of in needs(program):
@@ -96,4 +100,6 @@ def main(programs):
 
 if __name__ == "__main__":
     found = [os.path.join(TOP, f"crates/ravenhost/out/ravenhost{ending}") for ending in ("", ".by-rattle")]
-    sys.exit(main(sys.argv[1:] or [it for it in found if os.path.exists(it)]))
+    built = [it for it in found if os.path.exists(it)]
+    words = sys.argv[1:]
+    sys.exit(main(words if words and words[0] != "--room" or len(words) > 2 else words + built))

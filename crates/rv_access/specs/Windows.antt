@@ -1,5 +1,5 @@
 -- Windows of ticks, and when they are open (own).
-use Rattle.std.specs.Prelude.{ℕ, ◌<◌, ◌≤◌, Bool, true, ◌&&◌, nat_le, nat_lt, List, codes, Option, Some, None, IsTrue}
+use Rattle.std.specs.Prelude.{ℕ, Bool, true, ◌&&◌, nat_le, nat_lt, codes, Option, Some, None, IsTrue}
 use Rattle.rv_text.specs.Names.{is_same_name}
 use Rattle.rv_text.specs.Numbers.{is_natural, read_on}
 use Rattle.rv_access.specs.Words.{WindowWords}

@@ -35,7 +35,8 @@ fn package_bodies<'a>(alloc: Global, list: &'a Vec<BodyItem>) -> Result<Region<'
     Ok(region)
 }
 
-fn operation_body_name(body: &OperationBody) -> &Identifier
+/// The name of an operation's body (9.4, 9.5.2).
+pub fn operation_body_name(body: &OperationBody) -> &Identifier
     ensures { identifier_view result.now ≡ name_of_body (operation_body_view body.now) }
 {
     match body {

@@ -9,5 +9,5 @@ mod protected;
 mod region;
 mod unit;
 
-pub use bodies::body_twice;
+pub use bodies::{body_twice, operation_body_name};
 pub use unit::declared_twice;

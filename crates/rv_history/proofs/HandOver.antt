@@ -195,7 +195,7 @@ only_ends h a r next e = done_at_ends h a r next (ap recorded e)
 
 -- What a denial changes.
 
-others_kept : (shapes : List Shape) (past : List Entry) (n o : ℕ) (c : Body) (calls : List Body) → AllWait shapes past calls → last_queued n past ≡ Some c → (c.object == o) ≡ false →
+pub others_kept : (shapes : List Shape) (past : List Entry) (n o : ℕ) (c : Body) (calls : List Body) → AllWait shapes past calls → last_queued n past ≡ Some c → (c.object == o) ≡ false →
     filter (is_on o) (filter (λ d. not (d.actor == n)) calls) ≡ filter (is_on o) calls
 others_kept shapes past n o c [] all last off_it = refl
 others_kept shapes past n o c (d ∷ calls) all last off_it = by_test (d.actor == n) refl (others_kept shapes past n o c calls all.1 last off_it)
@@ -208,7 +208,7 @@ others_kept shapes past n o c (d ∷ calls) all last off_it = by_test (d.actor =
         let away : (d.object == o) ≡ false = ap (λ (b : Body). b.object == o) (sym same) ∙ off_it in
         rest ∙ ap (λ t. cond t (d ∷ filter (is_on o) calls) (filter (is_on o) calls)) (sym away)
 
-one_only : (c : Body) (cs : List Body) → length (c ∷ cs) ≤ 1 → cs ≡ []
+pub one_only : (c : Body) (cs : List Body) → length (c ∷ cs) ≤ 1 → cs ≡ []
 one_only c [] e = refl
 one_only c (d ∷ cs) e = absurd (omega (arith, e))
 

@@ -27,7 +27,7 @@ use Rattle.rv_history.specs.Orderly.{Each, IsOfEntry, is_on}
 use Rattle.rv_history.proofs.Bodies.{each_filter, filter_append, filter_gone}
 use Rattle.rv_history.proofs.Answered.{off}
 use Rattle.rv_history.proofs.Ending.{head_on, head_waits, names_at}
-use Rattle.rv_history.proofs.HandOver.{done_at_ends}
+use Rattle.rv_history.proofs.HandOver.{done_at_ends, one_only, others_kept}
 use Rattle.rv_history.proofs.Loaded.{protected_place}
 use Rattle.rv_history.proofs.Orderly.{legal_orderly_at, legal_queue}
 use Rattle.rv_history.proofs.Stances.{same_number, some_is}
@@ -51,20 +51,6 @@ abbrev pub AreCallers : List Body → List (List ℕ) → Type 0
 AreCallers calls queues = (o : ℕ) → get_or queues o [] ≡ map (λ call. call.actor) (filter (is_on o) calls)
 
 -- One call leaves
-
--- no other call of its actor waits
-others_kept : (shapes : List Shape) (past : List Entry) (n o : ℕ) (c : Body) (calls : List Body) → AllWait shapes past calls → last_queued n past ≡ Some c → (c.object == o) ≡ false →
-    filter (is_on o) (filter (λ d. not (d.actor == n)) calls) ≡ filter (is_on o) calls
-others_kept shapes past n o c [] all last off_it = refl
-others_kept shapes past n o c (d ∷ calls) all last off_it = by_test (d.actor == n) refl (others_kept shapes past n o c calls all.1 last off_it)
-  where
-    by_test : (t : Bool) → (d.actor == n) ≡ t → filter (is_on o) (filter (λ d. not (d.actor == n)) calls) ≡ filter (is_on o) calls →
-        filter (is_on o) (cond (not t) (d ∷ filter (λ d. not (d.actor == n)) calls) (filter (λ d. not (d.actor == n)) calls)) ≡ filter (is_on o) (d ∷ calls)
-    by_test false is rest = ap (λ ds. cond (d.object == o) (d ∷ ds) ds) rest
-    by_test true is rest =
-        let same : c ≡ d = some_is c d (sym last ∙ ap (λ m. last_queued m past) (sym (same_number d.actor n is)) ∙ all.0.last) in
-        let away : (d.object == o) ≡ false = ap (λ (b : Body). b.object == o) (sym same) ∙ off_it in
-        rest ∙ ap (λ t. cond t (d ∷ filter (is_on o) calls) (filter (is_on o) calls)) (sym away)
 
 -- whom an end names: its call is the only one on its object
 record Served (shapes : List Shape) (past : List Entry) (n : ℕ) : Type 0 where
@@ -121,10 +107,6 @@ within_objects shapes o p few e = by_test (nat_lt o 1) refl e
     by_test false is f =
         let some : 0 < o = grind (arith, nat_tests) in
         omega (arith, some, slice_get_within (all_objects shapes) (o - 1) p f, few.objects)
-
-one_only : (c : Body) (cs : List Body) → length (c ∷ cs) ≤ 1 → cs ≡ []
-one_only c [] e = refl
-one_only c (d ∷ cs) e = absurd (omega (arith, e))
 
 served : (h : History) (a : ℕ) (r : Request) (next : Next) (n : ℕ) → Legal h → IsWithin h.shapes → recorded (out h a r) ≡ Some (Done next) → named_in next ≡ Some n → Served h.shapes h.past n
 served h a r next n l few e f = by_request r (done_at_ends h a r next e) e

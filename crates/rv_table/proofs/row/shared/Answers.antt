@@ -1,4 +1,4 @@
-use Rattle.std.proofs.Common.{◌≡◌, ◌<◌, ◌≤◌, ℕ, arith, refl, subst}
+use Rattle.std.proofs.Common.{◌≡◌, ℕ, arith, refl, subst}
 use Rattle.rv_table.proofs.Shared.{Half, half_more, shared_row}
 use Rattle.rv_table.proofs.row.shared.Goals as goal
 
