@@ -85,18 +85,7 @@ pub struct Point<'a> {
 // One drop of all fields proves quicker than each of them wherever a point is let go.
 impl Drop for Point<'_> {
     fn drop(self) {
-        let Point {
-            scope: _,
-            catalogue: _,
-            outline: _,
-            locals: _,
-            times: _,
-            object: _,
-            slots: _,
-            parameters: _,
-            constants: _,
-            result_range: _,
-        } = self;
+        self.into_scope();
     }
 }
 
