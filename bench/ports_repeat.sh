@@ -1,23 +1,24 @@
 #!/usr/bin/env bash
-# Plays the rows of crates/thread_rows again and again while all processors are busy, and says how many rounds ended within
-# a minute each with each row as due. How often may be given (200). It proves nothing; a round that
-# stalls has a port that was not woken. The first time it takes some minutes to prove and build. It needs rt, nproc, seq, cmp
-# and timeout.
+# Plays the jobs of crews of crates/thread_rows again and again, the storm among them, and the games of ports that stand in no
+# file, beside four times as many busy threads as there are processors. It says how many rounds ended within five minutes each
+# with each line as due. How often may be given (200). It proves nothing; a round that stalls has a port that was not woken.
+# The first time it takes some minutes to prove and build. It needs rt, nproc, seq, grep, cmp, mktemp and timeout.
 set -eu
 
 missing() {
     echo "bench/ports_repeat.sh: $1 is missing" >&2
     exit 127
 }
-for tool in rt nproc seq cmp timeout; do
+for tool in rt nproc seq grep cmp mktemp timeout; do
     command -v "$tool" >/dev/null || missing "$tool"
 done
 
 cd "$(dirname "$(readlink -f "$0")")/../crates/thread_rows"
-log=$(mktemp)
+folder=$(mktemp -d)
+log=$folder/log
 busy=()
 stop() {
-    rm -f "$log"
+    rm -rf "$folder"
     for pid in "${busy[@]}"; do
         kill "$pid" 2>/dev/null || true
     done
@@ -30,9 +31,11 @@ if ! [ -x out/thread_rows ] || ! [ -e out/thread_rows.stamp ]; then
     exit 1
 fi
 program=$PWD/out/thread_rows
-due=$PWD/stdout
-cd data
-for _ in $(seq "$(nproc)"); do
+# There are no transcripts and no games of steps where it runs: so their lines aren't due.
+grep -v -e '^@' -e '\.run: ' stdout >"$folder/due"
+cd "$folder"
+: >games
+for _ in $(seq $((4 * $(nproc)))); do
     (while :; do :; done) &
     busy+=("$!")
 done
@@ -42,10 +45,10 @@ stalled=0
 start=$(date +%s)
 for _ in $(seq "$wanted"); do
     status=0
-    timeout 60 "$program" >"$log" 2>&1 || status=$?
+    timeout 300 "$program" >"$log" 2>&1 || status=$?
     if [ "$status" -eq 124 ]; then
         stalled=$((stalled + 1))
-    elif [ "$status" -eq 0 ] && cmp -s "$log" "$due"; then
+    elif [ "$status" -eq 0 ] && cmp -s "$log" due; then
         as_due=$((as_due + 1))
     fi
 done

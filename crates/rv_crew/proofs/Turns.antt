@@ -1,10 +1,17 @@
--- A crew whose ports are of one turn.
+-- A crew whose ports are of one turn, and what stays of a lost one.
 use Rattle.std.proofs.Common.{◌≡◌, ℕ, List, [], ◌∷◌, ◌++◌, map, sym, subst}
 use Rattle.atomic_table.specs.Seated.{TableId}
-use Rattle.rv_turn.specs.Histories.{Each}
-use Rattle.rv_port.specs.Ports.{Porting}
-use Rattle.rv_crew.specs.Teams.{Owed, Team, IsOfTurn}
-use Rattle.rv_crew.specs.Crews.{Joins, told_of, with_started}
+use Rattle.rv_turn.specs.Histories.{mine, Each, StartsWith}
+use Rattle.rv_turn.specs.Passes.{Noted}
+use Rattle.rv_port.specs.Controls.{IsPorts}
+use Rattle.rv_port.specs.Events.{by, log_of}
+use Rattle.rv_port.specs.Ports.{Porting, pass_of}
+use Rattle.rv_port.specs.Traces.{Passing}
+use Rattle.rv_port.specs.declared.event.Event.{Event}
+use Rattle.rv_port.proofs.Closings.{mine_later}
+use Rattle.rv_crew.specs.Teams.{Owed, Team, IsOfTurn, no_threads}
+use Rattle.rv_crew.specs.Crews.{HasLost, IsClosedBy, Joins, told_of, note_of, with_started, given_up, with_lost, with_joined}
+use Rattle.rv_crew.specs.declared.crew.Closed.{Closed}
 
 each_both : {X : Type 0} (P : X → Type 0) (xs ys : List X) → Each P xs → Each P ys → Each P (xs ++ ys)
 each_both P [] ys p q = q
@@ -15,22 +22,46 @@ each_told turn [] p = tt
 each_told turn (port ∷ back) p = (p.0, each_told turn back p.1)
 
 -- a crew without ports
-pub none_of_turn : (turn : TableId) (lost : List ℕ) → IsOfTurn turn (record { running = []; joined = []; lost = lost })
-none_of_turn turn lost = record { out = tt; back = tt }
+pub none_of_turn : (turn : TableId) (refuses : ℕ) → IsOfTurn turn (no_threads refuses)
+none_of_turn turn refuses = record { out = tt; back = tt; gone = tt }
 
 -- one thread more, on a port of that turn
 pub started_of_turn : (turn : TableId) (crew : Team) (port : Porting) → IsOfTurn turn crew → port.turn ≡ turn → IsOfTurn turn (with_started crew port)
 started_of_turn turn crew port of is = record {
   out = each_both (λ (owed : Owed). owed.turn ≡ turn) crew.running (told_of port ∷ []) of.out (is, tt);
   back = of.back;
+  gone = of.gone;
 }
 
--- a port that is lost with its job
-pub lost_of_turn : (turn : TableId) (crew : Team) (lost : List ℕ) → IsOfTurn turn crew → IsOfTurn turn (record crew { lost = lost })
-lost_of_turn turn crew lost of = record { out = of.out; back = of.back }
+-- a port of that turn that is given up
+pub given_up_of_turn : (turn : TableId) (crew : Team) (port : Porting) → IsOfTurn turn crew → port.turn ≡ turn → IsOfTurn turn (given_up crew port)
+given_up_of_turn turn crew port of is = record {
+  out = of.out;
+  back = of.back;
+  gone = each_both (λ (note : Noted Event). note.turn ≡ turn) crew.noted (note_of port ∷ []) of.gone (is, tt);
+}
 
--- what the threads give back, joined
-pub joined_of_turn : (turn : TableId) (crew : Team) (after : List Porting) → IsOfTurn turn crew → Joins crew.joined crew.running after → Each (λ (port : Porting). port.turn ≡ turn) after
-joined_of_turn turn crew after of joins =
+-- a port of that turn that is lost with its job
+pub lost_of_turn : (turn : TableId) (crew : Team) (port : Porting) → IsOfTurn turn crew → port.turn ≡ turn → IsOfTurn turn (with_lost crew port)
+lost_of_turn turn crew port of is = let up = given_up_of_turn turn crew port of is in record { out = up.out; back = up.back; gone = up.gone }
+
+-- the threads are joined
+pub joined_of_turn : (turn : TableId) (crew after : Team) → IsOfTurn turn crew → Joins crew.joined crew.running after.joined → after ≡ with_joined crew after.joined → IsOfTurn turn after
+joined_of_turn turn crew after of joins is =
     let told = subst (Each (λ (owed : Owed). owed.turn ≡ turn)) (sym joins.1) of.out in
-    subst (Each (λ (port : Porting). port.turn ≡ turn)) (sym joins.2) (each_both (λ (port : Porting). port.turn ≡ turn) crew.joined joins.0 of.back (each_told turn joins.0 told))
+    let came = each_both (λ (port : Porting). port.turn ≡ turn) crew.joined joins.0 of.back (each_told turn joins.0 told) in
+    let back : Each (λ (port : Porting). port.turn ≡ turn) after.joined = subst (Each (λ (port : Porting). port.turn ≡ turn)) (sym joins.2) came in
+    let all : IsOfTurn turn (with_joined crew after.joined) = record { out = tt; back = back; gone = of.gone } in
+    subst (IsOfTurn turn) (sym is) all
+
+-- what was noted of a port that was lost stays, and with it its entries
+each_within : (P : Noted Event → Type 0) (before after : List (Noted Event)) (note : Noted Event) → Each P (before ++ note ∷ after) → P note
+each_within P [] after note t = t.0
+each_within P (x ∷ before) after note t = each_within P before after note t.1
+
+pub lost_stays : (crew : Team) (control : Passing) (closed : Closed) (port : Porting) → IsPorts (pass_of port) → HasLost crew port → (c : IsClosedBy crew control closed)
+    → StartsWith (mine by port.actor (log_of closed.host c.host.units)) port.own
+lost_stays crew control closed port keeps lost c =
+    let log = log_of closed.host c.host.units in
+    let stays : StartsWith log port.seen = each_within (λ note. StartsWith log note.seen) lost.0 lost.1 (note_of port) (subst (Each (λ (note : Noted Event). StartsWith log note.seen)) lost.2 c.host.notes_stay) in
+    subst (StartsWith (mine by port.actor log)) keeps.owns (mine_later port.actor port.seen log stays)

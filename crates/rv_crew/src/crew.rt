@@ -1,14 +1,15 @@
 //! The crew: threads that were started, each with a job and a port, and what came of them.
 
-ghost use Rattle.std.specs.Prelude.{◌≡◌, ◌+◌, ◌≤◌, ◌++◌, ◌∷◌, [], map, reverse, length, vec_len, IfOk, IfErr, IfSome, OnOk, OnErr};
+ghost use Rattle.std.specs.Prelude.{◌≡◌, ◌==◌, ◌+◌, ◌≤◌, [], false, map, reverse, length, vec_len, IfOk, IfErr, IfSome, OnOk, OnErr};
 ghost use Rattle.std.specs.Vec.{vec_capacity};
-ghost use Rattle.rv_turn.specs.Histories.{Each};
-ghost use Rattle.rv_crew.specs.Crews.{Joins, IsStartFault, IsClosedBy, told_of, actor_of, with_started, owed};
+ghost use Rattle.rv_crew.specs.Teams.{IsOfTurn, no_threads};
+ghost use Rattle.rv_crew.specs.Crews.{Joins, IsStartFault, IsClosedBy, actor_of, with_started, given_up, with_joined, owed};
 
 use crate::job::{Job, OfPort};
 use rv_exec::machine::STACK_BYTES;
 use rv_host::host::Host;
 use rv_port::control::{Control, Unclosed};
+use rv_port::note::Note;
 use rv_port::port::{Finished, Port};
 use std::alloc::{AllocError, Global};
 use std::marker::Model;
@@ -31,7 +32,11 @@ pub struct Crew {
     alloc: Global,
     running: Vec<PromisedHandle<Finished, OfPort>>,
     joined: Vec<Finished>,
+    // The actors whose ports were lost, and what each of these ports had seen.
     lost: Vec<u64>,
+    notes: Vec<Note>,
+    // Which of the coming starts makes no thread, counted from 1; 0 is none.
+    refuses: u64,
 }
 
 impl Model for Crew {
@@ -46,7 +51,7 @@ impl Model for Crew {
 
     ghost use Rattle.rv_crew.specs.Crews.{owed};
 
-    ghost view = { λ c. record { running = map owed c.running.items; joined = c.joined.items; lost = c.lost.items } };
+    ghost view = { λ c. record { running = map owed c.running.items; joined = c.joined.items; lost = c.lost.items; noted = c.notes.items; refuses = c.refuses } };
 }
 
 impl Drop for Crew {
@@ -57,6 +62,8 @@ impl Drop for Crew {
             running: _,
             joined: _,
             lost: _,
+            notes: _,
+            refuses: _,
         } = self;
     }
 }
@@ -68,7 +75,7 @@ pub struct Closed {
     pub host: Host,
     /// The actors whose ports came back, in the order in which they were joined.
     pub finished: Vec<u64>,
-    /// The actors whose ports were lost.
+    /// The actors whose ports were lost with their jobs, or given up, in that order.
     pub lost: Vec<u64>,
 }
 
@@ -79,11 +86,20 @@ pub struct StillOpen {
     pub control: Control,
 }
 
-// Runs a job on a port in a thread of its own, whose stack holds the deepest bodies.
-fn begin<R: Threads>(rt: &R, job: Job, port: Port) -> Option<PromisedHandle<Finished, OfPort>>
+// Runs a job on a port in a thread of its own, whose stack holds the deepest bodies. None where that is refused, or there is
+// no thread.
+fn begin<R: Threads>(
+    rt: &R,
+    job: Job,
+    port: Port,
+    is_refused: bool,
+) -> Option<PromisedHandle<Finished, OfPort>>
     requires { port.actor ≡ job.actor }
-    ensures { IfSome result (λ h. h.promise.0.value ≡ port) }
+    ensures { IfSome result (λ h. (h.promise.0.value ≡ port) × (is_refused ≡ false)) }
 {
+    if is_refused {
+        return None;
+    }
     let Job { actor: _, run } = job;
     let promise = OfPort::of(&port);
     Builder::new()
@@ -128,23 +144,46 @@ fn actors_of(alloc: Global, ports: &[Finished]) -> Result<Vec<u64>, AllocError>
 impl Crew {
     /// A crew without threads.
     pub fn new(alloc: Global) -> Crew
-        ensures { result ≡ record { running = []; joined = []; lost = [] } }
+        ensures { result ≡ no_threads 0 }
     {
         Crew {
             alloc,
             running: Vec::new(alloc),
             joined: Vec::new(alloc),
             lost: Vec::new(alloc),
+            notes: Vec::new(alloc),
+            refuses: 0,
         }
+    }
+
+    /// A crew without threads, for tests: the start with this number makes no thread, though one could be had. Starts count
+    /// from 1, whether they make a thread or none, but not those that are out of memory; 0 refuses none.
+    pub fn refusing(alloc: Global, start: u64) -> Result<Crew, AllocError>
+        ensures { IfOk result (λ crew. crew ≡ no_threads start) }
+    {
+        let mut lost = Vec::new(alloc);
+        lost.reserve(1)?;
+        Ok(Crew {
+            alloc,
+            running: Vec::new(alloc),
+            joined: Vec::new(alloc),
+            lost,
+            notes: Vec::new(alloc),
+            refuses: start,
+        })
     }
 
     /// Starts a thread that runs the job on the port of its actor.
     pub fn start<R: Threads>(&mut self, rt: &R, job: Job, port: Port) -> Result<(), StartFault>
         requires { port.actor ≡ job.actor }
         ensures ok { OnOk result (self.new ≡ with_started self.old port) }
+        ensures allowed { OnOk result ((self.old.refuses == 1) ≡ false) }
         ensures err { IfErr result (λ fault. IsStartFault self.old job port self.new fault) }
     {
-        if self.running.reserve(1).is_err() || self.lost.reserve(1).is_err() {
+        if self.running.reserve(1).is_err()
+            || self.lost.reserve(1).is_err()
+            || self.notes.reserve(1).is_err()
+        {
             return Err(StartFault::NoMemory(job, port));
         }
         // Room for what comes back, too: so no thread is left behind for want of memory when they are joined.
@@ -152,24 +191,44 @@ impl Crew {
         if self.joined.reserve(coming).is_err() {
             return Err(StartFault::NoMemory(job, port));
         }
+        let mut port = port;
         let actor = port.actor();
-        match begin(rt, job, port) {
+        let note = port.note();
+        let is_refused = self.refuses == 1;
+        self.refuses = self.refuses.saturating_sub(1);
+        match begin(rt, job, port, is_refused) {
             Some(thread) => {
                 self.running.push_reserved(thread);
                 Ok(())
             }
             None => {
                 self.lost.push_reserved(actor);
+                self.notes.push_reserved(note);
                 Err(StartFault::NoThread)
             }
         }
+    }
+
+    /// Lets go of a port that gets no thread, as where memory was refused for its job: its actor is lost. Where there is no
+    /// memory for that the port comes back, and isn't lost.
+    pub fn give_up(&mut self, port: Port) -> Result<(), Port>
+        ensures ok { OnOk result (self.new ≡ given_up self.old port) }
+        ensures err { IfErr result (λ back. (back ≡ port) × (self.new ≡ self.old)) }
+    {
+        if self.lost.reserve(1).is_err() || self.notes.reserve(1).is_err() {
+            return Err(port);
+        }
+        let mut port = port;
+        self.lost.push_reserved(port.actor());
+        self.notes.push_reserved(port.note());
+        Ok(())
     }
 
     /// Waits until each thread that was started has ended, and keeps the ports that they give back.
     /// Where there is no memory for these it waits for none.
     pub fn join_all<R: Threads>(&mut self, rt: &R) -> Result<(), AllocError>
         ensures ok { OnOk result (Joins self.old.joined self.old.running self.new.joined
-            × (self.new ≡ record { running = []; joined = self.new.joined; lost = self.old.lost })) }
+            × (self.new ≡ with_joined self.old self.new.joined)) }
         ensures err { OnErr result (self.new ≡ self.old) }
     {
         self.joined.reserve(self.running.len())?;
@@ -180,11 +239,11 @@ impl Crew {
     }
 
     /// The host, whose journal has all that the control and the ports of this crew did, and the
-    /// actors whose ports came back and were lost. The ports are of this control. Where there is no
-    /// memory, crew and control come back.
+    /// actors whose ports came back and were lost. Of a lost port it has what it did before. The ports
+    /// are of this control. Where there is no memory, crew and control come back.
     pub fn close<R: Wait>(self, rt: &R, control: Control) -> Result<Closed, StillOpen>
         requires joined { self.running ≡ [] }
-        requires turn { Each (λ f. f.turn ≡ control.turn) self.joined }
+        requires turn { IsOfTurn control.turn self }
         ensures ok { IfOk result (λ closed. IsClosedBy self control closed) }
         ensures err { IfErr result (λ still. (still.crew ≡ self) × (still.control ≡ control)) }
     {
@@ -199,8 +258,10 @@ impl Crew {
             running,
             joined,
             lost,
+            notes,
+            refuses,
         } = self;
-        match control.close(rt, joined) {
+        match control.close(rt, joined, notes) {
             Ok(host) => Ok(Closed {
                 host,
                 finished,
@@ -210,6 +271,7 @@ impl Crew {
                 Unclosed {
                     control,
                     finished: joined,
+                    notes,
                 },
             ) => Err(StillOpen {
                 crew: Crew {
@@ -217,6 +279,8 @@ impl Crew {
                     running,
                     joined,
                     lost,
+                    notes,
+                    refuses,
                 },
                 control,
             }),

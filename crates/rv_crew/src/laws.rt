@@ -1,11 +1,15 @@
 //! Laws of crews, each on a function that does nothing.
 
-ghost use Rattle.std.specs.Prelude.{◌≡◌, List};
+ghost use Rattle.std.specs.Prelude.{◌≡◌};
 ghost use Rattle.atomic_table.specs.Seated.{TableId};
-ghost use Rattle.rv_turn.specs.Histories.{Each};
-ghost use Rattle.rv_port.specs.Ports.{Porting};
+ghost use Rattle.rv_turn.specs.Histories.{mine, StartsWith};
+ghost use Rattle.rv_port.specs.Controls.{IsPorts};
+ghost use Rattle.rv_port.specs.Events.{by, log_of};
+ghost use Rattle.rv_port.specs.Ports.{Porting, pass_of};
+ghost use Rattle.rv_port.specs.Traces.{Passing};
 ghost use Rattle.rv_crew.specs.Teams.{Team, IsOfTurn};
-ghost use Rattle.rv_crew.specs.Crews.{Joins, with_started};
+ghost use Rattle.rv_crew.specs.Crews.{HasLost, IsClosedBy, Joins, with_started, given_up, with_lost, with_joined};
+ghost use Rattle.rv_crew.specs.declared.crew.Closed.{Closed};
 
 /// A crew keeps to one turn where a thread is started on a port of that turn.
 #[tactic(auto, using(crate::proofs::Turns::started_of_turn))]
@@ -14,10 +18,24 @@ pub fn starts_keep_the_turn()
         → IsOfTurn turn (with_started crew port) }
 {}
 
-/// What the threads of such a crew give back is of that turn: so a crew that only ever had ports of one
-/// control is closed with it, once it is joined.
-#[tactic(auto, using(crate::proofs::Turns::joined_of_turn))]
+/// So it does where a port of that turn is given up, or lost with its job.
+#[tactic(auto, using(crate::proofs::Turns::given_up_of_turn, crate::proofs::Turns::lost_of_turn))]
+pub fn losses_keep_the_turn()
+    ensures given_up { (turn : TableId) → (crew : Team) → (port : Porting) → IsOfTurn turn crew → port.turn ≡ turn
+        → IsOfTurn turn (given_up crew port) }
+    ensures lost { (turn : TableId) → (crew : Team) → (port : Porting) → IsOfTurn turn crew → port.turn ≡ turn
+        → IsOfTurn turn (with_lost crew port) }
+{}
+
+/// So it does where its threads are joined: a crew that only ever had ports of one control is closed with it.
 pub fn joins_keep_the_turn()
-    ensures { (turn : TableId) → (crew : Team) → (after : List Porting) → IsOfTurn turn crew
-        → Joins crew.joined crew.running after → Each (λ port. port.turn ≡ turn) after }
+    ensures { (turn : TableId) → (crew : Team) → (after : Team) → IsOfTurn turn crew
+        → Joins crew.joined crew.running after.joined → after ≡ with_joined crew after.joined → IsOfTurn turn after }
+{}
+
+/// The entries of a port that was lost stay: the journal's entries of its actor begin with those that the port had made.
+#[tactic(auto, using(crate::proofs::Turns::lost_stays))]
+pub fn lost_entries_stay()
+    ensures { (crew : Team) → (control : Passing) → (closed : Closed) → (port : Porting) → IsPorts (pass_of port) → HasLost crew port
+        → (by_close : IsClosedBy crew control closed) → StartsWith (mine by port.actor (log_of closed.host by_close.host.units)) port.own }
 {}

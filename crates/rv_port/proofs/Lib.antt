@@ -17,3 +17,4 @@ pub mod Bodies
 pub mod Closings
 pub mod Texts
 pub mod Sends
+pub mod Alone

@@ -11,3 +11,4 @@ pub mod Ports
 pub mod Controls
 pub mod Closing
 pub mod Texts
+pub mod Alone

@@ -5,8 +5,12 @@ ghost use Rattle.rv_code.specs.declared.body.UnitBodies.{UnitBodies};
 ghost use Rattle.rv_history.specs.History.{History};
 ghost use Rattle.rv_history.specs.Legal.{Legal};
 ghost use Rattle.rv_turn.specs.Histories.{mine, StartsWith};
+ghost use Rattle.rv_port.specs.Alone.{IsUnused, quit_alone};
+ghost use Rattle.rv_port.specs.Calls.{Quits};
+ghost use Rattle.rv_port.specs.Controls.{IsGiven};
 ghost use Rattle.rv_port.specs.Events.{by, catalogue_of, history_at, log_of, units_in};
 ghost use Rattle.rv_port.specs.Later.{NoEarlierList, KeepsBodies};
+ghost use Rattle.rv_port.specs.Traces.{Passing};
 ghost use Rattle.rv_port.specs.declared.event.Event.{Event};
 
 /// The catalogue is that of the operator's own events, whatever others add.
@@ -43,4 +47,16 @@ pub fn events_stay()
 /// that was handed an object runs by the bodies of then, and those of units loaded since.
 pub fn bodies_stay()
     ensures { (seen log : List Event) → StartsWith log seen → KeepsBodies seen log }
+{}
+
+/// A port on which nothing was called is finished by its quit alone, which is accepted; of a line there is nothing.
+#[tactic(auto, using(crate::proofs::Alone::quits_alone))]
+pub fn unused_ports_quit_alone()
+    ensures { (port done : Passing) → IsUnused port → Quits port done → done.own ≡ quit_alone port.actor }
+{}
+
+/// A port as it is given is such a port.
+#[tactic(auto, using(crate::proofs::Alone::given_unused))]
+pub fn given_ports_are_unused()
+    ensures { (control : Passing) → (after : Passing) → (port : Passing) → (actor : ℕ) → IsGiven control actor after port → IsUnused port }
 {}

@@ -13,7 +13,7 @@ use Rattle.rv_port.specs.Ports.{Porting}
 use Rattle.rv_port.specs.Controls.{IsGiven, LoadTold, Told}
 use Rattle.rv_crew.specs.Teams.{Team, IsOfTurn}
 use Rattle.rv_port.specs.declared.event.Ask.{Ask}
-use Rattle.rv_crew.specs.Crews.{Joins}
+use Rattle.rv_crew.specs.Crews.{Joins, with_joined}
 use Rattle.rv_crew.proofs.Turns.{none_of_turn, started_of_turn, lost_of_turn}
 use Rattle.rv_staff.specs.declared.hires.HireFault.{HireFault}
 use Rattle.rv_staff.specs.declared.hires.HireFault.TheVariants.{NoThread, NoMemory}
@@ -52,20 +52,20 @@ given_turn v w actor port given = ap (λ (p : Passing). p.turn) given.parted.new
 -- What is started.
 
 pub none_are : (control : Passing) → AreOf control no_crew
-none_are control = record { none_joined = refl; one_turn = none_of_turn control.turn [] }
+none_are control = record { none_joined = refl; one_turn = none_of_turn control.turn 0 }
 
 pub hired_stay : (control : Passing) (crew : Team) (port : Porting) (result : Result (Unit {0}) HireFault) → port.turn ≡ control.turn → AreOf control crew → AreOf control (hired crew port result)
 hired_stay control crew port (Ok x) same are = record {
   none_joined = are.none_joined;
   one_turn = started_of_turn control.turn crew port are.one_turn same;
 }
-hired_stay control crew port (Err NoThread) same are = record { none_joined = are.none_joined; one_turn = lost_of_turn control.turn crew (crew.lost ++ port.actor ∷ []) are.one_turn }
+hired_stay control crew port (Err NoThread) same are = record { none_joined = are.none_joined; one_turn = lost_of_turn control.turn crew port are.one_turn same }
 hired_stay control crew port (Err NoMemory) same are = are
 
 -- What is joined.
 
 pub closes : (control : Passing) (crew after : Team) (result : Option ℕ) → AreOf control crew → Joins crew.joined crew.running after.joined
-    → after ≡ record { running = []; joined = after.joined; lost = crew.lost } → IfSome result (Leaves control after) → IfSome result (Closes control crew)
+    → after ≡ with_joined crew after.joined → IfSome result (Leaves control after) → IfSome result (Closes control crew)
 closes control crew after None are joins after_is leaves = leaves
 closes control crew after (Some entries) are joins after_is leaves = record {
   back = after.joined;

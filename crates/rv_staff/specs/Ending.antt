@@ -8,7 +8,7 @@ use Rattle.rv_port.specs.Ports.{Porting}
 use Rattle.rv_port.specs.Controls.{Told}
 use Rattle.rv_port.specs.declared.event.Ask.{Ask}
 use Rattle.rv_crew.specs.Teams.{Team}
-use Rattle.rv_crew.specs.Crews.{Joins, IsClosedBy}
+use Rattle.rv_crew.specs.Crews.{Joins, IsClosedBy, with_joined}
 use Rattle.rv_crew.specs.declared.crew.Closed.{Closed}
 use Rattle.rv_staff.specs.Staffs.{Staffed}
 
@@ -26,7 +26,7 @@ pub record Leaves (control : Passing) (crew : Team) (entries : ℕ) : Type 0 whe
 pub record Closes (control : Passing) (crew : Team) (entries : ℕ) : Type 0 where
   pub back : List Porting
   pub joined : Joins [] crew.running back
-  pub leaves : Leaves control (record { running = []; joined = back; lost = crew.lost }) entries
+  pub leaves : Leaves control (with_joined crew back) entries
 
 -- the host is halted, and then closed
 pub record Ended (staff : Staffed) (entries : ℕ) : Type 0 where

@@ -1,13 +1,13 @@
 -- What the start of a thread leaves. (own)
-use Rattle.std.specs.Prelude.{[], ◌∷◌, ◌++◌, Result, Ok, Err}
+use Rattle.std.specs.Prelude.{Result, Ok, Err}
 use Rattle.rv_port.specs.Ports.{Porting}
 use Rattle.rv_crew.specs.Teams.{Team}
-use Rattle.rv_crew.specs.Crews.{with_started}
+use Rattle.rv_crew.specs.Crews.{with_started, with_lost}
 use Rattle.rv_staff.specs.declared.hires.HireFault.{HireFault}
 use Rattle.rv_staff.specs.declared.hires.HireFault.TheVariants.{NoThread, NoMemory}
 
 -- the crew has one thread more, with this port; or its actor is lost; or, for want of memory, the crew is as before
 abbrev pub hired : {X : Type 0} → Team → Porting → Result X HireFault → Team
 hired crew port (Ok x) = with_started crew port
-hired crew port (Err NoThread) = record crew { lost = crew.lost ++ port.actor ∷ [] }
+hired crew port (Err NoThread) = with_lost crew port
 hired crew port (Err NoMemory) = crew

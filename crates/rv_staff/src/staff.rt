@@ -2,11 +2,11 @@
 
 ghost use Rattle.std.specs.Prelude.{◌≡◌, [], Err, IfErr, IfOk, IfSome, MatchResult};
 ghost use Rattle.rv_text.specs.Words.{words};
-ghost use Rattle.rv_turn.specs.Histories.{Each};
 ghost use Rattle.rv_turn.specs.Passes.{IsWorn};
 ghost use Rattle.rv_port.specs.Events.{catalogue_of};
 ghost use Rattle.rv_port.specs.Ports.{pass_of};
 ghost use Rattle.rv_port.specs.Controls.{Brings, IsGiven, LoadTold};
+ghost use Rattle.rv_crew.specs.Teams.{IsOfTurn};
 ghost use Rattle.rv_shell.specs.Serving.{Serves, Writes, answer_line};
 ghost use Rattle.rv_staff.specs.Ending.{Closes, Ended, Leaves};
 ghost use Rattle.rv_staff.specs.Hiring.{hired};
@@ -62,7 +62,7 @@ impl Drop for Staff {
 // Closes a control with a crew that is joined. Gives how many entries the journal has.
 fn leave<R: Wait>(rt: &R, crew: Crew, control: Control) -> Option<usize>
     requires joined { crew.running ≡ [] }
-    requires turn { Each (λ f. f.turn ≡ control.turn) crew.joined }
+    requires turn { IsOfTurn control.turn crew }
     ensures { IfSome result (Leaves control crew) }
 {
     match crew.close(rt, control) {

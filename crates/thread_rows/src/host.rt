@@ -10,11 +10,18 @@ use std::alloc::Global;
 // How many entries a journal has room for.
 const CAPACITY: usize = 2000;
 
+// A host without units whose journal has so much room.
+fn host_with(alloc: Global, capacity: usize) -> Option<Host>
+    ensures { IfSome result (λ host. host.past ≡ []) }
+{
+    Host::new(alloc, capacity).ok()
+}
+
 /// A new host without units. None where there is no memory.
 pub fn new_host(alloc: Global) -> Option<Host>
     ensures { IfSome result (λ host. host.past ≡ []) }
 {
-    Host::new(alloc, CAPACITY).ok()
+    host_with(alloc, CAPACITY)
 }
 
 // The control of a host of which nothing was asked.
@@ -24,12 +31,17 @@ fn control_of(alloc: Global, host: Host) -> Option<Control>
     Control::make(alloc, host).ok()
 }
 
-/// The control of a new host without units.
-pub fn new_control(alloc: Global) -> Option<Control> {
-    match new_host(alloc) {
+/// The control of a new host without units, whose journal has so much room.
+pub fn control_with(alloc: Global, capacity: usize) -> Option<Control> {
+    match host_with(alloc, capacity) {
         Some(host) => control_of(alloc, host),
         None => None,
     }
+}
+
+/// The control of a new host without units.
+pub fn new_control(alloc: Global) -> Option<Control> {
+    control_with(alloc, CAPACITY)
 }
 
 /// The port of an actor of a control.

@@ -7,7 +7,7 @@ mod closing;
 mod example;
 mod flag;
 mod game;
-mod journal;
+pub mod journal;
 mod operator;
 mod plain_acts;
 mod plant;

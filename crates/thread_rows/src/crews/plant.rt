@@ -1,67 +1,114 @@
-//! The host of the crews: a plant with a valve, and a device and an idle task beside it.
+//! The hosts of the crews: a plant with a valve, whose bodies come from its text, and tasks and devices beside it.
 
-ghost use Rattle.std.specs.Prelude.{◌≡◌, IfSome};
-
-use crate::host::{new_control, port_of};
+use crate::host::{control_with, new_control};
 use rv_access::read_list;
+use rv_fault::unit_of;
 use rv_port::control::Control;
-use rv_port::port::Port;
 use rv_shape::reading::read_shape;
 use std::alloc::Global;
 use std::sync::Wait;
 
-// The device is actor 11, the idle task actor 12.
-const DEVICE: u64 = 11;
+/// The number of the first task.
+pub const FIRST: u64 = 11;
 
-const IDLE: u64 = 12;
+/// How many entries the storm's journal has room for.
+pub const STORM_CAPACITY: usize = 65_536;
 
-const UNITS: [&str; 3] = [
-    "unit Plant\nprotected Valve 20\nscalar 0 100 0\nfunction Get 0 100\n",
-    "unit Dev\ntask Main 15\n",
-    "unit Spare\ntask Idle 15\n",
-];
+// Object 1, Valve: 1 Get, 2 Add, 3 Wait.
+const PLANT: &str = "package Plant is
+   protected Valve with Priority => 20 is
+      function Get return Integer;
+      procedure Add (N : in Integer);
+      entry Wait (N : out Integer);
+   private
+      Ready : Boolean := False;
+      Level : Integer := 0;
+   end Valve;
+end Plant;
+package body Plant is
+   protected body Valve is
+      function Get return Integer is begin return Level; end Get;
+      procedure Add (N : in Integer) is begin
+         Level := Level + N; Ready := Level > 5;
+      end Add;
+      entry Wait (N : out Integer) when Ready is begin
+         N := Level; Ready := False;
+      end Wait;
+   end Valve;
+end Plant;
+";
+
+// Tasks 11 and 12.
+const NAV: &str = "with Plant;
+package Nav is
+   task Pilot;
+   task Aux;
+end Nav;
+package body Nav is
+   task body Pilot is X : Integer; begin Plant.Valve.Wait (X); end Pilot;
+   task body Aux is begin Plant.Valve.Add (4); Plant.Valve.Add (4); end Aux;
+end Nav;
+";
+
+// Task 11.
+const DEVICE: &str = "unit Dev\ntask Main 15\n";
+
+// Tasks 11 to 18.
+const STORM: &str = "unit Storm
+task One 15
+task Two 15
+task Three 15
+task Four 15
+task Five 15
+task Six 15
+task Seven 15
+task Eight 15
+";
+
+// Loads the unit of a text.
+fn load_text<R: Wait>(rt: &R, alloc: Global, control: &mut Control, text: &str) -> Option<()> {
+    let unit = unit_of(alloc, control.catalogue(), 1, text).ok()?;
+    let _ = control.load(rt, unit);
+    Some(())
+}
 
 // Loads a shape.
-fn load<R: Wait>(rt: &R, alloc: Global, control: &mut Control, text: &str) {
-    if let Ok(shape) = read_shape(alloc, text) {
-        let _ = control.load_shape(rt, shape);
-    }
+fn load_shape<R: Wait>(rt: &R, alloc: Global, control: &mut Control, text: &str) -> Option<()> {
+    let shape = read_shape(alloc, text).ok()?;
+    let _ = control.load_shape(rt, shape);
+    Some(())
 }
 
 // Lets everybody call everything.
-fn allow_all<R: Wait>(rt: &R, alloc: Global, control: &mut Control) {
-    if let Ok(list) = read_list(alloc, "allow * * *\n") {
-        let _ = control.set_list(rt, list);
-    }
+fn allow_all<R: Wait>(rt: &R, alloc: Global, control: &mut Control) -> Option<()> {
+    let list = read_list(alloc, "allow * * *\n").ok()?;
+    let _ = control.set_list(rt, list);
+    Some(())
 }
 
-// The control of a host with the units of the crews, where everybody may call everything.
-fn control<R: Wait>(rt: &R, alloc: Global) -> Option<Control> {
+/// The plant, and two tasks beside it.
+pub fn with_tasks<R: Wait>(rt: &R, alloc: Global) -> Option<Control> {
     let mut control = new_control(alloc)?;
-    for text in UNITS {
-        load(rt, alloc, &mut control, text);
-    }
-    allow_all(rt, alloc, &mut control);
+    load_text(rt, alloc, &mut control, PLANT)?;
+    load_text(rt, alloc, &mut control, NAV)?;
+    allow_all(rt, alloc, &mut control)?;
     Some(control)
 }
 
-// The ports of the device and of the idle task.
-fn ports(control: &mut Control) -> Option<(Port, Port)>
-    ensures given { IfSome result (λ ports. (ports.0.turn ≡ control.new.turn) × (ports.1.turn ≡ control.new.turn)) }
-    ensures turn { control.new.turn ≡ control.old.turn }
-{
-    let device = port_of(control, DEVICE)?;
-    let idle = port_of(control, IDLE)?;
-    Some((device, idle))
+/// The plant, and a device that is loaded behind the list.
+pub fn with_device<R: Wait>(rt: &R, alloc: Global) -> Option<Control> {
+    let mut control = new_control(alloc)?;
+    load_text(rt, alloc, &mut control, PLANT)?;
+    allow_all(rt, alloc, &mut control)?;
+    load_shape(rt, alloc, &mut control, DEVICE)?;
+    Some(control)
 }
 
-/// The control of a host with the units of the crews, and the ports of the device and of the idle task.
-pub fn set_up<R: Wait>(rt: &R, alloc: Global) -> Option<(Control, Port, Port)>
-    ensures { IfSome result (λ all. (all.1.turn ≡ all.0.turn) × (all.2.turn ≡ all.0.turn)) }
-{
-    let mut control = control(rt, alloc)?;
-    match ports(&mut control) {
-        Some((device, idle)) => Some((control, device, idle)),
-        None => None,
-    }
+/// The plant, and eight tasks beside it.
+pub fn with_storm<R: Wait>(rt: &R, alloc: Global) -> Option<Control> {
+    let mut control = control_with(alloc, STORM_CAPACITY)?;
+    load_text(rt, alloc, &mut control, PLANT)?;
+    load_shape(rt, alloc, &mut control, STORM)?;
+    allow_all(rt, alloc, &mut control)?;
+    Some(control)
 }

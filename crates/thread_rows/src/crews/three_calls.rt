@@ -1,24 +1,24 @@
-//! A device calls three times, beside a task that has a port and no thread.
+//! A device calls three times.
 
 ghost use Rattle.std.specs.Prelude.{◌≡◌};
 
-use crate::crews::plant::set_up;
-use crate::crews::threads::{closed, with_thread};
+use crate::crews::caller::{GET, VALVE};
+use crate::crews::plant::{FIRST, with_device};
+use crate::crews::threads::{begin, close};
 use crate::hands::{Hands, Role};
+use crate::host::port_of;
 use rv_crew::crew::{Closed, Crew};
 use rv_port::control::Control;
 use rv_port::port::Port;
 use rv_staff::Work;
-use std::io;
 use std::sync::Wait;
 use std::thread::Threads;
 
 // How often the device calls.
 const CALLS: u32 = 3;
 
-// Lets the device call the first operation of the first object, from a thread of its own. Then writes the journal and closes
-// the crew.
-fn call<R: Threads + Wait + AllocGlobal + Print>(
+// Lets the device call from a thread of its own, and closes the crew.
+fn call<R: Threads + Wait + AllocGlobal>(
     rt: &R,
     hands: &Hands,
     port: Port,
@@ -26,15 +26,17 @@ fn call<R: Threads + Wait + AllocGlobal + Print>(
 ) -> Option<Closed>
     requires { port.turn ≡ control.turn }
 {
-    let alloc = rt.alloc();
-    let role = Role::Work(Work::Device(1, 1, CALLS));
-    let crew = with_thread(hands, Crew::new(alloc), port, role)?;
-    closed(rt, alloc, crew, control, &mut io::writer(rt))
+    let mut crew = Crew::new(rt.alloc());
+    let role = Role::Work(Work::Device(VALVE, GET, CALLS));
+    if begin(hands, &mut crew, port, role) {
+        return close(rt, crew, control);
+    }
+    None
 }
 
 /// Plays the game. None where there is no memory or no thread.
-pub fn play<R: Threads + Wait + AllocGlobal + Print>(rt: &R, hands: &Hands) -> Option<Closed> {
-    let (control, port, idle) = set_up(rt, rt.alloc())?;
-    let _ = println!(rt; "no thread: actor {}", idle.actor());
+pub fn play<R: Threads + Wait + AllocGlobal>(rt: &R, hands: &Hands) -> Option<Closed> {
+    let mut control = with_device(rt, rt.alloc())?;
+    let port = port_of(&mut control, FIRST)?;
     call(rt, hands, port, control)
 }

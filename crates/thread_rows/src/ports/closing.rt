@@ -40,7 +40,7 @@ fn close<R: Wait>(rt: &R, alloc: Global, control: Control, done: Finished) -> Op
 {
     let mut finished = Vec::new(alloc);
     finished.push(done).ok()?;
-    match control.close(rt, finished) {
+    match control.close(rt, finished, Vec::new(alloc)) {
         Ok(host) => Some(host.used()),
         Err(_) => None,
     }
