@@ -1,0 +1,5 @@
+pub mod Deciding
+pub mod Covering
+pub mod Spanning
+pub mod Objects
+pub mod Adding

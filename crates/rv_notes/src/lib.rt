@@ -1,0 +1,14 @@
+//! Notes on access lists, for whoever writes one: names that name nothing of what is loaded, and lines that decide
+//! nothing, since later lines cover them. What is told decides nothing itself.
+#![tactic(auto)]
+
+mod covered;
+mod judge;
+mod names;
+mod note;
+mod spans;
+mod words;
+
+pub use judge::notes;
+pub use note::Note;
+pub use words::words_of;
