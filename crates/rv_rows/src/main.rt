@@ -5,6 +5,8 @@
 //! where there is a `NAME.verdict` its journal is judged, and that is the verdict; else it is played, with answers that
 //! aren't recorded, and `NAME.journal` is what has to be written. A journal that is judged may stand in a file of its own,
 //! `NAME.file`.
+//! Where there is a `NAME.fails`, each of its reads and each of its writes also fails in turn: that has to be told, and what
+//! was written is a prefix.
 //! `NAME.fault` is the fault that has to be told, where there is one, and `NAME.explained` what has to be said below it.
 //!
 //! Where there is a `NAME.cuts`, the script is also checked cut at every byte: the file has a line `FIRST..LAST -> WORDS`, or
@@ -17,9 +19,11 @@
 #![tactic(auto)]
 
 mod cut;
+mod failing;
 mod fronts;
 
 use cut::{Ends, Share};
+use failing::{FailingReader, FailingWriter};
 use fronts::fronts_of;
 use row_files::{bytes_of, names_before};
 use rv_check::check::check;
@@ -50,6 +54,29 @@ impl Watch for Unwatched {
 }
 
 // Does what is to be done with a script.
+fn carry_out<R: io::Read, W: io::Write>(
+    alloc: Global,
+    reader: &mut R,
+    deed: Deed<'_>,
+    written: &mut W,
+) -> Result<(), Failure> {
+    match deed {
+        Deed::Play => play(alloc, reader, written, true),
+        Deed::Check => check(alloc, reader, written),
+        Deed::Audit => {
+            let _is_legal = audit(alloc, reader, written)?;
+            Ok(())
+        }
+        Deed::AuditFile(journal) => {
+            let mut journal = journal;
+            let mut watch = Unwatched {};
+            let _audited = audit_file(alloc, reader, &mut journal, false, &mut watch, written)?;
+            Ok(())
+        }
+    }
+}
+
+// Does what is to be done with a script that is read and written without fail.
 fn outcome(
     alloc: Global,
     script: &[u8],
@@ -57,27 +84,7 @@ fn outcome(
     written: &mut Vec<u8>,
 ) -> Result<(), Failure> {
     let mut reader = script;
-    match deed {
-        Deed::Play => play(alloc, &mut reader, written, true),
-        Deed::Check => check(alloc, &mut reader, written),
-        Deed::Audit => {
-            let _is_legal = audit(alloc, &mut reader, written)?;
-            Ok(())
-        }
-        Deed::AuditFile(journal) => {
-            let mut journal = journal;
-            let mut watch = Unwatched {};
-            let _audited = audit_file(
-                alloc,
-                &mut reader,
-                &mut journal,
-                false,
-                &mut watch,
-                written,
-            )?;
-            Ok(())
-        }
-    }
+    carry_out(alloc, &mut reader, deed, written)
 }
 
 /// What is written for a script, and behind it the line of its fault, explained where that is asked for.
@@ -118,6 +125,69 @@ struct Wanted {
     bytes: Vec<u8>,
     is_checked: bool,
     is_audited: bool,
+}
+
+// How many reads and writes of a script are made to fail at most.
+const MOST_FAILURES: usize = 10_000;
+
+// Whether a run ended with a failed read or write.
+fn is_failed(outcome: &Result<(), Failure>) -> bool {
+    match outcome {
+        Err(Failure::Io(_)) => true,
+        _ => false,
+    }
+}
+
+// How many reads a script takes, if each that fails is told, and what was written then begins what has to be.
+fn reads_of(alloc: Global, script: &[u8], deed: Deed<'_>, due: &[u8]) -> Option<usize> {
+    for good in 0..MOST_FAILURES {
+        let mut written: Vec<u8> = Vec::new(alloc);
+        let mut reader = FailingReader::new(script, good);
+        let outcome = carry_out(alloc, &mut reader, deed, &mut written);
+        if !due.starts_with(written.as_slice()) {
+            return None;
+        }
+        if !is_failed(&outcome) {
+            return Some(good);
+        }
+    }
+    None
+}
+
+// The same of writes.
+fn writes_of(alloc: Global, script: &[u8], deed: Deed<'_>, due: &[u8]) -> Option<usize> {
+    for good in 0..MOST_FAILURES {
+        let mut reader = script;
+        let mut writer = FailingWriter::new(alloc, good);
+        let outcome = carry_out(alloc, &mut reader, deed, &mut writer);
+        if !due.starts_with(writer.taken.as_slice()) {
+            return None;
+        }
+        if !is_failed(&outcome) {
+            return Some(good);
+        }
+    }
+    None
+}
+
+/// Whether the reads and the writes of a script fail as they should, in words.
+fn failures_told(rt: &HostRuntime, name: &str) -> io::Result<String> {
+    let alloc = rt.alloc();
+    let script = bytes_of(rt, name, "raven")?.unwrap_or(Vec::new(alloc));
+    let Wanted {
+        bytes: due,
+        is_checked,
+        is_audited,
+    } = wanted_for(rt, name)?;
+    let deed = deed_beside(is_checked, is_audited);
+    let reads = reads_of(alloc, script.as_slice(), deed, due.as_slice());
+    let writes = writes_of(alloc, script.as_slice(), deed, due.as_slice());
+    match (reads, writes) {
+        (Some(reads), Some(writes)) => {
+            Ok(format!(in alloc; "{name}: {reads} failed reads and {writes} failed writes ok")?)
+        }
+        _ => Ok(format!(in alloc; "{name}: a failed read or write isn't told as it should be")?),
+    }
 }
 
 // What stands beside a script as what has to be written.
@@ -229,6 +299,10 @@ fn tell_all(rt: &HostRuntime) -> io::Result<()> {
     for name in names_before(rt, ".raven")? {
         let line = told(rt, name.as_str())?;
         println!(rt; "{line}")?;
+        if bytes_of(rt, name.as_str(), "fails")?.is_some() {
+            let line = failures_told(rt, name.as_str())?;
+            println!(rt; "{line}")?;
+        }
         if let Some(due) = bytes_of(rt, name.as_str(), "cuts")? {
             let line = fronts_told(rt, name.as_str(), due.as_slice())?;
             println!(rt; "{line}")?;

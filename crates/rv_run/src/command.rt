@@ -4,7 +4,6 @@ ghost use Rattle.std.specs.Prelude.{◌≡◌, ◌⊎◌, ℕ};
 ghost use Rattle.rv_staff.specs.Giving.{Gives};
 ghost use Rattle.rv_run.specs.Commanding.{Commands, Loads};
 
-use crate::journal::not_written;
 use rv_event::entry::Answer;
 use rv_fault::{Failure, ScriptFault, text_unit};
 use rv_input::{Input, InputFault};
@@ -13,7 +12,7 @@ use rv_staff::{Hires, Session, raise, say, start_threads};
 use rv_turn::Worn;
 use std::alloc::Global;
 use std::io;
-use std::io::{Read, Write};
+use std::io::{ErrorKind, Read, Write};
 use std::sync::Wait;
 
 // A unit text that a command brings stands at no line of the script.
@@ -28,11 +27,20 @@ pub(crate) enum Goes {
     Out,
 }
 
+/// The failure of a write. Want of memory is told as such.
+pub(crate) fn of_write(error: io::Error) -> Failure {
+    if error.kind() == ErrorKind::OutOfMemory {
+        Failure::Memory
+    } else {
+        Failure::Io(error)
+    }
+}
+
 // The run goes on where a word was written.
 fn said(written: io::Result<()>) -> Result<Goes, Failure> {
     match written {
         Ok(()) => Ok(Goes::On),
-        Err(e) => Err(Failure::Io(e)),
+        Err(e) => Err(of_write(e)),
     }
 }
 
@@ -122,7 +130,7 @@ fn after<W: Write>(next: Result<Next, LineFault>, writer: &mut W) -> Result<Goes
         Ok(Next::Quit) | Err(LineFault::Worn) => Ok(Goes::Out),
         Ok(_) => Ok(Goes::On),
         Err(LineFault::NoMemory) => said(say(writer, "nomemory\n")),
-        Err(LineFault::Write) => Err(not_written()),
+        Err(LineFault::Write(e)) => Err(of_write(e)),
     }
 }
 

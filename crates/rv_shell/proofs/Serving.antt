@@ -24,7 +24,7 @@ use Rattle.rv_shell.specs.Serving.{Written, Writes, RequestsOrWorn, ReadsOrWorn,
 pub asks_by : (old new : Written) (v w : Passing) (ask : Ask) (answer : Answer) (result : Result Next LineFault)
     → Told v ask answer w → Writes old new (answer_line (catalogue_of w.seen) answer) result → RequestsOrWorn old new v w ask result
 asks_by old new v w ask answer (Ok next) told written = record { answer = answer; told = told; written = written }
-asks_by old new v w ask answer (Err Write) told written = record { answer = answer; told = told; written = written }
+asks_by old new v w ask answer (Err (Write error)) told written = record { answer = answer; told = told; written = written }
 asks_by old new v w ask answer (Err NoMemory) told written = record { answer = answer; told = told; written = written }
 asks_by old new v w ask answer (Err Worn) told written = absurd written
 
@@ -42,7 +42,7 @@ pub pages_by : (old new : Written) (v w : Passing) (from : ℕ) (page : List Ite
     → Acted by Does v (Ask.Read from) (Gives.Read page) w → Writes old new (page_text (catalogue_of w.seen) from page) result
     → ReadsOrWorn old new v w from result
 pages_by old new v w from page (Ok next) told written = record { page = page; told = told; written = written }
-pages_by old new v w from page (Err Write) told written = record { page = page; told = told; written = written }
+pages_by old new v w from page (Err (Write error)) told written = record { page = page; told = told; written = written }
 pages_by old new v w from page (Err NoMemory) told written = inr record { page = page; told = told; written = written }
 pages_by old new v w from page (Err Worn) told written = absurd written
 
@@ -53,13 +53,13 @@ acted_turn v w ask reply acted = ap (λ (p : Passing). p.turn) acted.same
 
 pub asks_turn : (old new : Written) (v w : Passing) (ask : Ask) (result : Result Next LineFault) → RequestsOrWorn old new v w ask result → w.turn ≡ v.turn
 asks_turn old new v w ask (Ok next) asks = acted_turn v w ask asks.told.0 asks.told.2
-asks_turn old new v w ask (Err Write) asks = acted_turn v w ask asks.told.0 asks.told.2
+asks_turn old new v w ask (Err (Write error)) asks = acted_turn v w ask asks.told.0 asks.told.2
 asks_turn old new v w ask (Err NoMemory) asks = acted_turn v w ask asks.told.0 asks.told.2
 asks_turn old new v w ask (Err Worn) asks = ap (λ (p : Passing). p.turn) asks.0.1
 
 pub pages_turn : (old new : Written) (v w : Passing) (from : ℕ) (result : Result Next LineFault) → ReadsOrWorn old new v w from result → w.turn ≡ v.turn
 pages_turn old new v w from (Ok next) pages = acted_turn v w (Ask.Read from) (Gives.Read pages.page) pages.told
-pages_turn old new v w from (Err Write) pages = acted_turn v w (Ask.Read from) (Gives.Read pages.page) pages.told
+pages_turn old new v w from (Err (Write error)) pages = acted_turn v w (Ask.Read from) (Gives.Read pages.page) pages.told
 pages_turn old new v w from (Err NoMemory) (inl none) = acted_turn v w (Ask.Read from) Gives.Unread none.0
 pages_turn old new v w from (Err NoMemory) (inr pages) = acted_turn v w (Ask.Read from) (Gives.Read pages.page) pages.told
 pages_turn old new v w from (Err Worn) pages = ap (λ (p : Passing). p.turn) pages.0.1

@@ -63,7 +63,7 @@ Written = Option (List ℕ)
 -- a text is written whole, or, where writing fails, a prefix of it
 abbrev pub Prints : Written → Written → List ℕ → Result Next LineFault → Type 0
 Prints old new text (Ok next) = Appends old new text × (next ≡ Nexts.Go)
-Prints old new text (Err Write) = WritesPrefix old new text
+Prints old new text (Err (Write error)) = WritesPrefix old new text
 Prints old new text (Err NoMemory) = ⊥
 Prints old new text (Err Worn) = ⊥
 

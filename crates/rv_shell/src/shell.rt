@@ -18,6 +18,7 @@ use rv_shape::catalogue::Catalogue;
 use rv_step::reading::StepError;
 use rv_turn::Worn;
 use std::alloc::{AllocError, Global};
+use std::io;
 use std::io::Write;
 use std::sync::Wait;
 use thiserror::Error;
@@ -36,14 +37,14 @@ pub enum Next {
 }
 
 /// Why a command line wasn't carried out to its end.
-#[derive(Clone, Copy, Debug, PartialEq, Eq, Drop, Error)]
+#[derive(Debug, Drop, Error)]
 pub enum LineFault {
     /// Memory was refused.
     #[error("NoMemory")]
     NoMemory,
     /// Writing failed.
     #[error("Write")]
-    Write,
+    Write(io::Error),
     /// The control has no act left.
     #[error("Worn")]
     Worn,
@@ -55,7 +56,7 @@ fn put<W: Write>(writer: &mut W, text: &str) -> Result<Next, LineFault>
 {
     match write_whole(writer, text.as_bytes()) {
         Ok(()) => Ok(Next::Go),
-        Err(_) => Err(LineFault::Write),
+        Err(e) => Err(LineFault::Write(e)),
     }
 }
 

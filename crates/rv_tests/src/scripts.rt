@@ -24,6 +24,19 @@ impl<'a> Read for Broken<'a> {
     }
 }
 
+// A reader that never ends. It counts the bytes that it gives.
+#[derive(Drop)]
+struct Endless {
+    given: usize,
+}
+
+impl Read for Endless {
+    fn read(&mut self, buf: &mut [u8]) -> io::Result<usize> {
+        self.given = self.given.saturating_add(buf.len());
+        Ok(buf.len())
+    }
+}
+
 // Whether a run ended with a failed read or write.
 fn is_io(outcome: &Result<(), Failure>) -> bool {
     match outcome {
@@ -92,6 +105,17 @@ fn scripts_have_a_greatest_length(rt: HostRuntime) -> Result<(), Fail> {
     let alloc = rt.alloc();
     assert!(rt; is_told(alloc, MOST_BYTES, "")?);
     assert!(rt; is_told(alloc, MOST_BYTES + 1, "script line 1: TooLong")?);
+    Ok(())
+}
+
+#[test]
+fn readers_without_an_end_are_too_long(rt: HostRuntime) -> Result<(), Fail> {
+    let alloc = rt.alloc();
+    let mut reader = Endless { given: 0 };
+    let mut written: Vec<u8> = Vec::new(alloc);
+    let outcome = play(alloc, &mut reader, &mut written, false);
+    assert!(rt; told(alloc, &outcome)?.as_str() == "script line 1: TooLong");
+    assert!(rt; reader.given == MOST_BYTES + 1 && written.is_empty());
     Ok(())
 }
 

@@ -1,9 +1,11 @@
 //! Runs: plays each transcript of the folder that the program is run in at a terminal of its own, and says of each whether
 //! the run answered what stands there (`row`).
 
+mod failing;
 mod row;
 mod terminal;
 
+use failing::failures_told;
 use row::{Row, row_of};
 use rv_fault::Failure;
 use rv_run::run::run;
@@ -90,5 +92,6 @@ where
     for name in names_of(rt)? {
         play(rt, hires, name.as_str())?;
     }
-    Ok(())
+    let line = failures_told(rt, hires, rt.alloc())?;
+    println!(rt; "{line}")
 }
