@@ -6,7 +6,9 @@ use Rattle.clap.specs.Walk.{Row, Text, first_of, one_of}
 use Rattle.clap.proofs.OnLiterals.{clap_on_literals}
 use Rattle.ravenhost.specs.declared.chosen.Choice.{Choice}
 use Rattle.ravenhost.specs.declared.chosen.Choice.TheVariants.{Play, Check, Run, Audit, AuditFile}
-use Rattle.ravenhost.specs.Choices.{IsFlag, IsJournal, Names, NamesNone, audit_of, line_of, program}
+use Rattle.ravenhost.specs.declared.chosen.Notes.{Notes}
+use Rattle.ravenhost.specs.declared.chosen.Notes.TheVariants.{Auto}
+use Rattle.ravenhost.specs.Choices.{HasNoWord, IsFlag, IsJournal, IsNoted, Names, NamesNone, audit_of, line_of, notes_of, program}
 
 -- The subcommand that was found, from its name and its rows.
 
@@ -98,6 +100,27 @@ no_torn : (name : Text) → flag_in (codes "torn") (subcommand_of program (name 
 unfolding clap_on_literals
 no_torn name = refl
 
+-- no word for notes
+abbrev notes_in : Option (Text × List Row) → Option (Option Text)
+notes_in = option_map (λ (p : Text × List Row). first_of (codes "notes") p.1)
+
+play_notes : (name : Text) (all : Bool) → notes_in (subcommand_of program (name ∷ line_of (Play all))) ≡ Some None
+unfolding clap_on_literals
+play_notes name true = refl
+play_notes name false = refl
+
+check_notes : (name : Text) (explain : Bool) → notes_in (subcommand_of program (name ∷ line_of (Check explain))) ≡ Some None
+unfolding clap_on_literals
+check_notes name true = refl
+check_notes name false = refl
+
+-- which is none that is wrong
+has_word : (q : Option (Text × List Row)) (found : Text × List Row) → q ≡ Some found → notes_in q ≡ Some None → HasNoWord found.1 → ⊥
+has_word q found e f none =
+    let is : first_of (codes "notes") found.1 ≡ None = ap (λ (o : Option (Option Text)). unwrap_or o None) (sym (ap notes_in e) ∙ f) in
+    let both : Some Auto ≡ None = sym (ap notes_of is) ∙ none in
+    absurd cc
+
 -- a flag that has this text is it
 by_flag : (one other : Bool) (text : Option Text) → text ≡ Some (flag_text one) → IsFlag text other → other ≡ one
 by_flag true other text f n = n.0 f
@@ -183,8 +206,8 @@ names_it name choice other found e n =
 -- what is found of a plain line is a choice's
 none_chosen : (name : Text) (choice : Choice) (m : Option (Text × List Row)) → m ≡ subcommand_of program (name ∷ line_of choice) → ((found : Text × List Row) → m ≡ Some found → NamesNone found)
     → (found : Text × List Row) → m ≡ Some found → found.0 ≡ word_of choice → ⊥
-none_chosen name (Play all) m e none found is w = (none found is).0 w
-none_chosen name (Check explain) m e none found is w = (none found is).1 w
+none_chosen name (Play all) m e none found is w = has_word _ found (sym e ∙ is) (play_notes name all) ((none found is).0 w)
+none_chosen name (Check explain) m e none found is w = has_word _ found (sym e ∙ is) (check_notes name explain) ((none found is).1 w)
 none_chosen name Run m e none found is w = (none found is).2 w
 none_chosen name Audit m e none found is w =
     let n = (none found is).3 w in
@@ -239,4 +262,24 @@ pub torn_alone : {X : Type 0} (m : Option (Text × List Row)) (found : Text × L
     → first_of (codes "journal") found.1 ≡ option_map n file → (other : Text × List Row) → m ≡ Some other → NamesNone other
 torn_alone m found file n torn is w none flag e other f =
     let same : found ≡ other = ap (λ (o : Option (Text × List Row)). unwrap_or o found) (sym is ∙ f) in
-    subst NamesNone same (λ p. no_audit (sym p ∙ w), λ p. check_no_audit (sym p ∙ w), λ p. run_no_audit (sym p ∙ w), λ _. flag_alone found file n torn none flag e)
+    subst NamesNone same (λ p. absurd (no_audit (sym p ∙ w)), λ p. absurd (check_no_audit (sym p ∙ w)), λ p. run_no_audit (sym p ∙ w), λ _. flag_alone found file n torn none flag e)
+
+-- What a wrong word for notes chooses.
+
+pub play_wrong : (m : Option (Text × List Row)) (found : Text × List Row) → m ≡ Some found → found.0 ≡ codes "play" → HasNoWord found.1 → (other : Text × List Row) → m ≡ Some other → NamesNone other
+play_wrong m found is w none other f =
+    let same : found ≡ other = ap (λ (o : Option (Text × List Row)). unwrap_or o found) (sym is ∙ f) in
+    subst NamesNone same (λ _. none, λ p. absurd (no_check (sym w ∙ p)), λ p. no_run (sym w ∙ p), λ p. absurd (no_audit (sym w ∙ p)))
+
+pub check_wrong : (m : Option (Text × List Row)) (found : Text × List Row) → m ≡ Some found → found.0 ≡ codes "check" → HasNoWord found.1 → (other : Text × List Row) → m ≡ Some other → NamesNone other
+check_wrong m found is w none other f =
+    let same : found ≡ other = ap (λ (o : Option (Text × List Row)). unwrap_or o found) (sym is ∙ f) in
+    subst NamesNone same (λ p. absurd (no_check (sym p ∙ w)), λ _. none, λ p. check_no_run (sym w ∙ p), λ p. absurd (check_no_audit (sym w ∙ p)))
+
+-- what `audit` chooses looks at no lists
+pub unnoted : (found : Text × List Row) (choice : Choice) (notes : Notes) (errors : Bool) → found.0 ≡ codes "audit" → Names found choice → errors ≡ false → IsNoted found choice notes errors
+unnoted found (Play all) notes errors w n e = absurd (no_audit (sym n.0 ∙ w))
+unnoted found (Check explain) notes errors w n e = absurd (check_no_audit (sym n.0 ∙ w))
+unnoted found Run notes errors w n e = e
+unnoted found Audit notes errors w n e = e
+unnoted found (AuditFile torn) notes errors w n e = e

@@ -1,12 +1,16 @@
--- The command line (own): `play`, which may be given `--all`, `check`, which may be given `--explain`, `run`, and `audit`, which may
--- be given `--journal FILE` and, with it, `--torn`. What words come to is what `clap` says of this command.
-use Rattle.std.specs.Prelude.{◌≡◌, Bool, true, false, List, [], ◌∷◌, Option, Some, None, codes}
+-- The command line (own): `play`, which may be given `--all`, and `check`, which may be given `--explain`, both with `--notes WHEN` and
+-- `--warnings-are-errors`; `run`; and `audit`, which may be given `--journal FILE` and, with it, `--torn`. What words come to is what
+-- `clap` says of this command.
+use Rattle.std.specs.Prelude.{◌≡◌, Bool, true, false, if◌then◌else◌, List, [], ◌∷◌, Option, Some, None, codes}
+use Rattle.std.specs.Str.{bytes_eq}
 use Rattle.clap.specs.Words.{App, Row, Rule, new_app, new_rule, subcommand_of, with_rule, with_subcommand}
 use Rattle.clap.specs.Simple.{on_top}
 use Rattle.clap.specs.Walk.{Text, first_of, one_of}
 use Rattle.clap.specs.declared.builder.action.ArgAction.TheVariants.{Set, SetTrue}
 use Rattle.ravenhost.specs.declared.chosen.Choice.{Choice}
 use Rattle.ravenhost.specs.declared.chosen.Choice.TheVariants.{Play, Check, Run, Audit, AuditFile}
+use Rattle.ravenhost.specs.declared.chosen.Notes.{Notes}
+use Rattle.ravenhost.specs.declared.chosen.Notes.TheVariants.{Auto, Always, Never}
 use Rattle.ravenhost.specs.declared.chosen.Unchosen.{Unchosen}
 use Rattle.ravenhost.specs.declared.chosen.Unchosen.TheVariants.{Usage, Unknown, NoMemory}
 
@@ -14,8 +18,12 @@ use Rattle.ravenhost.specs.declared.chosen.Unchosen.TheVariants.{Usage, Unknown,
 abbrev pub flag_rule : Text → Rule
 flag_rule name = record (new_rule name) { long = Some name; action = Some SetTrue }
 
+-- when notes are told
+abbrev pub notes_rule : Rule
+notes_rule = record (new_rule (codes "notes")) { long = Some (codes "notes"); action = Some Set; value_names = 1 }
+
 abbrev pub flagged : Text → Text → App
-flagged name flag = with_rule (new_app name) (flag_rule flag)
+flagged name flag = with_rule (with_rule (with_rule (new_app name) (flag_rule flag)) notes_rule) (flag_rule (codes "warnings-are-errors"))
 
 -- `audit`, which may be given the name of a file, and a flag
 abbrev pub file_rule : Rule
@@ -53,21 +61,44 @@ abbrev pub IsJournal : Text × List Row → Option Text → Type 0
 IsJournal found None = found.0 ≡ codes "audit" → first_of (codes "journal") found.1 ≡ None
 IsJournal found (Some file) = (found.0 ≡ codes "audit") × (first_of (codes "journal") found.1 ≡ Some file)
 
+-- when notes are told, by the word that is given, if it is one of these
+abbrev pub notes_of : Option Text → Option Notes
+notes_of None = Some Auto
+notes_of (Some word) =
+    if bytes_eq word (codes "auto") then Some Auto
+    else if bytes_eq word (codes "always") then Some Always
+    else if bytes_eq word (codes "never") then Some Never
+    else None
+
+-- when they are told, and whether they are errors, by what a subcommand was given
+abbrev pub Tells : List Row → Notes → Bool → Type 0
+Tells rows notes errors = (notes_of (first_of (codes "notes") rows) ≡ Some notes) × IsFlag (one_of (codes "warnings-are-errors") rows) errors
+
+-- the same, for `play` and `check`
+abbrev pub IsNoted : Text × List Row → Choice → Notes → Bool → Type 0
+IsNoted found (Play all) notes errors = Tells found.1 notes errors
+IsNoted found (Check explain) notes errors = Tells found.1 notes errors
+IsNoted found choice notes errors = errors ≡ false
+
+-- the word that was given is another
+abbrev pub HasNoWord : List Row → Type 0
+HasNoWord rows = notes_of (first_of (codes "notes") rows) ≡ None
+
 -- what `audit` comes to: a flag without a file chooses nothing
 abbrev pub audit_of : Bool → Bool → Option Choice
 audit_of true torn = Some (AuditFile torn)
 audit_of false true = None
 audit_of false false = Some Audit
 
--- no choice has the name of what was found, or it has the flag of `audit` without a file
+-- no choice has the name of what was found, or notes have another word, or it has the flag of `audit` without a file
 abbrev pub NamesNone : Text × List Row → Type 0
-NamesNone found = (found.0 ≡ codes "play" → ⊥) × (found.0 ≡ codes "check" → ⊥) × (found.0 ≡ codes "run" → ⊥)
+NamesNone found = (found.0 ≡ codes "play" → HasNoWord found.1) × (found.0 ≡ codes "check" → HasNoWord found.1) × (found.0 ≡ codes "run" → ⊥)
     × (found.0 ≡ codes "audit" → IsFlag (one_of (codes "torn") found.1) true × (first_of (codes "journal") found.1 ≡ None))
 
--- the words name a choice, and a file where there is one
-abbrev pub Chooses : List Text → Choice → Option Text → Type 0
-Chooses words choice file = (found : Text × List Row) × (subcommand_of program words ≡ Some found)
-    × Names found choice × IsJournal found file
+-- the words name a choice, a file where there is one, and what becomes of notes
+abbrev pub Chooses : List Text → Choice → Option Text → Notes → Bool → Type 0
+Chooses words choice file notes errors = (found : Text × List Row) × (subcommand_of program words ≡ Some found)
+    × Names found choice × IsJournal found file × IsNoted found choice notes errors
 
 -- where `clap` takes the words, nothing is chosen only for want of memory, or where its matches name no choice
 abbrev pub Lacks : List Text → Unchosen → Type 0

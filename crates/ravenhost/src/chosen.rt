@@ -2,10 +2,11 @@
 
 ghost use Rattle.std.specs.Prelude.{◌≡◌, ◌∷◌, List, true, false, Some, None, IfSome, IfNone, IfOk, IfErr, codes, map, option_map};
 ghost use Rattle.clap.specs.Words.{app_of, new_app, rule_of, subcommand_rows_of, takes, with_rule};
-ghost use Rattle.clap.specs.Walk.{Row, Text};
+ghost use Rattle.clap.specs.Matches.{found_of};
+ghost use Rattle.clap.specs.Walk.{Row, Text, rows_of};
 ghost use Rattle.clap.specs.declared.builder.command.Command.TheViews.{out-Command as fields_of};
 ghost use Rattle.ravenhost.specs.declared.chosen.Unchosen.TheVariants as Unchosen;
-ghost use Rattle.ravenhost.specs.Choices.{Chooses, IsJournal, Lacks, Names, NamesNone, audit_of, audited, flag_rule, line_of, program};
+ghost use Rattle.ravenhost.specs.Choices.{Chooses, HasNoWord, IsJournal, IsNoted, Lacks, Names, NamesNone, Tells, audit_of, audited, flag_rule, line_of, notes_of, notes_rule, program};
 
 use clap::error::ErrorKind;
 use clap::{Arg, ArgAction, ArgMatches, Command, Error};
@@ -26,11 +27,24 @@ pub enum Choice {
     AuditFile(bool),
 }
 
+/// When notes on lists are told, on standard error.
+#[derive(Clone, Copy, Debug, Drop, PartialEq, Eq)]
+pub enum Notes {
+    /// Where standard error is a terminal.
+    Auto,
+    Always,
+    Never,
+}
+
 /// What the words of a command line choose.
 #[derive(Clone, Copy, Drop)]
 pub struct Selection<'a> {
     /// What the program is to do.
     pub choice: Choice,
+    /// When notes on the lists of a script are told.
+    pub notes: Notes,
+    /// Whether such a note ends the program before the first step.
+    pub are_errors: bool,
     /// The name of the file that holds a journal, where one is given.
     pub journal: Option<&'a str>,
 }
@@ -40,7 +54,7 @@ pub struct Selection<'a> {
 pub enum Unchosen {
     /// They are no command line, or ask for help, which this prints.
     Usage(Error),
-    /// There is no subcommand of this name, or `--torn` stands without a file.
+    /// There is no subcommand of this name, `--torn` stands without a file, or `--notes` has another word.
     Unknown,
     /// Memory was refused.
     NoMemory,
@@ -60,18 +74,34 @@ fn flag<'a>(alloc: Global, name: &'a str, help: &'a str) -> Arg<'a>
         .action(ArgAction::SetTrue)
 }
 
-// A subcommand with a flag.
+// A subcommand that looks at lists: it may be given a flag, when notes are told, and that they are errors.
 fn subcommand<'a>(
     alloc: Global,
     name: &'a str,
     about: &'a str,
-    flag: Arg<'a>,
+    flag_of: Arg<'a>,
 ) -> Result<Command<'a>, AllocError>
-    requires { flag.global ≡ false }
-    ensures app { IfOk result (λ c. app_of c ≡ with_rule (new_app name.now) (rule_of flag.entry)) }
+    requires { flag_of.global ≡ false }
+    ensures app { IfOk result (λ c. app_of c ≡ with_rule (with_rule (with_rule (new_app name.now) (rule_of flag_of.entry)) notes_rule) (flag_rule (codes "warnings-are-errors"))) }
     ensures local { IfOk result (λ c. (fields_of c).has_globals ≡ false) }
 {
-    Command::new(alloc, name).about(about).arg(flag)
+    let notes = Arg::new(alloc, "notes")
+        .long("notes")
+        .value_name("WHEN")
+        .help(
+            "Tell of misspelt names and covered lines in lists, on standard error: auto (at a terminal), always or never",
+        )
+        .action(ArgAction::Set);
+    let are_errors = flag(
+        alloc,
+        "warnings-are-errors",
+        "End with status 1 before the first step where such a note is due",
+    );
+    Command::new(alloc, name)
+        .about(about)
+        .arg(flag_of)?
+        .arg(notes)?
+        .arg(are_errors)
 }
 
 // The subcommand `run`, which has no flag.
@@ -157,37 +187,81 @@ fn audit_of(has_journal: bool, takes_torn: bool) -> Option<Choice>
     Some(Choice::Audit)
 }
 
+// When notes are told, by the word that was given; none for another word.
+fn notes_of(word: Option<&str>) -> Option<Notes>
+    ensures { result ≡ notes_of (option_map (λ w. w.now) word) }
+{
+    let Some(word) = word else {
+        return Some(Notes::Auto);
+    };
+    if word == "auto" {
+        return Some(Notes::Auto);
+    }
+    if word == "always" {
+        return Some(Notes::Always);
+    }
+    if word == "never" {
+        return Some(Notes::Never);
+    }
+    None
+}
+
+// When notes are told, and whether they are errors, by what a subcommand was given; none where the word is another.
+fn telling_of(words: &ArgMatches<'_>) -> Option<(Notes, bool)>
+    ensures some { IfSome result (λ t. Tells (rows_of (found_of words.now)) t.0 t.1) }
+    ensures none { IfNone result (HasNoWord (rows_of (found_of words.now))) }
+{
+    match notes_of(words.get_str("notes")) {
+        Some(notes) => Some((notes, words.get_flag("warnings-are-errors"))),
+        None => None,
+    }
+}
+
 // What a command line that was read chooses.
 fn choice_of<'a>(matches: &ArgMatches<'a>) -> Option<Selection<'a>>
     ensures found { IfSome result (λ chosen. (found : Text × List Row)
         × (subcommand_rows_of matches.now ≡ Some found) × Names found chosen.choice
-        × IsJournal found (option_map (λ s. s.now) chosen.journal)) }
+        × IsJournal found (option_map (λ s. s.now) chosen.journal)
+        × IsNoted found chosen.choice chosen.notes chosen.are_errors) }
     ensures none { IfNone result ((found : Text × List Row) → subcommand_rows_of matches.now ≡ Some found
         → NamesNone found) }
 {
     let (name, words) = matches.subcommand()?;
     if name == "play" {
+        let playing = telling_of(words)?;
         return Some(Selection {
             choice: Choice::Play(words.get_flag("all")),
+            notes: playing.0,
+            are_errors: playing.1,
             journal: None,
         });
     }
     if name == "check" {
+        let checking = telling_of(words)?;
         return Some(Selection {
             choice: Choice::Check(words.get_flag("explain")),
+            notes: checking.0,
+            are_errors: checking.1,
             journal: None,
         });
     }
     if name == "run" {
         return Some(Selection {
             choice: Choice::Run,
+            notes: Notes::Never,
+            are_errors: false,
             journal: None,
         });
     }
     if name == "audit" {
         let journal = words.get_str("journal");
         let choice = audit_of(journal.is_some(), words.get_flag("torn"))?;
-        return Some(Selection { choice, journal });
+        return Some(Selection {
+            choice,
+            notes: Notes::Never,
+            are_errors: false,
+            journal,
+        });
     }
     None
 }
@@ -195,7 +269,7 @@ fn choice_of<'a>(matches: &ArgMatches<'a>) -> Option<Selection<'a>>
 /// What the words of a command line choose, the first of which is the program's name.
 pub fn chosen<'a>(alloc: Global, words: &'a [&'a str]) -> Result<Selection<'a>, Unchosen>
     ensures ok { IfOk result (λ chosen. Chooses (map (λ w. w.now) words.now) chosen.choice
-        (option_map (λ s. s.now) chosen.journal)) }
+        (option_map (λ s. s.now) chosen.journal) chosen.notes chosen.are_errors) }
     ensures taken { takes program (map (λ w. w.now) words.now) ≡ true
         → IfErr result (Lacks (map (λ w. w.now) words.now)) }
     ensures line { (name : Text) → (choice : Choice) → map (λ w. w.now) words.now ≡ name ∷ line_of choice

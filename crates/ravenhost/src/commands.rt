@@ -1,17 +1,36 @@
 //! The subcommands, over any reader and any writer.
 
-ghost use Rattle.std.specs.Prelude.{IfErr, IfSome};
+ghost use Rattle.std.specs.Prelude.{◌≡◌, ◌+◌, take, IfErr, IfOk, IfSome};
+ghost use Rattle.rv_script.specs.Whole.{most_bytes};
 ghost use Rattle.rv_fault.specs.Written.{WritesScript};
 ghost use Rattle.rv_play.specs.Scripted.{outcome_of};
 ghost use Rattle.rv_check.specs.Checks.{KeepsRefused, outcome_of as checked};
 
+use rv_check::warnings::{Warnings, warnings_of};
 use rv_fault::Failure;
+use rv_script::read_script;
 use rv_staff::Hires;
 use rv_verdict::{Audited, Watch};
 use std::alloc::Global;
 use std::io::{Read, Write};
 use std::sync::Wait;
 use std::thread::Threads;
+
+/// The bytes of the script that a reader gives, at most one past the greatest length, so that its lists are judged before
+/// it is carried out or looked at.
+pub fn read<R: Read>(alloc: Global, reader: &mut R) -> Result<Vec<u8>, Failure>
+    ensures { IfOk result (λ all. IfSome (R.remaining reader.old) (λ input. all.items ≡ take (most_bytes + 1) input)) }
+{
+    match read_script(alloc, reader) {
+        Ok(script) => Ok(script),
+        Err(error) => Err(Failure::from(error)),
+    }
+}
+
+/// What is told of the lists of a script.
+pub fn warnings(alloc: Global, script: &[u8]) -> Result<Warnings, Failure> {
+    warnings_of(alloc, script)
+}
 
 /// Carries out the script that a reader gives, and writes its journal: the line of each entry and,
 /// where all is asked for, of each answer that isn't recorded.

@@ -19,18 +19,21 @@ pub enum Stop {
     Failed(Failure),
     /// The script was refused, and its fault was explained.
     Explained,
+    /// A note on a list was told, and notes are errors.
+    Warned,
     /// A journal isn't that of a legal history, which was said.
     NotLegal,
 }
 
-/// The status of the program: 0 done, 1 a refused script or a journal that isn't legal, 2 usage or help, 3 want of memory,
+/// The status of the program: 0 done, 1 a refused script, one with notes that are errors or a journal that isn't legal, 2 usage or help, 3 want of memory,
 /// 4 a failed read or write.
 pub fn status_of(outcome: &Result<(), Stop>) -> u8
     ensures { result ≡ status_of outcome.now }
 {
     match outcome {
         Ok(()) | Err(Stop::Told) => 0,
-        Err(Stop::Failed(Failure::Refused(_)) | Stop::Explained | Stop::NotLegal) => 1,
+        Err(Stop::Failed(Failure::Refused(_)) | Stop::Explained | Stop::Warned | Stop::NotLegal) =>
+            1,
         Err(Stop::Usage) => 2,
         Err(Stop::Failed(Failure::Memory)) => 3,
         Err(Stop::Failed(Failure::Io(_))) => 4,

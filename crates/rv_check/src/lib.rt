@@ -3,3 +3,4 @@
 
 pub mod check;
 mod sections;
+pub mod warnings;

@@ -8,6 +8,7 @@
 //! Where there is a `NAME.fails`, each of its reads and each of its writes also fails in turn: that has to be told, and what
 //! was written is a prefix.
 //! `NAME.fault` is the fault that has to be told, where there is one, and `NAME.explained` what has to be said below it.
+//! `NAME.notes`, where it is there, is what has to be told of the lists of the script.
 //!
 //! Where there is a `NAME.cuts`, the script is also checked cut at every byte: the file has a line `FIRST..LAST -> WORDS`, or
 //! `BYTES -> WORDS`, for as many bytes kept of it, from none to all, which lead to the same words (`bench/model/cuts.py
@@ -27,6 +28,7 @@ use failing::{FailingReader, FailingWriter};
 use fronts::fronts_of;
 use row_files::{bytes_of, names_before};
 use rv_check::check::check;
+use rv_check::warnings::warnings_of;
 use rv_exec::machine::STACK_BYTES;
 use rv_explain::explain;
 use rv_fault::Failure;
@@ -104,6 +106,18 @@ fn given(alloc: Global, script: &[u8], deed: Deed<'_>, is_explained: bool) -> io
         Err(Failure::Io(e)) => return Err(e),
     }
     Ok(written)
+}
+
+/// Adds what is told of the lists of a script.
+fn add_notes(alloc: Global, script: &[u8], given: &mut Vec<u8>) -> io::Result<()> {
+    match warnings_of(alloc, script) {
+        Ok(warnings) => {
+            given.extend_from_slice(warnings.first.as_bytes())?;
+            given.extend_from_slice(warnings.later.as_bytes())?;
+            Ok(())
+        }
+        Err(_) => Err(io::Error::from(io::ErrorKind::OutOfMemory)),
+    }
 }
 
 /// The number of the first line that differs.
@@ -239,7 +253,7 @@ fn told(rt: &HostRuntime, name: &str) -> io::Result<String> {
     if let Some(explained) = explained {
         wanted.extend_from_slice(explained.as_slice())?;
     }
-    let given = match bytes_of(rt, name, "file")? {
+    let mut given = match bytes_of(rt, name, "file")? {
         Some(file) => {
             let deed = Deed::AuditFile(file.as_slice());
             given(alloc, script.as_slice(), deed, is_explained)?
@@ -249,6 +263,10 @@ fn told(rt: &HostRuntime, name: &str) -> io::Result<String> {
             given(alloc, script.as_slice(), deed, is_explained)?
         }
     };
+    if let Some(notes) = bytes_of(rt, name, "notes")? {
+        wanted.extend_from_slice(notes.as_slice())?;
+        add_notes(alloc, script.as_slice(), &mut given)?;
+    }
     if given.as_slice() == wanted.as_slice() {
         return Ok(format!(in alloc; "{name}: ok")?);
     }

@@ -1,11 +1,11 @@
-use Rattle.std.proofs.Common.{◌≡◌, rules, ◌∙◌, codes, sym, Some, None}
+use Rattle.std.proofs.Common.{◌≡◌, rules, ◌∙◌, codes, refl, sym, Some, None}
 use Rattle.std.specs.Prelude.{is_some}
 use Rattle.clap.specs.Words.{subcommand_rows_of}
 use Rattle.clap.specs.Matches.{found_of}
 use Rattle.clap.specs.Walk.{rows_of}
 use Rattle.clap.proofs.WalkLemmas.{first_value-rows, one_text-rows}
 use Rattle.ravenhost.specs.Choices.{audit_of}
-use Rattle.ravenhost.proofs.Choosing.{found_is, not_audit_play, not_audit_check, not_audit_run, audit_named, torn_alone}
+use Rattle.ravenhost.proofs.Choosing.{found_is, not_audit_play, not_audit_check, not_audit_run, audit_named, check_wrong, play_wrong, torn_alone, unnoted}
 use Rattle.ravenhost.proofs.chosen.choice_of.Goals as goal
 
 pub returns-then-eq-clause-found : goal.returns-then-eq-clause-found
@@ -16,6 +16,7 @@ returns-then-eq-clause-found c =
       found_is _ _ _ _ _ (search rules) (search rules),
       (word, (λ e. c.get_flag.ensures.value (one_text-rows given (codes "all") ∙ e), λ e. c.get_flag.ensures.other (one_text-rows given (codes "all") ∙ e))),
       λ e. absurd (not_audit_play _ word e),
+      c.in_ok-playing.ensures.some,
     )
 
 pub returns-then-eq-2-clause-found : goal.returns-then-eq-2-clause-found
@@ -26,6 +27,7 @@ returns-then-eq-2-clause-found c =
       found_is _ _ _ _ _ (search rules) (search rules),
       (word, (λ e. c.get_flag-then-eq-2.ensures.value (one_text-rows given (codes "explain") ∙ e), λ e. c.get_flag-then-eq-2.ensures.other (one_text-rows given (codes "explain") ∙ e))),
       λ e. absurd (not_audit_check _ word e),
+      c.in_ok-checking.ensures.some,
     )
 
 pub returns-then-eq-3-clause-found : goal.returns-then-eq-3-clause-found
@@ -36,6 +38,7 @@ returns-then-eq-3-clause-found c =
       found_is _ _ _ _ _ (search rules) (search rules),
       word,
       λ e. absurd (not_audit_run _ word e),
+      refl,
     )
 
 pub returns-then-eq-4-clause-found : goal.returns-then-eq-4-clause-found
@@ -51,6 +54,7 @@ returns-then-eq-4-clause-found c =
       found_is _ _ _ _ _ (search rules) (search rules),
       named.0,
       named.1,
+      unnoted (c.in_ok-name.name.now, rows_of given) c.in_ok-choice.choice _ _ word named.0 refl,
     )
 
 pub returns-in_err-choice-clause-none : goal.returns-in_err-choice-clause-none
@@ -65,3 +69,17 @@ returns-in_err-choice-clause-none c =
     (λ e. c.get_flag-then-eq-4.ensures.value (one_text-rows given (codes "torn") ∙ e), λ e. c.get_flag-then-eq-4.ensures.other (one_text-rows given (codes "torn") ∙ e))
     (sym (c.get_str-journal.ensures ∙ first_value-rows given (codes "journal"))) in
     rw c.from_residual-in_err-choice.ensures (λ other e. none other e)
+
+pub returns-in_err-playing-clause-none : goal.returns-in_err-playing-clause-none
+returns-in_err-playing-clause-none c =
+    let given = found_of c.in_ok-name.words.now in
+    let word : c.in_ok-name.name.now ≡ codes "play" = search rules in
+    let none = play_wrong (subcommand_rows_of c.args.matches.now) (c.in_ok-name.name.now, rows_of given) (found_is _ _ _ _ _ (search rules) (search rules)) word c.in_err-playing.ensures.none in
+    rw c.from_residual-in_err-playing.ensures (λ other e. none other e)
+
+pub returns-in_err-checking-clause-none : goal.returns-in_err-checking-clause-none
+returns-in_err-checking-clause-none c =
+    let given = found_of c.in_ok-name.words.now in
+    let word : c.in_ok-name.name.now ≡ codes "check" = search rules in
+    let none = check_wrong (subcommand_rows_of c.args.matches.now) (c.in_ok-name.name.now, rows_of given) (found_is _ _ _ _ _ (search rules) (search rules)) word c.in_err-checking.ensures.none in
+    rw c.from_residual-in_err-checking.ensures (λ other e. none other e)

@@ -1,14 +1,19 @@
 use Rattle.std.proofs.Common.{◌≡◌, ◌∙◌, true, ap, ap₂, codes}
 use Rattle.std.proofs.lemmas.Result.{IfOk-weaker}
-use Rattle.clap.specs.Words.{App, app_of, new_app, with_rule, with_subcommand}
+use Rattle.clap.specs.Words.{App, Rule, app_of, new_app, with_rule, with_subcommand}
 use Rattle.clap.specs.Simple.{app_of_fields, on_top}
-use Rattle.ravenhost.specs.Choices.{flagged, versioned, alone}
+use Rattle.ravenhost.specs.Choices.{flag_rule, flagged, notes_rule, versioned, alone}
+use Rattle.clap.specs.Walk.{Text}
 use Rattle.ravenhost.proofs.chosen.command.Goals as goal
+
+-- a subcommand with a rule of its own and those of notes
+abbrev more : Text → Rule → App
+more name rule = with_rule (with_rule (with_rule (new_app name) rule) notes_rule) (flag_rule (codes "warnings-are-errors"))
 
 pub returns : goal.returns
 returns c =
-    let play_is : app_of c.in_ok-play.play ≡ flagged (codes "play") (codes "all") = c.in_ok-play.ensures.app ∙ ap (with_rule (new_app (codes "play"))) c.flag-all.ensures.rule in
-    let check_is : app_of c.in_ok-check.check ≡ flagged (codes "check") (codes "explain") = c.in_ok-check.ensures.app ∙ ap (with_rule (new_app (codes "check"))) c.flag-explain.ensures.rule in
+    let play_is : app_of c.in_ok-play.play ≡ flagged (codes "play") (codes "all") = c.in_ok-play.ensures.app ∙ ap (more (codes "play")) c.flag-all.ensures.rule in
+    let check_is : app_of c.in_ok-check.check ≡ flagged (codes "check") (codes "explain") = c.in_ok-check.ensures.app ∙ ap (more (codes "check")) c.flag-explain.ensures.rule in
     let top : app_of c.about.result ≡ new_app (codes "ravenhost") = ap app_of_fields c.about.ensures ∙ c.new.ensures.app in
     let version : app_of c.version.result ≡ versioned = ap app_of_fields c.version.ensures ∙ ap (on_top (λ s. record s { has_version = true })) top in
     let top_is : app_of c.subcommand_required.result ≡ alone = ap app_of_fields c.subcommand_required.ensures ∙ ap (on_top (λ s. record s { subcommand_required = true })) version in

@@ -1,0 +1,348 @@
+//! What is told of the lists of a script, for whoever writes it: names that name nothing loaded, and lines that decide
+//! nothing.
+
+ghost use Rattle.std.specs.Prelude.{◌≤◌, ◌^◌, ◌+◌, length};
+
+use rv_access::{AccessList, Change, Line, MOST_LINES};
+use rv_fault::{Failure, list_of, settings_of, shape_of, unit_of};
+use rv_notes::{Note, notes, words_of};
+use rv_script::{Opening, open, opening_of, text_of};
+use rv_shape::catalogue::Catalogue;
+use rv_shape::fault::ShapeFault;
+use rv_shape::shape::UnitShape;
+use rv_step::reading::{StepError, step_of};
+use rv_step::step::Asked;
+use rv_text::{Section, Sections, has_words, next_line};
+use std::alloc::{AllocError, Global};
+use std::mem;
+
+/// What is told of the lists of a script, a line each.
+#[derive(Drop)]
+pub struct Warnings {
+    /// Of those in sections before the first step.
+    pub first: String,
+    /// Of those behind it, and of the lines that steps make.
+    pub later: String,
+}
+
+// The list of a section, which waits for the units that it is judged over.
+#[derive(Drop)]
+struct Waiting {
+    list: AccessList,
+    // On which line of the section each of its lines stands.
+    lines: Vec<usize>,
+}
+
+// Where a script stands whose lists are judged.
+#[derive(Drop)]
+struct Review {
+    alloc: Global,
+    catalogue: Catalogue,
+    waiting: Vec<Waiting>,
+    // The list in force, and the notes on it.
+    list: AccessList,
+    notes: Vec<Note>,
+    // Whether a step came, and whether the host is halted.
+    is_under_way: bool,
+    is_halted: bool,
+    warnings: Warnings,
+}
+
+// Whether a line of a section is a line of its list.
+fn is_meant(line: &str) -> bool {
+    match line.as_bytes() {
+        [b'#', ..] => false,
+        _ => has_words(line),
+    }
+}
+
+// The numbers of the lines of a section on which the lines of its list stand, in order. Err where memory was refused.
+fn lines_of(alloc: Global, text: &str) -> Result<Vec<usize>, AllocError> {
+    let mut lines = Vec::new(alloc);
+    let mut rest = text;
+    let mut number: usize = 0;
+    while let Some((line, after)) = next_line(rest) {
+        number = number.saturating_add(1);
+        if is_meant(line) {
+            lines.push(number)?;
+        }
+        rest = after;
+    }
+    Ok(lines)
+}
+
+// The number at the place of a line of a list.
+fn number_at(lines: &[usize], line: usize) -> usize {
+    match lines.get(line.saturating_sub(1)) {
+        Some(number) => *number,
+        None => 0,
+    }
+}
+
+// Whether a note is among these.
+fn is_among(notes: &[Note], note: Note) -> bool {
+    for other in notes {
+        if *other == note {
+            return true;
+        }
+    }
+    false
+}
+
+impl Review {
+    // Nothing so far.
+    fn new(alloc: Global) -> Review {
+        Review {
+            alloc,
+            catalogue: Catalogue::new(alloc),
+            waiting: Vec::new(alloc),
+            list: AccessList::new(alloc),
+            notes: Vec::new(alloc),
+            is_under_way: false,
+            is_halted: false,
+            warnings: Warnings {
+                first: String::new(alloc),
+                later: String::new(alloc),
+            },
+        }
+    }
+
+    // Adds a line to what is told.
+    fn put(&mut self, line: &str) -> Result<(), AllocError> {
+        if self.is_under_way {
+            self.warnings.later.push_str(line)
+        } else {
+            self.warnings.first.push_str(line)
+        }
+    }
+
+    // Tells a note on a list, whose line stands at a place.
+    fn tell(&mut self, place: &str, list: &AccessList, note: Note) -> Result<(), AllocError> {
+        let alloc = self.alloc;
+        let number = note.line();
+        let words = words_of(alloc, &self.catalogue, list, note)?;
+        let words = words.as_str();
+        let line = format!(in alloc; "warning: {place}, list line {number}, {words}\n")?;
+        self.put(line.as_str())
+    }
+
+    // Tells a note on the list of a section.
+    fn tell_in_section(
+        &mut self,
+        lines: &[usize],
+        list: &AccessList,
+        note: Note,
+    ) -> Result<(), AllocError> {
+        let alloc = self.alloc;
+        let line = number_at(lines, note.line());
+        let place = format!(in alloc; "line {line} of the section")?;
+        self.tell(place.as_str(), list, note)
+    }
+
+    // Tells the notes on the list of a section, which is in force from now on.
+    fn judge_section(&mut self, section: Waiting) -> Result<(), AllocError> {
+        let Waiting { list, lines } = section;
+        let found = notes(self.alloc, &self.catalogue, &list)?;
+        for note in found.as_slice() {
+            self.tell_in_section(lines.as_slice(), &list, *note)?;
+        }
+        self.list = list;
+        self.notes = found;
+        Ok(())
+    }
+
+    // Tells the notes on the lists that wait.
+    fn judge(&mut self) -> Result<(), AllocError> {
+        let empty = Vec::new(self.alloc);
+        let waiting = mem::replace(&mut self.waiting, empty);
+        for section in waiting {
+            self.judge_section(section)?;
+        }
+        Ok(())
+    }
+
+    // Tells the notes on the list that the step of a line made: those on the line of the list that changed, and those that
+    // weren't there before.
+    fn judge_change(
+        &mut self,
+        line: usize,
+        list: AccessList,
+        changed: usize,
+    ) -> Result<(), AllocError> {
+        let alloc = self.alloc;
+        let found = notes(alloc, &self.catalogue, &list)?;
+        let place = format!(in alloc; "script line {line}")?;
+        for note in found.as_slice() {
+            if note.line() == changed || !is_among(self.notes.as_slice(), *note) {
+                self.tell(place.as_str(), &list, *note)?;
+            }
+        }
+        self.list = list;
+        self.notes = found;
+        Ok(())
+    }
+
+    // One more line of the list, by the step of a line.
+    fn append(&mut self, line: usize, more: &Line) -> Result<(), AllocError> {
+        let count = self.list.len();
+        if count >= MOST_LINES {
+            return Ok(());
+        }
+        let list = self.list.appended(more)?;
+        self.judge_change(line, list, count + 1)
+    }
+
+    // Another line in place of that of a number.
+    fn replace(&mut self, line: usize, number: usize, other: &Line) -> Result<(), AllocError> {
+        if number < 1 || number > self.list.len() {
+            return Ok(());
+        }
+        let list = self.list.replaced(number, other)?;
+        self.judge_change(line, list, number)
+    }
+
+    // The list without the line of a number, of which nothing is told.
+    fn remove(&mut self, number: usize) -> Result<(), AllocError> {
+        if number < 1 || number > self.list.len() {
+            return Ok(());
+        }
+        let list = self.list.removed(number)?;
+        self.notes = notes(self.alloc, &self.catalogue, &list)?;
+        self.list = list;
+        Ok(())
+    }
+
+    // A change of the list by the step of a line.
+    fn change(&mut self, line: usize, change: &Change) -> Result<(), AllocError> {
+        if self.is_halted {
+            return Ok(());
+        }
+        match change {
+            Change::Append(more) => self.append(line, more),
+            Change::Replace(number, other) => self.replace(line, *number, other),
+            Change::Remove(number) => self.remove(*number),
+            Change::Whole(_) => Ok(()),
+        }
+    }
+
+    // What the step of a line asks. False where it can't.
+    fn ask(&mut self, line: usize, asked: &Asked) -> Result<bool, AllocError> {
+        self.judge()?;
+        self.is_under_way = true;
+        match asked {
+            Asked::Halt => self.is_halted = true,
+            Asked::Change(Ok(change), _) => self.change(line, change)?,
+            Asked::Change(Err(_), _) => return Ok(false),
+            _ => {}
+        }
+        Ok(true)
+    }
+
+    // The step of a line. False where it is none.
+    fn step(&mut self, line: usize, text: &str) -> Result<bool, Failure> {
+        if !has_words(text) {
+            return Ok(true);
+        }
+        match step_of(self.alloc, text) {
+            Ok(step) => Ok(self.ask(line, &step.asked)?),
+            Err(StepError::BadStep) => Ok(false),
+            Err(StepError::NoMemory) => Err(Failure::Memory),
+        }
+    }
+
+    // The steps of a section that opens at a line, up to one that is none. False where there is one.
+    fn steps(&mut self, opening: usize, text: &str) -> Result<bool, Failure> {
+        let mut rest = text;
+        let mut number = opening;
+        while let Some((line, after)) = next_line(rest) {
+            number = number.saturating_add(1);
+            if !self.step(number, line)? {
+                return Ok(false);
+            }
+            rest = after;
+        }
+        Ok(true)
+    }
+
+    // A unit more. False where it doesn't fit.
+    fn add(&mut self, shape: &UnitShape) -> Result<bool, Failure> {
+        match self.catalogue.add(shape) {
+            Ok(()) => Ok(true),
+            Err(ShapeFault::NoMemory) => Err(Failure::Memory),
+            Err(_) => Ok(false),
+        }
+    }
+
+    // The list of a section, which waits for the units that it is judged over.
+    fn wait(&mut self, list: AccessList, text: &str) -> Result<(), AllocError> {
+        let lines = lines_of(self.alloc, text)?;
+        self.waiting.push(Waiting { list, lines })?;
+        Ok(())
+    }
+
+    // A section. False where it isn't one that is played, or a step of it is none.
+    fn section(&mut self, section: &Section<'_>) -> Result<bool, Failure> {
+        match opening_of(section.opening) {
+            Some(Opening::UnitText) => {
+                let unit = unit_of(self.alloc, &self.catalogue, section.line, section.text)?;
+                self.add(&unit.shape)
+            }
+            Some(Opening::Shape) => {
+                let shape = shape_of(self.alloc, section.line, section.text)?;
+                self.add(&shape)
+            }
+            Some(Opening::AccessList) => {
+                let list = list_of(self.alloc, section.line, section.text)?;
+                self.wait(list, section.text)?;
+                Ok(true)
+            }
+            Some(Opening::Steps) => self.steps(section.line, section.text),
+            _ => Ok(false),
+        }
+    }
+
+    // Sections, up to the first fault, which isn't told here.
+    fn sections(&mut self, mut sections: Sections<'_>) -> Result<(), Failure> {
+        'each: while let Some(section) = sections.next_section() {
+            match self.section(&section) {
+                Ok(true) => {}
+                Ok(false) | Err(Failure::Refused(_)) => return Ok(()),
+                Err(failure) => return Err(failure),
+            }
+        }
+        self.judge()?;
+        Ok(())
+    }
+
+    // The sections of a script; nothing where its settings have a fault.
+    fn script(&mut self, text: &str) -> Result<(), Failure>
+        requires { length text.now + 1 ≤ 2 ^ 63 }
+    {
+        let Ok(script) = open(text) else {
+            return Ok(());
+        };
+        match settings_of(self.alloc, &script.settings) {
+            Ok(_) => self.sections(script.sections),
+            Err(Failure::Refused(_)) => Ok(()),
+            Err(failure) => Err(failure),
+        }
+    }
+
+    // What was told.
+    fn into_warnings(self) -> Warnings {
+        let Review { warnings, .. } = self;
+        warnings
+    }
+}
+
+/// What is told of the lists of a script, which `play` would carry out. The list of a section is judged over the units that
+/// are loaded when the next step comes, or at the end; one that a step makes, at that step. Behind a fault of the script
+/// nothing is told: the fault is to be mended first. Each load, and each change of the list but one behind `halt`, is taken
+/// as accepted. Err where memory was refused.
+pub fn warnings_of(alloc: Global, script: &[u8]) -> Result<Warnings, Failure> {
+    let mut review = Review::new(alloc);
+    if let Ok(text) = text_of(script) {
+        review.script(text)?;
+    }
+    Ok(review.into_warnings())
+}
