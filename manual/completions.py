@@ -17,7 +17,7 @@ HELP, VERSION = ("-h", "--help"), ("-V", "--version")
 
 # What completes a value of no listed words, by the name that the help gives it.
 FILES, FOLDERS = "files", "folders"
-VALUES = {"FILE": FILES, "PREFIX": FOLDERS}
+VALUES = {"FILE": FILES, "PREFIX": FOLDERS, "WHEN": ("auto", "always", "never")}
 
 
 class Flag:
@@ -217,8 +217,9 @@ def bash(commands):
     flagged = [(name or '""', spelled(command.flags)) for name, command in commands.items() if command.flags]
     launched = [(name or '""', spelled(command.launcher)) for name, command in commands.items() if command.launcher]
     of_all = [flag for command in commands.values() for flag in command.flags + command.launcher]
-    values = [(" | ".join(flag.spellings), flag.value if isinstance(flag.value, str) else " ".join(flag.value))
-              for flag in of_all if flag.value]
+    # Two commands may have a flag of one name, which takes the same.
+    values = list(dict.fromkeys((" | ".join(flag.spellings), flag.value if isinstance(flag.value, str) else " ".join(flag.value))
+                                for flag in of_all if flag.value))
     alone = [*HELP, *VERSION, *(spelling for command in commands.values() for flag in command.launcher for spelling in flag.spellings)]
     text = BASH
     for mark, words in (("made", MADE), ("flags", bash_rows(flagged)), ("launcher", bash_rows(launched)),

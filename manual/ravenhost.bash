@@ -5,8 +5,8 @@
 _ravenhost_flags() {
     case $1 in
         "") echo "-h --help -V --version" ;;
-        play) echo "--all -h --help" ;;
-        check) echo "--explain -h --help" ;;
+        play) echo "--all --notes --warnings-are-errors -h --help" ;;
+        check) echo "--explain --notes --warnings-are-errors -h --help" ;;
         run) echo "-h --help" ;;
         audit) echo "--journal --torn -h --help" ;;
     esac
@@ -24,6 +24,7 @@ _ravenhost_launcher_flags() {
 _ravenhost_value() {
     case $1 in
         --install) echo "folders" ;;
+        --notes) echo "auto always never" ;;
         --journal) echo "files" ;;
     esac
 }
