@@ -81,7 +81,8 @@ fn fails<T: Threads + Wait, H: Hires>(
         taken: Vec::new(alloc),
         good: writes,
     };
-    let outcome = run(rt, hires, alloc, &mut reader, &mut writer);
+    let mut errors: Vec<u8> = Vec::new(alloc);
+    let outcome = run(rt, hires, alloc, &mut reader, &mut writer, &mut errors);
     if !DUE.starts_with(writer.taken.as_slice()) {
         return None;
     }
