@@ -46,7 +46,11 @@ where
     let mut screen = Screen {
         terminal: &terminal,
     };
-    let outcome = run(rt, hires, alloc, &mut keyboard, &mut screen);
+    let mut errors = Vec::new(alloc);
+    let outcome = run(rt, hires, alloc, &mut keyboard, &mut screen, &mut errors);
+    if errors.len() > 0 {
+        return Ok(format!(in alloc; "{name}: ports were lost")?);
+    }
     let told = told(alloc, outcome)?;
     if let Some(number) = terminal.into_inner().first_wrong() {
         return Ok(format!(in alloc; "{name}: answered otherwise than at line {number}")?);

@@ -31,7 +31,8 @@ fn fails<T: Threads + Wait, H: Hires>(
 ) -> Option<bool> {
     let mut reader = FailingReader::new(SCRIPT, reads);
     let mut writer = FailingWriter::new(alloc, writes);
-    let outcome = run(rt, hires, alloc, &mut reader, &mut writer);
+    let mut errors: Vec<u8> = Vec::new(alloc);
+    let outcome = run(rt, hires, alloc, &mut reader, &mut writer, &mut errors);
     if !DUE.starts_with(writer.taken.as_slice()) {
         return None;
     }
