@@ -74,7 +74,35 @@ fn flag<'a>(alloc: Global, name: &'a str, help: &'a str) -> Arg<'a>
         .action(ArgAction::SetTrue)
 }
 
-// A subcommand that looks at lists: it may be given a flag, when notes are told, and that they are errors.
+// When notes on lists are told.
+fn notes_flag<'a>(alloc: Global) -> Arg<'a>
+    ensures rule { rule_of result ≡ notes_rule }
+    ensures local { result.global ≡ false }
+{
+    Arg::new(alloc, "notes")
+        .long("notes")
+        .value_name("WHEN")
+        .help(
+            "Tell of misspelt names and covered lines in lists, on standard error: auto (at a terminal), always or never",
+        )
+        .action(ArgAction::Set)
+}
+
+// A subcommand that looks at lists: it may be told when notes on them are told, and that they are errors.
+fn noted<'a>(alloc: Global, command: Command<'a>) -> Result<Command<'a>, AllocError>
+    requires { (fields_of command).has_globals ≡ false }
+    ensures app { IfOk result (λ c. app_of c ≡ with_rule (with_rule (app_of command.entry) notes_rule) (flag_rule (codes "warnings-are-errors"))) }
+    ensures local { IfOk result (λ c. (fields_of c).has_globals ≡ false) }
+{
+    let are_errors = flag(
+        alloc,
+        "warnings-are-errors",
+        "End with status 1 before the first step where such a note is due",
+    );
+    command.arg(notes_flag(alloc))?.arg(are_errors)
+}
+
+// Such a subcommand, which may be given a flag, too.
 fn subcommand<'a>(
     alloc: Global,
     name: &'a str,
@@ -85,23 +113,8 @@ fn subcommand<'a>(
     ensures app { IfOk result (λ c. app_of c ≡ with_rule (with_rule (with_rule (new_app name.now) (rule_of flag_of.entry)) notes_rule) (flag_rule (codes "warnings-are-errors"))) }
     ensures local { IfOk result (λ c. (fields_of c).has_globals ≡ false) }
 {
-    let notes = Arg::new(alloc, "notes")
-        .long("notes")
-        .value_name("WHEN")
-        .help(
-            "Tell of misspelt names and covered lines in lists, on standard error: auto (at a terminal), always or never",
-        )
-        .action(ArgAction::Set);
-    let are_errors = flag(
-        alloc,
-        "warnings-are-errors",
-        "End with status 1 before the first step where such a note is due",
-    );
-    Command::new(alloc, name)
-        .about(about)
-        .arg(flag_of)?
-        .arg(notes)?
-        .arg(are_errors)
+    let command = Command::new(alloc, name).about(about).arg(flag_of)?;
+    noted(alloc, command)
 }
 
 // The subcommand `run`, which has no flag.
