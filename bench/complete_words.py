@@ -48,9 +48,9 @@ ONE, ALL = "\t", "\x14"
 ROWS = [
     ("{} ", ALL, "{} audit check help play run"),
     ("{} pl", ONE, "{} play "),
-    ("{} play --", ALL, "{} play --all --help"),
+    ("{} play --", ALL, "{} play --all --help --notes --warnings-are-errors "),
     ("{} play --a", ONE, "{} play --all "),
-    ("{} play --all --", ALL, "{} play --all --"),
+    ("{} play --all --", ALL, "{} play --all --notes --warnings-are-errors "),
     ("{} check --e", ONE, "{} check --explain "),
     ("{} audit --", ALL, "{} audit --help --journal --torn"),
     ("{} audit --t", ONE, "{} audit --torn "),

@@ -96,12 +96,13 @@ pub fn audit_file<R: Read, J: Read, W: Write, H: Watch>(
 }
 
 /// Runs the host of the script that a reader gives, and serves the commands that follow it.
-pub fn run<T: Threads + Wait, H: Hires, R: Read, W: Write>(
+pub fn run<T: Threads + Wait, H: Hires, R: Read, W: Write, E: Write>(
     rt: &T,
     hires: &H,
     alloc: Global,
     reader: &mut R,
     writer: &mut W,
+    errors: &mut E,
 ) -> Result<(), Failure> {
-    rv_run::run::run(rt, hires, alloc, reader, writer)
+    rv_run::run::run(rt, hires, alloc, reader, writer, errors)
 }

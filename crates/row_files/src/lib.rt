@@ -1,6 +1,8 @@
 //! The files of the folder that a program of rows is run in: `NAME.ENDING`, of which one ending names the rows.
 #![tactic(auto)]
 
+pub mod failing;
+
 use std::alloc::AllocGlobal;
 use std::fs::Files;
 use std::{fs, io};

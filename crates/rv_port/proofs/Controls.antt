@@ -76,7 +76,7 @@ unkept false catalogue shape e = refl
 
 if_catalogue : (fits : Bool) (c : Limits) (log after : List Event) (shape : Shape) (unit : UnitBodies) (r : Answer) → LoadedIf fits c log shape unit r after → catalogue_of after ≡ with_loaded (is_some (recorded r)) (catalogue_of log) shape
 if_catalogue true c log after shape unit r d = loaded_catalogue (is_some (recorded r)) log after shape unit d.1
-if_catalogue false c log after shape unit r d = ap catalogue_of d.1 ∙ unkept (is_some (recorded r)) (catalogue_of log) shape (ap is_some d.0)
+if_catalogue false c log after shape unit r d = ap catalogue_of d.2 ∙ unkept (is_some (recorded r)) (catalogue_of log) shape (ap is_some d.1)
 
 load_due : (c : Limits) (log : List Event) (a : ℕ) (shape : Shape) (unit : SharedUnit) (reply : Reply) (after : List Event) → a ≡ 0 → Due c log a (Wants.Load shape unit) reply after
     → catalogue_of after ≡ with_loaded (is_some (recorded (answer_in reply))) (catalogue_of log) shape

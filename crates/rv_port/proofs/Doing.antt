@@ -145,7 +145,7 @@ loaded_if false c log after shape unit r e d = absurd (cc e)
 
 pub unloaded_if : (fits : Bool) (c : Limits) (log after : List Event) (shape : Shape) (unit : UnitBodies) (r : Answer) → Unloaded c log shape r after → LoadedIf fits c log shape unit r after
 unloaded_if true c log after shape unit r d = unloaded_loaded c log after shape unit r d
-unloaded_if false c log after shape unit r d = (d.1, d.2)
+unloaded_if false c log after shape unit r d = d
 
 -- The calls of all bodies fit the units that are loaded
 

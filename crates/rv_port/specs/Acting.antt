@@ -72,10 +72,10 @@ abbrev pub Unloaded : Limits → List Event → Shape → Answer → List Event 
 Unloaded c log shape r after =
     MayLackMemory (out_load (history_at c log) shape) r × (recorded r ≡ None) × (after ≡ log)
 
--- the same of a unit whose calls fit, or not: such a one is never accepted (own)
+-- a load of a unit whose calls fit; one whose calls do not is answered as one that there is no memory for (own)
 abbrev pub LoadedIf : Bool → Limits → List Event → Shape → UnitBodies → Answer → List Event → Type 0
 LoadedIf true c log shape unit r after = Loaded c log shape unit r after
-LoadedIf false c log shape unit r after = (recorded r ≡ None) × (after ≡ log)
+LoadedIf false c log shape unit r after = Unloaded c log shape r after
 
 -- the calls of a unit's bodies fit the units of this history, with its own (own)
 abbrev pub fits_behind : List Event → Shape → UnitBodies → Bool
@@ -157,7 +157,7 @@ changed_adds false list log a after is e = inl e
 load_adds : (b fits : Bool) (c : Limits) (log : List Event) (a : ℕ) (shape : Shape) (unit : UnitBodies) (r : Answer) (after : List Event) → (b ≡ true → 0 ≡ a)
     → IfOperator b (LoadedIf fits c log shape unit r after) r log after → Adds by log a after
 load_adds true true c log a shape unit r after is d = loaded_adds (is_some (recorded r)) log a shape unit after (is refl) d.1
-load_adds true false c log a shape unit r after is d = inl d.1
+load_adds true false c log a shape unit r after is d = inl d.2
 load_adds false fits c log a shape unit r after is d = inl d.1
 
 unload_adds : (b : Bool) (c : Limits) (log : List Event) (a : ℕ) (shape : Shape) (r : Answer) (after : List Event)

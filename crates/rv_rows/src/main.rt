@@ -20,12 +20,11 @@
 #![tactic(auto)]
 
 mod cut;
-mod failing;
 mod fronts;
 
 use cut::{Ends, Share};
-use failing::{FailingReader, FailingWriter};
 use fronts::fronts_of;
+use row_files::failing::{FailingReader, FailingWriter};
 use row_files::{bytes_of, names_before};
 use rv_check::check::check;
 use rv_check::warnings::warnings_of;

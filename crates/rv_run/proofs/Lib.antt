@@ -1,1 +1,5 @@
-pub mod Asked
+pub mod Commanded
+pub mod Ended
+pub mod Served
+pub mod Opened
+pub mod Prepared

@@ -1,46 +1,151 @@
--- What a command of the operator asks of the host. (own)
-use Rattle.std.specs.Prelude.{◌≡◌, ◌⊎◌, ℕ, List, Option, Result, Ok, Err, MatchResult}
+-- What a command of the operator does: what it asks of the host, what is written, and whether the run goes on. (own)
+use Rattle.std.specs.Prelude.{◌≡◌, ◌⊎◌, ℕ, ◌+◌, List, Option, Some, None, codes, Result, Ok, Err, MatchResult}
+use Rattle.rv_code.specs.declared.unit.Unit.{Unit as Compiled}
 use Rattle.rv_code.specs.declared.body.UnitBodies.{UnitBodies}
 use Rattle.rv_shape.specs.Shape.{Shape}
+use Rattle.rv_shape.specs.Catalogue.{OperationNumber, handler}
 use Rattle.rv_event.specs.declared.entry.Answer.{Answer}
 use Rattle.rv_turn.specs.Passes.{IsWorn}
 use Rattle.rv_turn.specs.declared.pass.Worn.{Worn}
+use Rattle.rv_port.specs.Events.{catalogue_of}
 use Rattle.rv_port.specs.Traces.{Passing}
 use Rattle.rv_port.specs.Events.{catalogue_of}
 use Rattle.rv_port.specs.Controls.{Brings, LoadTold}
-use Rattle.rv_shell.specs.Serving.{Serves, Written}
+use Rattle.rv_fault.specs.Sections.{GivesUnit, Reads}
+use Rattle.rv_fault.specs.declared.failure.Failure.{Failure}
+use Rattle.rv_fault.specs.declared.failure.Failure.TheVariants as Failures
+use Rattle.rv_input.specs.Coming.{GivesText}
+use Rattle.rv_shell.specs.Serving.{Serves, Writes, answer_line}
 use Rattle.rv_shell.specs.declared.shell.Next.TheVariants as Nexts
 use Rattle.rv_shell.specs.declared.shell.Next.{Next}
+use Rattle.rv_shell.specs.declared.shell.LineFault.TheVariants as Faults
 use Rattle.rv_shell.specs.declared.shell.LineFault.{LineFault}
 use Rattle.rv_text.specs.Words.{words}
-use Rattle.rv_staff.specs.Giving.{Gives}
+use Rattle.rv_staff.specs.Giving.{Starts}
+use Rattle.rv_staff.specs.Saying.{Known, Says, SaysNoThread, SaysRaised, no_memory_line}
+use Rattle.rv_staff.specs.Staffs.{Staffed}
+use Rattle.rv_run.specs.declared.command.Goes.{Goes}
+use Rattle.rv_run.specs.declared.command.Goes.TheVariants.{On, Out}
+use Rattle.rv_run.specs.Staging.{Comes, Fails, GoesOn, IsNoFault, OnlyReads, Outcome, ReadsNothing, SaysOn, Stage}
+
+-- no more is read behind `quit`
+abbrev pub goes_behind : Next → Goes
+goes_behind Nexts.Go = On
+goes_behind Nexts.Load = On
+goes_behind (Nexts.Raise line) = On
+goes_behind Nexts.Quit = Out
+
+-- what comes behind the shell's word: no more is read where no act is left, and want of memory is said
+abbrev pub Behind : Known → Known → Result Next LineFault → Outcome → Type 0
+Behind old new (Ok next) result = (new ≡ old) × (result ≡ Ok (goes_behind next))
+Behind old new (Err Faults.Worn) result = (new ≡ old) × (result ≡ Ok Out)
+Behind old new (Err Faults.NoMemory) result = SaysOn old new no_memory_line result
+Behind old new (Err (Faults.Write error)) result = (new ≡ old) × Fails result
+
+-- Loads
 
 -- a load is answered, or no act is left for it
 abbrev pub LoadsIn : Passing → Shape → UnitBodies → Result Answer Worn → Passing → Type 0
 LoadsIn v shape bodies result w = MatchResult result (λ answer. LoadTold v shape (λ u. Brings (catalogue_of v.seen) shape bodies u) answer w) (λ _. IsWorn v w)
 
--- one unit is loaded, and then ports are given
-pub record Loads (v w : Passing) : Type 0 where
-  pub shape : Shape
-  pub bodies : UnitBodies
-  pub answer : Result Answer Worn
-  pub between : Passing
-  pub told : LoadsIn v shape bodies answer between
-  pub count : ℕ
-  pub given : Gives count between w
+-- the answer to a load is written, unless no act was left
+abbrev pub Answers : Known → Known → List Shape → Result Answer Worn → Result Next LineFault → Type 0
+Answers old new shapes answer next =
+    MatchResult answer (λ r. Writes old new (answer_line shapes r) next) (λ _. (next ≡ Err Faults.Worn) × (new ≡ old))
 
--- behind a line that says load there may be one load; behind all others nothing is asked
-abbrev pub Follows : Passing → Passing → Result Next LineFault → Type 0
-Follows v w (Ok Nexts.Load) = (w ≡ v) ⊎ Loads v w
-Follows v w (Ok Nexts.Go) = w ≡ v
-Follows v w (Ok (Nexts.Raise line)) = w ≡ v
-Follows v w (Ok Nexts.Quit) = w ≡ v
-Follows v w (Err fault) = w ≡ v
+-- where the run goes on, threads are started for whom the host has none yet
+abbrev pub StartsOn : Staffed → Staffed → Known → Known → Outcome → Outcome → Type 0
+StartsOn v w old new (Ok On) result = Starts v w old new result × GoesOn result
+StartsOn v w old new (Ok Out) result = (w ≡ v) × (new ≡ old) × (result ≡ Ok Out)
+StartsOn v w old new (Err failure) result = (w ≡ v) × (new ≡ old) × (result ≡ Err failure)
+
+-- the answer to a load is said, and threads are started
+pub record Welcomes (v w : Staffed) (old new : Known) (answer : Result Answer Worn) (result : Outcome) : Type 0 where
+  pub next : Result Next LineFault
+  pub said : Known
+  pub answered : Answers old said (catalogue_of v.control.seen) answer next
+  pub noted : Known
+  pub goes : Outcome
+  pub behind : Behind said noted next goes
+  pub started : StartsOn v w noted new goes result
+
+-- the unit of a text is loaded
+pub record LoadsUnit (v w : Staffed) (old new : Known) (text : List ℕ) (result : Outcome) : Type 0 where
+  pub unit : Compiled
+  pub is_unit : GivesUnit (catalogue_of v.control.seen) text (Ok unit)
+  pub answer : Result Answer Worn
+  pub loaded : Passing
+  pub told : LoadsIn v.control unit.shape unit.bodies answer loaded
+  pub welcomed : Welcomes (record v { control = loaded }) w old new answer result
+
+-- what stands against a text is said, or that memory was refused; the words of a fault are its Display
+abbrev pub SaysFault : Known → Known → Failure → Outcome → Type 0
+SaysFault old new (Failures.Refused told) result = (line : List ℕ) × SaysOn old new line result
+SaysFault old new Failures.Memory result = SaysOn old new no_memory_line result
+SaysFault old new (Failures.Io error) result = SaysOn old new no_memory_line result
+
+-- a text is refused, and nothing is asked
+pub record RefusesText (v w : Staffed) (old new : Known) (text : List ℕ) (result : Outcome) : Type 0 where
+  pub failure : Failure
+  pub refused : Reads {A = Compiled} 0 (GivesUnit (catalogue_of v.control.seen) text) (Err failure)
+  pub same : w ≡ v
+  pub said : SaysFault old new failure result
+
+abbrev pub LoadsText : Staffed → Staffed → Known → Known → List ℕ → Outcome → Type 0
+LoadsText v w old new text result = LoadsUnit v w old new text result ⊎ RefusesText v w old new text result
+
+-- The text that is loaded is that of the lines up to the next line `@end`.
+pub record TextComes (s t : Stage) (result : Outcome) : Type 0 where
+  pub text : List ℕ
+  pub comes : Comes s t (GivesText t.input.given (Some text))
+  pub loads : LoadsText s.staff t.staff s.written t.written text result
+
+-- where the input ends before that, the run does
+pub record NoTextComes (s t : Stage) (result : Outcome) : Type 0 where
+  pub comes : Comes s t (GivesText t.input.given None)
+  pub nothing : OnlyReads s t
+  pub ends : result ≡ Ok Out
+
+-- memory or a read failed
+pub record ReadFails (s t : Stage) (result : Outcome) : Type 0 where
+  pub nothing : OnlyReads s t
+  pub fails : Fails result
+
+abbrev pub LoadsNext : Stage → Stage → Outcome → Type 0
+LoadsNext s t result = TextComes s t result ⊎ NoTextComes s t result ⊎ ReadFails s t result
+
+-- Raises
+
+-- `unattached` is said of a line without a handler; of another, what came of it
+abbrev pub SaysOfLine : Known → Known → List Shape → ℕ → Option OperationNumber → Outcome → Type 0
+SaysOfLine old new shapes line None result = Says old new (codes "unattached\n") result
+SaysOfLine old new shapes line (Some target) result = SaysRaised old new shapes line result
+
+-- nothing is asked by the operator
+pub record Raises (s t : Stage) (line : ℕ) (result : Outcome) : Type 0 where
+  pub same : t.staff ≡ s.staff
+  pub unread : ReadsNothing s t
+  pub said : SaysOfLine s.written t.written (catalogue_of s.staff.control.seen) line (handler (catalogue_of s.staff.control.seen) line) result
+  pub goes : GoesOn result
+
+-- Commands
+
+-- a command that is carried out as far as the shell does
+pub record IsDone (s t : Stage) (next : Result Next LineFault) (result : Outcome) : Type 0 where
+  pub same : t.staff ≡ s.staff
+  pub unread : ReadsNothing s t
+  pub behind : Behind s.written t.written next result
+
+-- what follows the shell's word
+abbrev pub Follows : Stage → Stage → Result Next LineFault → Outcome → Type 0
+Follows s t (Ok Nexts.Load) result = LoadsNext s t result
+Follows s t (Ok (Nexts.Raise line)) result = Raises s t line result
+Follows s t next result = IsDone s t next result
 
 -- a command line is carried out by the shell, and what it says is done
-pub record Commands (before : Written) (v w : Passing) (line : List ℕ) : Type 0 where
-  pub written : Written
-  pub between : Passing
+pub record Commands (s t : Stage) (line : List ℕ) (result : Outcome) : Type 0 where
   pub next : Result Next LineFault
-  pub served : Serves before written v between (words line) next
-  pub follows : Follows between w next
+  pub asked : Passing
+  pub said : Known
+  pub served : Serves s.written said s.staff.control asked (words line) next
+  pub follows : Follows (record s { staff = record s.staff { control = asked }; written = said }) t next result

@@ -1,14 +1,14 @@
 //! The commands of the operator.
 
-ghost use Rattle.std.specs.Prelude.{◌≡◌, ◌⊎◌, ℕ};
-ghost use Rattle.rv_staff.specs.Giving.{Gives};
-ghost use Rattle.rv_run.specs.Commanding.{Commands, Loads};
+ghost use Rattle.std.specs.Prelude.{◌≡◌, ℕ, List, Err};
+ghost use Rattle.rv_run.specs.Commanding.{Behind, Commands, LoadsNext, LoadsText, SaysFault, StartsOn, Welcomes, goes_behind};
+ghost use Rattle.rv_run.specs.Staging.{GoesOn, IsNoFault, IsSaid, SaysOn, stage};
 
 use rv_event::entry::Answer;
-use rv_fault::{Failure, ScriptFault, text_unit};
+use rv_fault::{Failure, ScriptFault, What, text_unit};
 use rv_input::{Input, InputFault};
 use rv_shell::{LineFault, Next, Shell};
-use rv_staff::{Hires, Session, raise, say, start_threads};
+use rv_staff::{Hires, NO_MEMORY, Session, raise, say, start_threads};
 use rv_turn::Worn;
 use std::alloc::Global;
 use std::io;
@@ -28,7 +28,9 @@ pub(crate) enum Goes {
 }
 
 /// The failure of a write. Want of memory is told as such.
-pub(crate) fn of_write(error: io::Error) -> Failure {
+pub(crate) fn of_write(error: io::Error) -> Failure
+    ensures { IsNoFault result }
+{
     if error.kind() == ErrorKind::OutOfMemory {
         Failure::Memory
     } else {
@@ -37,34 +39,61 @@ pub(crate) fn of_write(error: io::Error) -> Failure {
 }
 
 // The run goes on where a word was written.
-fn said(written: io::Result<()>) -> Result<Goes, Failure> {
+fn said(written: io::Result<()>) -> Result<Goes, Failure>
+    ensures same { IsSaid written result }
+    ensures goes { GoesOn result }
+{
     match written {
         Ok(()) => Ok(Goes::On),
         Err(e) => Err(of_write(e)),
     }
 }
 
-// The failure of an input.
-pub(crate) fn of_input(fault: InputFault) -> Failure {
+/// The failure of an input.
+pub(crate) fn of_input(fault: InputFault) -> Failure
+    ensures { IsNoFault result }
+{
     match fault {
         InputFault::Memory => Failure::Memory,
         InputFault::Io(e) => Failure::Io(e),
     }
 }
 
-// The words of what is wrong with a unit text; None where there are none, or memory was refused.
-fn fault_line(alloc: Global, failure: Failure) -> Option<String> {
-    let Failure::Refused(ScriptFault { what, .. }) = failure else {
-        return None;
-    };
-    format!(in alloc; "{what}\n").ok()
+// Says what is wrong with a unit text.
+fn tell_fault<W: Write>(alloc: Global, what: What, writer: &mut W) -> Result<Goes, Failure>
+    ensures { (line : List ℕ) × SaysOn (W.contents writer.old) (W.contents writer.new) line result }
+{
+    match format!(in alloc; "{what}\n") {
+        Ok(line) => said(say(writer, line.as_str())),
+        Err(_) => said(say(writer, NO_MEMORY)),
+    }
 }
 
 // Says what is wrong with a unit text, or that memory was refused.
-fn complain<W: Write>(alloc: Global, failure: Failure, writer: &mut W) -> Result<Goes, Failure> {
-    match fault_line(alloc, failure) {
-        Some(line) => said(say(writer, line.as_str())),
-        None => said(say(writer, "nomemory\n")),
+#[tactic(auto, using(crate::proofs::Commanded::says_on))]
+fn complain<W: Write>(alloc: Global, failure: Failure, writer: &mut W) -> Result<Goes, Failure>
+    ensures { SaysFault (W.contents writer.old) (W.contents writer.new) failure result }
+{
+    match failure {
+        Failure::Refused(ScriptFault { what, .. }) => tell_fault(alloc, what, writer),
+        Failure::Memory => said(say(writer, NO_MEMORY)),
+        Failure::Io(_) => said(say(writer, NO_MEMORY)),
+    }
+}
+
+// Starts threads where the run goes on.
+fn start_on<H: Hires, W: Write>(
+    hires: &H,
+    session: &mut Session,
+    goes: Result<Goes, Failure>,
+    writer: &mut W,
+) -> Result<Goes, Failure>
+    ensures { StartsOn session.old.staff session.new.staff (W.contents writer.old) (W.contents writer.new) goes result }
+{
+    match goes {
+        Ok(Goes::On) => said(start_threads(hires, session, writer)),
+        Ok(Goes::Out) => Ok(Goes::Out),
+        Err(failure) => Err(failure),
     }
 }
 
@@ -75,19 +104,16 @@ fn welcome<H: Hires, W: Write>(
     answer: Result<Answer, Worn>,
     writer: &mut W,
 ) -> Result<Goes, Failure>
-    ensures { (count : ℕ) × Gives count session.old.staff.control session.new.staff.control }
+    ensures { Welcomes session.old.staff session.new.staff (W.contents writer.old) (W.contents writer.new) answer result }
 {
     let told = session
         .staff
         .tell(&Shell::new(session.alloc), answer, writer);
-    match after(told, writer) {
-        Ok(Goes::On) => said(start_threads(hires, session, writer)),
-        done => done,
-    }
+    let goes = after(told, writer);
+    start_on(hires, session, goes, writer)
 }
 
 // Loads the unit of a text.
-#[tactic(auto, using(crate::proofs::Asked::loads_by))]
 fn load<T: Wait, H: Hires, W: Write>(
     rt: &T,
     hires: &H,
@@ -95,7 +121,7 @@ fn load<T: Wait, H: Hires, W: Write>(
     text: &str,
     writer: &mut W,
 ) -> Result<Goes, Failure>
-    ensures { (session.new.staff.control ≡ session.old.staff.control) ⊎ Loads session.old.staff.control session.new.staff.control }
+    ensures { LoadsText session.old.staff session.new.staff (W.contents writer.old) (W.contents writer.new) text.now result }
 {
     match text_unit(session.alloc, session.staff.catalogue(), NO_LINE, text) {
         Ok(unit) => {
@@ -115,7 +141,10 @@ fn load_next<T: Wait, H: Hires, R: Read, W: Write>(
     reader: &mut R,
     writer: &mut W,
 ) -> Result<Goes, Failure>
-    ensures { (session.new.staff.control ≡ session.old.staff.control) ⊎ Loads session.old.staff.control session.new.staff.control }
+    ensures { LoadsNext
+        (stage session.old.staff (W.contents writer.old) input.old (R.remaining reader.old))
+        (stage session.new.staff (W.contents writer.new) input.new (R.remaining reader.new))
+        result }
 {
     match input.unit_text(reader) {
         Ok(Some(text)) => load(rt, hires, session, text.as_str(), writer),
@@ -124,18 +153,41 @@ fn load_next<T: Wait, H: Hires, R: Read, W: Write>(
     }
 }
 
-// What comes after a command line that did this.
-fn after<W: Write>(next: Result<Next, LineFault>, writer: &mut W) -> Result<Goes, Failure> {
+// Whether the run goes on behind a command line that was carried out.
+fn goes_behind(next: Next) -> Goes
+    ensures { result ≡ goes_behind next }
+{
     match next {
-        Ok(Next::Quit) | Err(LineFault::Worn) => Ok(Goes::Out),
-        Ok(_) => Ok(Goes::On),
-        Err(LineFault::NoMemory) => said(say(writer, "nomemory\n")),
-        Err(LineFault::Write(e)) => Err(of_write(e)),
+        Next::Go => Goes::On,
+        Next::Load => Goes::On,
+        Next::Raise(_) => Goes::On,
+        Next::Quit => Goes::Out,
+    }
+}
+
+// What comes after a command line that failed.
+#[tactic(auto, using(crate::proofs::Commanded::says_on))]
+fn after_fault<W: Write>(fault: LineFault, writer: &mut W) -> Result<Goes, Failure>
+    ensures { Behind (W.contents writer.old) (W.contents writer.new) (Err fault) result }
+{
+    match fault {
+        LineFault::Worn => Ok(Goes::Out),
+        LineFault::NoMemory => said(say(writer, NO_MEMORY)),
+        LineFault::Write(e) => Err(of_write(e)),
+    }
+}
+
+// What comes after a command line that did this.
+fn after<W: Write>(next: Result<Next, LineFault>, writer: &mut W) -> Result<Goes, Failure>
+    ensures { Behind (W.contents writer.old) (W.contents writer.new) next result }
+{
+    match next {
+        Ok(next) => Ok(goes_behind(next)),
+        Err(fault) => after_fault(fault, writer),
     }
 }
 
 /// Carries out a command line.
-#[tactic(auto, using(crate::proofs::Asked::behind_load, crate::proofs::Asked::behind_line))]
 pub(crate) fn command<T: Wait, H: Hires, R: Read, W: Write>(
     rt: &T,
     hires: &H,
@@ -145,13 +197,19 @@ pub(crate) fn command<T: Wait, H: Hires, R: Read, W: Write>(
     writer: &mut W,
     line: &str,
 ) -> Result<Goes, Failure>
-    ensures { Commands (W.contents writer.old) session.old.staff.control session.new.staff.control line.now }
+    ensures { Commands
+        (stage session.old.staff (W.contents writer.old) input.old (R.remaining reader.old))
+        (stage session.new.staff (W.contents writer.new) input.new (R.remaining reader.new))
+        line.now
+        result }
 {
     let shell = Shell::new(session.alloc);
     let next = session.staff.line(rt, &shell, line, writer);
     match next {
         Ok(Next::Load) => load_next(rt, hires, session, input, reader, writer),
         Ok(Next::Raise(line)) => said(raise(rt, session, line, writer)),
-        next => after(next, writer),
+        Ok(Next::Go) => Ok(Goes::On),
+        Ok(Next::Quit) => Ok(Goes::Out),
+        Err(fault) => after_fault(fault, writer),
     }
 }

@@ -1,5 +1,10 @@
 //! The devices of settings: each becomes a unit of one task, and a job for it.
 
+ghost use Rattle.std.specs.Prelude.{◌≡◌, ◌⊎◌, Ok, Err, IfOk, IfErr};
+ghost use Rattle.rv_fault.specs.Sections.{device_shape};
+ghost use Rattle.rv_port.specs.Events.{catalogue_of};
+ghost use Rattle.rv_run.specs.Preparing.{HeardOf, KeptAnswer, LoadsDevice, LoadsDevices, RefusesDevice};
+
 use rv_event::entry::Answer;
 use rv_fault::{Failure, What, device_unit, refused};
 use rv_port::control::Control;
@@ -37,11 +42,16 @@ fn fitting(
     catalogue: &Catalogue,
     line: usize,
     device: &Device,
-) -> Result<(UnitShape, DeviceJob), Failure> {
+) -> Result<(UnitShape, DeviceJob), Failure>
+    ensures ok { IfOk result (λ p. p.0 ≡ device_shape device.now) }
+    ensures err { IfErr result (RefusesDevice line catalogue.now device.now) }
+{
     let Some((object, operation)) = called_by(catalogue, device) else {
         return Err(refused(line, What::UnknownName));
     };
-    let shape = device_unit(alloc, device)?;
+    let Ok(shape) = device_unit(alloc, device) else {
+        return Err(Failure::Memory);
+    };
     if let Some(fault) = catalogue.shape_fits(&shape) {
         return Err(refused(line, What::Shape(fault)));
     }
@@ -54,19 +64,39 @@ fn fitting(
     Ok((shape, job))
 }
 
+// Keeps a job, if there is memory for it.
+fn keep_job(jobs: &mut Vec<DeviceJob>, job: DeviceJob) -> Result<(), Failure>
+    ensures { (result ≡ Ok tt) ⊎ (result ≡ Err Failure.Memory) }
+{
+    match jobs.push(job) {
+        Ok(()) => Ok(()),
+        Err(_) => Err(Failure::Memory),
+    }
+}
+
 // Keeps the job of a device that was answered so.
+#[tactic(auto, using(crate::proofs::Prepared::kept_else))]
+fn keep_answered(jobs: &mut Vec<DeviceJob>, job: DeviceJob, answer: Answer) -> Result<(), Failure>
+    ensures { KeptAnswer answer result }
+{
+    match answer {
+        Answer::OutOfMemory => Err(Failure::Memory),
+        Answer::Accepted(_) => keep_job(jobs, job),
+        _ => Ok(()),
+    }
+}
+
+// The same, where an act may not have been left.
 fn keep(
     jobs: &mut Vec<DeviceJob>,
     job: DeviceJob,
     answer: Result<Answer, Worn>,
-) -> Result<(), Failure> {
+) -> Result<(), Failure>
+    ensures { HeardOf answer result }
+{
     match answer {
-        Ok(Answer::OutOfMemory) => Err(Failure::Memory),
-        Ok(Answer::Accepted(_)) => match jobs.push(job) {
-            Ok(()) => Ok(()),
-            Err(_) => Err(Failure::Memory),
-        },
-        _ => Ok(()),
+        Ok(answer) => keep_answered(jobs, job, answer),
+        Err(_) => Ok(()),
     }
 }
 
@@ -78,9 +108,16 @@ fn load_device<R: Wait>(
     jobs: &mut Vec<DeviceJob>,
     line: usize,
     device: &Device,
-) -> Result<(), Failure> {
-    let (shape, job) = fitting(alloc, control.catalogue(), line, device)?;
-    keep(jobs, job, control.load_shape(rt, shape))
+) -> Result<(), Failure>
+    ensures { LoadsDevice control.old control.new line device.now result }
+{
+    match fitting(alloc, control.catalogue(), line, device) {
+        Ok((shape, job)) => {
+            let answer = control.load_shape(rt, shape);
+            keep(jobs, job, answer)
+        }
+        Err(failure) => Err(failure),
+    }
 }
 
 /// Loads devices, in order, up to the first that doesn't fit. Their settings open at a line.
@@ -91,9 +128,14 @@ pub(crate) fn load_devices<R: Wait>(
     jobs: &mut Vec<DeviceJob>,
     line: usize,
     devices: &[Device],
-) -> Result<(), Failure> {
-    for device in devices {
-        load_device(rt, alloc, control, jobs, line, device)?;
+) -> Result<(), Failure>
+    ensures { LoadsDevices control.old control.new line devices.now result }
+{
+    'each: for device in devices {
+        match load_device(rt, alloc, control, jobs, line, device) {
+            Ok(()) => {}
+            Err(failure) => return Err(failure),
+        }
     }
     Ok(())
 }

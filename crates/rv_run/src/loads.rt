@@ -1,5 +1,7 @@
 //! What the sections of a script ask of the host: units and lists.
 
+ghost use Rattle.rv_run.specs.Preparing.{Heard, HeardAnswer, LoadsSection, SetsSection};
+
 use rv_event::entry::Answer;
 use rv_fault::{Failure, list_of, unit_of};
 use rv_port::control::Control;
@@ -8,10 +10,23 @@ use std::alloc::Global;
 use std::sync::Wait;
 
 // Want of memory for a request is the end of the run.
-fn heard(answer: Result<Answer, Worn>) -> Result<(), Failure> {
+#[tactic(auto, using(crate::proofs::Prepared::heard_else))]
+fn heard_answer(answer: Answer) -> Result<(), Failure>
+    ensures { HeardAnswer answer result }
+{
     match answer {
-        Ok(Answer::OutOfMemory) => Err(Failure::Memory),
+        Answer::OutOfMemory => Err(Failure::Memory),
         _ => Ok(()),
+    }
+}
+
+// The same, where an act may not have been left.
+fn heard(answer: Result<Answer, Worn>) -> Result<(), Failure>
+    ensures { Heard answer result }
+{
+    match answer {
+        Ok(answer) => heard_answer(answer),
+        Err(_) => Ok(()),
     }
 }
 
@@ -22,9 +37,13 @@ pub(crate) fn load_section<R: Wait>(
     control: &mut Control,
     line: usize,
     text: &str,
-) -> Result<(), Failure> {
-    let unit = unit_of(alloc, control.catalogue(), line, text)?;
-    heard(control.load(rt, unit))
+) -> Result<(), Failure>
+    ensures { LoadsSection control.old control.new line text.now result }
+{
+    match unit_of(alloc, control.catalogue(), line, text) {
+        Ok(unit) => heard(control.load(rt, unit)),
+        Err(failure) => Err(failure),
+    }
 }
 
 /// Sets the list of a section, which opens at a line.
@@ -34,7 +53,11 @@ pub(crate) fn list_section<R: Wait>(
     control: &mut Control,
     line: usize,
     text: &str,
-) -> Result<(), Failure> {
-    let list = list_of(alloc, line, text)?;
-    heard(control.set_list(rt, list))
+) -> Result<(), Failure>
+    ensures { SetsSection control.old control.new line text.now result }
+{
+    match list_of(alloc, line, text) {
+        Ok(list) => heard(control.set_list(rt, list)),
+        Err(failure) => Err(failure),
+    }
 }

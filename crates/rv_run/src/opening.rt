@@ -1,6 +1,10 @@
 //! What stands before the commands: units, lists and devices, carried out in order.
 
-ghost use Rattle.std.specs.Prelude.{◌≡◌, []};
+ghost use Rattle.std.specs.Prelude.{◌≡◌, [], Some, IfSome};
+ghost use Rattle.rv_history.specs.Legal.{empty};
+ghost use Rattle.rv_history.specs.Limits.{limits_of};
+ghost use Rattle.rv_run.specs.Preparing.{CarriesOut, CarriesOutAll, CarriesOutAs, Prepares};
+ghost use Rattle.rv_run.specs.Running.{IsControlOf};
 
 use crate::devices::load_devices;
 use crate::loads::{list_section, load_section};
@@ -14,18 +18,44 @@ use rv_text::{Section, Sections};
 use std::alloc::Global;
 use std::sync::Wait;
 
+// Carries out one section by what it opens.
+fn carry_out_as<R: Wait>(
+    rt: &R,
+    alloc: Global,
+    control: &mut Control,
+    section: &Section,
+    opening: Opening,
+) -> Result<(), Failure>
+    ensures { CarriesOutAs
+        (Some opening)
+        control.old
+        control.new
+        (record { line = section.now.line; opening = section.now.opening.now; text = section.now.text.now })
+        result }
+{
+    match opening {
+        Opening::UnitText => load_section(rt, alloc, control, section.line, section.text),
+        Opening::AccessList => list_section(rt, alloc, control, section.line, section.text),
+        _ => Err(refused(section.line, What::BadSection)),
+    }
+}
+
 // Carries out one section.
 fn carry_out<R: Wait>(
     rt: &R,
     alloc: Global,
     control: &mut Control,
     section: &Section,
-) -> Result<(), Failure> {
-    let line = section.line;
+) -> Result<(), Failure>
+    ensures { CarriesOut
+        control.old
+        control.new
+        (record { line = section.now.line; opening = section.now.opening.now; text = section.now.text.now })
+        result }
+{
     match opening_of(section.opening) {
-        Some(Opening::UnitText) => load_section(rt, alloc, control, line, section.text),
-        Some(Opening::AccessList) => list_section(rt, alloc, control, line, section.text),
-        _ => Err(refused(line, What::BadSection)),
+        Some(opening) => carry_out_as(rt, alloc, control, section, opening),
+        None => Err(refused(section.line, What::BadSection)),
     }
 }
 
@@ -35,9 +65,14 @@ fn carry_out_all<R: Wait>(
     alloc: Global,
     control: &mut Control,
     mut sections: Sections<'_>,
-) -> Result<(), Failure> {
+) -> Result<(), Failure>
+    ensures { CarriesOutAll control.old control.new sections.entry result }
+{
     'each: while let Some(section) = sections.next_section() {
-        carry_out(rt, alloc, control, &section)?;
+        match carry_out(rt, alloc, control, &section) {
+            Ok(()) => {}
+            Err(failure) => return Err(failure),
+        }
     }
     Ok(())
 }
@@ -51,20 +86,30 @@ pub(crate) fn prepare<R: Wait>(
     sections: Sections<'_>,
     line: usize,
     settings: &Settings,
-) -> Result<(), Failure> {
-    carry_out_all(rt, alloc, control, sections)?;
-    load_devices(rt, alloc, control, jobs, line, settings.devices())
+) -> Result<(), Failure>
+    ensures { Prepares control.old control.new sections.entry line settings.now.devices result }
+{
+    match carry_out_all(rt, alloc, control, sections) {
+        Ok(()) => load_devices(rt, alloc, control, jobs, line, settings.devices()),
+        Err(failure) => Err(failure),
+    }
 }
 
 // The control of a new host.
 fn made(alloc: Global, host: Host) -> Option<Control>
     requires { host.past ≡ [] }
+    ensures { IfSome result (IsControlOf host) }
 {
-    Control::make(alloc, host).ok()
+    match Control::make(alloc, host) {
+        Ok(control) => Some(control),
+        Err(_) => None,
+    }
 }
 
 /// The control of a host without entries, which may have so many. None where memory was refused.
-pub(crate) fn control_of(alloc: Global, capacity: usize) -> Option<Control> {
+pub(crate) fn control_of(alloc: Global, capacity: usize) -> Option<Control>
+    ensures { IfSome result (IsControlOf (empty (limits_of capacity))) }
+{
     match Host::new(alloc, capacity) {
         Ok(host) => made(alloc, host),
         Err(_) => None,

@@ -1,1 +1,2 @@
 pub mod OneTurn
+pub mod Starting

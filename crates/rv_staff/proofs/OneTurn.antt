@@ -13,13 +13,14 @@ use Rattle.rv_port.specs.Ports.{Porting}
 use Rattle.rv_port.specs.Controls.{IsGiven, LoadTold, Told}
 use Rattle.rv_crew.specs.Teams.{Team, IsOfTurn}
 use Rattle.rv_port.specs.declared.event.Ask.{Ask}
-use Rattle.rv_crew.specs.Crews.{Joins, with_joined}
+use Rattle.rv_crew.specs.Crews.{Joins, IsClosedBy, with_joined}
+use Rattle.rv_crew.specs.declared.crew.Closed.{Closed}
 use Rattle.rv_crew.proofs.Turns.{none_of_turn, started_of_turn, lost_of_turn}
 use Rattle.rv_staff.specs.declared.hires.HireFault.{HireFault}
 use Rattle.rv_staff.specs.declared.hires.HireFault.TheVariants.{NoThread, NoMemory}
 use Rattle.rv_staff.specs.Hiring.{hired}
 use Rattle.rv_staff.specs.Staffs.{AreOf, Staffed, no_crew}
-use Rattle.rv_staff.specs.Ending.{Closes, Ended, Halts, Leaves}
+use Rattle.rv_staff.specs.Ending.{Closes, Ended, Halts}
 
 -- What the operator does.
 
@@ -64,13 +65,13 @@ hired_stay control crew port (Err NoMemory) same are = are
 
 -- What is joined.
 
-pub closes : (control : Passing) (crew after : Team) (result : Option ℕ) → AreOf control crew → Joins crew.joined crew.running after.joined
-    → after ≡ with_joined crew after.joined → IfSome result (Leaves control after) → IfSome result (Closes control crew)
-closes control crew after None are joins after_is leaves = leaves
-closes control crew after (Some entries) are joins after_is leaves = record {
+pub closes : (control : Passing) (crew after : Team) (result : Option Closed) → AreOf control crew → Joins crew.joined crew.running after.joined
+    → after ≡ with_joined crew after.joined → IfSome result (IsClosedBy after control) → IfSome result (Closes control crew)
+closes control crew after None are joins after_is left = left
+closes control crew after (Some closed) are joins after_is left = record {
   back = after.joined;
   joined = subst (λ (l : List Porting). Joins l crew.running after.joined) are.none_joined joins;
-  leaves = subst (λ (t : Team). Leaves control t entries) after_is leaves;
+  left = subst (λ (t : Team). IsClosedBy t control closed) after_is left;
 }
 
 -- The end.
@@ -79,6 +80,6 @@ pub halted : (v w : Passing) (r : Result Answer Spent) → MatchResult r (λ a. 
 halted v w (Ok a) told = inl (a, told)
 halted v w (Err x) worn = inr worn
 
-pub ended : (staff : Staffed) (w : Passing) (result : Option ℕ) → Halts staff.control w → IfSome result (Closes w staff.crew) → IfSome result (Ended staff)
+pub ended : (staff : Staffed) (w : Passing) (result : Option Closed) → Halts staff.control w → IfSome result (Closes w staff.crew) → IfSome result (Ended staff)
 ended staff w None halts closed = closed
-ended staff w (Some entries) halts closed = record { control = w; halted = halts; closes = closed }
+ended staff w (Some left) halts closed = record { control = w; halted = halts; closes = closed }

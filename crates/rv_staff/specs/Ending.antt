@@ -1,5 +1,5 @@
 -- The end of a run. (own)
-use Rattle.std.specs.Prelude.{◌≡◌, ◌⊎◌, ℕ, List, [], length}
+use Rattle.std.specs.Prelude.{◌≡◌, ◌⊎◌, List, []}
 use Rattle.rv_event.specs.declared.entry.Answer.{Answer}
 use Rattle.rv_event.specs.declared.entry.Request.TheVariants as asks
 use Rattle.rv_turn.specs.Passes.{IsWorn}
@@ -16,20 +16,14 @@ use Rattle.rv_staff.specs.Staffs.{Staffed}
 abbrev pub Halts : Passing → Passing → Type 0
 Halts v w = ((answer : Answer) × Told v (Ask.Step asks.Halt) answer w) ⊎ IsWorn v w
 
--- The host is that at the close of the control and of the ports that came back; its journal has so many entries.
-pub record Leaves (control : Passing) (crew : Team) (entries : ℕ) : Type 0 where
-  pub closed : Closed
-  pub left : IsClosedBy crew control closed
-  pub counted : entries ≡ length closed.host.past
-
--- each thread is joined, and then that is left
-pub record Closes (control : Passing) (crew : Team) (entries : ℕ) : Type 0 where
+-- Each thread is joined. The host is then that at the close of the control and of the ports that came back.
+pub record Closes (control : Passing) (crew : Team) (closed : Closed) : Type 0 where
   pub back : List Porting
   pub joined : Joins [] crew.running back
-  pub leaves : Leaves control (with_joined crew back) entries
+  pub left : IsClosedBy (with_joined crew back) control closed
 
 -- the host is halted, and then closed
-pub record Ended (staff : Staffed) (entries : ℕ) : Type 0 where
+pub record Ended (staff : Staffed) (closed : Closed) : Type 0 where
   pub control : Passing
   pub halted : Halts staff.control control
-  pub closes : Closes control staff.crew entries
+  pub closes : Closes control staff.crew closed

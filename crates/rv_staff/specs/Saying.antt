@@ -1,5 +1,6 @@
 -- What is said to the operator. (own)
 use Rattle.std.specs.Prelude.{◌⊎◌, ℕ, ◌+◌, ◌∷◌, [], ◌++◌, List, codes, Option, Result, Ok, Err}
+use Rattle.std.specs.List.{flat_map}
 use Rattle.std.specs.Io.KnownBytes.{Appends}
 use Rattle.rv_script.specs.Prefixes.{WritesPrefix}
 use Rattle.rv_shape.specs.Shape.{Shape}
@@ -31,3 +32,12 @@ SaysNoThread old new shapes actor result =
 abbrev pub SaysRaised : {X E : Type 0} → Known → Known → List Shape → ℕ → Result X E → Type 0
 SaysRaised old new shapes line result =
     Says old new (codes "raised\n") result ⊎ SaysNoThread old new shapes (line + 1) result
+
+-- an actor's port was lost, with all that its thread did after
+abbrev pub lost_line : List Shape → ℕ → List ℕ
+lost_line shapes actor = codes "lost " ++ actor_text (who shapes actor) ++ 10 ∷ []
+
+-- one line for each actor whose port was lost, or that memory was wanted for them
+abbrev pub SaysLost : {X E : Type 0} → Known → Known → List Shape → List ℕ → Result X E → Type 0
+SaysLost old new shapes lost result =
+    Says old new (flat_map (lost_line shapes) lost) result ⊎ Says old new no_memory_line result

@@ -3,7 +3,8 @@
 ghost use Rattle.std.specs.Prelude.{◌≡◌, ◌++◌, ◌∷◌, [], codes, IfOk, string_bytes};
 ghost use Rattle.rv_shape.specs.Printed.{actor_text};
 ghost use Rattle.rv_shape.specs.Readers.{who_of};
-ghost use Rattle.rv_staff.specs.Saying.{Says, SaysNoThread};
+ghost use Rattle.std.specs.List.{flat_map};
+ghost use Rattle.rv_staff.specs.Saying.{Says, SaysLost, SaysNoThread, lost_line};
 
 use rv_script::write_whole;
 use rv_shape::actor::Actor;
@@ -30,6 +31,40 @@ fn no_thread(alloc: Global, who: &Actor) -> Result<String, AllocError>
     ensures { IfOk result (λ line. string_bytes line ≡ codes "no thread " ++ actor_text (who_of who.now) ++ 10 ∷ []) }
 {
     format!(in alloc; "no thread {who}\n")
+}
+
+// What is said of an actor whose port was lost.
+fn lost_line(alloc: Global, who: &Actor) -> Result<String, AllocError>
+    ensures { IfOk result (λ line. string_bytes line ≡ codes "lost " ++ actor_text (who_of who.now) ++ 10 ∷ []) }
+{
+    format!(in alloc; "lost {who}\n")
+}
+
+// What is said of actors whose ports were lost.
+fn lost_text(alloc: Global, catalogue: &Catalogue, lost: &[u64]) -> Result<String, AllocError>
+    ensures { IfOk result (λ text. string_bytes text ≡ flat_map (lost_line catalogue.now) lost.now) }
+{
+    let mut text = String::new(alloc);
+    'each: for actor in lost {
+        let line = lost_line(alloc, &catalogue.who(*actor as usize))?;
+        text.push_str(line.as_str())?;
+    }
+    Ok(text)
+}
+
+/// Says which actors' ports were lost, by the units of a catalogue.
+pub fn say_lost<W: Write>(
+    alloc: Global,
+    catalogue: &Catalogue,
+    lost: &[u64],
+    writer: &mut W,
+) -> io::Result<()>
+    ensures { SaysLost (W.contents writer.old) (W.contents writer.new) catalogue.now lost.now result }
+{
+    match lost_text(alloc, catalogue, lost) {
+        Ok(text) => say(writer, text.as_str()),
+        Err(_) => say(writer, NO_MEMORY),
+    }
 }
 
 /// Says that there is no thread for an actor.

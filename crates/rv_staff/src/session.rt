@@ -6,6 +6,7 @@ ghost use Rattle.rv_staff.specs.Staffs.{no_crew};
 
 use crate::staff::Staff;
 use crossbeam_channel::Sender;
+use rv_crew::crew::Closed;
 use rv_port::control::Control;
 use std::alloc::Global;
 use std::sync::Wait;
@@ -74,9 +75,9 @@ impl Session {
         }
     }
 
-    /// Halts the host, closes the channels of its lines and joins its threads, which have to end then. Gives how many
-    /// entries the journal has; none where memory was refused.
-    pub fn end<R: Threads + Wait>(self, rt: &R) -> Option<usize>
+    /// Halts the host, closes the channels of its lines and joins its threads, which have to end then. Gives the host, and
+    /// the actors whose ports were lost; none where memory was refused.
+    pub fn end<R: Threads + Wait>(self, rt: &R) -> Option<Closed>
         ensures { IfSome result (Ended self.staff) }
     {
         let Session {

@@ -5,17 +5,18 @@ ghost use Rattle.rv_text.specs.Words.{words};
 ghost use Rattle.rv_turn.specs.Passes.{IsWorn};
 ghost use Rattle.rv_port.specs.Events.{catalogue_of};
 ghost use Rattle.rv_port.specs.Ports.{pass_of};
-ghost use Rattle.rv_port.specs.Controls.{Brings, IsGiven, LoadTold};
+ghost use Rattle.rv_port.specs.Controls.{Brings, IsGiven, IsPortFault, LoadTold};
+ghost use Rattle.rv_crew.specs.Crews.{IsClosedBy};
 ghost use Rattle.rv_crew.specs.Teams.{IsOfTurn};
 ghost use Rattle.rv_shell.specs.Serving.{Serves, Writes, answer_line};
-ghost use Rattle.rv_staff.specs.Ending.{Closes, Ended, Leaves};
+ghost use Rattle.rv_staff.specs.Ending.{Closes, Ended};
 ghost use Rattle.rv_staff.specs.Hiring.{hired};
 ghost use Rattle.rv_staff.specs.Staffs.{AreOf, no_crew};
 
 use crate::hires::{HireFault, Hires};
 use crate::work::Work;
 use rv_code::Unit;
-use rv_crew::crew::Crew;
+use rv_crew::crew::{Closed, Crew};
 use rv_event::entry::Answer;
 use rv_port::control::Control;
 use rv_port::fault::PortFault;
@@ -59,20 +60,20 @@ impl Drop for Staff {
     }
 }
 
-// Closes a control with a crew that is joined. Gives how many entries the journal has.
-fn leave<R: Wait>(rt: &R, crew: Crew, control: Control) -> Option<usize>
+// Closes a control with a crew that is joined.
+fn leave<R: Wait>(rt: &R, crew: Crew, control: Control) -> Option<Closed>
     requires joined { crew.running ≡ [] }
     requires turn { IsOfTurn control.turn crew }
-    ensures { IfSome result (Leaves control crew) }
+    ensures { IfSome result (IsClosedBy crew control) }
 {
     match crew.close(rt, control) {
-        Ok(closed) => Some(closed.host.used()),
+        Ok(closed) => Some(closed),
         Err(_) => None,
     }
 }
 
-// Joins a crew and closes its control. Gives how many entries the journal has.
-fn close<R: Threads + Wait>(rt: &R, mut crew: Crew, control: Control) -> Option<usize>
+// Joins a crew and closes its control.
+fn close<R: Threads + Wait>(rt: &R, mut crew: Crew, control: Control) -> Option<Closed>
     requires { AreOf control crew }
     ensures { IfSome result (Closes control crew) }
 {
@@ -148,7 +149,8 @@ impl Staff {
     pub fn port(&mut self, actor: u64) -> Result<Port, PortFault>
         ensures given { IfOk result (λ p. IsGiven self.old.control actor self.new.control (pass_of p)) }
         ensures turn { IfOk result (λ p. p.turn ≡ self.new.control.turn) }
-        ensures err { IfErr result (λ fault. self.new.control ≡ self.old.control) }
+        ensures fault { IfErr result (λ fault. IsPortFault actor self.old.control.given (catalogue_of self.old.control.seen) self.old.control.left fault) }
+        ensures err { IfErr result (λ fault. self.new ≡ self.old) }
         ensures crew { self.new.crew ≡ self.old.crew }
     {
         self.control.port(actor)
@@ -163,8 +165,8 @@ impl Staff {
         hires.hire(&mut self.crew, port, work)
     }
 
-    /// Halts the host and joins its threads, which have to end then. Gives how many entries the journal has.
-    pub fn end<R: Threads + Wait>(self, rt: &R) -> Option<usize>
+    /// Halts the host and joins its threads, which have to end then. Gives the host, and the actors whose ports were lost.
+    pub fn end<R: Threads + Wait>(self, rt: &R) -> Option<Closed>
         ensures { IfSome result (Ended self) }
     {
         let Staff { mut control, crew } = self;

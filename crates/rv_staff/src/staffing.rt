@@ -1,7 +1,10 @@
 //! Threads for the actors that have none yet.
 
-ghost use Rattle.std.specs.Prelude.{◌≡◌, ℕ};
-ghost use Rattle.rv_staff.specs.Giving.{Gives, GivesOne};
+ghost use Rattle.std.specs.Prelude.{◌≡◌, ◌+◌, ℕ, List};
+ghost use Rattle.rv_port.specs.Events.{catalogue_of};
+ghost use Rattle.rv_staff.specs.Giving.{GivesOne, SaidOfHire, Starts, actors_of};
+ghost use Rattle.rv_staff.specs.Hiring.{hired};
+ghost use Rattle.rv_staff.specs.Saying.{Says};
 
 use crate::hires::{HireFault, Hires};
 use crate::saying::{NO_MEMORY, say, say_no_thread};
@@ -40,7 +43,7 @@ fn hire_line<H: Hires>(
     port: Port,
 ) -> Result<(), HireFault>
     requires { port.turn ≡ session.old.staff.control.turn }
-    ensures { session.new.staff.control ≡ session.old.staff.control }
+    ensures { session.new.staff ≡ record session.old.staff { crew = hired session.old.staff.crew port result } }
 {
     if session.channels.reserve(1).is_err() {
         return Err(HireFault::NoMemory);
@@ -65,7 +68,7 @@ fn hire<H: Hires>(
     port: Port,
 ) -> Result<(), HireFault>
     requires { port.turn ≡ session.old.staff.control.turn }
-    ensures { session.new.staff.control ≡ session.old.staff.control }
+    ensures { session.new.staff ≡ record session.old.staff { crew = hired session.old.staff.crew port result } }
 {
     if actor < FIRST_TASK {
         return hire_line(hires, session, actor.saturating_sub(1) as u8, port);
@@ -80,7 +83,10 @@ fn explain<W: Write>(
     actor: usize,
     hired: Result<(), HireFault>,
     writer: &mut W,
-) -> io::Result<()> {
+) -> io::Result<()>
+    ensures { (text : List ℕ) × SaidOfHire (catalogue_of session.now.staff.control.seen) actor hired text
+        × Says (W.contents writer.old) (W.contents writer.new) text result }
+{
     match hired {
         Ok(()) => Ok(()),
         Err(HireFault::NoThread) => {
@@ -91,13 +97,15 @@ fn explain<W: Write>(
 }
 
 // A thread for an actor, if it may have a port and had none.
+#[tactic(auto, using(crate::proofs::Starting::one_given))]
 fn staff_one<H: Hires, W: Write>(
     hires: &H,
     session: &mut Session,
     actor: usize,
     writer: &mut W,
 ) -> io::Result<()>
-    ensures { GivesOne session.old.staff.control session.new.staff.control }
+    ensures { (text : List ℕ) × GivesOne session.old.staff session.new.staff actor text
+        × Says (W.contents writer.old) (W.contents writer.new) text result }
 {
     match session.staff.port(actor as u64) {
         Ok(port) => {
@@ -105,8 +113,17 @@ fn staff_one<H: Hires, W: Write>(
             explain(session, actor, hired, writer)
         }
         Err(PortFault::NoMemory) => say(writer, NO_MEMORY),
-        Err(_) => Ok(()),
+        Err(PortFault::Taken) => Ok(()),
+        Err(PortFault::NoActor) => Ok(()),
+        Err(PortFault::Worn) => Ok(()),
     }
+}
+
+// The number behind those of all actors that may have a thread.
+fn end_of_actors(session: &Session) -> usize
+    ensures { result ≡ actors_of (catalogue_of session.now.staff.control.seen) + 1 }
+{
+    session.staff.catalogue().tasks() + FIRST_TASK
 }
 
 /// Starts a thread for each task and attached line that had no port yet, in the order of their
@@ -116,10 +133,10 @@ pub fn start_threads<H: Hires, W: Write>(
     session: &mut Session,
     writer: &mut W,
 ) -> io::Result<()>
-    ensures { (count : ℕ) × Gives count session.old.staff.control session.new.staff.control }
+    ensures { Starts session.old.staff session.new.staff (W.contents writer.old) (W.contents writer.new) result }
 {
-    let count = FIRST_TASK.saturating_add(session.staff.catalogue().tasks());
-    for actor in 1..count {
+    let end = end_of_actors(session);
+    for actor in 1..end {
         match staff_one(hires, session, actor, writer) {
             Ok(()) => {}
             Err(e) => return Err(e),

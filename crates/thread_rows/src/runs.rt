@@ -7,6 +7,7 @@ mod terminal;
 
 use failing::failures_told;
 use row::{Row, row_of};
+use row_files::names_before;
 use rv_fault::Failure;
 use rv_run::run::run;
 use rv_staff::Hires;
@@ -45,7 +46,11 @@ where
     let mut screen = Screen {
         terminal: &terminal,
     };
-    let outcome = run(rt, hires, alloc, &mut keyboard, &mut screen);
+    let mut errors = Vec::new(alloc);
+    let outcome = run(rt, hires, alloc, &mut keyboard, &mut screen, &mut errors);
+    if errors.len() > 0 {
+        return Ok(format!(in alloc; "{name}: ports were lost")?);
+    }
     let told = told(alloc, outcome)?;
     if let Some(number) = terminal.into_inner().first_wrong() {
         return Ok(format!(in alloc; "{name}: answered otherwise than at line {number}")?);
@@ -68,29 +73,15 @@ where
     println!(rt; "{line}")
 }
 
-// The names of the transcripts, in the order of their bytes.
-fn names_of<T: AllocGlobal + Files + Clone>(rt: &T) -> io::Result<Vec<String>> {
-    let alloc = rt.alloc();
-    let mut names = Vec::new(alloc);
-    for entry in fs::read_dir(rt, ".")? {
-        let entry = entry?;
-        let name = entry.file_name();
-        if name.ends_with(".run") {
-            names.push(String::from_str(alloc, name)?)?;
-        }
-    }
-    names.sort()?;
-    Ok(names)
-}
-
 /// Plays all rows, in the order of their names.
 pub fn play_all<T, H>(rt: &T, hires: &H) -> io::Result<()>
 where
     T: Threads + Wait + Clock + AllocGlobal + Print + Files + Clone,
     H: Hires,
 {
-    for name in names_of(rt)? {
-        play(rt, hires, name.as_str())?;
+    for name in names_before(rt, ".run")? {
+        let file = format!(in rt.alloc(); "{name}.run")?;
+        play(rt, hires, file.as_str())?;
     }
     let line = failures_told(rt, hires, rt.alloc())?;
     println!(rt; "{line}")

@@ -1,11 +1,11 @@
 //! A run whose reads and writes fail, each in turn.
 
+use row_files::failing::{FailingReader, FailingWriter};
 use rv_fault::Failure;
 use rv_run::run::run;
 use rv_staff::Hires;
 use std::alloc::Global;
 use std::io;
-use std::io::{ErrorKind, Read, Write};
 use std::sync::Wait;
 use std::thread::Threads;
 
@@ -17,52 +17,8 @@ const SCRIPT: &[u8] =
 const DUE: &[u8] =
     b"accepted 0\n1 operator load P -> accepted 0\n2 operator list [allow * * *] -> accepted 0\n3 operator tick 1 -> accepted 0\nbad command\nentries 4\n";
 
-// How many bytes a read or a write moves at most.
-const PIECE: usize = 16;
-
 // How many reads and writes are made to fail at most.
 const MOST_FAILURES: usize = 1_000;
-
-// A reader that gives few bytes at a time, and fails behind a number of reads.
-#[derive(Drop)]
-struct FailingReader<'a> {
-    left: &'a [u8],
-    good: usize,
-}
-
-impl<'a> Read for FailingReader<'a> {
-    fn read(&mut self, buf: &mut [u8]) -> io::Result<usize> {
-        let Some(good) = self.good.checked_sub(1) else {
-            return Err(io::Error::from(ErrorKind::TimedOut));
-        };
-        self.good = good;
-        let most = if buf.len() < PIECE { buf.len() } else { PIECE };
-        self.left.read(&mut buf[..most])
-    }
-}
-
-// A writer that takes few bytes at a time, and fails behind a number of writes.
-#[derive(Drop)]
-struct FailingWriter {
-    taken: Vec<u8>,
-    good: usize,
-}
-
-impl Write for FailingWriter {
-    fn write(&mut self, buf: &[u8]) -> io::Result<usize> {
-        let Some(good) = self.good.checked_sub(1) else {
-            return Err(io::Error::from(ErrorKind::TimedOut));
-        };
-        self.good = good;
-        let most = if buf.len() < PIECE { buf.len() } else { PIECE };
-        self.taken.extend_from_slice(&buf[..most])?;
-        Ok(most)
-    }
-
-    fn flush(&mut self) -> io::Result<()> {
-        Ok(())
-    }
-}
 
 // Runs the script with so many good reads and writes. Whether it ended with a failed one; none where what was written
 // doesn't begin what has to be.
@@ -73,15 +29,10 @@ fn fails<T: Threads + Wait, H: Hires>(
     reads: usize,
     writes: usize,
 ) -> Option<bool> {
-    let mut reader = FailingReader {
-        left: SCRIPT,
-        good: reads,
-    };
-    let mut writer = FailingWriter {
-        taken: Vec::new(alloc),
-        good: writes,
-    };
-    let outcome = run(rt, hires, alloc, &mut reader, &mut writer);
+    let mut reader = FailingReader::new(SCRIPT, reads);
+    let mut writer = FailingWriter::new(alloc, writes);
+    let mut errors: Vec<u8> = Vec::new(alloc);
+    let outcome = run(rt, hires, alloc, &mut reader, &mut writer, &mut errors);
     if !DUE.starts_with(writer.taken.as_slice()) {
         return None;
     }

@@ -1,6 +1,6 @@
-use Rattle.std.proofs.Common.{ℕ}
-use Rattle.rv_staff.specs.Giving.{Gives}
+use Rattle.rv_staff.proofs.Starting.{GaveBelow}
 use Rattle.rv_staff.proofs.staffing.start_threads.Given as goal
 
 abbrev pub invariant-loop-actor : goal.invariant-loop-actor
-invariant-loop-actor g l = (count : ℕ) × Gives count l.fn.session.staff.control l.session.staff.control
+invariant-loop-actor g l =
+    GaveBelow l.fn.session.staff l.session.staff (g.W.Write.contents l.fn.writer) (g.W.Write.contents l.writer) l.actor

@@ -1,4 +1,4 @@
-//! Reads and writes that fail, each of a script in turn.
+//! Readers and writers that fail behind a number of reads and writes.
 
 use std::alloc::Global;
 use std::io;

@@ -1,0 +1,23 @@
+//! Standard error, as a writer of text.
+
+use std::io;
+use std::io::{ErrorKind, Write};
+
+/// Writes text to standard error. Bytes that are no text are refused.
+pub struct StandardError<'a, R> {
+    pub rt: &'a R,
+}
+
+impl<R: Eprint> Write for StandardError<'_, R> {
+    fn write(&mut self, buf: &[u8]) -> io::Result<usize> {
+        let Ok(text) = str::from_utf8(buf) else {
+            return Err(io::Error::from(ErrorKind::InvalidData));
+        };
+        eprint!(self.rt; "{text}")?;
+        Ok(buf.len())
+    }
+
+    fn flush(&mut self) -> io::Result<()> {
+        Ok(())
+    }
+}

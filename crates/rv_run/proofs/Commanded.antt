@@ -1,0 +1,85 @@
+-- What is asked and said makes what a command does.
+use Rattle.std.proofs.Common.{◌≡◌, ◌+◌, ℕ, List, Option, Some, None, Ok, Err, inl, inr, refl, sym, ap, subst, IfNone, IfSome}
+use Rattle.std.specs.Prelude.{Result, codes, ◌⊎◌}
+use Rattle.rv_code.specs.declared.unit.Unit.{Unit as Compiled}
+use Rattle.rv_crew.specs.Teams.{Team}
+use Rattle.rv_event.specs.declared.entry.Answer.{Answer}
+use Rattle.rv_fault.specs.Sections.{GivesUnit}
+use Rattle.rv_port.specs.Events.{catalogue_of}
+use Rattle.rv_port.specs.Traces.{Passing}
+use Rattle.rv_shape.specs.Shape.{Shape}
+use Rattle.rv_shape.specs.Catalogue.{OperationNumber}
+use Rattle.rv_shell.specs.Serving.{Serves}
+use Rattle.rv_shell.specs.declared.shell.Next.{Next}
+use Rattle.rv_shell.specs.declared.shell.Next.TheVariants as Nexts
+use Rattle.rv_shell.specs.declared.shell.LineFault.{LineFault}
+use Rattle.rv_staff.specs.Giving.{Starts}
+use Rattle.rv_staff.specs.Saying.{Known, Says, SaysNoThread, SaysRaised}
+use Rattle.rv_staff.specs.Staffs.{Staffed}
+use Rattle.rv_text.specs.Words.{words}
+use Rattle.rv_turn.specs.declared.pass.Worn.{Worn}
+use Rattle.rv_run.specs.Commanding.{Commands, Follows, LoadsIn, LoadsText, LoadsUnit, SaysOfLine, StartsOn, Welcomes}
+use Rattle.rv_run.specs.Staging.{GoesOn, IsSaid, Outcome, SaysOn, Stage}
+
+-- a text is said by what writes it
+pub said_says : {X E : Type 0} (old new : Known) (text : List ℕ) (written : Result X E) (result : Outcome)
+    → Says old new text written → IsSaid written result → Says old new text result
+said_says old new text (Ok x) result says is = subst (λ (r : Outcome). Says old new text r) (sym is) says
+said_says old new text (Err e) (Ok y) says is = absurd is
+said_says old new text (Err e) (Err failure) says is = says
+
+pub says_on : {X E : Type 0} (old new : Known) (text : List ℕ) (written : Result X E) (result : Outcome)
+    → Says old new text written → IsSaid written result → GoesOn result → SaysOn old new text result
+says_on old new text written result says is goes = (said_says old new text written result says is, goes)
+
+pub said_starts : {X E : Type 0} (v w : Staffed) (old new : Known) (written : Result X E) (result : Outcome)
+    → Starts v w old new written → IsSaid written result → Starts v w old new result
+said_starts v w old new (Ok x) result starts is = subst (λ (r : Outcome). Starts v w old new r) (sym is) starts
+said_starts v w old new (Err e) (Ok y) starts is = absurd is
+said_starts v w old new (Err e) (Err failure) starts is = starts
+
+said_of_none : {X E : Type 0} (old new : Known) (shapes : List Shape) (actor : ℕ) (written : Result X E) (result : Outcome)
+    → SaysNoThread old new shapes actor written → IsSaid written result → SaysNoThread old new shapes actor result
+said_of_none old new shapes actor written result (inl says) is = inl (said_says old new _ written result says is)
+said_of_none old new shapes actor written result (inr says) is = inr (said_says old new _ written result says is)
+
+said_of_raise : {X E : Type 0} (old new : Known) (shapes : List Shape) (line : ℕ) (written : Result X E) (result : Outcome)
+    → SaysRaised old new shapes line written → IsSaid written result → SaysRaised old new shapes line result
+said_of_raise old new shapes line written result (inl says) is = inl (said_says old new _ written result says is)
+said_of_raise old new shapes line written result (inr says) is = inr (said_of_none old new shapes (line + 1) written result says is)
+
+-- what is said of a raised line
+pub said_of_line : {X E : Type 0} (old new : Known) (shapes : List Shape) (line : ℕ) (target : Option OperationNumber) (written : Result X E) (result : Outcome)
+    → IfNone target (Says old new (codes "unattached\n") written) → IfSome target (λ t. SaysRaised old new shapes line written) → IsSaid written result
+    → SaysOfLine old new shapes line target result
+said_of_line old new shapes line None written result none some is = said_says old new _ written result none is
+said_of_line old new shapes line (Some t) written result none some is = said_of_raise old new shapes line written result some is
+
+-- the crew stays
+pub same_staff : (v w : Staffed) → w.crew ≡ v.crew → w ≡ record v { control = w.control }
+same_staff v w same = ap (λ (crew : Team). record w { crew = crew }) same
+
+-- a line was carried out by the shell, and then what it said
+pub commands_by : (s : Stage) (u : Staffed) (said : Known) (t : Stage) (line : List ℕ) (next : Result Next LineFault) (result : Outcome)
+    → Serves s.written said s.staff.control u.control (words line) next → u.crew ≡ s.staff.crew
+    → Follows (record s { staff = u; written = said }) t next result → Commands s t line result
+commands_by s u said t line next result served crew follows = record {
+  next = next;
+  asked = u.control;
+  said = said;
+  served = served;
+  follows = subst (λ (v : Staffed). Follows (record s { staff = v; written = said }) t next result) (same_staff s.staff u crew) follows;
+}
+
+-- the unit of a text was loaded
+pub loads_by : (v u w : Staffed) (old new : Known) (text : List ℕ) (unit : Compiled) (answer : Result Answer Worn) (result : Outcome)
+    → GivesUnit (catalogue_of v.control.seen) text (Ok unit) → LoadsIn v.control unit.shape unit.bodies answer u.control → u.crew ≡ v.crew
+    → Welcomes u w old new answer result → LoadsText v w old new text result
+loads_by v u w old new text unit answer result gives told crew welcomes = inl record {
+  unit = unit;
+  is_unit = gives;
+  answer = answer;
+  loaded = u.control;
+  told = told;
+  welcomed = subst (λ (x : Staffed). Welcomes x w old new answer result) (same_staff v u crew) welcomes;
+}

@@ -1,0 +1,51 @@
+-- What a script opens.
+use Rattle.std.proofs.Common.{◌≡◌, ℕ, Bool, List, [], Ok, inl, refl, sym, ap, subst}
+use Rattle.rv_fault.specs.Sections.{GivesSettings, line_of}
+use Rattle.rv_history.specs.Legal.{empty}
+use Rattle.rv_history.specs.Limits.{limits_of}
+use Rattle.rv_input.specs.Coming.{GivesBefore, IfTold, Reading, coming, most_before}
+use Rattle.rv_port.specs.Traces.{Passing}
+use Rattle.rv_script.specs.Openings.{OpenedText, opened}
+use Rattle.rv_settings.specs.Settings.{SettingsText}
+use Rattle.rv_staff.specs.Saying.{Known}
+use Rattle.rv_staff.specs.Staffs.{Staffed, no_crew}
+use Rattle.rv_run.specs.Finishing.{Plays, Served}
+use Rattle.rv_run.specs.Preparing.{Prepares}
+use Rattle.rv_run.specs.Running.{IsControlOf, IsPrepared, Opens, Runs}
+
+pub is_prepared : (script : OpenedText) (settings : SettingsText) (first control : Passing) (staff : Staffed) (capacity : ℕ)
+    → capacity ≡ settings.capacity → IsControlOf (empty (limits_of capacity)) first
+    → Prepares first control script.sections (line_of script.settings) settings.devices (Ok tt)
+    → staff ≡ record { control = control; crew = no_crew } → IsPrepared script settings staff
+is_prepared script settings first control staff capacity same begins prepared is = record {
+  first = first;
+  begins = subst (λ (n : ℕ). IsControlOf (empty (limits_of n)) first) same begins;
+  prepared = subst (λ (s : Staffed). Prepares first s.control script.sections (line_of script.settings) settings.devices (Ok tt)) (sym is) prepared;
+  alone = ap (λ (s : Staffed). s.crew) is;
+}
+
+pub opens : (bytes text : List ℕ) (script : OpenedText) (settings : SettingsText) (staff : Staffed) → text ≡ bytes → opened text ≡ Ok script
+    → GivesSettings script.settings (Ok settings) → IsPrepared script settings staff → Opens bytes staff
+opens bytes text script settings staff same is are prepared = record {
+  script = script;
+  is_script = subst (λ (t : List ℕ). opened t ≡ Ok script) same is;
+  settings = settings;
+  are_settings = are;
+  prepared = prepared;
+}
+
+-- what comes behind a script that was opened without a word
+pub runs_on : (remaining old new errors errors' : Known) (result : Served) (bytes slice : List ℕ) (runs : Bool) (first input : Reading) (left silent : Known) (staff : Staffed)
+    → first ≡ record { ahead = []; given = 0 } → IfTold (coming most_before first remaining) (coming most_before input left) (GivesBefore bytes runs)
+    → slice ≡ bytes → Opens slice staff → silent ≡ old → Plays runs (record { staff = staff; written = silent; input = input; left = left }) new errors errors' result
+    → Runs remaining old new errors errors' result
+runs_on remaining old new errors errors' result bytes slice runs first input left silent staff is before same opens still plays = inl record {
+  bytes = bytes;
+  runs = runs;
+  input = input;
+  left = left;
+  before = subst (λ (r : Reading). IfTold (coming most_before r remaining) (coming most_before input left) (GivesBefore bytes runs)) is before;
+  staff = staff;
+  opens = subst (λ (b : List ℕ). Opens b staff) same opens;
+  plays = subst (λ (w : Known). Plays runs (record { staff = staff; written = w; input = input; left = left }) new errors errors' result) still plays;
+}

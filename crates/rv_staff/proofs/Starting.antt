@@ -1,0 +1,104 @@
+-- What the start of threads says.
+use Rattle.std.proofs.Common.{◌≡◌, ◌∙◌, ℕ, suc, ◌+◌, List, [], ◌++◌, Ok, Err, inl, inr, refl, sym, ap, subst, add-one, arith}
+use Rattle.std.specs.Prelude.{Result, ◌⊎◌}
+use Rattle.std.specs.Io.KnownBytes.{Appends}
+use Rattle.rv_script.specs.Prefixes.{WritesPrefix}
+use Rattle.rv_script.proofs.Wrote.{appends_more, keeps_nothing, prefix_behind}
+use Rattle.rv_shape.specs.Shape.{Shape}
+use Rattle.rv_crew.specs.Teams.{Team}
+use Rattle.rv_port.specs.Controls.{IsGiven, IsPortFault}
+use Rattle.rv_port.specs.Events.{catalogue_of}
+use Rattle.rv_port.specs.Ports.{Porting, pass_of}
+use Rattle.rv_port.specs.declared.fault.PortFault.{PortFault}
+use Rattle.rv_staff.specs.declared.hires.HireFault.{HireFault}
+use Rattle.rv_staff.specs.declared.hires.HireFault.TheVariants.{NoThread, NoMemory}
+use Rattle.rv_staff.specs.Hiring.{hired}
+use Rattle.rv_staff.specs.Saying.{Known, Says, SaysNoThread, no_memory_line, no_thread_line}
+use Rattle.rv_staff.specs.Staffs.{Staffed}
+use Rattle.rv_staff.specs.Giving.{GivesOne, GivesUpTo, SaidOfFault, SaidOfHire}
+
+-- there is no thread, and that is said
+pub no_thread_said : {X E : Type 0} (old new : Known) (shapes : List Shape) (actor : ℕ) (start : Result (Unit {0}) HireFault) (result : Result X E)
+    → start ≡ Err NoThread → SaysNoThread old new shapes actor result → (text : List ℕ) × SaidOfHire shapes actor start text × Says old new text result
+no_thread_said old new shapes actor start result none (inl says) =
+    (no_thread_line shapes actor, subst (λ (r : Result (Unit {0}) HireFault). SaidOfHire shapes actor r (no_thread_line shapes actor)) (sym none) (inl refl), says)
+no_thread_said old new shapes actor start result none (inr says) =
+    (no_memory_line, subst (λ (r : Result (Unit {0}) HireFault). SaidOfHire shapes actor r no_memory_line) (sym none) (inr refl), says)
+
+-- memory was refused, and that is said
+pub no_memory_said : {X E : Type 0} (old new : Known) (shapes : List Shape) (actor : ℕ) (start : Result (Unit {0}) HireFault) (result : Result X E)
+    → start ≡ Err NoMemory → Says old new no_memory_line result → (text : List ℕ) × SaidOfHire shapes actor start text × Says old new text result
+no_memory_said old new shapes actor start result none says =
+    (no_memory_line, subst (λ (r : Result (Unit {0}) HireFault). SaidOfHire shapes actor r no_memory_line) (sym none) refl, says)
+
+-- an actor was given a port
+pub one_given : (v u w : Staffed) (actor : ℕ) (port : Porting) (start : Result (Unit {0}) HireFault) (text : List ℕ)
+    → IsGiven v.control actor u.control (pass_of port) → u.crew ≡ v.crew → w ≡ record u { crew = hired u.crew port start }
+    → SaidOfHire (catalogue_of w.control.seen) actor start text → GivesOne v w actor text
+one_given v u w actor port start text given same is said = inl record {
+  port = port;
+  start = start;
+  given = subst (λ (x : Staffed). IsGiven v.control actor x.control (pass_of port)) (sym is) given;
+  crew = ap (λ (x : Staffed). x.crew) is ∙ ap (λ (crew : Team). hired crew port start) same;
+  said = said;
+}
+
+-- an actor was given none
+pub none_given : (v w : Staffed) (actor : ℕ) (fault : PortFault) (text : List ℕ)
+    → IsPortFault actor v.control.given (catalogue_of v.control.seen) v.control.left fault → w ≡ v → SaidOfFault fault text → GivesOne v w actor text
+none_given v w actor fault text stands same said = inr record { fault = fault; stands = stands; same = same; said = said }
+
+-- the actors below this one had their turn
+pub record GaveBelow (v w : Staffed) (old new : Known) (actor : ℕ) : Type 0 where
+  pub count : ℕ
+  pub next : actor ≡ count + 1
+  pub text : List ℕ
+  pub gave : GivesUpTo count v w text
+  pub said : Appends old new text
+
+-- what one had
+pub record GaveOne {X E : Type 0} (v w : Staffed) (old new : Known) (actor : ℕ) (result : Result X E) : Type 0 where
+  pub text : List ℕ
+  pub gives : GivesOne v w actor text
+  pub said : Says old new text result
+
+pub gave_one : {X E : Type 0} (v w : Staffed) (old new : Known) (actor : ℕ) (result : Result X E)
+    → (text : List ℕ) × GivesOne v w actor text × Says old new text result → GaveOne v w old new actor result
+gave_one v w old new actor result told = record { text = told.0; gives = told.1; said = told.2 }
+
+-- before the first
+pub none_below : (v : Staffed) (known : Known) → GaveBelow v v known known 1
+none_below v known = record { count = 0; next = refl; text = []; gave = (refl, refl); said = keeps_nothing known }
+
+one_more : (count actor : ℕ) (v u w : Staffed) (before last : List ℕ) → actor ≡ count + 1 → GivesUpTo count v u before → GivesOne u w actor last
+    → GivesUpTo (suc count) v w (before ++ last)
+one_more count actor v u w before last next up one =
+    (u, before, last, up, subst (λ (n : ℕ). GivesOne u w n last) (next ∙ add-one count) one, refl)
+
+-- one actor more
+pub one_below : {X E : Type 0} (v u w : Staffed) (old mid new : Known) (actor : ℕ) (result : Result X E) (x : X) → result ≡ Ok x
+    → GaveBelow v u old mid actor → GaveOne u w mid new actor result → GaveBelow v w old new (actor + 1)
+one_below {X} {E} v u w old mid new actor result x ok below one = record {
+  count = suc below.count;
+  next = ap (λ (n : ℕ). n + 1) (below.next ∙ add-one below.count);
+  text = below.text ++ one.text;
+  gave = one_more below.count actor v u w below.text one.text below.next below.gave one.gives;
+  said = appends_more old mid new below.text one.text below.said (subst (λ (r : Result X E). Says mid new one.text r) ok one.said);
+}
+
+-- writing failed behind what was said of the actors before
+pub fails_at : {X E : Type 0} (v u w : Staffed) (old mid new : Known) (actor : ℕ) (result : Result X E) (error : E) → result ≡ Err error
+    → GaveBelow v u old mid actor → GaveOne u w mid new actor result → (count : ℕ) × (text : List ℕ) × GivesUpTo count v w text × WritesPrefix old new text
+fails_at {X} {E} v u w old mid new actor result error failed below one = (
+  suc below.count,
+  below.text ++ one.text,
+  one_more below.count actor v u w below.text one.text below.next below.gave one.gives,
+  prefix_behind old mid new below.text one.text below.said (subst (λ (r : Result X E). Says mid new one.text r) failed one.said),
+)
+
+-- all had their turn
+pub all_below : (v w : Staffed) (old new : Known) (actor count : ℕ) → actor ≡ count + 1 → GaveBelow v w old new actor
+    → (text : List ℕ) × GivesUpTo count v w text × Appends old new text
+all_below v w old new actor count is below =
+    let same : below.count ≡ count = omega (arith, below.next, is) in
+    (below.text, subst (λ (n : ℕ). GivesUpTo n v w below.text) same below.gave, below.said)
