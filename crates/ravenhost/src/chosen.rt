@@ -189,7 +189,7 @@ fn audit_of(has_journal: bool, takes_torn: bool) -> Option<Choice>
 
 // When notes are told, by the word that was given; none for another word.
 fn notes_of(word: Option<&str>) -> Option<Notes>
-    ensures { result ≡ notes_of (option_map (λ w. w.now) word) }
+    ensures { result ≡ notes_of (option_map (λ w. w.now) word.entry) }
 {
     let Some(word) = word else {
         return Some(Notes::Auto);
