@@ -3,7 +3,7 @@
 ghost use Rattle.std.specs.Prelude.{◌≡◌};
 ghost use Rattle.rv_crew.specs.Teams.{IsOfTurn};
 
-use crate::crews::caller::{GET, call, caller};
+use crate::crews::caller::{GET, call, caller_of};
 use crate::crews::plant::{FIRST, with_tasks};
 use crate::crews::threads::{begin, close};
 use crate::hands::{Hands, Role};
@@ -27,7 +27,7 @@ fn begin_calls(
     requires { IsOfTurn port.turn crew.old }
     ensures { IsOfTurn port.turn crew.new }
 {
-    let (caller, _replies) = caller(alloc, calls, GET)?;
+    let (caller, _replies) = caller_of(alloc, calls, GET)?;
     Some(begin(hands, crew, port, Role::Caller(caller)))
 }
 

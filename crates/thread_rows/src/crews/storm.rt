@@ -3,7 +3,7 @@
 ghost use Rattle.std.specs.Prelude.{◌≡◌};
 ghost use Rattle.rv_crew.specs.Teams.{IsOfTurn};
 
-use crate::crews::caller::{ADD, GET, caller};
+use crate::crews::caller::{ADD, GET, caller_of};
 use crate::crews::changes::{append, remove};
 use crate::crews::journal::Journal;
 use crate::crews::plant::{FIRST, STORM_CAPACITY, with_storm};
@@ -52,7 +52,7 @@ fn begin_one(
     ensures { IsOfTurn control.new.turn crew.new }
 {
     let operation = if number % 2 == 0 { GET } else { ADD };
-    let (caller, replies) = caller(alloc, CALLS, operation)?;
+    let (caller, replies) = caller_of(alloc, CALLS, operation)?;
     let port = port_of(control, FIRST + number)?;
     if begin(hands, crew, port, Role::Caller(caller)) {
         return Some(replies);

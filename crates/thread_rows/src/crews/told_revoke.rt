@@ -2,7 +2,7 @@
 
 ghost use Rattle.std.specs.Prelude.{◌≡◌};
 
-use crate::crews::caller::{GET, call, caller};
+use crate::crews::caller::{GET, call, caller_of};
 use crate::crews::changes::remove;
 use crate::crews::plant::{FIRST, with_tasks};
 use crate::crews::threads::{begin, close};
@@ -46,7 +46,7 @@ fn call_again<R: Threads + Wait + AllocGlobal>(
 ) -> Option<Closed>
     requires { port.turn ≡ control.turn }
 {
-    let (caller, replies) = caller(rt.alloc(), 1, GET)?;
+    let (caller, replies) = caller_of(rt.alloc(), 1, GET)?;
     let mut crew = Crew::new(rt.alloc());
     let begun = begin(hands, &mut crew, port, Role::Caller(caller));
     let reached = receive(rt, &replies)?;
