@@ -4,6 +4,7 @@ use std::io;
 use std::io::{ErrorKind, Write};
 
 /// Writes text to standard error. Bytes that are no text are refused.
+#[derive(Clone, Copy)]
 pub struct StandardError<'a, R> {
     pub rt: &'a R,
 }
