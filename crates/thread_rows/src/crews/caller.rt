@@ -27,7 +27,11 @@ pub struct Caller {
 }
 
 /// A caller, and where its replies come. None where there is no memory.
-pub fn caller_of(alloc: Global, calls: u32, operation: usize) -> Option<(Caller, Receiver<Reached>)> {
+pub fn caller_of(
+    alloc: Global,
+    calls: u32,
+    operation: usize,
+) -> Option<(Caller, Receiver<Reached>)> {
     let (replies, comes) = unbounded(alloc).ok()?;
     let caller = Caller {
         calls,
