@@ -1,144 +1,122 @@
 //! What is said below the line of a fault.
 
-ghost use Rattle.std.specs.Prelude.{◌≡◌, ◌+◌, ◌≤◌, ◌^◌, length, IfSome};
+ghost use Rattle.std.specs.Prelude.{IfOk, IfSome};
+ghost use Rattle.rv_explain.specs.Spots.{IsLine};
 
+use crate::cause::cause_of;
 use crate::excerpt::Excerpt;
-use crate::meaning::{Meaning, meaning_of};
+use crate::scene::{Scene, scene_of};
 use crate::spot::{Spot, line_spot, spot_of};
-use rv_access::ListFault;
+use rv_cause::{Found, Told};
 use rv_fault::{ScriptFault, What};
-use rv_lex::fault::LexFault;
-use rv_names::NameFault;
-use rv_parse::ParseFault;
-use rv_script::{open, text_of};
-use rv_static::TypeFault;
+use rv_script::{MOST_BYTES, text_of};
+use rv_section_causes::{not_text, too_long};
 use rv_text::Section;
-use rv_unit::UnitFault;
+use std::alloc::{AllocError, Global};
 use std::fmt;
 
-/// What is said below the line of a fault: the line of the script where it stands, with a caret under the place, and what
-/// the fault means.
-#[derive(Clone, Copy)]
+/// What is said below the line of a fault: the line of the script where its cause lies, with a caret under the place, and
+/// the cause.
+#[derive(Drop)]
 pub struct Explanation<'a> {
-    excerpt: Option<Excerpt<'a>>,
-    meaning: Meaning,
+    /// Where in the script the cause lies; nowhere where the script is no text.
+    pub spot: Option<Spot<'a>>,
+    /// The one cause, and the words of the script that are said with it.
+    pub told: Told,
 }
 
-// The byte of a unit text where a fault of words stands.
-fn place_of_words(fault: LexFault) -> Option<usize> {
-    match fault {
-        LexFault::BadCharacter(at)
-        | LexFault::BadLiteral(at)
-        | LexFault::BadIdentifier(at)
-        | LexFault::NotAscii(at) => Some(at),
-        LexFault::NoMemory => None,
-    }
-}
-
-// The same of a fault of the grammar.
-fn place_of_grammar(fault: ParseFault) -> Option<usize> {
-    match fault {
-        ParseFault::Lex(fault) => place_of_words(fault),
-        ParseFault::Unexpected(at) | ParseFault::TooDeep(at) => Some(at),
-        ParseFault::NoMemory => None,
-    }
-}
-
-// The same of a fault of names.
-fn place_of_names(fault: NameFault) -> Option<usize> {
-    match fault {
-        NameFault::Unknown(at)
-        | NameFault::Duplicate(at)
-        | NameFault::NotVisible(at)
-        | NameFault::WrongKind(at)
-        | NameFault::EndName(at) => Some(at),
-        NameFault::NoMemory => None,
-    }
-}
-
-// The same of a fault of types.
-fn place_of_types(fault: TypeFault) -> Option<usize> {
-    match fault {
-        TypeFault::Mismatch(at)
-        | TypeFault::NotStatic(at)
-        | TypeFault::ConstantWritten(at)
-        | TypeFault::BadMode(at)
-        | TypeFault::TooLarge(at)
-        | TypeFault::BadChoice(at) => Some(at),
-        TypeFault::NoMemory => None,
-    }
-}
-
-// The byte of a unit text where a fault stands; one of a shape has no place.
-fn place_of(fault: UnitFault) -> Option<usize> {
-    match fault {
-        UnitFault::Lex(fault) => place_of_words(fault),
-        UnitFault::Parse(fault) => place_of_grammar(fault),
-        UnitFault::Restriction(violation) => Some(violation.place),
-        UnitFault::Names(fault) => place_of_names(fault),
-        UnitFault::Types(fault) => place_of_types(fault),
-        UnitFault::Shape(_) | UnitFault::NoMemory => None,
-    }
-}
-
-// The section of a script, behind its settings, that this line opens.
-fn section_at(script: &str, line: usize) -> Option<Section<'_>>
-    ensures { IfSome result (λ section. section.line + length section.text.now ≤ 2 ^ 63) }
+// Where in a script a byte of a section's text stands.
+fn spot_in<'a>(script: &'a str, section: &Section<'a>, at: usize) -> Option<Spot<'a>>
+    ensures { IfSome result (λ spot. IsLine script.now spot.number spot.line.now) }
 {
-    let Ok(opened) = open(script) else {
+    if section.line > MOST_BYTES || section.text.len() > MOST_BYTES {
         return None;
-    };
-    let mut sections = opened.sections;
-    'each: while let Some(section) = sections.next_section() {
-        if section.line == line {
-            return Some(section);
+    }
+    let Spot {
+        number,
+        line: _,
+        offset,
+    } = spot_of(section, at);
+    match line_spot(script, number) {
+        Some(spot) => Some(Spot {
+            number: spot.number,
+            line: spot.line,
+            offset,
+        }),
+        None => None,
+    }
+}
+
+// Where in a script a cause lies.
+fn cause_spot<'a>(
+    script: &'a str,
+    section: &Option<Section<'a>>,
+    fault: ScriptFault,
+    at: Option<usize>,
+) -> Option<Spot<'a>>
+    ensures { IfSome result (λ spot. IsLine script.now spot.number spot.line.now) }
+{
+    if let Some(at) = at {
+        if let Some(section) = section {
+            return spot_in(script, section, at);
         }
     }
-    None
+    line_spot(script, fault.line)
 }
 
-// Which line of the script a fault speaks of: the one that it names, or that many behind it.
-fn line_of(fault: ScriptFault) -> usize {
-    match fault.what {
-        What::List(
-            ListFault::BadWord(behind)
-            | ListFault::BadName(behind)
-            | ListFault::TooMany(behind)
-            | ListFault::BadWindow(behind),
-        ) => { fault.line.saturating_add(behind) }
-        _ => fault.line,
-    }
-}
-
-// Where in a script a fault stands.
-fn fault_spot(script: &str, fault: ScriptFault) -> Option<Spot<'_>> {
-    if let What::Unit(told) = fault.what {
-        if let Some(at) = place_of(told) {
-            let section = section_at(script, fault.line)?;
-            return Some(spot_of(&section, at));
-        }
-    }
-    line_spot(script, line_of(fault))
-}
-
-/// What is said below the line of a fault that was told of a script.
-pub fn explain(script: &[u8], fault: ScriptFault) -> Explanation<'_> {
-    let excerpt = match text_of(script) {
-        Ok(text) => fault_spot(text, fault).map(Excerpt::new),
-        Err(_) => None,
+// What is said of a script that is text.
+fn of_text(alloc: Global, script: &str, fault: ScriptFault) -> Result<Explanation<'_>, AllocError>
+    ensures { IfOk result (λ e. IfSome e.spot (λ spot. IsLine script.now spot.number spot.line.now)) }
+{
+    let scene = match scene_of(alloc, script, fault.line) {
+        Ok(scene) => scene,
+        Err(e) => return Err(e),
     };
-    Explanation {
-        excerpt,
-        meaning: meaning_of(fault.what),
+    let Found { at, told } = cause_of(alloc, script, &scene, fault)?;
+    let Scene {
+        section,
+        catalogue: _,
+    } = scene;
+    let spot = cause_spot(script, &section, fault, at);
+    Ok(Explanation { spot, told })
+}
+
+// What is said of bytes that are no text.
+fn of_bytes(alloc: Global, script: &[u8], fault: ScriptFault) -> Result<Explanation<'_>, AllocError>
+    ensures { IfOk result (λ e. IfSome e.spot (λ spot. IsLine script.now spot.number spot.line.now)) }
+{
+    let found = match fault.what {
+        What::TooLong => too_long(alloc, script),
+        _ => not_text(alloc, script)?,
+    };
+    Ok(Explanation {
+        spot: None,
+        told: found.told,
+    })
+}
+
+/// What is said below the line of a fault that was told of a script. The line that is shown is the script's line of that
+/// number. Err where memory was refused.
+pub fn explain(
+    alloc: Global,
+    script: &[u8],
+    fault: ScriptFault,
+) -> Result<Explanation<'_>, AllocError>
+    ensures { IfOk result (λ e. IfSome e.spot (λ spot. IsLine script.now spot.number spot.line.now)) }
+{
+    match text_of(script) {
+        Ok(text) => of_text(alloc, text, fault),
+        Err(_) => of_bytes(alloc, script, fault),
     }
 }
 
 impl fmt::Display for Explanation<'_> {
     fn fmt<W: fmt::Write>(&self, f: &mut fmt::Formatter<W>) -> fmt::Result {
-        if let Some(excerpt) = self.excerpt {
+        if let Some(spot) = self.spot {
+            let excerpt = Excerpt::new(spot);
             write!(f, "{excerpt}")?;
         }
-        let meaning = self.meaning;
-        write!(f, "  = {meaning}\n")
+        let told = &self.told;
+        write!(f, "  = {told}\n")
     }
 }

@@ -1,10 +1,11 @@
-//! What is said below the line of a fault where it is asked for: where in the script the fault stands, the line with a
-//! caret under the place, and what the fault means.
+//! What is said below the line of a fault where it is asked for: where in the script its cause lies, the line with a
+//! caret under the word, and the one cause.
 #![tactic(auto)]
 
+mod cause;
 mod excerpt;
 mod explanation;
-mod meaning;
+mod scene;
 pub mod spot;
 
 pub use explanation::{Explanation, explain};
