@@ -3,6 +3,7 @@
 
 ghost use Rattle.std.specs.Prelude.{◌≡◌};
 ghost use Rattle.rv_staff.specs.Hiring.{hired};
+ghost use Rattle.thread_rows.specs.Fitting.{Fits};
 
 mod crews;
 mod hands;
@@ -17,6 +18,7 @@ use rv_exec::machine::STACK_BYTES;
 use rv_port::port::{Finished, Port};
 use rv_staff::{HireFault, start};
 use std::fs::Files;
+use std::snapshot::Snapshot;
 use std::sync::Wait;
 use std::thread::Threads;
 use std::time::Clock;
@@ -38,17 +40,19 @@ where
 // The jobs of threads are boxed here, where the runtime is.
 fn main(rt: HostRuntime) -> io::Result<()> {
     let begin = move |crew: &mut Crew, port: Port, role: Role| -> Result<(), HireFault>
+        requires { Fits role port }
         ensures { crew.new ≡ hired crew.old port result }
     {
-        let actor = port.actor();
+        let given = Snapshot::of(&port);
         let boxed = Box::new(
             rt.alloc(),
             move |port: Port| -> Finished
+                requires { Fits role port }
                 ensures { (result.turn ≡ port.turn) × (result.actor ≡ port.actor) }
             { act(&rt, port, role) },
         );
         match boxed {
-            Ok(run) => start(&rt, crew, Job { actor, run }, port),
+            Ok(run) => start(&rt, crew, Job { port: given, run }, port),
             Err(_) => Err(HireFault::NoMemory),
         }
     };

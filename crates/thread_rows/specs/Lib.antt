@@ -1,0 +1,2 @@
+pub mod OneTurn
+pub mod Fitting
