@@ -264,7 +264,8 @@ def no_thread(program):
     for actor in missing:
         expect(f"entries of {actor}, which has no thread", of(journal, actor), [])
     out, err, status = run.end()
-    expect_that("quit without a thread", re.fullmatch(r"entries \d+\n", out) and not err and status == 0, (out, err, status))
+    lost = "".join(f"lost {actor}\n" for actor in missing)
+    expect_that("quit without a thread", re.fullmatch(r"entries \d+\n", out) and err == lost and status == 0, (out, err, status))
 
 
 def of(journal, actor):
