@@ -1,13 +1,1 @@
-pub mod Reading
-pub mod Contract
-pub mod NameRules
-pub mod ExpressionRules
-pub mod Nests
-pub mod DeclarationRules
-pub mod StatementRules
-pub mod NestsStatements
-pub mod BodyRules
-pub mod UnitRules
 pub mod Texts
-pub mod Nesting
-pub mod Closing

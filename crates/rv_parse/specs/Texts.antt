@@ -1,15 +1,13 @@
 -- What reading a whole text gives.
 use Rattle.std.specs.Prelude.{◌≡◌, Result, Ok, Err, List}
-use Rattle.rv_tree.specs.Units as t
-use Rattle.rv_tree.specs.UnitView.{unit_view}
 use Rattle.rv_lex.specs.declared.fault.LexFault.{LexFault}
 use Rattle.rv_lex.specs.declared.fault.LexFault.TheVariants as lex
 use Rattle.rv_lex.specs.Kinds.{Text}
 use Rattle.rv_lex.specs.Lexes.{Lexeme, Lexes, Refuses}
 use Rattle.rv_tree.specs.declared.unit.UnitTree.{UnitTree}
-use Rattle.rv_parse.specs.Nesting.{NestsTooDeep}
-use Rattle.rv_parse.specs.declared.fault.ParseFault.{ParseFault}
-use Rattle.rv_parse.specs.declared.fault.ParseFault.TheVariants as parse
+use Rattle.rv_grammar.specs.Nesting.{NestsTooDeep}
+use Rattle.rv_grammar.specs.declared.fault.ParseFault.{ParseFault}
+use Rattle.rv_grammar.specs.declared.fault.ParseFault.TheVariants as parse
 
 abbrev pub words_fault : LexFault → ParseFault
 words_fault lex.NoMemory = parse.NoMemory
@@ -17,22 +15,6 @@ words_fault (lex.BadCharacter place) = parse.Lex (lex.BadCharacter place)
 words_fault (lex.BadLiteral place) = parse.Lex (lex.BadLiteral place)
 words_fault (lex.BadIdentifier place) = parse.Lex (lex.BadIdentifier place)
 words_fault (lex.NotAscii place) = parse.Lex (lex.NotAscii place)
-
--- that tree, unless memory or depth runs out
-abbrev pub ReadsTree : t.UnitTree → Result UnitTree ParseFault → Type 0
-ReadsTree tree (Ok found) = unit_view found ≡ tree
-ReadsTree tree (Err parse.NoMemory) = Unit {0}
-ReadsTree tree (Err (parse.TooDeep at)) = Unit {0}
-ReadsTree tree (Err (parse.Unexpected at)) = ⊥
-ReadsTree tree (Err (parse.Lex fault)) = ⊥
-
--- no fault of words
-abbrev pub HasWords : Result UnitTree ParseFault → Type 0
-HasWords (Ok tree) = Unit {0}
-HasWords (Err parse.NoMemory) = Unit {0}
-HasWords (Err (parse.TooDeep at)) = Unit {0}
-HasWords (Err (parse.Unexpected at)) = Unit {0}
-HasWords (Err (parse.Lex fault)) = ⊥
 
 -- the text has words: no fault stands in them
 abbrev pub HasLexemes : Text → Type 0
@@ -53,14 +35,6 @@ OfWords text (Err (parse.Lex fault)) = IsFirstOfWords text fault
 OfWords text (Err parse.NoMemory) = Unit {0}
 OfWords text (Err (parse.Unexpected at)) = HasLexemes text
 OfWords text (Err (parse.TooDeep at)) = HasLexemes text
-
--- words are refused as too deep only where they nest too deep
-abbrev pub DeepWords : List Lexeme → Result UnitTree ParseFault → Type 0
-DeepWords words (Ok tree) = Unit {0}
-DeepWords words (Err (parse.TooDeep at)) = NestsTooDeep words
-DeepWords words (Err (parse.Lex fault)) = Unit {0}
-DeepWords words (Err parse.NoMemory) = Unit {0}
-DeepWords words (Err (parse.Unexpected at)) = Unit {0}
 
 -- a text is refused as too deep only where it has words that nest too deep
 abbrev pub OfDepth : Text → Result UnitTree ParseFault → Type 0

@@ -5,9 +5,10 @@ use Rattle.rv_shape.specs.Shape.{Shape}
 use Rattle.rv_shape.specs.Fits as fitting
 use Rattle.rv_tree.specs.Units.{UnitTree}
 use Rattle.rv_tree.specs.Derives.{Derives}
-use Rattle.rv_parse.specs.Texts.{ReadsTree, OfWords, OfDepth}
-use Rattle.rv_parse.specs.declared.fault.ParseFault.{ParseFault}
-use Rattle.rv_parse.specs.declared.fault.ParseFault.TheVariants as Parses
+use Rattle.rv_grammar.specs.Words.{ReadsTree}
+use Rattle.rv_parse.specs.Texts.{OfWords, OfDepth}
+use Rattle.rv_grammar.specs.declared.fault.ParseFault.{ParseFault}
+use Rattle.rv_grammar.specs.declared.fault.ParseFault.TheVariants as Parses
 use Rattle.rv_restrict.specs.Conforms.{Conforms, IsFirst, violations}
 use Rattle.rv_scope.specs.Bound.{AllBound, uses}
 use Rattle.rv_distinct.specs.Regions.{names_are_distinct}

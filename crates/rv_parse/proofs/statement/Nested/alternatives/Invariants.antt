@@ -1,7 +1,0 @@
-use Rattle.std.proofs.Common.{◌≡◌, ◌-◌}
-use Rattle.rv_tree.specs.StatementView.{alternatives_view}
-use Rattle.rv_parse.specs.StatementRules.{statement, alternatives, alternatives_from}
-use Rattle.rv_parse.proofs.statement.Nested.alternatives.Given as goal
-
-abbrev pub invariant-each : goal.invariant-each
-invariant-each g l = alternatives (statement l.self.depth) l.fn.tokens ≡ alternatives_from (statement l.self.depth) (l._turn-end - l._turn) (alternatives_view l.found.items) l.tokens

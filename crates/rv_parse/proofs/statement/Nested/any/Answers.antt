@@ -1,9 +1,0 @@
-use Rattle.std.proofs.Common.{rules, arith}
-use Rattle.std.proofs.lemmas.Grind.{common_steps}
-use Rattle.rv_parse.specs.Reading.{kind}
-use Rattle.rv_parse.specs.StatementRules.{any_statement, simple_statement}
-use Rattle.rv_parse.proofs.statement.Nested.any.Goals as goal
-
-pub returns-in_default : goal.returns-in_default
-unfolding any_statement simple_statement kind
-returns-in_default g c = first_of (search rules, grind (arith, common_steps))
