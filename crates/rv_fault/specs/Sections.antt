@@ -1,11 +1,12 @@
 -- What the text of a section gives, and what stands against it (own).
-use Rattle.std.specs.Prelude.{◌≡◌, ◌<◌, ◌≤◌, ℕ, List, [], ◌∷◌, length, Option, Some, None, Result, Ok, Err}
+use Rattle.std.specs.Prelude.{◌≡◌, ◌<◌, ◌≤◌, ℕ, true, List, [], ◌∷◌, length, Option, Some, None, Result, Ok, Err}
 use Rattle.rv_text.specs.Sections.{SectionText}
 use Rattle.rv_access.specs.Words.{Words}
 use Rattle.rv_access.specs.declared.fault.ListFault.{ListFault}
 use Rattle.rv_shape.specs.Shape.{Shape}
 use Rattle.rv_shape.specs.declared.fault.ShapeFault.TheVariants.{BadText}
 use Rattle.rv_code.specs.BodyView.{unit_view}
+use Rattle.rv_fits.specs.Fits.{are_of}
 use Rattle.rv_unit.specs.Compiles.{IsCompiled, IsRefused as IsNoUnit}
 use Rattle.rv_unit.specs.declared.fault.UnitFault.TheVariants.{NoMemory as NoRoom}
 use Rattle.rv_code.specs.declared.unit.Unit.{Unit as Compiled}
@@ -22,11 +23,11 @@ use Rattle.rv_fault.specs.declared.fault.ScriptFault.{ScriptFault}
 abbrev pub Giving : Type 0 → Type 1
 Giving A = Result A What → Type 0
 
--- a text, which has no carriage return before a line feed, is a unit over those that are loaded; one that is too long is refused
--- whatever its words
+-- a text, which has no carriage return before a line feed, is a unit over those that are loaded, with which its bodies may be
+-- loaded; one that is too long is refused whatever its words
 abbrev pub GivesUnit : List Shape → List ℕ → Giving Compiled
 GivesUnit shapes text (Ok unit) =
-    (length text ≤ most_unit_bytes) × IsCompiled shapes text unit.shape (unit_view unit.bodies)
+    (length text ≤ most_unit_bytes) × IsCompiled shapes text unit.shape (unit_view unit.bodies) × (are_of shapes unit.shape (unit_view unit.bodies) ≡ true)
 GivesUnit shapes text (Err Whats.TooLong) = most_unit_bytes < length text
 GivesUnit shapes text (Err (Whats.Unit told)) =
     (length text ≤ most_unit_bytes) × IsNoUnit shapes text told × (told ≡ NoRoom → ⊥)

@@ -1,15 +1,17 @@
 //! Compiles unit texts.
 
-ghost use Rattle.std.specs.Prelude.{◌≡◌, Some, IfOk, IfErr};
+ghost use Rattle.std.specs.Prelude.{◌≡◌, true, Some, IfOk, IfErr};
 ghost use Rattle.rv_tree.specs.UnitView.{unit_view};
 ghost use Rattle.rv_tree.specs.Derives.{Derives};
 ghost use Rattle.rv_code.specs.BodyView.{unit_view as code_view};
+ghost use Rattle.rv_fits.specs.Fits.{are_of};
 ghost use Rattle.rv_outline.specs.Shapes.{shape_of as shape_of_tree};
 ghost use Rattle.rv_types.specs.BodiesOf.{bodies_of as code_of_tree};
 ghost use Rattle.rv_unit.specs.Compiles.{IsBound, IsOfText, IsOfTree, GivesUnit, IsUnit, IsCompiled, IsRefused};
 
 use crate::fault::UnitFault;
 use rv_code::Unit;
+use rv_fits::may_load;
 use rv_names::NameFault;
 use rv_names::resolve::resolve;
 use rv_parse::{ParseFault, parse};
@@ -71,7 +73,48 @@ fn unit_of(alloc: Global, tree: &UnitTree, catalogue: &Catalogue) -> Result<Unit
     }
 }
 
-/// The unit of a text, over the loaded units.
+// A tree's unit, if its calls fit the loaded units and itself. They do wherever names and types were found right, since each
+// number in a body was taken from these units; but that is looked at here and proved nowhere. A unit whose calls didn't fit
+// would be a mismatch at its name.
+#[tactic(auto, using(crate::proofs::Binding::mismatch_of_tree))]
+fn with_fitting_calls(
+    alloc: Global,
+    tree: &UnitTree,
+    catalogue: &Catalogue,
+    unit: Unit,
+) -> Result<Unit, UnitFault>
+    requires unit { GivesUnit catalogue.now (unit_view tree.now) unit.shape }
+    requires bodies { code_of_tree catalogue.now (unit_view tree.now) ≡ Some (code_view unit.bodies) }
+    ensures unit { IfOk result (λ unit. GivesUnit catalogue.now (unit_view tree.now) unit.shape) }
+    ensures bodies { IfOk result (λ unit. code_of_tree catalogue.now (unit_view tree.now) ≡ Some (code_view unit.bodies)) }
+    ensures fits { IfOk result (λ unit. are_of catalogue.now unit.shape (code_view unit.bodies) ≡ true) }
+    ensures fault { IfErr result (λ fault. IsOfTree catalogue.now (unit_view tree.now) fault) }
+{
+    match may_load(alloc, catalogue, &unit.shape, &unit.bodies) {
+        Some(true) => Ok(unit),
+        Some(false) => {
+            let at = tree.specification.name.at;
+            Err(UnitFault::Types(TypeFault::Mismatch(at)))
+        }
+        None => Err(UnitFault::NoMemory),
+    }
+}
+
+// The unit of a tree, whose calls fit.
+fn fitting_unit_of(alloc: Global, tree: &UnitTree, catalogue: &Catalogue) -> Result<Unit, UnitFault>
+    ensures unit { IfOk result (λ unit. GivesUnit catalogue.now (unit_view tree.now) unit.shape) }
+    ensures bodies { IfOk result (λ unit. code_of_tree catalogue.now (unit_view tree.now) ≡ Some (code_view unit.bodies)) }
+    ensures fits { IfOk result (λ unit. are_of catalogue.now unit.shape (code_view unit.bodies) ≡ true) }
+    ensures fault { IfErr result (λ fault. IsOfTree catalogue.now (unit_view tree.now) fault) }
+{
+    match unit_of(alloc, tree, catalogue) {
+        Ok(unit) => with_fitting_calls(alloc, tree, catalogue, unit),
+        Err(fault) => Err(fault),
+    }
+}
+
+/// The unit of a text, over the loaded units. What its bodies call is there, so that a load over the same units takes them
+/// with the shape.
 ///
 /// # Errors
 /// The first fault of the first look that finds one: words, grammar, restrictions, names, types, shape. Of the faults of
@@ -79,8 +122,9 @@ fn unit_of(alloc: Global, tree: &UnitTree, catalogue: &Catalogue) -> Result<Unit
 pub fn compile(alloc: Global, text: &str, catalogue: &Catalogue) -> Result<Unit, UnitFault>
     ensures unit { IfOk result (λ unit. IsUnit catalogue.now text.now unit.shape) }
     ensures bodies { IfOk result (λ unit. IsCompiled catalogue.now text.now unit.shape (code_view unit.bodies)) }
+    ensures fits { IfOk result (λ unit. are_of catalogue.now unit.shape (code_view unit.bodies) ≡ true) }
     ensures fault { IfErr result (λ fault. IsRefused catalogue.now text.now fault) }
 {
     let tree = tree_of(alloc, text)?;
-    unit_of(alloc, &tree, catalogue)
+    fitting_unit_of(alloc, &tree, catalogue)
 }
