@@ -15,9 +15,9 @@ use Rattle.rv_crew.specs.Teams.{Team, IsOfTurn}
 use Rattle.rv_port.specs.declared.event.Ask.{Ask}
 use Rattle.rv_crew.specs.Crews.{Joins, IsClosedBy, with_joined}
 use Rattle.rv_crew.specs.declared.crew.Closed.{Closed}
-use Rattle.rv_crew.proofs.Turns.{none_of_turn, started_of_turn, lost_of_turn}
+use Rattle.rv_crew.proofs.Turns.{none_of_turn, started_of_turn, given_up_of_turn, lost_of_turn}
 use Rattle.rv_staff.specs.declared.hires.HireFault.{HireFault}
-use Rattle.rv_staff.specs.declared.hires.HireFault.TheVariants.{NoThread, NoMemory}
+use Rattle.rv_staff.specs.declared.hires.HireFault.TheVariants.{NoThread, GivenUp, NoMemory}
 use Rattle.rv_staff.specs.Hiring.{hired}
 use Rattle.rv_staff.specs.Staffs.{AreOf, Staffed, no_crew}
 use Rattle.rv_staff.specs.Ending.{Closes, Ended, Halts}
@@ -61,6 +61,7 @@ hired_stay control crew port (Ok x) same are = record {
   one_turn = started_of_turn control.turn crew port are.one_turn same;
 }
 hired_stay control crew port (Err NoThread) same are = record { none_joined = are.none_joined; one_turn = lost_of_turn control.turn crew port are.one_turn same }
+hired_stay control crew port (Err GivenUp) same are = record { none_joined = are.none_joined; one_turn = given_up_of_turn control.turn crew port are.one_turn same }
 hired_stay control crew port (Err NoMemory) same are = are
 
 -- What is joined.

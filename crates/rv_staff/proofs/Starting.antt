@@ -11,7 +11,7 @@ use Rattle.rv_port.specs.Events.{catalogue_of}
 use Rattle.rv_port.specs.Ports.{Porting, pass_of}
 use Rattle.rv_port.specs.declared.fault.PortFault.{PortFault}
 use Rattle.rv_staff.specs.declared.hires.HireFault.{HireFault}
-use Rattle.rv_staff.specs.declared.hires.HireFault.TheVariants.{NoThread, NoMemory}
+use Rattle.rv_staff.specs.declared.hires.HireFault.TheVariants.{NoThread, GivenUp, NoMemory}
 use Rattle.rv_staff.specs.Hiring.{hired}
 use Rattle.rv_staff.specs.Saying.{Known, Says, SaysNoThread, no_memory_line, no_thread_line}
 use Rattle.rv_staff.specs.Staffs.{Staffed}
@@ -25,7 +25,12 @@ no_thread_said old new shapes actor start result none (inl says) =
 no_thread_said old new shapes actor start result none (inr says) =
     (no_memory_line, subst (λ (r : Result (Unit {0}) HireFault). SaidOfHire shapes actor r no_memory_line) (sym none) (inr refl), says)
 
--- memory was refused, and that is said
+-- memory was refused, and that is said, also where the port was given up
+pub given_up_said : {X E : Type 0} (old new : Known) (shapes : List Shape) (actor : ℕ) (start : Result (Unit {0}) HireFault) (result : Result X E)
+    → start ≡ Err GivenUp → Says old new no_memory_line result → (text : List ℕ) × SaidOfHire shapes actor start text × Says old new text result
+given_up_said old new shapes actor start result given says =
+    (no_memory_line, subst (λ (r : Result (Unit {0}) HireFault). SaidOfHire shapes actor r no_memory_line) (sym given) refl, says)
+
 pub no_memory_said : {X E : Type 0} (old new : Known) (shapes : List Shape) (actor : ℕ) (start : Result (Unit {0}) HireFault) (result : Result X E)
     → start ≡ Err NoMemory → Says old new no_memory_line result → (text : List ℕ) × SaidOfHire shapes actor start text × Says old new text result
 no_memory_said old new shapes actor start result none says =

@@ -10,7 +10,7 @@ use Rattle.rv_port.specs.Controls.{IsGiven, IsPortFault}
 use Rattle.rv_port.specs.declared.fault.PortFault.{PortFault}
 use Rattle.rv_port.specs.declared.fault.PortFault.TheVariants as Faults
 use Rattle.rv_staff.specs.declared.hires.HireFault.{HireFault}
-use Rattle.rv_staff.specs.declared.hires.HireFault.TheVariants.{NoThread, NoMemory}
+use Rattle.rv_staff.specs.declared.hires.HireFault.TheVariants.{NoThread, GivenUp, NoMemory}
 use Rattle.rv_staff.specs.Hiring.{hired}
 use Rattle.rv_staff.specs.Saying.{Known, Says, no_memory_line, no_thread_line}
 use Rattle.rv_staff.specs.Staffs.{Staffed}
@@ -19,6 +19,7 @@ use Rattle.rv_staff.specs.Staffs.{Staffed}
 abbrev pub SaidOfHire : List Shape → ℕ → Result (Unit {0}) HireFault → List ℕ → Type 0
 SaidOfHire shapes actor (Ok x) text = text ≡ []
 SaidOfHire shapes actor (Err NoThread) text = (text ≡ no_thread_line shapes actor) ⊎ (text ≡ no_memory_line)
+SaidOfHire shapes actor (Err GivenUp) text = text ≡ no_memory_line
 SaidOfHire shapes actor (Err NoMemory) text = text ≡ no_memory_line
 
 -- an actor is given a port, on which a thread is started, or what stands against that is said

@@ -12,7 +12,17 @@ use rv_crew::job::Job;
 use rv_port::port::Port;
 use std::thread::Threads;
 
-/// Starts the thread of a job; where that fails, job and port are let go.
+/// Gives up a port for whose thread memory was refused: its actor is lost.
+pub fn give_up(crew: &mut Crew, port: Port) -> Result<(), HireFault>
+    ensures { crew.new ≡ hired crew.old port result }
+{
+    match crew.give_up(port) {
+        Ok(()) => Err(HireFault::GivenUp),
+        Err(_port) => Err(HireFault::NoMemory),
+    }
+}
+
+/// Starts the thread of a job; where that fails, job and port are let go, and the actor is lost.
 pub fn start<R: Threads>(rt: &R, crew: &mut Crew, job: Job, port: Port) -> Result<(), HireFault>
     requires { port.actor ≡ job.actor }
     ensures { crew.new ≡ hired crew.old port result }
@@ -20,7 +30,7 @@ pub fn start<R: Threads>(rt: &R, crew: &mut Crew, job: Job, port: Port) -> Resul
     match crew.start(rt, job, port) {
         Ok(()) => Ok(()),
         Err(StartFault::NoThread) => Err(HireFault::NoThread),
-        Err(StartFault::NoMemory(_job, _port)) => Err(HireFault::NoMemory),
+        Err(StartFault::NoMemory(_job, port)) => give_up(crew, port),
     }
 }
 

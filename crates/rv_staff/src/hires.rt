@@ -12,7 +12,9 @@ use rv_port::port::Port;
 pub enum HireFault {
     /// No thread can be started. The crew keeps the actor as lost.
     NoThread,
-    /// Memory was refused.
+    /// Memory was refused. The port was given up, so the crew keeps the actor as lost.
+    GivenUp,
+    /// Memory was refused, and for the name of the lost actor too: nobody names it.
     NoMemory,
 }
 

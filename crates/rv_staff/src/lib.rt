@@ -10,7 +10,7 @@ mod staff;
 mod staffing;
 mod work;
 
-pub use hands::{Hands, start};
+pub use hands::{Hands, give_up, start};
 pub use hires::{HireFault, Hires};
 pub use raising::raise;
 pub use saying::{NO_MEMORY, say, say_lost};

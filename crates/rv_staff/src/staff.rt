@@ -13,6 +13,7 @@ ghost use Rattle.rv_staff.specs.Ending.{Closes, Ended};
 ghost use Rattle.rv_staff.specs.Hiring.{hired};
 ghost use Rattle.rv_staff.specs.Staffs.{AreOf, no_crew};
 
+use crate::hands::give_up;
 use crate::hires::{HireFault, Hires};
 use crate::work::Work;
 use rv_code::Unit;
@@ -165,7 +166,17 @@ impl Staff {
         hires.hire(&mut self.crew, port, work)
     }
 
-    /// Halts the host and joins its threads, which have to end then. Gives the host, and the actors whose ports were lost.
+    /// Gives up a port of this host for whose thread memory was refused: its actor is lost.
+    #[tactic(auto, using(crate::proofs::OneTurn::hired_stay))]
+    pub fn give_up(&mut self, port: Port) -> Result<(), HireFault>
+        requires { port.turn ≡ self.old.control.turn }
+        ensures { self.new ≡ record self.old { crew = hired self.old.crew port result } }
+    {
+        give_up(&mut self.crew, port)
+    }
+
+    /// Halts the host and joins its threads, which have to end then. Gives the host, and the actors whose ports were lost,
+    /// without a thread or for want of memory.
     pub fn end<R: Threads + Wait>(self, rt: &R) -> Option<Closed>
         ensures { IfSome result (Ended self) }
     {

@@ -46,10 +46,10 @@ fn hire_line<H: Hires>(
     ensures { session.new.staff ≡ record session.old.staff { crew = hired session.old.staff.crew port result } }
 {
     if session.channels.reserve(1).is_err() {
-        return Err(HireFault::NoMemory);
+        return session.staff.give_up(port);
     }
     let Ok((sender, receiver)) = unbounded(session.alloc) else {
-        return Err(HireFault::NoMemory);
+        return session.staff.give_up(port);
     };
     match session.staff.hire(hires, port, Work::Line(receiver)) {
         Ok(()) => {
@@ -92,6 +92,7 @@ fn explain<W: Write>(
         Err(HireFault::NoThread) => {
             say_no_thread(session.alloc, session.staff.catalogue(), actor, writer)
         }
+        Err(HireFault::GivenUp) => say(writer, NO_MEMORY),
         Err(HireFault::NoMemory) => say(writer, NO_MEMORY),
     }
 }

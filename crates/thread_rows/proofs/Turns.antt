@@ -10,9 +10,9 @@ use Rattle.rv_port.specs.Ports.{Porting}
 use Rattle.rv_port.specs.Traces.{Passing}
 use Rattle.rv_port.specs.declared.event.Ask.{Ask}
 use Rattle.rv_crew.specs.Teams.{Team, IsOfTurn}
-use Rattle.rv_crew.proofs.Turns.{started_of_turn, lost_of_turn}
+use Rattle.rv_crew.proofs.Turns.{started_of_turn, given_up_of_turn, lost_of_turn}
 use Rattle.rv_staff.specs.declared.hires.HireFault.{HireFault}
-use Rattle.rv_staff.specs.declared.hires.HireFault.TheVariants.{NoThread, NoMemory}
+use Rattle.rv_staff.specs.declared.hires.HireFault.TheVariants.{NoThread, GivenUp, NoMemory}
 use Rattle.rv_staff.specs.Hiring.{hired}
 
 pub told_turn : (v w : Passing) (ask : Ask) (answer : Result Answer Worn) → MatchResult answer (λ r. Told v ask r w) (λ _. IsWorn v w) → w.turn ≡ v.turn
@@ -22,4 +22,5 @@ told_turn v w ask (Err e) t = ap (λ (z : Passing). z.turn) t.1
 pub hired_of_turn : (crew : Team) (port : Porting) (result : Result (Unit {0}) HireFault) → IsOfTurn port.turn crew → IsOfTurn port.turn (hired crew port result)
 hired_of_turn crew port (Ok x) of = started_of_turn port.turn crew port of refl
 hired_of_turn crew port (Err NoThread) of = lost_of_turn port.turn crew port of refl
+hired_of_turn crew port (Err GivenUp) of = given_up_of_turn port.turn crew port of refl
 hired_of_turn crew port (Err NoMemory) of = of

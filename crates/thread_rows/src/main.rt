@@ -14,7 +14,7 @@ use rv_crew::crew::Crew;
 use rv_crew::job::Job;
 use rv_exec::machine::STACK_BYTES;
 use rv_port::port::{Finished, Port};
-use rv_staff::{HireFault, start};
+use rv_staff::{HireFault, give_up, start};
 use std::fs::Files;
 use std::sync::Wait;
 use std::thread::Threads;
@@ -46,7 +46,7 @@ fn main(rt: HostRuntime) -> io::Result<()> {
         );
         match boxed {
             Ok(run) => start(&rt, crew, Job { actor, run }, port),
-            Err(_) => Err(HireFault::NoMemory),
+            Err(_) => give_up(crew, port),
         }
     };
     let hands = Hands {
