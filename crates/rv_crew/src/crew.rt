@@ -94,13 +94,13 @@ fn begin<R: Threads>(
     port: Port,
     is_refused: bool,
 ) -> Option<PromisedHandle<Finished, OfPort>>
-    requires { port.actor ≡ job.actor }
+    requires { port ≡ job.port.value }
     ensures { IfSome result (λ h. (h.promise.0.value ≡ port) × (is_refused ≡ false)) }
 {
     if is_refused {
         return None;
     }
-    let Job { actor: _, run } = job;
+    let Job { port: _, run } = job;
     let promise = OfPort::of(&port);
     Builder::new()
         .stack_size(STACK_BYTES)
@@ -173,9 +173,9 @@ impl Crew {
         })
     }
 
-    /// Starts a thread that runs the job on the port of its actor.
+    /// Starts a thread that runs the job on its port.
     pub fn start<R: Threads>(&mut self, rt: &R, job: Job, port: Port) -> Result<(), StartFault>
-        requires { port.actor ≡ job.actor }
+        requires { port ≡ job.port.value }
         ensures ok { OnOk result (self.new ≡ with_started self.old port) }
         ensures allowed { OnOk result ((self.old.refuses == 1) ≡ false) }
         ensures err { IfErr result (λ fault. IsStartFault self.old job port self.new fault) }

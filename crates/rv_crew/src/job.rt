@@ -6,15 +6,15 @@ use rv_port::port::{Finished, Port};
 use std::snapshot::Snapshot;
 use std::thread::Promise;
 
-/// What is done with the port of one actor, in a thread of its own. It may be called on a port of
-/// that actor, and gives a port of the same turn and actor back.
+/// What is done with one port, in a thread of its own. It may be called on that port, and gives a
+/// port of the same turn and actor back.
 #[derive(Drop)]
 pub struct Job {
-    /// The number of the actor.
-    pub actor: u64,
+    /// The port that it is for, as it is when the thread starts. It takes no bytes.
+    pub port: Snapshot<Port>,
     /// The job itself. It is boxed where the thread's handles are: in `main` or in a test.
     pub run: Box<dyn FnOnce(Port) -> Finished + Send>,
-    pub ghost callable: { (p : _) → p.actor ≡ actor → pre run p },
+    pub ghost callable: { (p : _) → p ≡ port.value → pre run p },
     pub ghost keeps: { (p : _) (f : _) → post run p f → (f.turn ≡ p.turn) × (f.actor ≡ p.actor) },
 }
 

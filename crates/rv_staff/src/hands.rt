@@ -24,7 +24,7 @@ pub fn give_up(crew: &mut Crew, port: Port) -> Result<(), HireFault>
 
 /// Starts the thread of a job; where that fails, job and port are let go, and the actor is lost.
 pub fn start<R: Threads>(rt: &R, crew: &mut Crew, job: Job, port: Port) -> Result<(), HireFault>
-    requires { port.actor ≡ job.actor }
+    requires { port ≡ job.port.value }
     ensures { crew.new ≡ hired crew.old port result }
 {
     match crew.start(rt, job, port) {

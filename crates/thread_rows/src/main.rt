@@ -16,6 +16,7 @@ use rv_exec::machine::STACK_BYTES;
 use rv_port::port::{Finished, Port};
 use rv_staff::{HireFault, give_up, start};
 use std::fs::Files;
+use std::snapshot::Snapshot;
 use std::sync::Wait;
 use std::thread::Threads;
 use std::time::Clock;
@@ -37,7 +38,7 @@ fn main(rt: HostRuntime) -> io::Result<()> {
     let begin = move |crew: &mut Crew, port: Port, role: Role| -> Result<(), HireFault>
         ensures { crew.new ≡ hired crew.old port result }
     {
-        let actor = port.actor();
+        let given = Snapshot::of(&port);
         let boxed = Box::new(
             rt.alloc(),
             move |port: Port| -> Finished
@@ -45,7 +46,7 @@ fn main(rt: HostRuntime) -> io::Result<()> {
             { act(&rt, port, role) },
         );
         match boxed {
-            Ok(run) => start(&rt, crew, Job { actor, run }, port),
+            Ok(run) => start(&rt, crew, Job { port: given, run }, port),
             Err(_) => give_up(crew, port),
         }
     };
