@@ -3,7 +3,7 @@ use Rattle.std.proofs.Common.{◌≡◌, ℕ, zero, suc, ◌-◌, ◌<◌, Bool,
 use Rattle.std.specs.Prelude.{ℤ}
 use Rattle.rv_turn.specs.Prefixes.{starts_both}
 use Rattle.rv_event.specs.declared.entry.Request.TheVariants.{Call}
-use Rattle.rv_port.specs.declared.event.Event.{Event}
+use Rattle.rv_behind.specs.declared.event.Event.{Event}
 use Rattle.rv_port.specs.declared.reached.Reached.{Reached}
 use Rattle.rv_port.specs.Traces.{Passing}
 use Rattle.rv_port.specs.Calls.{Stays}

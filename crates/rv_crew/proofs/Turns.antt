@@ -4,10 +4,10 @@ use Rattle.atomic_table.specs.Seated.{TableId}
 use Rattle.rv_turn.specs.Histories.{mine, Each, StartsWith}
 use Rattle.rv_turn.specs.Passes.{Noted}
 use Rattle.rv_port.specs.Controls.{IsPorts}
-use Rattle.rv_port.specs.Events.{by, log_of}
+use Rattle.rv_behind.specs.Events.{by, log_of}
 use Rattle.rv_port.specs.Ports.{Porting, pass_of}
 use Rattle.rv_port.specs.Traces.{Passing}
-use Rattle.rv_port.specs.declared.event.Event.{Event}
+use Rattle.rv_behind.specs.declared.event.Event.{Event}
 use Rattle.rv_port.proofs.Closings.{mine_later}
 use Rattle.rv_crew.specs.Teams.{Owed, Team, IsOfTurn, no_threads}
 use Rattle.rv_crew.specs.Crews.{HasLost, IsClosedBy, Joins, told_of, note_of, with_started, given_up, with_lost, with_joined}

@@ -4,7 +4,7 @@ use Rattle.rv_turn.specs.Passes.{Noted}
 use Rattle.rv_port.specs.Traces.{Passing}
 use Rattle.rv_port.specs.Ports.{Porting, pass_of}
 use Rattle.rv_port.specs.Closing.{IsClosed}
-use Rattle.rv_port.specs.declared.event.Event.{Event}
+use Rattle.rv_behind.specs.declared.event.Event.{Event}
 use Rattle.rv_crew.specs.Teams.{Owed, Team}
 use Rattle.rv_crew.specs.declared.job.Job.{Job}
 use Rattle.rv_crew.specs.declared.job.OfPort.{OfPort}

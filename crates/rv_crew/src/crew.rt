@@ -42,7 +42,7 @@ pub struct Crew {
 impl Model for Crew {
     ghost use Rattle.std.specs.Coded.{codes};
     ghost use Rattle.std.specs.Prelude.{map};
-    ghost use Rattle.rv_port.specs.contracts.event.Event as e;
+    ghost use Rattle.rv_behind.specs.contracts.event.Event as e;
     ghost use Rattle.rv_crew.specs.Teams.{Team};
 
     ghost Value = { Team };

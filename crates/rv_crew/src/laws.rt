@@ -4,7 +4,7 @@ ghost use Rattle.std.specs.Prelude.{◌≡◌};
 ghost use Rattle.atomic_table.specs.Seated.{TableId};
 ghost use Rattle.rv_turn.specs.Histories.{mine, StartsWith};
 ghost use Rattle.rv_port.specs.Controls.{IsPorts};
-ghost use Rattle.rv_port.specs.Events.{by, log_of};
+ghost use Rattle.rv_behind.specs.Events.{by, log_of};
 ghost use Rattle.rv_port.specs.Ports.{Porting, pass_of};
 ghost use Rattle.rv_port.specs.Traces.{Passing};
 ghost use Rattle.rv_crew.specs.Teams.{Team, IsOfTurn};

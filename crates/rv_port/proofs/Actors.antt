@@ -9,14 +9,14 @@ use Rattle.rv_turn.specs.Histories.{StartsWith, mine}
 use Rattle.rv_turn.specs.Prefixes.{starts_both}
 use Rattle.rv_turn.specs.Passes.{Acted, IsWorn, Meets}
 use Rattle.rv_turn.specs.declared.pass.Worn.{Worn}
-use Rattle.rv_port.specs.Acting.{Does}
+use Rattle.rv_behind.specs.Acting.{Does}
 use Rattle.rv_port.specs.Traces.{Passing}
-use Rattle.rv_port.specs.declared.event.Ask.{Ask}
-use Rattle.rv_port.specs.declared.event.Reply.{Reply}
-use Rattle.rv_port.specs.Events.{shapes_of, catalogue_of, by}
+use Rattle.rv_behind.specs.declared.event.Ask.{Ask}
+use Rattle.rv_behind.specs.declared.event.Reply.{Reply}
+use Rattle.rv_behind.specs.Events.{shapes_of, catalogue_of, by}
 use Rattle.rv_port.specs.Actors.{performs, is_performer, HasHandler}
-use Rattle.rv_port.specs.declared.event.Event.{Event}
-use Rattle.rv_port.specs.declared.event.Event.TheVariants.{Asks, Loads, Lists}
+use Rattle.rv_behind.specs.declared.event.Event.{Event}
+use Rattle.rv_behind.specs.declared.event.Event.TheVariants.{Asks, Loads, Lists}
 
 pub shapes-append : (xs ys : List Event) → shapes_of (xs ++ ys) ≡ shapes_of ys ++ shapes_of xs
 shapes-append [] ys = sym (append-nil (shapes_of ys))

@@ -32,11 +32,11 @@ use Rattle.rv_port.specs.Actors.{performs, is_performer}
 use Rattle.rv_port.specs.Alone.{IsUnused, quit_alone}
 use Rattle.rv_port.specs.Controls.{IsGiven}
 use Rattle.rv_port.specs.Calls.{AskedOnce, QuitBy, Quits}
-use Rattle.rv_port.specs.Events.{by, catalogue_of, history_at, marks}
+use Rattle.rv_behind.specs.Events.{by, catalogue_of, history_at, marks}
 use Rattle.rv_port.specs.Traces.{Passing, limits_in, noted}
 use Rattle.rv_port.specs.Traces as Traces
-use Rattle.rv_port.specs.declared.event.Event.{Event}
-use Rattle.rv_port.specs.declared.event.Event.TheVariants.{Asks, Loads, Lists}
+use Rattle.rv_behind.specs.declared.event.Event.{Event}
+use Rattle.rv_behind.specs.declared.event.Event.TheVariants.{Asks, Loads, Lists}
 use Rattle.rv_port.proofs.Actors.{catalogue-append, handler_later, performer_handles, performer_some}
 
 -- No event of the actor

@@ -10,19 +10,19 @@ use Rattle.rv_history.specs.Due.{out}
 use Rattle.rv_history.specs.Legal.{Legal}
 use Rattle.rv_turn.specs.Histories.{mine, StartsWith}
 use Rattle.rv_turn.specs.Passes.{Acted, IsWorn}
-use Rattle.rv_port.specs.Events.{by, history_at, catalogue_of}
-use Rattle.rv_port.specs.Acting.{entered, grown, Does, begun_by}
+use Rattle.rv_behind.specs.Events.{by, history_at, catalogue_of}
+use Rattle.rv_behind.specs.Acting.{entered, grown, Does, begun_by}
 use Rattle.rv_port.specs.Traces.{Passing, limits_in, told, IsTold, asks_on, noted, noted_if, EachInVain, InVain, WoreOut, Went, Asked, Replied, RepliedOnce, Settled}
 use Rattle.std.specs.Prelude.{Result, Ok, Err, MatchResult}
 use Rattle.rv_turn.specs.declared.pass.Worn.{Worn}
 use Rattle.rv_exec.specs.Asking.{stands}
 use Rattle.rv_turn.specs.Prefixes.{starts_self, starts_both}
-use Rattle.rv_port.specs.declared.event.Begun.{Begun}
-use Rattle.rv_port.specs.declared.event.Lent.{Lent}
-use Rattle.rv_port.specs.declared.event.Event.{Event}
-use Rattle.rv_port.specs.declared.event.Event.TheVariants.{Asks, Lists}
-use Rattle.rv_port.specs.declared.event.Ask.TheVariants as Wants
-use Rattle.rv_port.specs.declared.event.Reply.TheVariants as Gives
+use Rattle.rv_behind.specs.declared.event.Begun.{Begun}
+use Rattle.rv_behind.specs.declared.event.Lent.{Lent}
+use Rattle.rv_behind.specs.declared.event.Event.{Event}
+use Rattle.rv_behind.specs.declared.event.Event.TheVariants.{Asks, Lists}
+use Rattle.rv_behind.specs.declared.event.Ask.TheVariants as Wants
+use Rattle.rv_behind.specs.declared.event.Reply.TheVariants as Gives
 
 abbrev last_or : Event → List Event → Event
 last_or d [] = d

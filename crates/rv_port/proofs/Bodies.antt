@@ -6,10 +6,10 @@ use Rattle.rv_code.specs.BodyView.{unit_view}
 use Rattle.rv_code.specs.declared.body.UnitBodies.{UnitBodies}
 use Rattle.rv_exec.specs.Bodies.{all_of}
 use Rattle.rv_turn.specs.Histories.{StartsWith}
-use Rattle.rv_port.specs.Events.{units_in}
+use Rattle.rv_behind.specs.Events.{units_in}
 use Rattle.rv_port.specs.Later.{KeepsBodies}
-use Rattle.rv_port.specs.declared.event.Event.{Event}
-use Rattle.rv_port.specs.declared.event.Event.TheVariants.{Asks, Loads, Lists}
+use Rattle.rv_behind.specs.declared.event.Event.{Event}
+use Rattle.rv_behind.specs.declared.event.Event.TheVariants.{Asks, Loads, Lists}
 
 units-append : (xs ys : List Event) → units_in (xs ++ ys) ≡ units_in ys ++ units_in xs
 units-append [] ys = sym (append-nil (units_in ys))

@@ -18,17 +18,17 @@ use Rattle.rv_event.specs.declared.entry.Recorded.{Recorded}
 use Rattle.rv_history.specs.History.{force}
 use Rattle.rv_history.specs.Lists.{changed}
 use Rattle.rv_code.specs.declared.body.UnitBodies.{UnitBodies}
-use Rattle.rv_port.specs.Events.{by, log_of, history_at, shapes_of, with_shape, catalogue_of}
-use Rattle.rv_port.specs.Acting.{entered, listed as listed_to, Due, Unloaded, Changed, IfOperator}
+use Rattle.rv_behind.specs.Events.{by, log_of, history_at, shapes_of, with_shape, catalogue_of}
+use Rattle.rv_behind.specs.Acting.{entered, listed as listed_to, Due, Unloaded, Changed, IfOperator}
 use Rattle.rv_port.specs.Controls.{IsControl}
-use Rattle.rv_port.specs.declared.event.Ask.{Ask}
-use Rattle.rv_port.specs.declared.event.Ask.TheVariants as Wants
-use Rattle.rv_port.specs.declared.event.Reply.{Reply}
-use Rattle.rv_port.specs.declared.event.Reply.TheVariants as Gives
-use Rattle.rv_port.specs.declared.event.Event.{Event}
-use Rattle.rv_port.specs.declared.event.Event.TheVariants.{Asks, Loads, Lists}
+use Rattle.rv_behind.specs.declared.event.Ask.{Ask}
+use Rattle.rv_behind.specs.declared.event.Ask.TheVariants as Wants
+use Rattle.rv_behind.specs.declared.event.Reply.{Reply}
+use Rattle.rv_behind.specs.declared.event.Reply.TheVariants as Gives
+use Rattle.rv_behind.specs.declared.event.Event.{Event}
+use Rattle.rv_behind.specs.declared.event.Event.TheVariants.{Asks, Loads, Lists}
 use Rattle.rv_port.proofs.Actors.{shapes-append, catalogue-append}
-use Rattle.rv_port.proofs.Doing.{catalogue_log}
+use Rattle.rv_behind.proofs.Doing.{catalogue_log}
 
 -- the catalogue is that of the operator's own events
 

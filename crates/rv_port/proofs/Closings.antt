@@ -9,11 +9,11 @@ use Rattle.rv_turn.specs.Prefixes.{mine-append, starts_self, starts_both}
 use Rattle.rv_turn.specs.Passes.{Meets, Noted, StandsIn}
 use Rattle.std.specs.Prelude.{Some}
 use Rattle.atomic_table.specs.Seated.{TableId}
-use Rattle.rv_port.specs.Events.{by, log_of}
+use Rattle.rv_behind.specs.Events.{by, log_of}
 use Rattle.rv_port.specs.Traces.{Passing}
 use Rattle.rv_port.specs.Ports.{Porting, pass_of}
 use Rattle.rv_port.specs.Closing.{KeepsAll, HasMet, IsClosed}
-use Rattle.rv_port.specs.declared.event.Event.{Event}
+use Rattle.rv_behind.specs.declared.event.Event.{Event}
 
 each_both : (P : Passing → Type 0) (xs ys : List Passing) → Each P xs → Each P ys → Each P (xs ++ ys)
 each_both P [] ys t u = u

@@ -16,17 +16,17 @@ use Rattle.rv_code.specs.declared.body.UnitBodies.{UnitBodies}
 use Rattle.rv_exec.specs.Bodies.{held}
 use Rattle.rv_exec.specs.declared.bodies.SharedUnit.{SharedUnit}
 use Rattle.rv_exec.specs.declared.bodies.Bodies.{Bodies}
-use Rattle.rv_port.specs.Events.{by, log_of, log_in, rest_of, catalogue_of}
-use Rattle.rv_port.specs.Acting.{Does, Due, LoadedIf, fits_behind, IfOperator}
+use Rattle.rv_behind.specs.Events.{by, log_of, log_in, rest_of, catalogue_of}
+use Rattle.rv_behind.specs.Acting.{Does, Due, LoadedIf, fits_behind, IfOperator}
 use Rattle.rv_port.specs.Traces.{Passing}
 use Rattle.rv_fits.specs.Fits.{are_of}
 use Rattle.rv_port.specs.Controls.{IsControl, Told, LoadTold, BeginsWith, BringsIf, Brings, no_bodies_of, answer_in}
-use Rattle.rv_port.specs.declared.event.Ask.{Ask}
-use Rattle.rv_port.specs.declared.event.Ask.TheVariants as Wants
-use Rattle.rv_port.specs.declared.event.Reply.{Reply}
-use Rattle.rv_port.specs.declared.event.Reply.TheVariants as Gives
-use Rattle.rv_port.specs.declared.event.Event.{Event}
-use Rattle.rv_port.specs.declared.event.Event.TheVariants.{Loads}
+use Rattle.rv_behind.specs.declared.event.Ask.{Ask}
+use Rattle.rv_behind.specs.declared.event.Ask.TheVariants as Wants
+use Rattle.rv_behind.specs.declared.event.Reply.{Reply}
+use Rattle.rv_behind.specs.declared.event.Reply.TheVariants as Gives
+use Rattle.rv_behind.specs.declared.event.Event.{Event}
+use Rattle.rv_behind.specs.declared.event.Event.TheVariants.{Loads}
 use Rattle.rv_port.specs.Actors.{is_performer, HasHandler}
 use Rattle.rv_port.proofs.Actors.{performer_handles}
 use Rattle.rv_port.proofs.Catalogues.{same_catalogue, opened, LoadsNothing, with_event, due_catalogue}

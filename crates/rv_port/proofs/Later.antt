@@ -26,10 +26,10 @@ use Rattle.rv_history.specs.Fitting.{fits}
 use Rattle.rv_history.specs.Due.{out, due, table, gate, within, enough, goes_on, due_resume, or_waiting}
 use Rattle.rv_history.proofs.Answered.{answered}
 use Rattle.rv_turn.specs.Histories.{StartsWith}
-use Rattle.rv_port.specs.Events.{mark, marks, lists_of}
+use Rattle.rv_behind.specs.Events.{mark, marks, lists_of}
 use Rattle.rv_port.specs.Later.{lists_seen, version_seen, NoEarlierList}
-use Rattle.rv_port.specs.declared.event.Event.{Event}
-use Rattle.rv_port.specs.declared.event.Event.TheVariants.{Asks, Loads, Lists}
+use Rattle.rv_behind.specs.declared.event.Event.{Event}
+use Rattle.rv_behind.specs.declared.event.Event.TheVariants.{Asks, Loads, Lists}
 
 -- Lists
 

@@ -1,5 +1,3 @@
-pub mod Zips
-pub mod Doing
 pub mod Actors
 pub mod Asking
 pub mod Gets

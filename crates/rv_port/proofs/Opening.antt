@@ -10,9 +10,9 @@ use Rattle.rv_event.specs.declared.entry.Answer.{Answer}
 use Rattle.rv_event.specs.declared.entry.Answer.TheVariants as Answers
 use Rattle.rv_event.specs.declared.entry.Recorded.{Recorded}
 use Rattle.rv_event.specs.declared.entry.Recorded.TheVariants as Words
-use Rattle.rv_port.specs.declared.event.Event.{Event}
-use Rattle.rv_port.specs.declared.event.Event.TheVariants.{Asks}
-use Rattle.rv_port.specs.Events.{marks, history_at}
+use Rattle.rv_behind.specs.declared.event.Event.{Event}
+use Rattle.rv_behind.specs.declared.event.Event.TheVariants.{Asks}
+use Rattle.rv_behind.specs.Events.{marks, history_at}
 use Rattle.rv_port.specs.Traces.{Passing, limits_in, Asked}
 use Rattle.rv_port.specs.Reaching.{waits_on}
 use Rattle.rv_port.specs.Calls.{Opens, IsNew, Stays}

@@ -13,11 +13,11 @@ use Rattle.rv_turn.specs.Histories.{mine, Has}
 use Rattle.rv_turn.specs.Prefixes.{mine-append}
 use Rattle.rv_turn.specs.Passes.{opening_of}
 use Rattle.rv_code.specs.declared.body.UnitBodies.{UnitBodies}
-use Rattle.rv_port.specs.Events.{by, events, log_of, first_or, first_of, rest_of, no_shape}
+use Rattle.rv_behind.specs.Events.{by, events, log_of, first_or, first_of, rest_of, no_shape}
 use Rattle.rv_port.specs.Traces.{Passing}
 use Rattle.rv_port.specs.Controls.{listed, OperatorAlone, IsControl, IsOperators}
-use Rattle.rv_port.specs.declared.event.Event.{Event}
-use Rattle.rv_port.specs.declared.event.Event.TheVariants.{Asks, Loads, Lists}
+use Rattle.rv_behind.specs.declared.event.Event.{Event}
+use Rattle.rv_behind.specs.declared.event.Event.TheVariants.{Asks, Loads, Lists}
 
 or_left : (b c : Bool) → (b || c) ≡ false → b ≡ false
 or_left true c e = e

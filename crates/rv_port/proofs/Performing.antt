@@ -5,20 +5,20 @@ use Rattle.rv_event.specs.declared.entry.Request.{Request}
 use Rattle.rv_event.specs.declared.entry.Request.TheVariants.{Resume, Quit}
 use Rattle.rv_event.specs.declared.entry.Answer.{Answer}
 use Rattle.rv_event.specs.declared.entry.Answer.TheVariants as Answers
-use Rattle.rv_port.specs.declared.event.Event.{Event}
+use Rattle.rv_behind.specs.declared.event.Event.{Event}
 use Rattle.rv_port.specs.declared.reached.Reached.{Reached}
-use Rattle.rv_port.specs.Events.{catalogue_of, called}
+use Rattle.rv_behind.specs.Events.{catalogue_of, called}
 use Rattle.rv_port.specs.Traces.{Passing, Trace, InVain, Went, Asked, Replied, RepliedOnce, asks_on}
-use Rattle.rv_port.specs.Acting.{begun_by, lent_view}
+use Rattle.rv_behind.specs.Acting.{begun_by, lent_view}
 use Rattle.rv_code.specs.Bodies.{UnitBodies}
-use Rattle.rv_port.specs.declared.event.Lent.{Lent}
+use Rattle.rv_behind.specs.declared.event.Lent.{Lent}
 use Rattle.rv_port.specs.Reaching.{arguments_of, reads, plain_of, waits_on, waited_for}
 use Rattle.rv_port.proofs.Asking.{in_vain_later, asked_later}
 use Rattle.rv_event.specs.declared.entry.Exit.{Exit}
 use Rattle.rv_port.specs.Bodies.{RunsTo}
 use Rattle.rv_port.specs.Calls.{marked, Ends, RanOn, Resumed, Waited, Followed, Performed, QuitBy, Quits, Grown, Stays}
 use Rattle.rv_turn.specs.Prefixes.{starts_self, starts_both}
-use Rattle.rv_port.specs.declared.event.Begun.{Begun}
+use Rattle.rv_behind.specs.declared.event.Begun.{Begun}
 
 pub plainly : (r : Answer) (log : List Event) (b : Begun) (u : Passing) (m f : Bool) (q : Request) (reached : Reached) → f ≡ m → ((s : List ℤ) → r ≡ Answers.Started s → ⊥) → waits_on r ≡ false → reached ≡ plain_of (reads q) r → Followed r log b u m q reached u f
 plainly (Answers.Started s) log b u m f q reached k never e p = absurd (never s refl)

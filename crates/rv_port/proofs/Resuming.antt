@@ -32,10 +32,10 @@ use Rattle.rv_history.proofs.Frame.{stance_stays}
 use Rattle.rv_history.proofs.Silent.{is_queued, apart_while, known_actor}
 use Rattle.rv_turn.specs.Histories.{mine, StartsWith}
 use Rattle.rv_turn.specs.Prefixes.{mine-append}
-use Rattle.rv_port.specs.Events.{by, mark, marks, shapes_of, lists_of, history_at}
+use Rattle.rv_behind.specs.Events.{by, mark, marks, shapes_of, lists_of, history_at}
 use Rattle.rv_port.specs.Calls.{IsPause}
-use Rattle.rv_port.specs.declared.event.Event.{Event}
-use Rattle.rv_port.specs.declared.event.Event.TheVariants.{Asks, Loads, Lists}
+use Rattle.rv_behind.specs.declared.event.Event.{Event}
+use Rattle.rv_behind.specs.declared.event.Event.TheVariants.{Asks, Loads, Lists}
 
 -- Nothing of the actor's own came since
 

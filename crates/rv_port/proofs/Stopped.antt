@@ -22,7 +22,7 @@ use Rattle.rv_exec.specs.declared.end.Reply.{Reply}
 use Rattle.rv_exec.specs.declared.end.Reply.TheVariants as Replies
 use Rattle.rv_turn.specs.Histories.{StartsWith}
 use Rattle.rv_turn.specs.Prefixes.{starts_both}
-use Rattle.rv_port.specs.declared.event.Event.{Event}
+use Rattle.rv_behind.specs.declared.event.Event.{Event}
 use Rattle.rv_code.specs.Bodies.{UnitBodies}
 use Rattle.rv_event.specs.declared.entry.Request.{Request}
 use Rattle.rv_event.specs.declared.entry.Request.TheVariants.{Call, Complete, Resume, DelayUntil, Clock, Fire, Quit, Tick, Halt}
@@ -36,13 +36,13 @@ use Rattle.rv_exec.specs.Blocks.{operation_run}
 use Rattle.rv_exec.specs.Stops.{is_final, is_stopped, stops_at_once, IsUnfit, IsUnfitWoken, EndsNot, Stops, Unwinds, StopsWaiting, StopsIn}
 use Rattle.rv_exec.proofs.StoppedBodies.{bodies_stop_by, tasks_stop_by}
 use Rattle.rv_port.specs.declared.body.Ended.{Ended}
-use Rattle.rv_port.specs.declared.event.Begun.{Begun}
+use Rattle.rv_behind.specs.declared.event.Begun.{Begun}
 use Rattle.rv_port.specs.Bodies.{Runs}
 use Rattle.rv_port.specs.Calls.{stops_within, StopsBody, StoppedAt}
 use Rattle.rv_port.specs.Texts.{TextRuns, TextStops}
 use Rattle.rv_port.specs.Composing.{went_none, went_both}
-use Rattle.rv_port.specs.Acting.{IsLent}
-use Rattle.rv_port.specs.Events.{catalogue_of, history_at}
+use Rattle.rv_behind.specs.Acting.{IsLent}
+use Rattle.rv_behind.specs.Events.{catalogue_of, history_at}
 use Rattle.rv_port.specs.Traces.{Passing, Trace, limits_in, told, asks_on, Asked, WoreOut, Tells, Steps, Went}
 use Rattle.rv_port.proofs.Actors.{catalogue-append}
 use Rattle.rv_port.proofs.Asking.{asked_went, is_told, told_stands, worn_told}

@@ -4,17 +4,17 @@ use Rattle.std.specs.Prelude.{Option}
 use Rattle.rv_event.specs.declared.entry.Exit.{Exit}
 use Rattle.rv_turn.specs.Passes.{Acted}
 use Rattle.rv_turn.specs.Prefixes.{starts_self}
-use Rattle.rv_port.specs.Events.{by}
-use Rattle.rv_port.specs.Acting.{Does, IsLent, lent_view}
+use Rattle.rv_behind.specs.Events.{by}
+use Rattle.rv_behind.specs.Acting.{Does, IsLent, lent_view}
 use Rattle.rv_port.specs.Traces.{Passing, Trace, Went}
 use Rattle.rv_port.specs.Calls.{marked, Stays}
 use Rattle.rv_port.specs.Texts.{TextRuns, TextRan}
-use Rattle.rv_port.specs.declared.event.Lent.{Lent}
-use Rattle.rv_port.specs.declared.event.Event.{Event}
-use Rattle.rv_port.specs.declared.event.Ask.{Ask}
-use Rattle.rv_port.specs.declared.event.Ask.TheVariants as Wants
-use Rattle.rv_port.specs.declared.event.Reply.{Reply}
-use Rattle.rv_port.specs.declared.event.Reply.TheVariants as Gives
+use Rattle.rv_behind.specs.declared.event.Lent.{Lent}
+use Rattle.rv_behind.specs.declared.event.Event.{Event}
+use Rattle.rv_behind.specs.declared.event.Ask.{Ask}
+use Rattle.rv_behind.specs.declared.event.Ask.TheVariants as Wants
+use Rattle.rv_behind.specs.declared.event.Reply.{Reply}
+use Rattle.rv_behind.specs.declared.event.Reply.TheVariants as Gives
 use Rattle.rv_port.proofs.Actors.{later_entry}
 use Rattle.rv_port.proofs.Performing.{stays_self, stays_both, went_stays}
 use Rattle.rv_port.proofs.Stopped.{text_stops}

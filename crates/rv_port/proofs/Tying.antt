@@ -12,13 +12,13 @@ use Rattle.rv_event.specs.declared.entry.Recorded.TheVariants as Words
 use Rattle.rv_history.specs.Due.{goes_on}
 use Rattle.rv_history.specs.History.{changes}
 use Rattle.rv_history.proofs.First.{names_first}
-use Rattle.rv_port.specs.declared.event.Begun.{Begun}
-use Rattle.rv_port.specs.declared.event.Event.{Event}
-use Rattle.rv_port.specs.declared.event.Event.TheVariants.{Asks}
+use Rattle.rv_behind.specs.declared.event.Begun.{Begun}
+use Rattle.rv_behind.specs.declared.event.Event.{Event}
+use Rattle.rv_behind.specs.declared.event.Event.TheVariants.{Asks}
 use Rattle.rv_port.specs.declared.reached.Reached.{Reached}
 use Rattle.rv_port.specs.declared.reached.Reached.TheVariants as Reaches
 use Rattle.rv_port.specs.Actors.{HasHandler}
-use Rattle.rv_port.specs.Events.{marks, history_at, catalogue_of, called}
+use Rattle.rv_behind.specs.Events.{marks, history_at, catalogue_of, called}
 use Rattle.rv_port.specs.Later.{version_seen}
 use Rattle.rv_port.specs.Traces.{Passing, limits_in, Asked, asks_on}
 use Rattle.rv_port.specs.Reaching.{Performs, arguments_of, reads, values_of, waited_for}

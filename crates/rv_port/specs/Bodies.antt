@@ -9,7 +9,7 @@ use Rattle.rv_code.specs.Bodies.{UnitBodies}
 use Rattle.rv_exec.specs.Asking.{Along}
 use Rattle.rv_exec.specs.Blocks.{operation_run}
 use Rattle.rv_port.specs.declared.body.Ended.{Ended}
-use Rattle.rv_port.specs.declared.event.Begun.{Begun}
+use Rattle.rv_behind.specs.declared.event.Begun.{Begun}
 use Rattle.rv_port.specs.Traces.{Trace}
 
 -- the scalars that an end gives: a function's gives none (9.5.1)

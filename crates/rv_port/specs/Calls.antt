@@ -14,16 +14,16 @@ use Rattle.rv_event.specs.declared.entry.Next.{Next}
 use Rattle.rv_event.specs.declared.entry.Next.TheVariants.{HandedTo}
 use Rattle.rv_shape.specs.Catalogue.{first_task}
 use Rattle.rv_port.specs.declared.body.Ended.{Ended}
-use Rattle.rv_port.specs.declared.event.Begun.{Begun}
-use Rattle.rv_port.specs.declared.event.Event.{Event}
-use Rattle.rv_port.specs.declared.event.Event.TheVariants.{Asks}
+use Rattle.rv_behind.specs.declared.event.Begun.{Begun}
+use Rattle.rv_behind.specs.declared.event.Event.{Event}
+use Rattle.rv_behind.specs.declared.event.Event.TheVariants.{Asks}
 use Rattle.rv_port.specs.declared.reached.Reached.{Reached}
 use Rattle.rv_port.specs.declared.reached.Reached.TheVariants as Reaches
-use Rattle.rv_port.specs.Events.{catalogue_of, called}
+use Rattle.rv_behind.specs.Events.{catalogue_of, called}
 use Rattle.rv_port.specs.Later.{version_seen}
 use Rattle.rv_turn.specs.Histories.{StartsWith}
 use Rattle.rv_port.specs.Traces.{Passing, Trace, told, noted, WoreOut, Went, Asked, asks_on}
-use Rattle.rv_port.specs.Acting.{IsLent}
+use Rattle.rv_behind.specs.Acting.{IsLent}
 use Rattle.rv_port.specs.Bodies.{Runs}
 use Rattle.rv_port.specs.Reaching.{arguments_of, reads, values_of, plain_of, end_of, reached_by, waits_on, waited_for}
 

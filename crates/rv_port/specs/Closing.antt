@@ -5,9 +5,9 @@ use Rattle.rv_history.specs.History.{History}
 use Rattle.rv_history.specs.Legal.{Legal}
 use Rattle.rv_turn.specs.Histories.{mine, Each, NoStrangers, StartsWith}
 use Rattle.rv_turn.specs.Passes.{Noted, StandsIn}
-use Rattle.rv_port.specs.Events.{by, log_of}
+use Rattle.rv_behind.specs.Events.{by, log_of}
 use Rattle.rv_port.specs.Traces.{Passing}
-use Rattle.rv_port.specs.declared.event.Event.{Event}
+use Rattle.rv_behind.specs.declared.event.Event.{Event}
 
 -- of an actor's events none that was seen is missing (own)
 abbrev pub KeepsAll : List Event → Passing → Type 0

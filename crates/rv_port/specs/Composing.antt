@@ -7,9 +7,9 @@ use Rattle.rv_event.specs.declared.entry.Recorded.{Recorded}
 use Rattle.rv_history.specs.declared.limits.Limits.{Limits}
 use Rattle.rv_turn.specs.Histories.{StartsWith}
 use Rattle.rv_turn.specs.Prefixes.{starts_self, starts_both}
-use Rattle.rv_port.specs.Acting.{grown}
+use Rattle.rv_behind.specs.Acting.{grown}
 use Rattle.rv_port.specs.Traces.{Passing, limits_in, Trace, noted, noted_if, IsAnswered, EachAnswered, Steps, Went}
-use Rattle.rv_port.specs.declared.event.Event.{Event}
+use Rattle.rv_behind.specs.declared.event.Event.{Event}
 
 noted_if-append : (b : Option Recorded) (a : ℕ) (q : Request) (es fs : List Event) → noted_if b a q (es ++ fs) ≡ noted_if b a q es ++ fs
 noted_if-append (Some w) a q es fs = refl

@@ -15,18 +15,18 @@ use Rattle.rv_fits.specs.Fits.{are_of}
 use Rattle.rv_exec.specs.Bodies.{held}
 use Rattle.rv_exec.specs.declared.bodies.SharedUnit.{SharedUnit}
 use Rattle.rv_history.specs.History.{History}
-use Rattle.rv_port.specs.Events.{by, log_of, catalogue_of}
-use Rattle.rv_port.specs.declared.event.Event.{Event}
-use Rattle.rv_port.specs.Acting.{Does}
+use Rattle.rv_behind.specs.Events.{by, log_of, catalogue_of}
+use Rattle.rv_behind.specs.declared.event.Event.{Event}
+use Rattle.rv_behind.specs.Acting.{Does}
 use Rattle.rv_port.specs.Actors.{is_performer}
 use Rattle.rv_port.specs.Traces.{Passing}
 use Rattle.rv_port.specs.declared.fault.PortFault.{PortFault}
 use Rattle.rv_port.specs.declared.fault.PortFault.TheVariants.{Taken, NoActor, NoMemory, Worn}
 use Rattle.rv_port.specs.declared.fault.PageFault.{PageFault}
 use Rattle.rv_port.specs.declared.fault.PageFault.TheVariants as PageFaults
-use Rattle.rv_port.specs.declared.event.Ask.{Ask}
-use Rattle.rv_port.specs.declared.event.Reply.{Reply}
-use Rattle.rv_port.specs.declared.event.Reply.TheVariants as Gives
+use Rattle.rv_behind.specs.declared.event.Ask.{Ask}
+use Rattle.rv_behind.specs.declared.event.Reply.{Reply}
+use Rattle.rv_behind.specs.declared.event.Reply.TheVariants as Gives
 
 -- all entries are the operator's (own)
 abbrev pub OperatorAlone : List Entry → Type 0

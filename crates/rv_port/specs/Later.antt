@@ -3,8 +3,8 @@ use Rattle.std.specs.Prelude.{◌≡◌, ℕ, ◌≤◌, List, reverse}
 use Rattle.rv_access.specs.Words.{Words}
 use Rattle.rv_history.specs.History.{changes}
 use Rattle.rv_turn.specs.Histories.{StartsWith}
-use Rattle.rv_port.specs.Events.{marks, lists_of, bodies_at}
-use Rattle.rv_port.specs.declared.event.Event.{Event}
+use Rattle.rv_behind.specs.Events.{marks, lists_of, bodies_at}
+use Rattle.rv_behind.specs.declared.event.Event.{Event}
 
 -- the lists of a history, in order; the last is in force (own)
 abbrev pub lists_seen : List Event → List (List Words)

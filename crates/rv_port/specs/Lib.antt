@@ -1,5 +1,3 @@
-pub mod Events
-pub mod Acting
 pub mod Actors
 pub mod Traces
 pub mod Composing

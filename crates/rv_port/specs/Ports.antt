@@ -3,7 +3,7 @@ use Rattle.std.specs.Prelude.{ℕ, Bool, List, Option}
 use Rattle.atomic_table.specs.Seated.{TableId}
 use Rattle.rv_event.specs.declared.entry.Request.{Request}
 use Rattle.rv_history.specs.declared.limits.Limits.{Limits}
-use Rattle.rv_port.specs.declared.event.Event.{Event}
+use Rattle.rv_behind.specs.declared.event.Event.{Event}
 use Rattle.rv_port.specs.declared.reached.Reached.{Reached}
 use Rattle.rv_port.specs.Traces.{Passing}
 use Rattle.rv_port.specs.Calls.{Performed}

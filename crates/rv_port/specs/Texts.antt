@@ -6,11 +6,11 @@ use Rattle.rv_code.specs.Bodies.{UnitBodies}
 use Rattle.rv_exec.specs.Asking.{Along}
 use Rattle.rv_exec.specs.Tasks.{task_run}
 use Rattle.rv_turn.specs.Passes.{Acted, IsWorn}
-use Rattle.rv_port.specs.declared.event.Lent.{Lent}
-use Rattle.rv_port.specs.declared.event.Ask.TheVariants as Wants
-use Rattle.rv_port.specs.declared.event.Reply.TheVariants as Gives
-use Rattle.rv_port.specs.Acting.{Does, lent_view}
-use Rattle.rv_port.specs.Events.{by}
+use Rattle.rv_behind.specs.declared.event.Lent.{Lent}
+use Rattle.rv_behind.specs.declared.event.Ask.TheVariants as Wants
+use Rattle.rv_behind.specs.declared.event.Reply.TheVariants as Gives
+use Rattle.rv_behind.specs.Acting.{Does, lent_view}
+use Rattle.rv_behind.specs.Events.{by}
 use Rattle.rv_port.specs.Calls.{marked, StoppedAt}
 use Rattle.rv_port.specs.Traces.{Passing, Trace, Went}
 

@@ -11,12 +11,12 @@ use Rattle.rv_history.specs.Due.{out}
 use Rattle.rv_history.specs.Legal.{Legal}
 use Rattle.rv_turn.specs.Histories.{mine, StartsWith}
 use Rattle.rv_turn.specs.Passes.{Known}
-use Rattle.rv_port.specs.Events.{by, history_at, catalogue_of}
-use Rattle.rv_port.specs.Acting.{grown, begun_by, IsLent, lent_view}
-use Rattle.rv_port.specs.declared.event.Lent.{Lent}
-use Rattle.rv_port.specs.declared.event.Begun.{Begun}
-use Rattle.rv_port.specs.declared.event.Event.{Event}
-use Rattle.rv_port.specs.declared.event.Event.TheVariants.{Asks}
+use Rattle.rv_behind.specs.Events.{by, history_at, catalogue_of}
+use Rattle.rv_behind.specs.Acting.{grown, begun_by, IsLent, lent_view}
+use Rattle.rv_behind.specs.declared.event.Lent.{Lent}
+use Rattle.rv_behind.specs.declared.event.Begun.{Begun}
+use Rattle.rv_behind.specs.declared.event.Event.{Event}
+use Rattle.rv_behind.specs.declared.event.Event.TheVariants.{Asks}
 
 -- what a port knows (own)
 abbrev pub Passing : Type 0

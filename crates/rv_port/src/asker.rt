@@ -4,12 +4,12 @@ ghost use Rattle.std.specs.Prelude.{◌≡◌, ℕ, ◌++◌, ◌∷◌, [], Mat
 ghost use Rattle.rv_turn.specs.Histories.{mine};
 ghost use Rattle.rv_turn.specs.Passes.{IsWorn};
 ghost use Rattle.rv_port.specs.Actors.{HasHandler};
-ghost use Rattle.rv_port.specs.Events.{by, catalogue_of};
+ghost use Rattle.rv_behind.specs.Events.{by, catalogue_of};
 ghost use Rattle.rv_port.specs.Traces.{RepliedOnce, Settled, WoreOut, Went, IsTold, told, asks_on};
 
-use crate::behind::Behind;
 use crate::bell::Bell;
-use crate::event::Letter;
+use rv_behind::behind::Behind;
+use rv_behind::event::Letter;
 use rv_event::entry::{Answer, Request};
 use rv_exec::outward::Outward;
 use rv_turn::{Pass, Worn};

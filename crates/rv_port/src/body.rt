@@ -3,14 +3,14 @@
 ghost use Rattle.std.specs.Prelude.{◌≡◌, Some};
 ghost use Rattle.std.specs.Arc.{arc_value};
 ghost use Rattle.rv_exec.specs.Bodies.{bodies_view};
-ghost use Rattle.rv_port.specs.Acting.{lent_view};
+ghost use Rattle.rv_behind.specs.Acting.{lent_view};
 ghost use Rattle.rv_port.specs.Traces.{Trace, Went};
 ghost use Rattle.rv_event.specs.declared.entry.Request.TheVariants.{Complete};
 ghost use Rattle.rv_port.specs.Bodies.{RunsTo, left_alone, given_by};
 ghost use Rattle.rv_port.specs.Calls.{marked};
 
 use crate::asker::Asker;
-use crate::event::{Begun, Lent};
+use rv_behind::event::{Begun, Lent};
 use rv_event::entry::{Exception, Exit, Request};
 use rv_exec::bodies::Bodies;
 use rv_exec::machine::run_body;

@@ -8,10 +8,10 @@ ghost use Rattle.rv_turn.specs.Histories.{mine, StartsWith};
 ghost use Rattle.rv_port.specs.Alone.{IsUnused, quit_alone};
 ghost use Rattle.rv_port.specs.Calls.{Quits};
 ghost use Rattle.rv_port.specs.Controls.{IsGiven};
-ghost use Rattle.rv_port.specs.Events.{by, catalogue_of, history_at, log_of, units_in};
+ghost use Rattle.rv_behind.specs.Events.{by, catalogue_of, history_at, log_of, units_in};
 ghost use Rattle.rv_port.specs.Later.{NoEarlierList, KeepsBodies};
 ghost use Rattle.rv_port.specs.Traces.{Passing};
-ghost use Rattle.rv_port.specs.declared.event.Event.{Event};
+ghost use Rattle.rv_behind.specs.declared.event.Event.{Event};
 
 /// The catalogue is that of the operator's own events, whatever others add.
 #[tactic(auto, using(crate::proofs::Catalogues::catalogue_mine))]
@@ -21,13 +21,13 @@ pub fn catalogue_is_the_operators()
 
 /// The events of a legal history stand for that very history, whatever bodies its units have: so what
 /// is said of events is said of the host's journal.
-#[tactic(auto, using(crate::proofs::Zips::rebuilt))]
+#[tactic(auto, using(rv_behind::proofs::Zips::rebuilt))]
 pub fn events_are_the_journal()
     ensures { (h : History) (units : List UnitBodies) → Legal h → history_at h.limits (log_of h units) ≡ h }
 {}
 
 /// And the bodies in them are these, where there are as many as units.
-#[tactic(auto, using(crate::proofs::Zips::rebuilt_units))]
+#[tactic(auto, using(rv_behind::proofs::Zips::rebuilt_units))]
 pub fn events_keep_the_bodies()
     ensures { (h : History) (units : List UnitBodies) → Legal h → length units ≡ length h.shapes → units_in (reverse (log_of h units)) ≡ units }
 {}

@@ -2,11 +2,9 @@
 #![tactic(auto)]
 
 mod asker;
-pub mod behind;
 mod bell;
 mod body;
 pub mod control;
-pub mod event;
 pub mod fault;
 pub mod gate;
 pub mod laws;
@@ -15,3 +13,5 @@ mod performance;
 pub mod port;
 pub mod reached;
 mod text;
+
+pub use rv_behind::{behind, event};

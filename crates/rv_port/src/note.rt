@@ -1,6 +1,6 @@
 //! Notes: what one has seen, told to a port.
 
-use crate::behind::Behind;
+use rv_behind::behind::Behind;
 use std::marker::Model;
 
 /// What a control or a port had seen when it made the note. Contracts see whose turn it is of, and
@@ -12,9 +12,9 @@ pub struct Note {
 
 impl Model for Note {
     ghost use Rattle.std.specs.Coded.{codes};
-    ghost use Rattle.rv_port.specs.contracts.event.Event as e;
+    ghost use Rattle.rv_behind.specs.contracts.event.Event as e;
     ghost use Rattle.rv_turn.specs.Passes.{Noted};
-    ghost use Rattle.rv_port.specs.declared.event.Event.{Event};
+    ghost use Rattle.rv_behind.specs.declared.event.Event.{Event};
 
     ghost Value = { Noted Event };
 

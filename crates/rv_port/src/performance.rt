@@ -6,9 +6,9 @@ ghost use Rattle.rv_port.specs.Reaching.{Performs};
 
 use crate::asker::Asker;
 use crate::body::run;
-use crate::event::Letter;
 use crate::gate::Gate;
 use crate::reached::{Reached, arguments_of, ended_as, is_wait, plain, reads, waited_for};
+use rv_behind::event::Letter;
 use rv_event::entry::{Answer, Exit, Request};
 use std::sync::Wait;
 

@@ -7,19 +7,19 @@ ghost use Rattle.rv_turn.specs.Histories.{mine, StartsWith};
 ghost use Rattle.rv_turn.specs.Passes.{Meets};
 ghost use Rattle.rv_event.specs.declared.entry.Request.TheVariants as asks;
 ghost use Rattle.rv_port.specs.Actors.{HasHandler};
-ghost use Rattle.rv_port.specs.Events.{by, catalogue_of};
+ghost use Rattle.rv_behind.specs.Events.{by, catalogue_of};
 ghost use Rattle.rv_port.specs.Calls.{Stays, Tied};
 ghost use Rattle.rv_port.specs.Ports.{porting, pass_of, PerformedBy};
 ghost use Rattle.rv_port.specs.Controls.{IsPorts};
 ghost use Rattle.rv_port.specs.Later.{NoEarlierList};
-ghost use Rattle.rv_port.specs.declared.event.Event.{Event};
+ghost use Rattle.rv_behind.specs.declared.event.Event.{Event};
 
 use crate::asker::Asker;
-use crate::behind::Behind;
 use crate::bell::Bell;
 use crate::gate::{Gate, Open};
 use crate::note::Note;
 use crate::reached::Reached;
+use rv_behind::behind::Behind;
 use rv_event::entry::Request;
 use rv_turn::Pass;
 use rv_value::Args;
@@ -37,7 +37,7 @@ pub struct Port {
 
 impl Model for Port {
     ghost use Rattle.std.specs.Coded.{codes};
-    ghost use Rattle.rv_port.specs.contracts.event.Event as e;
+    ghost use Rattle.rv_behind.specs.contracts.event.Event as e;
     ghost use Rattle.std.specs.Prelude.{◌≡◌, []};
     ghost use Rattle.rv_port.specs.Ports.{Porting, porting};
 
@@ -59,10 +59,10 @@ pub struct Finished {
 
 impl Model for Finished {
     ghost use Rattle.std.specs.Coded.{codes};
-    ghost use Rattle.rv_port.specs.contracts.event.Event as e;
+    ghost use Rattle.rv_behind.specs.contracts.event.Event as e;
     ghost use Rattle.std.specs.Prelude.{◌≡◌, ◌++◌, [], true, false, is_some};
     ghost use Rattle.rv_turn.specs.Histories.{mine};
-    ghost use Rattle.rv_port.specs.Events.{by};
+    ghost use Rattle.rv_behind.specs.Events.{by};
     ghost use Rattle.rv_port.specs.Ports.{Porting, porting};
 
     ghost Value = { Porting };

@@ -3,7 +3,7 @@
 ghost use Rattle.std.specs.Prelude.{◌≡◌};
 ghost use Rattle.rv_port.specs.Reaching.{plain_of, end_of, reached_by, waits_on, arguments_of, reads, values_of, waited_for};
 
-use crate::event::Begun;
+use rv_behind::event::Begun;
 use rv_event::entry::{Answer, Exception, Exit, Request, Rule};
 use rv_value::Args;
 

@@ -3,16 +3,16 @@
 ghost use Rattle.std.specs.Prelude.{◌≡◌, Some, IfOk, OnErr};
 ghost use Rattle.rv_exec.specs.Bodies.{bodies_view};
 ghost use Rattle.rv_turn.specs.Passes.{Acted, IsWorn};
-ghost use Rattle.rv_port.specs.Acting.{Does, lent_view};
-ghost use Rattle.rv_port.specs.Events.{by};
+ghost use Rattle.rv_behind.specs.Acting.{Does, lent_view};
+ghost use Rattle.rv_behind.specs.Events.{by};
 ghost use Rattle.rv_port.specs.Traces.{Trace, Went};
 ghost use Rattle.rv_port.specs.Calls.{marked, Stays};
 ghost use Rattle.rv_port.specs.Ports.{pass_of};
 ghost use Rattle.rv_port.specs.Texts.{TextRan, TextRuns};
 
 use crate::asker::Asker;
-use crate::event::{Ask, Lent, Reply};
 use crate::port::Port;
+use rv_behind::event::{Ask, Lent, Reply};
 use rv_event::entry::Exit;
 use rv_exec::bodies::Bodies;
 use rv_exec::machine::{Machine, run_task};

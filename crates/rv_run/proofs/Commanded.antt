@@ -5,7 +5,7 @@ use Rattle.rv_code.specs.declared.unit.Unit.{Unit as Compiled}
 use Rattle.rv_crew.specs.Teams.{Team}
 use Rattle.rv_event.specs.declared.entry.Answer.{Answer}
 use Rattle.rv_fault.specs.Sections.{GivesUnit}
-use Rattle.rv_port.specs.Events.{catalogue_of}
+use Rattle.rv_behind.specs.Events.{catalogue_of}
 use Rattle.rv_port.specs.Traces.{Passing}
 use Rattle.rv_shape.specs.Shape.{Shape}
 use Rattle.rv_shape.specs.Catalogue.{OperationNumber}

@@ -7,9 +7,9 @@ use Rattle.rv_shape.specs.Catalogue.{OperationNumber, handler}
 use Rattle.rv_event.specs.declared.entry.Answer.{Answer}
 use Rattle.rv_turn.specs.Passes.{IsWorn}
 use Rattle.rv_turn.specs.declared.pass.Worn.{Worn}
-use Rattle.rv_port.specs.Events.{catalogue_of}
+use Rattle.rv_behind.specs.Events.{catalogue_of}
 use Rattle.rv_port.specs.Traces.{Passing}
-use Rattle.rv_port.specs.Events.{catalogue_of}
+use Rattle.rv_behind.specs.Events.{catalogue_of}
 use Rattle.rv_port.specs.Controls.{Brings, LoadTold}
 use Rattle.rv_fault.specs.Sections.{GivesUnit, Reads}
 use Rattle.rv_fault.specs.declared.failure.Failure.{Failure}

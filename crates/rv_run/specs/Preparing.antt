@@ -9,10 +9,10 @@ use Rattle.rv_event.specs.declared.entry.Answer.{Answer}
 use Rattle.rv_event.specs.declared.entry.Answer.TheVariants.{OutOfMemory}
 use Rattle.rv_turn.specs.Passes.{IsWorn}
 use Rattle.rv_turn.specs.declared.pass.Worn.{Worn}
-use Rattle.rv_port.specs.Events.{catalogue_of}
+use Rattle.rv_behind.specs.Events.{catalogue_of}
 use Rattle.rv_port.specs.Traces.{Passing}
 use Rattle.rv_port.specs.Controls.{LoadTold, Told, no_bodies_of}
-use Rattle.rv_port.specs.declared.event.Ask.{Ask}
+use Rattle.rv_behind.specs.declared.event.Ask.{Ask}
 use Rattle.rv_fault.specs.Sections.{GivesUnit, Just, Reads, device_shape, if_list}
 use Rattle.rv_fault.specs.declared.failure.Failure.{Failure}
 use Rattle.rv_fault.specs.declared.failure.Failure.TheVariants.{Refused, Memory, Io}

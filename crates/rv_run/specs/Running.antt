@@ -6,7 +6,7 @@ use Rattle.rv_history.specs.Legal.{empty}
 use Rattle.rv_history.specs.Limits.{limits_of}
 use Rattle.rv_input.specs.Coming.{GivesBefore, IfTold, Reading, coming, most_before}
 use Rattle.rv_port.specs.Controls.{BeginsWith}
-use Rattle.rv_port.specs.Events.{by}
+use Rattle.rv_behind.specs.Events.{by}
 use Rattle.rv_port.specs.Traces.{Passing}
 use Rattle.rv_turn.specs.Passes.{opening_of}
 use Rattle.rv_script.specs.Openings.{OpenedText, opened}

@@ -2,7 +2,7 @@
 
 ghost use Rattle.std.specs.Prelude.{◌≡◌, ◌⊎◌, Ok, Err, IfOk, IfErr};
 ghost use Rattle.rv_fault.specs.Sections.{device_shape};
-ghost use Rattle.rv_port.specs.Events.{catalogue_of};
+ghost use Rattle.rv_behind.specs.Events.{catalogue_of};
 ghost use Rattle.rv_run.specs.Preparing.{HeardOf, KeptAnswer, LoadsDevice, LoadsDevices, RefusesDevice};
 
 use rv_event::entry::Answer;

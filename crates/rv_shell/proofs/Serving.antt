@@ -5,13 +5,13 @@ use Rattle.rv_event.specs.declared.entry.Answer.{Answer}
 use Rattle.rv_host.specs.Pages.{Item}
 use Rattle.rv_turn.specs.Passes.{Acted, IsWorn}
 use Rattle.rv_turn.specs.declared.pass.Worn.{Worn as Spent}
-use Rattle.rv_port.specs.Acting.{Does}
+use Rattle.rv_behind.specs.Acting.{Does}
 use Rattle.rv_port.specs.Controls.{Told}
-use Rattle.rv_port.specs.Events.{by, catalogue_of}
+use Rattle.rv_behind.specs.Events.{by, catalogue_of}
 use Rattle.rv_port.specs.Traces.{Passing}
-use Rattle.rv_port.specs.declared.event.Ask.{Ask}
-use Rattle.rv_port.specs.declared.event.Reply.{Reply}
-use Rattle.rv_port.specs.declared.event.Reply.TheVariants as Gives
+use Rattle.rv_behind.specs.declared.event.Ask.{Ask}
+use Rattle.rv_behind.specs.declared.event.Reply.{Reply}
+use Rattle.rv_behind.specs.declared.event.Reply.TheVariants as Gives
 use Rattle.rv_shell.specs.declared.shell.Next.{Next}
 use Rattle.rv_shell.specs.declared.shell.LineFault.{LineFault}
 use Rattle.rv_shell.specs.declared.shell.LineFault.TheVariants.{NoMemory, Write, Worn}

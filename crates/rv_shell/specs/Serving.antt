@@ -13,13 +13,13 @@ use Rattle.rv_event.specs.declared.entry.Answer.{Answer}
 use Rattle.rv_event.specs.declared.entry.Request.TheVariants as asks
 use Rattle.rv_host.specs.Pages.{Item}
 use Rattle.rv_turn.specs.Passes.{Acted, IsWorn}
-use Rattle.rv_port.specs.Events.{by, catalogue_of}
-use Rattle.rv_port.specs.Acting.{Does}
+use Rattle.rv_behind.specs.Events.{by, catalogue_of}
+use Rattle.rv_behind.specs.Acting.{Does}
 use Rattle.rv_port.specs.Traces.{Passing}
 use Rattle.rv_port.specs.Controls.{Told, PageFailed}
 use Rattle.rv_port.specs.declared.fault.PageFault.TheVariants as PageFaults
-use Rattle.rv_port.specs.declared.event.Ask.{Ask}
-use Rattle.rv_port.specs.declared.event.Reply.TheVariants as Gives
+use Rattle.rv_behind.specs.declared.event.Ask.{Ask}
+use Rattle.rv_behind.specs.declared.event.Reply.TheVariants as Gives
 use Rattle.rv_shell.specs.Orders.{order_of, own_order}
 use Rattle.rv_shell.specs.declared.order.Order.{Order}
 use Rattle.rv_shell.specs.declared.order.Order.TheVariants as Orders

@@ -2,7 +2,7 @@
 
 ghost use Rattle.std.specs.Prelude.{◌≡◌, ℕ, List, Err, IfOk, MatchResult, string_bytes};
 ghost use Rattle.rv_text.specs.Words.{words};
-ghost use Rattle.rv_port.specs.Events.{catalogue_of};
+ghost use Rattle.rv_behind.specs.Events.{catalogue_of};
 ghost use Rattle.rv_shell.specs.Serving.{Obeys, Prints, ReadsOrWorn, Serves, Writes, answer_line, fault_line};
 
 use crate::order::{Order, order_of};

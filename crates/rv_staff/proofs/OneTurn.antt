@@ -12,7 +12,7 @@ use Rattle.rv_port.specs.Traces.{Passing}
 use Rattle.rv_port.specs.Ports.{Porting}
 use Rattle.rv_port.specs.Controls.{IsGiven, LoadTold, Told}
 use Rattle.rv_crew.specs.Teams.{Team, IsOfTurn}
-use Rattle.rv_port.specs.declared.event.Ask.{Ask}
+use Rattle.rv_behind.specs.declared.event.Ask.{Ask}
 use Rattle.rv_crew.specs.Crews.{Joins, IsClosedBy, with_joined}
 use Rattle.rv_crew.specs.declared.crew.Closed.{Closed}
 use Rattle.rv_crew.proofs.Turns.{none_of_turn, started_of_turn, given_up_of_turn, lost_of_turn}

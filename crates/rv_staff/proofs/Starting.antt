@@ -7,7 +7,7 @@ use Rattle.rv_script.proofs.Wrote.{appends_more, keeps_nothing, prefix_behind}
 use Rattle.rv_shape.specs.Shape.{Shape}
 use Rattle.rv_crew.specs.Teams.{Team}
 use Rattle.rv_port.specs.Controls.{IsGiven, IsPortFault}
-use Rattle.rv_port.specs.Events.{catalogue_of}
+use Rattle.rv_behind.specs.Events.{catalogue_of}
 use Rattle.rv_port.specs.Ports.{Porting, pass_of}
 use Rattle.rv_port.specs.declared.fault.PortFault.{PortFault}
 use Rattle.rv_staff.specs.declared.hires.HireFault.{HireFault}

@@ -6,7 +6,7 @@ use Rattle.rv_turn.specs.Passes.{IsWorn}
 use Rattle.rv_port.specs.Traces.{Passing}
 use Rattle.rv_port.specs.Ports.{Porting}
 use Rattle.rv_port.specs.Controls.{Told}
-use Rattle.rv_port.specs.declared.event.Ask.{Ask}
+use Rattle.rv_behind.specs.declared.event.Ask.{Ask}
 use Rattle.rv_crew.specs.Teams.{Team}
 use Rattle.rv_crew.specs.Crews.{Joins, IsClosedBy, with_joined}
 use Rattle.rv_crew.specs.declared.crew.Closed.{Closed}

@@ -2,7 +2,7 @@
 
 ghost use Rattle.std.specs.Prelude.{codes, IfNone, IfSome};
 ghost use Rattle.rv_shape.specs.Catalogue.{handler};
-ghost use Rattle.rv_port.specs.Events.{catalogue_of};
+ghost use Rattle.rv_behind.specs.Events.{catalogue_of};
 ghost use Rattle.rv_staff.specs.Saying.{Says, SaysRaised};
 
 use crate::saying::{NO_MEMORY, say, say_no_thread};

@@ -3,7 +3,7 @@
 ghost use Rattle.std.specs.Prelude.{◌≡◌, [], Err, IfErr, IfOk, IfSome, MatchResult};
 ghost use Rattle.rv_text.specs.Words.{words};
 ghost use Rattle.rv_turn.specs.Passes.{IsWorn};
-ghost use Rattle.rv_port.specs.Events.{catalogue_of};
+ghost use Rattle.rv_behind.specs.Events.{catalogue_of};
 ghost use Rattle.rv_port.specs.Ports.{pass_of};
 ghost use Rattle.rv_port.specs.Controls.{Brings, IsGiven, IsPortFault, LoadTold};
 ghost use Rattle.rv_crew.specs.Crews.{IsClosedBy};
@@ -39,7 +39,7 @@ pub struct Staff {
 
 impl Model for Staff {
     ghost use Rattle.std.specs.Coded.{codes};
-    ghost use Rattle.rv_port.specs.contracts.event.Event as e;
+    ghost use Rattle.rv_behind.specs.contracts.event.Event as e;
     ghost use Rattle.rv_staff.specs.Staffs.{AreOf, Staffed};
 
     ghost Value = { Staffed };

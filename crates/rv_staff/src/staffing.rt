@@ -1,7 +1,7 @@
 //! Threads for the actors that have none yet.
 
 ghost use Rattle.std.specs.Prelude.{◌≡◌, ◌+◌, ℕ, List};
-ghost use Rattle.rv_port.specs.Events.{catalogue_of};
+ghost use Rattle.rv_behind.specs.Events.{catalogue_of};
 ghost use Rattle.rv_staff.specs.Giving.{GivesOne, SaidOfHire, Starts, actors_of};
 ghost use Rattle.rv_staff.specs.Hiring.{hired};
 ghost use Rattle.rv_staff.specs.Saying.{Says};

@@ -8,7 +8,7 @@ use Rattle.rv_turn.specs.declared.pass.Worn.{Worn}
 use Rattle.rv_port.specs.Controls.{Told}
 use Rattle.rv_port.specs.Ports.{Porting}
 use Rattle.rv_port.specs.Traces.{Passing}
-use Rattle.rv_port.specs.declared.event.Ask.{Ask}
+use Rattle.rv_behind.specs.declared.event.Ask.{Ask}
 use Rattle.rv_crew.specs.Teams.{Team, IsOfTurn}
 use Rattle.rv_crew.proofs.Turns.{started_of_turn, given_up_of_turn, lost_of_turn}
 use Rattle.rv_staff.specs.declared.hires.HireFault.{HireFault}

@@ -2,7 +2,7 @@
 
 ghost use Rattle.std.specs.Coded.{codes};
 ghost use Rattle.std.specs.Prelude.{◌≡◌};
-ghost use Rattle.rv_port.specs.contracts.event.Event as e;
+ghost use Rattle.rv_behind.specs.contracts.event.Event as e;
 ghost use Rattle.rv_staff.specs.Hiring.{hired};
 
 use rv_crew::crew::Crew;

@@ -7,9 +7,9 @@ ghost use Rattle.rv_port.specs.Closing.{HasMet, IsClosed};
 ghost use Rattle.rv_port.specs.Ports.{pass_of};
 
 use super::Control;
-use crate::behind::Behind;
 use crate::note::Note;
 use crate::port::Finished;
+use rv_behind::behind::Behind;
 use rv_host::host::Host;
 use rv_turn::Pass;
 use std::sync::Wait;
@@ -82,8 +82,8 @@ impl Control {
             catalogue: _,
         } = self;
         meet_all(&mut pass, notes);
-        let Behind { host, .. } = turn.close(rt, pass, passes);
-        let host = Box::into_inner(host);
+        let behind = turn.close(rt, pass, passes);
+        let host = behind.into_host();
         host.replays();
         Ok(host)
     }

@@ -7,10 +7,10 @@ ghost use Rattle.rv_fits.specs.Fits.{are_of};
 ghost use Rattle.rv_exec.specs.Bodies.{held, shared_view, units_of};
 ghost use Rattle.rv_turn.specs.Passes.{IsWorn};
 ghost use Rattle.rv_port.specs.Controls.{Told, LoadTold, Brings, no_bodies_of};
-ghost use Rattle.rv_port.specs.Events.{catalogue_of};
+ghost use Rattle.rv_behind.specs.Events.{catalogue_of};
 
 use super::{Control, heard};
-use crate::event::Ask;
+use rv_behind::event::Ask;
 use rv_code::{Unit, UnitBodies};
 use rv_event::entry::Answer;
 use rv_exec::bodies::{Bodies, SharedUnit};

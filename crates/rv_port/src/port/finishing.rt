@@ -6,7 +6,7 @@ ghost use Rattle.rv_port.specs.Ports.{pass_of};
 
 use super::{Finished, Port};
 use crate::asker::Asker;
-use crate::event::Letter;
+use rv_behind::event::Letter;
 use rv_event::entry::Request;
 use rv_shape::actor::FIRST_TASK;
 use std::sync::Wait;

@@ -1,9 +1,9 @@
 use Rattle.std.proofs.Common.{Option, [], refl, ap, sym, subst, ◌∙◌}
 use Rattle.rv_port.specs.Bodies.{Runs, left_alone}
 use Rattle.rv_port.specs.Composing.{went_none}
-use Rattle.rv_port.specs.Acting.{lent_view}
+use Rattle.rv_behind.specs.Acting.{lent_view}
 use Rattle.rv_port.specs.Calls.{marked}
-use Rattle.rv_port.specs.declared.event.Lent.{Lent}
+use Rattle.rv_behind.specs.declared.event.Lent.{Lent}
 use Rattle.rv_port.proofs.body.run.Goals as goal
 
 pub returns-in-Some-clause-mark : goal.returns-in-Some-clause-mark

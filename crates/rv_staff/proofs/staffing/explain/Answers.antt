@@ -1,5 +1,5 @@
 use Rattle.std.proofs.Common.{◌≡◌, List, Err, rules, subst}
-use Rattle.rv_port.specs.Events.{catalogue_of}
+use Rattle.rv_behind.specs.Events.{catalogue_of}
 use Rattle.rv_shape.specs.Shape.{Shape}
 use Rattle.rv_staff.specs.declared.hires.HireFault.TheVariants.{NoThread, GivenUp, NoMemory}
 use Rattle.rv_staff.specs.Saying.{SaysNoThread}

@@ -1,5 +1,5 @@
 use Rattle.std.proofs.Common.{◌≡◌, ◌+◌, Ok, Err, rules, arith}
-use Rattle.rv_port.specs.Events.{catalogue_of}
+use Rattle.rv_behind.specs.Events.{catalogue_of}
 use Rattle.rv_staff.specs.Giving.{actors_of}
 use Rattle.rv_staff.proofs.Starting.{all_below, fails_at, gave_one, none_below, one_below}
 use Rattle.rv_staff.proofs.staffing.start_threads.Goals as goal

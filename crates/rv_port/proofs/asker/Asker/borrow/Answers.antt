@@ -1,5 +1,5 @@
-use Rattle.rv_port.specs.declared.event.Ask.TheVariants as Wants
-use Rattle.rv_port.specs.declared.event.Reply.{Reply}
+use Rattle.rv_behind.specs.declared.event.Ask.TheVariants as Wants
+use Rattle.rv_behind.specs.declared.event.Reply.{Reply}
 use Rattle.rv_port.proofs.Actors.{act_handles, act_owns}
 use Rattle.rv_port.proofs.asker.Asker.borrow.Goals as goal
 

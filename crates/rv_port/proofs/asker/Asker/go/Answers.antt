@@ -1,5 +1,5 @@
 use Rattle.std.proofs.Common.{◌≡◌, ◌∙◌, ap, Bool, true, false, rules, tests}
-use Rattle.rv_port.specs.Acting.{lent_view}
+use Rattle.rv_behind.specs.Acting.{lent_view}
 use Rattle.rv_port.specs.Calls.{marked}
 use Rattle.rv_port.specs.Reaching.{waits_on, plain_of}
 use Rattle.rv_port.proofs.Asking.{sent_of}

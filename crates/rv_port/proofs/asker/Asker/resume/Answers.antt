@@ -1,4 +1,4 @@
-use Rattle.rv_port.specs.Acting.{lent_view}
+use Rattle.rv_behind.specs.Acting.{lent_view}
 use Rattle.rv_port.specs.Calls.{marked}
 use Rattle.std.proofs.Common.{◌≡◌, ◌∙◌, ap, Bool, false, Some, rules, tests}
 use Rattle.rv_event.specs.declared.entry.Answer.TheVariants as Answers

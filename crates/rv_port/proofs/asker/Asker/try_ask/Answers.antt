@@ -1,5 +1,5 @@
-use Rattle.rv_port.specs.declared.event.Ask.TheVariants as Wants
-use Rattle.rv_port.specs.declared.event.Reply.TheVariants as Gives
+use Rattle.rv_behind.specs.declared.event.Ask.TheVariants as Wants
+use Rattle.rv_behind.specs.declared.event.Reply.TheVariants as Gives
 use Rattle.rv_port.proofs.Actors.{act_handles, act_owns}
 use Rattle.rv_port.proofs.Asking.{replied_act}
 use Rattle.rv_port.proofs.asker.Asker.try_ask.Goals as goal

@@ -1,5 +1,5 @@
 use Rattle.rv_event.specs.declared.entry.Request.TheVariants as Asks
-use Rattle.rv_port.specs.declared.event.Ask.TheVariants as Wants
+use Rattle.rv_behind.specs.declared.event.Ask.TheVariants as Wants
 use Rattle.rv_port.proofs.Controls.{act_kept}
 use Rattle.rv_port.proofs.control.Control.halt.Goals as goal
 

@@ -3,7 +3,7 @@ use Rattle.std.specs.Arc.{arc_value}
 use Rattle.rv_code.specs.BodyView.{unit_view}
 use Rattle.rv_exec.specs.Bodies.{units_of}
 use Rattle.rv_port.specs.Controls.{no_bodies_of}
-use Rattle.rv_port.proofs.Doing.{none_fit}
+use Rattle.rv_behind.proofs.Doing.{none_fit}
 use Rattle.rv_port.proofs.Operators.{begins_alone}
 use Rattle.rv_port.proofs.Controls.{opened_by, opens_on, begins, as_many}
 use Rattle.rv_port.proofs.control.Control.make.Goals as goal

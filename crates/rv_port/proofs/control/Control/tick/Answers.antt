@@ -1,4 +1,4 @@
-use Rattle.rv_port.specs.declared.event.Ask.TheVariants as Wants
+use Rattle.rv_behind.specs.declared.event.Ask.TheVariants as Wants
 use Rattle.rv_port.proofs.Controls.{act_kept}
 use Rattle.rv_port.proofs.control.Control.tick.Goals as goal
 

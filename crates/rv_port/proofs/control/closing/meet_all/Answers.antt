@@ -1,7 +1,7 @@
 use Rattle.std.proofs.Common.{rules, ◌≡◌, [], subst}
 use Rattle.rv_turn.specs.Passes.{Meets, Noted}
-use Rattle.rv_port.specs.Events.{by}
-use Rattle.rv_port.specs.declared.event.Event.{Event}
+use Rattle.rv_behind.specs.Events.{by}
+use Rattle.rv_behind.specs.declared.event.Event.{Event}
 use Rattle.rv_port.proofs.Closings.{one_met, all_met}
 use Rattle.rv_port.proofs.control.closing.meet_all.Goals as goal
 

@@ -2,7 +2,7 @@ use Rattle.std.proofs.Common.{subst}
 use Rattle.rv_turn.specs.Histories.{StartsWith}
 use Rattle.rv_turn.specs.Passes.{Noted}
 use Rattle.rv_turn.specs.Prefixes.{starts_both}
-use Rattle.rv_port.specs.declared.event.Event.{Event}
+use Rattle.rv_behind.specs.declared.event.Event.{Event}
 use Rattle.rv_port.proofs.Actors.{meet_handles}
 use Rattle.rv_port.proofs.Later.{no_earlier}
 use Rattle.rv_port.proofs.port.Port.told.Goals as goal

@@ -1,0 +1,357 @@
+-- What the host's calls do to the history behind the turn.
+use Rattle.std.proofs.Common.{◌≡◌, ℕ, length, map, arith, Bool, true, false, if◌then◌else◌, List, [], ◌∷◌, ◌++◌, reverse, Option, Some, None, refl, sym, ap, ◌∙◌, eqb, inl, inr, subst}
+use Rattle.std.specs.Prelude.{is_some}
+use Rattle.std.proofs.lemmas.Bool.{ne_eqb}
+use Rattle.std.proofs.lemmas.List.{reverse-append, length-append}
+use Rattle.rv_access.specs.Words.{Words}
+use Rattle.rv_access.specs.declared.change.Change.{Change}
+use Rattle.rv_shape.specs.Shape.{Shape}
+use Rattle.rv_shape.specs.Fits.{shape_fits}
+use Rattle.rv_event.specs.Past.{halted}
+use Rattle.rv_event.specs.Recorded.{recorded}
+use Rattle.rv_event.specs.declared.entry.Request.{Request}
+use Rattle.rv_event.specs.declared.entry.Answer.{Answer}
+use Rattle.rv_event.specs.declared.entry.Answer.TheVariants.{OutOfMemory, Misuse}
+use Rattle.rv_event.specs.declared.entry.Recorded.{Recorded}
+use Rattle.rv_event.specs.declared.entry.Entry.TheVariants.{Load, ListChange}
+use Rattle.rv_history.specs.declared.limits.Limits.{Limits}
+use Rattle.rv_history.specs.History.{History, force}
+use Rattle.rv_history.specs.Due.{out, gate, within, nothing_more}
+use Rattle.rv_history.specs.Owed.{has_room}
+use Rattle.rv_history.specs.Legal as legal
+use Rattle.rv_history.specs.Legal.{Legal, out_load, after_load}
+use Rattle.rv_history.specs.Lists.{changed}
+use Rattle.rv_history.specs.Steps.{MayLackMemory, due_change, after_change}
+use Rattle.std.specs.Arc.{arc_value}
+use Rattle.std.specs.Prelude.{IfSome}
+use Rattle.std.specs.List.{list_all}
+use Rattle.rv_code.specs.Bodies as Code
+use Rattle.rv_code.specs.declared.expression.Callee.{Callee}
+use Rattle.rv_fits.proofs.Both.{first_of_both, second_of_both, both_hold}
+use Rattle.rv_fits.proofs.Keeps.{calls_keep, alone_fits}
+use Rattle.rv_fits.specs.Calls.{object_calls, task_calls, every_call}
+use Rattle.rv_fits.specs.Fits.{callee_fits, calls_fit}
+use Rattle.rv_code.specs.BodyView.{unit_view}
+use Rattle.rv_code.specs.declared.body.UnitBodies.{UnitBodies}
+use Rattle.rv_exec.specs.Bodies.{all_of, bodies_view, held, shared_view, units_of}
+use Rattle.rv_exec.specs.declared.bodies.Bodies.{Bodies}
+use Rattle.rv_exec.specs.declared.bodies.SharedUnit.{SharedUnit}
+use Rattle.rv_behind.specs.declared.event.Lent.{Lent}
+use Rattle.rv_behind.specs.Events.{events, back_of, log_of, log_in, history_at, catalogue_of}
+use Rattle.rv_behind.specs.Acting.{AreBrought, entered, changes, listed, changed_to, Loaded, LoadedIf, fits_behind, Unloaded, Changed, IfOperator, IsLent, lent_view, Due, Does, begun_by}
+use Rattle.rv_behind.specs.declared.event.Begun.{Begun}
+use Rattle.rv_behind.specs.declared.event.Ask.{Ask}
+use Rattle.rv_behind.specs.declared.event.Ask.TheVariants as Wants
+use Rattle.rv_behind.specs.declared.event.Reply.{Reply}
+use Rattle.rv_behind.specs.declared.event.Reply.TheVariants as Gives
+use Rattle.rv_behind.specs.declared.event.Event.{Event}
+use Rattle.rv_behind.specs.declared.event.Event.TheVariants.{Asks, Loads, Lists}
+use Rattle.rv_behind.proofs.Zips.{newest, rebuilt, rebuilt_units}
+
+one_more : (es : List Event) (e : Event) → reverse (e ∷ es) ≡ reverse es ++ e ∷ []
+one_more es e = reverse-append (e ∷ []) es
+
+pub legal_log : (h : History) (us : List UnitBodies) → Legal h → Legal (history_at h.limits (log_of h us))
+legal_log h us l = subst (λ (z : History). Legal z) (sym (rebuilt h us l)) l
+
+-- the catalogue of the events is the host's
+pub catalogue_log : (h : History) (us : List UnitBodies) → Legal h → catalogue_of (log_of h us) ≡ h.shapes
+catalogue_log h us l = ap (λ (z : History). z.shapes) (rebuilt h us l)
+
+entered_log : (word : Option Recorded) (h : History) (us : List UnitBodies) (a : ℕ) (q : Request) → log_of (legal.entered h a q word) us ≡ entered (log_of h us) a q word
+entered_log None h us a q = refl
+entered_log (Some word) h us a q = one_more (back_of h us) (Asks a q word)
+
+views_of : (us : List SharedUnit) → map shared_view us ≡ map unit_view (map held us)
+views_of [] = refl
+views_of (u ∷ us) = ap (λ (z : List Code.UnitBodies). shared_view u ∷ z) (views_of us)
+
+-- what was lent are the bodies of the events
+lent_log : (h : History) (bodies : Bodies) (lent : Option Lent) → Legal h → AreBrought h bodies
+    → IfSome lent (λ l. bodies_view (arc_value l.bodies) ≡ bodies_view bodies) → IsLent (log_in h bodies) (lent_view lent)
+lent_log h bodies None l b same = tt
+lent_log h bodies (Some lent) l b same = (
+  same ∙ (ap all_of (views_of bodies.units.items) ∙ ap (λ (z : List UnitBodies). all_of (map unit_view z)) (sym (rebuilt_units h (units_of bodies) l b.count))),
+  (λ i. calls_fit (catalogue_log h (units_of bodies) l i) (same i)) ∙ b.fit,
+)
+
+-- the bodies are given
+pub given : (h : History) (bodies : Bodies) (a : ℕ) (lent : Option Lent) → Legal h → AreBrought h bodies → IfSome lent (λ l. bodies_view (arc_value l.bodies) ≡ bodies_view bodies)
+    → Does h.limits (log_in h bodies) a Wants.Bodies (Gives.Bodies lent) (log_in h bodies)
+given h bodies a lent l some kept = (legal_log h (units_of bodies) l, (lent_log h bodies lent l some kept, refl))
+
+pub stepped : (h k : History) (bodies : Bodies) (a : ℕ) (q : Request) (r : Answer) (b : Begun) (lent : Option Lent) → Legal h → AreBrought h bodies → r ≡ out h a q → k ≡ legal.after h a q r
+    → b ≡ begun_by k.shapes a q r → k.shapes ≡ h.shapes → IfSome lent (λ l. bodies_view (arc_value l.bodies) ≡ bodies_view bodies)
+    → Does h.limits (log_in h bodies) a (Wants.Step q) (Gives.Answered r b lent) (log_in k bodies)
+stepped h k bodies a q r b lent l some is e begun same kept = let us = units_of bodies in (
+  legal_log h us l,
+  (
+    (is ∙ ap (λ (z : History). out z a q) (sym (rebuilt h us l)), ap (λ (z : History). log_of z us) e ∙ entered_log (recorded r) h us a q),
+    begun ∙ ap (λ (z : List Shape). begun_by z a q r) (same ∙ sym (catalogue_log h us l)),
+    lent_log h bodies lent l some kept,
+  ),
+)
+
+entered_shapes : (word : Option Recorded) (h : History) (a : ℕ) (q : Request) → (legal.entered h a q word).shapes ≡ h.shapes
+entered_shapes None h a q = refl
+entered_shapes (Some word) h a q = refl
+
+pub step_shapes : (h k : History) (a : ℕ) (q : Request) (r : Answer) → k ≡ legal.after h a q r → k.shapes ≡ h.shapes
+step_shapes h k a q r e = ap (λ (z : History). z.shapes) e ∙ entered_shapes (recorded r) h a q
+
+-- the bodies of units after a load
+abbrev pub units_if : Bool → List UnitBodies → UnitBodies → List UnitBodies
+units_if b us unit = if b then us ++ unit ∷ [] else us
+
+loaded_log : (b : Bool) (h : History) (us : List UnitBodies) (shape : Shape) (unit : UnitBodies)
+    → log_of (if b then record h { past = Load ∷ h.past; shapes = h.shapes ++ shape ∷ [] } else h) (units_if b us unit) ≡ (if b then log_of h us ++ Loads shape (Some unit) ∷ [] else log_of h us)
+loaded_log false h us shape unit = refl
+loaded_log true h us shape unit =
+    ap reverse (λ i. events (Load ∷ h.past) (newest (h.shapes ++ shape ∷ []) h.shapes shape refl i) (newest (us ++ unit ∷ []) us unit refl i) (reverse h.lists))
+    ∙ one_more (back_of h us) (Loads shape (Some unit))
+
+pub loaded_is : (h k : History) (us vs : List UnitBodies) (shape : Shape) (unit : UnitBodies) (r : Answer) → Legal h → MayLackMemory (out_load h shape) r → k ≡ after_load h shape r
+    → vs ≡ units_if (is_some (recorded r)) us unit → Loaded h.limits (log_of h us) shape unit r (log_of k vs)
+loaded_is h k us vs shape unit r l m e is = (
+  subst (λ (z : History). MayLackMemory (out_load z shape) r) (sym (rebuilt h us l)) m,
+  (λ i. log_of (e i) (is i)) ∙ loaded_log (is_some (recorded r)) h us shape unit,
+)
+
+more_units : (b : Bool) (us vs : List UnitBodies) (unit : UnitBodies) → b ≡ true → vs ≡ us ++ unit ∷ [] → vs ≡ units_if b us unit
+more_units true us vs unit e is = is
+more_units false us vs unit e is = absurd (cc e)
+
+same_units : (b : Bool) (us : List UnitBodies) (unit : UnitBodies) → b ≡ false → us ≡ units_if b us unit
+same_units true us unit e = absurd (cc e)
+same_units false us unit e = refl
+
+-- a load that was recorded, and one that wasn't
+pub loaded_more : (h k : History) (us vs : List UnitBodies) (shape : Shape) (unit : UnitBodies) (r : Answer) → Legal h → MayLackMemory (out_load h shape) r → k ≡ after_load h shape r
+    → is_some (recorded r) ≡ true → vs ≡ us ++ unit ∷ [] → Loaded h.limits (log_of h us) shape unit r (log_of k vs)
+loaded_more h k us vs shape unit r l m e b is = loaded_is h k us vs shape unit r l m e (more_units (is_some (recorded r)) us vs unit b is)
+
+pub loaded_same : (h k : History) (us : List UnitBodies) (shape : Shape) (unit : UnitBodies) (r : Answer) → Legal h → MayLackMemory (out_load h shape) r → k ≡ after_load h shape r
+    → is_some (recorded r) ≡ false → Loaded h.limits (log_of h us) shape unit r (log_of k us)
+loaded_same h k us shape unit r l m e b = loaded_is h k us us shape unit r l m e (same_units (is_some (recorded r)) us unit b)
+
+-- one that there was no memory for is a load that wasn't accepted
+pub unloaded_loaded : (c : Limits) (log after : List Event) (shape : Shape) (unit : UnitBodies) (r : Answer) → Unloaded c log shape r after → Loaded c log shape unit r after
+unloaded_loaded c log after shape unit r d = (d.0, d.2 ∙ ap (λ (z : Option Recorded). if is_some z then log ++ Loads shape (Some unit) ∷ [] else log) (sym d.1))
+
+-- the same of one whose calls fit, and of one that wasn't accepted, whether they do or not
+pub loaded_if : (fits : Bool) (c : Limits) (log after : List Event) (shape : Shape) (unit : UnitBodies) (r : Answer) → fits ≡ true → Loaded c log shape unit r after → LoadedIf fits c log shape unit r after
+loaded_if true c log after shape unit r e d = d
+loaded_if false c log after shape unit r e d = absurd (cc e)
+
+pub unloaded_if : (fits : Bool) (c : Limits) (log after : List Event) (shape : Shape) (unit : UnitBodies) (r : Answer) → Unloaded c log shape r after → LoadedIf fits c log shape unit r after
+unloaded_if true c log after shape unit r d = unloaded_loaded c log after shape unit r d
+unloaded_if false c log after shape unit r d = d
+
+-- The calls of all bodies fit the units that are loaded
+
+all_first : {A : Type 0} (p : A → Bool) (xs ys : List A) → list_all p (xs ++ ys) ≡ true → list_all p xs ≡ true
+all_first p [] ys e = refl
+all_first p (x ∷ xs) ys e = both_hold (p x) (list_all p xs) (first_of_both (p x) (list_all p (xs ++ ys)) e) (all_first p xs ys (second_of_both (p x) (list_all p (xs ++ ys)) e))
+
+all_second : {A : Type 0} (p : A → Bool) (xs ys : List A) → list_all p (xs ++ ys) ≡ true → list_all p ys ≡ true
+all_second p [] ys e = e
+all_second p (x ∷ xs) ys e = all_second p xs ys (second_of_both (p x) (list_all p (xs ++ ys)) e)
+
+all_both : {A : Type 0} (p : A → Bool) (xs ys : List A) → list_all p xs ≡ true → list_all p ys ≡ true → list_all p (xs ++ ys) ≡ true
+all_both p [] ys e f = f
+all_both p (x ∷ xs) ys e f = both_hold (p x) (list_all p (xs ++ ys)) (first_of_both (p x) (list_all p xs) e) (all_both p xs ys (second_of_both (p x) (list_all p xs) e) f)
+
+objects_call : (such : Callee → Bool) (u : Code.UnitBodies) → every_call such u ≡ true → list_all (object_calls such) u.objects ≡ true
+objects_call such u e = first_of_both (list_all (object_calls such) u.objects) (list_all (task_calls such) u.tasks) e
+
+tasks_call : (such : Callee → Bool) (u : Code.UnitBodies) → every_call such u ≡ true → list_all (task_calls such) u.tasks ≡ true
+tasks_call such u e = second_of_both (list_all (object_calls such) u.objects) (list_all (task_calls such) u.tasks) e
+
+joined_call : (such : Callee → Bool) (u v : Code.UnitBodies) → every_call such u ≡ true → every_call such v ≡ true → every_call such (record { objects = u.objects ++ v.objects; tasks = u.tasks ++ v.tasks }) ≡ true
+joined_call such u v e f =
+    both_hold (list_all (object_calls such) (u.objects ++ v.objects)) (list_all (task_calls such) (u.tasks ++ v.tasks))
+    (all_both (object_calls such) u.objects v.objects (objects_call such u e) (objects_call such v f)) (all_both (task_calls such) u.tasks v.tasks (tasks_call such u e) (tasks_call such v f))
+
+parts_call : (such : Callee → Bool) (u v : Code.UnitBodies) → every_call such (record { objects = u.objects ++ v.objects; tasks = u.tasks ++ v.tasks }) ≡ true → (every_call such u ≡ true) × (every_call such v ≡ true)
+parts_call such u v e =
+    let objects = first_of_both (list_all (object_calls such) (u.objects ++ v.objects)) (list_all (task_calls such) (u.tasks ++ v.tasks)) e in
+    let tasks = second_of_both (list_all (object_calls such) (u.objects ++ v.objects)) (list_all (task_calls such) (u.tasks ++ v.tasks)) e in (
+      both_hold (list_all (object_calls such) u.objects) (list_all (task_calls such) u.tasks) (all_first (object_calls such) u.objects v.objects objects) (all_first (task_calls such) u.tasks v.tasks tasks),
+      both_hold (list_all (object_calls such) v.objects) (list_all (task_calls such) v.tasks) (all_second (object_calls such) u.objects v.objects objects) (all_second (task_calls such) u.tasks v.tasks tasks),
+    )
+
+units_call : (such : Callee → Bool) (us vs : List Code.UnitBodies) → every_call such (all_of us) ≡ true → every_call such (all_of vs) ≡ true → every_call such (all_of (us ++ vs)) ≡ true
+units_call such [] vs e f = f
+units_call such (u ∷ us) vs e f =
+    let parts = parts_call such u (all_of us) e in joined_call such u (all_of (us ++ vs)) parts.0 (units_call such us vs parts.1 f)
+
+one_calls : (such : Callee → Bool) (u : Code.UnitBodies) → every_call such u ≡ true → every_call such (all_of (u ∷ [])) ≡ true
+one_calls such u e = joined_call such u (all_of []) e refl
+
+view_is : (bodies : Bodies) → bodies_view bodies ≡ all_of (map unit_view (units_of bodies))
+view_is bodies = ap all_of (views_of bodies.units.items)
+
+views_more : (us : List UnitBodies) (unit : UnitBodies) → map unit_view (us ++ unit ∷ []) ≡ map unit_view us ++ unit_view unit ∷ []
+views_more [] unit = refl
+views_more (u ∷ us) unit = ap (λ (z : List Code.UnitBodies). unit_view u ∷ z) (views_more us unit)
+
+shapes_same : (b : Bool) (h : History) (shape : Shape) → b ≡ false → (if b then record h { past = Load ∷ h.past; shapes = h.shapes ++ shape ∷ [] } else h).shapes ≡ h.shapes
+shapes_same true h shape e = absurd (cc e)
+shapes_same false h shape e = refl
+
+shapes_more : (b : Bool) (h : History) (shape : Shape) → b ≡ true → (if b then record h { past = Load ∷ h.past; shapes = h.shapes ++ shape ∷ [] } else h).shapes ≡ h.shapes ++ shape ∷ []
+shapes_more true h shape e = refl
+shapes_more false h shape e = absurd (cc e)
+
+-- no bodies call anything
+pub none_fit : (all shapes : List Shape) (bodies : Bodies) → map unit_view (units_of bodies) ≡ map Code.without_bodies shapes → calls_fit all (bodies_view bodies) ≡ true
+none_fit all shapes bodies none = ap (λ (z : Code.UnitBodies). calls_fit all z) (view_is bodies ∙ ap all_of none) ∙ each shapes where
+  each : (ss : List Shape) → calls_fit all (all_of (map Code.without_bodies ss)) ≡ true
+  each [] = refl
+  each (s ∷ ss) = joined_call (callee_fits all) (Code.without_bodies s) (all_of (map Code.without_bodies ss)) (alone_fits all s) (each ss)
+
+-- they were found to fit
+pub fits_found : (h : History) (bodies : Bodies) (units : List Shape) (shape : Shape) (unit : UnitBodies) (r : Bool) → Legal h → units ≡ h.shapes ++ shape ∷ [] → r ≡ calls_fit units (unit_view unit) → r ≡ true
+    → fits_behind (log_in h bodies) shape unit ≡ true
+fits_found h bodies units shape unit r l more is e =
+    ap (λ (z : List Shape). calls_fit (z ++ shape ∷ []) (unit_view unit)) (catalogue_log h (units_of bodies) l)
+    ∙ (ap (λ (z : List Shape). calls_fit z (unit_view unit)) (sym more) ∙ (sym is ∙ e))
+
+fits_more : (h k : History) (bodies more : Bodies) (shape : Shape) (unit : UnitBodies) (r : Answer) → Legal h → calls_fit h.shapes (bodies_view bodies) ≡ true → fits_behind (log_in h bodies) shape unit ≡ true → k ≡ after_load h shape r
+    → is_some (recorded r) ≡ true → units_of more ≡ units_of bodies ++ unit ∷ [] → calls_fit k.shapes (bodies_view more) ≡ true
+fits_more h k bodies more shape unit r l old new e b is =
+    let shapes : List Shape = h.shapes ++ shape ∷ [] in
+    let these : calls_fit shapes (all_of (map unit_view (units_of bodies))) ≡ true = ap (λ (z : Code.UnitBodies). calls_fit shapes z) (sym (view_is bodies)) ∙ calls_keep h.shapes (shape ∷ []) (bodies_view bodies) old in
+    let this : calls_fit shapes (unit_view unit) ≡ true = ap (λ (z : List Shape). calls_fit (z ++ shape ∷ []) (unit_view unit)) (sym (catalogue_log h (units_of bodies) l)) ∙ new in
+    (λ i. calls_fit ((ap (λ (z : History). z.shapes) e ∙ shapes_more (is_some (recorded r)) h shape b) i) ((view_is more ∙ (ap (λ (z : List UnitBodies). all_of (map unit_view z)) is ∙ ap all_of (views_more (units_of bodies) unit))) i))
+    ∙ units_call (callee_fits shapes) (map unit_view (units_of bodies)) (unit_view unit ∷ []) these (one_calls (callee_fits shapes) (unit_view unit) this)
+
+fits_same : (h k : History) (bodies : Bodies) (shape : Shape) (r : Answer) → calls_fit h.shapes (bodies_view bodies) ≡ true → k ≡ after_load h shape r → is_some (recorded r) ≡ false → calls_fit k.shapes (bodies_view bodies) ≡ true
+fits_same h k bodies shape r fit e b = ap (λ (z : List Shape). calls_fit z (bodies_view bodies)) (ap (λ (z : History). z.shapes) e ∙ shapes_same (is_some (recorded r)) h shape b) ∙ fit
+
+fits_step : (h k : History) (bodies : Bodies) (a : ℕ) (q : Request) (r : Answer) → calls_fit h.shapes (bodies_view bodies) ≡ true → k ≡ legal.after h a q r → calls_fit k.shapes (bodies_view bodies) ≡ true
+fits_step h k bodies a q r fit e = ap (λ (z : List Shape). calls_fit z (bodies_view bodies)) (step_shapes h k a q r e) ∙ fit
+
+-- as many shapes as bodies of units, before and after
+shapes_if : (b : Bool) (h : History) (us : List UnitBodies) (shape : Shape) (unit : UnitBodies) → length us ≡ length h.shapes
+    → length (units_if b us unit) ≡ length (if b then record h { past = Load ∷ h.past; shapes = h.shapes ++ shape ∷ [] } else h).shapes
+shapes_if true h us shape unit e = omega (arith, e, length-append us (unit ∷ []), length-append h.shapes (shape ∷ []))
+shapes_if false h us shape unit e = e
+
+brought_more : (h k : History) (us vs : List UnitBodies) (shape : Shape) (unit : UnitBodies) (r : Answer) → length us ≡ length h.shapes → k ≡ after_load h shape r
+    → is_some (recorded r) ≡ true → vs ≡ us ++ unit ∷ [] → length vs ≡ length k.shapes
+brought_more h k us vs shape unit r some e b is =
+    ap length (more_units (is_some (recorded r)) us vs unit b is) ∙ (shapes_if (is_some (recorded r)) h us shape unit some ∙ sym (ap (λ (z : History). length z.shapes) e))
+
+brought_same : (h k : History) (us : List UnitBodies) (shape : Shape) (r : Answer) → length us ≡ length h.shapes → k ≡ after_load h shape r
+    → is_some (recorded r) ≡ false → length us ≡ length k.shapes
+brought_same h k us shape r some e b = some ∙ sym (ap (λ (z : History). length z.shapes) e ∙ unchanged (is_some (recorded r)) b) where
+  unchanged : (b : Bool) → b ≡ false → length (if b then record h { past = Load ∷ h.past; shapes = h.shapes ++ shape ∷ [] } else h).shapes ≡ length h.shapes
+  unchanged true e = absurd (cc e)
+  unchanged false e = refl
+
+brought_step : (h k : History) (us : List UnitBodies) (a : ℕ) (q : Request) (r : Answer) → length us ≡ length h.shapes → k ≡ legal.after h a q r → length us ≡ length k.shapes
+brought_step h k us a q r some e = some ∙ sym (ap length (step_shapes h k a q r e))
+
+listed_shapes : (b : Bool) (list : Option (List Words)) (h : History) → (if b then legal.listed h list else h).shapes ≡ h.shapes
+listed_shapes true None h = refl
+listed_shapes true (Some list) h = refl
+listed_shapes false list h = refl
+
+listed_limits : (is_kept : Bool) (list : Option (List Words)) (h : History) → (if is_kept then legal.listed h list else h).limits ≡ h.limits
+listed_limits true None h = refl
+listed_limits true (Some list) h = refl
+listed_limits false list h = refl
+
+-- a change of the list leaves the limits
+pub changed_limits : (h k : History) (change : Change) (r : Answer) → k ≡ after_change h change r → k.limits ≡ h.limits
+changed_limits h k change r e = ap (λ (z : History). z.limits) e ∙ listed_limits (is_some (recorded r)) (changed (force h) change) h
+
+brought_change : (h k : History) (us : List UnitBodies) (change : Change) (r : Answer) → length us ≡ length h.shapes → k ≡ after_change h change r → length us ≡ length k.shapes
+brought_change h k us change r some e = some ∙ sym (ap length (ap (λ (z : History). z.shapes) e ∙ listed_shapes (is_some (recorded r)) (changed (force h) change) h))
+
+fits_change : (h k : History) (bodies : Bodies) (change : Change) (r : Answer) → calls_fit h.shapes (bodies_view bodies) ≡ true → k ≡ after_change h change r → calls_fit k.shapes (bodies_view bodies) ≡ true
+fits_change h k bodies change r fit e =
+    ap (λ (z : List Shape). calls_fit z (bodies_view bodies)) (ap (λ (z : History). z.shapes) e ∙ listed_shapes (is_some (recorded r)) (changed (force h) change) h) ∙ fit
+
+-- both, after what the host does
+pub brings_more : (h k : History) (bodies more : Bodies) (shape : Shape) (unit : UnitBodies) (r : Answer) → Legal h → AreBrought h bodies → fits_behind (log_in h bodies) shape unit ≡ true → k ≡ after_load h shape r
+    → is_some (recorded r) ≡ true → units_of more ≡ units_of bodies ++ unit ∷ [] → AreBrought k more
+brings_more h k bodies more shape unit r l b new e kept is =
+    record { count = brought_more h k (units_of bodies) (units_of more) shape unit r b.count e kept is; fit = fits_more h k bodies more shape unit r l b.fit new e kept is }
+
+pub brings_same : (h k : History) (bodies : Bodies) (shape : Shape) (r : Answer) → AreBrought h bodies → k ≡ after_load h shape r → is_some (recorded r) ≡ false → AreBrought k bodies
+brings_same h k bodies shape r b e kept = record { count = brought_same h k (units_of bodies) shape r b.count e kept; fit = fits_same h k bodies shape r b.fit e kept }
+
+pub brings_step : (h k : History) (bodies : Bodies) (a : ℕ) (q : Request) (r : Answer) → AreBrought h bodies → k ≡ legal.after h a q r → AreBrought k bodies
+brings_step h k bodies a q r b e = record { count = brought_step h k (units_of bodies) a q r b.count e; fit = fits_step h k bodies a q r b.fit e }
+
+pub brings_change : (h k : History) (bodies : Bodies) (change : Change) (r : Answer) → AreBrought h bodies → k ≡ after_change h change r → AreBrought k bodies
+brings_change h k bodies change r b e = record { count = brought_change h k (units_of bodies) change r b.count e; fit = fits_change h k bodies change r b.fit e }
+
+-- a load that is due to be recorded is due to be accepted
+gate_kept : (b c d : Bool) → is_some (recorded (gate b c (within d nothing_more))) ≡ true → gate b c (within d nothing_more) ≡ nothing_more
+gate_kept true false true e = refl
+gate_kept true false false e = absurd (cc e)
+gate_kept true true d e = absurd (cc e)
+gate_kept false c d e = absurd (cc e)
+
+load_kept : (h : History) (shape : Shape) → is_some (recorded (out_load h shape)) ≡ true → out_load h shape ≡ nothing_more
+load_kept h shape e = gate_kept (shape_fits h.shapes shape) (halted h.past) (has_room h.limits.capacity (h.shapes ++ shape ∷ []) (Load ∷ h.past)) e
+
+not_kept : (r : Option Recorded) → is_some r ≡ false → r ≡ None
+not_kept None e = refl
+not_kept (Some w) e = absurd (cc e)
+
+-- a load that there is no memory for
+pub unloaded_due : (h : History) (us : List UnitBodies) (shape : Shape) (r : Answer) → Legal h → r ≡ out_load h shape → is_some (recorded r) ≡ false → Unloaded h.limits (log_of h us) shape r (log_of h us)
+unloaded_due h us shape r l is e =
+    (subst (λ (z : History). MayLackMemory (out_load z shape) r) (sym (rebuilt h us l)) (inl is), not_kept (recorded r) e, refl)
+
+pub unloaded_lack : (h : History) (us : List UnitBodies) (shape : Shape) (r : Answer) → Legal h → r ≡ out_load h shape → is_some (recorded r) ≡ true → Unloaded h.limits (log_of h us) shape OutOfMemory (log_of h us)
+unloaded_lack h us shape r l is e = (
+  subst (λ (z : History). MayLackMemory (out_load z shape) OutOfMemory) (sym (rebuilt h us l)) (inr (refl, load_kept h shape (ap (λ (z : Answer). is_some (recorded z)) (sym is) ∙ e))),
+  refl,
+  refl,
+)
+
+listed_log : (list : Option (List Words)) (h : History) (us : List UnitBodies) → log_of (legal.listed h list) us ≡ listed (log_of h us) list
+listed_log None h us = refl
+listed_log (Some list) h us =
+    ap reverse (λ i. events (ListChange ∷ h.past) (reverse h.shapes) (reverse us) (newest (h.lists ++ list ∷ []) h.lists list refl i))
+    ∙ one_more (back_of h us) (Lists list)
+
+changed_log : (b : Bool) (list : Option (List Words)) (h : History) (us : List UnitBodies)
+    → log_of (if b then legal.listed h list else h) us ≡ (if b then listed (log_of h us) list else log_of h us)
+changed_log true list h us = listed_log list h us
+changed_log false list h us = refl
+
+pub changed_is : (h k : History) (us : List UnitBodies) (change : Change) (r : Answer) → Legal h → MayLackMemory (due_change h change) r → k ≡ after_change h change r
+    → Changed h.limits (log_of h us) change r (log_of k us)
+changed_is h k us change r l m e = let same : h ≡ history_at h.limits (log_of h us) = sym (rebuilt h us l) in (
+  subst (λ (z : History). MayLackMemory (due_change z change) r) same m,
+  ap (λ (z : History). log_of z us) e ∙ changed_log (is_some (recorded r)) (changed (force h) change) h us
+      ∙ ap (λ (z : History). changed_to (log_of h us) (changed (force z) change) r) same,
+)
+
+-- an ask of an actor
+pub does_ask : (h : History) (us : List UnitBodies) (a : ℕ) (ask wanted : Ask) (reply : Reply) (after : List Event) → ask ≡ wanted → Legal h → Due h.limits (log_of h us) a wanted reply after
+    → Does h.limits (log_of h us) a ask reply after
+does_ask h us a ask wanted reply after is l d = subst (λ (z : Ask). Does h.limits (log_of h us) a z reply after) (sym is) (legal_log h us l, d)
+
+-- what only the operator may ask
+misused : (b : Bool) (does : Type 0) (log : List Event) → b ≡ false → IfOperator b does Misuse log log
+misused true does log e = absurd (cc e)
+misused false does log e = (refl, refl)
+
+misused_due : (c : Limits) (log : List Event) (a : ℕ) (ask : Ask) (b : Begun) → changes ask ≡ true → eqb a 0 ≡ false → Due c log a ask (Gives.Answered Misuse b None) log
+misused_due c log a (Wants.Step q) b t e = absurd (cc t)
+misused_due c log a (Wants.Read from) b t e = absurd (cc t)
+misused_due c log a Wants.Bodies b t e = absurd (cc t)
+misused_due c log a (Wants.Load s unit) b t e = misused (eqb a 0) _ log e
+misused_due c log a (Wants.LoadWithoutMemory s) b t e = misused (eqb a 0) _ log e
+misused_due c log a (Wants.Change s) b t e = misused (eqb a 0) _ log e
+
+pub does_misuse : (h : History) (us : List UnitBodies) (a : ℕ) (ask : Ask) (b : Begun) → changes ask ≡ true → Legal h → (a ≡ 0 → ⊥)
+    → Does h.limits (log_of h us) a ask (Gives.Answered Misuse b None) (log_of h us)
+does_misuse h us a ask b t l n = (legal_log h us l, misused_due h.limits (log_of h us) a ask b t (ne_eqb a 0 n))

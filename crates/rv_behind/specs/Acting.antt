@@ -1,0 +1,203 @@
+-- What an act of the host behind the turn may do. (own)
+use Rattle.std.specs.Prelude.{◌≡◌, ℕ, Bool, true, false, ◌==◌, if◌then◌else◌, List, [], ◌∷◌, ◌++◌, Option, Some, None, is_some, length}
+use Rattle.std.proofs.Common.{inl, inr, refl, sym, eqb}
+use Rattle.std.proofs.lemmas.Bool.{eqb-true}
+use Rattle.rv_access.specs.Words.{Words}
+use Rattle.rv_access.specs.declared.change.Change.{Change}
+use Rattle.rv_shape.specs.Shape.{Shape}
+use Rattle.rv_event.specs.Recorded.{recorded}
+use Rattle.rv_event.specs.declared.entry.Request.{Request}
+use Rattle.rv_event.specs.declared.entry.Answer.{Answer}
+use Rattle.rv_event.specs.declared.entry.Answer.TheVariants as Answers
+use Rattle.rv_event.specs.declared.entry.Recorded.{Recorded}
+use Rattle.rv_history.specs.declared.limits.Limits.{Limits}
+use Rattle.rv_history.specs.History.{History, force}
+use Rattle.rv_history.specs.Due.{out}
+use Rattle.rv_history.specs.Legal.{Legal, out_load}
+use Rattle.rv_history.specs.Lists.{changed}
+use Rattle.rv_history.specs.Steps.{MayLackMemory, due_change}
+use Rattle.rv_host.specs.Pages.{page}
+use Rattle.rv_turn.specs.Histories.{Adds}
+use Rattle.std.specs.Arc.{arc_value}
+use Rattle.rv_code.specs.Bodies as Code
+use Rattle.rv_code.specs.BodyView.{unit_view}
+use Rattle.rv_code.specs.declared.body.UnitBodies.{UnitBodies}
+use Rattle.rv_fits.specs.Fits.{calls_fit}
+use Rattle.rv_exec.specs.Bodies.{bodies_view, held, units_of}
+use Rattle.rv_exec.specs.declared.bodies.Bodies.{Bodies}
+use Rattle.rv_behind.specs.Events.{by, history_at, catalogue_of, bodies_at, called, no_operation}
+use Rattle.rv_behind.specs.declared.event.Lent.{Lent}
+use Rattle.rv_behind.specs.declared.event.Begun.{Begun}
+use Rattle.rv_behind.specs.declared.event.Event.{Event}
+use Rattle.rv_behind.specs.declared.event.Event.TheVariants.{Asks, Loads, Lists}
+use Rattle.rv_behind.specs.declared.event.Ask.{Ask}
+use Rattle.rv_behind.specs.declared.event.Ask.TheVariants as Wants
+use Rattle.rv_behind.specs.declared.event.Reply.{Reply}
+use Rattle.rv_behind.specs.declared.event.Reply.TheVariants as Gives
+
+-- the history with the event of a recorded answer (own)
+abbrev pub entered : List Event → ℕ → Request → Option Recorded → List Event
+entered log actor request None = log
+entered log actor request (Some word) = log ++ Asks actor request word ∷ []
+
+-- a recorded answer adds its event, another adds none (own)
+abbrev pub grown : List Event → ℕ → Request → Answer → List Event
+grown log actor request answer = entered log actor request (recorded answer)
+
+abbrev pub loaded : List Event → Shape → UnitBodies → Answer → List Event
+loaded log shape unit answer = if is_some (recorded answer) then log ++ Loads shape (Some unit) ∷ [] else log
+
+abbrev pub listed : List Event → Option (List Words) → List Event
+listed log None = log
+listed log (Some list) = log ++ Lists list ∷ []
+
+abbrev pub changed_to : List Event → Option (List Words) → Answer → List Event
+changed_to log list answer = if is_some (recorded answer) then listed log list else log
+
+-- the operation whose body an answer to a request starts (9.5.1, C.3)
+abbrev pub begun_by : List Shape → ℕ → Request → Answer → Begun
+begun_by shapes actor request (Answers.Started values) = called shapes actor request
+begun_by shapes actor request answer = no_operation
+
+-- the answer to a request, and the history after it (own)
+abbrev pub Stepped : Limits → List Event → ℕ → Request → Answer → List Event → Type 0
+Stepped c log a q r after = (r ≡ out (history_at c log) a q) × (after ≡ grown log a q r)
+
+-- the answer to a load (own)
+abbrev pub Loaded : Limits → List Event → Shape → UnitBodies → Answer → List Event → Type 0
+Loaded c log shape unit r after = MayLackMemory (out_load (history_at c log) shape) r × (after ≡ loaded log shape unit r)
+
+-- the same, where it can't be accepted for want of memory (own)
+abbrev pub Unloaded : Limits → List Event → Shape → Answer → List Event → Type 0
+Unloaded c log shape r after =
+    MayLackMemory (out_load (history_at c log) shape) r × (recorded r ≡ None) × (after ≡ log)
+
+-- a load of a unit whose calls fit; one whose calls do not is answered as one that there is no memory for (own)
+abbrev pub LoadedIf : Bool → Limits → List Event → Shape → UnitBodies → Answer → List Event → Type 0
+LoadedIf true c log shape unit r after = Loaded c log shape unit r after
+LoadedIf false c log shape unit r after = Unloaded c log shape r after
+
+-- the calls of a unit's bodies fit the units of this history, with its own (own)
+abbrev pub fits_behind : List Event → Shape → UnitBodies → Bool
+fits_behind log shape unit = calls_fit (catalogue_of log ++ shape ∷ []) (unit_view unit)
+
+-- Each unit of the host has bodies, and the calls of all bodies fit the units. (own)
+pub record AreBrought (h : History) (bodies : Bodies) : Type 0 where
+  pub count : length (units_of bodies) ≡ length h.shapes
+  pub fit : calls_fit h.shapes (bodies_view bodies) ≡ true
+
+-- the answer to a list change (own)
+abbrev pub Changed : Limits → List Event → Change → Answer → List Event → Type 0
+Changed c log change r after =
+    MayLackMemory (due_change (history_at c log) change) r
+    × (after ≡ changed_to log (changed (force (history_at c log)) change) r)
+
+-- what only the operator may ask: a load, or a change of the list (own)
+abbrev pub changes : Ask → Bool
+changes (Wants.Step q) = false
+changes (Wants.Read from) = false
+changes Wants.Bodies = false
+changes ask = true
+
+-- to another it is Misuse, and changes nothing (own)
+abbrev pub IfOperator : Bool → Type 0 → Answer → List Event → List Event → Type 0
+IfOperator true does r log after = does
+IfOperator false does r log after = (r ≡ Answers.Misuse) × (after ≡ log)
+
+-- The bodies that a port is lent are those of all units loaded then, whose calls fit these units; none where there were too
+-- many holders of them. (own)
+abbrev pub IsLent : List Event → Option Code.UnitBodies → Type 0
+IsLent log None = Unit {0}
+IsLent log (Some bodies) = (bodies ≡ bodies_at log) × (calls_fit (catalogue_of log) bodies ≡ true)
+
+-- the bodies that an answer brings, if it does (own)
+abbrev pub lent_view : Option Lent → Option Code.UnitBodies
+lent_view None = None
+lent_view (Some lent) = Some (bodies_view (arc_value lent.bodies))
+
+-- what is due to an ask, on a legal history (own)
+abbrev pub Due : Limits → List Event → ℕ → Ask → Reply → List Event → Type 0
+Due c log a (Wants.Step q) (Gives.Answered r b lent) after =
+    Stepped c log a q r after × (b ≡ begun_by (catalogue_of log) a q r) × IsLent log (lent_view lent)
+Due c log a (Wants.Load shape unit) (Gives.Answered r b lent) after =
+    IfOperator (a == 0) (LoadedIf (fits_behind log shape (held unit)) c log shape (held unit) r after) r log after
+Due c log a (Wants.LoadWithoutMemory shape) (Gives.Answered r b lent) after =
+    IfOperator (a == 0) (Unloaded c log shape r after) r log after
+Due c log a (Wants.Change change) (Gives.Answered r b lent) after =
+    IfOperator (a == 0) (Changed c log change r after) r log after
+Due c log a (Wants.Read from) (Gives.Read p) after = (p ≡ page (history_at c log) from) × (after ≡ log)
+Due c log a (Wants.Read from) Gives.Unread after = after ≡ log
+Due c log a Wants.Bodies (Gives.Bodies lent) after = IsLent log (lent_view lent) × (after ≡ log)
+Due c log a ask reply after = ⊥
+
+-- an act of the host behind the turn (own)
+abbrev pub Does : Limits → List Event → ℕ → Ask → Reply → List Event → Type 0
+Does limits log a ask reply after = Legal (history_at limits log) × Due limits log a ask reply after
+
+-- The law: one event of the actor more, or none
+
+entered_adds : (word : Option Recorded) (log : List Event) (a : ℕ) (q : Request) (after : List Event) → after ≡ entered log a q word → Adds by log a after
+entered_adds None log a q after e = inl e
+entered_adds (Some word) log a q after e = inr (Asks a q word, e, refl)
+
+loaded_adds : (b : Bool) (log : List Event) (a : ℕ) (shape : Shape) (unit : UnitBodies) (after : List Event) → 0 ≡ a
+    → after ≡ (if b then log ++ Loads shape (Some unit) ∷ [] else log) → Adds by log a after
+loaded_adds true log a shape unit after is e = inr (Loads shape (Some unit), e, is)
+loaded_adds false log a shape unit after is e = inl e
+
+listed_adds : (list : Option (List Words)) (log : List Event) (a : ℕ) (after : List Event) → 0 ≡ a → after ≡ listed log list → Adds by log a after
+listed_adds None log a after is e = inl e
+listed_adds (Some list) log a after is e = inr (Lists list, e, is)
+
+changed_adds : (b : Bool) (list : Option (List Words)) (log : List Event) (a : ℕ) (after : List Event) → 0 ≡ a
+    → after ≡ (if b then listed log list else log) → Adds by log a after
+changed_adds true list log a after is e = listed_adds list log a after is e
+changed_adds false list log a after is e = inl e
+
+load_adds : (b fits : Bool) (c : Limits) (log : List Event) (a : ℕ) (shape : Shape) (unit : UnitBodies) (r : Answer) (after : List Event) → (b ≡ true → 0 ≡ a)
+    → IfOperator b (LoadedIf fits c log shape unit r after) r log after → Adds by log a after
+load_adds true true c log a shape unit r after is d = loaded_adds (is_some (recorded r)) log a shape unit after (is refl) d.1
+load_adds true false c log a shape unit r after is d = inl d.2
+load_adds false fits c log a shape unit r after is d = inl d.1
+
+unload_adds : (b : Bool) (c : Limits) (log : List Event) (a : ℕ) (shape : Shape) (r : Answer) (after : List Event)
+    → IfOperator b (Unloaded c log shape r after) r log after → Adds by log a after
+unload_adds true c log a shape r after d = inl d.2
+unload_adds false c log a shape r after d = inl d.1
+
+change_adds : (b : Bool) (c : Limits) (log : List Event) (a : ℕ) (change : Change) (r : Answer) (after : List Event) → (b ≡ true → 0 ≡ a)
+    → IfOperator b (Changed c log change r after) r log after → Adds by log a after
+change_adds true c log a change r after is d = changed_adds (is_some (recorded r)) (changed (force (history_at c log)) change) log a after (is refl) d.1
+change_adds false c log a change r after is d = inl d.1
+
+is_zero : (a : ℕ) → eqb a 0 ≡ true → 0 ≡ a
+is_zero a e = sym (eqb-true a 0 e)
+
+due_adds : (c : Limits) (log : List Event) (a : ℕ) (ask : Ask) (reply : Reply) (after : List Event) → Due c log a ask reply after → Adds by log a after
+due_adds c log a (Wants.Step q) (Gives.Answered r b lent) after d = entered_adds (recorded r) log a q after d.0.1
+due_adds c log a (Wants.Load shape unit) (Gives.Answered r b lent) after d = load_adds (eqb a 0) (fits_behind log shape (held unit)) c log a shape (held unit) r after (is_zero a) d
+due_adds c log a (Wants.LoadWithoutMemory shape) (Gives.Answered r b lent) after d = unload_adds (eqb a 0) c log a shape r after d
+due_adds c log a (Wants.Change change) (Gives.Answered r b lent) after d = change_adds (eqb a 0) c log a change r after (is_zero a) d
+due_adds c log a (Wants.Read from) (Gives.Read p) after d = inl d.1
+due_adds c log a (Wants.Read from) Gives.Unread after d = inl d
+due_adds c log a (Wants.Read from) (Gives.Answered r b lent) after d = absurd d
+due_adds c log a (Wants.Step q) (Gives.Read p) after d = absurd d
+due_adds c log a (Wants.Step q) Gives.Unread after d = absurd d
+due_adds c log a (Wants.Load shape unit) (Gives.Read p) after d = absurd d
+due_adds c log a (Wants.Load shape unit) Gives.Unread after d = absurd d
+due_adds c log a (Wants.LoadWithoutMemory shape) (Gives.Read p) after d = absurd d
+due_adds c log a (Wants.LoadWithoutMemory shape) Gives.Unread after d = absurd d
+due_adds c log a (Wants.Change change) (Gives.Read p) after d = absurd d
+due_adds c log a (Wants.Change change) Gives.Unread after d = absurd d
+due_adds c log a (Wants.Step q) (Gives.Bodies lent) after d = absurd d
+due_adds c log a (Wants.Load shape unit) (Gives.Bodies lent) after d = absurd d
+due_adds c log a (Wants.LoadWithoutMemory shape) (Gives.Bodies lent) after d = absurd d
+due_adds c log a (Wants.Change change) (Gives.Bodies lent) after d = absurd d
+due_adds c log a (Wants.Read from) (Gives.Bodies lent) after d = absurd d
+due_adds c log a Wants.Bodies (Gives.Answered r b lent) after d = absurd d
+due_adds c log a Wants.Bodies (Gives.Read p) after d = absurd d
+due_adds c log a Wants.Bodies Gives.Unread after d = absurd d
+due_adds c log a Wants.Bodies (Gives.Bodies lent) after d = inl d.1
+
+pub adds : (limits : Limits) (log : List Event) (a : ℕ) (ask : Ask) (reply : Reply) (after : List Event) → Does limits log a ask reply after → Adds by log a after
+adds limits log a ask reply after d = due_adds limits log a ask reply after d.1

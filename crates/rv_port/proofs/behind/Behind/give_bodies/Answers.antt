@@ -1,8 +1,0 @@
-use Rattle.std.proofs.Common.{subst}
-use Rattle.rv_history.specs.Legal.{Legal}
-use Rattle.std.specs.Arc.{arc_value}
-use Rattle.rv_port.proofs.Doing.{given}
-use Rattle.rv_port.proofs.behind.Behind.give_bodies.Goals as goal
-
-pub returns : goal.returns
-returns c = given c.args.self.now.host.value (arc_value c.args.self.now.bodies) c.args.actor c.share.result (subst Legal c.deref.ensures c.replays.ensures.legal) c.args.self.now.brought c.share.ensures
