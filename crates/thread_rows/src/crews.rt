@@ -5,6 +5,7 @@ mod changes;
 mod journal;
 mod plant;
 mod starts;
+mod storm;
 mod threads;
 mod three_calls;
 mod told_revoke;
@@ -47,6 +48,18 @@ fn tell<R: Print + AllocGlobal>(rt: &R, name: &str, closed: Option<Closed>) -> i
     }
 }
 
+// Tells of the storm.
+fn tell_storm<R: Threads + Wait + AllocGlobal + Print>(rt: &R, hands: &Hands) -> io::Result<()> {
+    let seen = match storm::blow(rt, hands) {
+        Some(storm) => storm::seen(rt.alloc(), &storm),
+        None => None,
+    };
+    match seen {
+        Some(text) => println!(rt; "storm: {text}"),
+        None => println!(rt; "storm: failed"),
+    }
+}
+
 /// Plays all games.
 pub fn play_all<R: Threads + Wait + AllocGlobal + Print>(rt: &R, hands: &Hands) -> io::Result<()> {
     tell(rt, "device_calls_three", three_calls::play(rt, hands))?;
@@ -54,5 +67,6 @@ pub fn play_all<R: Threads + Wait + AllocGlobal + Print>(rt: &R, hands: &Hands) 
     tell(rt, "told_revoke_is_seen", told_revoke::play(rt, hands))?;
     tell(rt, "second_start_fails", starts::second_fails(rt, hands))?;
     tell(rt, "given_up_port_is_lost", starts::given_up(rt))?;
-    tell(rt, "finishes_without_a_call", starts::no_call(rt, hands))
+    tell(rt, "finishes_without_a_call", starts::no_call(rt, hands))?;
+    tell_storm(rt, hands)
 }
