@@ -5,6 +5,8 @@ ghost use Rattle.std.specs.Prelude.{◌≡◌};
 ghost use Rattle.rv_behind.specs.contracts.event.Event as e;
 ghost use Rattle.rv_staff.specs.Hiring.{hired};
 
+use crate::crews::two_readers::{FirstReader, SecondReader, read_first, read_second};
+use crate::crews::{Caller, call_valve};
 use rv_crew::crew::Crew;
 use rv_port::port::{Finished, Port};
 use rv_staff::{HireFault, Hires, Work, perform};
@@ -15,6 +17,12 @@ use std::sync::Wait;
 pub enum Role {
     /// What the threads of a run do.
     Work(Work),
+    /// It reads, and its body is held open.
+    FirstReader(FirstReader),
+    /// It reads meanwhile.
+    SecondReader(SecondReader),
+    /// It calls, and tells what each call came to.
+    Caller(Caller),
 }
 
 /// Does what a role says, and finishes the port.
@@ -23,6 +31,9 @@ pub fn act<R: Wait>(rt: &R, port: Port, role: Role) -> Finished
 {
     match role {
         Role::Work(work) => perform(rt, port, work),
+        Role::FirstReader(reader) => read_first(rt, port, reader),
+        Role::SecondReader(reader) => read_second(rt, port, reader),
+        Role::Caller(caller) => call_valve(rt, port, caller),
     }
 }
 

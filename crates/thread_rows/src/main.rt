@@ -1,9 +1,10 @@
-//! Worked rows on threads: games of ports, and runs, each kind under a heading.
+//! Worked rows on threads: games of ports, jobs of a crew, and runs, each kind under a heading.
 #![tactic(auto)]
 
 ghost use Rattle.std.specs.Prelude.{◌≡◌};
 ghost use Rattle.rv_staff.specs.Hiring.{hired};
 
+mod crews;
 mod hands;
 mod host;
 mod ports;
@@ -29,6 +30,8 @@ where
 {
     println!(rt; "# Games of ports")?;
     ports::play_all(rt)?;
+    println!(rt; "# Jobs of a crew")?;
+    crews::play_all(rt, hands)?;
     println!(rt; "# Runs")?;
     runs::play_all(rt, hands)
 }

@@ -1,0 +1,72 @@
+//! Jobs of a crew: prints the journal of each game, whose ports came back, and whose were lost.
+
+mod caller;
+mod changes;
+mod journal;
+mod plant;
+mod starts;
+mod storm;
+mod threads;
+mod three_calls;
+mod told_revoke;
+pub mod two_readers;
+mod waiting;
+
+use crate::hands::Hands;
+pub use caller::{Caller, call_valve};
+use journal::Journal;
+use rv_crew::crew::Closed;
+use std::alloc::Global;
+use std::io;
+use std::sync::Wait;
+use std::thread::Threads;
+
+// Tells of actors, each in a line.
+fn tell_each<R: Print>(rt: &R, word: &str, actors: &[u64]) -> io::Result<()> {
+    for actor in actors {
+        println!(rt; "{word}: actor {actor}")?;
+    }
+    Ok(())
+}
+
+// Tells of a crew that was closed.
+fn tell_closed<R: Print>(rt: &R, alloc: Global, closed: &Closed) -> io::Result<()> {
+    if let Ok(journal) = Journal::of(alloc, &closed.host) {
+        let text = journal.text.as_str();
+        print!(rt; "{text}")?;
+    }
+    tell_each(rt, "came back", &closed.finished)?;
+    tell_each(rt, "lost", &closed.lost)
+}
+
+// Tells of a game.
+fn tell<R: Print + AllocGlobal>(rt: &R, name: &str, closed: Option<Closed>) -> io::Result<()> {
+    println!(rt; "{name}")?;
+    match closed {
+        Some(closed) => tell_closed(rt, rt.alloc(), &closed),
+        None => println!(rt; "failed"),
+    }
+}
+
+// Tells of the storm.
+fn tell_storm<R: Threads + Wait + AllocGlobal + Print>(rt: &R, hands: &Hands) -> io::Result<()> {
+    let seen = match storm::blow(rt, hands) {
+        Some(storm) => storm::seen(rt.alloc(), &storm),
+        None => None,
+    };
+    match seen {
+        Some(text) => println!(rt; "storm: {text}"),
+        None => println!(rt; "storm: failed"),
+    }
+}
+
+/// Plays all games.
+pub fn play_all<R: Threads + Wait + AllocGlobal + Print>(rt: &R, hands: &Hands) -> io::Result<()> {
+    tell(rt, "device_calls_three", three_calls::play(rt, hands))?;
+    tell(rt, "two_readers_at_once", two_readers::play(rt, hands))?;
+    tell(rt, "told_revoke_is_seen", told_revoke::play(rt, hands))?;
+    tell(rt, "second_start_fails", starts::second_fails(rt, hands))?;
+    tell(rt, "given_up_port_is_lost", starts::given_up(rt))?;
+    tell(rt, "finishes_without_a_call", starts::no_call(rt, hands))?;
+    tell_storm(rt, hands)
+}

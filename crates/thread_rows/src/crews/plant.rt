@@ -1,0 +1,114 @@
+//! The hosts of the crews: a plant with a valve, whose bodies come from its text, and tasks and devices beside it.
+
+use crate::host::{control_with, new_control};
+use rv_access::read_list;
+use rv_fault::unit_of;
+use rv_port::control::Control;
+use rv_shape::reading::read_shape;
+use std::alloc::Global;
+use std::sync::Wait;
+
+/// The number of the first task.
+pub const FIRST: u64 = 11;
+
+/// How many entries the storm's journal has room for.
+pub const STORM_CAPACITY: usize = 65_536;
+
+// Object 1, Valve: 1 Get, 2 Add, 3 Wait.
+const PLANT: &str = "package Plant is
+   protected Valve with Priority => 20 is
+      function Get return Integer;
+      procedure Add (N : in Integer);
+      entry Wait (N : out Integer);
+   private
+      Ready : Boolean := False;
+      Level : Integer := 0;
+   end Valve;
+end Plant;
+package body Plant is
+   protected body Valve is
+      function Get return Integer is begin return Level; end Get;
+      procedure Add (N : in Integer) is begin
+         Level := Level + N; Ready := Level > 5;
+      end Add;
+      entry Wait (N : out Integer) when Ready is begin
+         N := Level; Ready := False;
+      end Wait;
+   end Valve;
+end Plant;
+";
+
+// Tasks 11 and 12.
+const NAV: &str = "with Plant;
+package Nav is
+   task Pilot;
+   task Aux;
+end Nav;
+package body Nav is
+   task body Pilot is X : Integer; begin Plant.Valve.Wait (X); end Pilot;
+   task body Aux is begin Plant.Valve.Add (4); Plant.Valve.Add (4); end Aux;
+end Nav;
+";
+
+// Task 11.
+const DEVICE: &str = "unit Dev\ntask Main 15\n";
+
+// Tasks 11 to 18.
+const STORM: &str = "unit Storm
+task One 15
+task Two 15
+task Three 15
+task Four 15
+task Five 15
+task Six 15
+task Seven 15
+task Eight 15
+";
+
+// Loads the unit of a text.
+fn load_text<R: Wait>(rt: &R, alloc: Global, control: &mut Control, text: &str) -> Option<()> {
+    let unit = unit_of(alloc, control.catalogue(), 1, text).ok()?;
+    let _ = control.load(rt, unit);
+    Some(())
+}
+
+// Loads a shape.
+fn load_shape<R: Wait>(rt: &R, alloc: Global, control: &mut Control, text: &str) -> Option<()> {
+    let shape = read_shape(alloc, text).ok()?;
+    let _ = control.load_shape(rt, shape);
+    Some(())
+}
+
+// Lets everybody call everything.
+fn allow_all<R: Wait>(rt: &R, alloc: Global, control: &mut Control) -> Option<()> {
+    let list = read_list(alloc, "allow * * *\n").ok()?;
+    let _ = control.set_list(rt, list);
+    Some(())
+}
+
+/// The plant, and two tasks beside it.
+pub fn with_tasks<R: Wait>(rt: &R, alloc: Global) -> Option<Control> {
+    let mut control = new_control(alloc)?;
+    load_text(rt, alloc, &mut control, PLANT)?;
+    load_text(rt, alloc, &mut control, NAV)?;
+    allow_all(rt, alloc, &mut control)?;
+    Some(control)
+}
+
+/// The plant, and a device that is loaded behind the list.
+pub fn with_device<R: Wait>(rt: &R, alloc: Global) -> Option<Control> {
+    let mut control = new_control(alloc)?;
+    load_text(rt, alloc, &mut control, PLANT)?;
+    allow_all(rt, alloc, &mut control)?;
+    load_shape(rt, alloc, &mut control, DEVICE)?;
+    Some(control)
+}
+
+/// The plant, and eight tasks beside it.
+pub fn with_storm<R: Wait>(rt: &R, alloc: Global) -> Option<Control> {
+    let mut control = control_with(alloc, STORM_CAPACITY)?;
+    load_text(rt, alloc, &mut control, PLANT)?;
+    load_shape(rt, alloc, &mut control, STORM)?;
+    allow_all(rt, alloc, &mut control)?;
+    Some(control)
+}
