@@ -6,7 +6,7 @@ use Rattle.crossbeam_channel.specs.Fifo.{Pushes, Pops, Forks}
 use Rattle.atomic_table.specs.Seated.{TableId}
 use Rattle.rv_turn.specs.Histories.{Each}
 use Rattle.rv_turn.specs.Passes.{Noted}
-use Rattle.rv_port.specs.declared.event.Event.{Event}
+use Rattle.rv_behind.specs.declared.event.Event.{Event}
 use Rattle.thread_rows.specs.OneTurn.{IsFor, AreOfOne}
 
 -- what an end knows
