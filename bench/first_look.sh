@@ -1,9 +1,9 @@
 #!/usr/bin/env bash
 # Tries what a newcomer meets: the launcher in a fresh clone where nothing is proved. It is no test of the gate, since each
 # of its six trials takes two minutes, and while the last of them is built a proof goes on, which is then ended. Parts may be
-# named: `trials` (five of them), `untried`, `proving` (the sixth), `started` (a stand-in for a proved program). Where the
-# clone's program is proved already (`bench/first_look.sh --proved`), the words of command lines are compared with those of
-# the program itself. Needs git, python3 and rt. Status 0: all is as due.
+# named: `trials` (five of them), `untried`, `proving` (the sixth), `started` (a stand-in for a proved program); `ending` is
+# `proving` without its trial. Where the clone's program is proved already (`bench/first_look.sh --proved`), the words of
+# command lines are compared with those of the program itself. Needs git, python3 and rt. Status 0: all is as due.
 set -u
 
 cd "$(dirname "$(readlink -f "$0")")/.." || exit 2
@@ -111,25 +111,42 @@ at_work() {
     done
 }
 
-# While the program is being proved, another start answers by a trial, and the end of --prove ends what it started.
-proving() {
-    local proving left
+# Starts a proof, and gives it some seconds.
+start_proof() {
     "$launcher" --prove >"$folder/proving" 2>&1 &
-    proving=$!
+    proof=$!
     sleep 20
-    first_command
-    run play
-    due "play while --prove runs" 0 "$folder/journal" "$told"
-    kill "$proving"
-    wait "$proving" 2>/dev/null
+}
+
+# Ends it, and looks whether it ended what it started.
+end_proof() {
+    local left
+    [ -n "$(at_work)" ] || { faults=$((faults + 1)) && echo "NOT AS DUE: --prove started nothing"; }
+    kill "$proof"
+    wait "$proof" 2>/dev/null
     sleep 2
-    left=$(at_work)
+    left=$(at_work | tr '\n' ' ')
     if [ -z "$left" ]; then
         echo "as due: --prove ends all that it started"
     else
         faults=$((faults + 1))
-        echo "NOT AS DUE: --prove left what it started:" $left
+        echo "NOT AS DUE: --prove left processes: $left"
     fi
+}
+
+# While the program is being proved, another start answers by a trial.
+proving() {
+    start_proof
+    first_command
+    run play
+    due "play while --prove runs" 0 "$folder/journal" "$told"
+    end_proof
+}
+
+# The same without the trial.
+ending() {
+    start_proof
+    end_proof
 }
 
 # A program that is older than a source isn't run, and one that is younger is.
@@ -162,7 +179,7 @@ launcher=$folder/clone/ravenhost
 told='ravenhost: not proved: a trial*'
 if [ $# -eq 0 ]; then set -- trials untried proving started; fi
 for part in "$@"; do
-    case $part in trials | untried | proving | started) "$part" ;; *) echo "bench/first_look.sh: no part is named $part" && exit 2 ;; esac
+    case $part in trials | untried | proving | ending | started) "$part" ;; *) echo "bench/first_look.sh: no part is named $part" && exit 2 ;; esac
 done
 echo "faults: $faults"
 exit $((faults > 0))
