@@ -9,13 +9,16 @@
 # Of all but `run` each must end with status 3, want of memory, and must have written a front of the whole output. A `run` must
 # end in a minute, with status 3, or with 0 and its last line. Each line must be an answer, `nomemory` among them; and `audit`
 # must find the journal that it printed legal. Without threads a run that ends with 0 has answered each command with one line.
-# Scripts may be given instead, for `check --explain` alone. It needs a C compiler, for a library of a few lines that stands
-# before malloc. Statuses: 0 all as it should be, 1 not so, 127 a tool is missing.
+# Scripts may be given instead, for `check --explain` alone, and before them `--program PATH`, a proved program; else it is
+# proved first. It needs a C compiler, for a library of a few lines that stands before malloc. Statuses: 0 all as it should
+# be, 1 not so, 127 a tool is missing.
 set -eu
 bench=$(dirname "$(readlink -f "$0")")
 . "$bench/shared/measuring.sh"
 take_folder
 build_allocations
+program=""
+if [ "${1:-}" = --program ]; then program=$(readlink -f "$2") && shift 2; fi
 cd "$bench/.."
 
 fail() {
@@ -114,8 +117,7 @@ refuse_each_of_run() {
     count "$number"
 }
 
-./ravenhost --prove
-program=$PWD/crates/ravenhost/out/ravenhost
+[ -n "$program" ] || { ./ravenhost --prove && program=$PWD/crates/ravenhost/out/ravenhost; }
 data=crates/rv_rows/data
 scripts=0 all=0 front="status 3 and a front of the output"
 answer='^(accepted 0|full|halted|badline|raised|unattached|bad command|list BadWord at line 1|nomemory|no thread [A-Za-z0-9_.]+|entries [0-9]+|[0-9]+ .* -> .*)$'

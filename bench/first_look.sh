@@ -1,7 +1,9 @@
 #!/usr/bin/env bash
 # Tries what a newcomer meets: the launcher in a fresh clone where nothing is proved. It is no test of the gate, since each
-# of its six trials takes two minutes. Where the clone's program is proved already (`bench/first_look.sh --proved`), the
-# words of command lines are compared with those of the program itself. Needs git and rt. Status 0: all is as due.
+# of its six trials takes two minutes, and while the last of them is built a proof goes on, which is then ended. Parts may be
+# named: `trials` (five of them), `untried`, `proving` (the sixth), `started` (a stand-in for a proved program); `ending` is
+# `proving` without its trial. Where the clone's program is proved already (`bench/first_look.sh --proved`), the words of
+# command lines are compared with those of the program itself. Needs git, python3 and rt. Status 0: all is as due.
 set -u
 
 cd "$(dirname "$(readlink -f "$0")")/.." || exit 2
@@ -46,6 +48,126 @@ compare_words() {
     done
 }
 
+# A script, and the journal that it has to print: the loads, and what README.md shows beside the script.
+first_command() {
+    printf '1 operator load Plant -> accepted 0\n2 operator load Nav -> accepted 0\n' >"$folder/journal"
+    sed -n '/its journal:$/,/^Journal entry/s/^    .*  \([0-9][0-9]* .*->.*\)$/\1/p' README.md >>"$folder/journal"
+    cp examples/first.raven "$folder/in"
+}
+
+# What is answered by trials, each of which is built anew.
+trials() {
+    local begun=$SECONDS
+    first_command
+    run play
+    due "play, in $((SECONDS - begun)) s" 0 "$folder/journal" "$told"
+
+    cp examples/checked.raven "$folder/in"
+    run check
+    printf 'unit Plant: ok\nunit Nav: ok\nshape Gauges: ok\nlist: ok 2 lines\n' >"$folder/checked"
+    due "check" 0 "$folder/checked" "$told"
+
+    printf '@list\nallow * *\n' >"$folder/in"
+    run check
+    due "a refused script" 1 "$folder/nothing" 'script line 1: list BadWord at line 1'
+
+    : >"$folder/in"
+    run play --nonsense
+    due "a flag that there isn't" 2 "$folder/nothing" "For more information, try '--help'."
+
+    python3 -c '
+print("@host.toml\ncapacity = 1048576\n@list\nallow * * *\n@steps")
+print("operator tick 1\n" * 60000, end="")' >"$folder/in"
+    run play
+    due "output past the limit of a trial" 126 "$folder/nothing" 'ravenhost: the trial gave no answer *'
+}
+
+# What is answered with no trial.
+untried() {
+    local path
+    path=$(dirname "$(command -v bash)"):$(dirname "$(command -v awk)")
+    : >"$folder/in"
+    run run
+    due "run, not proved" 126 "$folder/nothing" 'ravenhost: run asks for the proved program*'
+    run
+    due "no words" 2 "$folder/nothing" "For more information, try '--help'."
+    run --version
+    due "the version" 0 <(echo "ravenhost 1.0.0 (trial, $(rt version))") ''
+    "$launcher" play <"$folder" >"$folder/out" 2>"$folder/err"
+    status=$?
+    due "a folder as standard input" 4 "$folder/nothing" "ravenhost: standard input can't be read"
+    (PATH=$path && command -v rt >/dev/null) || {
+        PATH=$path run play
+        due "no rt" 127 "$folder/nothing" "ravenhost: nothing is proved, a trial has to be built, and rt*"
+    }
+}
+
+# The processes that work in the clone, or name a file of it.
+at_work() {
+    local process
+    for process in /proc/[0-9]*; do
+        case $(readlink "$process/cwd" 2>/dev/null) in "$folder/clone"*) echo "${process#/proc/}" && continue ;; esac
+        ! tr '\0' '\n' 2>/dev/null <"$process/cmdline" | grep -qF "$folder/clone" || echo "${process#/proc/}"
+    done
+}
+
+# Starts a proof, and gives it some seconds.
+start_proof() {
+    "$launcher" --prove >"$folder/proving" 2>&1 &
+    proof=$!
+    sleep 20
+}
+
+# Ends it, and looks whether it ended what it started.
+end_proof() {
+    local left
+    [ -n "$(at_work)" ] || { faults=$((faults + 1)) && echo "NOT AS DUE: --prove started nothing"; }
+    kill "$proof"
+    wait "$proof" 2>/dev/null
+    sleep 2
+    left=$(at_work | tr '\n' ' ')
+    if [ -z "$left" ]; then
+        echo "as due: --prove ends all that it started"
+    else
+        faults=$((faults + 1))
+        echo "NOT AS DUE: --prove left processes: $left"
+    fi
+}
+
+# While the program is being proved, another start answers by a trial.
+proving() {
+    start_proof
+    first_command
+    run play
+    due "play while --prove runs" 0 "$folder/journal" "$told"
+    end_proof
+}
+
+# The same without the trial.
+ending() {
+    start_proof
+    end_proof
+}
+
+# A program that is older than a source isn't run, and one that is younger is.
+started() {
+    local program=$folder/clone/crates/ravenhost/out/ravenhost
+    mkdir -p "${program%/*}"
+    printf '#!/bin/sh\necho proved "$@"\n' >"$program"
+    chmod +x "$program"
+    echo "rattle-kit" >"$program.kit"
+    : >"$folder/in"
+    run run
+    due "a proved program" 0 <(echo "proved run") ''
+    run --version
+    due "its version" 0 <(echo "ravenhost 1.0.0 (proved, rattle-kit)") ''
+    sleep 1
+    touch "$folder/clone/crates/rv_text/src/lib.rt"
+    run run
+    due "a source newer than it" 126 "$folder/nothing" \
+        'ravenhost: run asks for the proved program, and crates/rv_text/src/lib.rt is newer*'
+}
+
 : >"$folder/nothing"
 if [ "${1:-}" = --proved ]; then
     compare_words
@@ -55,74 +177,9 @@ fi
 git clone -q "$top" "$folder/clone" || exit 2
 launcher=$folder/clone/ravenhost
 told='ravenhost: not proved: a trial*'
-
-# The journal of the first command: the loads, and what README.md shows beside the script.
-printf '1 operator load Plant -> accepted 0\n2 operator load Nav -> accepted 0\n' >"$folder/journal"
-sed -n '/its journal:$/,/^Journal entry/s/^    .*  \([0-9][0-9]* .*->.*\)$/\1/p' README.md >>"$folder/journal"
-cp examples/first.raven "$folder/in"
-begun=$SECONDS
-run play
-due "play, in $((SECONDS - begun)) s" 0 "$folder/journal" "$told"
-
-cp examples/checked.raven "$folder/in"
-run check
-printf 'unit Plant: ok\nunit Nav: ok\nshape Gauges: ok\nlist: ok 2 lines\n' >"$folder/checked"
-due "check" 0 "$folder/checked" "$told"
-
-printf '@list\nallow * *\n' >"$folder/in"
-run check
-due "a refused script" 1 "$folder/nothing" 'script line 1: list BadWord at line 1'
-
-: >"$folder/in"
-run play --nonsense
-due "a flag that there isn't" 2 "$folder/nothing" "For more information, try '--help'."
-
-python3 -c '
-print("@host.toml\ncapacity = 1048576\n@list\nallow * * *\n@steps")
-print("operator tick 1\n" * 60000, end="")' >"$folder/in"
-run play
-due "output past the limit of a trial" 126 "$folder/nothing" 'ravenhost: the trial gave no answer *'
-
-: >"$folder/in"
-run run
-due "run, not proved" 126 "$folder/nothing" 'ravenhost: run asks for the proved program*'
-run
-due "no words" 2 "$folder/nothing" "For more information, try '--help'."
-run --version
-due "the version" 0 <(echo "ravenhost 1.0.0 (trial, $(rt version))") ''
-"$launcher" play <"$folder" >"$folder/out" 2>"$folder/err"
-status=$?
-due "a folder as standard input" 4 "$folder/nothing" "ravenhost: standard input can't be read"
-(PATH=$(dirname "$(command -v bash)"):$(dirname "$(command -v awk)") && command -v rt >/dev/null) ||
-    { PATH=$(dirname "$(command -v bash)"):$(dirname "$(command -v awk)") run play
-        due "no rt" 127 "$folder/nothing" "ravenhost: nothing is proved, a trial has to be built, and rt*"; }
-
-# While the program is being proved, another start answers by a trial, and the end of --prove ends what it started.
-"$launcher" --prove >"$folder/proving" 2>&1 &
-proving=$!
-sleep 20
-cp examples/first.raven "$folder/in"
-run play
-due "play while --prove runs" 0 "$folder/journal" "$told"
-kill "$proving"
-wait "$proving" 2>/dev/null
-sleep 2
-if pgrep -f "$folder/clone" >/dev/null; then faults=$((faults + 1)) && echo "NOT AS DUE: --prove left what it started"; fi
-
-# A program that is older than a source isn't run, and one that is younger is.
-mkdir -p "$folder/clone/crates/ravenhost/out"
-printf '#!/bin/sh\necho proved "$@"\n' >"$folder/clone/crates/ravenhost/out/ravenhost"
-chmod +x "$folder/clone/crates/ravenhost/out/ravenhost"
-echo "rattle-kit" >"$folder/clone/crates/ravenhost/out/ravenhost.kit"
-run run
-due "a proved program" 0 <(echo "proved run") ''
-run --version
-due "its version" 0 <(echo "ravenhost 1.0.0 (proved, rattle-kit)") ''
-sleep 1
-touch "$folder/clone/crates/rv_text/src/lib.rt"
-run run
-due "a source newer than it" 126 "$folder/nothing" \
-    'ravenhost: run asks for the proved program, and crates/rv_text/src/lib.rt is newer*'
-
+if [ $# -eq 0 ]; then set -- trials untried proving started; fi
+for part in "$@"; do
+    case $part in trials | untried | proving | ending | started) "$part" ;; *) echo "bench/first_look.sh: no part is named $part" && exit 2 ;; esac
+done
 echo "faults: $faults"
 exit $((faults > 0))
