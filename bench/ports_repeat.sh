@@ -1,7 +1,8 @@
 #!/usr/bin/env bash
-# Plays the games of ports of crates/thread_rows that stand in no file again and again, beside four times as many busy threads as
-# there are processors. It says how many rounds ended within five minutes each
-# with each line as due. How often may be given (200). It proves nothing; a round that stalls has a port that was not woken.
+# Plays the jobs of crews of crates/thread_rows again and again, the storm among them, and the games of ports that stand in no
+# file, beside four times as many busy threads as there are processors. It says how many rounds ended within five minutes each
+# with each line as due. How often may be given (200). It proves nothing; a round that stalls has a port that was not woken, or
+# a thread that waits for another one.
 # The first time it takes some minutes to prove and build. It needs rt, nproc, seq, grep, cmp, mktemp and timeout.
 set -eu
 

@@ -3,6 +3,7 @@ import random
 import re
 import subprocess
 import sys
+import tempfile
 import time
 
 from run_pipe import Run, expect, expect_that, faults, numbered
@@ -212,6 +213,18 @@ def replayed(program, journal, texts):
     expect("entries replayed", len(lines), len(journal))
 
 
+def judged(program, journal, texts):
+    """Whether `audit` finds the journal legal, with all its entries."""
+    script = "@host.toml\ncapacity = 1048576\n" + "".join("@unit\n" + text for text in texts.values())
+    with tempfile.NamedTemporaryFile("w", encoding="utf-8") as file:
+        file.writelines(line + "\n" for line in journal)
+        file.flush()
+        done = subprocess.run([program, "audit", "--journal", file.name], input=script.encode(), stdout=subprocess.PIPE, stderr=subprocess.PIPE)
+    said = (done.stdout.decode(), done.stderr.decode(), done.returncode)
+    expect("audit of the journal", said, (f"legal {len(journal)} entries\n", "", 0))
+    print(f"audit: {said[0].strip()}")
+
+
 def all_went_on(journal, ticks):
     """Each paced task acted at each tick: it delayed to a time past the last. Those that wait in the entry and on the
     suspension object were woken to the end, too: in the last twentieth of the journal."""
@@ -258,6 +271,7 @@ def main():
     expect_that("the growth of memory", grown < MOST_BYTES, f"{grown} bytes an entry")
     if not faults:
         replayed(program, journal, soak.texts)
+        judged(program, journal, soak.texts)
     print(f"{len(faults)} faults")
     return 1 if faults else 0
 

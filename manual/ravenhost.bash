@@ -7,7 +7,7 @@ _ravenhost_flags() {
         "") echo "-h --help -V --version" ;;
         play) echo "--all --notes --warnings-are-errors -h --help" ;;
         check) echo "--explain --notes --warnings-are-errors -h --help" ;;
-        run) echo "-h --help" ;;
+        run) echo "--notes --warnings-are-errors -h --help" ;;
         audit) echo "--journal --torn -h --help" ;;
     esac
 }

@@ -114,6 +114,10 @@ unfolding clap_on_literals
 check_notes name true = refl
 check_notes name false = refl
 
+run_notes : (name : Text) → notes_in (subcommand_of program (name ∷ line_of Run)) ≡ Some None
+unfolding clap_on_literals
+run_notes name = refl
+
 -- which is none that is wrong
 has_word : (q : Option (Text × List Row)) (found : Text × List Row) → q ≡ Some found → notes_in q ≡ Some None → HasNoWord found.1 → ⊥
 has_word q found e f none =
@@ -208,7 +212,7 @@ none_chosen : (name : Text) (choice : Choice) (m : Option (Text × List Row)) �
     → (found : Text × List Row) → m ≡ Some found → found.0 ≡ word_of choice → ⊥
 none_chosen name (Play all) m e none found is w = has_word _ found (sym e ∙ is) (play_notes name all) ((none found is).0 w)
 none_chosen name (Check explain) m e none found is w = has_word _ found (sym e ∙ is) (check_notes name explain) ((none found is).1 w)
-none_chosen name Run m e none found is w = (none found is).2 w
+none_chosen name Run m e none found is w = has_word _ found (sym e ∙ is) (run_notes name) ((none found is).2 w)
 none_chosen name Audit m e none found is w =
     let n = (none found is).3 w in
     true≢false (n.0.1 (row_found (codes "torn") (Some (flag_text false)) _ found (sym e ∙ is) (no_torn name)))
@@ -262,24 +266,29 @@ pub torn_alone : {X : Type 0} (m : Option (Text × List Row)) (found : Text × L
     → first_of (codes "journal") found.1 ≡ option_map n file → (other : Text × List Row) → m ≡ Some other → NamesNone other
 torn_alone m found file n torn is w none flag e other f =
     let same : found ≡ other = ap (λ (o : Option (Text × List Row)). unwrap_or o found) (sym is ∙ f) in
-    subst NamesNone same (λ p. absurd (no_audit (sym p ∙ w)), λ p. absurd (check_no_audit (sym p ∙ w)), λ p. run_no_audit (sym p ∙ w), λ _. flag_alone found file n torn none flag e)
+    subst NamesNone same (λ p. absurd (no_audit (sym p ∙ w)), λ p. absurd (check_no_audit (sym p ∙ w)), λ p. absurd (run_no_audit (sym p ∙ w)), λ _. flag_alone found file n torn none flag e)
 
 -- What a wrong word for notes chooses.
 
 pub play_wrong : (m : Option (Text × List Row)) (found : Text × List Row) → m ≡ Some found → found.0 ≡ codes "play" → HasNoWord found.1 → (other : Text × List Row) → m ≡ Some other → NamesNone other
 play_wrong m found is w none other f =
     let same : found ≡ other = ap (λ (o : Option (Text × List Row)). unwrap_or o found) (sym is ∙ f) in
-    subst NamesNone same (λ _. none, λ p. absurd (no_check (sym w ∙ p)), λ p. no_run (sym w ∙ p), λ p. absurd (no_audit (sym w ∙ p)))
+    subst NamesNone same (λ _. none, λ p. absurd (no_check (sym w ∙ p)), λ p. absurd (no_run (sym w ∙ p)), λ p. absurd (no_audit (sym w ∙ p)))
 
 pub check_wrong : (m : Option (Text × List Row)) (found : Text × List Row) → m ≡ Some found → found.0 ≡ codes "check" → HasNoWord found.1 → (other : Text × List Row) → m ≡ Some other → NamesNone other
 check_wrong m found is w none other f =
     let same : found ≡ other = ap (λ (o : Option (Text × List Row)). unwrap_or o found) (sym is ∙ f) in
-    subst NamesNone same (λ p. absurd (no_check (sym p ∙ w)), λ _. none, λ p. check_no_run (sym w ∙ p), λ p. absurd (check_no_audit (sym w ∙ p)))
+    subst NamesNone same (λ p. absurd (no_check (sym p ∙ w)), λ _. none, λ p. absurd (check_no_run (sym w ∙ p)), λ p. absurd (check_no_audit (sym w ∙ p)))
+
+pub run_wrong : (m : Option (Text × List Row)) (found : Text × List Row) → m ≡ Some found → found.0 ≡ codes "run" → HasNoWord found.1 → (other : Text × List Row) → m ≡ Some other → NamesNone other
+run_wrong m found is w none other f =
+    let same : found ≡ other = ap (λ (o : Option (Text × List Row)). unwrap_or o found) (sym is ∙ f) in
+    subst NamesNone same (λ p. absurd (no_run (sym p ∙ w)), λ p. absurd (check_no_run (sym p ∙ w)), λ _. none, λ p. absurd (run_no_audit (sym w ∙ p)))
 
 -- what `audit` chooses looks at no lists
 pub unnoted : (found : Text × List Row) (choice : Choice) (notes : Notes) (errors : Bool) → found.0 ≡ codes "audit" → Names found choice → errors ≡ false → IsNoted found choice notes errors
 unnoted found (Play all) notes errors w n e = absurd (no_audit (sym n.0 ∙ w))
 unnoted found (Check explain) notes errors w n e = absurd (check_no_audit (sym n.0 ∙ w))
-unnoted found Run notes errors w n e = e
+unnoted found Run notes errors w n e = absurd (run_no_audit (sym n ∙ w))
 unnoted found Audit notes errors w n e = e
 unnoted found (AuditFile torn) notes errors w n e = e

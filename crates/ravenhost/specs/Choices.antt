@@ -1,6 +1,6 @@
--- The command line (own): `play`, which may be given `--all`, and `check`, which may be given `--explain`, both with `--notes WHEN` and
--- `--warnings-are-errors`; `run`; and `audit`, which may be given `--journal FILE` and, with it, `--torn`. What words come to is what
--- `clap` says of this command.
+-- The command line (own): `play`, which may be given `--all`, `check`, which may be given `--explain`, and `run`, all three with
+-- `--notes WHEN` and `--warnings-are-errors`; and `audit`, which may be given `--journal FILE` and, with it, `--torn`. What words come to
+-- is what `clap` says of this command.
 use Rattle.std.specs.Prelude.{◌≡◌, Bool, true, false, if◌then◌else◌, List, [], ◌∷◌, Option, Some, None, codes}
 use Rattle.std.specs.Str.{bytes_eq}
 use Rattle.clap.specs.Words.{App, Row, Rule, new_app, new_rule, subcommand_of, with_rule, with_subcommand}
@@ -25,6 +25,10 @@ notes_rule = record (new_rule (codes "notes")) { long = Some (codes "notes"); ac
 abbrev pub flagged : Text → Text → App
 flagged name flag = with_rule (with_rule (with_rule (new_app name) (flag_rule flag)) notes_rule) (flag_rule (codes "warnings-are-errors"))
 
+-- `run`
+abbrev pub running : App
+running = with_rule (with_rule (new_app (codes "run")) notes_rule) (flag_rule (codes "warnings-are-errors"))
+
 -- `audit`, which may be given the name of a file, and a flag
 abbrev pub file_rule : Rule
 file_rule = record (new_rule (codes "journal")) { long = Some (codes "journal"); action = Some Set; value_names = 1 }
@@ -41,7 +45,7 @@ alone = on_top (λ s. record s { subcommand_required = true }) versioned
 
 abbrev pub program : App
 program = with_subcommand (with_subcommand (with_subcommand (with_subcommand alone (flagged (codes "play") (codes "all")).top)
-    (flagged (codes "check") (codes "explain")).top) (new_app (codes "run")).top) audited.top
+    (flagged (codes "check") (codes "explain")).top) running.top) audited.top
 
 -- the text of a flag, as a flag
 abbrev pub IsFlag : Option Text → Bool → Type 0
@@ -74,10 +78,11 @@ notes_of (Some word) =
 abbrev pub Tells : List Row → Notes → Bool → Type 0
 Tells rows notes errors = (notes_of (first_of (codes "notes") rows) ≡ Some notes) × IsFlag (one_of (codes "warnings-are-errors") rows) errors
 
--- the same, for `play` and `check`
+-- the same, for `play`, `check` and `run`
 abbrev pub IsNoted : Text × List Row → Choice → Notes → Bool → Type 0
 IsNoted found (Play all) notes errors = Tells found.1 notes errors
 IsNoted found (Check explain) notes errors = Tells found.1 notes errors
+IsNoted found Run notes errors = Tells found.1 notes errors
 IsNoted found choice notes errors = errors ≡ false
 
 -- the word that was given is another
@@ -92,7 +97,7 @@ audit_of false false = Some Audit
 
 -- no choice has the name of what was found, or notes have another word, or it has the flag of `audit` without a file
 abbrev pub NamesNone : Text × List Row → Type 0
-NamesNone found = (found.0 ≡ codes "play" → HasNoWord found.1) × (found.0 ≡ codes "check" → HasNoWord found.1) × (found.0 ≡ codes "run" → ⊥)
+NamesNone found = (found.0 ≡ codes "play" → HasNoWord found.1) × (found.0 ≡ codes "check" → HasNoWord found.1) × (found.0 ≡ codes "run" → HasNoWord found.1)
     × (found.0 ≡ codes "audit" → IsFlag (one_of (codes "torn") found.1) true × (first_of (codes "journal") found.1 ≡ None))
 
 -- the words name a choice, a file where there is one, and what becomes of notes

@@ -6,7 +6,7 @@ ghost use Rattle.clap.specs.Matches.{found_of};
 ghost use Rattle.clap.specs.Walk.{Row, Text, rows_of};
 ghost use Rattle.clap.specs.declared.builder.command.Command.TheViews.{out-Command as fields_of};
 ghost use Rattle.ravenhost.specs.declared.chosen.Unchosen.TheVariants as Unchosen;
-ghost use Rattle.ravenhost.specs.Choices.{Chooses, HasNoWord, IsJournal, IsNoted, Lacks, Names, NamesNone, Tells, audit_of, audited, flag_rule, line_of, notes_of, notes_rule, program};
+ghost use Rattle.ravenhost.specs.Choices.{Chooses, HasNoWord, IsJournal, IsNoted, Lacks, Names, NamesNone, Tells, audit_of, audited, flag_rule, line_of, notes_of, notes_rule, program, running};
 
 use clap::error::ErrorKind;
 use clap::{Arg, ArgAction, ArgMatches, Command, Error};
@@ -97,7 +97,7 @@ fn noted<'a>(alloc: Global, command: Command<'a>) -> Result<Command<'a>, AllocEr
     let are_errors = flag(
         alloc,
         "warnings-are-errors",
-        "End with status 1 before the first step where such a note is due",
+        "End with status 1 before the first step or thread where such a note is due",
     );
     command.arg(notes_flag(alloc))?.arg(are_errors)
 }
@@ -107,24 +107,31 @@ fn subcommand<'a>(
     alloc: Global,
     name: &'a str,
     about: &'a str,
+    example: &'a str,
     flag_of: Arg<'a>,
 ) -> Result<Command<'a>, AllocError>
     requires { flag_of.global ≡ false }
     ensures app { IfOk result (λ c. app_of c ≡ with_rule (with_rule (with_rule (new_app name.now) (rule_of flag_of.entry)) notes_rule) (flag_rule (codes "warnings-are-errors"))) }
     ensures local { IfOk result (λ c. (fields_of c).has_globals ≡ false) }
 {
-    let command = Command::new(alloc, name).about(about).arg(flag_of)?;
+    let command = Command::new(alloc, name)
+        .about(about)
+        .after_help(example)
+        .arg(flag_of)?;
     noted(alloc, command)
 }
 
-// The subcommand `run`, which has no flag.
-fn run_subcommand<'a>(alloc: Global) -> Command<'a>
-    ensures app { app_of result ≡ new_app (codes "run") }
-    ensures local { (fields_of result).has_globals ≡ false }
+// The subcommand `run`.
+fn run_subcommand<'a>(alloc: Global) -> Result<Command<'a>, AllocError>
+    ensures app { IfOk result (λ c. app_of c ≡ running) }
+    ensures local { IfOk result (λ c. (fields_of c).has_globals ≡ false) }
 {
-    Command::new(alloc, "run").about(
-        "Run the host of a script from standard input, and serve the commands that follow its line @run",
-    )
+    let command = Command::new(alloc, "run")
+        .about(
+            "Run the host of a script from standard input, and serve the commands that follow its line @run",
+        )
+        .after_help("Example: ravenhost run < examples/plant.raven");
+    noted(alloc, command)
 }
 
 // The subcommand `audit`, which may be given a file and a flag.
@@ -146,6 +153,7 @@ fn audit_subcommand<'a>(alloc: Global) -> Result<Command<'a>, AllocError>
         .about(
             "Judge the journal of a script from standard input: whether each of its entries was due",
         )
+        .after_help("Example: ravenhost audit --journal JOURNAL < UNITS")
         .arg(journal)?
         .arg(torn)
 }
@@ -168,14 +176,17 @@ fn command<'a>(alloc: Global) -> Result<Command<'a>, AllocError>
         alloc,
         "play",
         "Carry out a script from standard input, and print its journal",
+        "Example: ravenhost play --all < examples/first.raven",
         all,
     )?;
     let check = subcommand(
         alloc,
         "check",
         "Say of each section of a script from standard input whether it is well formed",
+        "Example: ravenhost check --explain < examples/checked.raven",
         explain,
     )?;
+    let run = run_subcommand(alloc)?;
     let audit = audit_subcommand(alloc)?;
     Command::new(alloc, "ravenhost")
         .about("Protected objects of several units under an access list, in the profile Ravenscar")
@@ -183,7 +194,7 @@ fn command<'a>(alloc: Global) -> Result<Command<'a>, AllocError>
         .subcommand_required(true)
         .subcommand(play)?
         .subcommand(check)?
-        .subcommand(run_subcommand(alloc))?
+        .subcommand(run)?
         .subcommand(audit)
 }
 
@@ -259,10 +270,11 @@ fn choice_of<'a>(matches: &ArgMatches<'a>) -> Option<Selection<'a>>
         });
     }
     if name == "run" {
+        let running = telling_of(words)?;
         return Some(Selection {
             choice: Choice::Run,
-            notes: Notes::Never,
-            are_errors: false,
+            notes: running.0,
+            are_errors: running.1,
             journal: None,
         });
     }

@@ -6,8 +6,9 @@ ghost use Rattle.rv_fault.specs.Written.{WritesScript};
 ghost use Rattle.rv_play.specs.Scripted.{outcome_of};
 ghost use Rattle.rv_check.specs.Checks.{KeepsRefused, outcome_of as checked};
 
-use rv_check::warnings::{Warnings, warnings_of};
+use rv_check::warnings::{Warnings, run_warnings_of, warnings_of};
 use rv_fault::Failure;
+use rv_input::{Input, InputFault, Preamble};
 use rv_script::read_script;
 use rv_staff::Hires;
 use rv_verdict::{Audited, Watch};
@@ -15,6 +16,15 @@ use std::alloc::Global;
 use std::io::{Read, Write};
 use std::sync::Wait;
 use std::thread::Threads;
+
+/// What was read of a script for `run`.
+#[derive(Drop)]
+pub struct Before {
+    /// What was read, up to the line `@run`, that line, and what was read ahead.
+    pub bytes: Vec<u8>,
+    // How many of these stand before the line.
+    sections: usize,
+}
 
 /// The bytes of the script that a reader gives, at most one past the greatest length, so that its lists are judged before
 /// it is carried out or looked at.
@@ -30,6 +40,33 @@ pub fn read<R: Read>(alloc: Global, reader: &mut R) -> Result<Vec<u8>, Failure>
 /// What is told of the lists of a script.
 pub fn warnings(alloc: Global, script: &[u8]) -> Result<Warnings, Failure> {
     warnings_of(alloc, script)
+}
+
+/// What was read of a script for `run`: what stands before its commands, with the line `@run` where that came, and what was
+/// read ahead of them.
+pub fn read_before<R: Read>(alloc: Global, reader: &mut R) -> Result<Before, Failure> {
+    let mut input = Input::new(alloc);
+    match input.preamble(reader) {
+        Ok(Preamble { bytes, runs }) => kept_before(bytes, runs, input.ahead()),
+        Err(InputFault::Memory) => Err(Failure::Memory),
+        Err(InputFault::Io(e)) => Err(Failure::Io(e)),
+    }
+}
+
+// What was read, put together.
+fn kept_before(mut bytes: Vec<u8>, runs: bool, ahead: &[u8]) -> Result<Before, Failure> {
+    let sections = bytes.len();
+    if runs {
+        bytes.extend_from_slice(b"@run\n")?;
+        bytes.extend_from_slice(ahead)?;
+    }
+    Ok(Before { bytes, sections })
+}
+
+/// What is told of the lists that stand before the commands of a run.
+pub fn run_warnings(alloc: Global, before: &Before) -> Result<Warnings, Failure> {
+    let (sections, _) = before.bytes.as_slice().split_at(before.sections);
+    run_warnings_of(alloc, sections)
 }
 
 /// Carries out the script that a reader gives, and writes its journal: the line of each entry and,

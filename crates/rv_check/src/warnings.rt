@@ -4,9 +4,10 @@
 ghost use Rattle.std.specs.Prelude.{◌≤◌, ◌^◌, ◌+◌, length};
 
 use rv_access::{AccessList, Change, Line, MOST_LINES};
-use rv_fault::{Failure, list_of, settings_of, shape_of, unit_of};
+use rv_fault::{Failure, device_unit, list_of, settings_of, shape_of, unit_of};
 use rv_notes::{Note, notes, words_of};
 use rv_script::{Opening, open, opening_of, text_of};
+use rv_settings::{Device, Settings};
 use rv_shape::catalogue::Catalogue;
 use rv_shape::fault::ShapeFault;
 use rv_shape::shape::UnitShape;
@@ -19,7 +20,7 @@ use std::mem;
 /// What is told of the lists of a script, a line each.
 #[derive(Drop)]
 pub struct Warnings {
-    /// Of those in sections before the first step.
+    /// Of those in sections before the first step, or the first thread.
     pub first: String,
     /// Of those behind it, and of the lines that steps make.
     pub later: String,
@@ -37,6 +38,8 @@ struct Waiting {
 #[derive(Drop)]
 struct Review {
     alloc: Global,
+    // Whether the script is for `run`, else for `play`.
+    runs: bool,
     catalogue: Catalogue,
     waiting: Vec<Waiting>,
     // The list in force, and the notes on it.
@@ -91,9 +94,10 @@ fn is_among(notes: &[Note], note: Note) -> bool {
 
 impl Review {
     // Nothing so far.
-    fn new(alloc: Global) -> Review {
+    fn new(alloc: Global, runs: bool) -> Review {
         Review {
             alloc,
+            runs,
             catalogue: Catalogue::new(alloc),
             waiting: Vec::new(alloc),
             list: AccessList::new(alloc),
@@ -280,35 +284,68 @@ impl Review {
         Ok(())
     }
 
-    // A section. False where it isn't one that is played, or a step of it is none.
+    // A section that `play` takes and `run` doesn't. False where it is none, or a step of it is none.
+    fn played(&mut self, opening: Opening, section: &Section<'_>) -> Result<bool, Failure> {
+        if self.runs {
+            return Ok(false);
+        }
+        match opening {
+            Opening::Shape => {
+                let shape = shape_of(self.alloc, section.line, section.text)?;
+                self.add(&shape)
+            }
+            Opening::Steps => self.steps(section.line, section.text),
+            _ => Ok(false),
+        }
+    }
+
+    // A section. False where it isn't one that is carried out, or a step of it is none.
     fn section(&mut self, section: &Section<'_>) -> Result<bool, Failure> {
         match opening_of(section.opening) {
             Some(Opening::UnitText) => {
                 let unit = unit_of(self.alloc, &self.catalogue, section.line, section.text)?;
                 self.add(&unit.shape)
             }
-            Some(Opening::Shape) => {
-                let shape = shape_of(self.alloc, section.line, section.text)?;
-                self.add(&shape)
-            }
             Some(Opening::AccessList) => {
                 let list = list_of(self.alloc, section.line, section.text)?;
                 self.wait(list, section.text)?;
                 Ok(true)
             }
-            Some(Opening::Steps) => self.steps(section.line, section.text),
-            _ => Ok(false),
+            Some(opening) => self.played(opening, section),
+            None => Ok(false),
         }
     }
 
-    // Sections, up to the first fault, which isn't told here.
-    fn sections(&mut self, mut sections: Sections<'_>) -> Result<(), Failure> {
+    // Sections, up to the first fault, which isn't told here. False where there is one.
+    fn sections(&mut self, mut sections: Sections<'_>) -> Result<bool, Failure> {
         'each: while let Some(section) = sections.next_section() {
             match self.section(&section) {
                 Ok(true) => {}
-                Ok(false) | Err(Failure::Refused(_)) => return Ok(()),
+                Ok(false) | Err(Failure::Refused(_)) => return Ok(false),
                 Err(failure) => return Err(failure),
             }
+        }
+        Ok(true)
+    }
+
+    // The units that devices are. False where one doesn't fit.
+    fn devices(&mut self, devices: &[Device]) -> Result<bool, Failure> {
+        'each: for device in devices {
+            let shape = device_unit(self.alloc, device)?;
+            if !self.add(&shape)? {
+                return Ok(false);
+            }
+        }
+        Ok(true)
+    }
+
+    // Sections, behind which a run loads its devices. Lists that still wait are judged then.
+    fn settled(&mut self, settings: &Settings, sections: Sections<'_>) -> Result<(), Failure> {
+        if !self.sections(sections)? {
+            return Ok(());
+        }
+        if self.runs && !self.devices(settings.devices())? {
+            return Ok(());
         }
         self.judge()?;
         Ok(())
@@ -322,7 +359,7 @@ impl Review {
             return Ok(());
         };
         match settings_of(self.alloc, &script.settings) {
-            Ok(_) => self.sections(script.sections),
+            Ok(settings) => self.settled(&settings, script.sections),
             Err(Failure::Refused(_)) => Ok(()),
             Err(failure) => Err(failure),
         }
@@ -340,7 +377,18 @@ impl Review {
 /// nothing is told: the fault is to be mended first. Each load, and each change of the list but one behind `halt`, is taken
 /// as accepted. Err where memory was refused.
 pub fn warnings_of(alloc: Global, script: &[u8]) -> Result<Warnings, Failure> {
-    let mut review = Review::new(alloc);
+    review_of(alloc, false, script)
+}
+
+/// What is told of the lists that stand before the commands of a run. They are judged over all its units, devices too,
+/// before the first thread. Else as `warnings_of`.
+pub fn run_warnings_of(alloc: Global, before: &[u8]) -> Result<Warnings, Failure> {
+    review_of(alloc, true, before)
+}
+
+// What is told of the lists of a script for `run`, or else for `play`.
+fn review_of(alloc: Global, runs: bool, script: &[u8]) -> Result<Warnings, Failure> {
+    let mut review = Review::new(alloc, runs);
     if let Ok(text) = text_of(script) {
         review.script(text)?;
     }

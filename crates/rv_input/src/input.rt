@@ -130,6 +130,16 @@ impl Input {
         Ok(line)
     }
 
+    /// What was read ahead of what was given, for whoever reads on by other means.
+    pub fn ahead(&self) -> &[u8]
+        ensures { result.now ≡ self.now.ahead }
+    {
+        if self.next >= self.ahead.len() {
+            return &[];
+        }
+        &self.ahead[self.next..]
+    }
+
     /// What stands before the line `@run`, which is taken too; up to one byte past the greatest length.
     ///
     /// # Errors

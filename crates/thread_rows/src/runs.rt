@@ -2,10 +2,12 @@
 //! the run answered what stands there (`row`).
 
 mod failing;
+mod given_up;
 mod row;
 mod terminal;
 
 use failing::failures_told;
+use given_up::named;
 use row::{Row, row_of};
 use row_files::names_before;
 use rv_fault::Failure;
@@ -84,5 +86,7 @@ where
         play(rt, hires, file.as_str())?;
     }
     let line = failures_told(rt, hires, rt.alloc())?;
+    println!(rt; "{line}")?;
+    let line = named(rt, rt.alloc());
     println!(rt; "{line}")
 }

@@ -11,6 +11,9 @@ use std::sync::Wait;
 /// The number of the first task.
 pub const FIRST: u64 = 11;
 
+/// The number of line 4.
+pub const LINE: u64 = 5;
+
 /// How many entries the storm's journal has room for.
 pub const STORM_CAPACITY: usize = 65_536;
 
@@ -53,6 +56,12 @@ end Nav;
 // Task 11.
 const DEVICE: &str = "unit Dev\ntask Main 15\n";
 
+// A handler of line 4, whose actor has number 5.
+const ALARM: &str = "unit Alarm
+protected Latch 35
+handler Trip 4
+";
+
 // Tasks 11 to 18.
 const STORM: &str = "unit Storm
 task One 15
@@ -92,6 +101,13 @@ pub fn with_tasks<R: Wait>(rt: &R, alloc: Global) -> Option<Control> {
     load_text(rt, alloc, &mut control, PLANT)?;
     load_text(rt, alloc, &mut control, NAV)?;
     allow_all(rt, alloc, &mut control)?;
+    Some(control)
+}
+
+/// The plant, and two tasks and a line beside it.
+pub fn with_line<R: Wait>(rt: &R, alloc: Global) -> Option<Control> {
+    let mut control = with_tasks(rt, alloc)?;
+    load_shape(rt, alloc, &mut control, ALARM)?;
     Some(control)
 }
 

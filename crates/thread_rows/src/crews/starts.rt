@@ -1,10 +1,10 @@
-//! Starts of a crew: one that makes no thread, one that isn't made, and one whose job calls nobody.
+//! Starts of a crew: one that makes no thread, one that isn't made, and two whose jobs call nobody.
 
 ghost use Rattle.std.specs.Prelude.{◌≡◌};
 ghost use Rattle.rv_crew.specs.Teams.{IsOfTurn};
 
 use crate::crews::caller::{GET, call, caller_of};
-use crate::crews::plant::{FIRST, with_tasks};
+use crate::crews::plant::{FIRST, LINE, with_line, with_tasks};
 use crate::crews::threads::{begin, close};
 use crate::hands::{Hands, Role};
 use crate::host::port_of;
@@ -66,13 +66,16 @@ pub fn given_up<R: Threads + Wait + AllocGlobal>(rt: &R) -> Option<Closed> {
     give_up(rt, port, control)
 }
 
-/// A job that finishes without a call.
+/// Two jobs that finish without a call: that of a task leaves its finish alone, that of a line leaves nothing.
 pub fn no_call<R: Threads + Wait + AllocGlobal>(rt: &R, hands: &Hands) -> Option<Closed> {
     let alloc = rt.alloc();
-    let mut control = with_tasks(rt, alloc)?;
+    let mut control = with_line(rt, alloc)?;
     let port = port_of(&mut control, FIRST)?;
+    let line = port_of(&mut control, LINE)?;
     let mut crew = Crew::new(alloc);
-    if begin_calls(hands, alloc, &mut crew, port, 0)? {
+    let first = begin_calls(hands, alloc, &mut crew, port, 0)?;
+    let second = begin_calls(hands, alloc, &mut crew, line, 0)?;
+    if first && second {
         return close(rt, crew, control);
     }
     None

@@ -5,7 +5,7 @@ use Rattle.clap.specs.Matches.{found_of}
 use Rattle.clap.specs.Walk.{rows_of}
 use Rattle.clap.proofs.WalkLemmas.{first_value-rows, one_text-rows}
 use Rattle.ravenhost.specs.Choices.{audit_of}
-use Rattle.ravenhost.proofs.Choosing.{found_is, not_audit_play, not_audit_check, not_audit_run, audit_named, check_wrong, play_wrong, torn_alone, unnoted}
+use Rattle.ravenhost.proofs.Choosing.{found_is, not_audit_play, not_audit_check, not_audit_run, audit_named, check_wrong, play_wrong, run_wrong, torn_alone, unnoted}
 use Rattle.ravenhost.proofs.chosen.choice_of.Goals as goal
 
 pub returns-then-eq-clause-found : goal.returns-then-eq-clause-found
@@ -38,7 +38,7 @@ returns-then-eq-3-clause-found c =
       found_is _ _ _ _ _ (search rules) (search rules),
       word,
       λ e. absurd (not_audit_run _ word e),
-      refl,
+      c.in_ok-running.ensures.some,
     )
 
 pub returns-then-eq-4-clause-found : goal.returns-then-eq-4-clause-found
@@ -83,3 +83,10 @@ returns-in_err-checking-clause-none c =
     let word : c.in_ok-name.name.now ≡ codes "check" = search rules in
     let none = check_wrong (subcommand_rows_of c.args.matches.now) (c.in_ok-name.name.now, rows_of given) (found_is _ _ _ _ _ (search rules) (search rules)) word c.in_err-checking.ensures.none in
     rw c.from_residual-in_err-checking.ensures (λ other e. none other e)
+
+pub returns-in_err-running-clause-none : goal.returns-in_err-running-clause-none
+returns-in_err-running-clause-none c =
+    let given = found_of c.in_ok-name.words.now in
+    let word : c.in_ok-name.name.now ≡ codes "run" = search rules in
+    let none = run_wrong (subcommand_rows_of c.args.matches.now) (c.in_ok-name.name.now, rows_of given) (found_is _ _ _ _ _ (search rules) (search rules)) word c.in_err-running.ensures.none in
+    rw c.from_residual-in_err-running.ensures (λ other e. none other e)

@@ -2,7 +2,7 @@ use Rattle.std.proofs.Common.{◌≡◌, ◌∙◌, true, ap, ap₂, codes}
 use Rattle.std.proofs.lemmas.Result.{IfOk-weaker}
 use Rattle.clap.specs.Words.{App, Rule, app_of, new_app, with_rule, with_subcommand}
 use Rattle.clap.specs.Simple.{app_of_fields, on_top}
-use Rattle.ravenhost.specs.Choices.{flag_rule, flagged, notes_rule, versioned, alone}
+use Rattle.ravenhost.specs.Choices.{flag_rule, flagged, notes_rule, running, versioned, alone}
 use Rattle.clap.specs.Walk.{Text}
 use Rattle.ravenhost.proofs.chosen.command.Goals as goal
 
@@ -21,6 +21,6 @@ returns c =
     c.in_ok-subcommand.ensures.shape c.in_ok-play.ensures.local ∙ ap₂ with_subcommand top_is (ap (λ (a : App). a.top) play_is) in
     let two : app_of c.in_ok-subcommand-2.field-0 ≡ with_subcommand (with_subcommand alone (flagged (codes "play") (codes "all")).top) (flagged (codes "check") (codes "explain")).top =
     c.in_ok-subcommand-2.ensures.shape c.in_ok-check.ensures.local ∙ ap₂ with_subcommand one (ap (λ (a : App). a.top) check_is) in
-    let three : app_of c.in_ok-subcommand-3.field-0 ≡ with_subcommand (with_subcommand (with_subcommand alone (flagged (codes "play") (codes "all")).top) (flagged (codes "check") (codes "explain")).top) (new_app (codes "run")).top =
-    c.in_ok-subcommand-3.ensures.shape c.run_subcommand.ensures.local ∙ ap₂ with_subcommand two (ap (λ (a : App). a.top) c.run_subcommand.ensures.app) in
+    let three : app_of c.in_ok-subcommand-3.field-0 ≡ with_subcommand (with_subcommand (with_subcommand alone (flagged (codes "play") (codes "all")).top) (flagged (codes "check") (codes "explain")).top) running.top =
+    c.in_ok-subcommand-3.ensures.shape c.in_ok-run.ensures.local ∙ ap₂ with_subcommand two (ap (λ (a : App). a.top) c.in_ok-run.ensures.app) in
     IfOk-weaker c.subcommand-6.result _ _ (λ r h. h.shape c.in_ok-audit.ensures.local ∙ ap₂ with_subcommand three (ap (λ (a : App). a.top) c.in_ok-audit.ensures.app)) c.subcommand-6.ensures
