@@ -20,4 +20,4 @@ returns-in-Err-GivenUp g c =
 pub returns-in-Err-NoMemory : goal.returns-in-Err-NoMemory
 returns-in-Err-NoMemory g c =
     let is : c.args.hired ≡ Err NoMemory = search rules in
-    no_memory_said _ _ (catalogue_of c.args.session.now.staff.control.seen) c.args.actor c.args.hired c.say.result is c.say.ensures
+    no_memory_said _ _ (catalogue_of c.args.session.now.staff.control.seen) c.args.actor c.args.hired c.say-in-Err-NoMemory.result is c.say-in-Err-NoMemory.ensures
