@@ -27,7 +27,7 @@ use fronts::fronts_of;
 use row_files::failing::{FailingReader, FailingWriter};
 use row_files::{bytes_of, names_before};
 use rv_check::check::check;
-use rv_check::warnings::warnings_of;
+use rv_check::warnings::{Warnings, run_warnings_of, warnings_of};
 use rv_exec::machine::STACK_BYTES;
 use rv_explain::explain;
 use rv_fault::Failure;
@@ -108,8 +108,8 @@ fn given(alloc: Global, script: &[u8], deed: Deed<'_>, is_explained: bool) -> io
 }
 
 /// Adds what is told of the lists of a script.
-fn add_notes(alloc: Global, script: &[u8], given: &mut Vec<u8>) -> io::Result<()> {
-    match warnings_of(alloc, script) {
+fn add_notes(warnings: Result<Warnings, Failure>, given: &mut Vec<u8>) -> io::Result<()> {
+    match warnings {
         Ok(warnings) => {
             given.extend_from_slice(warnings.first.as_bytes())?;
             given.extend_from_slice(warnings.later.as_bytes())?;
@@ -264,8 +264,22 @@ fn told(rt: &HostRuntime, name: &str) -> io::Result<String> {
     };
     if let Some(notes) = bytes_of(rt, name, "notes")? {
         wanted.extend_from_slice(notes.as_slice())?;
-        add_notes(alloc, script.as_slice(), &mut given)?;
+        add_notes(warnings_of(alloc, script.as_slice()), &mut given)?;
     }
+    if given.as_slice() == wanted.as_slice() {
+        return Ok(format!(in alloc; "{name}: ok")?);
+    }
+    let line = first_difference(given.as_slice(), wanted.as_slice());
+    Ok(format!(in alloc; "{name}: differs at line {line}")?)
+}
+
+/// Whether what is told of the lists that stand before the commands of a run is what stands beside them, in words.
+fn told_of_run(rt: &HostRuntime, name: &str) -> io::Result<String> {
+    let alloc = rt.alloc();
+    let before = bytes_of(rt, name, "before")?.unwrap_or(Vec::new(alloc));
+    let wanted = bytes_of(rt, name, "notes")?.unwrap_or(Vec::new(alloc));
+    let mut given = Vec::new(alloc);
+    add_notes(run_warnings_of(alloc, before.as_slice()), &mut given)?;
     if given.as_slice() == wanted.as_slice() {
         return Ok(format!(in alloc; "{name}: ok")?);
     }
@@ -324,6 +338,10 @@ fn tell_all(rt: &HostRuntime) -> io::Result<()> {
             let line = fronts_told(rt, name.as_str(), due.as_slice())?;
             println!(rt; "{line}")?;
         }
+    }
+    for name in names_before(rt, ".before")? {
+        let line = told_of_run(rt, name.as_str())?;
+        println!(rt; "{line}")?;
     }
     Ok(())
 }
