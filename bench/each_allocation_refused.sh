@@ -9,9 +9,9 @@
 # Of all but `run` each must end with status 3, want of memory, and must have written a front of the whole output. A `run` must
 # end in a minute, with status 3, or with 0 and its last line. Each line must be an answer, `nomemory` among them; and `audit`
 # must find the journal that it printed legal. Without threads a run that ends with 0 has answered each command with one line.
-# Scripts may be given instead, for `check --explain` alone, and before them `--program PATH`, a proved program; else it is
-# proved first. It needs a C compiler, for a library of a few lines that stands before malloc. Statuses: 0 all as it should
-# be, 1 not so, 127 a tool is missing.
+# Some of `check`, `play`, `audit`, `run` may be named, or scripts be given for `check --explain` alone, and before them
+# `--program PATH`, a proved program; else it is proved first. It needs a C compiler, for a library of a few lines that stands
+# before malloc. Statuses: 0 all as it should be, 1 not so, 127 a tool is missing.
 set -eu
 bench=$(dirname "$(readlink -f "$0")")
 . "$bench/shared/measuring.sh"
@@ -122,39 +122,44 @@ data=crates/rv_rows/data
 scripts=0 all=0 front="status 3 and a front of the output"
 answer='^(accepted 0|full|halted|badline|raised|unattached|bad command|list BadWord at line 1|nomemory|no thread [A-Za-z0-9_.]+|entries [0-9]+|[0-9]+ .* -> .*)$'
 
-if [ $# -gt 0 ]; then
+# `check --explain`, where no scripts are given on those that the head names.
+of_check() {
+    local fault
+    set -- examples/checked.raven "$data"/names_ok_*.raven "$data"/types_accepted_*.raven
+    for fault in "names "{Unknown,Duplicate,NotVisible,WrongKind,EndName} \
+        "types "{Mismatch,NotStatic,ConstantWritten,BadMode,TooLarge,BadChoice}; do
+        first=$(grep -l ": $fault at" "$data"/*.fault | grep -v /audit_ | head -1)
+        set -- "$@" "${first%.fault}.raven"
+    done
     for script in "$@"; do refuse_each "$script" check --explain; done
     tell "check --explain" "$front"
-    exit
-fi
+}
 
-set -- examples/checked.raven "$data"/names_ok_*.raven "$data"/types_accepted_*.raven
-for fault in "names "{Unknown,Duplicate,NotVisible,WrongKind,EndName} \
-    "types "{Mismatch,NotStatic,ConstantWritten,BadMode,TooLarge,BadChoice}; do
-    first=$(grep -l ": $fault at" "$data"/*.fault | grep -v /audit_ | head -1)
-    set -- "$@" "${first%.fault}.raven"
-done
-for script in "$@"; do refuse_each "$script" check --explain; done
-tell "check --explain" "$front"
+of_play() {
+    local script
+    for script in examples/{first,hand_over,list_edits,revoked_while_queued,bodies}.raven "$data"/full_journal_and_halt.raven; do
+        refuse_each "$script" play --all
+    done
+    tell "play --all" "$front"
+}
 
-for script in examples/{first,hand_over,list_edits,revoked_while_queued,bodies}.raven "$data"/full_journal_and_halt.raven; do
-    refuse_each "$script" play --all
-done
-tell "play --all" "$front"
+of_audit() {
+    local name
+    for name in legal entry_not_due without_last_line_feed unit_texts unit_texts_wrong_answer devices full_journal; do
+        refuse_each "$data/audit_$name.raven" audit
+    done
+    tell audit "$front"
 
-for name in legal entry_not_due without_last_line_feed unit_texts unit_texts_wrong_answer devices full_journal; do
-    refuse_each "$data/audit_$name.raven" audit
-done
-tell audit "$front"
+    for name in legal entry_not_due without_last_line_feed; do
+        refuse_each "$data/audit_file_$name.raven" audit --journal "$data/audit_file_$name.file"
+    done
+    name=$data/audit_file_without_last_line_feed
+    refuse_each "$name.raven" audit --journal "$name.file" --torn
+    tell "audit --journal" "$front"
+}
 
-for name in legal entry_not_due without_last_line_feed; do
-    refuse_each "$data/audit_file_$name.raven" audit --journal "$data/audit_file_$name.file"
-done
-name=$data/audit_file_without_last_line_feed
-refuse_each "$name.raven" audit --journal "$name.file" --torn
-tell "audit --journal" "$front"
-
-cat >"$folder/quiet.raven" <<'RAVEN'
+of_run() {
+    cat >"$folder/quiet.raven" <<'RAVEN'
 @host.toml
 capacity = 40
 @unit
@@ -200,6 +205,16 @@ wait
 journal 1
 quit
 RAVEN
-refuse_each_of_run "$folder/quiet.raven" without_threads
-refuse_each_of_run examples/plant.raven
-tell run "status 3, or nomemory and the last line, and a legal journal"
+    refuse_each_of_run "$folder/quiet.raven" without_threads
+    refuse_each_of_run examples/plant.raven
+    tell run "status 3, or nomemory and the last line, and a legal journal"
+}
+
+case ${1:-} in
+    check | play | audit | run) for part in "$@"; do "of_$part"; done ;;
+    "") for part in check play audit run; do "of_$part"; done ;;
+    *)
+        for script in "$@"; do refuse_each "$script" check --explain; done
+        tell "check --explain" "$front"
+        ;;
+esac
