@@ -20,10 +20,10 @@ use std::thread::Threads;
 /// What was read of a script for `run`.
 #[derive(Drop)]
 pub struct Before {
-    /// What was read, up to the line `@run`, that line, and what was read ahead.
-    pub bytes: Vec<u8>,
-    // How many of these stand before the line.
-    sections: usize,
+    /// What stands before the line `@run`, or all where there is none.
+    pub sections: Vec<u8>,
+    /// That line, and what was read ahead of the commands.
+    pub rest: Vec<u8>,
 }
 
 /// The bytes of the script that a reader gives, at most one past the greatest length, so that its lists are judged before
@@ -42,31 +42,34 @@ pub fn warnings(alloc: Global, script: &[u8]) -> Result<Warnings, Failure> {
     warnings_of(alloc, script)
 }
 
-/// What was read of a script for `run`: what stands before its commands, with the line `@run` where that came, and what was
-/// read ahead of them.
+/// What stands before the commands of a script for `run`, and what had to be read with it.
 pub fn read_before<R: Read>(alloc: Global, reader: &mut R) -> Result<Before, Failure> {
     let mut input = Input::new(alloc);
     match input.preamble(reader) {
-        Ok(Preamble { bytes, runs }) => kept_before(bytes, runs, input.ahead()),
+        Ok(Preamble { bytes, runs }) => before_of(alloc, bytes, runs, input.ahead()),
         Err(InputFault::Memory) => Err(Failure::Memory),
         Err(InputFault::Io(e)) => Err(Failure::Io(e)),
     }
 }
 
-// What was read, put together.
-fn kept_before(mut bytes: Vec<u8>, runs: bool, ahead: &[u8]) -> Result<Before, Failure> {
-    let sections = bytes.len();
+// The same, by what was given and what is ahead of it.
+fn before_of(
+    alloc: Global,
+    sections: Vec<u8>,
+    runs: bool,
+    ahead: &[u8],
+) -> Result<Before, Failure> {
+    let mut rest = Vec::new(alloc);
     if runs {
-        bytes.extend_from_slice(b"@run\n")?;
-        bytes.extend_from_slice(ahead)?;
+        rest.extend_from_slice(b"@run\n")?;
+        rest.extend_from_slice(ahead)?;
     }
-    Ok(Before { bytes, sections })
+    Ok(Before { sections, rest })
 }
 
 /// What is told of the lists that stand before the commands of a run.
-pub fn run_warnings(alloc: Global, before: &Before) -> Result<Warnings, Failure> {
-    let (sections, _) = before.bytes.as_slice().split_at(before.sections);
-    run_warnings_of(alloc, sections)
+pub fn run_warnings(alloc: Global, before: &[u8]) -> Result<Warnings, Failure> {
+    run_warnings_of(alloc, before)
 }
 
 /// Carries out the script that a reader gives, and writes its journal: the line of each entry and,
