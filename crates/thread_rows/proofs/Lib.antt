@@ -1,3 +1,2 @@
 pub mod Actors
-pub mod Notes
 pub mod Turns

@@ -3,13 +3,12 @@
 mod caller;
 mod changes;
 mod journal;
-mod notes;
 mod plant;
 mod starts;
 mod storm;
 mod threads;
 mod three_calls;
-pub mod told_revoke;
+mod told_revoke;
 pub mod two_readers;
 mod waiting;
 

@@ -1,3 +1,0 @@
-pub mod OneTurn
-pub mod Hearing
-pub mod Fitting
