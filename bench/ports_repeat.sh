@@ -3,7 +3,10 @@
 # file, beside four times as many busy threads as there are processors. It says how many rounds ended within five minutes each
 # with each line as due. How often may be given (200). It proves nothing; a round that stalls has a port that was not woken, or
 # a thread that waits for another one.
-# The first time it takes some minutes to prove and build. It needs rt, nproc, seq, grep, cmp, mktemp and timeout.
+#
+#     bench/ports_repeat.sh [ROUNDS [PROGRAM]]
+#
+# Without a program, by its whole path, it is proved and built the first time, which takes some minutes. It needs rt, nproc, seq, grep, cmp, mktemp and timeout.
 set -eu
 
 missing() {
@@ -25,13 +28,16 @@ stop() {
     done
 }
 trap stop EXIT
-# Here, beside its data, the run itself finds no games; what counts is the proved program that it builds.
-rt run >"$log" 2>&1 </dev/null || true
-if ! [ -x out/thread_rows ] || ! [ -e out/thread_rows.stamp ]; then
-    cat "$log" >&2
-    exit 1
+program=${2:-}
+if [ -z "$program" ]; then
+    # Here, beside its data, the run itself finds no games; what counts is the proved program that it builds.
+    rt run >"$log" 2>&1 </dev/null || true
+    if ! [ -x out/thread_rows ] || ! [ -e out/thread_rows.stamp ]; then
+        cat "$log" >&2
+        exit 1
+    fi
+    program=$PWD/out/thread_rows
 fi
-program=$PWD/out/thread_rows
 # There are no transcripts and no games of steps where it runs: so their lines aren't due.
 grep -v -e '^@' -e '\.run: ' stdout >"$folder/due"
 cd "$folder"
