@@ -9,6 +9,9 @@
 //! was written is a prefix.
 //! `NAME.fault` is the fault that has to be told, where there is one, and `NAME.explained` what has to be said below it.
 //! `NAME.notes`, where it is there, is what has to be told of the lists of the script.
+//! Where a script is played that has texts of units, and no fault, its journal is judged over its units, and each end of a body has
+//! to be what its text means, or `NAME.ends` is what has to be said. Beside a `NAME.verdict` it is what has to be said of ends
+//! below the verdict.
 //!
 //! Where there is a `NAME.cuts`, the script is also checked cut at every byte: the file has a line `FIRST..LAST -> WORDS`, or
 //! `BYTES -> WORDS`, for as many bytes kept of it, from none to all, which lead to the same words (`bench/model/cuts.py
@@ -20,9 +23,11 @@
 #![tactic(auto)]
 
 mod cut;
+mod ends;
 mod fronts;
 
 use cut::{Ends, Share};
+use ends::{all_are_explained, ends_said, has_texts};
 use fronts::fronts_of;
 use row_files::failing::{FailingReader, FailingWriter};
 use row_files::{bytes_of, names_before};
@@ -32,7 +37,7 @@ use rv_exec::machine::STACK_BYTES;
 use rv_explain::explain;
 use rv_fault::Failure;
 use rv_play::play::play;
-use rv_verdict::{Watch, audit, audit_file};
+use rv_verdict::{Watch, audit, audit_explained, audit_file, audit_file_explained};
 use std::alloc::Global;
 use std::{env, io, thread};
 
@@ -44,6 +49,10 @@ enum Deed<'a> {
     Audit,
     /// The journal stands in a file of its own.
     AuditFile(&'a [u8]),
+    /// Its ends are explained.
+    Explain,
+    /// The same of one in a file of its own.
+    ExplainFile(&'a [u8]),
 }
 
 // Nobody waits for an audit of rows.
@@ -51,7 +60,7 @@ enum Deed<'a> {
 struct Unwatched {}
 
 impl Watch for Unwatched {
-    fn passed(&mut self, _entries: usize) {}
+    fn passed(&mut self, _entries: usize, _line: &[u8]) {}
 }
 
 // Does what is to be done with a script.
@@ -72,6 +81,17 @@ fn carry_out<R: io::Read, W: io::Write>(
             let mut journal = journal;
             let mut watch = Unwatched {};
             let _audited = audit_file(alloc, reader, &mut journal, false, &mut watch, written)?;
+            Ok(())
+        }
+        Deed::Explain => {
+            let _told = audit_explained(alloc, reader, written)?;
+            Ok(())
+        }
+        Deed::ExplainFile(journal) => {
+            let mut journal = journal;
+            let mut watch = Unwatched {};
+            let _told =
+                audit_file_explained(alloc, reader, &mut journal, false, &mut watch, written)?;
             Ok(())
         }
     }
@@ -138,6 +158,8 @@ struct Wanted {
     bytes: Vec<u8>,
     is_checked: bool,
     is_audited: bool,
+    // Whether the ends in a journal that is judged are explained.
+    is_explained: bool,
 }
 
 // How many reads and writes of a script are made to fail at most.
@@ -191,8 +213,9 @@ fn failures_told(rt: &HostRuntime, name: &str) -> io::Result<String> {
         bytes: due,
         is_checked,
         is_audited,
+        is_explained,
     } = wanted_for(rt, name)?;
-    let deed = deed_beside(is_checked, is_audited);
+    let deed = deed_beside(is_checked, is_audited, is_explained);
     let reads = reads_of(alloc, script.as_slice(), deed, due.as_slice());
     let writes = writes_of(alloc, script.as_slice(), deed, due.as_slice());
     match (reads, writes) {
@@ -209,10 +232,13 @@ fn wanted_for(rt: &HostRuntime, name: &str) -> io::Result<Wanted> {
     let verdict = bytes_of(rt, name, "verdict")?;
     let is_checked = said.is_some();
     let is_audited = verdict.is_some();
+    let ends = if is_audited { bytes_of(rt, name, "ends")? } else { None };
+    let is_explained = ends.is_some();
     let mut bytes = Vec::new(rt.alloc());
     for part in [
         said,
         verdict,
+        ends,
         bytes_of(rt, name, "journal")?,
         bytes_of(rt, name, "fault")?,
     ] {
@@ -224,18 +250,44 @@ fn wanted_for(rt: &HostRuntime, name: &str) -> io::Result<Wanted> {
         bytes,
         is_checked,
         is_audited,
+        is_explained,
     })
 }
 
 // What is done with a script whose journal stands in no file of its own.
-fn deed_beside(is_checked: bool, is_audited: bool) -> Deed<'static> {
-    if is_audited {
+fn deed_beside(is_checked: bool, is_audited: bool, is_explained: bool) -> Deed<'static> {
+    if is_audited && is_explained {
+        Deed::Explain
+    } else if is_audited {
         Deed::Audit
     } else if is_checked {
         Deed::Check
     } else {
         Deed::Play
     }
+}
+
+// What is said of the ends in the journal that a script was played to, where it isn't what has to be said.
+fn other_ends(rt: &HostRuntime, name: &str, script: &[u8], played: &[u8]) -> io::Result<Option<String>> {
+    let alloc = rt.alloc();
+    let (Ok(script), Ok(played)) = (str::from_utf8(script), str::from_utf8(played)) else {
+        return Ok(None);
+    };
+    if !has_texts(script) {
+        return Ok(None);
+    }
+    let said = ends_said(alloc, script, played)?;
+    let Ok(said) = str::from_utf8(said.as_slice()) else {
+        return Ok(None);
+    };
+    let is_due = match bytes_of(rt, name, "ends")? {
+        Some(ends) => said.as_bytes() == ends.as_slice(),
+        None => all_are_explained(said),
+    };
+    if is_due {
+        return Ok(None);
+    }
+    Ok(Some(String::from_str(alloc, said)?))
 }
 
 /// Whether a script gives what stands beside it, in words.
@@ -246,6 +298,7 @@ fn told(rt: &HostRuntime, name: &str) -> io::Result<String> {
         bytes: mut wanted,
         is_checked,
         is_audited,
+        is_explained: are_ends_explained,
     } = wanted_for(rt, name)?;
     let explained = bytes_of(rt, name, "explained")?;
     let is_explained = explained.is_some();
@@ -254,11 +307,15 @@ fn told(rt: &HostRuntime, name: &str) -> io::Result<String> {
     }
     let mut given = match bytes_of(rt, name, "file")? {
         Some(file) => {
-            let deed = Deed::AuditFile(file.as_slice());
+            let deed = if are_ends_explained {
+                Deed::ExplainFile(file.as_slice())
+            } else {
+                Deed::AuditFile(file.as_slice())
+            };
             given(alloc, script.as_slice(), deed, is_explained)?
         }
         None => {
-            let deed = deed_beside(is_checked, is_audited);
+            let deed = deed_beside(is_checked, is_audited, are_ends_explained);
             given(alloc, script.as_slice(), deed, is_explained)?
         }
     };
@@ -267,6 +324,12 @@ fn told(rt: &HostRuntime, name: &str) -> io::Result<String> {
         add_notes(alloc, script.as_slice(), &mut given)?;
     }
     if given.as_slice() == wanted.as_slice() {
+        let is_played = !is_checked && !is_audited && bytes_of(rt, name, "fault")?.is_none();
+        if is_played {
+            if let Some(said) = other_ends(rt, name, script.as_slice(), given.as_slice())? {
+                return Ok(format!(in alloc; "{name}: of its ends is said: {said}")?);
+            }
+        }
         return Ok(format!(in alloc; "{name}: ok")?);
     }
     let line = first_difference(given.as_slice(), wanted.as_slice());

@@ -1,0 +1,115 @@
+//! What the text of a body means on what was recorded of it.
+
+ghost use Rattle.std.specs.Prelude.{◌≡◌, []};
+ghost use Rattle.rv_exec.specs.Bodies.{bodies_view};
+ghost use Rattle.rv_ends.specs.Afoot.{open_view};
+ghost use Rattle.rv_ends.specs.Courses.{IsCourse, calls_without_text, is_without_text};
+ghost use Rattle.rv_ends.specs.Explained.{end_by};
+
+use crate::afoot::OpenBody;
+use crate::following::Following;
+use rv_event::entry::{Answer, Request};
+use rv_exec::bodies::Bodies;
+use rv_exec::machine::{Ended, run_body};
+use rv_shape::catalogue::Catalogue;
+use rv_value::Scalars;
+
+/// What the text of a body means where an end of the body was recorded.
+#[derive(Clone, Copy, Drop)]
+pub enum Meaning {
+    /// That end.
+    Explained,
+    /// The body has no text, or a body that it called has none.
+    WithoutText,
+    /// The end by this request.
+    Gives(Request),
+    /// It asks this request, of which there is no entry.
+    Asks(Request),
+}
+
+/// What a body comes to on what was recorded of it.
+#[derive(Clone, Copy, Drop)]
+pub enum Course {
+    /// It ends as was recorded.
+    Explained,
+    /// It has no text, or a body that it called has none.
+    WithoutText,
+    /// It ends by this request.
+    Gives(Request),
+    /// It ends as was recorded, where this ask, of which there is no entry, stopped it.
+    Stops(Request),
+    /// It asks this request, of which there is no entry.
+    Asks(Request),
+}
+
+// The request that an end is.
+fn end_by(is_function: bool, ended: Ended) -> Request
+    ensures { result ≡ end_by is_function (ended.exit, ended.scalars) }
+{
+    if is_function {
+        Request::Complete(Scalars::new(), ended.exit)
+    } else {
+        Request::Complete(ended.scalars, ended.exit)
+    }
+}
+
+// Whether an ask started a body that has no text.
+fn is_without_text(bodies: &Bodies, request: &Request, answer: &Answer) -> bool
+    ensures { result ≡ is_without_text (bodies_view bodies.now) request.now answer.now }
+{
+    match (request, answer) {
+        (Request::Call(object, operation, _), Answer::Started(_)) => {
+            bodies.operation(*object, *operation).is_none()
+        }
+        _ => false,
+    }
+}
+
+// Whether a body called one that has no text.
+fn calls_without_text(bodies: &Bodies, asked: &[(Request, Answer)]) -> bool
+    ensures { result ≡ calls_without_text (bodies_view bodies.now) asked.now }
+{
+    for (request, answer) in asked {
+        if is_without_text(bodies, request, answer) {
+            return true;
+        }
+    }
+    false
+}
+
+/// What a body comes to, by its text and what was recorded of it, where this end was recorded.
+pub fn course_of(bodies: &Bodies, catalogue: &Catalogue, body: &OpenBody, end: &Request) -> Course
+    ensures { IsCourse (bodies_view bodies.now) catalogue.now (open_view body.now) end.now result }
+{
+    let start = body.start;
+    let Some(code) = bodies.operation(start.object, start.operation) else {
+        return Course::WithoutText;
+    };
+    if calls_without_text(bodies, body.asked.as_slice()) {
+        return Course::WithoutText;
+    }
+    let mut following = Following {
+        catalogue,
+        asked: body.asked.as_slice(),
+        held: start.held,
+        other: None,
+        is_broken: false,
+    };
+    let ended = run_body(
+        &(),
+        bodies,
+        start.object,
+        start.operation,
+        start.components,
+        start.values,
+        &mut following,
+    );
+    let given = end_by(code.is_function, ended);
+    let is_whole = following.asked.len() == 0 && !following.is_broken;
+    match following.other {
+        None if is_whole && given == *end => Course::Explained,
+        None => Course::Gives(given),
+        Some(other) if is_whole && given == *end => Course::Stops(other),
+        Some(other) => Course::Asks(other),
+    }
+}
