@@ -40,10 +40,14 @@ nothing_afoot = record { calls = []; bodies = [] }
 
 -- Queues (9.5.3)
 
+abbrev pub is_queued : Answer → Bool
+is_queued Queued = true
+is_queued answer = false
+
 -- the call that an answered request puts into a queue
 abbrev pub queued : ℕ → Request → Answer → Option QueuedCall
-queued actor (Call object operation values) Queued =
-    Some (record { actor = actor; object = object; operation = operation; values = values })
+queued actor (Call object operation values) answer =
+    if is_queued answer then Some (record { actor = actor; object = object; operation = operation; values = values }) else None
 queued actor request answer = None
 
 -- what an answer says that becomes of a queue
@@ -75,7 +79,7 @@ is_ask request = true
 
 abbrev pub with_ask : ℕ → Request → Answer → Open → Open
 with_ask actor request answer body =
-    if body.start.actor == actor && is_ask request then record body { asked = body.asked ++ (request, answer) ∷ [] } else body
+    if (body.start.actor == actor) && is_ask request then record body { asked = body.asked ++ (request, answer) ∷ [] } else body
 
 -- Ends and starts (9.5.1)
 
@@ -107,18 +111,28 @@ handed_next afoot components Nothing = None
 handed_next afoot components (HandedTo actor) = handed components (holding actor afoot.bodies) (call_of actor afoot.calls)
 handed_next afoot components (Dropped actor line) = None
 
--- the body of a handler, whose line fired (C.3)
-abbrev pub fired : ℕ → List ℤ → ℕ → Option OperationNumber → Option Start
-fired actor components held None = None
-fired actor components held (Some at) =
-    Some (record { actor = actor; object = at.object; operation = at.operation; values = []; components = components; held = suc held })
+-- the components that a start carries
+abbrev pub components_of : Answer → Option (List ℤ)
+components_of (Started components) = Some components
+components_of answer = None
+
+-- the body of a call that was answered so, of an actor that holds so many objects
+abbrev pub called : ℕ → ℕ → ℕ → List ℤ → ℕ → Option (List ℤ) → Option Start
+called actor object operation values held None = None
+called actor object operation values held (Some components) =
+    Some (record { actor = actor; object = object; operation = operation; values = values; components = components; held = suc held })
+
+-- the body of a handler, whose line fired and was answered so (C.3)
+abbrev pub fired : ℕ → ℕ → Option OperationNumber → Option (List ℤ) → Option Start
+fired actor held None components = None
+fired actor held (Some at) components = called actor at.object at.operation [] held components
 
 -- the body that an answered request starts
 abbrev pub started : List Shape → Afoot → ℕ → Request → Answer → Option Start
-started shapes afoot actor (Call object operation values) (Started components) =
-    Some (record { actor = actor; object = object; operation = operation; values = values; components = components; held = suc (holding actor afoot.bodies) })
-started shapes afoot actor Fire (Started components) = fired actor components (holding actor afoot.bodies) (handler shapes (actor - 1))
-started shapes afoot actor (Complete components exit) (Done next) = handed_next afoot components next
+started shapes afoot actor (Call object operation values) answer =
+    called actor object operation values (holding actor afoot.bodies) (components_of answer)
+started shapes afoot actor Fire answer = fired actor (holding actor afoot.bodies) (handler shapes (actor - 1)) (components_of answer)
+started shapes afoot actor (Complete components exit) answer = handed_next afoot components (next_of answer)
 started shapes afoot actor request answer = None
 
 abbrev pub begun : Option Start → List Open → List Open

@@ -9,7 +9,8 @@ use Rattle.rv_event.specs.declared.entry.Request.TheVariants as request
 use Rattle.rv_exec.specs.Asking.{Trace}
 use Rattle.rv_exec.specs.Bodies.{operation_of}
 use Rattle.rv_ends.specs.Afoot.{Open}
-use Rattle.rv_ends.specs.Explained.{ByRecorded, FollowsToStop, Ends}
+use Rattle.rv_ends.specs.Explained.{ByRecorded, FollowsToStop, Ends, is_stopped_end}
+use Rattle.rv_ends.specs.Following.{Place}
 use Rattle.rv_ends.specs.declared.meaning.Course.{Course}
 use Rattle.rv_ends.specs.declared.meaning.Course.TheVariants as course
 
@@ -36,3 +37,11 @@ IsCourse bodies shapes body end (course.Gives request) = Unit {0}
 IsCourse bodies shapes body end (course.Stops other) =
     (trace : Trace) × FollowsToStop shapes body.start.held body.asked other trace × Ends bodies body.start trace end
 IsCourse bodies shapes body end (course.Asks request) = Unit {0}
+
+-- what is found where a run came to this place, and gave this end
+abbrev pub IsWeighed : Place → Request → Request → Course → Type 0
+IsWeighed place given end course.Explained = (place.other ≡ None) × (place.asked ≡ []) × (given ≡ end) × (is_stopped_end end ≡ false)
+IsWeighed place given end course.WithoutText = ⊥
+IsWeighed place given end (course.Gives request) = Unit {0}
+IsWeighed place given end (course.Stops other) = (place.other ≡ Some other) × (place.is_broken ≡ false) × (place.asked ≡ []) × (given ≡ end)
+IsWeighed place given end (course.Asks request) = Unit {0}

@@ -105,7 +105,7 @@ is_stop answer = false
 
 -- whether an entry is an actor's end of a body by stopped, or another actor's
 abbrev pub leaves_open : ℕ → Entry → Bool
-leaves_open actor (Asked by request answer) = if by == actor then is_stopped_end request else true
+leaves_open actor (Asked by request answer) = if actor == by then is_stopped_end request else true
 leaves_open actor entry = true
 
 abbrev pub AllLeaveOpen : ℕ → List Entry → Type 0
@@ -135,10 +135,10 @@ abbrev pub innermost : ℕ → List Open → Option Open
 innermost actor [] = None
 innermost actor (body ∷ bodies) = if body.start.actor == actor then Some body else innermost actor bodies
 
--- what was recorded of a body makes its text end by this request
+-- what was recorded of a body makes its text end by this request; by stopped it ends where an ask has no entry, and not so
 abbrev pub ByRecorded : UnitBodies → List Shape → Open → Request → Type 0
 ByRecorded bodies shapes body request =
-    (trace : Trace) × Follows shapes body.start.held body.asked trace × Ends bodies body.start trace request
+    (is_stopped_end request ≡ false) × (trace : Trace) × Follows shapes body.start.held body.asked trace × Ends bodies body.start trace request
 
 -- so it does with one ask that has no entry, which stopped it
 abbrev pub ByStop : UnitBodies → History → ℕ → Open → Request → Type 0

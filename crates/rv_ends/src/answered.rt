@@ -2,9 +2,8 @@
 
 ghost use Rattle.std.specs.Prelude.{◌≡◌, ◌<◌, ◌≤◌, ◌^◌, ◌∷◌, ◌-◌, suc, length, map, option_map, remove, Some, None, IfOk, OnOk, IfSome, IsNone};
 ghost use Rattle.rv_event.specs.Past.{named_in};
-ghost use Rattle.rv_shape.specs.Catalogue as catalogues;
 ghost use Rattle.rv_ends.specs.Explained.{innermost};
-ghost use Rattle.rv_ends.specs.Afoot.{Afoot, begun, call_of, closed, fired, handed, handed_next, holding, is_ask, is_end, joined, left, next_of, open_view, queued, started, with_ask, without};
+ghost use Rattle.rv_ends.specs.Afoot.{begun, call_of, called, closed, components_of, fired, handed, handed_next, holding, is_ask, is_end, is_queued, joined, left, next_of, open_view, queued, started, with_ask, without};
 
 use crate::afoot::{OpenBody, QueuedCall, Start};
 use rv_event::entry::{Answer, Next, Request};
@@ -44,20 +43,19 @@ fn hear(
     if body.start.actor != actor || !is_ask(request) {
         return Ok(());
     }
-    match body.asked.push((*request, *answer)) {
-        Ok(()) => Ok(()),
-        Err(_) => Err(AllocError),
-    }
+    body.asked.push((*request, *answer))?;
+    Ok(())
 }
 
 /// The open bodies with one more ask of an actor.
+#[tactic(auto, using(crate::proofs::Heard::heard_more, crate::proofs::Heard::heard_all))]
 pub fn hear_all(
-    bodies: &mut Vec<OpenBody>,
+    bodies: &mut [OpenBody],
     actor: usize,
     request: &Request,
     answer: &Answer,
 ) -> Result<(), AllocError>
-    ensures { OnOk result (map open_view bodies.new.items ≡ map (with_ask actor request.now answer.now) (map open_view bodies.old.items)) }
+    ensures { OnOk result (map open_view bodies.new ≡ map (with_ask actor request.now answer.now) (map open_view bodies.old)) }
 {
     for body in bodies.iter_mut() {
         hear(body, actor, request, answer)?;
@@ -136,10 +134,8 @@ pub fn begin(
         start,
         asked: Vec::new(alloc),
     };
-    match bodies.insert(0, body) {
-        Ok(()) => Ok(()),
-        Err(_) => Err(AllocError),
-    }
+    bodies.insert(0, body)?;
+    Ok(())
 }
 
 // The call that waits of an actor.
@@ -180,51 +176,55 @@ fn handed_next(
 {
     match next {
         Next::HandedTo(actor) => handed(components, holding(bodies, actor), call_of(calls, actor)),
+        Next::Nothing | Next::Dropped(_, _) => None,
+    }
+}
+
+// The components that a start carries.
+fn components_of(answer: &Answer) -> Option<Scalars>
+    ensures { result ≡ components_of answer.now }
+{
+    match *answer {
+        Answer::Started(components) => Some(components),
         _ => None,
     }
 }
 
-// The body of a handler.
-fn fired(
-    actor: usize,
-    components: Scalars,
-    held: usize,
-    handler: Option<(usize, usize)>,
-) -> Option<Start>
-    requires { held < 2 ^ 63 }
-    ensures { result ≡ fired actor components held (option_map (λ p. record { object = p.0; operation = p.1 }) handler) }
-{
-    let (object, operation) = handler?;
-    Some(Start {
-        actor,
-        object,
-        operation,
-        values: Args::new(),
-        components,
-        held: held + 1,
-    })
-}
-
-// The body of a call.
+// The body of a call that was answered so.
 fn called(
     actor: usize,
     object: usize,
     operation: usize,
     values: Args,
-    components: Scalars,
     held: usize,
-) -> Start
+    components: Option<Scalars>,
+) -> Option<Start>
     requires { held < 2 ^ 63 }
-    ensures { result ≡ record { actor = actor; object = object; operation = operation; values = values; components = components; held = suc held } }
+    ensures { result ≡ called actor object operation values held components }
 {
-    Start {
+    let components = components?;
+    Some(Start {
         actor,
         object,
         operation,
         values,
         components,
         held: held + 1,
-    }
+    })
+}
+
+// The body of a handler, whose line fired and was answered so.
+fn fired(
+    actor: usize,
+    held: usize,
+    handler: Option<(usize, usize)>,
+    components: Option<Scalars>,
+) -> Option<Start>
+    requires { held < 2 ^ 63 }
+    ensures { result ≡ fired actor held (option_map (λ p. record { object = p.0; operation = p.1 }) handler) components }
+{
+    let (object, operation) = handler?;
+    called(actor, object, operation, Args::new(), held, components)
 }
 
 /// The body that an answered request starts.
@@ -238,25 +238,30 @@ pub fn started(
 ) -> Option<Start>
     ensures { result ≡ started catalogue.now (record { calls = calls.now; bodies = map open_view bodies.now }) actor request.now answer.now }
 {
-    match (*request, *answer) {
-        (Request::Call(object, operation, values), Answer::Started(components)) => Some(called(
+    let held = holding(bodies, actor);
+    match *request {
+        Request::Call(object, operation, values) => {
+            called(actor, object, operation, values, held, components_of(answer))
+        }
+        Request::Fire => fired(
             actor,
-            object,
-            operation,
-            values,
-            components,
-            holding(bodies, actor),
-        )),
-        (Request::Fire, Answer::Started(components)) => fired(
-            actor,
-            components,
-            holding(bodies, actor),
+            held,
             catalogue.handler(actor.saturating_sub(1)),
+            components_of(answer),
         ),
-        (Request::Complete(components, _), Answer::Done(next)) => {
-            handed_next(calls, bodies, components, next)
+        Request::Complete(components, _) => {
+            handed_next(calls, bodies, components, next_of(answer))
         }
         _ => None,
+    }
+}
+
+fn is_queued(answer: &Answer) -> bool
+    ensures { result ≡ is_queued answer.now }
+{
+    match answer {
+        Answer::Queued => true,
+        _ => false,
     }
 }
 
@@ -264,39 +269,82 @@ pub fn started(
 fn queued(actor: usize, request: &Request, answer: &Answer) -> Option<QueuedCall>
     ensures { result ≡ queued actor request.now answer.now }
 {
-    match (*request, *answer) {
-        (Request::Call(object, operation, values), Answer::Queued) => Some(QueuedCall {
-            actor,
-            object,
-            operation,
-            values,
-        }),
+    match *request {
+        Request::Call(object, operation, values) => {
+            if !is_queued(answer) {
+                return None;
+            }
+            Some(QueuedCall {
+                actor,
+                object,
+                operation,
+                values,
+            })
+        }
         _ => None,
     }
 }
 
-// The actor that an answer names as handed an object or dropped.
-fn named(answer: &Answer) -> Option<usize>
-    ensures { result ≡ named_in (next_of answer.now) }
+// What an answer says that becomes of a queue.
+fn next_of(answer: &Answer) -> Next
+    ensures { result ≡ next_of answer.now }
 {
     match *answer {
-        Answer::Done(Next::HandedTo(actor)) => Some(actor),
-        Answer::Done(Next::Dropped(actor, _)) => Some(actor),
-        _ => None,
+        Answer::Done(next) => next,
+        _ => Next::Nothing,
+    }
+}
+
+// The actor that is named as handed an object or dropped.
+fn named_in(next: Next) -> Option<usize>
+    ensures { result ≡ named_in next }
+{
+    match next {
+        Next::Nothing => None,
+        Next::HandedTo(actor) => Some(actor),
+        Next::Dropped(actor, _) => Some(actor),
     }
 }
 
 // The calls without those of an actor.
 fn leave(alloc: Global, calls: &[QueuedCall], actor: usize) -> Result<Vec<QueuedCall>, AllocError>
-    ensures { IfOk result (λ left_over. left_over.items ≡ left (Some actor) calls.now) }
+    ensures { IfOk result (λ others. others.items ≡ left (Some actor) calls.now) }
 {
-    let mut others = Vec::new(alloc);
-    for call in calls {
-        if call.actor != actor {
-            others.push(*call)?;
-        }
+    let Some((first, rest)) = calls.split_first() else {
+        return Ok(Vec::new(alloc));
+    };
+    let mut others = leave(alloc, rest, actor)?;
+    if first.actor != actor {
+        others.insert(0, *first)?;
     }
     Ok(others)
+}
+
+// The calls without those of an actor, if one is named.
+fn leave_if(
+    alloc: Global,
+    calls: &mut Vec<QueuedCall>,
+    named: Option<usize>,
+) -> Result<(), AllocError>
+    ensures { OnOk result (calls.new.items ≡ left named calls.old.items) }
+{
+    let Some(actor) = named else {
+        return Ok(());
+    };
+    let others = leave(alloc, calls.as_slice(), actor)?;
+    *calls = others;
+    Ok(())
+}
+
+// The calls with one that joins them, if one does.
+fn join(calls: &mut Vec<QueuedCall>, call: Option<QueuedCall>) -> Result<(), AllocError>
+    ensures { OnOk result (calls.new.items ≡ joined call calls.old.items) }
+{
+    let Some(call) = call else {
+        return Ok(());
+    };
+    calls.insert(0, call)?;
+    Ok(())
 }
 
 /// The calls that wait behind an answered request.
@@ -309,14 +357,6 @@ pub fn queue(
 ) -> Result<(), AllocError>
     ensures { OnOk result (calls.new.items ≡ joined (queued actor request.now answer.now) (left (named_in (next_of answer.now)) calls.old.items)) }
 {
-    if let Some(named) = named(answer) {
-        *calls = leave(alloc, calls.as_slice(), named)?;
-    }
-    let Some(call) = queued(actor, request, answer) else {
-        return Ok(());
-    };
-    match calls.insert(0, call) {
-        Ok(()) => Ok(()),
-        Err(_) => Err(AllocError),
-    }
+    leave_if(alloc, calls, named_in(next_of(answer)))?;
+    join(calls, queued(actor, request, answer))
 }

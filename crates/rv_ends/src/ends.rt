@@ -1,15 +1,16 @@
 //! The ends of bodies, entry by entry of a journal.
 
-ghost use Rattle.std.specs.Prelude.{◌≡◌, ◌≢◌, ◌<◌, ◌^◌, ◌⊎◌, [], true, Some, IfOk, IfErr, OnOk, option_copied};
-ghost use Rattle.std.specs.List.{filter};
+ghost use Rattle.std.specs.Prelude.{◌≡◌, ◌≢◌, true, Some, None, IfOk, OnOk};
 ghost use Rattle.rv_code.specs.BodyView.{unit_view};
-ghost use Rattle.rv_exec.specs.Bodies.{bodies_view, no_bodies, with_unit};
+ghost use Rattle.rv_exec.specs.Bodies.{no_bodies, with_unit};
 ghost use Rattle.rv_history.specs.Due.{out};
 ghost use Rattle.rv_history.specs.Legal.{after, after_list, after_load, empty, out_list, out_load};
 ghost use Rattle.rv_history.specs.Limits.{limits_of};
 ghost use Rattle.rv_ends.specs.Afoot.{answered};
-ghost use Rattle.rv_ends.specs.Ends.{IsMeaning, IsWhole, afoot_of, history_of, is_settled, texts_of};
-ghost use Rattle.rv_ends.specs.Explained.{IsStopped, innermost, is_stop};
+ghost use Rattle.rv_event.specs.Recorded.{recorded};
+ghost use Rattle.rv_history.specs.History.{History};
+ghost use Rattle.rv_ends.specs.Ends.{AllStopped, IsFoundStop, IsMeaning, IsWhole, afoot_of, history_of, is_settled, left_stops, of_others, texts_of};
+ghost use Rattle.rv_ends.specs.Explained.{IsStopped, is_stop};
 
 use crate::afoot::{OpenBody, QueuedCall};
 use crate::answered::{begin, close, hear_all, innermost, queue, started};
@@ -55,14 +56,30 @@ fn is_stop(answer: &Answer) -> bool
 }
 
 // What stopped others than this actor.
-fn without(alloc: Global, stops: &[Stop], actor: usize) -> Result<Vec<Stop>, AllocError> {
-    let mut others = Vec::new(alloc);
-    for stop in stops {
-        if stop.actor != actor {
-            others.push(*stop)?;
-        }
+fn without(alloc: Global, stops: &[Stop], actor: usize) -> Result<Vec<Stop>, AllocError>
+    ensures { IfOk result (λ others. others.items ≡ of_others actor stops.now) }
+{
+    let Some((first, rest)) = stops.split_first() else {
+        return Ok(Vec::new(alloc));
+    };
+    let mut others = without(alloc, rest, actor)?;
+    if first.actor != actor {
+        others.insert(0, *first)?;
     }
     Ok(others)
+}
+
+// Whether this ask stopped the actor.
+fn has_stop(stops: &[Stop], actor: usize, ask: &Request) -> bool
+    ensures { (h : History) → AllStopped h stops.now → result ≡ true → IsStopped h actor ask.now }
+{
+    let Some((first, rest)) = stops.split_first() else {
+        return false;
+    };
+    if first.actor == actor && first.ask == *ask {
+        return true;
+    }
+    has_stop(rest, actor, ask)
 }
 
 impl Ends {
@@ -91,7 +108,12 @@ impl Ends {
     }
 
     /// Loads a unit, with its bodies.
-    pub fn load(&mut self, shape: &UnitShape, bodies: UnitBodies) -> Result<(), AllocError> {
+    #[tactic(auto, using(crate::proofs::Whole::whole_loaded, crate::proofs::Whole::whole_same))]
+    pub fn load(&mut self, shape: &UnitShape, bodies: UnitBodies) -> Result<(), AllocError>
+        ensures whole { IsWhole self.old → OnOk result (IsWhole self.new) }
+        ensures history { OnOk result (history_of self.new ≡ after_load (history_of self.old) shape.now (out_load (history_of self.old) shape.now)) }
+        ensures texts { OnOk result (recorded (out_load (history_of self.old) shape.now) ≢ None → texts_of self.new ≡ with_unit (unit_view bodies) (texts_of self.old)) }
+    {
         match self.host.load(shape) {
             Answer::Accepted(_) => self.bodies.add(bodies),
             Answer::OutOfMemory => Err(AllocError),
@@ -100,7 +122,12 @@ impl Ends {
     }
 
     /// Sets a list.
-    pub fn set_list(&mut self, list: &AccessList) -> Result<(), AllocError> {
+    #[tactic(auto, using(crate::proofs::Whole::whole_listed, crate::proofs::Whole::whole_same))]
+    pub fn set_list(&mut self, list: &AccessList) -> Result<(), AllocError>
+        ensures whole { IsWhole self.old → OnOk result (IsWhole self.new) }
+        ensures history { OnOk result (history_of self.new ≡ after_list (history_of self.old) (Some list.now) (out_list (history_of self.old) (Some list.now))) }
+        ensures texts { texts_of self.new ≡ texts_of self.old }
+    {
         match self.host.set_list(list) {
             Answer::OutOfMemory => Err(AllocError),
             _ => Ok(()),
@@ -122,12 +149,15 @@ impl Ends {
         );
         queue(self.alloc, &mut self.calls, actor, request, answer)?;
         close(&mut self.under_way, actor, request);
-        hear_all(&mut self.under_way, actor, request, answer)?;
+        hear_all(self.under_way.as_mut_slice(), actor, request, answer)?;
         begin(self.alloc, &mut self.under_way, start)
     }
 
     // What stopped an actor before is past, where it goes on.
-    fn go_on(&mut self, actor: usize, request: &Request) -> Result<(), AllocError> {
+    fn go_on(&mut self, actor: usize, request: &Request) -> Result<(), AllocError>
+        ensures stops { OnOk result (self.new.stops.items ≡ left_stops request.now actor self.old.stops.items) }
+        ensures same { (self.new.host ≡ self.old.host) × (self.new.bodies ≡ self.old.bodies) × (afoot_of self.new ≡ afoot_of self.old) }
+    {
         if is_stopped_end(request) {
             return Ok(());
         }
@@ -135,29 +165,48 @@ impl Ends {
         Ok(())
     }
 
+    // Takes an answer that is recorded into account.
+    fn note(&mut self, actor: usize, request: &Request, answer: &Answer) -> Result<(), AllocError>
+        ensures afoot { OnOk result (afoot_of self.new ≡ answered (history_of self.old).shapes actor request.now answer.now (afoot_of self.old)) }
+        ensures stops { OnOk result (self.new.stops.items ≡ left_stops request.now actor self.old.stops.items) }
+        ensures same { (self.new.host ≡ self.old.host) × (self.new.bodies ≡ self.old.bodies) }
+    {
+        self.take(actor, request, answer)?;
+        self.go_on(actor, request)
+    }
+
     /// Carries out a request. A recorded answer is taken into account, and given.
-    pub fn ask(&mut self, actor: usize, request: &Request) -> Result<Answer, AllocError> {
+    #[tactic(auto, using(crate::proofs::Whole::whole_asked, crate::proofs::Whole::whole_same))]
+    pub fn ask(&mut self, actor: usize, request: &Request) -> Result<Answer, AllocError>
+        ensures answer { IfOk result (λ answer. answer ≡ out (history_of self.old) actor request.now) }
+        ensures history { history_of self.new ≡ after (history_of self.old) actor request.now (out (history_of self.old) actor request.now) }
+        ensures texts { texts_of self.new ≡ texts_of self.old }
+        ensures whole { IsWhole self.old → OnOk result (IsWhole self.new) }
+    {
         let mut answer = Answer::Misuse;
         self.host.put_answer(actor, request, &mut answer);
         if answer.recorded().is_some() {
-            self.take(actor, request, &answer)?;
-            self.go_on(actor, request)?;
+            self.note(actor, request, &answer)?;
         }
         Ok(answer)
     }
 
     // Whether this ask is one that stopped the actor already.
-    fn is_known_stop(&self, actor: usize, ask: &Request) -> bool {
-        for stop in &self.stops {
-            if stop.actor == actor && stop.ask == *ask {
-                return true;
-            }
-        }
-        false
+    fn is_known_stop(&self, actor: usize, ask: &Request) -> bool
+        ensures { result ≡ true → IsWhole self.now → IsStopped (history_of self.now) actor ask.now }
+    {
+        has_stop(self.stops.as_slice(), actor, ask)
     }
 
     // Whether an ask stops its actor here. One that doesn't is carried out.
-    fn stops(&mut self, actor: usize, ask: &Request) -> Result<bool, AllocError> {
+    #[tactic(auto, using(crate::proofs::Whole::stopped_here, crate::proofs::Whole::whole_stopped))]
+    fn is_stopped(&mut self, actor: usize, ask: &Request) -> Result<bool, AllocError>
+        ensures stopped { IsWhole self.old → IfOk result (λ is. is ≡ true → IsStopped (history_of self.old) actor ask.now) }
+        ensures history { IfOk result (λ is. is ≡ true → history_of self.new ≡ history_of self.old) }
+        ensures whole { IsWhole self.old → OnOk result (IsWhole self.new) }
+        ensures texts { texts_of self.new ≡ texts_of self.old }
+    {
+        self.host.replays();
         if self.is_known_stop(actor, ask) {
             return Ok(true);
         }
@@ -165,36 +214,42 @@ impl Ends {
         if !is_stop(&answer) {
             return Ok(false);
         }
-        match self.stops.push(Stop { actor, ask: *ask }) {
-            Ok(()) => Ok(true),
-            Err(_) => Err(AllocError),
-        }
-    }
-
-    // What the innermost body of an actor comes to.
-    fn course(&self, actor: usize, end: &Request) -> Option<Course> {
-        let body = innermost(self.under_way.as_slice(), actor)?;
-        Some(course_of(&self.bodies, self.host.catalogue(), body, end))
+        self.stops.push(Stop { actor, ask: *ask })?;
+        Ok(true)
     }
 
     /// What the text of an actor's innermost body means, where this end of it is to come. After any other answer than that it
     /// is explained, or without a text, the entries to come can't be explained.
-    pub fn meaning(&mut self, actor: usize, end: &Request) -> Result<Meaning, AllocError> {
-        let Some(course) = self.course(actor, end) else {
+    #[tactic(auto, using(crate::proofs::Meanings::explained_is, crate::proofs::Meanings::no_body, crate::proofs::Meanings::without_text, crate::proofs::Meanings::by_found_stop))]
+    pub fn meaning(&mut self, actor: usize, end: &Request) -> Result<Meaning, AllocError>
+        ensures meaning { IsWhole self.old → IfOk result (λ m. IsMeaning (texts_of self.old) (history_of self.old) (afoot_of self.old) actor end.now m) }
+        ensures history { IfOk result (λ m. is_settled m ≡ true → history_of self.new ≡ history_of self.old) }
+        ensures whole { IsWhole self.old → OnOk result (IsWhole self.new) }
+        ensures texts { texts_of self.new ≡ texts_of self.old }
+    {
+        let Some(body) = innermost(self.under_way.as_slice(), actor) else {
             return Ok(Meaning::WithoutText);
         };
-        match course {
+        match course_of(&self.bodies, self.host.catalogue(), body, end) {
             Course::Explained => Ok(Meaning::Explained),
             Course::WithoutText => Ok(Meaning::WithoutText),
             Course::Gives(request) => Ok(Meaning::Gives(request)),
             Course::Asks(request) => Ok(Meaning::Asks(request)),
-            Course::Stops(ask) => {
-                if self.stops(actor, &ask)? {
-                    Ok(Meaning::Explained)
-                } else {
-                    Ok(Meaning::Asks(ask))
-                }
-            }
+            Course::Stops(ask) => self.stopped_by(actor, &ask),
+        }
+    }
+
+    // What an end by stopped means, where this ask is what stopped its body, if anything did.
+    fn stopped_by(&mut self, actor: usize, ask: &Request) -> Result<Meaning, AllocError>
+        ensures stopped { IsWhole self.old → IfOk result (λ m. IsFoundStop (history_of self.old) actor ask.now m) }
+        ensures history { IfOk result (λ m. is_settled m ≡ true → history_of self.new ≡ history_of self.old) }
+        ensures whole { IsWhole self.old → OnOk result (IsWhole self.new) }
+        ensures texts { texts_of self.new ≡ texts_of self.old }
+    {
+        if self.is_stopped(actor, ask)? {
+            Ok(Meaning::Explained)
+        } else {
+            Ok(Meaning::Asks(*ask))
         }
     }
 }

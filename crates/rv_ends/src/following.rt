@@ -121,6 +121,7 @@ impl<'a> Outward<()> for Following<'a> {
 
     ghost went = { λ s trace t. Plays (place_of s) trace (place_of t) };
 
+    #[tactic(auto, using(crate::proofs::Steps::one_passed, crate::proofs::Steps::one_recorded, crate::proofs::Steps::one_missed))]
     fn ask(&mut self, _runtime: &(), request: Request) -> Answer {
         if self.other.is_none() && is_unasked(self.catalogue, self.held, &request) {
             return Answer::Refused(Rule::Reentry, 0, 0);

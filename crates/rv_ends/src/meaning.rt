@@ -1,13 +1,14 @@
 //! What the text of a body means on what was recorded of it.
 
-ghost use Rattle.std.specs.Prelude.{◌≡◌, []};
-ghost use Rattle.rv_exec.specs.Bodies.{bodies_view};
+ghost use Rattle.std.specs.Prelude.{◌≡◌, Some, option_map};
+ghost use Rattle.rv_exec.specs.Bodies.{bodies_view, operation_of};
 ghost use Rattle.rv_ends.specs.Afoot.{open_view};
-ghost use Rattle.rv_ends.specs.Courses.{IsCourse, calls_without_text, is_without_text};
+ghost use Rattle.rv_ends.specs.Courses.{IsCourse, IsWeighed, calls_without_text, is_without_text};
+ghost use Rattle.rv_ends.specs.Following.{place_of};
 ghost use Rattle.rv_ends.specs.Explained.{end_by};
 
 use crate::afoot::OpenBody;
-use crate::following::Following;
+use crate::following::{Following, is_stopped_end};
 use rv_event::entry::{Answer, Request};
 use rv_exec::bodies::Bodies;
 use rv_exec::machine::{Ended, run_body};
@@ -66,28 +67,44 @@ fn is_without_text(bodies: &Bodies, request: &Request, answer: &Answer) -> bool
 }
 
 // Whether a body called one that has no text.
+#[tactic(auto, using(crate::proofs::Heard::text_passed, crate::proofs::Heard::text_found))]
 fn calls_without_text(bodies: &Bodies, asked: &[(Request, Answer)]) -> bool
     ensures { result ≡ calls_without_text (bodies_view bodies.now) asked.now }
 {
-    for (request, answer) in asked {
-        if is_without_text(bodies, request, answer) {
+    for pair in asked {
+        if is_without_text(bodies, &pair.0, &pair.1) {
             return true;
         }
     }
     false
 }
 
-/// What a body comes to, by its text and what was recorded of it, where this end was recorded.
-pub fn course_of(bodies: &Bodies, catalogue: &Catalogue, body: &OpenBody, end: &Request) -> Course
+// What is found at the end of a run, which gave this, where another end may have been recorded.
+fn weighed(following: &Following<'_>, given: Request, end: &Request) -> Course
+    ensures { IsWeighed (place_of following.now) given end.now result }
+{
+    let is_so = following.asked.len() == 0 && given == *end;
+    match following.other {
+        None if is_so && !is_stopped_end(end) => Course::Explained,
+        None => Course::Gives(given),
+        Some(other) if is_so && !following.is_broken => Course::Stops(other),
+        Some(other) => Course::Asks(other),
+    }
+}
+
+// What a body comes to by its text, where none that it called lacks one.
+#[tactic(auto, using(crate::proofs::Courses::course_is))]
+fn run(
+    bodies: &Bodies,
+    catalogue: &Catalogue,
+    body: &OpenBody,
+    is_function: bool,
+    end: &Request,
+) -> Course
+    requires { option_map (λ b. b.is_function) (operation_of (bodies_view bodies.now) body.now.start.object body.now.start.operation) ≡ Some is_function }
     ensures { IsCourse (bodies_view bodies.now) catalogue.now (open_view body.now) end.now result }
 {
     let start = body.start;
-    let Some(code) = bodies.operation(start.object, start.operation) else {
-        return Course::WithoutText;
-    };
-    if calls_without_text(bodies, body.asked.as_slice()) {
-        return Course::WithoutText;
-    }
     let mut following = Following {
         catalogue,
         asked: body.asked.as_slice(),
@@ -104,12 +121,18 @@ pub fn course_of(bodies: &Bodies, catalogue: &Catalogue, body: &OpenBody, end: &
         start.values,
         &mut following,
     );
-    let given = end_by(code.is_function, ended);
-    let is_whole = following.asked.len() == 0 && !following.is_broken;
-    match following.other {
-        None if is_whole && given == *end => Course::Explained,
-        None => Course::Gives(given),
-        Some(other) if is_whole && given == *end => Course::Stops(other),
-        Some(other) => Course::Asks(other),
+    weighed(&following, end_by(is_function, ended), end)
+}
+
+/// What a body comes to, by its text and what was recorded of it, where this end was recorded.
+pub fn course_of(bodies: &Bodies, catalogue: &Catalogue, body: &OpenBody, end: &Request) -> Course
+    ensures { IsCourse (bodies_view bodies.now) catalogue.now (open_view body.now) end.now result }
+{
+    let Some(code) = bodies.operation(body.start.object, body.start.operation) else {
+        return Course::WithoutText;
+    };
+    if calls_without_text(bodies, body.asked.as_slice()) {
+        return Course::WithoutText;
     }
+    run(bodies, catalogue, body, code.is_function, end)
 }

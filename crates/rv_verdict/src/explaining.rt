@@ -101,10 +101,11 @@ impl<'a> Explainer<'a> {
 
     // Takes the load of a unit.
     fn load(&mut self, name: &str) -> Result<(), Failure> {
-        let Some(place) = place_of(self.units, name) else {
+        let units = self.units;
+        let Some(place) = place_of(units, name) else {
             return Ok(());
         };
-        let Some(shape) = self.units.get(place) else {
+        let Some(shape) = units.get(place) else {
             return Ok(());
         };
         let text = match self.texts.get(place) {
@@ -128,8 +129,8 @@ impl<'a> Explainer<'a> {
         if self.found.other.is_some() {
             return Ok(());
         }
-        let mut text = String::new(self.alloc);
-        match read_line(&mut text, self.ends.catalogue(), number, line)? {
+        let found = read_line(&mut self.text, self.ends.catalogue(), number, line)?;
+        match found {
             Some(Deed::Asks(actor, request, _)) => self.ask(number, actor, &request),
             Some(Deed::Loads(_, name, _)) => self.load(name),
             Some(Deed::Lists(_, text, _)) => self.set_list(text),
