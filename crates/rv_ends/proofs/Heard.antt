@@ -15,14 +15,14 @@ upto zero f bodies = bodies
 upto (suc n) f [] = []
 upto (suc n) f (body ∷ bodies) = f body ∷ upto n f bodies
 
-head_is : (a b : Open) (as bs : List Open) → a ∷ as ≡ b ∷ bs → a ≡ b
-head_is a b as bs e = cc e
+head_is : (a b : Open) (xs ys : List Open) → a ∷ xs ≡ b ∷ ys → a ≡ b
+head_is a b xs ys e = cc e
 
-tail_is : (a b : Open) (as bs : List Open) → a ∷ as ≡ b ∷ bs → as ≡ bs
-tail_is a b as bs e = cc e
+tail_is : (a b : Open) (xs ys : List Open) → a ∷ xs ≡ b ∷ ys → xs ≡ ys
+tail_is a b xs ys e = cc e
 
-both : (a b : Open) (as bs : List Open) → a ≡ b → as ≡ bs → a ∷ as ≡ b ∷ bs
-both a b as bs e f = λ i. e i ∷ f i
+both : (a b : Open) (xs ys : List Open) → a ≡ b → xs ≡ ys → a ∷ xs ≡ b ∷ ys
+both a b xs ys e f = λ i. e i ∷ f i
 
 one_more : (i : ℕ) (f : Open → Open) (xs ys : List OpenBody) (v d : OpenBody) → i < length ys → map open_view ys ≡ upto i f (map open_view xs) → open_view v ≡ f (open_view (get_or ys i d)) →
     map open_view (set ys i v) ≡ upto (suc i) f (map open_view xs)

@@ -15,7 +15,6 @@ some_is_none a e = absurd cc
 true_is_false : {X : Type 0} → true ≡ false → X
 true_is_false e = absurd cc
 
-
 -- The first other ask stays.
 
 missed_other : (o : Option Request) (x : Request) (p : Place) (r : Request) → p.other ≡ o → o ≡ Some x → (missed_by o p r).other ≡ Some x

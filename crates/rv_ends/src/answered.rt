@@ -241,7 +241,14 @@ pub fn started(
     let held = holding(bodies, actor);
     match *request {
         Request::Call(object, operation, values) => {
-            called(actor, object, operation, values, held, components_of(answer))
+            called(
+                actor,
+                object,
+                operation,
+                values,
+                held,
+                components_of(answer),
+            )
         }
         Request::Fire => fired(
             actor,

@@ -83,7 +83,10 @@ pub fn ends_said(alloc: Global, script: &str, played: &str) -> io::Result<Vec<u8
 }
 
 /// Whether the last line that is said is that all ends are explained.
-pub fn all_are_explained(said: &str) -> bool {
+pub fn all_are_explained(said: &[u8]) -> bool {
+    let Ok(said) = str::from_utf8(said) else {
+        return false;
+    };
     let Some((first, last)) = said.split_once('\n') else {
         return false;
     };

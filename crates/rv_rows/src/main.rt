@@ -90,8 +90,14 @@ fn carry_out<R: io::Read, W: io::Write>(
         Deed::ExplainFile(journal) => {
             let mut journal = journal;
             let mut watch = Unwatched {};
-            let _told =
-                audit_file_explained(alloc, reader, &mut journal, false, &mut watch, written)?;
+            let _told = audit_file_explained(
+                alloc,
+                reader,
+                &mut journal,
+                false,
+                &mut watch,
+                written,
+            )?;
             Ok(())
         }
     }
@@ -154,6 +160,7 @@ fn first_difference(given: &[u8], wanted: &[u8]) -> usize {
 }
 
 /// What has to be written for a script, before its fault.
+#[derive(Drop)]
 struct Wanted {
     bytes: Vec<u8>,
     is_checked: bool,
@@ -209,15 +216,11 @@ fn writes_of(alloc: Global, script: &[u8], deed: Deed<'_>, due: &[u8]) -> Option
 fn failures_told(rt: &HostRuntime, name: &str) -> io::Result<String> {
     let alloc = rt.alloc();
     let script = bytes_of(rt, name, "raven")?.unwrap_or(Vec::new(alloc));
-    let Wanted {
-        bytes: due,
-        is_checked,
-        is_audited,
-        is_explained,
-    } = wanted_for(rt, name)?;
-    let deed = deed_beside(is_checked, is_audited, is_explained);
-    let reads = reads_of(alloc, script.as_slice(), deed, due.as_slice());
-    let writes = writes_of(alloc, script.as_slice(), deed, due.as_slice());
+    let wanted = wanted_for(rt, name)?;
+    let due = wanted.bytes.as_slice();
+    let deed = deed_beside(wanted.is_checked, wanted.is_audited, wanted.is_explained);
+    let reads = reads_of(alloc, script.as_slice(), deed, due);
+    let writes = writes_of(alloc, script.as_slice(), deed, due);
     match (reads, writes) {
         (Some(reads), Some(writes)) => {
             Ok(format!(in alloc; "{name}: {reads} failed reads and {writes} failed writes ok")?)
@@ -232,7 +235,11 @@ fn wanted_for(rt: &HostRuntime, name: &str) -> io::Result<Wanted> {
     let verdict = bytes_of(rt, name, "verdict")?;
     let is_checked = said.is_some();
     let is_audited = verdict.is_some();
-    let ends = if is_audited { bytes_of(rt, name, "ends")? } else { None };
+    let ends = if is_audited {
+        bytes_of(rt, name, "ends")?
+    } else {
+        None
+    };
     let is_explained = ends.is_some();
     let mut bytes = Vec::new(rt.alloc());
     for part in [
@@ -267,8 +274,13 @@ fn deed_beside(is_checked: bool, is_audited: bool, is_explained: bool) -> Deed<'
     }
 }
 
-// What is said of the ends in the journal that a script was played to, where it isn't what has to be said.
-fn other_ends(rt: &HostRuntime, name: &str, script: &[u8], played: &[u8]) -> io::Result<Option<String>> {
+// What is said of the ends in the journal that a script was played to, where that isn't what has to be said.
+fn other_ends(
+    rt: &HostRuntime,
+    name: &str,
+    script: &[u8],
+    played: &[u8],
+) -> io::Result<Option<String>> {
     let alloc = rt.alloc();
     let (Ok(script), Ok(played)) = (str::from_utf8(script), str::from_utf8(played)) else {
         return Ok(None);
@@ -277,63 +289,72 @@ fn other_ends(rt: &HostRuntime, name: &str, script: &[u8], played: &[u8]) -> io:
         return Ok(None);
     }
     let said = ends_said(alloc, script, played)?;
-    let Ok(said) = str::from_utf8(said.as_slice()) else {
-        return Ok(None);
-    };
     let is_due = match bytes_of(rt, name, "ends")? {
-        Some(ends) => said.as_bytes() == ends.as_slice(),
-        None => all_are_explained(said),
+        Some(ends) => said.as_slice() == ends.as_slice(),
+        None => all_are_explained(said.as_slice()),
     };
     if is_due {
         return Ok(None);
     }
-    Ok(Some(String::from_str(alloc, said)?))
+    let said = str::from_utf8(said.as_slice()).unwrap_or("no text");
+    Ok(Some(format!(in alloc; "of its ends is said {said}")?))
+}
+
+// What is done with a script, of which this has to be written, and whose journal may stand in a file of its own.
+fn deed_for<'a>(wanted: &Wanted, file: &'a Option<Vec<u8>>) -> Deed<'a> {
+    match file {
+        Some(file) if wanted.is_explained => Deed::ExplainFile(file.as_slice()),
+        Some(file) => Deed::AuditFile(file.as_slice()),
+        None => deed_beside(wanted.is_checked, wanted.is_audited, wanted.is_explained),
+    }
+}
+
+// Whether there is more beside a script than its journal: a fault or notes.
+fn has_more(rt: &HostRuntime, name: &str) -> io::Result<bool> {
+    Ok(bytes_of(rt, name, "fault")?.is_some() || bytes_of(rt, name, "notes")?.is_some())
+}
+
+// How what is given differs from what is wanted, in words; where it doesn't, what is said of ends other than is due.
+fn difference(
+    rt: &HostRuntime,
+    name: &str,
+    script: &[u8],
+    given: &[u8],
+    wanted: &Wanted,
+) -> io::Result<Option<String>> {
+    let alloc = rt.alloc();
+    if given != wanted.bytes.as_slice() {
+        let line = first_difference(given, wanted.bytes.as_slice());
+        return Ok(Some(format!(in alloc; "differs at line {line}")?));
+    }
+    let is_played = !wanted.is_checked && !wanted.is_audited;
+    if !is_played || has_more(rt, name)? {
+        return Ok(None);
+    }
+    other_ends(rt, name, script, given)
 }
 
 /// Whether a script gives what stands beside it, in words.
 fn told(rt: &HostRuntime, name: &str) -> io::Result<String> {
     let alloc = rt.alloc();
     let script = bytes_of(rt, name, "raven")?.unwrap_or(Vec::new(alloc));
-    let Wanted {
-        bytes: mut wanted,
-        is_checked,
-        is_audited,
-        is_explained: are_ends_explained,
-    } = wanted_for(rt, name)?;
+    let mut wanted = wanted_for(rt, name)?;
     let explained = bytes_of(rt, name, "explained")?;
     let is_explained = explained.is_some();
     if let Some(explained) = explained {
-        wanted.extend_from_slice(explained.as_slice())?;
+        wanted.bytes.extend_from_slice(explained.as_slice())?;
     }
-    let mut given = match bytes_of(rt, name, "file")? {
-        Some(file) => {
-            let deed = if are_ends_explained {
-                Deed::ExplainFile(file.as_slice())
-            } else {
-                Deed::AuditFile(file.as_slice())
-            };
-            given(alloc, script.as_slice(), deed, is_explained)?
-        }
-        None => {
-            let deed = deed_beside(is_checked, is_audited, are_ends_explained);
-            given(alloc, script.as_slice(), deed, is_explained)?
-        }
-    };
+    let file = bytes_of(rt, name, "file")?;
+    let deed = deed_for(&wanted, &file);
+    let mut given = given(alloc, script.as_slice(), deed, is_explained)?;
     if let Some(notes) = bytes_of(rt, name, "notes")? {
-        wanted.extend_from_slice(notes.as_slice())?;
+        wanted.bytes.extend_from_slice(notes.as_slice())?;
         add_notes(alloc, script.as_slice(), &mut given)?;
     }
-    if given.as_slice() == wanted.as_slice() {
-        let is_played = !is_checked && !is_audited && bytes_of(rt, name, "fault")?.is_none();
-        if is_played {
-            if let Some(said) = other_ends(rt, name, script.as_slice(), given.as_slice())? {
-                return Ok(format!(in alloc; "{name}: of its ends is said: {said}")?);
-            }
-        }
-        return Ok(format!(in alloc; "{name}: ok")?);
+    match difference(rt, name, script.as_slice(), given.as_slice(), &wanted)? {
+        Some(words) => Ok(format!(in alloc; "{name}: {words}")?),
+        None => Ok(format!(in alloc; "{name}: ok")?),
     }
-    let line = first_difference(given.as_slice(), wanted.as_slice());
-    Ok(format!(in alloc; "{name}: differs at line {line}")?)
 }
 
 /// Whether what is said of the fronts of a script is what has to be said, in words.

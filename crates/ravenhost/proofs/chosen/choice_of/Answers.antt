@@ -59,7 +59,7 @@ returns-then-eq-4-clause-found c =
       named.1,
       unnoted (c.in_ok-name.name.now, rows_of given) c.in_ok-choice.choice _ _ word named.0 refl,
       explaining (c.in_ok-name.name.now, rows_of given) c.in_ok-choice.choice _ word named.0
-      (λ e. c.get_flag-explains.ensures.value (one_text-rows given (codes "explain") ∙ e), λ e. c.get_flag-explains.ensures.other (one_text-rows given (codes "explain") ∙ e)),
+          (λ e. c.get_flag-explains.ensures.value (one_text-rows given (codes "explain") ∙ e), λ e. c.get_flag-explains.ensures.other (one_text-rows given (codes "explain") ∙ e)),
     )
 
 pub returns-in_err-choice-clause-none : goal.returns-in_err-choice-clause-none
