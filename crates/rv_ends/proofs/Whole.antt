@@ -1,5 +1,5 @@
 -- What is kept of a history's bodies stays what is afoot, entry by entry.
-use Rattle.std.proofs.Common.{◌≡◌, ℕ, List, [], ◌∷◌, ◌++◌, Bool, true, false, Option, Some, None, refl, sym, ap, ◌∙◌, subst, append_assoc, append-nil}
+use Rattle.std.proofs.Common.{◌≡◌, ℕ, List, [], ◌∷◌, ◌++◌, Bool, true, false, Option, Some, None, refl, sym, ap, ◌∙◌, subst, map, append_assoc, append-nil}
 use Rattle.std.specs.Prelude.{◌==◌, if◌then◌else◌}
 use Rattle.rv_access.specs.Words.{Words}
 use Rattle.rv_shape.specs.Shape.{Shape}
@@ -10,8 +10,9 @@ use Rattle.rv_event.specs.declared.entry.Recorded.{Recorded}
 use Rattle.rv_event.specs.declared.entry.Request.{Request}
 use Rattle.rv_history.specs.Due.{out}
 use Rattle.rv_history.specs.History.{History}
-use Rattle.rv_history.specs.Legal.{Legal, after, entered}
-use Rattle.rv_ends.specs.Afoot.{Afoot, AreAfoot, answered}
+use Rattle.rv_history.specs.Legal.{Legal, after, empty, entered}
+use Rattle.rv_history.specs.declared.limits.Limits.{Limits}
+use Rattle.rv_ends.specs.Afoot.{Afoot, AreAfoot, answered, open_view}
 use Rattle.rv_ends.specs.Ends.{AllStopped, IsWhole, afoot_of, left_stops, of_others}
 use Rattle.rv_ends.specs.Explained.{IsFront, IsStopped, is_stop, is_stopped_end, leaves_open}
 use Rattle.rv_ends.specs.declared.ends.Ends.{Ends}
@@ -63,6 +64,14 @@ all_left h by request word stops all = by_test (is_stopped_end request) refl
     by_test : (b : Bool) → is_stopped_end request ≡ b → AllStopped (record h { past = Asked by request word ∷ h.past }) (if b then stops else of_others by stops)
     by_test true is = all_on_end h by request word stops is all
     by_test false is = all_on_other h by request word stops all
+
+-- Before the first entry
+
+pub whole_new : (e : Ends) (limits : Limits) → e.host ≡ empty limits → e.calls.items ≡ [] → e.under_way.items ≡ [] → e.stops.items ≡ [] → IsWhole e
+whole_new e limits host calls under_way stops = record {
+  afoot = subst (λ (h : History). AreAfoot h (afoot_of e)) (sym host) (λ i. record { calls = calls i; bodies = map open_view (under_way i) });
+  stopped = subst (λ (l : List Stop). AllStopped e.host l) (sym stops) tt;
+}
 
 -- Requests
 

@@ -84,6 +84,7 @@ fn has_stop(stops: &[Stop], actor: usize, ask: &Request) -> bool
 
 impl Ends {
     /// Before the first entry of a journal over a capacity, 16 .. 1,048,576.
+    #[tactic(auto, using(crate::proofs::Whole::whole_new))]
     pub fn new(alloc: Global, capacity: usize) -> Result<Ends, NewFault>
         ensures whole { IfOk result IsWhole }
         ensures history { IfOk result (λ ends. history_of ends ≡ empty (limits_of capacity)) }

@@ -1,6 +1,6 @@
 //! An outside that gives recorded answers again, as long as what is asked is what was recorded.
 
-ghost use Rattle.std.specs.Prelude.{◌≡◌, ◌∷◌, ◌×◌, ◌-◌, true, false};
+ghost use Rattle.std.specs.Prelude.{◌≡◌, ◌∷◌, true, false};
 ghost use Rattle.rv_shape.specs.Catalogue.{target};
 ghost use Rattle.rv_ends.specs.Explained.{held_after, is_stopped_end, is_unasked, on_protected};
 ghost use Rattle.rv_ends.specs.Following.{may_follow, missed, place_of};
