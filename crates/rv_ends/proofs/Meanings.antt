@@ -18,7 +18,7 @@ pub no_body : (e : Ends) (actor : ℕ) (end : Request) → innermost actor (afoo
 no_body e actor end is = subst (λ (o : Option Open). IsTextless (texts_of e) o) (sym is) tt
 
 pub without_text : (e : Ends) (actor : ℕ) (end : Request) (body : Open) → innermost actor (afoot_of e).bodies ≡ Some body → HasNoText (texts_of e) body → IsMeaning (texts_of e) e.host (afoot_of e) actor end meaning.WithoutText
-without_text e actor end body is no = subst (λ (o : Option Open). IsTextless (texts_of e) o) (sym is) no
+without_text e actor end body is lacks = subst (λ (o : Option Open). IsTextless (texts_of e) o) (sym is) lacks
 
 pub by_found_stop : (e : Ends) (actor : ℕ) (ask end : Request) (body : Open) (m : Meaning) → IsWhole e → innermost actor (afoot_of e).bodies ≡ Some body → IsCourse (texts_of e) e.host.shapes body end (course.Stops ask) → IsFoundStop e.host actor ask m
     → IsMeaning (texts_of e) e.host (afoot_of e) actor end m

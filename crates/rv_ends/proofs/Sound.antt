@@ -55,21 +55,18 @@ missed_some (Some y) p r is = (y, is)
 
 follows_all : (p q : Place) (trace : Trace) → Plays p trace q → q.other ≡ None → q.asked ≡ [] → Follows p.shapes p.held p.asked trace
 follows_all p q [] h none empty = ap (λ (r : Place). r.asked) h ∙ empty
-follows_all p q (pair ∷ trace) h none empty = by_case h.1
+follows_all p q (pair ∷ trace) h none empty = by_case (follows_all h.0 q trace h.2 none empty) h.1
   where
-    rest : Follows h.0.shapes h.0.held h.0.asked trace
-    rest = follows_all h.0 q trace h.2 none empty
-
     m_none : (o : Option Request) → h.0.other ≡ o → o ≡ None
     m_none None is = refl
     m_none (Some x) is = some_is_none x (sym (stays_other h.0 q trace x is h.2) ∙ none)
 
-    by_case : Goes p pair h.0 → Follows p.shapes p.held p.asked (pair ∷ trace)
-    by_case (inl g) = inl (g.1, g.2, subst (λ (r : Place). Follows r.shapes r.held r.asked trace) g.3 rest)
-    by_case (inr (inl g)) =
+    by_case : Follows h.0.shapes h.0.held h.0.asked trace → Goes p pair h.0 → Follows p.shapes p.held p.asked (pair ∷ trace)
+    by_case rest (inl g) = inl (g.1, g.2, subst (λ (r : Place). Follows r.shapes r.held r.asked trace) g.3 rest)
+    by_case rest (inr (inl g)) =
         let p_none : p.other ≡ None = sym (ap (λ (r : Place). r.other) g.4) ∙ m_none h.0.other refl in
         inr (g.0 p_none, g.2, g.3, subst (λ (r : Place). Follows r.shapes r.held r.asked trace) g.4 rest)
-    by_case (inr (inr g)) =
+    by_case rest (inr (inr g)) =
         let x = missed_some p.other p pair.0 refl in
         some_is_none x.0 (sym (ap (λ (r : Place). r.other) g.1 ∙ x.1) ∙ m_none h.0.other refl)
 
@@ -88,17 +85,14 @@ follows_some (Some y) x r e f = f
 
 unwound : (p q : Place) (trace : Trace) (x : Request) → p.other ≡ Some x → Plays p trace q → q.is_broken ≡ false → q.asked ≡ [] → (p.asked ≡ trace) × AreStoppedEnds trace
 unwound p q [] x is h whole empty = (ap (λ (r : Place). r.asked) h ∙ empty, tt)
-unwound p q (pair ∷ trace) x is h whole empty = by_case h.1
+unwound p q (pair ∷ trace) x is h whole empty = by_case (unwound h.0 q trace x (goes_other p h.0 pair x is h.1) h.2 whole empty) h.1
   where
-    rest : (h.0.asked ≡ trace) × AreStoppedEnds trace
-    rest = unwound h.0 q trace x (goes_other p h.0 pair x is h.1) h.2 whole empty
-
-    by_case : Goes p pair h.0 → (p.asked ≡ pair ∷ trace) × AreStoppedEnds (pair ∷ trace)
-    by_case (inl g) = some_is_none x (sym is ∙ g.0)
-    by_case (inr (inl g)) =
+    by_case : (h.0.asked ≡ trace) × AreStoppedEnds trace → Goes p pair h.0 → (p.asked ≡ pair ∷ trace) × AreStoppedEnds (pair ∷ trace)
+    by_case rest (inl g) = some_is_none x (sym is ∙ g.0)
+    by_case rest (inr (inl g)) =
         let tail : g.2 ≡ trace = sym (ap (λ (r : Place). r.asked) g.4) ∙ rest.0 in
         (g.3 ∙ ap (λ (l : Trace). pair ∷ l) tail, (follows_some p.other x pair.0 is g.1, rest.1))
-    by_case (inr (inr g)) =
+    by_case rest (inr (inr g)) =
         let broken : h.0.is_broken ≡ true = ap (λ (r : Place). r.is_broken) g.1 ∙ missed_again p.other x p pair.0 is in
         true_is_false (sym (stays_broken h.0 q trace broken h.2) ∙ whole)
 
@@ -111,12 +105,12 @@ first_missed (Some y) p r is e = some_is_none y e
 to_stop : (p q : Place) (trace : Trace) (x : Request) → p.other ≡ None → Plays p trace q → q.other ≡ Some x → q.is_broken ≡ false → q.asked ≡ []
     → FollowsToStop p.shapes p.held p.asked x trace
 to_stop p q [] x none h other whole empty = some_is_none x (sym other ∙ sym (ap (λ (r : Place). r.other) h) ∙ none)
-to_stop p q (pair ∷ trace) x none h other whole empty = by_case h.1
+to_stop p q (pair ∷ trace) x none h other whole empty = by_case (λ m_none. to_stop h.0 q trace x m_none h.2 other whole empty) h.1
   where
-    by_case : Goes p pair h.0 → FollowsToStop p.shapes p.held p.asked x (pair ∷ trace)
-    by_case (inl g) =
+    by_case : (h.0.other ≡ None → FollowsToStop h.0.shapes h.0.held h.0.asked x trace) → Goes p pair h.0 → FollowsToStop p.shapes p.held p.asked x (pair ∷ trace)
+    by_case later (inl g) =
         let m_none : h.0.other ≡ None = ap (λ (r : Place). r.other) g.3 ∙ none in
-        let s = subst (λ (r : Place). FollowsToStop r.shapes r.held r.asked x trace) g.3 (to_stop h.0 q trace x m_none h.2 other whole empty) in
+        let s = subst (λ (r : Place). FollowsToStop r.shapes r.held r.asked x trace) g.3 (later m_none) in
         record {
           before = pair ∷ s.before;
           done = s.done;
@@ -126,9 +120,9 @@ to_stop p q (pair ∷ trace) x none h other whole empty = by_case h.1
           follows = inl (g.1, g.2, s.follows);
           stopped = s.stopped;
         }
-    by_case (inr (inl g)) =
+    by_case later (inr (inl g)) =
         let m_none : h.0.other ≡ None = ap (λ (r : Place). r.other) g.4 ∙ none in
-        let s = subst (λ (r : Place). FollowsToStop r.shapes r.held r.asked x trace) g.4 (to_stop h.0 q trace x m_none h.2 other whole empty) in
+        let s = subst (λ (r : Place). FollowsToStop r.shapes r.held r.asked x trace) g.4 (later m_none) in
         record {
           before = pair ∷ s.before;
           done = pair ∷ s.done;
@@ -138,7 +132,7 @@ to_stop p q (pair ∷ trace) x none h other whole empty = by_case h.1
           follows = inr (g.0 none, s.done, refl, s.follows);
           stopped = s.stopped;
         }
-    by_case (inr (inr g)) =
+    by_case later (inr (inr g)) =
         let first = first_missed p.other p pair.0 refl none in
         let m_other : h.0.other ≡ Some pair.0 = ap (λ (r : Place). r.other) g.1 ∙ first.0 in
         let behind = unwound h.0 q trace pair.0 m_other h.2 whole empty in

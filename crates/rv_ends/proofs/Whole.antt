@@ -1,16 +1,17 @@
 -- What is kept of a history's bodies stays what is afoot, entry by entry.
 use Rattle.std.proofs.Common.{◌≡◌, ℕ, List, [], ◌∷◌, ◌++◌, Bool, true, false, Option, Some, None, refl, sym, ap, ◌∙◌, subst, map, append_assoc, append-nil}
-use Rattle.std.specs.Prelude.{◌==◌, if◌then◌else◌}
+use Rattle.std.specs.Prelude.{◌==◌, if◌then◌else◌, is_some}
 use Rattle.rv_access.specs.Words.{Words}
 use Rattle.rv_shape.specs.Shape.{Shape}
 use Rattle.rv_event.specs.Recorded.{recorded}
+use Rattle.rv_event.specs.declared.entry.Answer.{Answer}
 use Rattle.rv_event.specs.declared.entry.Entry.{Entry}
 use Rattle.rv_event.specs.declared.entry.Entry.TheVariants.{Asked, Load, ListChange}
 use Rattle.rv_event.specs.declared.entry.Recorded.{Recorded}
 use Rattle.rv_event.specs.declared.entry.Request.{Request}
 use Rattle.rv_history.specs.Due.{out}
 use Rattle.rv_history.specs.History.{History}
-use Rattle.rv_history.specs.Legal.{Legal, after, empty, entered}
+use Rattle.rv_history.specs.Legal.{Legal, after, after_list, after_load, empty, entered}
 use Rattle.rv_history.specs.declared.limits.Limits.{Limits}
 use Rattle.rv_ends.specs.Afoot.{Afoot, AreAfoot, answered, open_view}
 use Rattle.rv_ends.specs.Ends.{AllStopped, IsWhole, afoot_of, left_stops, of_others}
@@ -49,14 +50,11 @@ all_on_end h by request word (s ∷ stops) is all =
 
 all_on_other : (h : History) (by : ℕ) (request : Request) (word : Recorded) (stops : List Stop) → AllStopped h stops → AllStopped (record h { past = Asked by request word ∷ h.past }) (of_others by stops)
 all_on_other h by request word [] all = tt
-all_on_other h by request word (s ∷ stops) all = by_test (s.actor == by) refl
+all_on_other h by request word (s ∷ stops) all = by_test (all_on_other h by request word stops all.1) (s.actor == by) refl
   where
-    rest : AllStopped (record h { past = Asked by request word ∷ h.past }) (of_others by stops)
-    rest = all_on_other h by request word stops all.1
-
-    by_test : (b : Bool) → (s.actor == by) ≡ b → AllStopped (record h { past = Asked by request word ∷ h.past }) (if b then of_others by stops else s ∷ of_others by stops)
-    by_test true is = rest
-    by_test false is = (stopped_on h (Asked by request word) s.actor s.ask (ap (λ (b : Bool). if b then is_stopped_end request else true) is) all.0, rest)
+    by_test : AllStopped (record h { past = Asked by request word ∷ h.past }) (of_others by stops) → (b : Bool) → (s.actor == by) ≡ b → AllStopped (record h { past = Asked by request word ∷ h.past }) (if b then of_others by stops else s ∷ of_others by stops)
+    by_test rest true is = rest
+    by_test rest false is = (stopped_on h (Asked by request word) s.actor s.ask (ap (λ (b : Bool). if b then is_stopped_end request else true) is) all.0, rest)
 
 all_left : (h : History) (by : ℕ) (request : Request) (word : Recorded) (stops : List Stop) → AllStopped h stops → AllStopped (record h { past = Asked by request word ∷ h.past }) (left_stops request by stops)
 all_left h by request word stops all = by_test (is_stopped_end request) refl
@@ -138,6 +136,22 @@ whole_listed e n list w host afoot_is stops_is =
       afoot = subst (λ (x : History). AreAfoot x (afoot_of n)) (sym host) (e.host.lists, list, refl, subst (λ (a : Afoot). AreAfoot e.host a) (sym afoot_is) w.afoot);
       stopped = subst (λ (x : History). AllStopped x n.stops.items) (sym host) (subst (λ (l : List Stop). AllStopped k l) (sym stops_is) (all_on_list e.host list e.stops.items w.stopped));
     }
+
+-- a load that was answered so
+pub whole_by_load : (e n : Ends) (shape : Shape) (answer : Answer) → IsWhole e → n.host ≡ after_load e.host shape answer → afoot_of n ≡ afoot_of e → n.stops.items ≡ e.stops.items → IsWhole n
+whole_by_load e n shape answer w host afoot_is stops_is = by_test (is_some (recorded answer)) refl
+  where
+    by_test : (b : Bool) → is_some (recorded answer) ≡ b → IsWhole n
+    by_test true is = whole_loaded e n shape w (host ∙ ap (λ (b : Bool). if b then record e.host { past = Load ∷ e.host.past; shapes = e.host.shapes ++ shape ∷ [] } else e.host) is) afoot_is stops_is
+    by_test false is = whole_same e n w (host ∙ ap (λ (b : Bool). if b then record e.host { past = Load ∷ e.host.past; shapes = e.host.shapes ++ shape ∷ [] } else e.host) is) afoot_is stops_is
+
+-- a list change that was answered so
+pub whole_by_list : (e n : Ends) (list : List Words) (answer : Answer) → IsWhole e → n.host ≡ after_list e.host (Some list) answer → afoot_of n ≡ afoot_of e → n.stops.items ≡ e.stops.items → IsWhole n
+whole_by_list e n list answer w host afoot_is stops_is = by_test (is_some (recorded answer)) refl
+  where
+    by_test : (b : Bool) → is_some (recorded answer) ≡ b → IsWhole n
+    by_test true is = whole_listed e n list w (host ∙ ap (λ (b : Bool). if b then record e.host { past = ListChange ∷ e.host.past; lists = e.host.lists ++ list ∷ [] } else e.host) is) afoot_is stops_is
+    by_test false is = whole_same e n w (host ∙ ap (λ (b : Bool). if b then record e.host { past = ListChange ∷ e.host.past; lists = e.host.lists ++ list ∷ [] } else e.host) is) afoot_is stops_is
 
 -- Stops
 

@@ -39,9 +39,9 @@ is_unasked shapes held request = false
 abbrev pub unasked : Answer
 unasked = Refused Reentry 0 0
 
--- how many objects are held behind an answer
+-- how many objects are held behind an answer, 16 at most
 abbrev pub held_after : ℕ → Answer → ℕ
-held_after held (Started components) = suc held
+held_after held (Started components) = if nat_lt held 16 then suc held else held
 held_after held (Done next) = held - 1
 held_after held answer = held
 

@@ -6,7 +6,7 @@ ghost use Rattle.rv_ends.specs.Explained.{innermost};
 ghost use Rattle.rv_ends.specs.Afoot.{begun, call_of, called, closed, components_of, fired, handed, handed_next, holding, is_ask, is_end, is_queued, joined, left, next_of, open_view, queued, started, with_ask, without};
 
 use crate::afoot::{OpenBody, QueuedCall, Start};
-use rv_event::entry::{Answer, Next, Request};
+use rv_event::entry::{Answer, Exception, Exit, Next, Request, Rule};
 use rv_shape::catalogue::Catalogue;
 use rv_value::{Args, Scalars};
 use std::alloc::{AllocError, Global};
@@ -40,6 +40,13 @@ fn hear(
 ) -> Result<(), AllocError>
     ensures { OnOk result (open_view body.new ≡ with_ask actor request.now answer.now (open_view body.old)) }
 {
+    // The check is told of these types only where they are named.
+    let _exit: Option<Exit> = None;
+    let _scalars: Option<Scalars> = None;
+    let _args: Option<Args> = None;
+    let _rule: Option<Rule> = None;
+    let _next: Option<Next> = None;
+    let _exception: Option<Exception> = None;
     if body.start.actor != actor || !is_ask(request) {
         return Ok(());
     }

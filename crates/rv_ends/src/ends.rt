@@ -1,13 +1,13 @@
 //! The ends of bodies, entry by entry of a journal.
 
-ghost use Rattle.std.specs.Prelude.{◌≡◌, ◌≢◌, true, Some, None, IfOk, OnOk};
-ghost use Rattle.rv_code.specs.BodyView.{unit_view};
-ghost use Rattle.rv_exec.specs.Bodies.{no_bodies, with_unit};
+ghost use Rattle.std.specs.Prelude.{◌≡◌, true, Some, IfOk, OnOk};
+ghost use Rattle.rv_exec.specs.Bodies.{no_bodies};
 ghost use Rattle.rv_history.specs.Due.{out};
 ghost use Rattle.rv_history.specs.Legal.{after, after_list, after_load, empty, out_list, out_load};
 ghost use Rattle.rv_history.specs.Limits.{limits_of};
 ghost use Rattle.rv_ends.specs.Afoot.{answered};
-ghost use Rattle.rv_event.specs.Recorded.{recorded};
+ghost use Rattle.rv_event.specs.declared.entry.Answer.{Answer};
+ghost use Rattle.rv_history.specs.Steps.{MayLackMemory};
 ghost use Rattle.rv_history.specs.History.{History};
 ghost use Rattle.rv_ends.specs.Ends.{AllStopped, IsFoundStop, IsMeaning, IsWhole, afoot_of, history_of, is_settled, left_stops, of_others, texts_of};
 ghost use Rattle.rv_ends.specs.Explained.{IsStopped, is_stop};
@@ -18,11 +18,12 @@ use crate::following::is_stopped_end;
 use crate::meaning::{Course, Meaning, course_of};
 use rv_access::AccessList;
 use rv_code::UnitBodies;
-use rv_event::entry::{Answer, Request};
+use rv_event::entry::{Answer, Exception, Exit, Next, Request, Rule};
 use rv_exec::bodies::Bodies;
 use rv_host::host::{Host, NewFault};
 use rv_shape::catalogue::Catalogue;
 use rv_shape::shape::UnitShape;
+use rv_value::{Args, Scalars};
 use std::alloc::{AllocError, Global};
 
 /// An ask that has no entry, and stopped the bodies of its actor.
@@ -109,11 +110,10 @@ impl Ends {
     }
 
     /// Loads a unit, with its bodies.
-    #[tactic(auto, using(crate::proofs::Whole::whole_loaded, crate::proofs::Whole::whole_same))]
+    #[tactic(auto, using(crate::proofs::Whole::whole_by_load))]
     pub fn load(&mut self, shape: &UnitShape, bodies: UnitBodies) -> Result<(), AllocError>
         ensures whole { IsWhole self.old → OnOk result (IsWhole self.new) }
-        ensures history { OnOk result (history_of self.new ≡ after_load (history_of self.old) shape.now (out_load (history_of self.old) shape.now)) }
-        ensures texts { OnOk result (recorded (out_load (history_of self.old) shape.now) ≢ None → texts_of self.new ≡ with_unit (unit_view bodies) (texts_of self.old)) }
+        ensures history { (answer : Answer) × MayLackMemory (out_load (history_of self.old) shape.now) answer × (history_of self.new ≡ after_load (history_of self.old) shape.now answer) }
     {
         match self.host.load(shape) {
             Answer::Accepted(_) => self.bodies.add(bodies),
@@ -123,10 +123,10 @@ impl Ends {
     }
 
     /// Sets a list.
-    #[tactic(auto, using(crate::proofs::Whole::whole_listed, crate::proofs::Whole::whole_same))]
+    #[tactic(auto, using(crate::proofs::Whole::whole_by_list))]
     pub fn set_list(&mut self, list: &AccessList) -> Result<(), AllocError>
         ensures whole { IsWhole self.old → OnOk result (IsWhole self.new) }
-        ensures history { OnOk result (history_of self.new ≡ after_list (history_of self.old) (Some list.now) (out_list (history_of self.old) (Some list.now))) }
+        ensures history { (answer : Answer) × MayLackMemory (out_list (history_of self.old) (Some list.now)) answer × (history_of self.new ≡ after_list (history_of self.old) (Some list.now) answer) }
         ensures texts { texts_of self.new ≡ texts_of self.old }
     {
         match self.host.set_list(list) {
@@ -207,6 +207,13 @@ impl Ends {
         ensures whole { IsWhole self.old → OnOk result (IsWhole self.new) }
         ensures texts { texts_of self.new ≡ texts_of self.old }
     {
+        // The check is told of these types only where they are named.
+        let _exit: Option<Exit> = None;
+        let _scalars: Option<Scalars> = None;
+        let _args: Option<Args> = None;
+        let _rule: Option<Rule> = None;
+        let _next: Option<Next> = None;
+        let _exception: Option<Exception> = None;
         self.host.replays();
         if self.is_known_stop(actor, ask) {
             return Ok(true);

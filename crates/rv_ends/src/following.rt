@@ -1,6 +1,6 @@
 //! An outside that gives recorded answers again, as long as what is asked is what was recorded.
 
-ghost use Rattle.std.specs.Prelude.{◌≡◌, ◌∷◌, true, false};
+ghost use Rattle.std.specs.Prelude.{◌≡◌, ◌↔◌, ◌∷◌, IsTrue, true, false};
 ghost use Rattle.rv_shape.specs.Catalogue.{target};
 ghost use Rattle.rv_ends.specs.Explained.{held_after, is_stopped_end, is_unasked, on_protected};
 ghost use Rattle.rv_ends.specs.Following.{may_follow, missed, place_of};
@@ -53,7 +53,7 @@ fn held_after(held: usize, answer: &Answer) -> usize
     ensures { result ≡ held_after held answer.now }
 {
     match answer {
-        Answer::Started(_) => held + 1,
+        Answer::Started(_) if held < MOST_HELD => held + 1,
         Answer::Done(_) => held.saturating_sub(1),
         _ => held,
     }
@@ -77,6 +77,13 @@ fn stands(answer: &Answer) -> bool
         Answer::Busy | Answer::Waiting | Answer::Misuse => true,
         _ => false,
     }
+}
+
+/// Whether two requests are the same.
+pub fn is_same(one: &Request, other: &Request) -> bool
+    ensures { IsTrue result ↔ (one.now ≡ other.now) }
+{
+    *one == *other
 }
 
 // Whether a request may follow, behind a stop or before.
@@ -107,7 +114,7 @@ impl<'a> Following<'a> {
         ensures settled { result ≡ true → stands first.now.1 ≡ false }
         ensures follows { result ≡ true → may_follow self.now.other request.now ≡ true }
     {
-        if first.0 != *request || stands(&first.1) {
+        if !is_same(&first.0, request) || stands(&first.1) {
             return false;
         }
         may_follow(&self.other, request)

@@ -1,6 +1,6 @@
 //! What the text of a body means on what was recorded of it.
 
-ghost use Rattle.std.specs.Prelude.{◌≡◌, Some, option_map};
+ghost use Rattle.std.specs.Prelude.{◌≡◌, [], true, Some, option_map};
 ghost use Rattle.rv_exec.specs.Bodies.{bodies_view, operation_of};
 ghost use Rattle.rv_ends.specs.Afoot.{open_view};
 ghost use Rattle.rv_ends.specs.Courses.{IsCourse, IsWeighed, calls_without_text, is_without_text};
@@ -8,7 +8,7 @@ ghost use Rattle.rv_ends.specs.Following.{place_of};
 ghost use Rattle.rv_ends.specs.Explained.{end_by};
 
 use crate::afoot::OpenBody;
-use crate::following::{Following, is_stopped_end};
+use crate::following::{Following, is_same, is_stopped_end};
 use rv_event::entry::{Answer, Request};
 use rv_exec::bodies::Bodies;
 use rv_exec::machine::{Ended, run_body};
@@ -79,17 +79,32 @@ fn calls_without_text(bodies: &Bodies, asked: &[(Request, Answer)]) -> bool
     false
 }
 
+// Whether all that was recorded was asked, and this end is the one that was recorded.
+fn is_as_recorded(following: &Following<'_>, given: &Request, end: &Request) -> bool
+    ensures asked { result ≡ true → following.now.asked.now ≡ [] }
+    ensures same { result ≡ true → given.now ≡ end.now }
+{
+    if following.asked.len() > 0 {
+        return false;
+    }
+    is_same(given, end)
+}
+
 // What is found at the end of a run, which gave this, where another end may have been recorded.
 fn weighed(following: &Following<'_>, given: Request, end: &Request) -> Course
     ensures { IsWeighed (place_of following.now) given end.now result }
 {
-    let is_so = following.asked.len() == 0 && given == *end;
-    match following.other {
-        None if is_so && !is_stopped_end(end) => Course::Explained,
-        None => Course::Gives(given),
-        Some(other) if is_so && !following.is_broken => Course::Stops(other),
-        Some(other) => Course::Asks(other),
+    let is_recorded = is_as_recorded(following, &given, end);
+    let Some(other) = following.other else {
+        if is_recorded && !is_stopped_end(end) {
+            return Course::Explained;
+        }
+        return Course::Gives(given);
+    };
+    if is_recorded && !following.is_broken {
+        return Course::Stops(other);
     }
+    Course::Asks(other)
 }
 
 // What a body comes to by its text, where none that it called lacks one.
