@@ -102,6 +102,12 @@ first_missed : (o : Option Request) (p : Place) (r : Request) → p.other ≡ o 
 first_missed None p r is e = (refl, refl)
 first_missed (Some y) p r is e = some_is_none y e
 
+same_some : (a b : Request) → Some a ≡ Some b → a ≡ b
+same_some a b e = ap (λ (o : Option Request). unwrap_or o a) e
+
+pair_is : (y : Request × Answer) (b : Request) → y.0 ≡ b → y.1 ≡ Full → y ≡ (b, Full)
+pair_is y b e f = λ i. (e i, f i)
+
 to_stop : (p q : Place) (trace : Trace) (x : Request) → p.other ≡ None → Plays p trace q → q.other ≡ Some x → q.is_broken ≡ false → q.asked ≡ []
     → FollowsToStop p.shapes p.held p.asked x trace
 to_stop p q [] x none h other whole empty = some_is_none x (sym other ∙ sym (ap (λ (r : Place). r.other) h) ∙ none)
@@ -146,12 +152,6 @@ to_stop p q (pair ∷ trace) x none h other whole empty = by_case (λ m_none. to
           follows = refl;
           stopped = behind.1;
         }
-
-    same_some : (a b : Request) → Some a ≡ Some b → a ≡ b
-    same_some a b e = ap (λ (o : Option Request). unwrap_or o a) e
-
-    pair_is : (y : Request × Answer) (b : Request) → y.0 ≡ b → y.1 ≡ Full → y ≡ (b, Full)
-    pair_is y b e f = λ i. (e i, f i)
 
 pub by_stop : (p q : Place) (trace : Trace) (x : Request) → p.other ≡ None → Plays p trace q → q.other ≡ Some x → q.is_broken ≡ false → q.asked ≡ []
     → FollowsToStop p.shapes p.held p.asked x trace
