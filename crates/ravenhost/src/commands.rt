@@ -1,6 +1,7 @@
 //! The subcommands, over any reader and any writer.
 
-ghost use Rattle.std.specs.Prelude.{◌≡◌, ◌+◌, take, IfErr, IfOk, IfSome};
+ghost use Rattle.std.specs.Prelude.{◌≡◌, ◌+◌, ◌++◌, take, IfErr, IfOk, IfSome};
+ghost use Rattle.std.specs.Io.KnownBytes.{Consumes};
 ghost use Rattle.rv_script.specs.Whole.{most_bytes};
 ghost use Rattle.rv_fault.specs.Written.{WritesScript};
 ghost use Rattle.rv_play.specs.Scripted.{outcome_of};
@@ -22,7 +23,7 @@ use std::thread::Threads;
 pub struct Before {
     /// What stands before the line `@run`, or all where there is none.
     pub sections: Vec<u8>,
-    /// That line, and what was read ahead of the commands.
+    /// That line as it came, and what was read ahead of the commands.
     pub rest: Vec<u8>,
 }
 
@@ -42,28 +43,24 @@ pub fn warnings(alloc: Global, script: &[u8]) -> Result<Warnings, Failure> {
     warnings_of(alloc, script)
 }
 
-/// What stands before the commands of a script for `run`, and what had to be read with it.
-pub fn read_before<R: Read>(alloc: Global, reader: &mut R) -> Result<Before, Failure> {
+/// What stands before the commands of a script for `run`, and what had to be read with it: together all that was read.
+pub fn read_before<R: Read>(alloc: Global, reader: &mut R) -> Result<Before, Failure>
+    ensures { IfOk result (λ before. Consumes (R.remaining reader.old) (R.remaining reader.new) (before.sections.items ++ before.rest.items)) }
+{
     let mut input = Input::new(alloc);
     match input.preamble(reader) {
-        Ok(Preamble { bytes, runs }) => before_of(alloc, bytes, runs, input.ahead()),
+        Ok(Preamble { bytes, run, .. }) => before_of(bytes, run, input.ahead()),
         Err(InputFault::Memory) => Err(Failure::Memory),
         Err(InputFault::Io(e)) => Err(Failure::Io(e)),
     }
 }
 
 // The same, by what was given and what is ahead of it.
-fn before_of(
-    alloc: Global,
-    sections: Vec<u8>,
-    runs: bool,
-    ahead: &[u8],
-) -> Result<Before, Failure> {
-    let mut rest = Vec::new(alloc);
-    if runs {
-        rest.extend_from_slice(b"@run\n")?;
-        rest.extend_from_slice(ahead)?;
-    }
+fn before_of(sections: Vec<u8>, run: Vec<u8>, ahead: &[u8]) -> Result<Before, Failure>
+    ensures { IfOk result (λ before. (before.sections ≡ sections) × (before.rest.items ≡ run.items ++ ahead.now)) }
+{
+    let mut rest = run;
+    rest.extend_from_slice(ahead)?;
     Ok(Before { sections, rest })
 }
 

@@ -1,6 +1,6 @@
 -- What calls tell of what comes.
-use Rattle.std.proofs.Common.{◌≡◌, ℕ, zero, suc, ◌+◌, ◌-◌, ◌<◌, ◌≤◌, List, [], ◌∷◌, ◌++◌, Option, Some, None, MatchOption, length, take, drop, refl, sym, ap, ◌∙◌, subst, arith, length-drop}
-use Rattle.std.specs.Io.KnownBytes.{IsAtEnd, Keeps, prepend_known}
+use Rattle.std.proofs.Common.{◌≡◌, ℕ, zero, suc, ◌+◌, ◌-◌, ◌<◌, ◌≤◌, List, [], ◌∷◌, ◌++◌, Option, Some, None, MatchOption, length, take, drop, refl, sym, ap, ◌∙◌, subst, arith, append_assoc, length-drop}
+use Rattle.std.specs.Io.KnownBytes.{Consumes, IsAtEnd, Keeps, prepend_known}
 use Rattle.rv_input.specs.Coming.{Reading, IfTold, GivesByte, coming}
 
 -- something is ahead
@@ -68,3 +68,14 @@ pub byte_told : (most : ℕ) (v w u : Reading) (r s : Option (List ℕ)) (b : Op
     → MatchOption b ((w.ahead ≡ []) × (u ≡ w)) (λ byte. (w.ahead ≡ byte ∷ u.ahead) × (u.given ≡ w.given + 1)) → IfTold (coming most v r) (coming most u s) (GivesByte b)
 byte_told most v w u r s None k g e h t = subst (λ (z : Reading). IfTold (coming most v r) (coming most z s) (GivesByte None)) (sym t.1) (at_end most v w r s k t.0 (e t.0))
 byte_told most v w u r s (Some byte) k g e h t = byte_comes most byte v w u r s k g t.0 t.1 h
+
+-- bytes are taken, and then more
+pub taken_both : (a b c : Option (List ℕ)) (xs ys : List ℕ) → Consumes a b xs → Consumes b c ys → Consumes a c (xs ++ ys)
+taken_both None b c xs ys p q = tt
+taken_both (Some x) None c xs ys p q = absurd p
+taken_both (Some x) (Some y) None xs ys p q = absurd q
+taken_both (Some x) (Some y) (Some z) xs ys p q = p ∙ (ap (λ (l : List ℕ). xs ++ l) q ∙ sym (append_assoc xs ys z))
+
+-- the same bytes are taken
+pub taken_as : (a b : Option (List ℕ)) (xs ys : List ℕ) → xs ≡ ys → Consumes a b xs → Consumes a b ys
+taken_as a b xs ys e t = subst (λ (l : List ℕ). Consumes a b l) e t

@@ -28,6 +28,11 @@ IfTold None new fact = ⊤
 IfTold (Some old) None fact = ⊥
 IfTold (Some old) (Some new) fact = fact old new
 
+-- a byte, where one is given
+abbrev pub byte_alone : Option ℕ → List ℕ
+byte_alone None = []
+byte_alone (Some byte) = byte ∷ []
+
 -- the next byte is given, and none at the end
 abbrev pub GivesByte : Option ℕ → List ℕ → List ℕ → Type 0
 GivesByte (Some byte) old new = old ≡ byte ∷ new

@@ -3,7 +3,7 @@
 ghost use Rattle.std.specs.Prelude.{◌≡◌, ◌<◌, ◌≤◌, ◌+◌, ◌++◌, ◌∷◌, [], length, IfOk, OnOk, IfSome, MatchOption, Some, option_map, string_bytes};
 ghost use Rattle.std.specs.Io.KnownBytes.{Consumes, IsAtEnd, Keeps, prepend_known};
 ghost use Rattle.std.specs.Str.Lines.{strip_carriage_return};
-ghost use Rattle.rv_input.specs.Coming.{IfTold, Takes, GivesByte, GivesLine, GivesBefore, GivesText, ReadsAs, coming, content, is_run, most_bytes, most_before};
+ghost use Rattle.rv_input.specs.Coming.{IfTold, Takes, GivesByte, GivesLine, GivesBefore, GivesText, ReadsAs, byte_alone, coming, content, is_run, most_bytes, most_before};
 
 use crate::fault::InputFault;
 use crate::lines::{is_run, keep, keep_line, keep_text, text_line};
@@ -24,6 +24,8 @@ pub struct Preamble {
     pub bytes: Vec<u8>,
     /// Whether `@run` came; else the input ended.
     pub runs: bool,
+    /// That line as it came, with its line feed; empty where it didn't.
+    pub run: Vec<u8>,
 }
 
 /// An input of which some bytes were read ahead. Contracts see these, and how many bytes it gave.
@@ -106,6 +108,7 @@ impl Input {
         requires { most ≤ most_before }
         ensures given { IfOk result (λ byte. MatchOption byte (self.new.given ≡ self.old.given) (λ _. (self.new.given ≡ self.old.given + 1) × (self.old.given < most))) }
         ensures comes { IfOk result (λ byte. IfTold (coming most self.old (R.remaining reader.old)) (coming most self.new (R.remaining reader.new)) (GivesByte byte)) }
+        ensures taken { IfOk result (λ byte. Consumes (prepend_known self.old.ahead (R.remaining reader.old)) (prepend_known self.new.ahead (R.remaining reader.new)) (byte_alone byte)) }
     {
         if self.given >= most {
             return Ok(None);
@@ -119,6 +122,7 @@ impl Input {
         requires { most ≤ most_before }
         ensures given { IfOk result (λ line. 0 < length line.items → (self.old.given < self.new.given) × (self.new.given ≤ most)) }
         ensures comes { IfOk result (λ line. IfTold (coming most self.old (R.remaining reader.old)) (coming most self.new (R.remaining reader.new)) (Takes line.items)) }
+        ensures taken { IfOk result (λ line. Consumes (prepend_known self.old.ahead (R.remaining reader.old)) (prepend_known self.new.ahead (R.remaining reader.new)) line.items) }
     {
         let mut line = Vec::new(self.alloc);
         while let Some(byte) = self.byte(reader, most)? {
@@ -145,16 +149,25 @@ impl Input {
     /// # Errors
     /// As the first read or growth that fails.
     pub fn preamble<R: Read>(&mut self, reader: &mut R) -> Result<Preamble, InputFault>
-        ensures { IfOk result (λ before. IfTold (coming most_before self.old (R.remaining reader.old)) (coming most_before self.new (R.remaining reader.new)) (GivesBefore before.bytes.items before.runs)) }
+        ensures comes { IfOk result (λ before. IfTold (coming most_before self.old (R.remaining reader.old)) (coming most_before self.new (R.remaining reader.new)) (GivesBefore before.bytes.items before.runs)) }
+        ensures taken { IfOk result (λ before. Consumes (prepend_known self.old.ahead (R.remaining reader.old)) (prepend_known self.new.ahead (R.remaining reader.new)) (before.bytes.items ++ before.run.items)) }
     {
         let mut bytes = Vec::new(self.alloc);
         loop {
             let line = self.raw_line(reader, MOST_BEFORE)?;
             if line.len() == 0 {
-                return Ok(Preamble { bytes, runs: false });
+                return Ok(Preamble {
+                    bytes,
+                    runs: false,
+                    run: line,
+                });
             }
             if is_run(line.as_slice()) {
-                return Ok(Preamble { bytes, runs: true });
+                return Ok(Preamble {
+                    bytes,
+                    runs: true,
+                    run: line,
+                });
             }
             keep_line(&mut bytes, line.as_slice())?;
         }

@@ -1,2 +1,3 @@
 pub mod Actors
+pub mod Notes
 pub mod Turns

@@ -3,12 +3,13 @@
 mod caller;
 mod changes;
 mod journal;
+mod notes;
 mod plant;
 mod starts;
 mod storm;
 mod threads;
 mod three_calls;
-mod told_revoke;
+pub mod told_revoke;
 pub mod two_readers;
 mod waiting;
 

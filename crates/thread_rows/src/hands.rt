@@ -4,7 +4,9 @@ ghost use Rattle.std.specs.Coded.{codes};
 ghost use Rattle.std.specs.Prelude.{◌≡◌};
 ghost use Rattle.rv_behind.specs.contracts.event.Event as e;
 ghost use Rattle.rv_staff.specs.Hiring.{hired};
+ghost use Rattle.thread_rows.specs.Fitting.{Fits};
 
+use crate::crews::told_revoke::{ToldReader, read_told};
 use crate::crews::two_readers::{FirstReader, SecondReader, read_first, read_second};
 use crate::crews::{Caller, call_valve};
 use rv_crew::crew::Crew;
@@ -23,10 +25,13 @@ pub enum Role {
     SecondReader(SecondReader),
     /// It calls, and tells what each call came to.
     Caller(Caller),
+    /// It reads, is told of what changed meanwhile, and reads again.
+    ToldReader(ToldReader),
 }
 
 /// Does what a role says, and finishes the port.
 pub fn act<R: Wait>(rt: &R, port: Port, role: Role) -> Finished
+    requires { Fits role port }
     ensures { (result.turn ≡ port.turn) × (result.actor ≡ port.actor) }
 {
     match role {
@@ -34,6 +39,7 @@ pub fn act<R: Wait>(rt: &R, port: Port, role: Role) -> Finished
         Role::FirstReader(reader) => read_first(rt, port, reader),
         Role::SecondReader(reader) => read_second(rt, port, reader),
         Role::Caller(caller) => call_valve(rt, port, caller),
+        Role::ToldReader(reader) => read_told(rt, port, reader),
     }
 }
 
@@ -42,7 +48,7 @@ pub fn act<R: Wait>(rt: &R, port: Port, role: Role) -> Finished
 pub struct Hands {
     /// The closure.
     pub begin: Box<dyn Fn(&mut Crew, Port, Role) -> Result<(), HireFault> + Send>,
-    pub ghost callable: { (crew : _) (port : _) (role : _) → pre begin crew port role },
+    pub ghost callable: { (crew : _) (port : _) (role : _) → Fits role port → pre begin crew port role },
     pub ghost starts: { (crew : _) (port : _) (role : _) (result : _) (after : _)
         → post begin crew port role result after → after.now ≡ hired crew.now port result } by { Prim.hlevel (codes, e.the_row.coded) },
 }
@@ -50,6 +56,7 @@ pub struct Hands {
 impl Hands {
     /// Starts a thread in a role.
     pub fn start(&self, crew: &mut Crew, port: Port, role: Role) -> Result<(), HireFault>
+        requires { Fits role port }
         ensures { crew.new ≡ hired crew.old port result }
     {
         (self.begin)(crew, port, role)

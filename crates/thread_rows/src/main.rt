@@ -3,6 +3,7 @@
 
 ghost use Rattle.std.specs.Prelude.{◌≡◌};
 ghost use Rattle.rv_staff.specs.Hiring.{hired};
+ghost use Rattle.thread_rows.specs.Fitting.{Fits};
 
 mod crews;
 mod hands;
@@ -39,12 +40,14 @@ where
 // The jobs of threads are boxed here, where the runtime is.
 fn main(rt: HostRuntime) -> io::Result<()> {
     let begin = move |crew: &mut Crew, port: Port, role: Role| -> Result<(), HireFault>
+        requires { Fits role port }
         ensures { crew.new ≡ hired crew.old port result }
     {
         let given = Snapshot::of(&port);
         let boxed = Box::new(
             rt.alloc(),
             move |port: Port| -> Finished
+                requires { Fits role port }
                 ensures { (result.turn ≡ port.turn) × (result.actor ≡ port.actor) }
             { act(&rt, port, role) },
         );

@@ -2,6 +2,7 @@
 
 ghost use Rattle.std.specs.Prelude.{◌≡◌};
 ghost use Rattle.rv_crew.specs.Teams.{IsOfTurn};
+ghost use Rattle.thread_rows.specs.Fitting.{Fits};
 
 use crate::hands::{Hands, Role};
 use rv_crew::crew::{Closed, Crew};
@@ -14,7 +15,8 @@ use std::thread::Threads;
 /// Starts a thread of a crew in this role. False where there is none.
 #[tactic(auto, using(crate::proofs::Turns::hired_of_turn))]
 pub fn begin(hands: &Hands, crew: &mut Crew, port: Port, role: Role) -> bool
-    requires { IsOfTurn port.turn crew.old }
+    requires crew { IsOfTurn port.turn crew.old }
+    requires role { Fits role port }
     ensures { IsOfTurn port.turn crew.new }
 {
     hands.start(crew, port, role).is_ok()

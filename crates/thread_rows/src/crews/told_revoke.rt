@@ -1,21 +1,62 @@
-//! A right that was taken away is seen by a job whose port was told.
+//! A right that is taken away from a job that has called: once it is told of that, its next call is refused.
 
 ghost use Rattle.std.specs.Prelude.{◌≡◌};
+ghost use Rattle.rv_crew.specs.Teams.{IsOfTurn};
+ghost use Rattle.thread_rows.specs.Hearing.{Hears, Tells};
 
-use crate::crews::caller::{GET, call, caller_of};
+use crate::crews::caller::{GET, call};
 use crate::crews::changes::remove;
+use crate::crews::notes::{Hearer, Teller, ends};
 use crate::crews::plant::{FIRST, with_tasks};
 use crate::crews::threads::{begin, close};
 use crate::crews::waiting::receive;
 use crate::hands::{Hands, Role};
 use crate::host::port_of;
+use crossbeam_channel::{Receiver, Sender, unbounded};
 use rv_crew::crew::{Closed, Crew};
 use rv_event::entry::Rule;
 use rv_port::control::Control;
-use rv_port::port::Port;
+use rv_port::port::{Finished, Port};
 use rv_port::reached::Reached;
+use rv_value::Args;
 use std::sync::Wait;
 use std::thread::Threads;
+
+/// What the reader has that is told.
+#[derive(Drop)]
+pub struct ToldReader {
+    notes: Hearer,
+    replies: Sender<Reached>,
+}
+
+// Reads once it is told a note, and says what came of it.
+fn read_once<R: Wait>(rt: &R, port: &mut Port, reader: &mut ToldReader)
+    requires { Hears port.old.turn reader.old.notes }
+    ensures port { (port.new.turn ≡ port.old.turn) × (port.new.actor ≡ port.old.actor) }
+    ensures reader { Hears port.old.turn reader.new.notes }
+{
+    if let Some(note) = reader.notes.hear(rt) {
+        port.told(note);
+        let reached = call(rt, port, GET);
+        let _ = reader.replies.send(rt, reached);
+    }
+}
+
+/// The job of a reader that is told twice.
+pub fn read_told<R: Wait>(rt: &R, mut port: Port, mut reader: ToldReader) -> Finished
+    requires { Hears port.turn reader.notes }
+    ensures { (result.turn ≡ port.turn) × (result.actor ≡ port.actor) }
+{
+    read_once(rt, &mut port, &mut reader);
+    read_once(rt, &mut port, &mut reader);
+    port.finish(rt)
+}
+
+// Whether a call was let in, and gave 0.
+fn is_granted(reached: &Reached) -> bool {
+    let zero = Reached::Returned(Args::from_slice(&[0]));
+    *reached == zero
+}
 
 // Whether a call was refused for want of a grant, by the list of version 2 or a later one.
 fn is_denied(reached: &Reached) -> bool {
@@ -25,20 +66,33 @@ fn is_denied(reached: &Reached) -> bool {
     }
 }
 
-// Calls on a port, takes the grant away, and tells the port.
-fn revoke<R: Wait>(rt: &R, control: &mut Control, port: &mut Port) -> Reached
-    requires { port.old.turn ≡ control.old.turn }
-    ensures port { port.new.turn ≡ port.old.turn }
-    ensures control { control.new.turn ≡ control.old.turn }
+// Takes the grant away, and tells that.
+fn revoke<R: Wait>(rt: &R, control: &mut Control, teller: &mut Teller)
+    requires { Tells control.old.turn teller.old }
+    ensures { control.new.turn ≡ control.old.turn }
 {
-    let granted = call(rt, port, GET);
     remove(rt, control, 1);
-    port.told(control.note());
-    granted
+    teller.tell(rt, control.note());
 }
 
-// Lets a job call again on that port, and closes the crew once the call was refused.
-fn call_again<R: Threads + Wait + AllocGlobal>(
+// Takes the grant away once a call was granted. Whether that was so, and the next call was refused.
+fn is_seen<R: Wait>(
+    rt: &R,
+    control: &mut Control,
+    teller: &mut Teller,
+    replies: &Receiver<Reached>,
+) -> Option<bool>
+    requires { Tells control.old.turn teller.old }
+    ensures { control.new.turn ≡ control.old.turn }
+{
+    let first = receive(rt, replies)?;
+    revoke(rt, control, teller);
+    let second = receive(rt, replies)?;
+    Some(is_granted(&first) && is_denied(&second))
+}
+
+// Lets a job read on a port, and closes the crew once its second call was refused.
+fn read<R: Threads + Wait + AllocGlobal>(
     rt: &R,
     hands: &Hands,
     port: Port,
@@ -46,11 +100,15 @@ fn call_again<R: Threads + Wait + AllocGlobal>(
 ) -> Option<Closed>
     requires { port.turn ≡ control.turn }
 {
-    let (caller, replies) = caller_of(rt.alloc(), 1, GET)?;
+    let mut control = control;
+    let (mut teller, notes) = ends(rt, rt.alloc(), control.note())?;
+    let (replies, come) = unbounded(rt.alloc()).ok()?;
     let mut crew = Crew::new(rt.alloc());
-    let begun = begin(hands, &mut crew, port, Role::Caller(caller));
-    let reached = receive(rt, &replies)?;
-    if begun && is_denied(&reached) {
+    let reader = ToldReader { notes, replies };
+    if !begin(hands, &mut crew, port, Role::ToldReader(reader)) {
+        return None;
+    }
+    if is_seen(rt, &mut control, &mut teller, &come)? {
         return close(rt, crew, control);
     }
     None
@@ -59,9 +117,6 @@ fn call_again<R: Threads + Wait + AllocGlobal>(
 /// Plays the game. None where it isn't as it should be: then threads may be left.
 pub fn play<R: Threads + Wait + AllocGlobal>(rt: &R, hands: &Hands) -> Option<Closed> {
     let mut control = with_tasks(rt, rt.alloc())?;
-    let mut port = port_of(&mut control, FIRST)?;
-    match revoke(rt, &mut control, &mut port) {
-        Reached::Returned(_) => call_again(rt, hands, port, control),
-        _ => None,
-    }
+    let port = port_of(&mut control, FIRST)?;
+    read(rt, hands, port, control)
 }

@@ -4,8 +4,8 @@ use crossbeam_channel::{Receiver, TryRecvError};
 use std::sync::Wait;
 use std::thread;
 
-// How often a thread looks for what another one tells.
-const LOOKS: u64 = 100_000_000;
+/// How often a thread looks for what another one tells.
+pub const LOOKS: u64 = 100_000_000;
 
 /// What is told next. None where it doesn't come within so many looks, or never will.
 pub fn receive<T: Drop, R: Wait>(rt: &R, receiver: &Receiver<T>) -> Option<T> {
