@@ -9,7 +9,7 @@ ghost use Rattle.rv_check.specs.Checks.{KeepsRefused, outcome_of as checked};
 
 use rv_check::warnings::{Warnings, run_warnings_of, warnings_of};
 use rv_fault::Failure;
-use rv_input::{Input, InputFault, Preamble};
+use rv_input::{Before, InputFault};
 use rv_script::read_script;
 use rv_staff::Hires;
 use rv_verdict::{Audited, Watch};
@@ -17,15 +17,6 @@ use std::alloc::Global;
 use std::io::{Read, Write};
 use std::sync::Wait;
 use std::thread::Threads;
-
-/// What was read of a script for `run`.
-#[derive(Drop)]
-pub struct Before {
-    /// What stands before the line `@run`, or all where there is none.
-    pub sections: Vec<u8>,
-    /// That line as it came, and what was read ahead of the commands.
-    pub rest: Vec<u8>,
-}
 
 /// The bytes of the script that a reader gives, at most one past the greatest length, so that its lists are judged before
 /// it is carried out or looked at.
@@ -43,25 +34,15 @@ pub fn warnings(alloc: Global, script: &[u8]) -> Result<Warnings, Failure> {
     warnings_of(alloc, script)
 }
 
-/// What stands before the commands of a script for `run`, and what had to be read with it: together all that was read.
+/// What stands before the commands of a script for `run`, and what had to be read with it: with what is left the whole.
 pub fn read_before<R: Read>(alloc: Global, reader: &mut R) -> Result<Before, Failure>
     ensures { IfOk result (λ before. Consumes (R.remaining reader.old) (R.remaining reader.new) (before.sections.items ++ before.rest.items)) }
 {
-    let mut input = Input::new(alloc);
-    match input.preamble(reader) {
-        Ok(Preamble { bytes, run, .. }) => before_of(bytes, run, input.ahead()),
+    match rv_input::read_before(alloc, reader) {
+        Ok(before) => Ok(before),
         Err(InputFault::Memory) => Err(Failure::Memory),
         Err(InputFault::Io(e)) => Err(Failure::Io(e)),
     }
-}
-
-// The same, by what was given and what is ahead of it.
-fn before_of(sections: Vec<u8>, run: Vec<u8>, ahead: &[u8]) -> Result<Before, Failure>
-    ensures { IfOk result (λ before. (before.sections ≡ sections) × (before.rest.items ≡ run.items ++ ahead.now)) }
-{
-    let mut rest = run;
-    rest.extend_from_slice(ahead)?;
-    Ok(Before { sections, rest })
 }
 
 /// What is told of the lists that stand before the commands of a run.

@@ -1,7 +1,11 @@
 -- What calls tell of what comes.
-use Rattle.std.proofs.Common.{◌≡◌, ℕ, zero, suc, ◌+◌, ◌-◌, ◌<◌, ◌≤◌, List, [], ◌∷◌, ◌++◌, Option, Some, None, MatchOption, length, take, drop, refl, sym, ap, ◌∙◌, subst, arith, append_assoc, length-drop}
+use Rattle.std.proofs.Common.{◌≡◌, ℕ, zero, suc, ◌+◌, ◌-◌, ◌<◌, ◌≤◌, Bool, List, [], ◌∷◌, ◌++◌, Option, Some, None, MatchOption, IfSome, length, take, drop, refl, sym, ap, ◌∙◌, subst, arith, append_assoc, length-drop}
 use Rattle.std.specs.Io.KnownBytes.{Consumes, IsAtEnd, Keeps, prepend_known}
-use Rattle.rv_input.specs.Coming.{Reading, IfTold, GivesByte, coming}
+use Rattle.rv_input.specs.Coming.{Reading, IfTold, GivesBefore, GivesByte, IsBefore, coming, most_before}
+
+-- an input of which nothing was read
+abbrev fresh : Reading
+fresh = record { ahead = []; given = 0 }
 
 -- something is ahead
 pub some_ahead : (n : ℕ) (xs : List ℕ) → n < length xs → drop n xs ≡ [] → ⊥
@@ -79,3 +83,24 @@ taken_both (Some x) (Some y) (Some z) xs ys p q = p ∙ (ap (λ (l : List ℕ). 
 -- the same bytes are taken
 pub taken_as : (a b : Option (List ℕ)) (xs ys : List ℕ) → xs ≡ ys → Consumes a b xs → Consumes a b ys
 taken_as a b xs ys e t = subst (λ (l : List ℕ). Consumes a b l) e t
+
+-- what is ahead is taken with what was given
+ahead_taken : (r s : Option (List ℕ)) (bytes run ahead : List ℕ) → Consumes (prepend_known [] r) (prepend_known ahead s) (bytes ++ run) → Consumes r s (bytes ++ (run ++ ahead))
+ahead_taken None s bytes run ahead t = tt
+ahead_taken (Some x) None bytes run ahead t = absurd t
+ahead_taken (Some x) (Some y) bytes run ahead t =
+    t ∙ (append_assoc bytes run (ahead ++ y) ∙ (ap (λ (l : List ℕ). bytes ++ l) (sym (append_assoc run ahead y)) ∙ sym (append_assoc bytes (run ++ ahead) y)))
+
+-- the same of an input of which nothing was read
+pub all_taken : (r s : Option (List ℕ)) (v w : Reading) (bytes run rest : List ℕ) → v ≡ fresh → rest ≡ run ++ w.ahead → Consumes (prepend_known v.ahead r) (prepend_known w.ahead s) (bytes ++ run) → Consumes r s (bytes ++ rest)
+all_taken r s v w bytes run rest is e t =
+    subst (λ (l : List ℕ). Consumes r s (bytes ++ l)) (sym e) (ahead_taken r s bytes run w.ahead (subst (λ (i : Reading). Consumes (prepend_known i.ahead r) (prepend_known w.ahead s) (bytes ++ run)) is t))
+
+-- what stands before the commands of an input of which nothing was read
+first_before : (r s : Option (List ℕ)) (w : Reading) (bytes : List ℕ) (runs : Bool) → IfTold (coming most_before fresh r) (coming most_before w s) (GivesBefore bytes runs) → IfSome r (λ input. IsBefore bytes (take most_before input))
+first_before None s w bytes runs t = tt
+first_before (Some x) None w bytes runs t = absurd t
+first_before (Some x) (Some y) w bytes runs t = (runs, _, t)
+
+pub is_before : (r s : Option (List ℕ)) (v w : Reading) (bytes : List ℕ) (runs : Bool) → v ≡ fresh → IfTold (coming most_before v r) (coming most_before w s) (GivesBefore bytes runs) → IfSome r (λ input. IsBefore bytes (take most_before input))
+is_before r s v w bytes runs is t = first_before r s w bytes runs (subst (λ (i : Reading). IfTold (coming most_before i r) (coming most_before w s) (GivesBefore bytes runs)) is t)

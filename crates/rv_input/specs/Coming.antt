@@ -91,6 +91,10 @@ abbrev pub GivesBefore : List ℕ → Bool → List ℕ → List ℕ → Type 0
 GivesBefore bytes true old new = BeforeRun bytes old new
 GivesBefore bytes false old new = (old ≡ bytes) × (new ≡ []) × NonePass is_run (lines old)
 
+-- what stands before the first line `@run` of an input, or all of it where no line is that
+abbrev pub IsBefore : List ℕ → List ℕ → Type 0
+IsBefore bytes all = (runs : Bool) × (left : List ℕ) × GivesBefore bytes runs all left
+
 -- lines, each with a line feed
 abbrev pub text_of : List (List ℕ) → List ℕ
 text_of [] = []

@@ -2,9 +2,11 @@
 //! come, and no more is waited for than a line needs.
 #![tactic(auto)]
 
+mod before;
 mod fault;
 mod input;
 mod lines;
 
+pub use before::{Before, read_before};
 pub use fault::InputFault;
 pub use input::{Input, MOST_BYTES, Preamble};

@@ -1,3 +1,4 @@
 pub mod Actors
 pub mod Notes
+pub mod Sending
 pub mod Turns

@@ -56,8 +56,8 @@ pub fn call<R: Wait>(rt: &R, port: &mut Port, operation: usize) -> Reached
     port.call(rt, VALVE, operation, values(operation))
 }
 
-// All calls.
-fn call_all<R: Wait>(rt: &R, port: &mut Port, caller: &Caller)
+/// All calls of a caller, each of which it tells.
+pub fn call_all<R: Wait>(rt: &R, port: &mut Port, caller: &Caller)
     ensures { (port.new.turn ≡ port.old.turn) × (port.new.actor ≡ port.old.actor) }
 {
     for _ in 0..caller.calls {

@@ -4,7 +4,7 @@ ghost use Rattle.std.specs.Prelude.{◌≡◌};
 ghost use Rattle.rv_crew.specs.Teams.{IsOfTurn};
 ghost use Rattle.thread_rows.specs.Hearing.{Hears, Tells};
 
-use crate::crews::caller::{GET, call};
+use crate::crews::caller::{Caller, GET, call_all, caller_of};
 use crate::crews::changes::remove;
 use crate::crews::notes::{Hearer, Teller, ends};
 use crate::crews::plant::{FIRST, with_tasks};
@@ -12,7 +12,7 @@ use crate::crews::threads::{begin, close};
 use crate::crews::waiting::receive;
 use crate::hands::{Hands, Role};
 use crate::host::port_of;
-use crossbeam_channel::{Receiver, Sender, unbounded};
+use crossbeam_channel::Receiver;
 use rv_crew::crew::{Closed, Crew};
 use rv_event::entry::Rule;
 use rv_port::control::Control;
@@ -26,7 +26,7 @@ use std::thread::Threads;
 #[derive(Drop)]
 pub struct ToldReader {
     notes: Hearer,
-    replies: Sender<Reached>,
+    caller: Caller,
 }
 
 // Reads once it is told a note, and says what came of it.
@@ -37,8 +37,7 @@ fn read_once<R: Wait>(rt: &R, port: &mut Port, reader: &mut ToldReader)
 {
     if let Some(note) = reader.notes.hear(rt) {
         port.told(note);
-        let reached = call(rt, port, GET);
-        let _ = reader.replies.send(rt, reached);
+        call_all(rt, port, &reader.caller);
     }
 }
 
@@ -102,9 +101,9 @@ fn read<R: Threads + Wait + AllocGlobal>(
 {
     let mut control = control;
     let (mut teller, notes) = ends(rt, rt.alloc(), control.note())?;
-    let (replies, come) = unbounded(rt.alloc()).ok()?;
+    let (caller, come) = caller_of(rt.alloc(), 1, GET)?;
     let mut crew = Crew::new(rt.alloc());
-    let reader = ToldReader { notes, replies };
+    let reader = ToldReader { notes, caller };
     if !begin(hands, &mut crew, port, Role::ToldReader(reader)) {
         return None;
     }
