@@ -3,9 +3,11 @@
 # a step of that host alone; the same entries judged in the same process; the file judged by the built `ravenhost audit`, with
 # what it touches of memory; `wc -l` and `sha256sum` of the same file. It fails only where an answer is wrong. A number of
 # rounds may be given (3), of which the least counts, and then the two programs, else they are proved and built, which takes
-# over half an hour the first time. It needs rt, awk, GNU date (for %N), nproc, cut, /proc and sha256sum. Statuses: 0 done, 1
-# an answer is wrong, 127 a tool is missing.
+# over half an hour the first time. Where other work has the processors too, a long run waits for them more often than a short
+# one; so how the two journals' times compare is told by the processor's time as well, which leaves the waiting out. It needs
+# rt, awk, GNU date (for %N), nproc, cut, /proc and sha256sum. Statuses: 0 done, 1 an answer is wrong, 127 a tool is missing.
 set -eu
+export LC_ALL=C
 
 missing() {
     echo "bench/audit.sh: $1 is missing" >&2
@@ -38,13 +40,15 @@ wrong() {
     exit 1
 }
 
-# What a command takes in microseconds. Its standard input is $given, its output goes to $folder/said, its status to $status.
+# What a command takes in microseconds, and of that the processor's seconds, its own and the system's, in $seconds. Its
+# standard input is $given, its output goes to $folder/said, its status to $status.
 took() {
-    local from
+    local from TIMEFORMAT='%U %S'
     status=0
     from=$(date +%s%N)
-    "$@" <"$given" >"$folder/said" 2>"$folder/fault" || status=$?
+    { time "$@" <"$given" >"$folder/said" 2>"$folder/fault" || status=$?; } 2>"$folder/seconds"
     micros=$((($(date +%s%N) - from) / 1000))
+    seconds=$(awk '{ print $1 + $2 }' "$folder/seconds")
 }
 
 # The most memory that an audit touches, in KiB: by GNU time, else by looking at /proc while it runs.
@@ -86,6 +90,7 @@ for entries in 100000 1000000; do
         [ "$status $(cat "$folder/said")" = "0 legal $entries entries" ] ||
             wrong "status $status, and $(head -n 1 "$folder/said" "$folder/fault") of a journal of $entries entries"
         echo "$micros" >>"$folder/file.$entries"
+        echo "$seconds" >>"$folder/processor.$entries"
         given=/dev/null
         took wc -l "$journal"
         echo "$micros" >>"$folder/wc.$entries"
@@ -116,7 +121,9 @@ for entries in 100000 1000000; do
         }'
 done
 awk -v small="$(least "$folder/audit.100000")" -v large="$(least "$folder/audit.1000000")" \
-    -v small_file="$(least "$folder/file.100000")" -v large_file="$(least "$folder/file.1000000")" 'BEGIN {
-        printf "ten times the entries: %.2f times the time in process, %.2f times by ravenhost audit (aim: at most 10.5)\n",
+    -v small_file="$(least "$folder/file.100000")" -v large_file="$(least "$folder/file.1000000")" \
+    -v small_seconds="$(least "$folder/processor.100000")" -v large_seconds="$(least "$folder/processor.1000000")" 'BEGIN {
+        printf "ten times the entries: %.2f times the time in process, %.2f times by ravenhost audit, ",
             10 * large / small, large_file / small_file
+        printf "of processor time %.2f times as much (aim: at most 10.5)\n", large_seconds / small_seconds
     }'
