@@ -46,11 +46,11 @@ begins (asked.Started object operation is_function components) = true
 begins (asked.Given values) = false
 begins (asked.Abandoned why) = false
 
-abbrev begins_at_once : Reply → Bool
+abbrev pub begins_at_once : Reply → Bool
 begins_at_once (reply.Settled what) = begins what
 begins_at_once reply.Waits = false
 
-abbrev waits : Reply → Bool
+abbrev pub waits : Reply → Bool
 waits (reply.Settled what) = false
 waits reply.Waits = true
 
@@ -135,7 +135,7 @@ refused_begins : (k : Bool) (rule : Rule) → begins_at_once (cond k (reply.Sett
 refused_begins true rule = refl
 refused_begins false rule = refl
 
-refused_waits : (k : Bool) (rule : Rule) → waits (cond k (reply.Settled (asked.Abandoned (cause.Raised (refusal rule)))) (stops true)) ≡ false
+pub refused_waits : (k : Bool) (rule : Rule) → waits (cond k (reply.Settled (asked.Abandoned (cause.Raised (refusal rule)))) (stops true)) ≡ false
 refused_waits true rule = refl
 refused_waits false rule = refl
 
@@ -159,7 +159,7 @@ accepted_begins (callee.Function object operation) value = refl
 accepted_begins (callee.Procedure object operation) value = refl
 accepted_begins (callee.Entry object operation) value = refl
 
-accepted_waits : (c : Callee) (value : ℤ) → waits (accepted c value) ≡ false
+pub accepted_waits : (c : Callee) (value : ℤ) → waits (accepted c value) ≡ false
 accepted_waits callee.Clock value = refl
 accepted_waits (callee.CurrentState object) value = given_waits (int_le (pos 0) value && int_le value (pos 1)) (value ∷ [])
 accepted_waits (callee.SetTrue object) value = given_waits (is_zero value) []
@@ -171,7 +171,7 @@ accepted_waits (callee.Function object operation) value = refl
 accepted_waits (callee.Procedure object operation) value = refl
 accepted_waits (callee.Entry object operation) value = refl
 
-started_waits : (c : Callee) (components : List ℤ) → waits (started c components) ≡ false
+pub started_waits : (c : Callee) (components : List ℤ) → waits (started c components) ≡ false
 started_waits (callee.Function object operation) components = refl
 started_waits (callee.Procedure object operation) components = refl
 started_waits (callee.Entry object operation) components = refl

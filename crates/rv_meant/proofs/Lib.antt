@@ -5,3 +5,5 @@ pub mod KeptBodies
 pub mod Nesting
 pub mod Answered
 pub mod NestedBodies
+pub mod Openings
+pub mod Explaining

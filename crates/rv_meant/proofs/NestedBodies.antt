@@ -162,6 +162,7 @@ module _ (such : Callee → Bool) (bodies : UnitBodies) (held more : ℕ) (room 
     opening = opening;
     inside = inside;
     before_is = refl;
+    recorded = opened_by.1;
     callee = c;
     is_outer = outer;
     is_such = m;
@@ -192,7 +193,7 @@ module _ (such : Callee → Bool) (bodies : UnitBodies) (held more : ℕ) (room 
 
   behind_start : (r : Answer) (before after : Trace) (scalars : List ℤ) (x : Exit) (next : Next) → inside ++ end_pair r ∷ [] ≡ before ++ (request.Complete scalars x, answer.Done next) ∷ after → EndsSo (opening ++ before) scalars x
   behind_start r before after scalars x next e =
-      ⊎_elim (λ h. later_end such bodies held (suc held) opening before scalars x (opened_by.0 held) (nested.close before h.0 scalars x next h.1))
+      ⊎_elim (λ h. later_end such bodies held (suc held) opening before scalars x (opened_by.0 held) opened_by.1 (nested.close before h.0 scalars x next h.1))
           (λ h. subst (λ (l : Trace). EndsSo (opening ++ l) scalars x) (sym h.1) (at_end r h.0 after scalars x next h.2))
           (place_of (request.Complete scalars x, answer.Done next) inside (end_pair r ∷ []) before after e)
 

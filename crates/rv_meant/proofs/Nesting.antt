@@ -101,8 +101,8 @@ course_both p q true f g = record {
 -- Ends
 
 -- what closes a body does so behind more that was asked before, by which so many were held
-pub closes_later : (such : Callee → Bool) (bodies : UnitBodies) (held n : ℕ) (p before : Trace) (scalars : List ℤ) (exit : Exit) → held_behind held p ≡ n → Closes such bodies n before scalars exit → Closes such bodies held (p ++ before) scalars exit
-closes_later such bodies held n p before scalars exit e c =
+pub closes_later : (such : Callee → Bool) (bodies : UnitBodies) (held n : ℕ) (p before : Trace) (scalars : List ℤ) (exit : Exit) → held_behind held p ≡ n → AreRecorded p → Closes such bodies n before scalars exit → Closes such bodies held (p ++ before) scalars exit
+closes_later such bodies held n p before scalars exit e r c =
     let h : held_behind n (c.early ++ c.opening) ≡ held_behind held ((p ++ c.early) ++ c.opening)
     = sym (ap (λ (l : Trace). held_behind held l) (append_assoc p c.early c.opening) ∙ (held_both held p (c.early ++ c.opening) ∙ ap (λ (m : ℕ). held_behind m (c.early ++ c.opening)) e)) in
     record {
@@ -110,6 +110,7 @@ closes_later such bodies held n p before scalars exit e c =
       opening = c.opening;
       inside = c.inside;
       before_is = ap (λ (l : Trace). p ++ l) c.before_is ∙ sym (append_assoc p c.early (c.opening ++ c.inside));
+      recorded = subst (λ (l : Trace). AreRecorded l) (sym (append_assoc p c.early c.opening)) (recorded_both p (c.early ++ c.opening) r c.recorded);
       callee = c.callee;
       is_outer = c.is_outer;
       is_such = c.is_such;
@@ -126,16 +127,16 @@ closes_later such bodies held n p before scalars exit e c =
       course = c.course;
     }
 
-pub later_end : (such : Callee → Bool) (bodies : UnitBodies) (held n : ℕ) (p before : Trace) (scalars : List ℤ) (exit : Exit) → held_behind held p ≡ n → Strays such before ⊎ Closes such bodies n before scalars exit → Strays such (p ++ before) ⊎ Closes such bodies held (p ++ before) scalars exit
-later_end such bodies held n p before scalars exit e (inl s) = inl (strays_behind such p before s)
-later_end such bodies held n p before scalars exit e (inr c) = inr (closes_later such bodies held n p before scalars exit e c)
+pub later_end : (such : Callee → Bool) (bodies : UnitBodies) (held n : ℕ) (p before : Trace) (scalars : List ℤ) (exit : Exit) → held_behind held p ≡ n → AreRecorded p → Strays such before ⊎ Closes such bodies n before scalars exit → Strays such (p ++ before) ⊎ Closes such bodies held (p ++ before) scalars exit
+later_end such bodies held n p before scalars exit e r (inl s) = inl (strays_behind such p before s)
+later_end such bodies held n p before scalars exit e r (inr c) = inr (closes_later such bodies held n p before scalars exit e r c)
 
 abbrev Kind : (Callee → Bool) → Trace → Bool → Type 0
 Kind such trace stopped = Strays such trace ⊎ (IsWhole trace × IsCourse stopped trace)
 
 behind_whole : (such : Callee → Bool) (bodies : UnitBodies) (held : ℕ) (p before : Trace) (scalars : List ℤ) (exit : Exit) → Kind such p false → Strays such before ⊎ Closes such bodies held before scalars exit → Strays such (p ++ before) ⊎ Closes such bodies held (p ++ before) scalars exit
 behind_whole such bodies held p before scalars exit (inl s) c = inl (strays_before such p before s)
-behind_whole such bodies held p before scalars exit (inr w) c = later_end such bodies held held p before scalars exit (w.0 held) c
+behind_whole such bodies held p before scalars exit (inr w) c = later_end such bodies held held p before scalars exit (w.0 held) w.1 c
 
 close_both : (such : Callee → Bool) (bodies : UnitBodies) (held : ℕ) (p q : Trace) → EndsClose such bodies held p → Kind such p false → EndsClose such bodies held q → EndsClose such bodies held (p ++ q)
 close_both such bodies held p q f w g before after scalars exit next e =

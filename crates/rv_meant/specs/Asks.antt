@@ -36,6 +36,15 @@ abbrev pub AreRecorded : Trace → Type 0
 AreRecorded [] = Unit {0}
 AreRecorded (pair ∷ more) = (is_some (recorded pair.1) ≡ true) × AreRecorded more
 
+-- those that have
+abbrev pub recorded_if : Bool → Request × Answer → Trace → Trace
+recorded_if true pair more = pair ∷ more
+recorded_if false pair more = more
+
+abbrev pub recorded_of : Trace → Trace
+recorded_of [] = []
+recorded_of (pair ∷ more) = recorded_if (is_some (recorded pair.1)) pair (recorded_of more)
+
 -- the end of a body by stopped
 abbrev pub is_stopped_end : Request → Bool
 is_stopped_end (request.Complete components exit.Stopped) = true

@@ -45,10 +45,10 @@ stops answer = false
 -- Misuse.
 pub record IsDueToStop (h : History) (actor : ℕ) (asked ends : Trace) (request : Request) : Type 0 where
   pub later : ℕ
-  pub some : Trace
+  pub by_then : Trace
   pub others : Trace
-  pub ends_are : ends ≡ some ++ others
-  pub had_asked : asked_by actor (without_last later h) ≡ asked ++ some
+  pub ends_are : ends ≡ by_then ++ others
+  pub had_asked : asked_by actor (without_last later h) ≡ asked ++ by_then
   pub due : stops (out (without_last later h) actor request) ≡ true
 
 -- What a body asked that was stopped: behind what was asked before it, all that is recorded, with one ask between that has no entry,

@@ -17,7 +17,7 @@ use Rattle.rv_exec.specs.Calls.{asks, internal}
 use Rattle.rv_exec.specs.Stops.{EndsNot, IsUnfit, IsUnfitWoken}
 use Rattle.rv_exec.specs.Tasks.{task_run}
 use Rattle.rv_meant.specs.Runs.{operation_run_at}
-use Rattle.rv_meant.specs.Asks.{held_behind, IsWhole, IsCourse}
+use Rattle.rv_meant.specs.Asks.{held_behind, IsWhole, AreRecorded, IsCourse}
 
 -- Answers that the host doesn't give to what fits it (own)
 
@@ -44,12 +44,13 @@ by_stopped exit.Overrun = false
 by_stopped exit.Stopped = true
 
 -- An end by this exit, with these scalars, behind what an actor asked that held so many objects at first: a call came to the start
--- of a body, which has asked all since, with all bodies inside it, and means that end.
+-- of a body, which has asked all since, with all bodies inside it, and means that end. What was asked before it has entries.
 pub record Closes (such : Callee → Bool) (bodies : UnitBodies) (held : ℕ) (before : Trace) (scalars : List ℤ) (exit : Exit) : Type 0 where
   pub early : Trace
   pub opening : Trace
   pub inside : Trace
   pub before_is : before ≡ early ++ (opening ++ inside)
+  pub recorded : AreRecorded (early ++ opening)
   pub callee : Callee
   pub is_outer : internal callee ≡ None
   pub is_such : such callee ≡ true

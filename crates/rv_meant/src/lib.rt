@@ -3,6 +3,7 @@
 
 ghost use Rattle.rv_meant.specs.Runs.{OneHeldIsAlone};
 ghost use Rattle.rv_meant.specs.Nested.{BodiesNest, TasksNest};
+ghost use Rattle.rv_meant.specs.Told.{InnerEndsAreExplained, OuterEndsAreExplained, TaskEndsAreExplained};
 
 /// What a body means whose actor holds its object alone is what it means whose actor holds one object.
 pub fn one_held_is_alone()
@@ -20,4 +21,20 @@ pub fn bodies_nest()
 /// And so does each that a task asked, before its quit.
 pub fn tasks_nest()
     ensures { TasksNest }
+{}
+
+/// Each end of a body that a run of another asked is explained in a history that has what the run asked: so it means what
+/// was recorded, where no answer before it strays from what the host gives.
+pub fn inner_ends_are_explained()
+    ensures { InnerEndsAreExplained }
+{}
+
+/// And so is the end of the body that runs.
+pub fn outer_ends_are_explained()
+    ensures { OuterEndsAreExplained }
+{}
+
+/// And each end that a task's text asked.
+pub fn task_ends_are_explained()
+    ensures { TaskEndsAreExplained }
 {}
