@@ -22,11 +22,11 @@ use Rattle.rv_meant.specs.Runs.{operation_run_at}
 use Rattle.rv_meant.specs.Asks.{held_after, held_behind, IsWhole, AreRecorded, recorded_if, recorded_of, AreStoppedEnds, IsCutOff, IsCourse}
 use Rattle.rv_meant.specs.Nested.{by_stopped, Strays, Closes, IsNested, TaskNests}
 use Rattle.rv_meant.specs.Histories.{asked_by, without_last}
-use Rattle.rv_meant.specs.Explained.{Opens, stops, Stopped, Recounts, IsExplained}
+use Rattle.rv_meant.specs.Explained.{Opens, stops, is_protected, Stopped, Recounts, IsExplained}
 use Rattle.rv_meant.specs.Told.{HasAsked, FitBehind, InnerEndsAreExplained, OuterEndsAreExplained, TaskEndsAreExplained}
 use Rattle.rv_meant.proofs.Nesting.{Place, place_of, none_there, rest_same, held_both, recorded_both}
 use Rattle.rv_meant.proofs.NestedBodies.{bodies_nest, tasks_nest}
-use Rattle.rv_meant.proofs.Openings.{Called, IsOpening, opening_of, call_shares}
+use Rattle.rv_meant.proofs.Openings.{Called, IsOpening, opening_of, call_shares, call_protected}
 
 -- What is recorded of asks
 
@@ -110,7 +110,7 @@ first_ends (pair ∷ more) = is_complete pair.0
 -- The end of a body by its start
 
 -- What closes a body, in the words of the catalogue.
-pub record Closing (bodies : UnitBodies) (shapes : List Shape) (actor held : ℕ) (before : Trace) (scalars : List ℤ) (exit : Exit) : Type 0 where
+pub record Closing (bodies : UnitBodies) (loaded shapes : List Shape) (actor held : ℕ) (before : Trace) (scalars : List ℤ) (exit : Exit) : Type 0 where
   pub early : Trace
   pub opening : Trace
   pub inside : Trace
@@ -120,6 +120,7 @@ pub record Closing (bodies : UnitBodies) (shapes : List Shape) (actor held : ℕ
   pub operation : ℕ
   pub values : List ℤ
   pub components : List ℤ
+  pub is_loaded : is_protected (target loaded object operation) ≡ true
   pub opens : Opens shapes actor opening object operation values components
   pub whole : IsWhole inside
   pub left : List ℤ
@@ -131,9 +132,9 @@ called_opens : (shapes : List Shape) (actor object operation : ℕ) (values comp
 called_opens shapes actor object operation values components opening (inl e) = inl e
 called_opens shapes actor object operation values components opening (inr e) = inr (inl e)
 
-pub closing_of : (such : Callee → Bool) (bodies : UnitBodies) (shapes : List Shape) (actor held : ℕ) (before : Trace) (scalars : List ℤ) (exit : Exit)
-    → ((c : Callee) → such c ≡ true → callee_fits shapes c ≡ true) → Closes such bodies held before scalars exit → Closing bodies shapes actor held before scalars exit
-closing_of such bodies shapes actor held before scalars exit fits c =
+pub closing_of : (bodies : UnitBodies) (loaded shapes : List Shape) (actor held : ℕ) (before : Trace) (scalars : List ℤ) (exit : Exit)
+    → ((c : Callee) → callee_fits loaded c ≡ true → callee_fits shapes c ≡ true) → Closes (callee_fits loaded) bodies held before scalars exit → Closing bodies loaded shapes actor held before scalars exit
+closing_of bodies loaded shapes actor held before scalars exit fits c =
     let o : IsOpening c.callee c.values c.opening c.object c.operation c.is_function c.components = opening_of c.callee c.values c.opening c.object c.operation c.is_function c.components c.opens in
     record {
       early = c.early;
@@ -145,6 +146,7 @@ closing_of such bodies shapes actor held before scalars exit fits c =
       operation = c.operation;
       values = c.values;
       components = c.components;
+      is_loaded = call_protected loaded c.callee c.object c.operation c.is_function o.call c.is_such;
       opens = called_opens shapes actor c.object c.operation c.values c.components c.opening o.called;
       whole = c.whole;
       left = c.left;
@@ -153,8 +155,8 @@ closing_of such bodies shapes actor held before scalars exit fits c =
       course = c.course;
     }
 
-module _ (bodies : UnitBodies) (h : History) (actor : ℕ) (first before : Trace) (scalars : List ℤ) (exit : Exit)
-    (k : HasAsked h actor first before) (c : Closing bodies h.shapes actor (held_behind 0 first) before scalars exit) where
+module _ (shapes : List Shape) (bodies : UnitBodies) (h : History) (actor : ℕ) (first before : Trace) (scalars : List ℤ) (exit : Exit)
+    (k : HasAsked h actor first before) (c : Closing bodies shapes h.shapes actor (held_behind 0 first) before scalars exit) where
   front_is : first ++ (c.early ++ c.opening) ≡ (first ++ c.early) ++ c.opening
   front_is = sym (append_assoc first c.early c.opening)
 
@@ -188,7 +190,7 @@ module _ (bodies : UnitBodies) (h : History) (actor : ℕ) (first before : Trace
   recounts_so false r = sym (all_recorded c.inside r)
   recounts_so true g = stopped_at g
 
-  pub explained : IsExplained bodies h actor scalars exit
+  pub explained : IsExplained shapes bodies h actor scalars exit
   explained = record {
     early = first ++ c.early;
     opening = c.opening;
@@ -198,6 +200,7 @@ module _ (bodies : UnitBodies) (h : History) (actor : ℕ) (first before : Trace
     operation = c.operation;
     values = c.values;
     components = c.components;
+    loaded = c.is_loaded;
     opens = c.opens;
     whole = λ n. recorded_held n c.inside ∙ c.whole n;
     trace = c.inside;
@@ -214,10 +217,10 @@ fits_behind : (shapes : List Shape) (bodies : UnitBodies) (h : History) → FitB
 fits_behind shapes bodies h f c e = ap (λ (s : List Shape). callee_fits s c) f.loaded ∙ callee_keeps shapes f.more c e
 
 inner_end : (shapes : List Shape) (bodies : UnitBodies) (h : History) (actor : ℕ) (first before : Trace) (scalars : List ℤ) (exit : Exit) → FitBehind shapes bodies h → HasAsked h actor first before
-    → Strays (callee_fits shapes) before ⊎ Closes (callee_fits shapes) bodies (held_behind 0 first) before scalars exit → Strays (callee_fits shapes) before ⊎ IsExplained bodies h actor scalars exit
+    → Strays (callee_fits shapes) before ⊎ Closes (callee_fits shapes) bodies (held_behind 0 first) before scalars exit → Strays (callee_fits shapes) before ⊎ IsExplained shapes bodies h actor scalars exit
 inner_end shapes bodies h actor first before scalars exit f k (inl s) = inl s
 inner_end shapes bodies h actor first before scalars exit f k (inr c) =
-    inr (explained bodies h actor first before scalars exit k (closing_of (callee_fits shapes) bodies h.shapes actor (held_behind 0 first) before scalars exit (fits_behind shapes bodies h f) c))
+    inr (explained shapes bodies h actor first before scalars exit k (closing_of bodies shapes h.shapes actor (held_behind 0 first) before scalars exit (fits_behind shapes bodies h f) c))
 
 pub inner_ends : InnerEndsAreExplained
 inner_ends shapes bodies h actor first object operation values components left exit before after scalars ended next f few run k =
@@ -225,13 +228,13 @@ inner_ends shapes bodies h actor first object operation values components left e
         ((bodies_nest (callee_fits shapes) bodies (held_behind 0 first) object operation values components left (before ++ (request.Complete scalars ended, answer.Done next) ∷ after) exit f.fit few run).close before after scalars ended next refl)
 
 outer_end : (shapes : List Shape) (bodies : UnitBodies) (h : History) (actor : ℕ) (early opening : Trace) (object operation : ℕ) (values components left : List ℤ) (exit : Exit) (trace : Trace)
-    → AreRecorded (early ++ opening) → Opens h.shapes actor opening object operation values components
+    → AreRecorded (early ++ opening) → is_protected (target shapes object operation) ≡ true → Opens h.shapes actor opening object operation values components
     → Along (operation_run_at bodies (held_behind 0 (early ++ opening)) object operation values components) trace (exit, left) → HasAsked h actor (early ++ opening) trace
-    → Strays (callee_fits shapes) trace ⊎ (IsWhole trace × IsCourse (by_stopped exit) trace) → Strays (callee_fits shapes) trace ⊎ IsExplained bodies h actor (if shares (target h.shapes object operation) then [] else left) exit
-outer_end shapes bodies h actor early opening object operation values components left exit trace r o run k (inl s) = inl s
-outer_end shapes bodies h actor early opening object operation values components left exit trace r o run k (inr w) =
+    → Strays (callee_fits shapes) trace ⊎ (IsWhole trace × IsCourse (by_stopped exit) trace) → Strays (callee_fits shapes) trace ⊎ IsExplained shapes bodies h actor (if shares (target h.shapes object operation) then [] else left) exit
+outer_end shapes bodies h actor early opening object operation values components left exit trace r m o run k (inl s) = inl s
+outer_end shapes bodies h actor early opening object operation values components left exit trace r m o run k (inr w) =
     let none : asked_by actor h ≡ [] ++ recorded_of ((early ++ opening) ++ trace) = k.has ∙ sym (recorded_append (early ++ opening) trace ∙ ap (λ (l : Trace). l ++ recorded_of trace) (all_recorded (early ++ opening) r)) in
-    inr (explained bodies h actor [] ((early ++ opening) ++ trace) (if shares (target h.shapes object operation) then [] else left) exit
+    inr (explained shapes bodies h actor [] ((early ++ opening) ++ trace) (if shares (target h.shapes object operation) then [] else left) exit
     (record { has = none; due = λ done request answer behind e final. later_due done request answer behind e final })
     (record {
       early = early;
@@ -243,6 +246,7 @@ outer_end shapes bodies h actor early opening object operation values components
       operation = operation;
       values = values;
       components = components;
+      is_loaded = m;
       opens = o;
       whole = w.0;
       left = left;
@@ -263,8 +267,8 @@ outer_end shapes bodies h actor early opening object operation values components
         (d.0, d.1 ∙ sym (ap recorded_of p.1 ∙ (recorded_append (early ++ opening) p.0 ∙ ap (λ (l : Trace). l ++ recorded_of p.0) (all_recorded (early ++ opening) r))), d.2)
 
 pub outer_ends : OuterEndsAreExplained
-outer_ends shapes bodies h actor early opening object operation values components left exit trace f few r o run k =
-    outer_end shapes bodies h actor early opening object operation values components left exit trace r o run k
+outer_ends shapes bodies h actor early opening object operation values components left exit trace f few r m o run k =
+    outer_end shapes bodies h actor early opening object operation values components left exit trace r m o run k
         ((bodies_nest (callee_fits shapes) bodies (held_behind 0 (early ++ opening)) object operation values components left trace exit f.fit few run).course)
 
 no_end_in : (before after : Trace) (scalars : List ℤ) (exit : Exit) (next : Next) (quit : Trace) → (quit ≡ []) ⊎ ((r : Answer) × (quit ≡ (request.Quit, r) ∷ [])) → quit ≡ before ++ (request.Complete scalars exit, answer.Done next) ∷ after → ⊥

@@ -2,7 +2,7 @@
 -- 8652:2012, 5, 6.4, 9.5.1, 9.5.3, 11.4, C.3; limits own).
 use Rattle.std.specs.Prelude.{◌≡◌, ◌⊎◌, ℕ, ◌-◌, ℤ, Bool, true, false, if◌then◌else◌, List, [], ◌∷◌, ◌++◌, Option, Some, None}
 use Rattle.rv_shape.specs.Shape.{Shape}
-use Rattle.rv_shape.specs.Catalogue.{target, shares, handler}
+use Rattle.rv_shape.specs.Catalogue.{Target, Nowhere, OnProtected, OnSuspension, target, shares, handler}
 use Rattle.rv_code.specs.Bodies.{UnitBodies}
 use Rattle.rv_event.specs.declared.entry.Answer.{Answer}
 use Rattle.rv_event.specs.declared.entry.Answer.TheVariants.{Started, Queued, Woken, Halted, Full, Misuse}
@@ -71,6 +71,12 @@ Recounts true h actor before inside trace = Stopped h actor before inside trace
 
 -- Ends
 
+-- an operation of a protected object, which may have a body (9.4)
+abbrev pub is_protected : Target → Bool
+is_protected (OnProtected site) = true
+is_protected Nowhere = false
+is_protected (OnSuspension unit name wanted) = false
+
 -- An end of an actor behind a history, by this exit and with these scalars, none of a function: in what the actor asked there is a
 -- start of a body, behind which all that started has ended; and of these bodies that of its operation, of an actor that holds as
 -- many objects as this one did then, ends so, on the values and the components of the start, by what it asked since.
@@ -83,6 +89,7 @@ pub record IsExplained (bodies : UnitBodies) (h : History) (actor : ℕ) (scalar
   pub operation : ℕ
   pub values : List ℤ
   pub components : List ℤ
+  pub loaded : is_protected (target shapes object operation) ≡ true
   pub opens : Opens h.shapes actor opening object operation values components
   pub whole : IsWhole inside
   pub trace : Trace

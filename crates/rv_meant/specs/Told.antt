@@ -19,7 +19,7 @@ use Rattle.rv_meant.specs.Runs.{operation_run_at}
 use Rattle.rv_meant.specs.Asks.{held_behind, AreRecorded, recorded_of}
 use Rattle.rv_meant.specs.Nested.{Strays}
 use Rattle.rv_meant.specs.Histories.{asked_by, without_last}
-use Rattle.rv_meant.specs.Explained.{Opens, stops, IsExplained}
+use Rattle.rv_meant.specs.Explained.{Opens, stops, is_protected, IsExplained}
 
 -- In a history an actor asked first this, and then what of these asks has entries. Of the others, one that was answered Halted or
 -- Full was due Halted, Full or Misuse on a front of the history, on which the actor had asked just what stands before it.
@@ -45,7 +45,7 @@ InnerEndsAreExplained =
     → FitBehind shapes bodies h → held_behind 0 first ≤ 16
     → Along (operation_run_at bodies (held_behind 0 first) object operation values components) (before ++ (request.Complete scalars ended, answer.Done next) ∷ after) (exit, left)
     → HasAsked h actor first before
-    → Strays (callee_fits shapes) before ⊎ IsExplained bodies h actor scalars ended
+    → Strays (callee_fits shapes) before ⊎ IsExplained shapes bodies h actor scalars ended
 
 -- the same of the end of the body itself, of which the actor's first asks have the start
 abbrev pub OuterEndsAreExplained : Type 0
@@ -53,10 +53,11 @@ OuterEndsAreExplained =
     (shapes : List Shape) (bodies : UnitBodies) (h : History) (actor : ℕ) (early opening : Trace)
     (object operation : ℕ) (values components left : List ℤ) (exit : Exit) (trace : Trace)
     → FitBehind shapes bodies h → held_behind 0 (early ++ opening) ≤ 16 → AreRecorded (early ++ opening)
+    → is_protected (target shapes object operation) ≡ true
     → Opens h.shapes actor opening object operation values components
     → Along (operation_run_at bodies (held_behind 0 (early ++ opening)) object operation values components) trace (exit, left)
     → HasAsked h actor (early ++ opening) trace
-    → Strays (callee_fits shapes) trace ⊎ IsExplained bodies h actor (if shares (target h.shapes object operation) then [] else left) exit
+    → Strays (callee_fits shapes) trace ⊎ IsExplained shapes bodies h actor (if shares (target h.shapes object operation) then [] else left) exit
 
 -- the same of each end inside a task's run, of whom nothing was recorded before
 abbrev pub TaskEndsAreExplained : Type 0
@@ -66,4 +67,4 @@ TaskEndsAreExplained =
     → FitBehind shapes bodies h
     → Along (task_run bodies actor requests) (before ++ (request.Complete scalars ended, answer.Done next) ∷ after) exit
     → HasAsked h actor [] before
-    → Strays (callee_fits shapes) before ⊎ IsExplained bodies h actor scalars ended
+    → Strays (callee_fits shapes) before ⊎ IsExplained shapes bodies h actor scalars ended
