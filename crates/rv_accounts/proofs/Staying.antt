@@ -1,5 +1,5 @@
 -- What is explained stays explained.
-use Rattle.std.proofs.Common.{◌≡◌, ⊎_elim, ℕ, ℤ, List, [], ◌∷◌, ◌++◌, Bool, true, false, cond, eqb, refl, sym, ap, ◌∙◌, subst, append_assoc}
+use Rattle.std.proofs.Common.{◌≡◌, ⊎_elim, ℕ, ℤ, List, [], ◌∷◌, ◌++◌, Bool, true, false, cond, eqb, eq-eqb, refl, sym, ap, ◌∙◌, subst, append_assoc}
 use Rattle.rv_event.specs.declared.entry.Exit.{Exit}
 use Rattle.rv_event.specs.declared.entry.Next.{Next}
 use Rattle.rv_event.specs.declared.entry.Recorded.TheVariants.{Done}
@@ -22,7 +22,7 @@ stays limits seen later actor w old new before after scalars exit next e =
 
 own_first : (actor : ℕ) (scalars : List ℤ) (exit : Exit) (next : Next) (after : List Event) (k : Bool) → eqb actor actor ≡ k → cond k (Asks actor (Complete scalars exit) (Done next) ∷ mine by actor after) (mine by actor after) ≡ [] → ⊥
 own_first actor scalars exit next after true is e = cc e
-own_first actor scalars exit next after false is e = grind arith
+own_first actor scalars exit next after false is e = cc (eq-eqb actor actor refl, is)
 
 not_mine : (actor : ℕ) (scalars : List ℤ) (exit : Exit) (next : Next) (before after : List Event) → mine by actor (before ++ Asks actor (Complete scalars exit) (Done next) ∷ after) ≡ [] → ⊥
 not_mine actor scalars exit next [] after e = own_first actor scalars exit next after (eqb actor actor) refl e

@@ -233,7 +233,7 @@ delayed_begins (callee.CurrentState object) = refl
 delayed_begins callee.Clock = refl
 
 -- only Started begins a body at once
-begun_starts : (c : Callee) (r : Answer) → begins_at_once (replied c r) ≡ true → is_start r ≡ true
+pub begun_starts : (c : Callee) (r : Answer) → begins_at_once (replied c r) ≡ true → is_start r ≡ true
 begun_starts c (answer.Started s) e = refl
 begun_starts c answer.Queued e = no_more (sym (queued_begins c) ∙ e)
 begun_starts c (answer.Refused rule line version) e = no_more (sym (refused_begins (can_refuse c rule) rule) ∙ e)
@@ -335,7 +335,7 @@ dropped_begins (callee.SetFalse object) r = refl
 dropped_begins (callee.CurrentState object) r = refl
 dropped_begins callee.Clock r = refl
 
-resumed_starts : (c : Callee) (r : Answer) → begins (resumed c r) ≡ true → is_start r ≡ true
+pub resumed_starts : (c : Callee) (r : Answer) → begins (resumed c r) ≡ true → is_start r ≡ true
 resumed_starts c (answer.Woken None) e = no_more (sym (woken_begins c) ∙ e)
 resumed_starts c (answer.Woken (Some s)) e = refl
 resumed_starts c (answer.Refused rule line version) e = no_more (sym (dropped_begins c rule) ∙ e)

@@ -255,16 +255,16 @@ outer_end shapes bodies h actor early opening object operation values components
       course = w.1;
     }))
   where
-    later_due : (done : Trace) (request : Request) (answer : Answer) (behind : Trace) → (early ++ opening) ++ trace ≡ done ++ (request, answer) ∷ behind → is_final answer ≡ true
-        → (later : ℕ) × (asked_by actor (without_last later h) ≡ [] ++ recorded_of done) × (stops (out (without_last later h) actor request) ≡ true)
-    later_due done request answer behind e final = due_in done request answer behind final (place_of (request, answer) (early ++ opening) trace done behind e)
-
     due_in : (done : Trace) (request : Request) (answer : Answer) (behind : Trace) → is_final answer ≡ true → Place (request, answer) (early ++ opening) trace done behind
         → (later : ℕ) × (asked_by actor (without_last later h) ≡ [] ++ recorded_of done) × (stops (out (without_last later h) actor request) ≡ true)
     due_in done request answer behind final (inl p) = absurd (cut_in_recorded (early ++ opening) done request answer p.0 r p.1 final)
     due_in done request answer behind final (inr p) =
         let d = k.due p.0 request answer behind p.2 final in
         (d.0, d.1 ∙ sym (ap recorded_of p.1 ∙ (recorded_append (early ++ opening) p.0 ∙ ap (λ (l : Trace). l ++ recorded_of p.0) (all_recorded (early ++ opening) r))), d.2)
+
+    later_due : (done : Trace) (request : Request) (answer : Answer) (behind : Trace) → (early ++ opening) ++ trace ≡ done ++ (request, answer) ∷ behind → is_final answer ≡ true
+        → (later : ℕ) × (asked_by actor (without_last later h) ≡ [] ++ recorded_of done) × (stops (out (without_last later h) actor request) ≡ true)
+    later_due done request answer behind e final = due_in done request answer behind final (place_of (request, answer) (early ++ opening) trace done behind e)
 
 pub outer_ends : OuterEndsAreExplained
 outer_ends shapes bodies h actor early opening object operation values components left exit trace f few r m o run k =

@@ -149,13 +149,13 @@ kind_both such p q stopped (inl s) g = inl (strays_before such p q s)
 kind_both such p q stopped (inr f) (inl s) = inl (strays_behind such p q s)
 kind_both such p q stopped (inr f) (inr g) = inr (whole_both p q f.0 g.0, course_both p q stopped f.1 g.1)
 
-nested_nothing : (such : Callee → Bool) (bodies : UnitBodies) (held : ℕ) → IsNested such bodies held [] false
+pub nested_nothing : (such : Callee → Bool) (bodies : UnitBodies) (held : ℕ) → IsNested such bodies held [] false
 nested_nothing such bodies held = record {
   close = λ before after scalars exit next e. absurd (none_there (request.Complete scalars exit, answer.Done next) before after e);
   course = inr ((λ n. refl), tt);
 }
 
-nested_both : (such : Callee → Bool) (bodies : UnitBodies) (held : ℕ) (p q : Trace) (stopped : Bool) → IsNested such bodies held p false → IsNested such bodies held q stopped → IsNested such bodies held (p ++ q) stopped
+pub nested_both : (such : Callee → Bool) (bodies : UnitBodies) (held : ℕ) (p q : Trace) (stopped : Bool) → IsNested such bodies held p false → IsNested such bodies held q stopped → IsNested such bodies held (p ++ q) stopped
 nested_both such bodies held p q stopped f g = record {
   close = close_both such bodies held p q f.close f.course g.close;
   course = kind_both such p q stopped f.course g.course;

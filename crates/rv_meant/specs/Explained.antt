@@ -79,8 +79,9 @@ is_protected (OnSuspension unit name wanted) = false
 
 -- An end of an actor behind a history, by this exit and with these scalars, none of a function: in what the actor asked there is a
 -- start of a body, behind which all that started has ended; and of these bodies that of its operation, of an actor that holds as
--- many objects as this one did then, ends so, on the values and the components of the start, by what it asked since.
-pub record IsExplained (bodies : UnitBodies) (h : History) (actor : ℕ) (scalars : List ℤ) (exit : Exit) : Type 0 where
+-- many objects as this one did then, ends so, on the values and the components of the start, by what it asked since. The bodies
+-- are those of these units, of which one has the operation.
+pub record IsExplained (shapes : List Shape) (bodies : UnitBodies) (h : History) (actor : ℕ) (scalars : List ℤ) (exit : Exit) : Type 0 where
   pub early : Trace
   pub opening : Trace
   pub inside : Trace
