@@ -1,6 +1,6 @@
 -- What a call asks, by what it comes to.
-use Rattle.std.proofs.Common.{◌≡◌, ◌⊎◌, inl, inr, ℕ, suc, ℤ, List, [], ◌∷◌, ◌++◌, Bool, true, false, cond, refl, sym, ap, ◌∙◌, subst}
-use Rattle.std.specs.Prelude.{Option, Some, None, is_some, ◌&&◌, int_le, pos}
+use Rattle.std.proofs.Common.{◌≡◌, ◌⊎◌, inl, inr, ℕ, suc, ℤ, List, [], ◌∷◌, Bool, true, false, cond, refl, sym, ap, ◌∙◌}
+use Rattle.std.specs.Prelude.{Some, None, is_some, ◌&&◌, int_le, pos}
 use Rattle.rv_value.specs.Arithmetic.{is_zero}
 use Rattle.rv_event.specs.Recorded.{recorded}
 use Rattle.rv_event.specs.declared.entry.Answer.{Answer}
@@ -16,10 +16,10 @@ use Rattle.rv_exec.specs.declared.end.Asked.TheVariants as asked
 use Rattle.rv_exec.specs.declared.end.Cause.TheVariants as cause
 use Rattle.rv_exec.specs.declared.end.Reply.{Reply}
 use Rattle.rv_exec.specs.declared.end.Reply.TheVariants as reply
-use Rattle.rv_exec.specs.Asking.{Trace, Asking, ended, asking, Along}
-use Rattle.rv_exec.specs.Calls.{internal, is_protected, request_of, can_refuse, refusal, stops, gives, started, queued, suspended, delayed, refused, done, state, accepted, replied, woken, dropped, resumed, settled, asks}
-use Rattle.rv_exec.specs.Stops.{is_final, is_stopped, stops_at_once, IsUnfit, IsUnfitWoken}
-use Rattle.rv_meant.specs.Asks.{held_after, held_behind, IsWhole, AreRecorded, IsCutOff, IsCourse}
+use Rattle.rv_exec.specs.Asking.{Trace, ended, asking, Along}
+use Rattle.rv_exec.specs.Calls.{internal, is_protected, request_of, can_refuse, refusal, stops, gives, started, queued, suspended, delayed, accepted, replied, woken, dropped, resumed, settled, asks}
+use Rattle.rv_exec.specs.Stops.{is_final, is_stopped, stops_at_once}
+use Rattle.rv_meant.specs.Asks.{held_after, held_behind, IsWhole, AreRecorded, IsCourse}
 use Rattle.rv_meant.specs.Nested.{Strays}
 
 no_more : {X : Type 0} → false ≡ true → X

@@ -1,6 +1,6 @@
 -- What closes a body explains its end, where what was asked is what the history has.
-use Rattle.std.proofs.Common.{◌≡◌, ◌⊎◌, inl, inr, ⊎_elim, ℕ, suc, ℤ, List, [], ◌∷◌, ◌++◌, Bool, true, false, cond, refl, sym, ap, ◌∙◌, subst, append_assoc, append-nil}
-use Rattle.std.specs.Prelude.{◌-◌, if◌then◌else◌, Option, Some, None, is_some}
+use Rattle.std.proofs.Common.{◌≡◌, ◌⊎◌, inl, inr, ⊎_elim, ℕ, ℤ, List, [], ◌∷◌, ◌++◌, Bool, true, false, refl, sym, ap, ◌∙◌, subst, append_assoc, append-nil}
+use Rattle.std.specs.Prelude.{if◌then◌else◌, is_some}
 use Rattle.rv_shape.specs.Shape.{Shape}
 use Rattle.rv_shape.specs.Catalogue.{target, shares}
 use Rattle.rv_event.specs.Recorded.{recorded}
@@ -20,7 +20,7 @@ use Rattle.rv_history.specs.Due.{out}
 use Rattle.rv_history.specs.History.{History}
 use Rattle.rv_meant.specs.Runs.{operation_run_at}
 use Rattle.rv_meant.specs.Asks.{held_after, held_behind, IsWhole, AreRecorded, recorded_if, recorded_of, AreStoppedEnds, IsCutOff, IsCourse}
-use Rattle.rv_meant.specs.Nested.{by_stopped, Strays, Closes, IsNested, TaskNests}
+use Rattle.rv_meant.specs.Nested.{by_stopped, Strays, Closes}
 use Rattle.rv_meant.specs.Histories.{asked_by, without_last}
 use Rattle.rv_meant.specs.Explained.{Opens, stops, is_protected, Stopped, Recounts, IsExplained}
 use Rattle.rv_meant.specs.Told.{HasAsked, FitBehind, InnerEndsAreExplained, OuterEndsAreExplained, TaskEndsAreExplained}
@@ -179,7 +179,7 @@ module _ (shapes : List Shape) (bodies : UnitBodies) (h : History) (actor : ℕ)
         answer = g.answer;
         ends = g.behind;
         inside_is = ap recorded_of g.trace_is ∙ (recorded_append g.before ((g.request, g.answer) ∷ g.behind)
-        ∙ ((λ i. all_recorded g.before g.recorded i ++ recorded_if (final_unrecorded g.answer g.final i) (g.request, g.answer) (all_recorded g.behind (ends_recorded g.behind g.ends) i))));
+            ∙ ((λ i. all_recorded g.before g.recorded i ++ recorded_if (final_unrecorded g.answer g.final i) (g.request, g.answer) (all_recorded g.behind (ends_recorded g.behind g.ends) i))));
         trace_is = g.trace_is;
         final = g.final;
         are_ends = g.ends;
@@ -225,7 +225,7 @@ inner_end shapes bodies h actor first before scalars exit f k (inr c) =
 pub inner_ends : InnerEndsAreExplained
 inner_ends shapes bodies h actor first object operation values components left exit before after scalars ended next f few run k =
     inner_end shapes bodies h actor first before scalars ended f k
-        ((bodies_nest (callee_fits shapes) bodies (held_behind 0 first) object operation values components left (before ++ (request.Complete scalars ended, answer.Done next) ∷ after) exit f.fit few run).close before after scalars ended next refl)
+    ((bodies_nest (callee_fits shapes) bodies (held_behind 0 first) object operation values components left (before ++ (request.Complete scalars ended, answer.Done next) ∷ after) exit f.fit few run).close before after scalars ended next refl)
 
 outer_end : (shapes : List Shape) (bodies : UnitBodies) (h : History) (actor : ℕ) (early opening : Trace) (object operation : ℕ) (values components left : List ℤ) (exit : Exit) (trace : Trace)
     → AreRecorded (early ++ opening) → is_protected (target shapes object operation) ≡ true → Opens h.shapes actor opening object operation values components
@@ -269,7 +269,7 @@ outer_end shapes bodies h actor early opening object operation values components
 pub outer_ends : OuterEndsAreExplained
 outer_ends shapes bodies h actor early opening object operation values components left exit trace f few r m o run k =
     outer_end shapes bodies h actor early opening object operation values components left exit trace r m o run k
-        ((bodies_nest (callee_fits shapes) bodies (held_behind 0 (early ++ opening)) object operation values components left trace exit f.fit few run).course)
+    ((bodies_nest (callee_fits shapes) bodies (held_behind 0 (early ++ opening)) object operation values components left trace exit f.fit few run).course)
 
 no_end_in : (before after : Trace) (scalars : List ℤ) (exit : Exit) (next : Next) (quit : Trace) → (quit ≡ []) ⊎ ((r : Answer) × (quit ≡ (request.Quit, r) ∷ [])) → quit ≡ before ++ (request.Complete scalars exit, answer.Done next) ∷ after → ⊥
 no_end_in before after scalars exit next quit (inl e) h = none_there (request.Complete scalars exit, answer.Done next) before after (sym e ∙ h)
@@ -283,5 +283,5 @@ pub task_ends : TaskEndsAreExplained
 task_ends shapes bodies h actor requests exit before after scalars ended next f run k =
     let t = tasks_nest (callee_fits shapes) bodies actor requests (before ++ (request.Complete scalars ended, answer.Done next) ∷ after) exit f.fit run in
     inner_end shapes bodies h actor [] before scalars ended f k
-        (⊎_elim (λ p. t.nested.close before p.0 scalars ended next p.1) (λ p. absurd (no_end_in p.0 after scalars ended next t.quit t.quits p.2))
-        (place_of (request.Complete scalars ended, answer.Done next) t.asked t.quit before after (sym t.trace_is)))
+    (⊎_elim (λ p. t.nested.close before p.0 scalars ended next p.1) (λ p. absurd (no_end_in p.0 after scalars ended next t.quit t.quits p.2))
+    (place_of (request.Complete scalars ended, answer.Done next) t.asked t.quit before after (sym t.trace_is)))

@@ -1,6 +1,6 @@
 -- What holds of all traces of a run: it holds of none and of two one after another, so it holds of what statements ask, where it
 -- holds of what they ask outside.
-use Rattle.std.proofs.Common.{◌≡◌, List, [], ◌∷◌, ◌++◌, Bool, true, false, cond, refl, sym, ap, ◌∙◌, subst, append-nil, Result, Ok, Err}
+use Rattle.std.proofs.Common.{◌≡◌, [], ◌∷◌, ◌++◌, Bool, true, false, cond, refl, sym, ap, ◌∙◌, subst, append-nil, Result, Ok, Err}
 use Rattle.rv_code.specs.declared.expression.Callee.{Callee}
 use Rattle.rv_exec.specs.declared.activation.Activation.{Activation}
 use Rattle.rv_exec.specs.declared.end.Cause.{Cause}
@@ -10,7 +10,7 @@ use Rattle.rv_exec.specs.Asking.{Trace, Asking, ended, asking, and_then, Along}
 use Rattle.rv_exec.specs.Expressions.{on_value, fails}
 use Rattle.rv_exec.specs.Statements.{abandons, go_on, again}
 use Rattle.rv_exec.specs.World.{Run}
-use Rattle.rv_exec.proofs.Stopping.{by_stop, stopped_result, stopped_got, stopped_end, stopped_run}
+use Rattle.rv_exec.proofs.Stopping.{by_stop, stopped_got, stopped_run}
 
 -- what is kept of a trace, and of whether its run stopped; all that is called is such
 pub record Kept : Type 1 where

@@ -1,5 +1,5 @@
 -- What is kept of bodies.
-use Rattle.std.proofs.Common.{◌≡◌, ℕ, zero, suc, ℤ, pos, List, [], ◌∷◌, Bool, true, false, cond, refl, sym, ap, ◌∙◌, subst, Option, Some, None, Ok, Err}
+use Rattle.std.proofs.Common.{◌≡◌, ℕ, zero, suc, ℤ, pos, List, [], ◌∷◌, Bool, true, false, cond, refl, Option, Some, None, Err}
 use Rattle.std.specs.List.{list_all}
 use Rattle.std.specs.Prelude.{◌&&◌, ◌-◌, nat_lt, replicate, slice_get}
 use Rattle.rv_event.specs.declared.entry.Exception.{Exception}
@@ -13,7 +13,7 @@ use Rattle.rv_exec.specs.declared.activation.Activation.{Activation}
 use Rattle.rv_exec.specs.declared.end.Cause.TheVariants as cause
 use Rattle.rv_exec.specs.declared.end.End.{End}
 use Rattle.rv_exec.specs.declared.end.End.TheVariants as end
-use Rattle.rv_exec.specs.Asking.{Asking, ended, and_then}
+use Rattle.rv_exec.specs.Asking.{Asking, and_then}
 use Rattle.rv_exec.specs.Activations.{assigned, bound, opened, given_back}
 use Rattle.rv_exec.specs.Blocks.{elaborated, in_handler, handling, handled, block, function_outcome, procedure_outcome, outcome_of, closed, body_meaning, inner_at}
 use Rattle.rv_exec.specs.Bodies.{numbered, among, flat, operation_of, task_of}
@@ -149,4 +149,3 @@ inner_sound kept bodies object outer m f zero operation values components steps 
 inner_sound kept bodies object outer m f (suc nested) operation values components steps =
     body_sound kept (record { inner = inner_at bodies object outer nested; outer = outer; is_task = false; handling = None })
     (record { inner = λ o v c s. inner_sound kept bodies object outer m f nested o v c s; outer = f }) (operation_of bodies object operation) values components steps (operation_calls kept.such bodies object operation m)
-

@@ -1,22 +1,20 @@
 -- What is kept of statements.
-use Rattle.std.proofs.Common.{◌≡◌, ℕ, zero, suc, ℤ, pos, List, [], ◌∷◌, Bool, true, false, cond, refl, Option, Some, None, Result, Ok, Err}
+use Rattle.std.proofs.Common.{◌≡◌, ℕ, zero, suc, ℤ, pos, List, [], ◌∷◌, Bool, true, false, cond, refl, Option, Some, None}
 use Rattle.std.specs.Prelude.{◌&&◌, int_lt, slice_index_or}
 use Rattle.rv_event.specs.declared.entry.Exception.{Exception}
 use Rattle.rv_event.specs.declared.entry.Exception.TheVariants.{ConstraintError}
 use Rattle.rv_shape.specs.declared.kind.Range.{Range}
-use Rattle.rv_code.specs.declared.expression.Callee.{Callee}
 use Rattle.rv_code.specs.declared.statement.Target.{Target}
 use Rattle.rv_fits.proofs.Both.{first_of_both, second_of_both}
 use Rattle.rv_fits.specs.Calls.{expression_calls, expressions_call, statement_calls, statements_call, branches_call, alternatives_call}
 use Rattle.rv_code.specs.Statements.{Statement, null_statement, assign, choice, selection, while_loop, for_loop, exit_when, returns, returns_value, raises, reraises, calls, Statements, no_statements, and_statement, Branches, no_branches, and_branch, Alternatives, no_alternatives, and_alternative}
 use Rattle.rv_exec.specs.declared.activation.Activation.{Activation}
-use Rattle.rv_exec.specs.declared.end.Cause.{Cause}
 use Rattle.rv_exec.specs.declared.end.Cause.TheVariants as cause
 use Rattle.rv_exec.specs.declared.end.End.{End}
 use Rattle.rv_exec.specs.declared.end.End.TheVariants as end
 use Rattle.rv_exec.specs.Asking.{Asking, ended, and_then}
-use Rattle.rv_exec.specs.Operators.{is_true, within}
-use Rattle.rv_exec.specs.Activations.{settled, assigned, stepped, put_slot, steps_left, copied_next, copied_back, fits, span, value_before}
+use Rattle.rv_exec.specs.Operators.{is_true}
+use Rattle.rv_exec.specs.Activations.{assigned, stepped, put_slot, steps_left, copied_next, copied_back, fits, span, value_before}
 use Rattle.rv_exec.specs.Choices.{covered}
 use Rattle.rv_exec.specs.Expressions.{on_value, value, arguments, passing}
 use Rattle.rv_exec.specs.Statements.{abandons, on_step, step, go_on, again, turns, values_over, for_each, exit_where, raised_again, meaning, meanings, first_true, selected}

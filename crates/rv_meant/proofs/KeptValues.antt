@@ -1,7 +1,6 @@
 -- What is kept of expressions.
 use Rattle.std.proofs.Common.{◌≡◌, ℕ, ℤ, List, [], Bool, true, false, cond, refl, Option, Some, None, Result, Ok, Err, int_le, ◌&&◌}
 use Rattle.rv_value.specs.declared.arithmetic.Arith.{Arith}
-use Rattle.rv_shape.specs.declared.kind.Range.{Range}
 use Rattle.rv_event.specs.declared.entry.Exception.TheVariants.{ConstraintError}
 use Rattle.rv_code.specs.declared.expression.Callee.{Callee}
 use Rattle.rv_code.specs.declared.expression.Operator.{Operator}

@@ -1,7 +1,6 @@
 -- The ends of bodies inside one another close them.
-use Rattle.std.proofs.Common.{◌≡◌, ◌⊎◌, inl, inr, ⊎_elim, ℕ, zero, suc, ◌+◌, ◌≤◌, ℤ, pos, List, [], ◌∷◌, ◌++◌, Bool, true, false, cond, refl, sym, ap, ◌∙◌, subst, append_assoc, append-nil, arith, Option, Some, None, Result, Ok, Err}
-use Rattle.std.specs.Prelude.{◌-◌, is_some, replicate}
-use Rattle.rv_event.specs.Recorded.{recorded}
+use Rattle.std.proofs.Common.{◌≡◌, ◌⊎◌, inl, inr, ⊎_elim, ℕ, zero, suc, ◌+◌, ◌≤◌, ℤ, pos, List, [], ◌∷◌, ◌++◌, Bool, true, false, cond, refl, sym, ap, ◌∙◌, subst, append_assoc, append-nil, arith, Option, Some, None, Ok, Err}
+use Rattle.std.specs.Prelude.{◌-◌, replicate}
 use Rattle.rv_event.specs.declared.entry.Answer.{Answer}
 use Rattle.rv_event.specs.declared.entry.Answer.TheVariants as answer
 use Rattle.rv_event.specs.declared.entry.Exception.TheVariants.{ProgramError}
@@ -13,27 +12,24 @@ use Rattle.rv_event.specs.declared.entry.Request.TheVariants as request
 use Rattle.rv_code.specs.declared.expression.Callee.{Callee}
 use Rattle.rv_code.specs.Bodies.{Body, UnitBodies}
 use Rattle.rv_fits.specs.Calls.{task_calls, every_call}
-use Rattle.rv_exec.specs.declared.activation.Activation.{Activation}
 use Rattle.rv_exec.specs.declared.end.Asked.{Asked}
 use Rattle.rv_exec.specs.declared.end.Asked.TheVariants as asked
-use Rattle.rv_exec.specs.declared.end.Cause.{Cause}
 use Rattle.rv_exec.specs.declared.end.Cause.TheVariants as cause
-use Rattle.rv_exec.specs.declared.end.End.{End}
 use Rattle.rv_exec.specs.Asking.{Trace, Asking, ended, asking, and_then, Along}
 use Rattle.rv_exec.specs.Activations.{opened, given_back}
 use Rattle.rv_exec.specs.Blocks.{block, outcome_of, inner_at, performed, outer_at, exits, world}
 use Rattle.rv_exec.specs.Bodies.{task_of}
-use Rattle.rv_exec.specs.Calls.{Outcome, internal, is_protected, is_past, asks, reached, exit_of, seen, completed, end_of, completes}
+use Rattle.rv_exec.specs.Calls.{Outcome, internal, is_protected, asks, reached, exit_of, seen, completed, end_of, completes}
 use Rattle.rv_exec.specs.Stops.{EndsNot, is_stopped}
-use Rattle.rv_exec.specs.Tasks.{task_setting, is_stuck, quits, over, task_meaning, task_run}
+use Rattle.rv_exec.specs.Tasks.{task_setting, is_stuck, quits, over, task_meaning}
 use Rattle.rv_exec.proofs.Stopping.{stopped_result, stopped_got, stopped_run}
 use Rattle.rv_meant.specs.Runs.{operation_run_at}
-use Rattle.rv_meant.specs.Asks.{held_after, held_behind, IsWhole, AreRecorded, is_stopped_end, IsCutOff, IsCourse}
+use Rattle.rv_meant.specs.Asks.{held_behind, IsWhole, AreRecorded, is_stopped_end, IsCutOff, IsCourse}
 use Rattle.rv_meant.specs.Nested.{Strays, by_stopped, Closes, EndsClose, IsNested, BodiesNest, TaskNests, TasksNest}
-use Rattle.rv_meant.proofs.Keeping.{Sound, Split, split, ends_at_once, ends_with}
+use Rattle.rv_meant.proofs.Keeping.{Sound, split, ends_at_once, ends_with}
 use Rattle.rv_meant.proofs.KeptValues.{SoundWorld}
 use Rattle.rv_meant.proofs.KeptBodies.{block_sound, inner_sound, outcome_stops, task_found}
-use Rattle.rv_meant.proofs.Nesting.{first_same, rest_same, place_of, none_there, strays_before, strays_behind, held_both, whole_both, recorded_both, ends_both, course_both, later_end, nesting}
+use Rattle.rv_meant.proofs.Nesting.{first_same, rest_same, place_of, none_there, strays_before, strays_behind, held_both, recorded_both, ends_both, course_both, later_end, nesting}
 use Rattle.rv_meant.proofs.Answered.{begins, NoEnds, CameTo, asks_come, asks_no_end, asks_protected}
 
 -- Asks that end no body
@@ -194,14 +190,14 @@ module _ (such : Callee → Bool) (bodies : UnitBodies) (held more : ℕ) (room 
   behind_start : (r : Answer) (before after : Trace) (scalars : List ℤ) (x : Exit) (next : Next) → inside ++ end_pair r ∷ [] ≡ before ++ (request.Complete scalars x, answer.Done next) ∷ after → EndsSo (opening ++ before) scalars x
   behind_start r before after scalars x next e =
       ⊎_elim (λ h. later_end such bodies held (suc held) opening before scalars x (opened_by.0 held) opened_by.1 (nested.close before h.0 scalars x next h.1))
-          (λ h. subst (λ (l : Trace). EndsSo (opening ++ l) scalars x) (sym h.1) (at_end r h.0 after scalars x next h.2))
-          (place_of (request.Complete scalars x, answer.Done next) inside (end_pair r ∷ []) before after e)
+      (λ h. subst (λ (l : Trace). EndsSo (opening ++ l) scalars x) (sym h.1) (at_end r h.0 after scalars x next h.2))
+      (place_of (request.Complete scalars x, answer.Done next) inside (end_pair r ∷ []) before after e)
 
   close_started : (r : Answer) → EndsClose such bodies held (opening ++ (inside ++ end_pair r ∷ []))
   close_started r before after scalars x next e =
       ⊎_elim (λ h. no_ends_close such bodies held opening (asks_no_end c values opening (asked.Started object operation is_function components) opens) before h.0 scalars x next h.1)
-          (λ h. subst (λ (l : Trace). EndsSo l scalars x) (sym h.1) (behind_start r h.0 after scalars x next h.2))
-          (place_of (request.Complete scalars x, answer.Done next) opening (inside ++ end_pair r ∷ []) before after e)
+      (λ h. subst (λ (l : Trace). EndsSo l scalars x) (sym h.1) (behind_start r h.0 after scalars x next h.2))
+      (place_of (request.Complete scalars x, answer.Done next) opening (inside ++ end_pair r ∷ []) before after e)
 
   whole_started : (next : Next) → IsWhole inside → IsWhole (opening ++ (inside ++ end_pair (answer.Done next) ∷ []))
   whole_started next w n =
@@ -238,7 +234,7 @@ started_nested such bodies held more c values object operation is_function compo
     let e = ending_is is_function p.middle.0 p.middle.1.0 p.middle.1.1 p.second b p.rest in
     let second_is : p.first ++ (request.Complete (given_of is_function p.middle.1.0) (exit_of p.middle.0), e.0) ∷ [] ≡ second = sym (p.trace_is ∙ ap (λ (l : Trace). p.first ++ l) e.1) in
     subst (λ (z : Trace × Outcome). IsNested such bodies held (opening ++ z.0) (stopped_result z.1)) (λ i. (second_is i, e.2 i))
-        (started_ends such bodies held more room c n m values object operation is_function components opening opens p.first p.middle.0 p.middle.1.0 p.middle.1.1 p.along (f p.first p.middle p.along) e.0)
+    (started_ends such bodies held more room c n m values object operation is_function components opening opens p.first p.middle.0 p.middle.1.0 p.middle.1.1 p.along (f p.first p.middle p.along) e.0)
 
 -- What a call comes to
 
@@ -287,16 +283,16 @@ unfolding outer_at reached
 outer_nested such bodies held zero c values room k n m trace b h =
     let p = split (cond (is_protected c) (ended past_held) (asks c values)) (performed raises_at_once) trace b h in
     subst (λ (t : Trace). IsNested such bodies held t (stopped_result b)) (sym p.trace_is)
-        (full_nested such bodies held c values (is_protected c) p.first p.second p.middle b n m refl p.along p.rest)
+    (full_nested such bodies held c values (is_protected c) p.first p.second p.middle b n m refl p.along p.rest)
 outer_nested such bodies held (suc more) c values room k n m trace b h =
     let go : ℕ → ℕ → Bool → List ℤ → Asking Outcome = λ object operation is_function components. and_then (inner_at bodies object (outer_at bodies more) 65 operation values components 100000) (completes is_function) in
     let p = split (asks c values) (performed go) trace b h in
     let next : suc held + more ≡ 16 = omega (arith, room) in
     subst (λ (t : Trace). IsNested such bodies held t (stopped_result b)) (sym p.trace_is)
-        (performed_nested such bodies held c values go p.first p.second p.middle b n m
-        (λ object operation is_function components o g. started_nested such bodies held more c values object operation is_function components p.first p.second b room n m o
-        (inner_sound (nesting such bodies (suc held)) bodies object (outer_at bodies more) k (λ d v i s. outer_nested such bodies (suc held) more d v next k i s) 65 operation values components 100000) g)
-        p.along p.rest)
+    (performed_nested such bodies held c values go p.first p.second p.middle b n m
+    (λ object operation is_function components o g. started_nested such bodies held more c values object operation is_function components p.first p.second b room n m o
+    (inner_sound (nesting such bodies (suc held)) bodies object (outer_at bodies more) k (λ d v i s. outer_nested such bodies (suc held) more d v next k i s) 65 operation values components 100000) g)
+    p.along p.rest)
 
 -- Bodies and tasks
 
@@ -311,7 +307,7 @@ bodies_nest such bodies held object operation values components left trace x k f
     let t : p.first ≡ trace = sym (p.trace_is ∙ (ap (λ (l : Trace). p.first ++ l) none ∙ append-nil p.first)) in
     let s : stopped_result p.middle.0 ≡ by_stopped x = sym (exit_stops p.middle.0) ∙ ap (λ (z : Exit × List ℤ). by_stopped z.0) at in
     subst (λ (z : Trace × Bool). IsNested such bodies held z.0 z.1) (λ i. (t i, s i))
-        (inner_sound (nesting such bodies held) bodies object (outer_at bodies (16 - held)) k (λ d v i n. outer_nested such bodies held (16 - held) d v (all_held held few) k i n) 65 operation values components 100000 p.first p.middle p.along)
+    (inner_sound (nesting such bodies held) bodies object (outer_at bodies (16 - held)) k (λ d v i n. outer_nested such bodies held (16 - held) d v (all_held held few) k i n) 65 operation values components 100000 p.first p.middle p.along)
 
 -- a task's quit
 record Quitting (outcome : Outcome) (quit : Trace) (x : Exit) : Type 0 where
@@ -343,7 +339,7 @@ task_nested such bodies (Some body) requests trace x k m h =
     let p = split (block (world bodies task_setting) body a) (over body) trace x h in
     let q = quitting (outcome_of body p.middle.0 p.middle.1) p.second x p.rest in
     let s : stopped_run p.middle ≡ by_stopped x =
-        sym (outcome_stops body.is_function p.middle.0 (given_back body.parameters 0 p.middle.1.slots [])) ∙ (sym (exit_stops (outcome_of body p.middle.0 p.middle.1)) ∙ ap (λ (z : Exit). by_stopped z) q.exit_is) in
+    sym (outcome_stops body.is_function p.middle.0 (given_back body.parameters 0 p.middle.1.slots [])) ∙ (sym (exit_stops (outcome_of body p.middle.0 p.middle.1)) ∙ ap (λ (z : Exit). by_stopped z) q.exit_is) in
     record {
       asked = p.first;
       quit = p.second;

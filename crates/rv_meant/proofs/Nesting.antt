@@ -1,18 +1,15 @@
 -- What asks leave held, and which have entries, one after another.
-use Rattle.std.proofs.Common.{◌≡◌, ◌⊎◌, inl, inr, ⊎_elim, ℕ, suc, ℤ, List, [], ◌∷◌, ◌++◌, Bool, true, false, refl, sym, ap, ◌∙◌, subst, append_assoc, arith}
-use Rattle.std.specs.Prelude.{◌-◌, Some, None, is_some}
-use Rattle.rv_event.specs.Recorded.{recorded}
+use Rattle.std.proofs.Common.{◌≡◌, ◌⊎◌, inl, inr, ⊎_elim, ℕ, ℤ, List, [], ◌∷◌, ◌++◌, Bool, true, false, refl, sym, ap, ◌∙◌, subst, append_assoc}
 use Rattle.rv_event.specs.declared.entry.Answer.{Answer}
 use Rattle.rv_event.specs.declared.entry.Answer.TheVariants as answer
 use Rattle.rv_event.specs.declared.entry.Exit.{Exit}
-use Rattle.rv_event.specs.declared.entry.Next.{Next}
 use Rattle.rv_event.specs.declared.entry.Request.{Request}
 use Rattle.rv_event.specs.declared.entry.Request.TheVariants as request
 use Rattle.rv_code.specs.declared.expression.Callee.{Callee}
 use Rattle.rv_code.specs.Bodies.{UnitBodies}
 use Rattle.rv_exec.specs.Asking.{Trace, Along}
 use Rattle.rv_meant.specs.Runs.{operation_run_at}
-use Rattle.rv_meant.specs.Asks.{held_after, held_behind, IsWhole, AreRecorded, AreStoppedEnds, IsCutOff, IsCourse}
+use Rattle.rv_meant.specs.Asks.{held_after, held_behind, IsWhole, AreRecorded, AreStoppedEnds, IsCourse}
 use Rattle.rv_meant.specs.Nested.{StraysWaiting, Strays, Closes, EndsClose, IsNested}
 use Rattle.rv_meant.proofs.Keeping.{Kept}
 
@@ -141,8 +138,8 @@ behind_whole such bodies held p before scalars exit (inr w) c = later_end such b
 close_both : (such : Callee → Bool) (bodies : UnitBodies) (held : ℕ) (p q : Trace) → EndsClose such bodies held p → Kind such p false → EndsClose such bodies held q → EndsClose such bodies held (p ++ q)
 close_both such bodies held p q f w g before after scalars exit next e =
     ⊎_elim (λ h. f before h.0 scalars exit next h.1)
-        (λ h. subst (λ (l : Trace). Strays such l ⊎ Closes such bodies held l scalars exit) (sym h.1) (behind_whole such bodies held p h.0 scalars exit w (g h.0 after scalars exit next h.2)))
-        (place_of (request.Complete scalars exit, answer.Done next) p q before after e)
+    (λ h. subst (λ (l : Trace). Strays such l ⊎ Closes such bodies held l scalars exit) (sym h.1) (behind_whole such bodies held p h.0 scalars exit w (g h.0 after scalars exit next h.2)))
+    (place_of (request.Complete scalars exit, answer.Done next) p q before after e)
 
 kind_both : (such : Callee → Bool) (p q : Trace) (stopped : Bool) → Kind such p false → Kind such q stopped → Kind such (p ++ q) stopped
 kind_both such p q stopped (inl s) g = inl (strays_before such p q s)

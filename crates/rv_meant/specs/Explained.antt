@@ -1,6 +1,6 @@
 -- What explains a recorded end of a body: what its text means on what its actor asked between its start and its end (ISO/IEC
 -- 8652:2012, 5, 6.4, 9.5.1, 9.5.3, 11.4, C.3; limits own).
-use Rattle.std.specs.Prelude.{◌≡◌, ◌⊎◌, ℕ, ◌-◌, ℤ, Bool, true, false, if◌then◌else◌, List, [], ◌∷◌, ◌++◌, Option, Some, None}
+use Rattle.std.specs.Prelude.{◌≡◌, ◌⊎◌, ℕ, ◌-◌, ℤ, Bool, true, false, if◌then◌else◌, List, [], ◌∷◌, ◌++◌, Some}
 use Rattle.rv_shape.specs.Shape.{Shape}
 use Rattle.rv_shape.specs.Catalogue.{Target, Nowhere, OnProtected, OnSuspension, target, shares, handler}
 use Rattle.rv_code.specs.Bodies.{UnitBodies}

@@ -1,5 +1,5 @@
 -- Ends that a run asked are explained, where the history has what it asked (own).
-use Rattle.std.specs.Prelude.{◌≡◌, ◌⊎◌, ◌≤◌, ℕ, ℤ, Bool, true, if◌then◌else◌, List, [], ◌∷◌, ◌++◌}
+use Rattle.std.specs.Prelude.{◌≡◌, ◌⊎◌, ◌≤◌, ℕ, ℤ, true, if◌then◌else◌, List, [], ◌∷◌, ◌++◌}
 use Rattle.rv_shape.specs.Shape.{Shape}
 use Rattle.rv_shape.specs.Catalogue.{target, shares}
 use Rattle.rv_code.specs.Bodies.{UnitBodies}
