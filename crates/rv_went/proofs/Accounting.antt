@@ -32,22 +32,22 @@ cons_compared : (e d : Event) (one other : List Event) → e ≡ d → Compared 
 cons_compared e d one other h (inl w) = inl (w.0, λ i. h i ∷ w.1 i)
 cons_compared e d one other h (inr w) = inr (w.0, λ i. sym h i ∷ w.1 i)
 
-abbrev first_or : Event → List Event → Event
+abbrev pub first_or : Event → List Event → Event
 first_or e [] = e
 first_or e (d ∷ ds) = d
 
-abbrev rest_of : List Event → List Event
+abbrev pub rest_of : List Event → List Event
 rest_of [] = []
 rest_of (d ∷ ds) = ds
 
-compared : (one other more rest : List Event) → one ++ more ≡ other ++ rest → Compared one other
+pub compared : (one other more rest : List Event) → one ++ more ≡ other ++ rest → Compared one other
 compared [] other more rest e = inr (other, refl)
 compared (d ∷ one) [] more rest e = inl (d ∷ one, refl)
 compared (d ∷ one) (c ∷ other) more rest e =
     cons_compared d c one other (ap (λ (l : List Event). first_or d l) e) (compared one other more rest (ap (λ (l : List Event). rest_of l) e))
 
 -- of two fronts on which an actor asked as much, both have the same asks
-same_asks : (limits : Limits) (a : ℕ) (one other later : List Event) → StartsWith later one → StartsWith later other → mine by a one ≡ mine by a other → asked_at limits a one ≡ asked_at limits a other
+pub same_asks : (limits : Limits) (a : ℕ) (one other later : List Event) → StartsWith later one → StartsWith later other → mine by a one ≡ mine by a other → asked_at limits a one ≡ asked_at limits a other
 same_asks limits a one other later w z e =
     ⊎_elim (λ h. asks_stay limits a other one h e) (λ h. sym (asks_stay limits a one other h (sym e))) (compared one other w.0 z.0 (sym w.1 ∙ z.1))
 
@@ -71,7 +71,7 @@ told_recorded Answers.Unattached word e = refl
 told_recorded Answers.BadLine word e = refl
 told_recorded Answers.OutOfMemory word e = refl
 
-final_stops : (d : Answer) → is_final (told d) ≡ true → stops d ≡ true
+pub final_stops : (d : Answer) → is_final (told d) ≡ true → stops d ≡ true
 final_stops Answers.Halted e = refl
 final_stops Answers.Full e = refl
 final_stops Answers.Misuse e = refl
@@ -89,7 +89,7 @@ final_stops Answers.Unattached e = e
 final_stops Answers.BadLine e = e
 final_stops Answers.OutOfMemory e = e
 
-final_none : (r : Answer) → is_final r ≡ true → recorded r ≡ None
+pub final_none : (r : Answer) → is_final r ≡ true → recorded r ≡ None
 final_none Answers.Halted e = refl
 final_none Answers.Full e = refl
 final_none (Answers.Started s) e = absurd (cc e)
@@ -115,7 +115,7 @@ module _ (limits : Limits) (a : ℕ) (seen later : List Event) (left : ℕ) wher
   HasThen base p done = asked_at limits a p ≡ asked_at limits a base ++ recorded_of done
 
   mutual
-    so_far : (own base p : List Event) (done rest : Trace) → EachAnswered limits a seen later left own (done ++ rest) → StartsWith later base → mine by a base ≡ own → StartsWith later p → mine by a p ≡ own ++ noted a done → HasThen base p done
+    pub so_far : (own base p : List Event) (done rest : Trace) → EachAnswered limits a seen later left own (done ++ rest) → StartsWith later base → mine by a base ≡ own → StartsWith later p → mine by a p ≡ own ++ noted a done → HasThen base p done
     so_far own base p [] rest x w b z e = same_asks limits a p base later z w (e ∙ (append-nil own ∙ sym b)) ∙ sym (append-nil (asked_at limits a base))
     so_far own base p ((q, r) ∷ done) rest x w b z e = one_more own base p q r done rest (recorded r) refl x.0 x.1 w b z e
 
@@ -168,7 +168,7 @@ pub record FoundIn (a : ℕ) (xs : Trace) (m : List Event) (q : Request) (word :
   pub noted_is : noted a before ≡ m
 
 mutual
-  found : (a : ℕ) (xs : Trace) (m rest : List Event) (q : Request) (word : Recorded) → noted a xs ≡ m ++ Asks a q word ∷ rest → FoundIn a xs m q word
+  pub found : (a : ℕ) (xs : Trace) (m rest : List Event) (q : Request) (word : Recorded) → noted a xs ≡ m ++ Asks a q word ∷ rest → FoundIn a xs m q word
   found a [] m rest q word e = absurd (none_there (Asks a q word) m rest e)
   found a ((p, r) ∷ xs) m rest q word e = found_by a p r xs m rest q word (recorded r) refl e
 
@@ -199,7 +199,7 @@ mutual
       }
 
 -- each pair was answered with just what stands before it
-each_at : (limits : Limits) (a : ℕ) (seen later : List Event) (left : ℕ) (own : List Event) (before : Trace) (q : Request) (r : Answer) (after : Trace) → EachAnswered limits a seen later left own (before ++ (q, r) ∷ after)
+pub each_at : (limits : Limits) (a : ℕ) (seen later : List Event) (left : ℕ) (own : List Event) (before : Trace) (q : Request) (r : Answer) (after : Trace) → EachAnswered limits a seen later left own (before ++ (q, r) ∷ after)
     → IsAnswered limits a seen (own ++ noted a before) later q r ⊎ IsWorn a left r after
 each_at limits a seen later left own [] q r after x = subst (λ (o : List Event). IsAnswered limits a seen o later q r ⊎ IsWorn a left r after) (sym (append-nil own)) x.0
 each_at limits a seen later left own ((p, s) ∷ before) q r after x =

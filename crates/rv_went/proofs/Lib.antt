@@ -1,0 +1,3 @@
+pub mod Accounting
+pub mod Straying
+pub mod Since

@@ -1,0 +1,15 @@
+//! What a port's body asked left only ends that are explained. Laws, each on a function that does nothing.
+#![tactic(auto)]
+
+ghost use Rattle.rv_went.specs.Ends.{BodiesLeaveEndsExplained, TextsLeaveEndsExplained};
+
+/// Where a body ran on a port, each end of its actor that came since in what the port has seen is explained, or an end was
+/// not answered Done.
+pub fn bodies_leave_ends_explained()
+    ensures { BodiesLeaveEndsExplained }
+{}
+
+/// And where a task's text ran on a port that had done nothing.
+pub fn texts_leave_ends_explained()
+    ensures { TextsLeaveEndsExplained }
+{}
