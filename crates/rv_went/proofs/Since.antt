@@ -27,7 +27,6 @@ use Rattle.rv_meant.specs.Nested.{Strays}
 use Rattle.rv_meant.specs.Histories.{asked_by, without_last}
 use Rattle.rv_meant.specs.Explained.{stops, IsExplained}
 use Rattle.rv_meant.specs.Told.{HasAsked, FitBehind}
-use Rattle.rv_meant.proofs.Nesting.{strays_before}
 use Rattle.rv_meant.proofs.Explaining.{inner_ends, task_ends}
 use Rattle.rv_behind.specs.Acting.{entered, grown}
 use Rattle.rv_behind.specs.Events.{by, bodies_at, catalogue_of, history_at}
@@ -36,10 +35,10 @@ use Rattle.rv_behind.specs.declared.event.Event.TheVariants.{Asks}
 use Rattle.rv_accounts.specs.Seen.{asked_at}
 use Rattle.rv_accounts.specs.Explained.{EndIsExplained}
 use Rattle.rv_accounts.proofs.Growing.{asks_stay, without_later}
-use Rattle.rv_port.specs.Traces.{Passing, Trace, limits_in, told, noted, noted_if, IsAnswered, IsWorn, EachAnswered, Went}
+use Rattle.rv_port.specs.Traces.{Passing, Trace, limits_in, told, noted, noted_if, IsAnswered, IsWorn, EachAnswered, Steps, Went}
 use Rattle.rv_port.specs.Composing.{noted-append}
 use Rattle.rv_port.proofs.Actors.{catalogue-append}
-use Rattle.rv_went.specs.Ends.{EndNotDone, Owns, asked_so_far, IsLentBy, EndsSinceAreExplained, BodiesLeaveEndsExplained, TextsLeaveEndsExplained}
+use Rattle.rv_went.specs.Ends.{EndNotDoneBefore, Owns, asked_so_far, IsLentBy, EndsSinceAreExplained, BodiesLeaveEndsExplained, TextsLeaveEndsExplained}
 use Rattle.rv_went.proofs.Accounting.{first_or, rest_of, compared, FoundIn, found, each_at, so_far, final_stops, final_none}
 use Rattle.rv_went.proofs.Straying.{strays_end}
 
@@ -92,6 +91,11 @@ longer own xs ys zs d e =
     let k : length (own ++ (xs ++ ys)) ≡ length own + length (xs ++ ys) = length-append own (xs ++ ys) in
     let j : length (xs ++ ys) ≡ length xs + length ys = length-append xs ys in
     omega (arith, n, l, m, k, j)
+
+-- the first of a port's steps
+steps_front : (v : Passing) (xs ys : Trace) (w : Passing) → Steps v (xs ++ ys) w → (u : Passing) × Steps v xs u
+steps_front v [] ys w t = (v, refl)
+steps_front v (x ∷ xs) ys w t = let s = steps_front t.0 xs ys w t.2 in (s.0, (t.0, t.1, s.1))
 
 module _ (v w : Passing) (trace : Trace) (log : List Event) (k : IsLentBy v log) (went : Went v trace w) (owned : Owns w)
     (before after : List Event) (scalars : List ℤ) (exit : Exit) (next : Next) (p : StartsWith before v.seen) (e : w.seen ≡ before ++ Asks v.actor (Complete scalars exit) (Words.Done next) ∷ after) where
@@ -198,9 +202,10 @@ module _ (v w : Passing) (trace : Trace) (log : List Event) (k : IsLentBy v log)
   pub trace_at : trace ≡ at_end.before ++ (Complete scalars exit, Answers.Done next) ∷ at_end.after
   trace_at = at_end.trace_is ∙ ap (λ (z : Answer). at_end.before ++ (Complete scalars exit, z) ∷ at_end.after) (done_is at_end.answer next at_end.word_is)
 
-  pub end_explained : Strays (callee_fits (catalogue_of log)) at_end.before ⊎ IsExplained (catalogue_of log) (bodies_at log) (history_at limits before) a scalars exit → EndNotDone trace ⊎ EndIsExplained limits a before scalars exit
+  pub end_explained : Strays (callee_fits (catalogue_of log)) at_end.before ⊎ IsExplained (catalogue_of log) (bodies_at log) (history_at limits before) a scalars exit → EndNotDoneBefore trace scalars exit next ⊎ EndIsExplained limits a before scalars exit
   end_explained s =
-      ⊎_elim (λ h. inl (strays_end log v trace w k.from went.steps (subst (λ (l : Trace). Strays (callee_fits (catalogue_of log)) l) (sym trace_at) (strays_before (callee_fits (catalogue_of log)) at_end.before ((Complete scalars exit, Answers.Done next) ∷ at_end.after) h))))
+      let t = steps_front v at_end.before (end_pair ∷ at_end.after) w (subst (λ (l : Trace). Steps v l w) at_end.trace_is went.steps) in
+      ⊎_elim (λ h. inl (record { before = at_end.before; behind = at_end.after; trace_is = trace_at; not_done = strays_end log v at_end.before t.0 k.from t.1 h }))
           (λ h. inr (record { log = log; from = starts_both log v.seen before k.from p; fit = k.fit; explained = h })) s
 
 pub bodies_leave : BodiesLeaveEndsExplained

@@ -1,5 +1,6 @@
 -- The ends that a port's body asked are explained in what the port has seen then (own).
 use Rattle.std.specs.Prelude.{◌≡◌, ◌⊎◌, ◌≤◌, ℕ, ℤ, true, List, [], ◌∷◌, ◌++◌}
+use Rattle.rv_event.specs.declared.entry.Answer.TheVariants as answer
 use Rattle.rv_event.specs.declared.entry.Exit.{Exit}
 use Rattle.rv_event.specs.declared.entry.Next.{Next}
 use Rattle.rv_event.specs.declared.entry.Recorded.TheVariants.{Done}
@@ -23,6 +24,13 @@ abbrev pub EndNotDone : Trace → Type 0
 EndNotDone [] = ⊥
 EndNotDone (pair ∷ more) = EndsNot pair.0 pair.1 ⊎ EndNotDone more
 
+-- An end of a body among these asks, before this end, which was answered Done, is answered otherwise. (own)
+pub record EndNotDoneBefore (trace : Trace) (scalars : List ℤ) (exit : Exit) (next : Next) : Type 0 where
+  pub before : Trace
+  pub behind : Trace
+  pub trace_is : trace ≡ before ++ (Complete scalars exit, answer.Done next) ∷ behind
+  pub not_done : EndNotDone before
+
 -- what the actor of a port asked so far, with the answers
 abbrev pub asked_so_far : Passing → Trace
 asked_so_far v = asked_at (limits_in v.about) v.actor v.seen
@@ -37,15 +45,15 @@ pub record IsLentBy (v : Passing) (log : List Event) : Type 0 where
   pub from : StartsWith v.seen log
   pub fit : calls_fit (catalogue_of log) (bodies_at log) ≡ true
 
--- each end of the actor that came since in what was seen then is explained
+-- each end of the actor that came since in what was seen then is explained, if none before it was answered otherwise than Done
 abbrev pub EndsSinceAreExplained : Passing → Passing → Trace → Type 0
 EndsSinceAreExplained v w trace =
     (before after : List Event) (scalars : List ℤ) (exit : Exit) (next : Next) → StartsWith before v.seen
     → w.seen ≡ before ++ Asks v.actor (Complete scalars exit) (Done next) ∷ after
-    → EndNotDone trace ⊎ EndIsExplained (limits_in v.about) v.actor before scalars exit
+    → EndNotDoneBefore trace scalars exit next ⊎ EndIsExplained (limits_in v.about) v.actor before scalars exit
 
 -- Where a body ran on a port, of an actor that held so many objects, and asked this, each end that came since is explained, or one
--- was not answered Done.
+-- before it was not answered Done.
 abbrev pub BodiesLeaveEndsExplained : Type 0
 BodiesLeaveEndsExplained =
     (v w : Passing) (trace : Trace) (log : List Event) (object operation : ℕ) (values components left : List ℤ) (exit : Exit)

@@ -3,8 +3,8 @@
 
 ghost use Rattle.rv_went.specs.Ends.{BodiesLeaveEndsExplained, TextsLeaveEndsExplained};
 
-/// Where a body ran on a port, each end of its actor that came since in what the port has seen is explained, or an end was
-/// not answered Done.
+/// Where a body ran on a port, each end of its actor that came since in what the port has seen is explained, or an end
+/// before it was not answered Done.
 pub fn bodies_leave_ends_explained()
     ensures { BodiesLeaveEndsExplained }
 {}
