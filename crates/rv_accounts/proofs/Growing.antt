@@ -1,20 +1,15 @@
 -- What an actor asked, event by event.
-use Rattle.std.proofs.Common.{◌≡◌, ℕ, zero, suc, List, [], ◌∷◌, ◌++◌, Bool, true, false, cond, eqb, refl, sym, ap, ◌∙◌, subst, append_assoc, append-nil, length, length-append, arith, reverse}
-use Rattle.std.specs.Prelude.{if◌then◌else◌}
+use Rattle.std.proofs.Common.{◌≡◌, ℕ, List, [], ◌∷◌, ◌++◌, Bool, true, false, cond, eqb, refl, sym, ap, ◌∙◌, append_assoc, append-nil, length, length-append, arith, reverse}
 use Rattle.std.proofs.lemmas.List.{reverse-append}
-use Rattle.rv_access.specs.Words.{Words}
-use Rattle.rv_shape.specs.Shape.{Shape}
-use Rattle.rv_event.specs.declared.entry.Request.{Request}
-use Rattle.rv_event.specs.declared.entry.Recorded.{Recorded}
 use Rattle.rv_exec.specs.Asking.{Trace}
 use Rattle.rv_history.specs.declared.limits.Limits.{Limits}
 use Rattle.rv_history.specs.Due.{out}
 use Rattle.rv_history.specs.History.{History}
-use Rattle.rv_history.specs.Journal.{all_but_last, shapes_before, lists_before}
+use Rattle.rv_history.specs.Journal.{shapes_before, lists_before}
 use Rattle.rv_history.proofs.Growing.{front_is}
 use Rattle.rv_turn.specs.Histories.{StartsWith, mine}
 use Rattle.rv_turn.specs.Prefixes.{mine-append}
-use Rattle.rv_meant.specs.Histories.{own_ask, history_of, asked_in, asked_by, without_entry, without_last}
+use Rattle.rv_meant.specs.Histories.{own_ask, history_of, asked_by, without_last}
 use Rattle.rv_behind.specs.Events.{by, mark, marks, shapes_of, lists_of, history_back, history_at}
 use Rattle.rv_behind.specs.declared.event.Event.{Event}
 use Rattle.rv_behind.specs.declared.event.Event.TheVariants.{Asks, Loads, Lists}
@@ -67,7 +62,7 @@ mine_none_first actor e es n = by_test (eqb (by e) actor) refl n where
   by_test false is m = (is, m)
 
 others_own : (limits : Limits) (actor : ℕ) (log : List Event) (e : Event) → eqb (by e) actor ≡ false → own_event limits actor log e ≡ []
-others_own limits actor log (Asks a q w) n = ap (λ (k : Bool). cond k ((q, out (history_at limits log) a q) ∷ []) []) n
+others_own limits actor log (Asks a q w) n = ap (λ (k : Bool). cond k ((q, out (history_at limits log) actor q) ∷ []) []) n
 others_own limits actor log (Loads s u) n = refl
 others_own limits actor log (Lists l) n = refl
 

@@ -15,7 +15,7 @@ asked_at limits actor log = asked_by actor (history_at limits log)
 
 -- an event of the actor, with the answer that was due behind this history
 abbrev pub own_event : Limits → ℕ → List Event → Event → Trace
-own_event limits actor log (Asks a request word) = if a == actor then (request, out (history_at limits log) a request) ∷ [] else []
+own_event limits actor log (Asks a request word) = if a == actor then (request, out (history_at limits log) actor request) ∷ [] else []
 own_event limits actor log (Loads shape unit) = []
 own_event limits actor log (Lists list) = []
 
