@@ -111,37 +111,41 @@ final_none Answers.OutOfMemory e = absurd (cc e)
 
 module _ (limits : Limits) (a : ℕ) (seen later : List Event) (left : ℕ) where
   -- a front of what was seen later, with this one's asks and with those of a trace so far
-  abbrev HasThen : List Event → List Event → Trace → Type 0
+  abbrev pub HasThen : List Event → List Event → Trace → Type 0
   HasThen base p done = asked_at limits a p ≡ asked_at limits a base ++ recorded_of done
 
-  mutual
-    pub so_far : (own base p : List Event) (done rest : Trace) → EachAnswered limits a seen later left own (done ++ rest) → StartsWith later base → mine by a base ≡ own → StartsWith later p → mine by a p ≡ own ++ noted a done → HasThen base p done
-    so_far own base p [] rest x w b z e = same_asks limits a p base later z w (e ∙ (append-nil own ∙ sym b)) ∙ sym (append-nil (asked_at limits a base))
-    so_far own base p ((q, r) ∷ done) rest x w b z e = one_more own base p q r done rest (recorded r) refl x.0 x.1 w b z e
+  -- how the rest of a trace is accounted for
+  abbrev Rest : List Event → Trace → Trace → Type 0
+  Rest p done rest = (own base : List Event) → EachAnswered limits a seen later left own (done ++ rest) → StartsWith later base → mine by a base ≡ own → mine by a p ≡ own ++ noted a done → HasThen base p done
 
-    one_more : (own base p : List Event) (q : Request) (r : Answer) (done rest : Trace) (word : Option Recorded) → recorded r ≡ word → IsAnswered limits a seen own later q r ⊎ IsWorn a left r (done ++ rest)
-        → EachAnswered limits a seen later left (own ++ noted a ((q, r) ∷ [])) (done ++ rest) → StartsWith later base → mine by a base ≡ own → StartsWith later p → mine by a p ≡ own ++ noted a ((q, r) ∷ done) → HasThen base p ((q, r) ∷ done)
-    one_more own base p q r done rest None is x y w b z e =
-        let none : noted a ((q, r) ∷ []) ≡ [] = ap (λ (o : Option Recorded). noted_if o a q []) is in
-        so_far (own ++ noted a ((q, r) ∷ [])) base p done rest y w (b ∙ sym (ap (λ (l : List Event). own ++ l) none ∙ append-nil own)) z
-            (e ∙ (ap (λ (l : List Event). own ++ l) (noted-append a ((q, r) ∷ []) done) ∙ sym (append_assoc own (noted a ((q, r) ∷ [])) (noted a done))))
-        ∙ ap (λ (o : Option Recorded). asked_at limits a base ++ recorded_if (is_some o) (q, r) (recorded_of done)) (sym is)
-    one_more own base p q r done rest (Some word) is (inr x) y w b z e = absurd (cc (is, ap (λ (c : Answer). recorded c) x.0))
-    one_more own base p q r done rest (Some word) is (inl x) y w b z e =
-        let one : noted a ((q, r) ∷ []) ≡ Asks a q word ∷ [] = ap (λ (o : Option Recorded). noted_if o a q []) is in
-        let next : List Event = x.at ++ Asks a q word ∷ [] in
-        let grown_is : grown x.at a q r ≡ next = ap (λ (o : Option Recorded). entered x.at a q o) is in
-        let d : Answer = out (history_at limits x.at) a q in
-        let r_is : r ≡ d = x.due_is ∙ told_recorded d word (ap (λ (c : Answer). recorded c) (sym x.due_is) ∙ is) in
-        let to : StartsWith later next = subst (λ (l : List Event). StartsWith later l) grown_is x.to in
-        let own_is : mine by a next ≡ own ++ noted a ((q, r) ∷ []) = mine-append by a x.at (Asks a q word ∷ []) ∙ (λ i. x.own_is i ++ (ap (λ (k : Bool). cond k (Asks a q word ∷ []) []) (eq-eqb a a refl) ∙ sym one) i) in
-        let here : asked_at limits a next ≡ asked_at limits a base ++ (q, r) ∷ [] =
-            asks_grow limits a x.at (Asks a q word)
-            ∙ (λ i. same_asks limits a x.at base later (starts_both x.at next later (Asks a q word ∷ [], refl) to) w (x.own_is ∙ sym b) i ++ (ap (λ (k : Bool). cond k ((q, d) ∷ []) []) (eq-eqb a a refl) ∙ ap (λ (c : Answer). (q, c) ∷ []) (sym r_is)) i) in
-        so_far (own ++ noted a ((q, r) ∷ [])) next p done rest y to own_is z
-            (e ∙ (ap (λ (l : List Event). own ++ l) (noted-append a ((q, r) ∷ []) done) ∙ sym (append_assoc own (noted a ((q, r) ∷ [])) (noted a done))))
-        ∙ (ap (λ (t : Trace). t ++ recorded_of done) here ∙ (append_assoc (asked_at limits a base) ((q, r) ∷ []) (recorded_of done)
-        ∙ ap (λ (o : Option Recorded). asked_at limits a base ++ recorded_if (is_some o) (q, r) (recorded_of done)) (sym is)))
+  one_more : (own base p : List Event) (q : Request) (r : Answer) (done rest : Trace) (word : Option Recorded) → recorded r ≡ word → Rest p done rest → IsAnswered limits a seen own later q r ⊎ IsWorn a left r (done ++ rest)
+      → EachAnswered limits a seen later left (own ++ noted a ((q, r) ∷ [])) (done ++ rest) → StartsWith later base → mine by a base ≡ own → mine by a p ≡ own ++ noted a ((q, r) ∷ done) → HasThen base p ((q, r) ∷ done)
+  one_more own base p q r done rest None is go x y w b e =
+      let none : noted a ((q, r) ∷ []) ≡ [] = ap (λ (o : Option Recorded). noted_if o a q []) is in
+      go (own ++ noted a ((q, r) ∷ [])) base y w (b ∙ sym (ap (λ (l : List Event). own ++ l) none ∙ append-nil own))
+          (e ∙ (ap (λ (l : List Event). own ++ l) (noted-append a ((q, r) ∷ []) done) ∙ sym (append_assoc own (noted a ((q, r) ∷ [])) (noted a done))))
+      ∙ ap (λ (o : Option Recorded). asked_at limits a base ++ recorded_if (is_some o) (q, r) (recorded_of done)) (sym is)
+  one_more own base p q r done rest (Some word) is go (inr x) y w b e = absurd (cc (is, ap (λ (c : Answer). recorded c) x.0))
+  one_more own base p q r done rest (Some word) is go (inl x) y w b e =
+      let one : noted a ((q, r) ∷ []) ≡ Asks a q word ∷ [] = ap (λ (o : Option Recorded). noted_if o a q []) is in
+      let next : List Event = x.at ++ Asks a q word ∷ [] in
+      let grown_is : grown x.at a q r ≡ next = ap (λ (o : Option Recorded). entered x.at a q o) is in
+      let d : Answer = out (history_at limits x.at) a q in
+      let r_is : r ≡ d = x.due_is ∙ told_recorded d word (ap (λ (c : Answer). recorded c) (sym x.due_is) ∙ is) in
+      let to : StartsWith later next = subst (λ (l : List Event). StartsWith later l) grown_is x.to in
+      let own_is : mine by a next ≡ own ++ noted a ((q, r) ∷ []) = mine-append by a x.at (Asks a q word ∷ []) ∙ (λ i. x.own_is i ++ (ap (λ (k : Bool). cond k (Asks a q word ∷ []) []) (eq-eqb a a refl) ∙ sym one) i) in
+      let here : asked_at limits a next ≡ asked_at limits a base ++ (q, r) ∷ [] =
+          asks_grow limits a x.at (Asks a q word)
+          ∙ (λ i. same_asks limits a x.at base later (starts_both x.at next later (Asks a q word ∷ [], refl) to) w (x.own_is ∙ sym b) i ++ (ap (λ (k : Bool). cond k ((q, d) ∷ []) []) (eq-eqb a a refl) ∙ ap (λ (c : Answer). (q, c) ∷ []) (sym r_is)) i) in
+      go (own ++ noted a ((q, r) ∷ [])) next y to own_is
+          (e ∙ (ap (λ (l : List Event). own ++ l) (noted-append a ((q, r) ∷ []) done) ∙ sym (append_assoc own (noted a ((q, r) ∷ [])) (noted a done))))
+      ∙ (ap (λ (t : Trace). t ++ recorded_of done) here ∙ (append_assoc (asked_at limits a base) ((q, r) ∷ []) (recorded_of done)
+      ∙ ap (λ (o : Option Recorded). asked_at limits a base ++ recorded_if (is_some o) (q, r) (recorded_of done)) (sym is)))
+
+  pub so_far : (own base p : List Event) (done rest : Trace) → EachAnswered limits a seen later left own (done ++ rest) → StartsWith later base → mine by a base ≡ own → StartsWith later p → mine by a p ≡ own ++ noted a done → HasThen base p done
+  so_far own base p [] rest x w b z e = same_asks limits a p base later z w (e ∙ (append-nil own ∙ sym b)) ∙ sym (append-nil (asked_at limits a base))
+  so_far own base p ((q, r) ∷ done) rest x w b z e =
+      one_more own base p q r done rest (recorded r) refl (λ own₁ base₁ y w₁ b₁ e₁. so_far own₁ base₁ p done rest y w₁ b₁ z e₁) x.0 x.1 w b e
 
 -- An end of the actor in what was seen later
 
@@ -167,36 +171,36 @@ pub record FoundIn (a : ℕ) (xs : Trace) (m : List Event) (q : Request) (word :
   pub word_is : recorded answer ≡ Some word
   pub noted_is : noted a before ≡ m
 
-mutual
-  pub found : (a : ℕ) (xs : Trace) (m rest : List Event) (q : Request) (word : Recorded) → noted a xs ≡ m ++ Asks a q word ∷ rest → FoundIn a xs m q word
-  found a [] m rest q word e = absurd (none_there (Asks a q word) m rest e)
-  found a ((p, r) ∷ xs) m rest q word e = found_by a p r xs m rest q word (recorded r) refl e
+found_by : (a : ℕ) (p : Request) (r : Answer) (xs : Trace) (m rest : List Event) (q : Request) (word : Recorded) (o : Option Recorded) → recorded r ≡ o → ((m : List Event) → noted a xs ≡ m ++ Asks a q word ∷ rest → FoundIn a xs m q word)
+    → noted_if o a p (noted a xs) ≡ m ++ Asks a q word ∷ rest → FoundIn a ((p, r) ∷ xs) m q word
+found_by a p r xs m rest q word None is go e =
+    let f = go m e in
+    record { before = (p, r) ∷ f.before; answer = f.answer; after = f.after; trace_is = ap (λ (l : Trace). (p, r) ∷ l) f.trace_is; word_is = f.word_is; noted_is = ap (λ (k : Option Recorded). noted_if k a p (noted a f.before)) is ∙ f.noted_is }
+found_by a p r xs [] rest q word (Some w) is go e =
+    let one : Asks a p w ≡ Asks a q word = ap (λ (l : List Event). first_or (Asks a p w) l) e in
+    record {
+      before = [];
+      answer = r;
+      after = xs;
+      trace_is = ap (λ (k : Request). (k, r) ∷ xs) (ap (λ (d : Event). request_or p d) one);
+      word_is = is ∙ ap (λ (d : Event). Some (word_or w d)) one;
+      noted_is = refl;
+    }
+found_by a p r xs (d ∷ m) rest q word (Some w) is go e =
+    let one : Asks a p w ≡ d = ap (λ (l : List Event). first_or (Asks a p w) l) e in
+    let f = go m (ap (λ (l : List Event). rest_of l) e) in
+    record {
+      before = (p, r) ∷ f.before;
+      answer = f.answer;
+      after = f.after;
+      trace_is = ap (λ (l : Trace). (p, r) ∷ l) f.trace_is;
+      word_is = f.word_is;
+      noted_is = ap (λ (k : Option Recorded). noted_if k a p (noted a f.before)) is ∙ (λ i. one i ∷ f.noted_is i);
+    }
 
-  found_by : (a : ℕ) (p : Request) (r : Answer) (xs : Trace) (m rest : List Event) (q : Request) (word : Recorded) (o : Option Recorded) → recorded r ≡ o → noted_if o a p (noted a xs) ≡ m ++ Asks a q word ∷ rest → FoundIn a ((p, r) ∷ xs) m q word
-  found_by a p r xs m rest q word None is e =
-      let f = found a xs m rest q word e in
-      record { before = (p, r) ∷ f.before; answer = f.answer; after = f.after; trace_is = ap (λ (l : Trace). (p, r) ∷ l) f.trace_is; word_is = f.word_is; noted_is = ap (λ (k : Option Recorded). noted_if k a p (noted a f.before)) is ∙ f.noted_is }
-  found_by a p r xs [] rest q word (Some w) is e =
-      let one : Asks a p w ≡ Asks a q word = ap (λ (l : List Event). first_or (Asks a p w) l) e in
-      record {
-        before = [];
-        answer = r;
-        after = xs;
-        trace_is = ap (λ (k : Request). (k, r) ∷ xs) (ap (λ (d : Event). request_or p d) one);
-        word_is = is ∙ ap (λ (d : Event). Some (word_or w d)) one;
-        noted_is = refl;
-      }
-  found_by a p r xs (d ∷ m) rest q word (Some w) is e =
-      let one : Asks a p w ≡ d = ap (λ (l : List Event). first_or (Asks a p w) l) e in
-      let f = found a xs m rest q word (ap (λ (l : List Event). rest_of l) e) in
-      record {
-        before = (p, r) ∷ f.before;
-        answer = f.answer;
-        after = f.after;
-        trace_is = ap (λ (l : Trace). (p, r) ∷ l) f.trace_is;
-        word_is = f.word_is;
-        noted_is = ap (λ (k : Option Recorded). noted_if k a p (noted a f.before)) is ∙ (λ i. one i ∷ f.noted_is i);
-      }
+pub found : (a : ℕ) (xs : Trace) (m rest : List Event) (q : Request) (word : Recorded) → noted a xs ≡ m ++ Asks a q word ∷ rest → FoundIn a xs m q word
+found a [] m rest q word e = absurd (none_there (Asks a q word) m rest e)
+found a ((p, r) ∷ xs) m rest q word e = found_by a p r xs m rest q word (recorded r) refl (λ k f. found a xs k rest q word f) e
 
 -- each pair was answered with just what stands before it
 pub each_at : (limits : Limits) (a : ℕ) (seen later : List Event) (left : ℕ) (own : List Event) (before : Trace) (q : Request) (r : Answer) (after : Trace) → EachAnswered limits a seen later left own (before ++ (q, r) ∷ after)

@@ -127,7 +127,7 @@ module _ (v w : Passing) (trace : Trace) (log : List Event) (k : IsLentBy v log)
       (sym all_mine ∙ (ap (λ (l : List Event). mine by a l) e ∙ (mine-append by a before (the_end ∷ after)
       ∙ ((λ i. before_mine i ++ end_mine i) ∙ append_assoc own (mine by a p.0) (the_end ∷ mine by a after)))))
 
-  at_end : FoundIn a trace (mine by a p.0) (Complete scalars exit) (Words.Done next)
+  pub at_end : FoundIn a trace (mine by a p.0) (Complete scalars exit) (Words.Done next)
   at_end = found a trace (mine by a p.0) (mine by a after) (Complete scalars exit) (Words.Done next) noted_is
 
   abbrev end_pair : Request × Answer

@@ -52,10 +52,6 @@ abbrev rest_of : Trace → Trace
 rest_of [] = []
 rest_of (y ∷ ys) = ys
 
-abbrev nothing_in : Trace → Bool
-nothing_in [] = true
-nothing_in (y ∷ ys) = false
-
 none_there : (x : Request × Answer) (before behind : Trace) → [] ≡ before ++ x ∷ behind → ⊥
 none_there x [] behind e = cc e
 none_there x (y ∷ before) behind e = cc e
@@ -71,7 +67,7 @@ one_final u pair s = by_before s.before s.asked_is where
 two_final : (u : Passing) (first second : Request × Answer) → unwinds second.0 ≡ false → StoppedAt u (first ∷ second ∷ []) → is_final second.1 ≡ true
 two_final u first second n s = by_before s.before s.asked_is where
   unwinding : (behind : Trace) → second ∷ [] ≡ behind → Unwinds behind → unwinds second.0 ≡ true
-  unwinding [] e w = absurd (cc (ap (λ (l : Trace). nothing_in l) e))
+  unwinding [] e w = absurd (cc e)
   unwinding (y ∷ ys) e w = ap (λ (l : Trace). unwinds (pair_or second l).0) e ∙ w.0
 
   by_before : (before : Trace) → first ∷ second ∷ [] ≡ before ++ (s.request, s.answer) ∷ s.behind → is_final second.1 ≡ true
