@@ -1,5 +1,5 @@
 -- What a trace of a port left in what it has seen.
-use Rattle.std.proofs.Common.{◌≡◌, ◌⊎◌, inl, inr, ⊎_elim, ℕ, zero, suc, ◌+◌, ◌≤◌, ℤ, List, [], ◌∷◌, ◌++◌, length, Bool, true, false, cond, eqb, eq-eqb, refl, sym, ap, ◌∙◌, subst, append_assoc, append-nil, length-append, arith, reverse, Option, Some, None}
+use Rattle.std.proofs.Common.{◌≡◌, ◌⊎◌, inl, inr, ⊎_elim, ℕ, List, [], ◌∷◌, ◌++◌, Bool, true, cond, eq-eqb, refl, sym, ap, ◌∙◌, subst, append_assoc, append-nil, Option, Some, None}
 use Rattle.std.specs.Prelude.{is_some}
 use Rattle.rv_event.specs.Recorded.{recorded}
 use Rattle.rv_event.specs.declared.entry.Request.{Request}
@@ -17,8 +17,8 @@ use Rattle.rv_behind.specs.Events.{by, history_at}
 use Rattle.rv_behind.specs.Acting.{entered, grown}
 use Rattle.rv_behind.specs.declared.event.Event.{Event}
 use Rattle.rv_behind.specs.declared.event.Event.TheVariants.{Asks, Loads, Lists}
-use Rattle.rv_accounts.specs.Seen.{asked_at, own_event}
-use Rattle.rv_accounts.proofs.Growing.{asks_grow, asks_stay, without_later}
+use Rattle.rv_accounts.specs.Seen.{asked_at}
+use Rattle.rv_accounts.proofs.Growing.{asks_grow, asks_stay}
 use Rattle.rv_port.specs.Traces.{Trace, told, noted, noted_if, IsAnswered, IsWorn, EachAnswered}
 use Rattle.rv_port.specs.Composing.{noted-append}
 
@@ -123,7 +123,7 @@ module _ (limits : Limits) (a : ℕ) (seen later : List Event) (left : ℕ) wher
   one_more own base p q r done rest None is go x y w b e =
       let none : noted a ((q, r) ∷ []) ≡ [] = ap (λ (o : Option Recorded). noted_if o a q []) is in
       go (own ++ noted a ((q, r) ∷ [])) base y w (b ∙ sym (ap (λ (l : List Event). own ++ l) none ∙ append-nil own))
-          (e ∙ (ap (λ (l : List Event). own ++ l) (noted-append a ((q, r) ∷ []) done) ∙ sym (append_assoc own (noted a ((q, r) ∷ [])) (noted a done))))
+      (e ∙ (ap (λ (l : List Event). own ++ l) (noted-append a ((q, r) ∷ []) done) ∙ sym (append_assoc own (noted a ((q, r) ∷ [])) (noted a done))))
       ∙ ap (λ (o : Option Recorded). asked_at limits a base ++ recorded_if (is_some o) (q, r) (recorded_of done)) (sym is)
   one_more own base p q r done rest (Some word) is go (inr x) y w b e = absurd (cc (is, ap (λ (c : Answer). recorded c) x.0))
   one_more own base p q r done rest (Some word) is go (inl x) y w b e =
@@ -135,10 +135,10 @@ module _ (limits : Limits) (a : ℕ) (seen later : List Event) (left : ℕ) wher
       let to : StartsWith later next = subst (λ (l : List Event). StartsWith later l) grown_is x.to in
       let own_is : mine by a next ≡ own ++ noted a ((q, r) ∷ []) = mine-append by a x.at (Asks a q word ∷ []) ∙ (λ i. x.own_is i ++ (ap (λ (k : Bool). cond k (Asks a q word ∷ []) []) (eq-eqb a a refl) ∙ sym one) i) in
       let here : asked_at limits a next ≡ asked_at limits a base ++ (q, r) ∷ [] =
-          asks_grow limits a x.at (Asks a q word)
-          ∙ (λ i. same_asks limits a x.at base later (starts_both x.at next later (Asks a q word ∷ [], refl) to) w (x.own_is ∙ sym b) i ++ (ap (λ (k : Bool). cond k ((q, d) ∷ []) []) (eq-eqb a a refl) ∙ ap (λ (c : Answer). (q, c) ∷ []) (sym r_is)) i) in
+      asks_grow limits a x.at (Asks a q word)
+      ∙ (λ i. same_asks limits a x.at base later (starts_both x.at next later (Asks a q word ∷ [], refl) to) w (x.own_is ∙ sym b) i ++ (ap (λ (k : Bool). cond k ((q, d) ∷ []) []) (eq-eqb a a refl) ∙ ap (λ (c : Answer). (q, c) ∷ []) (sym r_is)) i) in
       go (own ++ noted a ((q, r) ∷ [])) next y to own_is
-          (e ∙ (ap (λ (l : List Event). own ++ l) (noted-append a ((q, r) ∷ []) done) ∙ sym (append_assoc own (noted a ((q, r) ∷ [])) (noted a done))))
+      (e ∙ (ap (λ (l : List Event). own ++ l) (noted-append a ((q, r) ∷ []) done) ∙ sym (append_assoc own (noted a ((q, r) ∷ [])) (noted a done))))
       ∙ (ap (λ (t : Trace). t ++ recorded_of done) here ∙ (append_assoc (asked_at limits a base) ((q, r) ∷ []) (recorded_of done)
       ∙ ap (λ (o : Option Recorded). asked_at limits a base ++ recorded_if (is_some o) (q, r) (recorded_of done)) (sym is)))
 
@@ -208,5 +208,5 @@ pub each_at : (limits : Limits) (a : ℕ) (seen later : List Event) (left : ℕ)
 each_at limits a seen later left own [] q r after x = subst (λ (o : List Event). IsAnswered limits a seen o later q r ⊎ IsWorn a left r after) (sym (append-nil own)) x.0
 each_at limits a seen later left own ((p, s) ∷ before) q r after x =
     subst (λ (o : List Event). IsAnswered limits a seen o later q r ⊎ IsWorn a left r after)
-        (append_assoc own (noted a ((p, s) ∷ [])) (noted a before) ∙ ap (λ (l : List Event). own ++ l) (sym (noted-append a ((p, s) ∷ []) before)))
-        (each_at limits a seen later left (own ++ noted a ((p, s) ∷ [])) before q r after x.1)
+    (append_assoc own (noted a ((p, s) ∷ [])) (noted a before) ∙ ap (λ (l : List Event). own ++ l) (sym (noted-append a ((p, s) ∷ []) before)))
+    (each_at limits a seen later left (own ++ noted a ((p, s) ∷ [])) before q r after x.1)

@@ -1,7 +1,5 @@
 -- The ends that came since are explained.
-use Rattle.std.proofs.Common.{◌≡◌, ◌⊎◌, inl, inr, ⊎_elim, ℕ, suc, ◌+◌, ◌≤◌, ℤ, List, [], ◌∷◌, ◌++◌, length, Bool, true, false, cond, eqb, eq-eqb, refl, sym, ap, ◌∙◌, subst, append_assoc, append-nil, length-append, arith, reverse, Option, Some, None}
-use Rattle.rv_shape.specs.Shape.{Shape}
-use Rattle.rv_code.specs.Bodies.{UnitBodies}
+use Rattle.std.proofs.Common.{◌≡◌, ◌⊎◌, inl, inr, ⊎_elim, ℕ, ◌+◌, ℤ, List, [], ◌∷◌, ◌++◌, length, Bool, true, cond, eq-eqb, refl, sym, ap, ◌∙◌, subst, append_assoc, append-nil, length-append, arith, reverse, Option, Some}
 use Rattle.rv_event.specs.Recorded.{recorded}
 use Rattle.rv_event.specs.declared.entry.Answer.{Answer}
 use Rattle.rv_event.specs.declared.entry.Answer.TheVariants as Answers
@@ -28,17 +26,17 @@ use Rattle.rv_meant.specs.Histories.{asked_by, without_last}
 use Rattle.rv_meant.specs.Explained.{stops, IsExplained}
 use Rattle.rv_meant.specs.Told.{HasAsked, FitBehind}
 use Rattle.rv_meant.proofs.Explaining.{inner_ends, task_ends}
-use Rattle.rv_behind.specs.Acting.{entered, grown}
+use Rattle.rv_behind.specs.Acting.{entered}
 use Rattle.rv_behind.specs.Events.{by, bodies_at, catalogue_of, history_at}
 use Rattle.rv_behind.specs.declared.event.Event.{Event}
 use Rattle.rv_behind.specs.declared.event.Event.TheVariants.{Asks}
 use Rattle.rv_accounts.specs.Seen.{asked_at}
 use Rattle.rv_accounts.specs.Explained.{EndIsExplained}
 use Rattle.rv_accounts.proofs.Growing.{asks_stay, without_later}
-use Rattle.rv_port.specs.Traces.{Passing, Trace, limits_in, told, noted, noted_if, IsAnswered, IsWorn, EachAnswered, Steps, Went}
+use Rattle.rv_port.specs.Traces.{Passing, Trace, limits_in, noted, noted_if, IsAnswered, EachAnswered, Steps, Went}
 use Rattle.rv_port.specs.Composing.{noted-append}
 use Rattle.rv_port.proofs.Actors.{catalogue-append}
-use Rattle.rv_went.specs.Ends.{EndNotDoneBefore, Owns, asked_so_far, IsLentBy, EndsSinceAreExplained, BodiesLeaveEndsExplained, TextsLeaveEndsExplained}
+use Rattle.rv_went.specs.Ends.{EndNotDoneBefore, Owns, asked_so_far, IsLentBy, BodiesLeaveEndsExplained, TextsLeaveEndsExplained}
 use Rattle.rv_went.proofs.Accounting.{first_or, rest_of, compared, FoundIn, found, each_at, so_far, final_stops, final_none}
 use Rattle.rv_went.proofs.Straying.{strays_end}
 
@@ -76,7 +74,7 @@ done_is Answers.OutOfMemory next e = absurd (cc e)
 none_noted : (a : ℕ) (behind after : Trace) (q : Request) (r : Answer) (word : Recorded) → recorded r ≡ Some word → noted a (behind ++ (q, r) ∷ after) ≡ [] → ⊥
 none_noted a behind after q r word is e =
     not_empty (noted a behind) (noted a after) (Asks a q word)
-        (sym (noted-append a behind ((q, r) ∷ after) ∙ ap (λ (o : Option Recorded). noted a behind ++ noted_if o a q (noted a after)) is) ∙ e)
+    (sym (noted-append a behind ((q, r) ∷ after) ∙ ap (λ (o : Option Recorded). noted a behind ++ noted_if o a q (noted a after)) is) ∙ e)
   where
     not_empty : (xs ys : List Event) (d : Event) → xs ++ d ∷ ys ≡ [] → ⊥
     not_empty [] ys d h = cc h
@@ -163,10 +161,10 @@ module _ (v w : Passing) (trace : Trace) (log : List Event) (k : IsLentBy v log)
       too_many : (d : Event) (ds : List Event) → x.at ≡ before ++ d ∷ ds → d ≡ the_end → ⊥
       too_many d ds h i =
           let m : mine by a x.at ≡ mine by a before ++ the_end ∷ mine by a ds =
-              ap (λ (l : List Event). mine by a l) h ∙ (mine-append by a before (d ∷ ds) ∙ ap (λ (z : Event). mine by a before ++ mine by a (z ∷ ds)) i
-              ∙ ap (λ (b : Bool). mine by a before ++ cond b (the_end ∷ mine by a ds) (mine by a ds)) (eq-eqb a a refl)) in
+          ap (λ (l : List Event). mine by a l) h ∙ (mine-append by a before (d ∷ ds) ∙ ap (λ (z : Event). mine by a before ++ mine by a (z ∷ ds)) i
+          ∙ ap (λ (b : Bool). mine by a before ++ cond b (the_end ∷ mine by a ds) (mine by a ds)) (eq-eqb a a refl)) in
           let one : own ++ noted a done ≡ (own ++ (noted a done ++ noted a ((q, r) ∷ behind))) ++ the_end ∷ mine by a ds =
-              sym x.own_is ∙ (m ∙ ap (λ (l : List Event). l ++ the_end ∷ mine by a ds) (before_noted ∙ ap (λ (l : List Event). own ++ l) noted_more)) in
+          sym x.own_is ∙ (m ∙ ap (λ (l : List Event). l ++ the_end ∷ mine by a ds) (before_noted ∙ ap (λ (l : List Event). own ++ l) noted_more)) in
           longer own (noted a done) (noted a ((q, r) ∷ behind)) (mine by a ds) the_end one
 
       front : (rest : List Event) → x.at ≡ before ++ rest → StartsWith before x.at
@@ -181,8 +179,7 @@ module _ (v w : Passing) (trace : Trace) (log : List Event) (k : IsLentBy v log)
 
       answered_due : IsDue done q
       answered_due =
-          let same : without_last (length (reverse at_before.0)) (history_at limits before) ≡ history_at limits x.at = ap (λ (l : List Event). without_last (length (reverse at_before.0)) (history_at limits l)) at_before.1 ∙ without_later limits x.at at_before.0 in
-          (
+          let same : without_last (length (reverse at_before.0)) (history_at limits before) ≡ history_at limits x.at = ap (λ (l : List Event). without_last (length (reverse at_before.0)) (history_at limits l)) at_before.1 ∙ without_later limits x.at at_before.0 in (
             length (reverse at_before.0),
             ap (λ (h : History). asked_by a h) same ∙ so_far limits a v.seen w.seen w.left own v.seen x.at done ((q, r) ∷ others) here went.later k.owns to_at x.own_is,
             ap (λ (h : History). stops (out h a q)) same ∙ final_stops (out (history_at limits x.at) a q) (ap is_final (sym x.due_is) ∙ final),
@@ -206,16 +203,16 @@ module _ (v w : Passing) (trace : Trace) (log : List Event) (k : IsLentBy v log)
   end_explained s =
       let t = steps_front v at_end.before (end_pair ∷ at_end.after) w (subst (λ (l : Trace). Steps v l w) at_end.trace_is went.steps) in
       ⊎_elim (λ h. inl (record { before = at_end.before; behind = at_end.after; trace_is = trace_at; not_done = strays_end log v at_end.before t.0 k.from t.1 h }))
-          (λ h. inr (record { log = log; from = starts_both log v.seen before k.from p; fit = k.fit; explained = h })) s
+      (λ h. inr (record { log = log; from = starts_both log v.seen before k.from p; fit = k.fit; explained = h })) s
 
 pub bodies_leave : BodiesLeaveEndsExplained
 bodies_leave v w trace log object operation values components left exit k went owned few run before after scalars ended next p e =
     let f = at_end v w trace log k went owned before after scalars ended next p e in
     end_explained v w trace log k went owned before after scalars ended next p e
-        (inner_ends (catalogue_of log) (bodies_at log) (history_at (limits_in v.about) before) v.actor (asked_so_far v) object operation values components left exit f.before f.after scalars ended next
-        (fit_behind v w trace log k went owned before after scalars ended next p e) few
-        (subst (λ (l : Trace). Along (operation_run_at (bodies_at log) (held_behind 0 (asked_so_far v)) object operation values components) l (exit, left)) (trace_at v w trace log k went owned before after scalars ended next p e) run)
-        (had_asked v w trace log k went owned before after scalars ended next p e))
+    (inner_ends (catalogue_of log) (bodies_at log) (history_at (limits_in v.about) before) v.actor (asked_so_far v) object operation values components left exit f.before f.after scalars ended next
+    (fit_behind v w trace log k went owned before after scalars ended next p e) few
+    (subst (λ (l : Trace). Along (operation_run_at (bodies_at log) (held_behind 0 (asked_so_far v)) object operation values components) l (exit, left)) (trace_at v w trace log k went owned before after scalars ended next p e) run)
+    (had_asked v w trace log k went owned before after scalars ended next p e))
 
 -- what an actor asked that has no event is nothing
 nothing_asked : (limits : Limits) (a : ℕ) (seen : List Event) → mine by a seen ≡ [] → asked_at limits a seen ≡ []
@@ -225,8 +222,8 @@ pub texts_leave : TextsLeaveEndsExplained
 texts_leave v w trace log budget exit k went owned none run before after scalars ended next p e =
     let f = at_end v w trace log k went owned before after scalars ended next p e in
     end_explained v w trace log k went owned before after scalars ended next p e
-        (task_ends (catalogue_of log) (bodies_at log) (history_at (limits_in v.about) before) v.actor budget exit f.before f.after scalars ended next
-        (fit_behind v w trace log k went owned before after scalars ended next p e)
-        (subst (λ (l : Trace). Along (task_run (bodies_at log) v.actor budget) l exit) (trace_at v w trace log k went owned before after scalars ended next p e) run)
-        (subst (λ (l : Trace). HasAsked (history_at (limits_in v.about) before) v.actor l f.before) (nothing_asked (limits_in v.about) v.actor v.seen (k.owns ∙ none))
-        (had_asked v w trace log k went owned before after scalars ended next p e)))
+    (task_ends (catalogue_of log) (bodies_at log) (history_at (limits_in v.about) before) v.actor budget exit f.before f.after scalars ended next
+    (fit_behind v w trace log k went owned before after scalars ended next p e)
+    (subst (λ (l : Trace). Along (task_run (bodies_at log) v.actor budget) l exit) (trace_at v w trace log k went owned before after scalars ended next p e) run)
+    (subst (λ (l : Trace). HasAsked (history_at (limits_in v.about) before) v.actor l f.before) (nothing_asked (limits_in v.about) v.actor v.seen (k.owns ∙ none))
+    (had_asked v w trace log k went owned before after scalars ended next p e)))

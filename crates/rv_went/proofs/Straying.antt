@@ -1,11 +1,9 @@
 -- Of the answers that a port's body is told none strays, but to the end of a body.
-use Rattle.std.proofs.Common.{◌≡◌, ◌⊎◌, inl, inr, ⊎_elim, List, [], ◌∷◌, ◌++◌, Bool, true, false, refl, sym, ap, ◌∙◌, subst}
-use Rattle.rv_code.specs.declared.expression.Callee.{Callee}
+use Rattle.std.proofs.Common.{◌≡◌, inl, inr, ⊎_elim, List, [], ◌∷◌, ◌++◌, Bool, true, false, refl, sym, ap, ◌∙◌, subst}
 use Rattle.rv_event.specs.declared.entry.Request.{Request}
-use Rattle.rv_event.specs.declared.entry.Request.TheVariants.{Resume}
 use Rattle.rv_event.specs.declared.entry.Answer.{Answer}
 use Rattle.rv_event.specs.declared.entry.Answer.TheVariants as Answers
-use Rattle.rv_exec.specs.Stops.{is_final, IsUnfit, IsUnfitWoken, unwinds, Unwinds, StopsIn}
+use Rattle.rv_exec.specs.Stops.{is_final, IsUnfit, IsUnfitWoken, unwinds, Unwinds}
 use Rattle.rv_fits.specs.Fits.{callee_fits}
 use Rattle.rv_turn.specs.Histories.{StartsWith}
 use Rattle.rv_turn.specs.Prefixes.{starts_both}
