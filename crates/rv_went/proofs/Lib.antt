@@ -1,3 +1,4 @@
 pub mod Accounting
 pub mod Straying
 pub mod Since
+pub mod OwnEnds

@@ -1,7 +1,7 @@
 //! What a port's body asked left only ends that are explained. Laws, each on a function that does nothing.
 #![tactic(auto)]
 
-ghost use Rattle.rv_went.specs.Ends.{BodiesLeaveEndsExplained, TextsLeaveEndsExplained};
+ghost use Rattle.rv_went.specs.Ends.{BodiesLeaveEndsExplained, OwnEndsAreExplained, TextsLeaveEndsExplained};
 
 /// Where a body ran on a port, each end of its actor that came since in what the port has seen is explained, or an end
 /// before it was not answered Done.
@@ -12,4 +12,9 @@ pub fn bodies_leave_ends_explained()
 /// And where a task's text ran on a port that had done nothing.
 pub fn texts_leave_ends_explained()
     ensures { TextsLeaveEndsExplained }
+{}
+
+/// And so is the end of the body that ran, where it was answered Done.
+pub fn own_ends_are_explained()
+    ensures { OwnEndsAreExplained }
 {}
