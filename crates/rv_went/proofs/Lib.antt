@@ -2,3 +2,4 @@ pub mod Accounting
 pub mod Straying
 pub mod Since
 pub mod OwnEnds
+pub mod Following
