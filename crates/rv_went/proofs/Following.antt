@@ -1,5 +1,5 @@
 -- A text that ran on a port is followed.
-use Rattle.std.proofs.Common.{◌≡◌, ◌⊎◌, inl, inr, ⊎_elim, ℕ, List, [], ◌∷◌, ◌++◌, length, Bool, true, refl, sym, ap, ◌∙◌, subst, append_assoc, append-nil, reverse, Option, Some, None}
+use Rattle.std.proofs.Common.{◌≡◌, inl, inr, ⊎_elim, ℕ, List, [], ◌∷◌, ◌++◌, length, true, refl, sym, ap, ◌∙◌, subst, append_assoc, append-nil, reverse, Option, Some, None}
 use Rattle.rv_event.specs.Recorded.{recorded}
 use Rattle.rv_event.specs.declared.entry.Answer.{Answer}
 use Rattle.rv_event.specs.declared.entry.Recorded.{Recorded}
@@ -19,7 +19,7 @@ use Rattle.rv_behind.specs.Events.{by, history_at}
 use Rattle.rv_behind.specs.declared.event.Event.{Event}
 use Rattle.rv_accounts.specs.Seen.{asked_at}
 use Rattle.rv_accounts.proofs.Growing.{asks_stay, without_later}
-use Rattle.rv_port.specs.Traces.{Passing, Trace, limits_in, noted, noted_if, IsAnswered, IsWorn, EachAnswered, Went}
+use Rattle.rv_port.specs.Traces.{Passing, Trace, limits_in, noted, noted_if, IsAnswered, EachAnswered, Went}
 use Rattle.rv_went.specs.Ends.{Owns, IsLentBy}
 use Rattle.rv_went.specs.Followed.{IsStopOrWorn, TextsAreFollowed}
 use Rattle.rv_went.proofs.Accounting.{each_at, so_far, final_stops, final_none}

@@ -1,5 +1,5 @@
 -- The end of a body that a port started is explained.
-use Rattle.std.proofs.Common.{◌≡◌, ◌⊎◌, inl, inr, ⊎_elim, ℕ, ◌+◌, ◌≤◌, ℤ, List, [], ◌∷◌, ◌++◌, length, Bool, true, refl, sym, ap, ◌∙◌, subst, append_assoc, arith, reverse, Option}
+use Rattle.std.proofs.Common.{◌≡◌, ◌⊎◌, inl, inr, ⊎_elim, ℕ, ◌+◌, ◌≤◌, ℤ, List, [], ◌∷◌, ◌++◌, length, true, sym, ap, ◌∙◌, subst, append_assoc, arith, reverse, Option}
 use Rattle.rv_event.specs.declared.entry.Answer.{Answer}
 use Rattle.rv_event.specs.declared.entry.Answer.TheVariants as Answers
 use Rattle.rv_event.specs.declared.entry.Exit.{Exit}
@@ -23,7 +23,7 @@ use Rattle.rv_behind.specs.declared.event.Event.{Event}
 use Rattle.rv_accounts.specs.Seen.{asked_at}
 use Rattle.rv_accounts.specs.Explained.{EndIsExplained}
 use Rattle.rv_accounts.proofs.Growing.{without_later}
-use Rattle.rv_port.specs.Traces.{Passing, Trace, limits_in, noted, IsAnswered, IsWorn, EachAnswered, Asked}
+use Rattle.rv_port.specs.Traces.{Passing, Trace, limits_in, noted, IsAnswered, EachAnswered, Asked}
 use Rattle.rv_port.specs.Composing.{each_both}
 use Rattle.rv_port.proofs.Actors.{catalogue-append}
 use Rattle.rv_went.specs.Ends.{EndNotDone, RanSo, given_at, OwnEndsAreExplained}
@@ -72,8 +72,7 @@ module _ (u body w : Passing) (trace : Trace) (log : List Event) (early opening 
     answered_due : IsAnswered limits a u.seen (own ++ noted a done) x.at q r → IsDue done q
     answered_due y =
         let to_at : StartsWith x.at y.at = subst (λ (o : Option Recorded). StartsWith x.at (entered y.at a q o)) (final_none r final) y.to in
-        let same : without_last (length (reverse to_at.0)) (history_at limits x.at) ≡ history_at limits y.at = ap (λ (l : List Event). without_last (length (reverse to_at.0)) (history_at limits l)) to_at.1 ∙ without_later limits y.at to_at.0 in
-        (
+        let same : without_last (length (reverse to_at.0)) (history_at limits x.at) ≡ history_at limits y.at = ap (λ (l : List Event). without_last (length (reverse to_at.0)) (history_at limits l)) to_at.1 ∙ without_later limits y.at to_at.0 in (
           length (reverse to_at.0),
           ap (λ (h : History). asked_by a h) same ∙ so_far limits a u.seen x.at body.left own u.seen y.at done ((q, r) ∷ (behind ++ [])) here from_start k.lent.owns to_at y.own_is,
           ap (λ (h : History). stops (out h a q)) same ∙ final_stops (out (history_at limits y.at) a q) (ap is_final (sym y.due_is) ∙ final),
@@ -89,11 +88,11 @@ module _ (u body w : Passing) (trace : Trace) (log : List Event) (early opening 
   own_end o =
       let z : StartsWith x.at log = starts_both log u.seen x.at k.lent.from from_start in
       ⊎_elim (λ h. inl (strays_end log u trace body k.lent.from k.went.steps h))
-          (λ h. inr (record { log = log; from = z; fit = k.lent.fit; explained = h }))
-          (outer_ends (catalogue_of log) (bodies_at log) (history_at limits x.at) a early opening object operation values components left exit trace
-          (record { fit = k.lent.fit; more = catalogue_of z.0; loaded = ap catalogue_of z.1 ∙ catalogue-append log z.0 })
-          k.few k.recorded k.loaded o k.along
-          (subst (λ (l : Trace). HasAsked (history_at limits x.at) a l trace) k.asked had_asked))
+      (λ h. inr (record { log = log; from = z; fit = k.lent.fit; explained = h }))
+      (outer_ends (catalogue_of log) (bodies_at log) (history_at limits x.at) a early opening object operation values components left exit trace
+      (record { fit = k.lent.fit; more = catalogue_of z.0; loaded = ap catalogue_of z.1 ∙ catalogue-append log z.0 })
+      k.few k.recorded k.loaded o k.along
+      (subst (λ (l : Trace). HasAsked (history_at limits x.at) a l trace) k.asked had_asked))
 
 pub own_ends : OwnEndsAreExplained
 own_ends u body w trace log early opening object operation values components left exit request next k x o =
