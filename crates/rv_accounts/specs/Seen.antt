@@ -1,0 +1,28 @@
+-- What an actor asked in what was seen, with the answers that were due (own).
+use Rattle.std.specs.Prelude.{◌≡◌, ℕ, ◌==◌, if◌then◌else◌, List, [], ◌∷◌, ◌++◌}
+use Rattle.rv_exec.specs.Asking.{Trace}
+use Rattle.rv_history.specs.declared.limits.Limits.{Limits}
+use Rattle.rv_history.specs.Due.{out}
+use Rattle.rv_turn.specs.Histories.{StartsWith, mine}
+use Rattle.rv_meant.specs.Histories.{asked_by}
+use Rattle.rv_behind.specs.Events.{by, history_at}
+use Rattle.rv_behind.specs.declared.event.Event.{Event}
+use Rattle.rv_behind.specs.declared.event.Event.TheVariants.{Asks, Loads, Lists}
+
+-- the asks of an actor in a history of a turn, the oldest first
+abbrev pub asked_at : Limits → ℕ → List Event → Trace
+asked_at limits actor log = asked_by actor (history_at limits log)
+
+-- an event of the actor, with the answer that was due behind this history
+abbrev pub own_event : Limits → ℕ → List Event → Event → Trace
+own_event limits actor log (Asks a request word) = if a == actor then (request, out (history_at limits log) actor request) ∷ [] else []
+own_event limits actor log (Loads shape unit) = []
+own_event limits actor log (Lists list) = []
+
+-- an event more is an ask more, where it is the actor's
+abbrev pub AsksGrow : Type 0
+AsksGrow = (limits : Limits) (actor : ℕ) (log : List Event) (e : Event) → asked_at limits actor (log ++ e ∷ []) ≡ asked_at limits actor log ++ own_event limits actor log e
+
+-- what others add is none
+abbrev pub AsksStay : Type 0
+AsksStay = (limits : Limits) (actor : ℕ) (log later : List Event) → StartsWith later log → mine by actor later ≡ mine by actor log → asked_at limits actor later ≡ asked_at limits actor log

@@ -1,0 +1,30 @@
+//! What was seen of a turn's history accounts for an actor's ends. Laws, each on a function that does nothing.
+#![tactic(auto)]
+
+ghost use Rattle.rv_accounts.specs.Explained.{ExplainedStays, NothingToExplain, OthersExplainNothing};
+ghost use Rattle.rv_accounts.specs.Seen.{AsksGrow, AsksStay};
+
+/// An event more in a history is an ask more, where it is the actor's.
+pub fn asks_grow()
+    ensures { AsksGrow }
+{}
+
+/// What others add is none.
+pub fn asks_stay()
+    ensures { AsksStay }
+{}
+
+/// An actor that did nothing has nothing to explain.
+pub fn nothing_to_explain()
+    ensures { NothingToExplain }
+{}
+
+/// What is explained in what was seen is explained in all that is seen later, if the ends between are.
+pub fn explained_stays()
+    ensures { ExplainedStays }
+{}
+
+/// So it is whatever others add.
+pub fn others_explain_nothing()
+    ensures { OthersExplainNothing }
+{}

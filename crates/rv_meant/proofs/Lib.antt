@@ -1,0 +1,9 @@
+pub mod Keeping
+pub mod KeptValues
+pub mod KeptStatements
+pub mod KeptBodies
+pub mod Nesting
+pub mod Answered
+pub mod NestedBodies
+pub mod Openings
+pub mod Explaining

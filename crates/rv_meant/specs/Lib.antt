@@ -1,0 +1,6 @@
+pub mod Runs
+pub mod Asks
+pub mod Nested
+pub mod Histories
+pub mod Explained
+pub mod Told

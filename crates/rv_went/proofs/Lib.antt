@@ -1,0 +1,5 @@
+pub mod Accounting
+pub mod Straying
+pub mod Since
+pub mod OwnEnds
+pub mod Following
