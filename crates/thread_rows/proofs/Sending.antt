@@ -1,6 +1,6 @@
 -- Who is told notes may go to another thread, and so each role may.
 use denote.RattleType.{RattleType}
-use denote.Param.Send.{IsSend, recorded_send, struct_send, enum_send}
+use denote.Param.Send.{IsSend, IsSync, recorded_send, struct_send, enum_send}
 use denote.Struct.Declared as structs
 use denote.Enum.Declared as enums
 use Rattle.std.specs.contracts.alloc.Global as global
@@ -43,16 +43,22 @@ keys = badge.the_row (key.the_row note.the_row)
 
 doings : RattleType
 doings = doing.the_row note.the_row known
-turns = rounds_rule.ghosts note.the_row known rule.the_row protocol.ghosts rounds_rule.no_dict
-places = lockers_rule.ghosts note.the_row note.the_row whole.the_row (whole_sight.ghosts note.the_row) lockers_rule.no_dict
 
 channel : RattleType
-channel = rows.the_row keys doings (rounds.the_row rule.the_row) known (key.the_row note.the_row) (lockers.the_row whole.the_row) global.the_row turns places heap.ghosts
+channel = rows.the_row keys doings (rounds.the_row rule.the_row) known (key.the_row note.the_row) (lockers.the_row whole.the_row) global.the_row
+    (rounds_rule.ghosts note.the_row known rule.the_row protocol.ghosts rounds_rule.no_dict)
+    (lockers_rule.ghosts note.the_row note.the_row whole.the_row (whole_sight.ghosts note.the_row) lockers_rule.no_dict) heap.ghosts
 
 channel_send : IsSend channel
-channel_send = rows_crosses.the_send keys doings (rounds.the_row rule.the_row) known (key.the_row note.the_row) (lockers.the_row whole.the_row) global.the_row turns places heap.ghosts
+channel_send = rows_crosses.the_send keys doings (rounds.the_row rule.the_row) known (key.the_row note.the_row) (lockers.the_row whole.the_row) global.the_row
+    (rounds_rule.ghosts note.the_row known rule.the_row protocol.ghosts rounds_rule.no_dict)
+    (lockers_rule.ghosts note.the_row note.the_row whole.the_row (whole_sight.ghosts note.the_row) lockers_rule.no_dict) heap.ghosts
     (badge_crosses.the_send (key.the_row note.the_row)) (option_crosses.the_send note.the_row note_send) global_crosses.the_send heap_crosses.the_frees
-channel_sync = rows_crosses.the_sync keys doings (rounds.the_row rule.the_row) known (key.the_row note.the_row) (lockers.the_row whole.the_row) global.the_row turns places heap.ghosts
+
+channel_sync : IsSync channel
+channel_sync = rows_crosses.the_sync keys doings (rounds.the_row rule.the_row) known (key.the_row note.the_row) (lockers.the_row whole.the_row) global.the_row
+    (rounds_rule.ghosts note.the_row known rule.the_row protocol.ghosts rounds_rule.no_dict)
+    (lockers_rule.ghosts note.the_row note.the_row whole.the_row (whole_sight.ghosts note.the_row) lockers_rule.no_dict) heap.ghosts
     (badge_crosses.the_send (key.the_row note.the_row)) (option_crosses.the_send note.the_row note_send) global_crosses.the_send global_crosses.the_sync heap_crosses.the_frees
 
 hearer_field : IsSend (hearer.the_field).row
