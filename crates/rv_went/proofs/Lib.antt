@@ -2,4 +2,3 @@ pub mod Accounting
 pub mod Straying
 pub mod Since
 pub mod OwnEnds
-pub mod Following

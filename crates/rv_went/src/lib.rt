@@ -2,7 +2,6 @@
 #![tactic(auto)]
 
 ghost use Rattle.rv_went.specs.Ends.{BodiesLeaveEndsExplained, OwnEndsAreExplained, TextsLeaveEndsExplained};
-ghost use Rattle.rv_went.specs.Followed.{TextsAreFollowed};
 
 /// Where a body ran on a port, each end of its actor that came since in what the port has seen is explained, or an end
 /// before it was not answered Done.
@@ -18,9 +17,4 @@ pub fn texts_leave_ends_explained()
 /// And so is the end of the body that ran, where it was answered Done.
 pub fn own_ends_are_explained()
     ensures { OwnEndsAreExplained }
-{}
-
-/// What of a text's asks has entries is all that its task asked, where it ran on a port that had done nothing.
-pub fn texts_are_followed()
-    ensures { TextsAreFollowed }
 {}
