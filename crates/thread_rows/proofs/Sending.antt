@@ -35,16 +35,16 @@ use Rattle.thread_rows.proofs.crews.two_readers.FirstReader.TheSendSync as first
 use Rattle.thread_rows.proofs.crews.two_readers.SecondReader.TheSendSync as second_crosses
 use Rattle.thread_rows.proofs.crews.caller.Caller.TheSendSync as caller_crosses
 
-known : RattleType
+abbrev known : RattleType
 known = option.the_row note.the_row
 
-keys : RattleType
+abbrev keys : RattleType
 keys = badge.the_row (key.the_row note.the_row)
 
-doings : RattleType
+abbrev doings : RattleType
 doings = doing.the_row note.the_row known
 
-channel : RattleType
+abbrev channel : RattleType
 channel = rows.the_row keys doings (rounds.the_row rule.the_row) known (key.the_row note.the_row) (lockers.the_row whole.the_row) global.the_row
     (rounds_rule.ghosts note.the_row known rule.the_row protocol.ghosts rounds_rule.no_dict)
     (lockers_rule.ghosts note.the_row note.the_row whole.the_row (whole_sight.ghosts note.the_row) lockers_rule.no_dict) heap.ghosts
