@@ -43,7 +43,7 @@ impl<'a, R: Clock> Progress<'a, R> {
 }
 
 impl<'a, R: Clock + Eprint> Watch for Progress<'a, R> {
-    fn passed(&mut self, entries: usize, _line: &[u8]) {
+    fn passed(&mut self, entries: usize) {
         if self.is_shown && entries % BETWEEN == 0 && self.is_due() {
             let _ = eprintln!(self.rt; "ravenhost: {entries} entries so far");
         }

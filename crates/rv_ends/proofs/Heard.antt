@@ -42,11 +42,25 @@ pub heard_more : (i : ℕ) (f : Open → Open) (xs ys : List OpenBody) (v d : Op
     map open_view (set ys i v) ≡ upto (i + 1) f (map open_view xs)
 heard_more i f xs ys v d lt e g = let n : i + 1 ≡ suc i = omega arith in one_more i f xs ys v d lt e g ∙ ap (λ (m : ℕ). upto m f (map open_view xs)) (sym n)
 
-pub heard_all : (i : ℕ) (f : Open → Open) (bodies : List Open) → length bodies ≤ i → upto i f bodies ≡ map f bodies
-heard_all zero f [] le = refl
-heard_all zero f (b ∷ bodies) le = absurd (omega (arith, le))
-heard_all (suc i) f [] le = refl
-heard_all (suc i) f (b ∷ bodies) le = ap (λ (l : List Open). f b ∷ l) (heard_all i f bodies (omega (arith, le)))
+all_of_them : (i : ℕ) (f : Open → Open) (bodies : List Open) → length bodies ≤ i → upto i f bodies ≡ map f bodies
+all_of_them zero f [] le = refl
+all_of_them zero f (b ∷ bodies) le = absurd (omega (arith, le))
+all_of_them (suc i) f [] le = refl
+all_of_them (suc i) f (b ∷ bodies) le = ap (λ (l : List Open). f b ∷ l) (all_of_them i f bodies (omega (arith, le)))
+
+as_many : (xs : List OpenBody) → length (map open_view xs) ≡ length xs
+as_many [] = refl
+as_many (x ∷ xs) = ap suc (as_many xs)
+
+length-upto : (i : ℕ) (f : Open → Open) (bodies : List Open) → length (upto i f bodies) ≡ length bodies
+length-upto zero f bodies = refl
+length-upto (suc i) f [] = refl
+length-upto (suc i) f (b ∷ bodies) = ap suc (length-upto i f bodies)
+
+pub heard_all : (i : ℕ) (f : Open → Open) (xs ys : List OpenBody) → length ys ≤ i → map open_view ys ≡ upto i f (map open_view xs) → map open_view ys ≡ map f (map open_view xs)
+heard_all i f xs ys le e =
+    let same : length (map open_view xs) ≡ length ys = sym (length-upto i f (map open_view xs)) ∙ ap (λ (l : List Open). length l) (sym e) ∙ as_many ys in
+    e ∙ all_of_them i f (map open_view xs) (omega (arith, le, same))
 
 -- Asks that started no body without a text.
 

@@ -1,20 +1,23 @@
 -- What is kept of a history's bodies stays what is afoot, entry by entry.
-use Rattle.std.proofs.Common.{◌≡◌, ℕ, List, [], ◌∷◌, ◌++◌, Bool, true, false, Option, Some, None, refl, sym, ap, ◌∙◌, subst, map, append_assoc, append-nil}
+use Rattle.std.proofs.Common.{◌≡◌, ◌⊎◌, inl, inr, ℕ, List, [], ◌∷◌, ◌++◌, Bool, true, false, Option, Some, None, refl, sym, ap, ◌∙◌, subst, map, append_assoc, append-nil}
 use Rattle.std.specs.Prelude.{◌==◌, if◌then◌else◌, is_some}
 use Rattle.rv_access.specs.Words.{Words}
 use Rattle.rv_shape.specs.Shape.{Shape}
 use Rattle.rv_event.specs.Recorded.{recorded}
+use Rattle.rv_code.specs.Bodies.{UnitBodies}
 use Rattle.rv_event.specs.declared.entry.Answer.{Answer}
+use Rattle.rv_event.specs.declared.entry.Answer.TheVariants.{OutOfMemory}
 use Rattle.rv_event.specs.declared.entry.Entry.{Entry}
 use Rattle.rv_event.specs.declared.entry.Entry.TheVariants.{Asked, Load, ListChange}
 use Rattle.rv_event.specs.declared.entry.Recorded.{Recorded}
 use Rattle.rv_event.specs.declared.entry.Request.{Request}
 use Rattle.rv_history.specs.Due.{out}
 use Rattle.rv_history.specs.History.{History}
-use Rattle.rv_history.specs.Legal.{Legal, after, after_list, after_load, empty, entered}
+use Rattle.rv_history.specs.Legal.{Legal, after, after_list, after_load, empty, entered, out_list, out_load}
+use Rattle.rv_history.specs.Steps.{MayLackMemory}
 use Rattle.rv_history.specs.declared.limits.Limits.{Limits}
 use Rattle.rv_ends.specs.Afoot.{Afoot, AreAfoot, answered, open_view}
-use Rattle.rv_ends.specs.Ends.{AllStopped, IsWhole, afoot_of, left_stops, of_others}
+use Rattle.rv_ends.specs.Ends.{AllStopped, IsWhole, afoot_of, left_stops, of_others, texts_after}
 use Rattle.rv_ends.specs.Explained.{IsFront, IsStopped, is_stop, is_stopped_end, leaves_open}
 use Rattle.rv_ends.specs.declared.ends.Ends.{Ends}
 use Rattle.rv_ends.specs.declared.ends.Stop.{Stop}
@@ -179,3 +182,28 @@ whole_stopped e n stop w is host afoot_is stops_is = record {
     all_more : (stops : List Stop) → AllStopped e.host stops → AllStopped e.host (stops ++ stop ∷ [])
     all_more [] all = (is, tt)
     all_more (s ∷ stops) all = (all.0, all_more stops all.1)
+
+-- What stopped an actor is among the first, or the later ones.
+
+pub known_first : (h : History) (stops later : List Stop) (stop : Stop) (actor : ℕ) (ask : Request) → stops ≡ stop ∷ later → stop.actor ≡ actor → stop.ask ≡ ask → AllStopped h stops → IsStopped h actor ask
+known_first h stops later stop actor ask is of same all =
+    let all_is = subst (λ (l : List Stop). AllStopped h l) is all in
+    subst (λ (r : Request). IsStopped h actor r) same (subst (λ (a : ℕ). IsStopped h a stop.ask) of all_is.0)
+
+pub known_later : (h : History) (stops later : List Stop) (stop : Stop) → stops ≡ stop ∷ later → AllStopped h stops → AllStopped h later
+known_later h stops later stop is all = let all_is = subst (λ (l : List Stop). AllStopped h l) is all in all_is.1
+
+-- Where memory wasn't refused, the answer was the one that was due.
+
+due_answer : (due answer : Answer) → MayLackMemory due answer → (answer ≡ OutOfMemory → ⊥) → answer ≡ due
+due_answer due answer (inl e) no = e
+due_answer due answer (inr h) no = absurd (no h.0)
+
+pub due_history : (h k : History) (shape : Shape) (answer : Answer) → MayLackMemory (out_load h shape) answer → (answer ≡ OutOfMemory → ⊥) → k ≡ after_load h shape answer → k ≡ after_load h shape (out_load h shape)
+due_history h k shape answer may no is = is ∙ ap (λ (a : Answer). after_load h shape a) (due_answer (out_load h shape) answer may no)
+
+pub due_texts : (h : History) (shape : Shape) (answer : Answer) (unit before behind : UnitBodies) → MayLackMemory (out_load h shape) answer → (answer ≡ OutOfMemory → ⊥) → behind ≡ texts_after answer unit before → behind ≡ texts_after (out_load h shape) unit before
+due_texts h shape answer unit before behind may no is = is ∙ ap (λ (a : Answer). texts_after a unit before) (due_answer (out_load h shape) answer may no)
+
+pub due_listed : (h k : History) (list : List Words) (answer : Answer) → MayLackMemory (out_list h (Some list)) answer → (answer ≡ OutOfMemory → ⊥) → k ≡ after_list h (Some list) answer → k ≡ after_list h (Some list) (out_list h (Some list))
+due_listed h k list answer may no is = is ∙ ap (λ (a : Answer). after_list h (Some list) a) (due_answer (out_list h (Some list)) answer may no)

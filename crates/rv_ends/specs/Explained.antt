@@ -15,7 +15,7 @@ use Rattle.rv_event.specs.declared.entry.Request.{Request}
 use Rattle.rv_event.specs.declared.entry.Request.TheVariants.{Call, Complete}
 use Rattle.rv_event.specs.declared.entry.Rule.TheVariants.{Reentry}
 use Rattle.rv_event.specs.Past.{is_own}
-use Rattle.rv_exec.specs.Asking.{Trace, Along}
+use Rattle.rv_exec.specs.Asking.{Trace, Along, stands}
 use Rattle.rv_exec.specs.Blocks.{operation_run}
 use Rattle.rv_exec.specs.Bodies.{operation_of}
 use Rattle.rv_history.specs.Due.{out}
@@ -145,6 +145,29 @@ abbrev pub ByStop : UnitBodies → History → ℕ → Open → Request → Type
 ByStop bodies h actor body request =
     (trace : Trace) × (other : Request) × FollowsToStop h.shapes body.start.held body.asked other trace
     × Ends bodies body.start trace request × IsStopped h actor other
+
+-- What else a text means
+
+-- the text of a body ends by this request, where it follows a front of what was recorded
+pub record EndsBy (bodies : UnitBodies) (shapes : List Shape) (body : Open) (request : Request) : Type 0 where
+  pub front : Trace
+  pub left : Trace
+  pub trace : Trace
+  pub recorded_is : body.asked ≡ front ++ left
+  pub follows : Follows shapes body.start.held front trace
+  pub ends : Ends bodies body.start trace request
+
+-- the text of a body asks this request, where it follows a front of what was recorded, and it isn't what was recorded next
+pub record AsksBehind (bodies : UnitBodies) (shapes : List Shape) (body : Open) (request : Request) : Type 0 where
+  pub front : Trace
+  pub left : Trace
+  pub before : Trace
+  pub behind : Trace
+  pub end : Exit × List ℤ
+  pub recorded_is : body.asked ≡ front ++ left
+  pub follows : Follows shapes body.start.held front before
+  pub asks : Along (operation_run bodies body.start.object body.start.operation body.start.values body.start.components) (before ++ (request, Full) ∷ behind) end
+  pub is_other : (answer : Answer) (rest : Trace) → left ≡ (request, answer) ∷ rest → stands answer ≡ true
 
 -- This end of an actor's innermost body, behind this history, is what its text among these bodies means.
 pub record IsExplained (bodies : UnitBodies) (h : History) (actor : ℕ) (request : Request) : Type 0 where

@@ -5,7 +5,8 @@ use Rattle.rv_shape.specs.Shape.{Shape}
 use Rattle.rv_event.specs.declared.entry.Answer.{Answer}
 use Rattle.rv_event.specs.declared.entry.Answer.TheVariants.{Full}
 use Rattle.rv_event.specs.declared.entry.Request.{Request}
-use Rattle.rv_exec.specs.Asking.{Trace}
+use Rattle.rv_event.specs.declared.entry.Request.TheVariants.{Call, Complete}
+use Rattle.rv_exec.specs.Asking.{Trace, stands}
 use Rattle.rv_ends.specs.Explained.{is_unasked, unasked, held_after, is_stopped_end}
 use Rattle.rv_ends.specs.declared.following.Following.{Following}
 
@@ -48,9 +49,15 @@ IsRecorded p pair q =
     (p.other ≡ None → is_unasked p.shapes p.held pair.0 ≡ false) × (may_follow p.other pair.0 ≡ true)
     × (rest : Trace) × (p.asked ≡ pair ∷ rest) × (q ≡ gone_on p rest pair.1)
 
+-- an ask that isn't the one recorded next, or that may not follow
+abbrev pub IsOther : Place → Request → Type 0
+IsOther p request =
+    (answer : Answer) (rest : Trace) → p.asked ≡ (request, answer) ∷ rest → (stands answer ≡ true) ⊎ (may_follow p.other request ≡ false)
+
 -- another ask
 abbrev pub IsMissed : Place → Request × Answer → Place → Type 0
-IsMissed p pair q = (pair.1 ≡ Full) × (q ≡ missed p pair.0)
+IsMissed p pair q =
+    (pair.1 ≡ Full) × (p.other ≡ None → is_unasked p.shapes p.held pair.0 ≡ false) × IsOther p pair.0 × (q ≡ missed p pair.0)
 
 abbrev pub Goes : Place → Request × Answer → Place → Type 0
 Goes p pair q = IsPassed p pair q ⊎ (IsRecorded p pair q ⊎ IsMissed p pair q)
@@ -59,6 +66,12 @@ Goes p pair q = IsPassed p pair q ⊎ (IsRecorded p pair q ⊎ IsMissed p pair q
 abbrev pub Plays : Place → Trace → Place → Type 0
 Plays p [] q = p ≡ q
 Plays p (pair ∷ trace) q = (m : Place) × Goes p pair m × Plays m trace q
+
+-- a request that carries no object
+abbrev pub is_plain : Request → Bool
+is_plain (Call object operation values) = false
+is_plain (Complete components exit) = false
+is_plain request = true
 
 pub plays_both : (s t u : Place) (a b : Trace) → Plays s a t → Plays t b u → Plays s (a ++ b) u
 plays_both s t u [] b h g = subst (λ x. Plays x b u) (sym h) g

@@ -1,20 +1,20 @@
 //! The ends of bodies, entry by entry of a journal.
 
 ghost use Rattle.std.specs.Prelude.{◌≡◌, true, Some, IfOk, OnOk};
+ghost use Rattle.rv_code.specs.BodyView.{unit_view};
 ghost use Rattle.rv_exec.specs.Bodies.{no_bodies};
 ghost use Rattle.rv_history.specs.Due.{out};
 ghost use Rattle.rv_history.specs.Legal.{after, after_list, after_load, empty, out_list, out_load};
 ghost use Rattle.rv_history.specs.Limits.{limits_of};
 ghost use Rattle.rv_ends.specs.Afoot.{answered};
-ghost use Rattle.rv_event.specs.declared.entry.Answer.{Answer};
 ghost use Rattle.rv_history.specs.Steps.{MayLackMemory};
 ghost use Rattle.rv_history.specs.History.{History};
-ghost use Rattle.rv_ends.specs.Ends.{AllStopped, IsFoundStop, IsMeaning, IsWhole, afoot_of, history_of, is_settled, left_stops, of_others, texts_of};
+ghost use Rattle.rv_ends.specs.Ends.{AllStopped, IsFoundStop, IsMeaning, IsWhole, afoot_of, history_of, is_settled, left_stops, of_others, texts_after, texts_of};
 ghost use Rattle.rv_ends.specs.Explained.{IsStopped, is_stop};
 
 use crate::afoot::{OpenBody, QueuedCall};
 use crate::answered::{begin, close, hear_all, innermost, queue, started};
-use crate::following::is_stopped_end;
+use crate::following::{is_same, is_stopped_end};
 use crate::meaning::{Course, Meaning, course_of};
 use rv_access::AccessList;
 use rv_code::UnitBodies;
@@ -71,13 +71,14 @@ fn without(alloc: Global, stops: &[Stop], actor: usize) -> Result<Vec<Stop>, All
 }
 
 // Whether this ask stopped the actor.
+#[tactic(auto, using(crate::proofs::Whole::known_first, crate::proofs::Whole::known_later))]
 fn has_stop(stops: &[Stop], actor: usize, ask: &Request) -> bool
     ensures { (h : History) → AllStopped h stops.now → result ≡ true → IsStopped h actor ask.now }
 {
     let Some((first, rest)) = stops.split_first() else {
         return false;
     };
-    if first.actor == actor && first.ask == *ask {
+    if first.actor == actor && is_same(&first.ask, ask) {
         return true;
     }
     has_stop(rest, actor, ask)
@@ -109,27 +110,62 @@ impl Ends {
         self.host.catalogue()
     }
 
-    /// Loads a unit, with its bodies.
+    // Puts the bodies of a unit behind the others, where its load was answered so that it is recorded.
+    fn add_texts(&mut self, bodies: UnitBodies, answer: &Answer) -> Result<(), AllocError>
+        ensures texts { OnOk result (texts_of self.new ≡ texts_after answer.now (unit_view bodies) (texts_of self.old)) }
+        ensures same { (self.new.host ≡ self.old.host) × (afoot_of self.new ≡ afoot_of self.old) × (self.new.stops ≡ self.old.stops) }
+    {
+        if answer.recorded().is_none() {
+            return Ok(());
+        }
+        self.bodies.add(bodies)
+    }
+
+    // Loads a unit, with its bodies, and gives the answer.
     #[tactic(auto, using(crate::proofs::Whole::whole_by_load))]
+    fn load_answered(&mut self, shape: &UnitShape, bodies: UnitBodies) -> Result<Answer, AllocError>
+        ensures whole { IsWhole self.old → OnOk result (IsWhole self.new) }
+        ensures answer { IfOk result (λ answer. MayLackMemory (out_load (history_of self.old) shape.now) answer) }
+        ensures history { IfOk result (λ answer. history_of self.new ≡ after_load (history_of self.old) shape.now answer) }
+        ensures texts { IfOk result (λ answer. texts_of self.new ≡ texts_after answer (unit_view bodies) (texts_of self.old)) }
+    {
+        let answer = self.host.load(shape);
+        self.add_texts(bodies, &answer)?;
+        Ok(answer)
+    }
+
+    /// Loads a unit, with its bodies. Err where memory was refused.
+    #[tactic(auto, using(crate::proofs::Whole::due_history, crate::proofs::Whole::due_texts))]
     pub fn load(&mut self, shape: &UnitShape, bodies: UnitBodies) -> Result<(), AllocError>
         ensures whole { IsWhole self.old → OnOk result (IsWhole self.new) }
-        ensures history { (answer : Answer) × MayLackMemory (out_load (history_of self.old) shape.now) answer × (history_of self.new ≡ after_load (history_of self.old) shape.now answer) }
+        ensures history { OnOk result (history_of self.new ≡ after_load (history_of self.old) shape.now (out_load (history_of self.old) shape.now)) }
+        ensures texts { OnOk result (texts_of self.new ≡ texts_after (out_load (history_of self.old) shape.now) (unit_view bodies) (texts_of self.old)) }
     {
-        match self.host.load(shape) {
-            Answer::Accepted(_) => self.bodies.add(bodies),
+        match self.load_answered(shape, bodies)? {
             Answer::OutOfMemory => Err(AllocError),
             _ => Ok(()),
         }
     }
 
-    /// Sets a list.
+    // Sets a list, and gives the answer.
     #[tactic(auto, using(crate::proofs::Whole::whole_by_list))]
-    pub fn set_list(&mut self, list: &AccessList) -> Result<(), AllocError>
-        ensures whole { IsWhole self.old → OnOk result (IsWhole self.new) }
-        ensures history { (answer : Answer) × MayLackMemory (out_list (history_of self.old) (Some list.now)) answer × (history_of self.new ≡ after_list (history_of self.old) (Some list.now) answer) }
+    fn list_answered(&mut self, list: &AccessList) -> Answer
+        ensures whole { IsWhole self.old → IsWhole self.new }
+        ensures answer { MayLackMemory (out_list (history_of self.old) (Some list.now)) result }
+        ensures history { history_of self.new ≡ after_list (history_of self.old) (Some list.now) result }
         ensures texts { texts_of self.new ≡ texts_of self.old }
     {
-        match self.host.set_list(list) {
+        self.host.set_list(list)
+    }
+
+    /// Sets a list. Err where memory was refused.
+    #[tactic(auto, using(crate::proofs::Whole::due_listed))]
+    pub fn set_list(&mut self, list: &AccessList) -> Result<(), AllocError>
+        ensures whole { IsWhole self.old → IsWhole self.new }
+        ensures history { OnOk result (history_of self.new ≡ after_list (history_of self.old) (Some list.now) (out_list (history_of self.old) (Some list.now))) }
+        ensures texts { texts_of self.new ≡ texts_of self.old }
+    {
+        match self.list_answered(list) {
             Answer::OutOfMemory => Err(AllocError),
             _ => Ok(()),
         }
@@ -228,7 +264,7 @@ impl Ends {
 
     /// What the text of an actor's innermost body means, where this end of it is to come. After any other answer than that it
     /// is explained, or without a text, the entries to come can't be explained.
-    #[tactic(auto, using(crate::proofs::Meanings::explained_is, crate::proofs::Meanings::no_body, crate::proofs::Meanings::without_text, crate::proofs::Meanings::by_found_stop))]
+    #[tactic(auto, using(crate::proofs::Meanings::explained_is, crate::proofs::Meanings::no_body, crate::proofs::Meanings::without_text, crate::proofs::Meanings::by_found_stop, crate::proofs::Meanings::gives_other, crate::proofs::Meanings::asks_other))]
     pub fn meaning(&mut self, actor: usize, end: &Request) -> Result<Meaning, AllocError>
         ensures meaning { IsWhole self.old → IfOk result (λ m. IsMeaning (texts_of self.old) (history_of self.old) (afoot_of self.old) actor end.now m) }
         ensures history { IfOk result (λ m. is_settled m ≡ true → history_of self.new ≡ history_of self.old) }

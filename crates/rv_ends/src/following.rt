@@ -1,9 +1,10 @@
 //! An outside that gives recorded answers again, as long as what is asked is what was recorded.
 
-ghost use Rattle.std.specs.Prelude.{◌≡◌, ◌↔◌, ◌∷◌, IsTrue, true, false};
+ghost use Rattle.std.specs.Prelude.{◌≡◌, ◌↔◌, ◌⊎◌, ◌∷◌, IsTrue, true, false};
+ghost use Rattle.rv_event.specs.declared.entry.Request.TheVariants.{Call, Complete};
 ghost use Rattle.rv_shape.specs.Catalogue.{target};
 ghost use Rattle.rv_ends.specs.Explained.{held_after, is_stopped_end, is_unasked, on_protected};
-ghost use Rattle.rv_ends.specs.Following.{may_follow, missed, place_of};
+ghost use Rattle.rv_ends.specs.Following.{is_plain, may_follow, missed, place_of};
 ghost use Rattle.rv_exec.specs.Asking.{stands};
 
 use rv_event::entry::{Answer, Exit, Request, Rule};
@@ -11,6 +12,7 @@ use rv_exec::outward::Outward;
 use rv_prio::MOST_HELD;
 use rv_shape::actor::Callee;
 use rv_shape::catalogue::Catalogue;
+use rv_value::{Args, Scalars};
 
 /// Gives what was recorded of a body's actor again, one answer for each ask that is the next one recorded.
 #[derive(Drop)]
@@ -79,11 +81,58 @@ fn stands(answer: &Answer) -> bool
     }
 }
 
+// Whether a request is this call.
+fn is_call(other: &Request, object: usize, operation: usize, values: &Args) -> bool
+    ensures { IsTrue result ↔ (other.now ≡ Call object operation values.now) }
+{
+    match other {
+        Request::Call(o, p, given) => *o == object && *p == operation && *given == *values,
+        _ => false,
+    }
+}
+
+// Whether two ends of bodies are the same.
+fn is_same_exit(one: &Exit, other: &Exit) -> bool
+    ensures { IsTrue result ↔ (one.now ≡ other.now) }
+{
+    *one == *other
+}
+
+// Whether a request is this end.
+fn is_this_end(other: &Request, components: &Scalars, exit: &Exit) -> bool
+    ensures { IsTrue result ↔ (other.now ≡ Complete components.now exit.now) }
+{
+    match other {
+        Request::Complete(left, end) => *left == *components && is_same_exit(end, exit),
+        _ => false,
+    }
+}
+
+// Whether two requests that carry no object are the same.
+fn is_same_plain(one: &Request, other: &Request) -> bool
+    ensures { is_plain one.now ≡ true → (IsTrue result ↔ (one.now ≡ other.now)) }
+{
+    match (one, other) {
+        (Request::DelayUntil(a), Request::DelayUntil(b)) => a == b,
+        (Request::Tick(a), Request::Tick(b)) => a == b,
+        (Request::Resume, Request::Resume) => true,
+        (Request::Clock, Request::Clock) => true,
+        (Request::Fire, Request::Fire) => true,
+        (Request::Quit, Request::Quit) => true,
+        (Request::Halt, Request::Halt) => true,
+        _ => false,
+    }
+}
+
 /// Whether two requests are the same.
 pub fn is_same(one: &Request, other: &Request) -> bool
     ensures { IsTrue result ↔ (one.now ≡ other.now) }
 {
-    *one == *other
+    match one {
+        Request::Call(object, operation, values) => is_call(other, *object, *operation, values),
+        Request::Complete(components, exit) => is_this_end(other, components, exit),
+        _ => is_same_plain(one, other),
+    }
 }
 
 // Whether a request may follow, behind a stop or before.
@@ -113,6 +162,8 @@ impl<'a> Following<'a> {
         ensures same { result ≡ true → first.now.0 ≡ request.now }
         ensures settled { result ≡ true → stands first.now.1 ≡ false }
         ensures follows { result ≡ true → may_follow self.now.other request.now ≡ true }
+        ensures other { result ≡ false → first.now.0 ≡ request.now →
+            (stands first.now.1 ≡ true) ⊎ (may_follow self.now.other request.now ≡ false) }
     {
         if !is_same(&first.0, request) || stands(&first.1) {
             return false;
@@ -128,7 +179,7 @@ impl<'a> Outward<()> for Following<'a> {
 
     ghost went = { λ s trace t. Plays (place_of s) trace (place_of t) };
 
-    #[tactic(auto, using(crate::proofs::Steps::one_passed, crate::proofs::Steps::one_recorded, crate::proofs::Steps::one_missed))]
+    #[tactic(auto, using(crate::proofs::Steps::one_passed, crate::proofs::Steps::one_recorded, crate::proofs::Steps::one_missed, crate::proofs::Steps::none_left, crate::proofs::Steps::not_next))]
     fn ask(&mut self, _runtime: &(), request: Request) -> Answer {
         if self.other.is_none() && is_unasked(self.catalogue, self.held, &request) {
             return Answer::Refused(Rule::Reentry, 0, 0);

@@ -83,6 +83,7 @@ fn calls_without_text(bodies: &Bodies, asked: &[(Request, Answer)]) -> bool
 fn is_as_recorded(following: &Following<'_>, given: &Request, end: &Request) -> bool
     ensures asked { result ≡ true → following.now.asked.now ≡ [] }
     ensures same { result ≡ true → given.now ≡ end.now }
+    ensures other { result ≡ false → following.now.asked.now ≡ [] → given.now ≡ end.now → ⊥ }
 {
     if following.asked.len() > 0 {
         return false;

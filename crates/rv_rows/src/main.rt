@@ -60,7 +60,7 @@ enum Deed<'a> {
 struct Unwatched {}
 
 impl Watch for Unwatched {
-    fn passed(&mut self, _entries: usize, _line: &[u8]) {}
+    fn passed(&mut self, _entries: usize) {}
 }
 
 // Does what is to be done with a script.

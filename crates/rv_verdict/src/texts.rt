@@ -1,12 +1,12 @@
 //! The texts of the units that a script gives.
 
 use rv_code::UnitBodies;
-use rv_fault::{Failure, What, refused, unit_of};
+use rv_fault::{Failure, unit_of};
 use rv_script::{Opening, open, opening_of};
 use rv_shape::catalogue::Catalogue;
 use rv_shape::shape::UnitShape;
 use rv_text::Section;
-use std::alloc::Global;
+use std::alloc::{AllocError, Global};
 
 /// The text of a unit, and the line at which its section opens.
 #[derive(Clone, Copy, Drop)]
@@ -28,17 +28,18 @@ fn given_text<'a>(section: &Section<'a>) -> Option<Option<UnitText<'a>>> {
 }
 
 /// For each unit of a script, in order, its text, or none where it is a shape alone; those of devices, which have none, aside.
-pub fn texts_of<'a>(alloc: Global, script: &'a str) -> Result<Vec<Option<UnitText<'a>>>, Failure> {
+pub fn texts_of<'a>(
+    alloc: Global,
+    script: &'a str,
+) -> Result<Vec<Option<UnitText<'a>>>, AllocError> {
     let mut texts = Vec::new(alloc);
-    let mut sections = match open(script) {
-        Ok(script) => script.sections,
-        Err(line) => return Err(refused(line, What::BadSection)),
+    let Ok(opened) = open(script) else {
+        return Ok(texts);
     };
+    let mut sections = opened.sections;
     'each: while let Some(section) = sections.next_section() {
         if let Some(text) = given_text(&section) {
-            if texts.push(text).is_err() {
-                return Err(Failure::Memory);
-            }
+            texts.push(text)?;
         }
     }
     Ok(texts)
@@ -56,17 +57,13 @@ pub fn bodies_of(
     catalogue: &Catalogue,
     shape: &UnitShape,
     text: Option<UnitText<'_>>,
-) -> Result<UnitBodies, Failure> {
-    if let Some(text) = text {
-        match unit_of(alloc, catalogue, text.line, text.text) {
-            Ok(unit) => {
-                if is_of(&unit.bodies, shape) {
-                    return Ok(unit.bodies);
-                }
-            }
-            Err(Failure::Memory) => return Err(Failure::Memory),
-            Err(_) => {}
-        }
+) -> Result<UnitBodies, AllocError> {
+    let Some(text) = text else {
+        return UnitBodies::of_shape(alloc, shape);
+    };
+    match unit_of(alloc, catalogue, text.line, text.text) {
+        Ok(unit) if is_of(&unit.bodies, shape) => Ok(unit.bodies),
+        Err(Failure::Memory) => Err(AllocError),
+        _ => UnitBodies::of_shape(alloc, shape),
     }
-    Ok(UnitBodies::of_shape(alloc, shape)?)
 }
