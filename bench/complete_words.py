@@ -52,7 +52,7 @@ ROWS = [
     ("{} play --a", ONE, "{} play --all "),
     ("{} play --all --", ALL, "{} play --all --notes --warnings-are-errors "),
     ("{} check --e", ONE, "{} check --explain "),
-    ("{} audit --", ALL, "{} audit --explain --help --journal --torn"),
+    ("{} audit --", ALL, "{} audit --help --journal --torn"),
     ("{} audit --t", ONE, "{} audit --torn "),
     ("{} audit --torn --j", ONE, "{} audit --torn --journal"),
     ("{} audit --journal x", ONE, "{} audit --journal x-one.journal "),
