@@ -6,6 +6,7 @@ use Rattle.rv_shape.specs.Shape.{Shape}
 use Rattle.rv_event.specs.Recorded.{recorded}
 use Rattle.rv_code.specs.Bodies.{UnitBodies}
 use Rattle.rv_event.specs.declared.entry.Answer.{Answer}
+use Rattle.rv_event.specs.declared.entry.Answer.TheVariants as answers
 use Rattle.rv_event.specs.declared.entry.Answer.TheVariants.{OutOfMemory}
 use Rattle.rv_event.specs.declared.entry.Entry.{Entry}
 use Rattle.rv_event.specs.declared.entry.Entry.TheVariants.{Asked, Load, ListChange}
@@ -92,6 +93,29 @@ whole_same e n w host afoot_is stops_is = record {
   stopped = subst (λ (x : History). AllStopped x n.stops.items) (sym host) (subst (λ (l : List Stop). AllStopped e.host l) (sym stops_is) w.stopped);
 }
 
+-- a request whose answer is recorded
+pub whole_recorded : (e n : Ends) (actor : ℕ) (request : Request) (answer : Answer) → IsWhole e → answer ≡ out e.host actor request → is_some (recorded answer) ≡ true → n.host ≡ after e.host actor request answer
+    → afoot_of n ≡ answered (after e.host actor request answer).shapes actor request answer (afoot_of e) → n.stops.items ≡ left_stops request actor e.stops.items → IsWhole n
+whole_recorded e n actor request answer w due some host_is afoot_is stops_is = by_word (recorded answer) refl some
+  where
+    shapes_stay : (o : Option Recorded) → (entered e.host actor request o).shapes ≡ e.host.shapes
+    shapes_stay None = refl
+    shapes_stay (Some word) = refl
+
+    by_word : (o : Option Recorded) → recorded answer ≡ o → is_some o ≡ true → IsWhole n
+    by_word None is b = absurd cc
+    by_word (Some word) is b =
+        whole_asked e n actor request word w (ap recorded (sym due) ∙ is) (host_is ∙ ap (λ (a : Answer). after e.host actor request a) due)
+        (afoot_is ∙ ap (λ (l : List Shape). answered l actor request answer (afoot_of e)) (shapes_stay (recorded answer)) ∙ ap (λ (a : Answer). answered e.host.shapes actor request a (afoot_of e)) due) stops_is
+
+-- one whose answer isn't
+pub whole_unrecorded : (e n : Ends) (actor : ℕ) (request : Request) (answer : Answer) → IsWhole e → is_some (recorded answer) ≡ false → n.host ≡ after e.host actor request answer → afoot_of n ≡ afoot_of e → n.stops.items ≡ e.stops.items → IsWhole n
+whole_unrecorded e n actor request answer w none host_is afoot_is stops_is = by_word (recorded answer) refl none
+  where
+    by_word : (o : Option Recorded) → recorded answer ≡ o → is_some o ≡ false → IsWhole n
+    by_word None is b = whole_same e n w (host_is ∙ ap (entered e.host actor request) is) afoot_is stops_is
+    by_word (Some word) is b = absurd cc
+
 -- Loads and lists
 
 load_on : (f h : History) (shape : Shape) (later : List Entry) → IsFront f h later → IsFront f (record h { past = Load ∷ h.past; shapes = h.shapes ++ shape ∷ [] }) (Load ∷ later)
@@ -173,6 +197,31 @@ stopped_here h actor ask legal is = record {
   stops = is;
 }
 
+-- behind such an answer nothing is recorded
+unrecorded : (a : Answer) → is_stop a ≡ true → recorded a ≡ None
+unrecorded (answers.Started x) e = absurd cc
+unrecorded answers.Queued e = absurd cc
+unrecorded (answers.Refused x y z) e = absurd cc
+unrecorded (answers.Done x) e = absurd cc
+unrecorded answers.Suspended e = absurd cc
+unrecorded answers.Delayed e = absurd cc
+unrecorded (answers.Woken x) e = absurd cc
+unrecorded (answers.Accepted x) e = absurd cc
+unrecorded answers.Misuse e = refl
+unrecorded answers.Halted e = refl
+unrecorded answers.Full e = refl
+unrecorded answers.Busy e = absurd cc
+unrecorded answers.Waiting e = absurd cc
+unrecorded answers.Unattached e = absurd cc
+unrecorded answers.BadLine e = absurd cc
+unrecorded answers.OutOfMemory e = absurd cc
+
+pub stopped_now : (h k : History) (actor : ℕ) (ask : Request) (answer : Answer) → Legal h → answer ≡ out h actor ask → is_stop answer ≡ true → k ≡ after h actor ask (out h actor ask) → IsStopped k actor ask
+stopped_now h k actor ask answer legal due stops is =
+    let here : is_stop (out h actor ask) ≡ true = ap is_stop (sym due) ∙ stops in
+    let same : k ≡ h = is ∙ ap (entered h actor ask) (unrecorded (out h actor ask) here) in
+    subst (λ (x : History). IsStopped x actor ask) (sym same) (stopped_here h actor ask legal here)
+
 pub whole_stopped : (e n : Ends) (stop : Stop) → IsWhole e → IsStopped e.host stop.actor stop.ask → n.host ≡ e.host → afoot_of n ≡ afoot_of e → n.stops.items ≡ e.stops.items ++ stop ∷ [] → IsWhole n
 whole_stopped e n stop w is host afoot_is stops_is = record {
   afoot = subst (λ (x : History). AreAfoot x (afoot_of n)) (sym host) (subst (λ (a : Afoot). AreAfoot e.host a) (sym afoot_is) w.afoot);
@@ -196,14 +245,14 @@ known_later h stops later stop is all = let all_is = subst (λ (l : List Stop). 
 -- Where memory wasn't refused, the answer was the one that was due.
 
 due_answer : (due answer : Answer) → MayLackMemory due answer → (answer ≡ OutOfMemory → ⊥) → answer ≡ due
-due_answer due answer (inl e) no = e
-due_answer due answer (inr h) no = absurd (no h.0)
+due_answer due answer (inl e) enough = e
+due_answer due answer (inr h) enough = absurd (enough h.0)
 
 pub due_history : (h k : History) (shape : Shape) (answer : Answer) → MayLackMemory (out_load h shape) answer → (answer ≡ OutOfMemory → ⊥) → k ≡ after_load h shape answer → k ≡ after_load h shape (out_load h shape)
-due_history h k shape answer may no is = is ∙ ap (λ (a : Answer). after_load h shape a) (due_answer (out_load h shape) answer may no)
+due_history h k shape answer may enough is = is ∙ ap (λ (a : Answer). after_load h shape a) (due_answer (out_load h shape) answer may enough)
 
 pub due_texts : (h : History) (shape : Shape) (answer : Answer) (unit before behind : UnitBodies) → MayLackMemory (out_load h shape) answer → (answer ≡ OutOfMemory → ⊥) → behind ≡ texts_after answer unit before → behind ≡ texts_after (out_load h shape) unit before
-due_texts h shape answer unit before behind may no is = is ∙ ap (λ (a : Answer). texts_after a unit before) (due_answer (out_load h shape) answer may no)
+due_texts h shape answer unit before behind may enough is = is ∙ ap (λ (a : Answer). texts_after a unit before) (due_answer (out_load h shape) answer may enough)
 
 pub due_listed : (h k : History) (list : List Words) (answer : Answer) → MayLackMemory (out_list h (Some list)) answer → (answer ≡ OutOfMemory → ⊥) → k ≡ after_list h (Some list) answer → k ≡ after_list h (Some list) (out_list h (Some list))
-due_listed h k list answer may no is = is ∙ ap (λ (a : Answer). after_list h (Some list) a) (due_answer (out_list h (Some list)) answer may no)
+due_listed h k list answer may enough is = is ∙ ap (λ (a : Answer). after_list h (Some list) a) (due_answer (out_list h (Some list)) answer may enough)

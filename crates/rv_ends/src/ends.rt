@@ -121,30 +121,18 @@ impl Ends {
         self.bodies.add(bodies)
     }
 
-    // Loads a unit, with its bodies, and gives the answer.
-    #[tactic(auto, using(crate::proofs::Whole::whole_by_load))]
-    fn load_answered(&mut self, shape: &UnitShape, bodies: UnitBodies) -> Result<Answer, AllocError>
-        ensures whole { IsWhole self.old → OnOk result (IsWhole self.new) }
-        ensures answer { IfOk result (λ answer. MayLackMemory (out_load (history_of self.old) shape.now) answer) }
-        ensures history { IfOk result (λ answer. history_of self.new ≡ after_load (history_of self.old) shape.now answer) }
-        ensures texts { IfOk result (λ answer. texts_of self.new ≡ texts_after answer (unit_view bodies) (texts_of self.old)) }
-    {
-        let answer = self.host.load(shape);
-        self.add_texts(bodies, &answer)?;
-        Ok(answer)
-    }
-
     /// Loads a unit, with its bodies. Err where memory was refused.
-    #[tactic(auto, using(crate::proofs::Whole::due_history, crate::proofs::Whole::due_texts))]
+    #[tactic(auto, using(crate::proofs::Whole::whole_by_load, crate::proofs::Whole::due_history, crate::proofs::Whole::due_texts))]
     pub fn load(&mut self, shape: &UnitShape, bodies: UnitBodies) -> Result<(), AllocError>
         ensures whole { IsWhole self.old → OnOk result (IsWhole self.new) }
         ensures history { OnOk result (history_of self.new ≡ after_load (history_of self.old) shape.now (out_load (history_of self.old) shape.now)) }
         ensures texts { OnOk result (texts_of self.new ≡ texts_after (out_load (history_of self.old) shape.now) (unit_view bodies) (texts_of self.old)) }
     {
-        match self.load_answered(shape, bodies)? {
-            Answer::OutOfMemory => Err(AllocError),
-            _ => Ok(()),
+        let answer = self.host.load(shape);
+        if let Answer::OutOfMemory = answer {
+            return Err(AllocError);
         }
+        self.add_texts(bodies, &answer)
     }
 
     // Sets a list, and gives the answer.
@@ -213,7 +201,7 @@ impl Ends {
     }
 
     /// Carries out a request. A recorded answer is taken into account, and given.
-    #[tactic(auto, using(crate::proofs::Whole::whole_asked, crate::proofs::Whole::whole_same))]
+    #[tactic(auto, using(crate::proofs::Whole::whole_recorded, crate::proofs::Whole::whole_unrecorded))]
     pub fn ask(&mut self, actor: usize, request: &Request) -> Result<Answer, AllocError>
         ensures answer { IfOk result (λ answer. answer ≡ out (history_of self.old) actor request.now) }
         ensures history { history_of self.new ≡ after (history_of self.old) actor request.now (out (history_of self.old) actor request.now) }
@@ -222,9 +210,10 @@ impl Ends {
     {
         let mut answer = Answer::Misuse;
         self.host.put_answer(actor, request, &mut answer);
-        if answer.recorded().is_some() {
-            self.note(actor, request, &answer)?;
+        if answer.recorded().is_none() {
+            return Ok(answer);
         }
+        self.note(actor, request, &answer)?;
         Ok(answer)
     }
 
@@ -236,7 +225,7 @@ impl Ends {
     }
 
     // Whether an ask stops its actor here. One that doesn't is carried out.
-    #[tactic(auto, using(crate::proofs::Whole::stopped_here, crate::proofs::Whole::whole_stopped))]
+    #[tactic(auto, using(crate::proofs::Whole::stopped_here, crate::proofs::Whole::stopped_now))]
     fn is_stopped(&mut self, actor: usize, ask: &Request) -> Result<bool, AllocError>
         ensures stopped { IsWhole self.old → IfOk result (λ is. is ≡ true → IsStopped (history_of self.old) actor ask.now) }
         ensures history { IfOk result (λ is. is ≡ true → history_of self.new ≡ history_of self.old) }
@@ -258,8 +247,18 @@ impl Ends {
         if !is_stop(&answer) {
             return Ok(false);
         }
-        self.stops.push(Stop { actor, ask: *ask })?;
+        self.keep_stop(actor, ask)?;
         Ok(true)
+    }
+
+    // Keeps an ask that stops its actor here.
+    #[tactic(auto, using(crate::proofs::Whole::whole_stopped))]
+    fn keep_stop(&mut self, actor: usize, ask: &Request) -> Result<(), AllocError>
+        ensures whole { IsWhole self.old → IsStopped (history_of self.old) actor ask.now → OnOk result (IsWhole self.new) }
+        ensures same { (self.new.host ≡ self.old.host) × (self.new.bodies ≡ self.old.bodies) }
+    {
+        self.stops.push(Stop { actor, ask: *ask })?;
+        Ok(())
     }
 
     /// What the text of an actor's innermost body means, where this end of it is to come. After any other answer than that it

@@ -95,7 +95,13 @@ fn is_call(other: &Request, object: usize, operation: usize, values: &Args) -> b
 fn is_same_exit(one: &Exit, other: &Exit) -> bool
     ensures { IsTrue result ↔ (one.now ≡ other.now) }
 {
-    *one == *other
+    match (one, other) {
+        (Exit::Return(a), Exit::Return(b)) => *a == *b,
+        (Exit::Raise(a), Exit::Raise(b)) => *a == *b,
+        (Exit::Overrun, Exit::Overrun) => true,
+        (Exit::Stopped, Exit::Stopped) => true,
+        _ => false,
+    }
 }
 
 // Whether a request is this end.

@@ -1,6 +1,6 @@
 //! What the text of a body means on what was recorded of it.
 
-ghost use Rattle.std.specs.Prelude.{◌≡◌, [], true, Some, option_map};
+ghost use Rattle.std.specs.Prelude.{◌≡◌, [], false, true, Some, option_map};
 ghost use Rattle.rv_exec.specs.Bodies.{bodies_view, operation_of};
 ghost use Rattle.rv_ends.specs.Afoot.{open_view};
 ghost use Rattle.rv_ends.specs.Courses.{IsCourse, IsWeighed, calls_without_text, is_without_text};
