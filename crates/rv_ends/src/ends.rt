@@ -257,6 +257,13 @@ impl Ends {
         ensures whole { IsWhole self.old → IsStopped (history_of self.old) actor ask.now → OnOk result (IsWhole self.new) }
         ensures same { (self.new.host ≡ self.old.host) × (self.new.bodies ≡ self.old.bodies) }
     {
+        // The check is told of these types only where they are named.
+        let _exit: Option<Exit> = None;
+        let _scalars: Option<Scalars> = None;
+        let _args: Option<Args> = None;
+        let _rule: Option<Rule> = None;
+        let _next: Option<Next> = None;
+        let _exception: Option<Exception> = None;
         self.stops.push(Stop { actor, ask: *ask })?;
         Ok(())
     }
