@@ -1,7 +1,7 @@
 use Rattle.std.proofs.Common.{◌∙◌}
 use Rattle.std.proofs.lemmas.Result.{err_from_is_err_and}
 use Rattle.rv_fault.specs.declared.failure.Failure.TheVariants.{Memory}
-use Rattle.rv_verdict.proofs.Explaining.{ends_broken, ends_fail, ends_said}
+use Rattle.rv_verdict.proofs.EndsSaid.{ends_broken, ends_fail, ends_said}
 use Rattle.rv_verdict.proofs.explaining.Explainer.say.Goals as goal
 
 pub returns-in_err-line : goal.returns-in_err-line
