@@ -1,6 +1,7 @@
 -- What a `go` asks, by what the actor's text asks next; and what its answer leaves behind.
 use Rattle.std.proofs.Common.{◌≡◌, ℕ, Bool, true, false, List, [], ◌∷◌, ◌++◌, Some, None, Option, Ok, Err, Result, refl, sym, ap, ◌∙◌, subst, arith}
 use Rattle.std.specs.Prelude.{nat_lt, ◌==◌, ◌&&◌, not, if◌then◌else◌}
+use Rattle.std.proofs.lemmas.Bool.Decides.{nat_tests}
 use Rattle.rv_shape.specs.Shape.{Shape}
 use Rattle.rv_shape.specs.Catalogue.{Who, Operator, Line, Task, Nobody, who, OperationNumber, handler}
 use Rattle.rv_event.specs.Past.{mode}
@@ -115,7 +116,7 @@ settling_more (x ∷ xs) answer e = other (stands x) where
   other false = ap (λ (z : List Answer). x ∷ z) (settling_more xs answer e)
 
 same_number : (n : ℕ) → (n == n) ≡ true
-same_number n = grind arith
+same_number n = grind (arith, nat_tests)
 
 with_own : (same starts : Bool) (answer : Answer) (before : List Answer) → same ≡ true → starts ≡ false → (if same then (if starts then answer ∷ [] else before ++ answer ∷ []) else before) ≡ before ++ answer ∷ []
 with_own true true answer before e f = absurd cc

@@ -135,7 +135,7 @@ live_one s t request answer e reaches = (t, live_step s.over s t (request, answe
 
 -- an answer was given again
 gives_again : (l m : Left) (q : Request) (r : Answer) → Plays l ((q, r) ∷ []) m → m.1 ≡ None → rest_of l.0 l.1 ≡ r ∷ rest_of m.0 m.1
-gives_again (as, Some first) m q r plays none = let e : Some first ≡ m.1 = ap (λ (x : Left). x.1) plays.1 in absurd (no_ask m.1 first e none)
+gives_again (rest, Some first) m q r plays none = let e : Some first ≡ m.1 = ap (λ (x : Left). x.1) plays.1 in absurd (no_ask m.1 first e none)
   where
     no_ask : (o : Option Request) (x : Request) → Some x ≡ o → o ≡ None → ⊥
     no_ask None x e n = cc
@@ -145,13 +145,13 @@ gives_again ([], None) m q r plays none = let e : Some q ≡ m.1 = ap (λ (x : L
     no_ask : (o : Option Request) (x : Request) → Some x ≡ o → o ≡ None → ⊥
     no_ask None x e n = cc
     no_ask (Some y) x e n = cc
-gives_again (a ∷ as, None) m q r plays none = ap (λ (z : Answer). z ∷ as) (sym plays.0) ∙ ap (λ (x : Left). r ∷ rest_of x.0 x.1) plays.1
+gives_again (a ∷ rest, None) m q r plays none = ap (λ (z : Answer). z ∷ rest) (sym plays.0) ∙ ap (λ (x : Left). r ∷ rest_of x.0 x.1) plays.1
 
 -- none was left to give again
 gives_none : (l m : Left) (q : Request) (r : Answer) → Plays l ((q, r) ∷ []) m → is_some m.1 ≡ true → (rest_of l.0 l.1 ≡ []) × (rest_of m.0 m.1 ≡ [])
-gives_none (as, Some first) m q r plays some = (refl, ap (λ (x : Left). rest_of x.0 x.1) (sym plays.1))
+gives_none (rest, Some first) m q r plays some = (refl, ap (λ (x : Left). rest_of x.0 x.1) (sym plays.1))
 gives_none ([], None) m q r plays some = (refl, ap (λ (x : Left). rest_of x.0 x.1) (sym plays.1))
-gives_none (a ∷ as, None) m q r plays some = absurd (no_some m.1 (ap (λ (x : Left). x.1) plays.1) some)
+gives_none (a ∷ rest, None) m q r plays some = absurd (no_some m.1 (ap (λ (x : Left). x.1) plays.1) some)
   where
     no_some : (o : Option Request) → None ≡ o → is_some o ≡ true → ⊥
     no_some None e s = cc

@@ -54,21 +54,28 @@ fn heard_by(is_heard: bool, answer: Answer) -> Option<Answer>
     if is_heard { Some(answer) } else { None }
 }
 
+// The request once more.
+fn copy_of(request: &Request) -> Request
+    ensures { result ≡ request.now }
+{
+    *request
+}
+
 // Carries out a `go` that asks this. Gives its answer, where the actor's text goes on by it.
 fn go_once<W: Write>(
     player: &mut Player,
     writer: &mut W,
     actor: usize,
-    request: Option<Request>,
+    request: &Option<Request>,
 ) -> Result<Option<Answer>, Failure>
     ensures does { Does (W.contents writer.old) (W.contents writer.new) (playing player.old) (playing player.new)
-        (go actor request) (ended result) }
+        (go actor request.now) (ended result) }
     ensures heard { IfOk result (λ heard. heard
-        ≡ heard_of request (due_answer (playing player.old).stage (asked_command actor request))) }
+        ≡ heard_of request.now (due_answer (playing player.old).stage (asked_command actor request.now))) }
 {
-    let deed = Deed::go(player.alloc, actor, request);
+    let deed = Deed::go(player.alloc, actor, *request);
     let answer = player.tell(writer, deed)?;
-    Ok(heard_of(&request, answer))
+    Ok(heard_of(request, answer))
 }
 
 // Carries out `go`s of an actor whose text asks this next, at most so many: up to the first whose answer the text goes
@@ -77,11 +84,11 @@ fn go_while<W: Write>(
     player: &mut Player,
     writer: &mut W,
     actor: usize,
-    next: Option<Request>,
+    next: &Option<Request>,
     count: usize,
 ) -> Result<Paused, Failure>
     ensures goes { (act : Act) → IsGo act (going actor (playing player.old).stage)
-        → next ≡ asked_behind (going actor (playing player.old).stage) (settled actor (playing player.old).stage)
+        → next.now ≡ asked_behind (going actor (playing player.old).stage) (settled actor (playing player.old).stage)
         → GoesWhile (W.contents writer.old) (W.contents writer.new) (playing player.old) (playing player.new) act actor count result }
     ensures settles { PausesSettled result }
 {
@@ -90,7 +97,7 @@ fn go_while<W: Write>(
         if asks_fire(&request) {
             return Ok(Paused { done, answer: None });
         }
-        if let Some(answer) = go_once(player, writer, actor, request)? {
+        if let Some(answer) = go_once(player, writer, actor, &request)? {
             return Ok(Paused {
                 done: done + 1,
                 answer: Some(answer),
@@ -116,10 +123,10 @@ struct Live<'a, W> {
 
 impl<'a, W: Write> Live<'a, W> {
     // Carries out `go`s behind the answers that were given again.
-    fn go_on(&mut self, request: Request) -> Answer
+    fn go_on(&mut self, request: &Request) -> Answer
         ensures reached { let old = live (W.contents self.old.writer.now) (playing self.old.player.now) self.old.actor self.old.replay self.old.left self.old.over in
             old.rest ≡ [] → old.over ≡ None
-            → Reaches old request result (live (W.contents self.new.writer.now) (playing self.new.player.now) self.new.actor self.new.replay self.new.left self.new.over) }
+            → Reaches old request.now result (live (W.contents self.new.writer.now) (playing self.new.player.now) self.new.actor self.new.replay self.new.left self.new.over) }
         ensures settled { stands result ≡ false }
         ensures player { self.new.player.ghost_name ≡ self.old.player.ghost_name }
         ensures writer { self.new.writer.ghost_name ≡ self.old.writer.ghost_name }
@@ -168,11 +175,11 @@ impl<'a, W: Write> Outward<()> for Live<'a, W> {
         if self.over.is_some() {
             return Answer::Halted;
         }
-        let answer = self.replay.ask(&(), request);
+        let answer = self.replay.ask(&(), copy_of(&request));
         if self.replay.asked.is_none() {
             return answer;
         }
-        self.go_on(request)
+        self.go_on(&request)
     }
 
     ghost none = { λ s. (refl, refl, refl) };
@@ -197,7 +204,7 @@ fn go_ended<W: Write>(
         → asked_behind (going actor (playing player.old).stage) (settled actor (playing player.old).stage) ≡ None
         → Leaves (W.contents writer.old) (W.contents writer.new) (playing player.old) (playing player.new) act count result }
 {
-    let paused = go_while(player, writer, actor, None, count)?;
+    let paused = go_while(player, writer, actor, &None, count)?;
     Ok(count.saturating_sub(paused.done))
 }
 
