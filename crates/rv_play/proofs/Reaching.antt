@@ -247,8 +247,8 @@ pub go_still : (act : Act) (s t : Live) (given : List Answer) → Reached act s 
 go_still act s t given reached none is = subst (IsGo act) (sym (reached.at none).0) is
 
 -- none was left, or one of them wasn't the text's
-pub along_some : (act : Act) (s t : Live) (given : List Answer) (end : Ended) → Reached act s given t → end_in t.over ≡ Ok tt → LeavesSome s.known t.known s.playing t.playing act s.left t.left
-along_some act s t given end reached e =
+pub along_some : (act : Act) (s t : Live) (given : List Answer) → Reached act s given t → end_in t.over ≡ Ok tt → LeavesSome s.known t.known s.playing t.playing act s.left t.left
+along_some act s t given reached e =
     record { done = reached.done; all = reached.all; carried = subst (λ (z : Ended). Carries s.known t.known s.playing t.playing (replicate reached.done act) z) e reached.carried }
 
 -- one of them failed

@@ -131,13 +131,8 @@ impl<'a, W: Write> Live<'a, W> {
         ensures player { self.new.player.ghost_name ≡ self.old.player.ghost_name }
         ensures writer { self.new.writer.ghost_name ≡ self.old.writer.ghost_name }
     {
-        match go_while(
-            self.player,
-            self.writer,
-            self.actor,
-            Some(request),
-            self.left,
-        ) {
+        let next = Some(*request);
+        match go_while(self.player, self.writer, self.actor, &next, self.left) {
             Ok(
                 Paused {
                     done,
