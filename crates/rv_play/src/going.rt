@@ -1,6 +1,6 @@
 //! Carries out `go`s of one actor, as many as there are along one run of its text.
 
-ghost use Rattle.std.specs.Prelude.{◌≡◌, [], false, IfOk};
+ghost use Rattle.std.specs.Prelude.{◌≡◌, [], Some, None, false, if◌then◌else◌, IfOk};
 ghost use Rattle.rv_exec.specs.Asking.{stands};
 ghost use Rattle.rv_play.specs.Acts.{Act};
 ghost use Rattle.rv_play.specs.Stages.{due_answer};
