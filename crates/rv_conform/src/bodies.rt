@@ -7,7 +7,7 @@ ghost use Rattle.rv_tree.specs.BodyView.{operation_body_view};
 ghost use Rattle.rv_tree.specs.DeclarationView.{protected_unit_view};
 ghost use Rattle.rv_tree.specs.UnitView.{body_item_view, unit_view};
 ghost use Rattle.rv_scope.specs.Scope.{within_unit};
-ghost use Rattle.rv_scope.specs.UnitUses.{unit_number as unit_number_of, in_protected_unit};
+ghost use Rattle.rv_scope.specs.UnitUses.{in_protected_unit};
 ghost use Rattle.rv_conform.specs.Profiles.{body_operation as operation_of_body};
 ghost use Rattle.rv_conform.specs.Conforms.{completes_one, complete_in, complete, number_of, item_conforms, behind_item, items_conform, bodies_conform};
 
@@ -15,10 +15,10 @@ use crate::conforms::is_declared;
 use crate::operation::{Operation, body_head, profiled};
 use crate::package::{Package, UnitOperations, declaration, declarations};
 use crate::statics::Statics;
-use rv_scope::declared::Declared;
 use rv_scope::members::enter_members;
 use rv_scope::named::protected_units;
 use rv_scope::scope::Scope;
+use rv_scope::units::unit_number;
 use rv_scope::wanted::Wanted;
 use rv_shape::catalogue::Catalogue;
 use rv_tree::body::{OperationBody, ProtectedBody};
@@ -116,17 +116,6 @@ fn in_unit(
     let found = in_current(list, unit, operations, scope, statics)?;
     scope.leave();
     Ok(found)
-}
-
-// The number of the protected unit that is declared, if it is one.
-fn unit_number(found: Option<Declared>) -> Option<usize>
-    ensures { result ≡ unit_number_of found }
-{
-    match found {
-        Some(Declared::ProtectedType(_, number)) => Some(number),
-        Some(Declared::SingleProtected(_, number)) => Some(number),
-        _ => None,
-    }
 }
 
 // The same of the protected unit of a number; the place of the protected body's name where there is none.

@@ -20,6 +20,7 @@ use rv_scope::declare::{Form, declare_all};
 use rv_scope::declared::Declared;
 use rv_scope::members::{hide, hide_all};
 use rv_scope::scope::Scope;
+use rv_scope::units::object_form;
 use rv_shape::catalogue::Catalogue;
 use rv_tree::declaration::{Declaration, ProtectedUnit, TaskUnit};
 use rv_tree::expression::{Expression, RangeConstraint};
@@ -130,16 +131,6 @@ fn constants(
     hide_all(names, scope)?;
     statics.note_constants(names, mark, initial, scope)?;
     declare_all(names, Form::Constant, scope)
-}
-
-// What the variables of a package denote, by their mark.
-fn object_form(mark: Option<Declared>) -> Form
-    ensures { result ≡ form_of_objects mark }
-{
-    match mark {
-        Some(Declared::ProtectedType(_, number)) => Form::ProtectedObject(number),
-        _ => Form::Suspension,
-    }
 }
 
 fn variables(names: &Vec<Identifier>, mark: &Name, scope: &mut Scope) -> Result<(), AllocError>

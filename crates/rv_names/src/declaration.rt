@@ -18,6 +18,7 @@ use rv_scope::declare::{Form, declare_all};
 use rv_scope::declared::Declared;
 use rv_scope::members::{hide, hide_all};
 use rv_scope::scope::Scope;
+use rv_scope::units::object_form;
 use rv_scope::wanted::Wanted;
 use rv_tree::declaration::{Declaration, TaskDefinition, TaskItem, TaskUnit};
 use rv_tree::expression::{Expression, RangeConstraint};
@@ -78,16 +79,6 @@ fn subtype(
     name(mark, Wanted::Subtype, scope, faults);
     maybe_range(part, scope, faults);
     scope.declare(declared, Some(Declared::Subtype(declared.at)))
-}
-
-// What the variables of a package denote, by their mark.
-fn object_form(mark: Option<Declared>) -> Form
-    ensures { result ≡ form_of_objects mark }
-{
-    match mark {
-        Some(Declared::ProtectedType(_, number)) => Form::ProtectedObject(number),
-        _ => Form::Suspension,
-    }
 }
 
 fn variables(

@@ -9,31 +9,20 @@ ghost use Rattle.rv_tree.specs.UnitView.{body_item_view, unit_view};
 ghost use Rattle.rv_scope.specs.Bound.{judged};
 ghost use Rattle.rv_scope.specs.Scope.{within_unit};
 ghost use Rattle.rv_scope.specs.ExpressionUses.{◌▷◌, simple as simple_name};
-ghost use Rattle.rv_scope.specs.UnitUses.{operation_bodies_uses, in_protected_unit, unit_number as unit_number_of, protected_unit_of, bodies_of_unit, protected_body_uses, task_body_uses, body_item_uses, with_body_item, body_items_uses};
+ghost use Rattle.rv_scope.specs.UnitUses.{operation_bodies_uses, in_protected_unit, protected_unit_of, bodies_of_unit, protected_body_uses, task_body_uses, body_item_uses, with_body_item, body_items_uses};
 
 use crate::body::block;
 use crate::declaration::declaration;
 use crate::fault::Faults;
 use crate::operation_body::{body_name, operation_bodies};
-use rv_scope::declared::Declared;
 use rv_scope::members::enter_members;
 use rv_scope::scope::Scope;
+use rv_scope::units::unit_number;
 use rv_scope::wanted::Wanted;
 use rv_tree::body::{OperationBody, ProtectedBody, TaskBody};
 use rv_tree::declaration::ProtectedUnit;
 use rv_tree::unit::BodyItem;
 use std::alloc::AllocError;
-
-// The number of the protected unit that is declared, if it is one.
-fn unit_number(found: Option<Declared>) -> Option<usize>
-    ensures { result ≡ unit_number_of found }
-{
-    match found {
-        Some(Declared::ProtectedType(_, number)) => Some(number),
-        Some(Declared::SingleProtected(_, number)) => Some(number),
-        _ => None,
-    }
-}
 
 // The bodies of the operations of the protected unit around the point.
 fn current_bodies<'a>(

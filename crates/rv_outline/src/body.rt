@@ -20,6 +20,7 @@ use crate::declaration::declaration;
 use crate::draft::Draft;
 use crate::known::Table;
 use rv_scope::members::{declare_parameters, enter_members};
+use rv_scope::units::unit_number;
 use rv_scope::{Declared, OperationKind, Scope, Wanted};
 use rv_shape::kind::{Barrier, Kind};
 use rv_static::Faults;
@@ -164,17 +165,6 @@ fn in_unit(
     current_bodies(unit, body, scope, draft)?;
     scope.leave();
     Ok(())
-}
-
-// The number of the protected unit that is declared, if it is one.
-fn unit_number(found: Option<Declared>) -> Option<usize>
-    ensures { result ≡ unit_number_of found }
-{
-    match found {
-        Some(Declared::ProtectedType(_, number)) => Some(number),
-        Some(Declared::SingleProtected(_, number)) => Some(number),
-        _ => None,
-    }
 }
 
 fn protected_body(

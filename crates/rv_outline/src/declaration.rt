@@ -20,6 +20,7 @@ use crate::subtype::{known_constant, known_subtype};
 use crate::task::task_unit;
 use rv_scope::declare::{Form, declare_all};
 use rv_scope::members::{hide, hide_all};
+use rv_scope::units::object_form;
 use rv_scope::{Declared, Scope};
 use rv_tree::{Declaration, Expression, Identifier, Name, RangeConstraint};
 use std::alloc::AllocError;
@@ -81,16 +82,6 @@ fn object_type(mark: Option<Declared>) -> ObjectType
     match mark {
         Some(Declared::ProtectedType(_, number)) => ObjectType::Protected(number),
         _ => ObjectType::Suspension,
-    }
-}
-
-/// What the identifiers of these objects denote, by their mark.
-pub(crate) fn object_form(mark: Option<Declared>) -> Form
-    ensures { result ≡ form_of_objects mark }
-{
-    match mark {
-        Some(Declared::ProtectedType(_, number)) => Form::ProtectedObject(number),
-        _ => Form::Suspension,
     }
 }
 

@@ -21,6 +21,7 @@ pub mod predefined;
 pub mod protected;
 pub mod region;
 pub mod scope;
+pub mod units;
 pub mod visible;
 pub mod wanted;
 

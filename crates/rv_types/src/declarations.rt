@@ -5,32 +5,23 @@ ghost use Rattle.rv_tree.specs.NameView.{identifier_view, identifiers_view, name
 ghost use Rattle.rv_tree.specs.DeclarationView.{declaration_view, protected_unit_view};
 ghost use Rattle.rv_scope.specs.Scope.{declaring_all, hiding, hiding_all, with_meaning};
 ghost use Rattle.rv_scope.specs.Visible.{visible};
-ghost use Rattle.rv_scope.specs.DeclarationUses.{declaring_protected_unit, object_form, with_declaration, with_declarations};
+ghost use Rattle.rv_scope.specs.DeclarationUses.{declaring_protected_unit, object_form as form_of_objects, with_declaration, with_declarations};
 
 use rv_scope::declare::{Form, declare_all};
 use rv_scope::members::{hide, hide_all};
+use rv_scope::units::object_form;
 use rv_scope::{Declared, Scope};
 use rv_tree::declaration::{Declaration, ProtectedUnit};
 use rv_tree::name::{Identifier, Name};
 use std::alloc::AllocError;
 
-// What the objects of a mark denote: objects of a protected type, else suspension objects.
-fn form_of(found: Option<Declared>) -> Form
-    ensures { result ≡ object_form found }
-{
-    match found {
-        Some(Declared::ProtectedType(_, number)) => Form::ProtectedObject(number),
-        _ => Form::Suspension,
-    }
-}
-
 // The objects of the package that a variable declares (3.3.1).
 fn variable(names: &Vec<Identifier>, mark: &Name, scope: &mut Scope) -> Result<(), AllocError>
-    ensures { OnOk result (scope.new ≡ declaring_all (object_form (visible (hiding_all (identifiers_view names.now.items) scope.old) (name_view mark.now)))
+    ensures { OnOk result (scope.new ≡ declaring_all (form_of_objects (visible (hiding_all (identifiers_view names.now.items) scope.old) (name_view mark.now)))
         (identifiers_view names.now.items) (hiding_all (identifiers_view names.now.items) scope.old)) }
 {
     hide_all(names, scope)?;
-    let form = form_of(scope.visible(mark));
+    let form = object_form(scope.visible(mark));
     declare_all(names, form, scope)?;
     Ok(())
 }

@@ -3,7 +3,7 @@
 ghost use Rattle.std.specs.Prelude.{◌≡◌, ◌<◌, IfOk, OnOk, Some, map};
 ghost use Rattle.rv_tree.specs.DeclarationView.{protected_unit_view};
 ghost use Rattle.rv_tree.specs.BodyView.{operation_body_view, protected_body_view};
-ghost use Rattle.rv_scope.specs.UnitUses.{in_protected_unit, unit_number as unit_number_of};
+ghost use Rattle.rv_scope.specs.UnitUses.{in_protected_unit};
 ghost use Rattle.rv_code.specs.Bodies.{UnitBodies as UnitBodiesView};
 ghost use Rattle.rv_code.specs.BodyView.{body_view, unit_view};
 ghost use Rattle.rv_types.specs.BodiesOf.{with_object_bodies, object_compiled, perhaps_compiled, objects_compiled, is_object_of as is_of_unit, has_object as unit_has_object, without_object as compiled_without_object, unit_bodies as unit_bodies_compiled, protected_body_compiled};
@@ -14,21 +14,11 @@ use crate::setting::Setting;
 use rv_code::{Body, ObjectBodies, UnitBodies};
 use rv_outline::outline::ObjectType;
 use rv_scope::members::enter_members;
-use rv_scope::{Declared, Scope, Wanted};
+use rv_scope::units::unit_number;
+use rv_scope::{Scope, Wanted};
 use rv_tree::body::ProtectedBody;
 use rv_tree::declaration::ProtectedUnit;
 use std::alloc::Global;
-
-/// The number of the protected unit that is declared, if it is one.
-pub(crate) fn unit_number(found: Option<Declared>) -> Option<usize>
-    ensures { result ≡ unit_number_of found }
-{
-    match found {
-        Some(Declared::ProtectedType(_, number)) => Some(number),
-        Some(Declared::SingleProtected(_, number)) => Some(number),
-        _ => None,
-    }
-}
 
 // Puts the bodies of an object in their place.
 fn put_object(

@@ -4,7 +4,6 @@
 
 use crate::body::{name_of, operation_body, task_body};
 use crate::declarations::declare;
-use crate::protected::unit_number;
 use crate::refused::{Refused, mismatch};
 use crate::setting::Setting;
 use rv_scope::members::enter_members;
