@@ -2,7 +2,7 @@
 
 use rv_event::entry::{Answer, Entry, Exit, Request};
 use rv_exec::bodies::Bodies;
-use rv_exec::machine::{Ended, run_body};
+use rv_exec::machine::{Ended, run_body_at};
 use rv_exec::replay::Replay;
 use rv_host::host::Host;
 use rv_shape::actor::Callee;
@@ -81,6 +81,17 @@ fn last_of(open: &[Open], actor: usize) -> usize {
     found
 }
 
+// How many bodies of an actor are open.
+fn held_by(open: &[Open], actor: usize) -> usize {
+    let mut held = 0usize;
+    for one in open {
+        if one.actor == actor && one.scalars.is_some() {
+            held = held.saturating_add(1);
+        }
+    }
+    held
+}
+
 // The answers to an actor behind the first of all answers.
 fn answers_of(
     alloc: Global,
@@ -107,17 +118,19 @@ impl Again<'_> {
         None
     }
 
-    // What an open body gives on the answers since its start.
+    // What a body that was open gives on the answers since its start.
     fn run(&self, open: Open, scalars: Scalars) -> Option<Ended> {
+        let others = held_by(self.open.as_slice(), open.actor);
         let told = self.told.as_slice();
         let answers = answers_of(self.alloc, told, open.actor, open.before)?;
         let mut replay = Replay {
             answers: answers.as_slice(),
             asked: None,
         };
-        Some(run_body(
+        Some(run_body_at(
             &(),
             self.bodies,
+            others.saturating_add(1),
             open.object,
             open.operation,
             scalars,
