@@ -6,3 +6,4 @@ pub mod Longest
 pub mod Saying
 pub mod Telling
 pub mod Wholly
+pub mod EndsSaid

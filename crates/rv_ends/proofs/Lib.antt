@@ -1,0 +1,6 @@
+mod Sound
+mod Heard
+mod Whole
+mod Courses
+mod Meanings
+mod Steps

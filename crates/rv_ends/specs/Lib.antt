@@ -1,0 +1,5 @@
+pub mod Afoot
+pub mod Courses
+pub mod Ends
+pub mod Explained
+pub mod Following
