@@ -1,6 +1,6 @@
 mod Sound
 mod Heard
-mod Whole
+pub mod Whole
 mod Courses
 mod Meanings
 mod Steps

@@ -25,7 +25,7 @@ use Rattle.rv_ends.specs.declared.ends.Stop.{Stop}
 
 -- One more entry
 
-front_on : (f h : History) (later : List Entry) (e : Entry) → IsFront f h later → IsFront f (record h { past = e ∷ h.past }) (e ∷ later)
+pub front_on : (f h : History) (later : List Entry) (e : Entry) → IsFront f h later → IsFront f (record h { past = e ∷ h.past }) (e ∷ later)
 front_on f h later e is = record {
   limits = is.limits;
   past = ap (λ (l : List Entry). e ∷ l) is.past;
@@ -116,9 +116,17 @@ whole_unrecorded e n actor request answer w none host_is afoot_is stops_is = by_
     by_word None is b = whole_same e n w (host_is ∙ ap (entered e.host actor request) is) afoot_is stops_is
     by_word (Some word) is b = absurd cc
 
+-- a request leaves what was loaded
+shapes_kept : (h : History) (actor : ℕ) (request : Request) (o : Option Recorded) → (entered h actor request o).shapes ≡ h.shapes
+shapes_kept h actor request None = refl
+shapes_kept h actor request (Some word) = refl
+
+pub shapes_asked : (h k : History) (actor : ℕ) (request : Request) (answer : Answer) → k ≡ after h actor request answer → k.shapes ≡ h.shapes
+shapes_asked h k actor request answer is = ap (λ (x : History). x.shapes) is ∙ shapes_kept h actor request (recorded answer)
+
 -- Loads and lists
 
-load_on : (f h : History) (shape : Shape) (later : List Entry) → IsFront f h later → IsFront f (record h { past = Load ∷ h.past; shapes = h.shapes ++ shape ∷ [] }) (Load ∷ later)
+pub load_on : (f h : History) (shape : Shape) (later : List Entry) → IsFront f h later → IsFront f (record h { past = Load ∷ h.past; shapes = h.shapes ++ shape ∷ [] }) (Load ∷ later)
 load_on f h shape later is = record {
   limits = is.limits;
   past = ap (λ (l : List Entry). Load ∷ l) is.past;
@@ -127,7 +135,7 @@ load_on f h shape later is = record {
   legal = is.legal;
 }
 
-list_on : (f h : History) (list : List Words) (later : List Entry) → IsFront f h later → IsFront f (record h { past = ListChange ∷ h.past; lists = h.lists ++ list ∷ [] }) (ListChange ∷ later)
+pub list_on : (f h : History) (list : List Words) (later : List Entry) → IsFront f h later → IsFront f (record h { past = ListChange ∷ h.past; lists = h.lists ++ list ∷ [] }) (ListChange ∷ later)
 list_on f h list later is = record {
   limits = is.limits;
   past = ap (λ (l : List Entry). ListChange ∷ l) is.past;

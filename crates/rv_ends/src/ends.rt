@@ -1,12 +1,13 @@
 //! The ends of bodies, entry by entry of a journal.
 
-ghost use Rattle.std.specs.Prelude.{◌≡◌, true, Some, IfOk, OnOk};
+ghost use Rattle.std.specs.Prelude.{◌≡◌, ◌≤◌, ◌^◌, true, Some, IfOk, OnOk};
 ghost use Rattle.rv_code.specs.BodyView.{unit_view};
 ghost use Rattle.rv_exec.specs.Bodies.{no_bodies};
 ghost use Rattle.rv_history.specs.Due.{out};
-ghost use Rattle.rv_history.specs.Legal.{after, after_list, after_load, empty, out_list, out_load};
+ghost use Rattle.rv_history.specs.Legal.{Legal, after, after_list, after_load, empty, out_list, out_load};
 ghost use Rattle.rv_history.specs.Limits.{limits_of};
 ghost use Rattle.rv_ends.specs.Afoot.{answered};
+ghost use Rattle.rv_history.specs.Owed.{IsSolvent};
 ghost use Rattle.rv_history.specs.Steps.{MayLackMemory};
 ghost use Rattle.rv_history.specs.History.{History};
 ghost use Rattle.rv_ends.specs.Ends.{AllStopped, IsFoundStop, IsMeaning, IsWhole, afoot_of, history_of, is_settled, left_stops, of_others, texts_after, texts_of};
@@ -108,6 +109,15 @@ impl Ends {
         ensures { result.now ≡ (history_of self.now).shapes }
     {
         self.host.catalogue()
+    }
+
+    /// Does nothing. Its clauses say what every host keeps: the entries so far are those of a legal history, within its capacity.
+    pub fn replays(&self)
+        ensures legal { Legal (history_of self.now) }
+        ensures most { (history_of self.now).limits.capacity ≤ 2 ^ 20 }
+        ensures solvent { IsSolvent (history_of self.now) }
+    {
+        self.host.replays();
     }
 
     // Puts the bodies of a unit behind the others, where its load was answered so that it is recorded.
@@ -225,12 +235,13 @@ impl Ends {
     }
 
     // Whether an ask stops its actor here. One that doesn't is carried out.
-    #[tactic(auto, using(crate::proofs::Whole::stopped_here, crate::proofs::Whole::stopped_now))]
+    #[tactic(auto, using(crate::proofs::Whole::stopped_here, crate::proofs::Whole::stopped_now, crate::proofs::Whole::shapes_asked))]
     fn is_stopped(&mut self, actor: usize, ask: &Request) -> Result<bool, AllocError>
         ensures stopped { IsWhole self.old → IfOk result (λ is. is ≡ true → IsStopped (history_of self.old) actor ask.now) }
         ensures history { IfOk result (λ is. is ≡ true → history_of self.new ≡ history_of self.old) }
         ensures whole { IsWhole self.old → OnOk result (IsWhole self.new) }
         ensures texts { texts_of self.new ≡ texts_of self.old }
+        ensures shapes { (history_of self.new).shapes ≡ (history_of self.old).shapes }
     {
         // The check is told of these types only where they are named.
         let _exit: Option<Exit> = None;
@@ -276,6 +287,7 @@ impl Ends {
         ensures history { IfOk result (λ m. is_settled m ≡ true → history_of self.new ≡ history_of self.old) }
         ensures whole { IsWhole self.old → OnOk result (IsWhole self.new) }
         ensures texts { texts_of self.new ≡ texts_of self.old }
+        ensures shapes { (history_of self.new).shapes ≡ (history_of self.old).shapes }
     {
         let Some(body) = innermost(self.under_way.as_slice(), actor) else {
             return Ok(Meaning::WithoutText);
@@ -295,6 +307,7 @@ impl Ends {
         ensures history { IfOk result (λ m. is_settled m ≡ true → history_of self.new ≡ history_of self.old) }
         ensures whole { IsWhole self.old → OnOk result (IsWhole self.new) }
         ensures texts { texts_of self.new ≡ texts_of self.old }
+        ensures shapes { (history_of self.new).shapes ≡ (history_of self.old).shapes }
     {
         if self.is_stopped(actor, ask)? {
             Ok(Meaning::Explained)
