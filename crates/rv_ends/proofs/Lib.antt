@@ -4,3 +4,4 @@ pub mod Whole
 mod Courses
 mod Meanings
 mod Steps
+pub mod Counting

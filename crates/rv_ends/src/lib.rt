@@ -7,3 +7,4 @@ mod answered;
 pub mod ends;
 mod following;
 pub mod meaning;
+pub mod tally;

@@ -1,19 +1,18 @@
 -- What is said of the ends of bodies in a journal (own).
-use Rattle.std.specs.Prelude.{◌≡◌, ◌⊎◌, ◌+◌, ◌-◌, ◌^◌, min, ℕ, Bool, true, false, List, [], ◌∷◌, ◌++◌, codes, nat_lt, if◌then◌else◌, is_none, Option, Some, None, Result, Ok, Err}
+use Rattle.std.specs.Prelude.{◌≡◌, ◌+◌, ◌-◌, ◌^◌, min, ℕ, Bool, true, false, List, [], ◌∷◌, ◌++◌, codes, nat_lt, if◌then◌else◌, is_none, Option, Some, None, Result, Ok, Err}
 use Rattle.std.specs.Fmt.{decimal}
 use Rattle.std.specs.Io.KnownBytes.{Appends}
 use Rattle.rv_shape.specs.Shape.{Shape}
 use Rattle.rv_event.specs.Text.{request_text}
 use Rattle.rv_event.specs.declared.entry.Request.{Request}
-use Rattle.rv_ends.specs.Afoot.{is_end}
-use Rattle.rv_ends.specs.Ends.{IsMeaning, afoot_of, history_of, texts_of}
-use Rattle.rv_ends.specs.declared.ends.Ends.{Ends}
+use Rattle.rv_history.specs.History.{History}
 use Rattle.rv_ends.specs.declared.meaning.Meaning.{Meaning}
 use Rattle.rv_ends.specs.declared.meaning.Meaning.TheVariants as meaning
 use Rattle.rv_script.specs.Prefixes.{WritesPrefix}
 use Rattle.rv_fault.specs.Written.{Known}
 use Rattle.rv_fault.specs.declared.failure.Failure.{Failure}
 use Rattle.rv_fault.specs.declared.failure.Failure.TheVariants.{Refused, Memory, Io}
+use Rattle.rv_verdict.specs.Counts.{IsFoundOf}
 use Rattle.rv_verdict.specs.declared.explaining.Found.{Found}
 
 -- one more, where a number can count it; no journal has as many entries
@@ -29,12 +28,6 @@ noted found number meaning.Explained = record found { explained = one_more found
 noted found number meaning.WithoutText = record found { without_text = one_more found.without_text }
 noted found number (meaning.Gives request) = record found { other = Some (number, meaning.Gives request) }
 noted found number (meaning.Asks request) = record found { other = Some (number, meaning.Asks request) }
-
--- an end that is asked for is noted by what the text of its body means; another request changes nothing that is found
-abbrev pub IsTaken : Ends → Found → Found → ℕ → ℕ → Request → Type 0
-IsTaken ends old new number actor request =
-    ((is_end request ≡ false) × (new ≡ old))
-    ⊎ ((is_end request ≡ true) × (meaning : Meaning) × IsMeaning (texts_of ends) (history_of ends) (afoot_of ends) actor request meaning × (new ≡ noted old number meaning))
 
 -- Lines
 
@@ -63,19 +56,19 @@ line_by shapes found (Some (number, meaning.Asks request)) = asks_line shapes nu
 abbrev pub ends_line : List Shape → Found → List ℕ
 ends_line shapes found = line_by shapes found found.other
 
--- the line of something found is written, and whether no end has a text that means another is told; where memory or a write
--- failed, a prefix of it
-abbrev pub SaysEnds : Known → Known → Result Bool Failure → Type 0
-SaysEnds old new (Ok is_explained) =
-    (shapes : List Shape) × (found : Found) × Appends old new (ends_line shapes found) × (is_explained ≡ is_none found.other)
-SaysEnds old new (Err (Refused told)) = ⊥
-SaysEnds old new (Err Memory) = (shapes : List Shape) × (found : Found) × WritesPrefix old new (ends_line shapes found)
-SaysEnds old new (Err (Io error)) = (shapes : List Shape) × (found : Found) × WritesPrefix old new (ends_line shapes found)
+-- the line of what is found of the ends of a history is written, and whether no end has a text that means another is told; where
+-- memory or a write failed, a prefix of such a line
+abbrev pub SaysEnds : History → Known → Known → Result Bool Failure → Type 0
+SaysEnds h old new (Ok is_explained) =
+    (shapes : List Shape) × (found : Found) × IsFoundOf h shapes found × Appends old new (ends_line shapes found) × (is_explained ≡ is_none found.other)
+SaysEnds h old new (Err (Refused told)) = ⊥
+SaysEnds h old new (Err Memory) = (shapes : List Shape) × (found : Found) × WritesPrefix old new (ends_line shapes found)
+SaysEnds h old new (Err (Io error)) = (shapes : List Shape) × (found : Found) × WritesPrefix old new (ends_line shapes found)
 
 -- Behind a verdict
 
--- of a journal that isn't legal nothing more is said
-abbrev pub SaysBehind : Known → Known → Bool → Result Bool Failure → Type 0
-SaysBehind old new true result = SaysEnds old new result
-SaysBehind old new false (Ok is_explained) = Appends old new [] × (is_explained ≡ false)
-SaysBehind old new false (Err failure) = ⊥
+-- so it is of a journal that is legal, of whose history this holds; of another nothing more is said
+abbrev pub SaysBehind : (History → Type 0) → Known → Known → Bool → Result Bool Failure → Type 0
+SaysBehind Of old new true result = (h : History) × Of h × SaysEnds h old new result
+SaysBehind Of old new false (Ok is_explained) = Appends old new [] × (is_explained ≡ false)
+SaysBehind Of old new false (Err failure) = ⊥

@@ -1,8 +1,10 @@
 pub mod Audits
 pub mod Brought
+pub mod Counts
 pub mod Cutting
 pub mod Ends
 pub mod Explained
+pub mod Explaining
 pub mod Given
 pub mod Judging
 pub mod Said

@@ -1,9 +1,18 @@
 //! What is found of the ends of bodies in a journal.
 
-ghost use Rattle.std.specs.Prelude.{◌≡◌, IfErr, IfOk, OnOk, true, string_bytes};
+ghost use Rattle.std.specs.Prelude.{◌≡◌, ℕ, IfErr, IfOk, OnOk, string_bytes};
+ghost use Rattle.rv_event.specs.declared.entry.Recorded.{Recorded};
+ghost use Rattle.rv_history.specs.History.{History};
+ghost use Rattle.rv_history.specs.Legal.{empty};
+ghost use Rattle.rv_history.specs.Limits.{limits_of};
+ghost use Rattle.rv_reading.specs.Reads.{told};
+ghost use Rattle.rv_reading.specs.Told.{Asks, Lists, Loads};
+ghost use Rattle.rv_shape.specs.Shape.{Shape};
+ghost use Rattle.rv_audit.specs.Units.{first_unit};
 ghost use Rattle.rv_ends.specs.Afoot.{is_end};
 ghost use Rattle.rv_ends.specs.Ends.{IsWhole};
-ghost use Rattle.rv_verdict.specs.Ends.{IsTaken, SaysEnds, asks_line, counted_line, ends_line, gives_line, nothing_found, noted, one_more};
+ghost use Rattle.rv_verdict.specs.Ends.{SaysEnds, asks_line, counted_line, ends_line, gives_line, nothing_found, noted, one_more};
+ghost use Rattle.rv_verdict.specs.Explaining.{Follows, IsCarriedOut, IsNoted, TakesLine, TakesTold};
 ghost use Rattle.rv_verdict.specs.Judging.{IsOfCall};
 
 use crate::texts::{UnitText, bodies_of};
@@ -155,9 +164,9 @@ fn line_of(alloc: Global, catalogue: &Catalogue, found: &Found) -> Result<String
 
 impl Explainer {
     /// Before the first line of a journal over a capacity. Err where memory was refused.
+    #[tactic(auto, using(crate::proofs::Counting::at_first))]
     pub fn new(alloc: Global, capacity: usize) -> Result<Explainer, Failure>
-        ensures whole { IfOk result (λ explainer. IsWhole explainer.ends) }
-        ensures found { IfOk result (λ explainer. explainer.found ≡ nothing_found) }
+        ensures follows { IfOk result (λ explainer. Follows explainer (empty (limits_of capacity))) }
         ensures err { IfErr result IsOfCall }
     {
         let Ok(ends) = Ends::new(alloc, capacity) else {
@@ -175,10 +184,9 @@ impl Explainer {
         })
     }
 
-    // Takes a request that ends no body.
+    // Takes a request that ends no body, or whose end is noted.
     fn carry_out(&mut self, actor: usize, request: &Request) -> Result<(), Failure>
-        ensures whole { IsWhole self.old.ends → OnOk result (IsWhole self.new.ends) }
-        ensures found { self.new.found ≡ self.old.found }
+        ensures carried { OnOk result (IsCarriedOut self.old self.new actor request.now) }
         ensures err { IfErr result IsOfCall }
     {
         let _answer = self.ends.ask(actor, request)?;
@@ -187,8 +195,7 @@ impl Explainer {
 
     // Notes what the text of an end means.
     fn note(&mut self, number: usize, actor: usize, end: &Request) -> Result<(), Failure>
-        ensures whole { IsWhole self.old.ends → OnOk result (IsWhole self.new.ends) }
-        ensures found { IsWhole self.old.ends → is_end end.now ≡ true → OnOk result (IsTaken self.old.ends self.old.found self.new.found number actor end.now) }
+        ensures noted { IsWhole self.old.ends → OnOk result (IsNoted self.old self.new number actor end.now) }
         ensures err { IfErr result IsOfCall }
     {
         let meaning = self.ends.meaning(actor, end)?;
@@ -198,10 +205,11 @@ impl Explainer {
 
     // Takes a request, which may end a body.
     fn ask(&mut self, number: usize, actor: usize, request: &Request) -> Result<(), Failure>
-        ensures whole { IsWhole self.old.ends → OnOk result (IsWhole self.new.ends) }
-        ensures found { IsWhole self.old.ends → OnOk result (IsTaken self.old.ends self.old.found self.new.found number actor request.now) }
+        ensures takes { OnOk result ((units : List Shape) (word : Recorded) →
+            TakesTold self.old self.new units number (Asks actor request.now word)) }
         ensures err { IfErr result IsOfCall }
     {
+        self.ends.replays();
         if !is_end(request) {
             return self.carry_out(actor, request);
         }
@@ -219,7 +227,8 @@ impl Explainer {
         texts: &[Option<UnitText<'_>>],
         name: &str,
     ) -> Result<(), Failure>
-        ensures whole { IsWhole self.old.ends → OnOk result (IsWhole self.new.ends) }
+        ensures takes { OnOk result ((number actor : ℕ) (word : Recorded) →
+            TakesTold self.old self.new units.now number (Loads actor name.now word)) }
         ensures err { IfErr result IsOfCall }
     {
         let Some(shape) = first_unit(units, name) else {
@@ -233,7 +242,8 @@ impl Explainer {
 
     // Takes a list.
     fn set_list(&mut self, text: &str) -> Result<(), Failure>
-        ensures whole { IsWhole self.old.ends → OnOk result (IsWhole self.new.ends) }
+        ensures takes { OnOk result ((units : List Shape) (number actor : ℕ) (word : Recorded) →
+            TakesTold self.old self.new units number (Lists actor text.now word)) }
         ensures err { IfErr result IsOfCall }
     {
         let Ok(list) = list_of(self.alloc, text) else {
@@ -251,7 +261,7 @@ impl Explainer {
         number: usize,
         deed: &Deed<'_>,
     ) -> Result<(), Failure>
-        ensures whole { IsWhole self.old.ends → OnOk result (IsWhole self.new.ends) }
+        ensures takes { OnOk result (TakesTold self.old self.new units.now number (told deed.now)) }
         ensures err { IfErr result IsOfCall }
     {
         match *deed {
@@ -261,20 +271,21 @@ impl Explainer {
         }
     }
 
-    /// Takes the next line of a journal, which is right. Behind an end whose text means another nothing is taken.
-    pub fn take(
+    // Takes the next line of a journal.
+    fn take_text(
         &mut self,
         units: &[UnitShape],
         texts: &[Option<UnitText<'_>>],
         number: usize,
         line: &str,
     ) -> Result<(), Failure>
-        ensures whole { IsWhole self.old.ends → OnOk result (IsWhole self.new.ends) }
+        ensures takes { OnOk result (TakesLine self.old self.new units.now number line.now) }
         ensures err { IfErr result IsOfCall }
     {
         if self.found.other.is_some() {
             return Ok(());
         }
+        self.ends.replays();
         let found = read_line(&mut self.text, self.ends.catalogue(), number, line)?;
         match found {
             Some(deed) => self.take_deed(units, texts, number, &deed),
@@ -282,44 +293,28 @@ impl Explainer {
         }
     }
 
-    /// The same of a line given as bytes.
-    pub fn take_bytes(
+    /// Takes the next line of a journal, which is right, without its line feed. Behind an end whose text means another nothing is
+    /// taken.
+    pub fn take(
         &mut self,
         units: &[UnitShape],
         texts: &[Option<UnitText<'_>>],
         number: usize,
         line: &[u8],
     ) -> Result<(), Failure>
-        ensures whole { IsWhole self.old.ends → OnOk result (IsWhole self.new.ends) }
+        ensures takes { OnOk result (TakesLine self.old self.new units.now number line.now) }
         ensures err { IfErr result IsOfCall }
     {
+        self.ends.replays();
         match str::from_utf8(line) {
-            Ok(line) => self.take(units, texts, number, line),
+            Ok(line) => self.take_text(units, texts, number, line),
             Err(_) => Ok(()),
         }
     }
 
-    /// Takes all lines of a journal, which are right.
-    pub fn take_all(
-        &mut self,
-        units: &[UnitShape],
-        texts: &[Option<UnitText<'_>>],
-        journal: &str,
-    ) -> Result<(), Failure>
-        ensures whole { IsWhole self.old.ends → OnOk result (IsWhole self.new.ends) }
-        ensures err { IfErr result IsOfCall }
-    {
-        let mut number: usize = 0;
-        for line in journal.lines() {
-            number = one_more(number);
-            self.take(units, texts, number, line)?;
-        }
-        Ok(())
-    }
-
     /// Says what is found, and gives whether no end has a text that means another.
     pub fn say<W: Write>(&self, writer: &mut W) -> Result<bool, Failure>
-        ensures { SaysEnds (W.contents writer.old) (W.contents writer.new) result }
+        ensures { (h : History) → Follows self.now h → SaysEnds h (W.contents writer.old) (W.contents writer.new) result }
     {
         let line = line_of(self.alloc, self.ends.catalogue(), &self.found)?;
         put(writer, line.as_str())?;
