@@ -1,5 +1,5 @@
 -- What is said of the ends of bodies in a journal (own).
-use Rattle.std.specs.Prelude.{◌≡◌, ◌+◌, ◌-◌, ◌^◌, min, ℕ, Bool, true, false, List, [], ◌∷◌, ◌++◌, codes, nat_lt, if◌then◌else◌, is_none, Option, Some, None, Result, Ok, Err}
+use Rattle.std.specs.Prelude.{◌≡◌, ℕ, Bool, true, false, List, [], ◌∷◌, ◌++◌, codes, nat_lt, if◌then◌else◌, is_none, Option, Some, None, Result, Ok, Err}
 use Rattle.std.specs.Fmt.{decimal}
 use Rattle.std.specs.Io.KnownBytes.{Appends}
 use Rattle.rv_shape.specs.Shape.{Shape}
@@ -12,22 +12,8 @@ use Rattle.rv_script.specs.Prefixes.{WritesPrefix}
 use Rattle.rv_fault.specs.Written.{Known}
 use Rattle.rv_fault.specs.declared.failure.Failure.{Failure}
 use Rattle.rv_fault.specs.declared.failure.Failure.TheVariants.{Refused, Memory, Io}
-use Rattle.rv_verdict.specs.Counts.{IsFoundOf}
-use Rattle.rv_verdict.specs.declared.explaining.Found.{Found}
-
--- one more, where a number can count it; no journal has as many entries
-abbrev pub one_more : ℕ → ℕ
-one_more count = min (count + 1) (2 ^ 64 - 1)
-
-abbrev pub nothing_found : Found
-nothing_found = record { explained = 0; without_text = 0; other = None }
-
--- what is found with one more end, of an entry
-abbrev pub noted : Found → ℕ → Meaning → Found
-noted found number meaning.Explained = record found { explained = one_more found.explained }
-noted found number meaning.WithoutText = record found { without_text = one_more found.without_text }
-noted found number (meaning.Gives request) = record found { other = Some (number, meaning.Gives request) }
-noted found number (meaning.Asks request) = record found { other = Some (number, meaning.Asks request) }
+use Rattle.rv_ends.specs.Counts.{IsFoundOf}
+use Rattle.rv_ends.specs.declared.tally.Found.{Found}
 
 -- Lines
 

@@ -1,6 +1,5 @@
 pub mod Audits
 pub mod Brought
-pub mod Counts
 pub mod Cutting
 pub mod Ends
 pub mod Explained

@@ -26,8 +26,8 @@ pub struct Audited {
     pub torn: usize,
 }
 
-/// Judges a journal, and says what was found.
-pub fn audit_journal<W: Write>(
+// Judges a journal, and says what was found.
+fn audit_journal<W: Write>(
     alloc: Global,
     writer: &mut W,
     capacity: usize,
