@@ -1,10 +1,10 @@
 -- What is said of an end is so.
-use Rattle.std.proofs.Common.{◌≡◌, ℕ, List, [], ◌∷◌, Option, Some, None, inl, inr, refl, sym, ap, ◌∙◌, subst}
+use Rattle.std.proofs.Common.{◌≡◌, ℕ, Option, Some, None, inl, inr, sym, subst}
 use Rattle.rv_event.specs.declared.entry.Request.{Request}
-use Rattle.rv_ends.specs.Afoot.{Afoot, Open}
+use Rattle.rv_ends.specs.Afoot.{Open}
 use Rattle.rv_ends.specs.Courses.{HasNoText, IsCourse}
 use Rattle.rv_ends.specs.Ends.{IsFoundStop, IsMeaning, IsTextless, IsWhole, afoot_of, texts_of}
-use Rattle.rv_ends.specs.Explained.{AsksBehind, IsExplained, IsStopped, innermost}
+use Rattle.rv_ends.specs.Explained.{AsksBehind, innermost}
 use Rattle.rv_ends.specs.declared.ends.Ends.{Ends}
 use Rattle.rv_ends.specs.declared.meaning.Course.TheVariants as course
 use Rattle.rv_ends.specs.declared.meaning.Meaning.{Meaning}

@@ -1,5 +1,5 @@
 -- One ask, and where it leads.
-use Rattle.std.proofs.Common.{◌≡◌, ◌⊎◌, List, [], ◌∷◌, true, false, Option, Some, None, inl, inr, refl, sym, ap, ◌∙◌, subst}
+use Rattle.std.proofs.Common.{◌≡◌, ◌⊎◌, [], ◌∷◌, true, false, None, inl, inr, refl, sym, ap, ◌∙◌, subst}
 use Rattle.rv_event.specs.declared.entry.Answer.{Answer}
 use Rattle.rv_event.specs.declared.entry.Answer.TheVariants.{Full}
 use Rattle.rv_event.specs.declared.entry.Request.{Request}

@@ -1,5 +1,5 @@
 -- What a body comes to, by its text and what was recorded of it, where an end of it was recorded (own).
-use Rattle.std.specs.Prelude.{◌≡◌, ◌⊎◌, Bool, true, false, if◌then◌else◌, List, [], ◌∷◌, Option, Some, None, is_none}
+use Rattle.std.specs.Prelude.{◌≡◌, ◌⊎◌, Bool, true, false, if◌then◌else◌, List, [], ◌∷◌, Some, None, is_none}
 use Rattle.rv_shape.specs.Shape.{Shape}
 use Rattle.rv_code.specs.Bodies.{UnitBodies}
 use Rattle.rv_event.specs.declared.entry.Answer.{Answer}

@@ -1,9 +1,9 @@
 -- What explains a recorded end of a body: what its text means on the answers that were recorded between its start and its end
 -- (ISO/IEC 8652:2012, 5, 6.4, 9.5.1, 11.4; limits own).
-use Rattle.std.specs.Prelude.{◌≡◌, ◌⊎◌, ℕ, suc, ◌-◌, ℤ, pos, Bool, true, false, ◌==◌, not, nat_lt, ◌&&◌, if◌then◌else◌, List, [], ◌∷◌, ◌++◌, Option, Some, None}
+use Rattle.std.specs.Prelude.{◌≡◌, ◌⊎◌, ℕ, suc, ◌-◌, ℤ, Bool, true, false, ◌==◌, not, nat_lt, ◌&&◌, if◌then◌else◌, List, [], ◌∷◌, ◌++◌, Option, Some, None}
 use Rattle.rv_access.specs.Words.{Words}
 use Rattle.rv_shape.specs.Shape.{Shape}
-use Rattle.rv_shape.specs.Catalogue.{Target, Nowhere, OnProtected, OnSuspension, target, shares}
+use Rattle.rv_shape.specs.Catalogue.{Target, OnProtected, target}
 use Rattle.rv_code.specs.Bodies.{UnitBodies, Body}
 use Rattle.rv_event.specs.declared.entry.Answer.{Answer}
 use Rattle.rv_event.specs.declared.entry.Answer.TheVariants.{Started, Done, Refused, Full, Halted, Misuse}
@@ -14,7 +14,6 @@ use Rattle.rv_event.specs.declared.entry.Exit.TheVariants.{Stopped}
 use Rattle.rv_event.specs.declared.entry.Request.{Request}
 use Rattle.rv_event.specs.declared.entry.Request.TheVariants.{Call, Complete}
 use Rattle.rv_event.specs.declared.entry.Rule.TheVariants.{Reentry}
-use Rattle.rv_event.specs.Past.{is_own}
 use Rattle.rv_exec.specs.Asking.{Trace, Along, stands}
 use Rattle.rv_exec.specs.Blocks.{operation_run}
 use Rattle.rv_exec.specs.Bodies.{operation_of}

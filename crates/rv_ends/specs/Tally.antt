@@ -1,5 +1,5 @@
 -- How a tally follows a history, entry by entry (own).
-use Rattle.std.specs.Prelude.{◌≡◌, ◌+◌, ◌-◌, ◌^◌, min, ℕ, suc, true, false, List, ◌∷◌, length, Option, None, Some}
+use Rattle.std.specs.Prelude.{◌≡◌, ◌+◌, ◌-◌, ◌^◌, min, ℕ, suc, true, List, ◌∷◌, length, Option, None, Some}
 use Rattle.rv_access.specs.Words.{Words}
 use Rattle.rv_shape.specs.Shape.{Shape}
 use Rattle.rv_event.specs.Recorded.{recorded}
@@ -11,7 +11,6 @@ use Rattle.rv_history.specs.History.{History}
 use Rattle.rv_history.specs.Legal.{after, after_list, after_load, out_list, out_load}
 use Rattle.rv_ends.specs.Counts.{Counts, IsFirstOther}
 use Rattle.rv_ends.specs.Ends.{IsMeaning, IsWhole, afoot_of, history_of, is_settled, texts_of}
-use Rattle.rv_ends.specs.declared.ends.Ends.{Ends}
 use Rattle.rv_ends.specs.declared.meaning.Meaning.{Meaning}
 use Rattle.rv_ends.specs.declared.meaning.Meaning.TheVariants as meaning
 use Rattle.rv_ends.specs.declared.tally.Found.{Found}

@@ -1,10 +1,10 @@
-use Rattle.std.proofs.Common.{None, false, subst}
+use Rattle.std.proofs.Common.{subst}
 use Rattle.rv_event.specs.declared.entry.Request.{Request}
 use Rattle.rv_exec.specs.Asking.{Trace}
 use Rattle.rv_exec.specs.Bodies.{bodies_view}
 use Rattle.rv_ends.specs.Afoot.{open_view}
 use Rattle.rv_ends.specs.Courses.{IsWeighed}
-use Rattle.rv_ends.specs.Following.{Place, Plays, place_of}
+use Rattle.rv_ends.specs.Following.{Plays, place_of}
 use Rattle.rv_ends.proofs.Courses.{begin_at, course_is}
 use Rattle.rv_ends.proofs.meaning.run.Goals as goal
 
