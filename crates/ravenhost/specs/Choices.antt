@@ -33,8 +33,11 @@ running = with_rule (with_rule (new_app (codes "run")) notes_rule) (flag_rule (c
 abbrev pub file_rule : Rule
 file_rule = record (new_rule (codes "journal")) { long = Some (codes "journal"); action = Some Set; value_names = 1 }
 
+abbrev pub judging : App
+judging = with_rule (with_rule (new_app (codes "audit")) file_rule) (flag_rule (codes "torn"))
+
 abbrev pub audited : App
-audited = with_rule (with_rule (with_rule (new_app (codes "audit")) file_rule) (flag_rule (codes "torn"))) (flag_rule (codes "explain"))
+audited = with_rule judging (flag_rule (codes "explain"))
 
 -- the program, of which one subcommand must be named
 abbrev pub versioned : App

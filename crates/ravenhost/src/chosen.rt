@@ -6,7 +6,7 @@ ghost use Rattle.clap.specs.Matches.{found_of};
 ghost use Rattle.clap.specs.Walk.{Row, Text, rows_of};
 ghost use Rattle.clap.specs.declared.builder.command.Command.TheViews.{out-Command as fields_of};
 ghost use Rattle.ravenhost.specs.declared.chosen.Unchosen.TheVariants as Unchosen;
-ghost use Rattle.ravenhost.specs.Choices.{Chooses, HasNoWord, IsExplaining, IsJournal, IsNoted, Lacks, Names, NamesNone, Tells, audit_of, audited, flag_rule, line_of, notes_of, notes_rule, program, running};
+ghost use Rattle.ravenhost.specs.Choices.{Chooses, HasNoWord, IsExplaining, IsJournal, IsNoted, Lacks, Names, NamesNone, Tells, audit_of, audited, flag_rule, judging, line_of, notes_of, notes_rule, program, running};
 
 use clap::error::ErrorKind;
 use clap::{Arg, ArgAction, ArgMatches, Command, Error};
@@ -136,9 +136,9 @@ fn run_subcommand<'a>(alloc: Global) -> Result<Command<'a>, AllocError>
     noted(alloc, command)
 }
 
-// The subcommand `audit`, which may be given a file and two flags.
-fn audit_subcommand<'a>(alloc: Global) -> Result<Command<'a>, AllocError>
-    ensures app { IfOk result (λ c. app_of c ≡ audited) }
+// The subcommand `audit`, which may be given a file and a flag that goes with it.
+fn judging_subcommand<'a>(alloc: Global) -> Result<Command<'a>, AllocError>
+    ensures app { IfOk result (λ c. app_of c ≡ judging) }
     ensures local { IfOk result (λ c. (fields_of c).has_globals ≡ false) }
 {
     let journal = Arg::new(alloc, "journal")
@@ -151,19 +151,26 @@ fn audit_subcommand<'a>(alloc: Global) -> Result<Command<'a>, AllocError>
         "torn",
         "With --journal: take a last line without its line feed as cut off by a crash",
     );
-    let explain = flag(
-        alloc,
-        "explain",
-        "Also say whether each body ended as its text means on the entries since it started",
-    );
     Command::new(alloc, "audit")
         .about(
             "Judge the journal of a script from standard input: whether each of its entries was due",
         )
         .after_help("Example: ravenhost audit --journal JOURNAL < UNITS")
         .arg(journal)?
-        .arg(torn)?
-        .arg(explain)
+        .arg(torn)
+}
+
+// The same, which may be told to explain ends.
+fn audit_subcommand<'a>(alloc: Global) -> Result<Command<'a>, AllocError>
+    ensures app { IfOk result (λ c. app_of c ≡ audited) }
+    ensures local { IfOk result (λ c. (fields_of c).has_globals ≡ false) }
+{
+    let explain = flag(
+        alloc,
+        "explain",
+        "Also say whether each body ended as its text means on the entries since it started",
+    );
+    judging_subcommand(alloc)?.arg(explain)
 }
 
 // The command line that the program takes.
