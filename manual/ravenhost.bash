@@ -8,7 +8,7 @@ _ravenhost_flags() {
         play) echo "--all --notes --warnings-are-errors -h --help" ;;
         check) echo "--explain --notes --warnings-are-errors -h --help" ;;
         run) echo "--notes --warnings-are-errors -h --help" ;;
-        audit) echo "--journal --torn -h --help" ;;
+        audit) echo "--journal --torn --explain -h --help" ;;
     esac
 }
 

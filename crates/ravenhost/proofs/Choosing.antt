@@ -8,7 +8,7 @@ use Rattle.ravenhost.specs.declared.chosen.Choice.{Choice}
 use Rattle.ravenhost.specs.declared.chosen.Choice.TheVariants.{Play, Check, Run, Audit, AuditFile}
 use Rattle.ravenhost.specs.declared.chosen.Notes.{Notes}
 use Rattle.ravenhost.specs.declared.chosen.Notes.TheVariants.{Auto}
-use Rattle.ravenhost.specs.Choices.{HasNoWord, IsFlag, IsJournal, IsNoted, Names, NamesNone, audit_of, line_of, notes_of, program}
+use Rattle.ravenhost.specs.Choices.{HasNoWord, IsExplaining, IsFlag, IsJournal, IsNoted, Names, NamesNone, audit_of, line_of, notes_of, program}
 
 -- The subcommand that was found, from its name and its rows.
 
@@ -292,3 +292,11 @@ unnoted found (Check explain) notes errors w n e = absurd (check_no_audit (sym n
 unnoted found Run notes errors w n e = absurd (run_no_audit (sym n ∙ w))
 unnoted found Audit notes errors w n e = e
 unnoted found (AuditFile torn) notes errors w n e = e
+
+-- whether it explains ends is its own flag
+pub explaining : (found : Text × List Row) (choice : Choice) (explains : Bool) → found.0 ≡ codes "audit" → Names found choice → IsFlag (one_of (codes "explain") found.1) explains → IsExplaining found choice explains
+explaining found (Play all) explains w n flag = absurd (no_audit (sym n.0 ∙ w))
+explaining found (Check explain) explains w n flag = absurd (check_no_audit (sym n.0 ∙ w))
+explaining found Run explains w n flag = absurd (run_no_audit (sym n ∙ w))
+explaining found Audit explains w n flag = flag
+explaining found (AuditFile torn) explains w n flag = flag

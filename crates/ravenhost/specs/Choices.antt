@@ -1,6 +1,6 @@
 -- The command line (own): `play`, which may be given `--all`, `check`, which may be given `--explain`, and `run`, all three with
--- `--notes WHEN` and `--warnings-are-errors`; and `audit`, which may be given `--journal FILE` and, with it, `--torn`. What words come to
--- is what `clap` says of this command.
+-- `--notes WHEN` and `--warnings-are-errors`; and `audit`, which may be given `--journal FILE` and, with it, `--torn`, and `--explain`.
+-- What words come to is what `clap` says of this command.
 use Rattle.std.specs.Prelude.{◌≡◌, Bool, true, false, if◌then◌else◌, List, [], ◌∷◌, Option, Some, None, codes}
 use Rattle.std.specs.Str.{bytes_eq}
 use Rattle.clap.specs.Words.{App, Row, Rule, new_app, new_rule, subcommand_of, with_rule, with_subcommand}
@@ -29,12 +29,15 @@ flagged name flag = with_rule (with_rule (with_rule (new_app name) (flag_rule fl
 abbrev pub running : App
 running = with_rule (with_rule (new_app (codes "run")) notes_rule) (flag_rule (codes "warnings-are-errors"))
 
--- `audit`, which may be given the name of a file, and a flag
+-- `audit`, which may be given the name of a file, and two flags
 abbrev pub file_rule : Rule
 file_rule = record (new_rule (codes "journal")) { long = Some (codes "journal"); action = Some Set; value_names = 1 }
 
+abbrev pub judging : App
+judging = with_rule (with_rule (new_app (codes "audit")) file_rule) (flag_rule (codes "torn"))
+
 abbrev pub audited : App
-audited = with_rule (with_rule (new_app (codes "audit")) file_rule) (flag_rule (codes "torn"))
+audited = with_rule judging (flag_rule (codes "explain"))
 
 -- the program, of which one subcommand must be named
 abbrev pub versioned : App
@@ -85,6 +88,12 @@ IsNoted found (Check explain) notes errors = Tells found.1 notes errors
 IsNoted found Run notes errors = Tells found.1 notes errors
 IsNoted found choice notes errors = errors ≡ false
 
+-- whether ends are explained, for `audit` alone
+abbrev pub IsExplaining : Text × List Row → Choice → Bool → Type 0
+IsExplaining found Audit explains = IsFlag (one_of (codes "explain") found.1) explains
+IsExplaining found (AuditFile torn) explains = IsFlag (one_of (codes "explain") found.1) explains
+IsExplaining found choice explains = explains ≡ false
+
 -- the word that was given is another
 abbrev pub HasNoWord : List Row → Type 0
 HasNoWord rows = notes_of (first_of (codes "notes") rows) ≡ None
@@ -100,10 +109,10 @@ abbrev pub NamesNone : Text × List Row → Type 0
 NamesNone found = (found.0 ≡ codes "play" → HasNoWord found.1) × (found.0 ≡ codes "check" → HasNoWord found.1) × (found.0 ≡ codes "run" → HasNoWord found.1)
     × (found.0 ≡ codes "audit" → IsFlag (one_of (codes "torn") found.1) true × (first_of (codes "journal") found.1 ≡ None))
 
--- the words name a choice, a file where there is one, and what becomes of notes
-abbrev pub Chooses : List Text → Choice → Option Text → Notes → Bool → Type 0
-Chooses words choice file notes errors = (found : Text × List Row) × (subcommand_of program words ≡ Some found)
-    × Names found choice × IsJournal found file × IsNoted found choice notes errors
+-- the words name a choice, a file where there is one, what becomes of notes, and whether ends are explained
+abbrev pub Chooses : List Text → Choice → Option Text → Notes → Bool → Bool → Type 0
+Chooses words choice file notes errors explains = (found : Text × List Row) × (subcommand_of program words ≡ Some found)
+    × Names found choice × IsJournal found file × IsNoted found choice notes errors × IsExplaining found choice explains
 
 -- where `clap` takes the words, nothing is chosen only for want of memory, or where its matches name no choice
 abbrev pub Lacks : List Text → Unchosen → Type 0

@@ -6,7 +6,7 @@ ghost use Rattle.clap.specs.Matches.{found_of};
 ghost use Rattle.clap.specs.Walk.{Row, Text, rows_of};
 ghost use Rattle.clap.specs.declared.builder.command.Command.TheViews.{out-Command as fields_of};
 ghost use Rattle.ravenhost.specs.declared.chosen.Unchosen.TheVariants as Unchosen;
-ghost use Rattle.ravenhost.specs.Choices.{Chooses, HasNoWord, IsJournal, IsNoted, Lacks, Names, NamesNone, Tells, audit_of, audited, flag_rule, line_of, notes_of, notes_rule, program, running};
+ghost use Rattle.ravenhost.specs.Choices.{Chooses, HasNoWord, IsExplaining, IsJournal, IsNoted, Lacks, Names, NamesNone, Tells, audit_of, audited, flag_rule, judging, line_of, notes_of, notes_rule, program, running};
 
 use clap::error::ErrorKind;
 use clap::{Arg, ArgAction, ArgMatches, Command, Error};
@@ -47,6 +47,8 @@ pub struct Selection<'a> {
     pub are_errors: bool,
     /// The name of the file that holds a journal, where one is given.
     pub journal: Option<&'a str>,
+    /// Whether the ends of bodies in a journal are explained.
+    pub explains: bool,
 }
 
 /// Why the words of a command line choose nothing.
@@ -134,9 +136,9 @@ fn run_subcommand<'a>(alloc: Global) -> Result<Command<'a>, AllocError>
     noted(alloc, command)
 }
 
-// The subcommand `audit`, which may be given a file and a flag.
-fn audit_subcommand<'a>(alloc: Global) -> Result<Command<'a>, AllocError>
-    ensures app { IfOk result (λ c. app_of c ≡ audited) }
+// The subcommand `audit`, which may be given a file and a flag that goes with it.
+fn judging_subcommand<'a>(alloc: Global) -> Result<Command<'a>, AllocError>
+    ensures app { IfOk result (λ c. app_of c ≡ judging) }
     ensures local { IfOk result (λ c. (fields_of c).has_globals ≡ false) }
 {
     let journal = Arg::new(alloc, "journal")
@@ -156,6 +158,19 @@ fn audit_subcommand<'a>(alloc: Global) -> Result<Command<'a>, AllocError>
         .after_help("Example: ravenhost audit --journal JOURNAL < UNITS")
         .arg(journal)?
         .arg(torn)
+}
+
+// The same, which may be told to explain ends.
+fn audit_subcommand<'a>(alloc: Global) -> Result<Command<'a>, AllocError>
+    ensures app { IfOk result (λ c. app_of c ≡ audited) }
+    ensures local { IfOk result (λ c. (fields_of c).has_globals ≡ false) }
+{
+    let explain = flag(
+        alloc,
+        "explain",
+        "Also say whether each body ended as its text means on the entries since it started",
+    );
+    judging_subcommand(alloc)?.arg(explain)
 }
 
 // The command line that the program takes.
@@ -246,7 +261,8 @@ fn choice_of<'a>(matches: &ArgMatches<'a>) -> Option<Selection<'a>>
     ensures found { IfSome result (λ chosen. (found : Text × List Row)
         × (subcommand_rows_of matches.now ≡ Some found) × Names found chosen.choice
         × IsJournal found (option_map (λ s. s.now) chosen.journal)
-        × IsNoted found chosen.choice chosen.notes chosen.are_errors) }
+        × IsNoted found chosen.choice chosen.notes chosen.are_errors
+        × IsExplaining found chosen.choice chosen.explains) }
     ensures none { IfNone result ((found : Text × List Row) → subcommand_rows_of matches.now ≡ Some found
         → NamesNone found) }
 {
@@ -258,6 +274,7 @@ fn choice_of<'a>(matches: &ArgMatches<'a>) -> Option<Selection<'a>>
             notes: playing.0,
             are_errors: playing.1,
             journal: None,
+            explains: false,
         });
     }
     if name == "check" {
@@ -267,6 +284,7 @@ fn choice_of<'a>(matches: &ArgMatches<'a>) -> Option<Selection<'a>>
             notes: checking.0,
             are_errors: checking.1,
             journal: None,
+            explains: false,
         });
     }
     if name == "run" {
@@ -276,16 +294,19 @@ fn choice_of<'a>(matches: &ArgMatches<'a>) -> Option<Selection<'a>>
             notes: running.0,
             are_errors: running.1,
             journal: None,
+            explains: false,
         });
     }
     if name == "audit" {
         let journal = words.get_str("journal");
         let choice = audit_of(journal.is_some(), words.get_flag("torn"))?;
+        let explains = words.get_flag("explain");
         return Some(Selection {
             choice,
             notes: Notes::Never,
             are_errors: false,
             journal,
+            explains,
         });
     }
     None
@@ -294,7 +315,7 @@ fn choice_of<'a>(matches: &ArgMatches<'a>) -> Option<Selection<'a>>
 /// What the words of a command line choose, the first of which is the program's name.
 pub fn chosen<'a>(alloc: Global, words: &'a [&'a str]) -> Result<Selection<'a>, Unchosen>
     ensures ok { IfOk result (λ chosen. Chooses (map (λ w. w.now) words.now) chosen.choice
-        (option_map (λ s. s.now) chosen.journal) chosen.notes chosen.are_errors) }
+        (option_map (λ s. s.now) chosen.journal) chosen.notes chosen.are_errors chosen.explains) }
     ensures taken { takes program (map (λ w. w.now) words.now) ≡ true
         → IfErr result (Lacks (map (λ w. w.now) words.now)) }
     ensures line { (name : Text) → (choice : Choice) → map (λ w. w.now) words.now ≡ name ∷ line_of choice

@@ -12,7 +12,7 @@ use rv_fault::Failure;
 use rv_input::{Before, InputFault};
 use rv_script::read_script;
 use rv_staff::Hires;
-use rv_verdict::{Audited, Watch};
+use rv_verdict::{Audited, Explained, Watch};
 use std::alloc::Global;
 use std::io::{Read, Write};
 use std::sync::Wait;
@@ -111,6 +111,28 @@ pub fn audit_file<R: Read, J: Read, W: Write, H: Watch>(
     writer: &mut W,
 ) -> Result<Audited, Failure> {
     rv_verdict::audit_file(alloc, reader, journal, takes_torn, watch, writer)
+}
+
+/// Does what `audit` does, and where the journal is legal says in a second line of the ends of bodies whether they are what
+/// the texts of the units mean.
+pub fn audit_explained<R: Read, W: Write>(
+    alloc: Global,
+    reader: &mut R,
+    writer: &mut W,
+) -> Result<Explained, Failure> {
+    rv_verdict::audit_explained(alloc, reader, writer)
+}
+
+/// Does what `audit_file` does, and says of ends what `audit_explained` does.
+pub fn audit_file_explained<R: Read, J: Read, W: Write, H: Watch>(
+    alloc: Global,
+    reader: &mut R,
+    journal: &mut J,
+    takes_torn: bool,
+    watch: &mut H,
+    writer: &mut W,
+) -> Result<Explained, Failure> {
+    rv_verdict::audit_file_explained(alloc, reader, journal, takes_torn, watch, writer)
 }
 
 /// Runs the host of the script that a reader gives, and serves the commands that follow it.

@@ -21,7 +21,7 @@ pub enum Stop {
     Explained,
     /// A note on a list was told, and notes are errors.
     Warned,
-    /// A journal isn't that of a legal history, which was said.
+    /// A journal isn't that of a legal history, or an end in it isn't what its text means, which was said.
     NotLegal,
 }
 

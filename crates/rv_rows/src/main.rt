@@ -9,6 +9,9 @@
 //! was written is a prefix.
 //! `NAME.fault` is the fault that has to be told, where there is one, and `NAME.explained` what has to be said below it.
 //! `NAME.notes`, where it is there, is what has to be told of the lists of the script.
+//! Where a script is played that has texts of units, and no fault, its journal is judged over its units, and each end of a body has
+//! to be what its text means, or `NAME.ends` is what has to be said. Beside a `NAME.verdict` it is what has to be said of ends
+//! below the verdict.
 //!
 //! Where there is a `NAME.cuts`, the script is also checked cut at every byte: the file has a line `FIRST..LAST -> WORDS`, or
 //! `BYTES -> WORDS`, for as many bytes kept of it, from none to all, which lead to the same words (`bench/model/cuts.py
@@ -20,9 +23,11 @@
 #![tactic(auto)]
 
 mod cut;
+mod ends;
 mod fronts;
 
 use cut::{Ends, Share};
+use ends::{all_are_explained, ends_said, has_texts};
 use fronts::fronts_of;
 use row_files::failing::{FailingReader, FailingWriter};
 use row_files::{bytes_of, names_before};
@@ -32,7 +37,7 @@ use rv_exec::machine::STACK_BYTES;
 use rv_explain::explain;
 use rv_fault::Failure;
 use rv_play::play::play;
-use rv_verdict::{Watch, audit, audit_file};
+use rv_verdict::{Watch, audit, audit_explained, audit_file, audit_file_explained};
 use std::alloc::Global;
 use std::{env, io, thread};
 
@@ -44,6 +49,10 @@ enum Deed<'a> {
     Audit,
     /// The journal stands in a file of its own.
     AuditFile(&'a [u8]),
+    /// Its ends are explained.
+    Explain,
+    /// The same of one in a file of its own.
+    ExplainFile(&'a [u8]),
 }
 
 // Nobody waits for an audit of rows.
@@ -72,6 +81,23 @@ fn carry_out<R: io::Read, W: io::Write>(
             let mut journal = journal;
             let mut watch = Unwatched {};
             let _audited = audit_file(alloc, reader, &mut journal, false, &mut watch, written)?;
+            Ok(())
+        }
+        Deed::Explain => {
+            let _told = audit_explained(alloc, reader, written)?;
+            Ok(())
+        }
+        Deed::ExplainFile(journal) => {
+            let mut journal = journal;
+            let mut watch = Unwatched {};
+            let _told = audit_file_explained(
+                alloc,
+                reader,
+                &mut journal,
+                false,
+                &mut watch,
+                written,
+            )?;
             Ok(())
         }
     }
@@ -134,10 +160,13 @@ fn first_difference(given: &[u8], wanted: &[u8]) -> usize {
 }
 
 /// What has to be written for a script, before its fault.
+#[derive(Drop)]
 struct Wanted {
     bytes: Vec<u8>,
     is_checked: bool,
     is_audited: bool,
+    // Whether the ends in a journal that is judged are explained.
+    is_explained: bool,
 }
 
 // How many reads and writes of a script are made to fail at most.
@@ -187,14 +216,11 @@ fn writes_of(alloc: Global, script: &[u8], deed: Deed<'_>, due: &[u8]) -> Option
 fn failures_told(rt: &HostRuntime, name: &str) -> io::Result<String> {
     let alloc = rt.alloc();
     let script = bytes_of(rt, name, "raven")?.unwrap_or(Vec::new(alloc));
-    let Wanted {
-        bytes: due,
-        is_checked,
-        is_audited,
-    } = wanted_for(rt, name)?;
-    let deed = deed_beside(is_checked, is_audited);
-    let reads = reads_of(alloc, script.as_slice(), deed, due.as_slice());
-    let writes = writes_of(alloc, script.as_slice(), deed, due.as_slice());
+    let wanted = wanted_for(rt, name)?;
+    let due = wanted.bytes.as_slice();
+    let deed = deed_beside(wanted.is_checked, wanted.is_audited, wanted.is_explained);
+    let reads = reads_of(alloc, script.as_slice(), deed, due);
+    let writes = writes_of(alloc, script.as_slice(), deed, due);
     match (reads, writes) {
         (Some(reads), Some(writes)) => {
             Ok(format!(in alloc; "{name}: {reads} failed reads and {writes} failed writes ok")?)
@@ -209,10 +235,17 @@ fn wanted_for(rt: &HostRuntime, name: &str) -> io::Result<Wanted> {
     let verdict = bytes_of(rt, name, "verdict")?;
     let is_checked = said.is_some();
     let is_audited = verdict.is_some();
+    let ends = if is_audited {
+        bytes_of(rt, name, "ends")?
+    } else {
+        None
+    };
+    let is_explained = ends.is_some();
     let mut bytes = Vec::new(rt.alloc());
     for part in [
         said,
         verdict,
+        ends,
         bytes_of(rt, name, "journal")?,
         bytes_of(rt, name, "fault")?,
     ] {
@@ -224,12 +257,15 @@ fn wanted_for(rt: &HostRuntime, name: &str) -> io::Result<Wanted> {
         bytes,
         is_checked,
         is_audited,
+        is_explained,
     })
 }
 
 // What is done with a script whose journal stands in no file of its own.
-fn deed_beside(is_checked: bool, is_audited: bool) -> Deed<'static> {
-    if is_audited {
+fn deed_beside(is_checked: bool, is_audited: bool, is_explained: bool) -> Deed<'static> {
+    if is_audited && is_explained {
+        Deed::Explain
+    } else if is_audited {
         Deed::Audit
     } else if is_checked {
         Deed::Check
@@ -238,39 +274,87 @@ fn deed_beside(is_checked: bool, is_audited: bool) -> Deed<'static> {
     }
 }
 
+// What is said of the ends in the journal that a script was played to, where that isn't what has to be said.
+fn other_ends(
+    rt: &HostRuntime,
+    name: &str,
+    script: &[u8],
+    played: &[u8],
+) -> io::Result<Option<String>> {
+    let alloc = rt.alloc();
+    let (Ok(script), Ok(played)) = (str::from_utf8(script), str::from_utf8(played)) else {
+        return Ok(None);
+    };
+    if !has_texts(script) {
+        return Ok(None);
+    }
+    let said = ends_said(alloc, script, played)?;
+    let is_due = match bytes_of(rt, name, "ends")? {
+        Some(ends) => said.as_slice() == ends.as_slice(),
+        None => all_are_explained(said.as_slice()),
+    };
+    if is_due {
+        return Ok(None);
+    }
+    let said = str::from_utf8(said.as_slice()).unwrap_or("no text");
+    Ok(Some(format!(in alloc; "of its ends is said {said}")?))
+}
+
+// What is done with a script, of which this has to be written, and whose journal may stand in a file of its own.
+fn deed_for<'a>(wanted: &Wanted, file: &'a Option<Vec<u8>>) -> Deed<'a> {
+    match file {
+        Some(file) if wanted.is_explained => Deed::ExplainFile(file.as_slice()),
+        Some(file) => Deed::AuditFile(file.as_slice()),
+        None => deed_beside(wanted.is_checked, wanted.is_audited, wanted.is_explained),
+    }
+}
+
+// Whether there is more beside a script than its journal: a fault or notes.
+fn has_more(rt: &HostRuntime, name: &str) -> io::Result<bool> {
+    Ok(bytes_of(rt, name, "fault")?.is_some() || bytes_of(rt, name, "notes")?.is_some())
+}
+
+// How what is given differs from what is wanted, in words; where it doesn't, what is said of ends other than is due.
+fn difference(
+    rt: &HostRuntime,
+    name: &str,
+    script: &[u8],
+    given: &[u8],
+    wanted: &Wanted,
+) -> io::Result<Option<String>> {
+    let alloc = rt.alloc();
+    if given != wanted.bytes.as_slice() {
+        let line = first_difference(given, wanted.bytes.as_slice());
+        return Ok(Some(format!(in alloc; "differs at line {line}")?));
+    }
+    let is_played = !wanted.is_checked && !wanted.is_audited;
+    if !is_played || has_more(rt, name)? {
+        return Ok(None);
+    }
+    other_ends(rt, name, script, given)
+}
+
 /// Whether a script gives what stands beside it, in words.
 fn told(rt: &HostRuntime, name: &str) -> io::Result<String> {
     let alloc = rt.alloc();
     let script = bytes_of(rt, name, "raven")?.unwrap_or(Vec::new(alloc));
-    let Wanted {
-        bytes: mut wanted,
-        is_checked,
-        is_audited,
-    } = wanted_for(rt, name)?;
+    let mut wanted = wanted_for(rt, name)?;
     let explained = bytes_of(rt, name, "explained")?;
     let is_explained = explained.is_some();
     if let Some(explained) = explained {
-        wanted.extend_from_slice(explained.as_slice())?;
+        wanted.bytes.extend_from_slice(explained.as_slice())?;
     }
-    let mut given = match bytes_of(rt, name, "file")? {
-        Some(file) => {
-            let deed = Deed::AuditFile(file.as_slice());
-            given(alloc, script.as_slice(), deed, is_explained)?
-        }
-        None => {
-            let deed = deed_beside(is_checked, is_audited);
-            given(alloc, script.as_slice(), deed, is_explained)?
-        }
-    };
+    let file = bytes_of(rt, name, "file")?;
+    let deed = deed_for(&wanted, &file);
+    let mut given = given(alloc, script.as_slice(), deed, is_explained)?;
     if let Some(notes) = bytes_of(rt, name, "notes")? {
-        wanted.extend_from_slice(notes.as_slice())?;
+        wanted.bytes.extend_from_slice(notes.as_slice())?;
         add_notes(warnings_of(alloc, script.as_slice()), &mut given)?;
     }
-    if given.as_slice() == wanted.as_slice() {
-        return Ok(format!(in alloc; "{name}: ok")?);
+    match difference(rt, name, script.as_slice(), given.as_slice(), &wanted)? {
+        Some(words) => Ok(format!(in alloc; "{name}: {words}")?),
+        None => Ok(format!(in alloc; "{name}: ok")?),
     }
-    let line = first_difference(given.as_slice(), wanted.as_slice());
-    Ok(format!(in alloc; "{name}: differs at line {line}")?)
 }
 
 /// Whether what is told of the lists that stand before the commands of a run is what stands beside them, in words.

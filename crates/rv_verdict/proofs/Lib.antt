@@ -6,3 +6,6 @@ pub mod Longest
 pub mod Saying
 pub mod Telling
 pub mod Wholly
+pub mod Ending
+pub mod EndsSaid
+pub mod Followed

@@ -3,11 +3,15 @@
 #![tactic(auto)]
 
 mod cutter;
+mod explaining;
 mod file;
 mod given;
 mod judging;
 mod said;
 mod script;
+mod texts;
+mod with_ends;
 
 pub use file::Watch;
 pub use judging::{Audited, audit, audit_file};
+pub use with_ends::{Explained, audit_explained, audit_file_explained};

@@ -5,7 +5,7 @@ use Rattle.clap.specs.Matches.{found_of}
 use Rattle.clap.specs.Walk.{rows_of}
 use Rattle.clap.proofs.WalkLemmas.{first_value-rows, one_text-rows}
 use Rattle.ravenhost.specs.Choices.{audit_of}
-use Rattle.ravenhost.proofs.Choosing.{found_is, not_audit_play, not_audit_check, not_audit_run, audit_named, check_wrong, play_wrong, run_wrong, torn_alone, unnoted}
+use Rattle.ravenhost.proofs.Choosing.{found_is, not_audit_play, not_audit_check, not_audit_run, audit_named, check_wrong, explaining, play_wrong, run_wrong, torn_alone, unnoted}
 use Rattle.ravenhost.proofs.chosen.choice_of.Goals as goal
 
 pub returns-then-eq-clause-found : goal.returns-then-eq-clause-found
@@ -17,6 +17,7 @@ returns-then-eq-clause-found c =
       (word, (λ e. c.get_flag.ensures.value (one_text-rows given (codes "all") ∙ e), λ e. c.get_flag.ensures.other (one_text-rows given (codes "all") ∙ e))),
       λ e. absurd (not_audit_play _ word e),
       c.in_ok-playing.ensures.some,
+      refl,
     )
 
 pub returns-then-eq-2-clause-found : goal.returns-then-eq-2-clause-found
@@ -28,6 +29,7 @@ returns-then-eq-2-clause-found c =
       (word, (λ e. c.get_flag-then-eq-2.ensures.value (one_text-rows given (codes "explain") ∙ e), λ e. c.get_flag-then-eq-2.ensures.other (one_text-rows given (codes "explain") ∙ e))),
       λ e. absurd (not_audit_check _ word e),
       c.in_ok-checking.ensures.some,
+      refl,
     )
 
 pub returns-then-eq-3-clause-found : goal.returns-then-eq-3-clause-found
@@ -39,6 +41,7 @@ returns-then-eq-3-clause-found c =
       word,
       λ e. absurd (not_audit_run _ word e),
       c.in_ok-running.ensures.some,
+      refl,
     )
 
 pub returns-then-eq-4-clause-found : goal.returns-then-eq-4-clause-found
@@ -55,6 +58,8 @@ returns-then-eq-4-clause-found c =
       named.0,
       named.1,
       unnoted (c.in_ok-name.name.now, rows_of given) c.in_ok-choice.choice _ _ word named.0 refl,
+      explaining (c.in_ok-name.name.now, rows_of given) c.in_ok-choice.choice _ word named.0
+          (λ e. c.get_flag-explains.ensures.value (one_text-rows given (codes "explain") ∙ e), λ e. c.get_flag-explains.ensures.other (one_text-rows given (codes "explain") ∙ e)),
     )
 
 pub returns-in_err-choice-clause-none : goal.returns-in_err-choice-clause-none

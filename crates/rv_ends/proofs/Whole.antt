@@ -1,0 +1,266 @@
+-- What is kept of a history's bodies stays what is afoot, entry by entry.
+use Rattle.std.proofs.Common.{◌≡◌, inl, inr, ℕ, List, [], ◌∷◌, ◌++◌, Bool, true, false, Option, Some, None, refl, sym, ap, ◌∙◌, subst, map, append_assoc, append-nil}
+use Rattle.std.specs.Prelude.{◌==◌, if◌then◌else◌, is_some}
+use Rattle.rv_access.specs.Words.{Words}
+use Rattle.rv_shape.specs.Shape.{Shape}
+use Rattle.rv_event.specs.Recorded.{recorded}
+use Rattle.rv_code.specs.Bodies.{UnitBodies}
+use Rattle.rv_event.specs.declared.entry.Answer.{Answer}
+use Rattle.rv_event.specs.declared.entry.Answer.TheVariants as answers
+use Rattle.rv_event.specs.declared.entry.Answer.TheVariants.{OutOfMemory}
+use Rattle.rv_event.specs.declared.entry.Entry.{Entry}
+use Rattle.rv_event.specs.declared.entry.Entry.TheVariants.{Asked, Load, ListChange}
+use Rattle.rv_event.specs.declared.entry.Recorded.{Recorded}
+use Rattle.rv_event.specs.declared.entry.Request.{Request}
+use Rattle.rv_history.specs.Due.{out}
+use Rattle.rv_history.specs.History.{History}
+use Rattle.rv_history.specs.Legal.{Legal, after, after_list, after_load, empty, entered, out_list, out_load}
+use Rattle.rv_history.specs.Steps.{MayLackMemory}
+use Rattle.rv_history.specs.declared.limits.Limits.{Limits}
+use Rattle.rv_ends.specs.Afoot.{Afoot, AreAfoot, answered, open_view}
+use Rattle.rv_ends.specs.Ends.{AllStopped, IsWhole, afoot_of, left_stops, of_others, texts_after}
+use Rattle.rv_ends.specs.Explained.{IsFront, IsStopped, is_stop, is_stopped_end, leaves_open}
+use Rattle.rv_ends.specs.declared.ends.Ends.{Ends}
+use Rattle.rv_ends.specs.declared.ends.Stop.{Stop}
+
+-- One more entry
+
+pub front_on : (f h : History) (later : List Entry) (e : Entry) → IsFront f h later → IsFront f (record h { past = e ∷ h.past }) (e ∷ later)
+front_on f h later e is = record {
+  limits = is.limits;
+  past = ap (λ (l : List Entry). e ∷ l) is.past;
+  shapes = is.shapes;
+  lists = is.lists;
+  legal = is.legal;
+}
+
+stopped_on : (h : History) (e : Entry) (actor : ℕ) (ask : Request) → leaves_open actor e ≡ true → IsStopped h actor ask → IsStopped (record h { past = e ∷ h.past }) actor ask
+stopped_on h e actor ask leaves is = record {
+  front = is.front;
+  later = e ∷ is.later;
+  is_front = front_on is.front h is.later e is.is_front;
+  since = (leaves, is.since);
+  stops = is.stops;
+}
+
+if_stopped : (b stopped : Bool) → stopped ≡ true → (if b then stopped else true) ≡ true
+if_stopped true stopped is = is
+if_stopped false stopped is = refl
+
+all_on_end : (h : History) (by : ℕ) (request : Request) (word : Recorded) (stops : List Stop) → is_stopped_end request ≡ true → AllStopped h stops → AllStopped (record h { past = Asked by request word ∷ h.past }) stops
+all_on_end h by request word [] is all = tt
+all_on_end h by request word (s ∷ stops) is all =
+    (stopped_on h (Asked by request word) s.actor s.ask (if_stopped (s.actor == by) (is_stopped_end request) is) all.0, all_on_end h by request word stops is all.1)
+
+all_on_other : (h : History) (by : ℕ) (request : Request) (word : Recorded) (stops : List Stop) → AllStopped h stops → AllStopped (record h { past = Asked by request word ∷ h.past }) (of_others by stops)
+all_on_other h by request word [] all = tt
+all_on_other h by request word (s ∷ stops) all = by_test (all_on_other h by request word stops all.1) (s.actor == by) refl
+  where
+    by_test : AllStopped (record h { past = Asked by request word ∷ h.past }) (of_others by stops) → (b : Bool) → (s.actor == by) ≡ b → AllStopped (record h { past = Asked by request word ∷ h.past }) (if b then of_others by stops else s ∷ of_others by stops)
+    by_test rest true is = rest
+    by_test rest false is = (stopped_on h (Asked by request word) s.actor s.ask (ap (λ (b : Bool). if b then is_stopped_end request else true) is) all.0, rest)
+
+all_left : (h : History) (by : ℕ) (request : Request) (word : Recorded) (stops : List Stop) → AllStopped h stops → AllStopped (record h { past = Asked by request word ∷ h.past }) (left_stops request by stops)
+all_left h by request word stops all = by_test (is_stopped_end request) refl
+  where
+    by_test : (b : Bool) → is_stopped_end request ≡ b → AllStopped (record h { past = Asked by request word ∷ h.past }) (if b then stops else of_others by stops)
+    by_test true is = all_on_end h by request word stops is all
+    by_test false is = all_on_other h by request word stops all
+
+-- Before the first entry
+
+pub whole_new : (e : Ends) (limits : Limits) → e.host ≡ empty limits → e.calls.items ≡ [] → e.under_way.items ≡ [] → e.stops.items ≡ [] → IsWhole e
+whole_new e limits host calls under_way stops = record {
+  afoot = subst (λ (h : History). AreAfoot h (afoot_of e)) (sym host) (λ i. record { calls = calls i; bodies = map open_view (under_way i) });
+  stopped = subst (λ (l : List Stop). AllStopped e.host l) (sym stops) tt;
+}
+
+-- Requests
+
+pub whole_asked : (e n : Ends) (actor : ℕ) (request : Request) (word : Recorded) → IsWhole e → recorded (out e.host actor request) ≡ Some word → n.host ≡ after e.host actor request (out e.host actor request)
+    → afoot_of n ≡ answered e.host.shapes actor request (out e.host actor request) (afoot_of e) → n.stops.items ≡ left_stops request actor e.stops.items → IsWhole n
+whole_asked e n actor request word w is host_is afoot_is stops_is =
+    let k : History = record e.host { past = Asked actor request word ∷ e.host.past } in
+    let host : n.host ≡ k = host_is ∙ ap (entered e.host actor request) is in
+    record {
+      afoot = subst (λ (x : History). AreAfoot x (afoot_of n)) (sym host) (subst (λ (a : Afoot). AreAfoot k a) (sym afoot_is) (afoot_of e, w.afoot, refl));
+      stopped = subst (λ (x : History). AllStopped x n.stops.items) (sym host) (subst (λ (l : List Stop). AllStopped k l) (sym stops_is) (all_left e.host actor request word e.stops.items w.stopped));
+    }
+
+pub whole_same : (e n : Ends) → IsWhole e → n.host ≡ e.host → afoot_of n ≡ afoot_of e → n.stops.items ≡ e.stops.items → IsWhole n
+whole_same e n w host afoot_is stops_is = record {
+  afoot = subst (λ (x : History). AreAfoot x (afoot_of n)) (sym host) (subst (λ (a : Afoot). AreAfoot e.host a) (sym afoot_is) w.afoot);
+  stopped = subst (λ (x : History). AllStopped x n.stops.items) (sym host) (subst (λ (l : List Stop). AllStopped e.host l) (sym stops_is) w.stopped);
+}
+
+-- a request whose answer is recorded
+pub whole_recorded : (e n : Ends) (actor : ℕ) (request : Request) (answer : Answer) → IsWhole e → answer ≡ out e.host actor request → is_some (recorded answer) ≡ true → n.host ≡ after e.host actor request answer
+    → afoot_of n ≡ answered (after e.host actor request answer).shapes actor request answer (afoot_of e) → n.stops.items ≡ left_stops request actor e.stops.items → IsWhole n
+whole_recorded e n actor request answer w due some host_is afoot_is stops_is = by_word (recorded answer) refl some
+  where
+    shapes_stay : (o : Option Recorded) → (entered e.host actor request o).shapes ≡ e.host.shapes
+    shapes_stay None = refl
+    shapes_stay (Some word) = refl
+
+    by_word : (o : Option Recorded) → recorded answer ≡ o → is_some o ≡ true → IsWhole n
+    by_word None is b = absurd cc
+    by_word (Some word) is b =
+        whole_asked e n actor request word w (ap recorded (sym due) ∙ is) (host_is ∙ ap (λ (a : Answer). after e.host actor request a) due)
+        (afoot_is ∙ ap (λ (l : List Shape). answered l actor request answer (afoot_of e)) (shapes_stay (recorded answer)) ∙ ap (λ (a : Answer). answered e.host.shapes actor request a (afoot_of e)) due) stops_is
+
+-- one whose answer isn't
+pub whole_unrecorded : (e n : Ends) (actor : ℕ) (request : Request) (answer : Answer) → IsWhole e → is_some (recorded answer) ≡ false → n.host ≡ after e.host actor request answer → afoot_of n ≡ afoot_of e → n.stops.items ≡ e.stops.items → IsWhole n
+whole_unrecorded e n actor request answer w none host_is afoot_is stops_is = by_word (recorded answer) refl none
+  where
+    by_word : (o : Option Recorded) → recorded answer ≡ o → is_some o ≡ false → IsWhole n
+    by_word None is b = whole_same e n w (host_is ∙ ap (entered e.host actor request) is) afoot_is stops_is
+    by_word (Some word) is b = absurd cc
+
+-- a request leaves what was loaded
+shapes_kept : (h : History) (actor : ℕ) (request : Request) (o : Option Recorded) → (entered h actor request o).shapes ≡ h.shapes
+shapes_kept h actor request None = refl
+shapes_kept h actor request (Some word) = refl
+
+pub shapes_asked : (h k : History) (actor : ℕ) (request : Request) (answer : Answer) → k ≡ after h actor request answer → k.shapes ≡ h.shapes
+shapes_asked h k actor request answer is = ap (λ (x : History). x.shapes) is ∙ shapes_kept h actor request (recorded answer)
+
+-- Loads and lists
+
+pub load_on : (f h : History) (shape : Shape) (later : List Entry) → IsFront f h later → IsFront f (record h { past = Load ∷ h.past; shapes = h.shapes ++ shape ∷ [] }) (Load ∷ later)
+load_on f h shape later is = record {
+  limits = is.limits;
+  past = ap (λ (l : List Entry). Load ∷ l) is.past;
+  shapes = (is.shapes.0 ++ shape ∷ [], ap (λ (l : List Shape). l ++ shape ∷ []) is.shapes.1 ∙ append_assoc f.shapes is.shapes.0 (shape ∷ []));
+  lists = is.lists;
+  legal = is.legal;
+}
+
+pub list_on : (f h : History) (list : List Words) (later : List Entry) → IsFront f h later → IsFront f (record h { past = ListChange ∷ h.past; lists = h.lists ++ list ∷ [] }) (ListChange ∷ later)
+list_on f h list later is = record {
+  limits = is.limits;
+  past = ap (λ (l : List Entry). ListChange ∷ l) is.past;
+  shapes = is.shapes;
+  lists = (is.lists.0 ++ list ∷ [], ap (λ (l : List (List Words)). l ++ list ∷ []) is.lists.1 ∙ append_assoc f.lists is.lists.0 (list ∷ []));
+  legal = is.legal;
+}
+
+all_on_load : (h : History) (shape : Shape) (stops : List Stop) → AllStopped h stops → AllStopped (record h { past = Load ∷ h.past; shapes = h.shapes ++ shape ∷ [] }) stops
+all_on_load h shape [] all = tt
+all_on_load h shape (s ∷ stops) all =
+    let is = all.0 in
+    (record { front = is.front; later = Load ∷ is.later; is_front = load_on is.front h shape is.later is.is_front; since = (refl, is.since); stops = is.stops }, all_on_load h shape stops all.1)
+
+all_on_list : (h : History) (list : List Words) (stops : List Stop) → AllStopped h stops → AllStopped (record h { past = ListChange ∷ h.past; lists = h.lists ++ list ∷ [] }) stops
+all_on_list h list [] all = tt
+all_on_list h list (s ∷ stops) all =
+    let is = all.0 in
+    (record { front = is.front; later = ListChange ∷ is.later; is_front = list_on is.front h list is.later is.is_front; since = (refl, is.since); stops = is.stops }, all_on_list h list stops all.1)
+
+pub whole_loaded : (e n : Ends) (shape : Shape) → IsWhole e → n.host ≡ record e.host { past = Load ∷ e.host.past; shapes = e.host.shapes ++ shape ∷ [] } → afoot_of n ≡ afoot_of e → n.stops.items ≡ e.stops.items → IsWhole n
+whole_loaded e n shape w host afoot_is stops_is =
+    let k : History = record e.host { past = Load ∷ e.host.past; shapes = e.host.shapes ++ shape ∷ [] } in
+    record {
+      afoot = subst (λ (x : History). AreAfoot x (afoot_of n)) (sym host) (e.host.shapes, shape, refl, subst (λ (a : Afoot). AreAfoot e.host a) (sym afoot_is) w.afoot);
+      stopped = subst (λ (x : History). AllStopped x n.stops.items) (sym host) (subst (λ (l : List Stop). AllStopped k l) (sym stops_is) (all_on_load e.host shape e.stops.items w.stopped));
+    }
+
+pub whole_listed : (e n : Ends) (list : List Words) → IsWhole e → n.host ≡ record e.host { past = ListChange ∷ e.host.past; lists = e.host.lists ++ list ∷ [] } → afoot_of n ≡ afoot_of e → n.stops.items ≡ e.stops.items → IsWhole n
+whole_listed e n list w host afoot_is stops_is =
+    let k : History = record e.host { past = ListChange ∷ e.host.past; lists = e.host.lists ++ list ∷ [] } in
+    record {
+      afoot = subst (λ (x : History). AreAfoot x (afoot_of n)) (sym host) (e.host.lists, list, refl, subst (λ (a : Afoot). AreAfoot e.host a) (sym afoot_is) w.afoot);
+      stopped = subst (λ (x : History). AllStopped x n.stops.items) (sym host) (subst (λ (l : List Stop). AllStopped k l) (sym stops_is) (all_on_list e.host list e.stops.items w.stopped));
+    }
+
+-- a load that was answered so
+pub whole_by_load : (e n : Ends) (shape : Shape) (answer : Answer) → IsWhole e → n.host ≡ after_load e.host shape answer → afoot_of n ≡ afoot_of e → n.stops.items ≡ e.stops.items → IsWhole n
+whole_by_load e n shape answer w host afoot_is stops_is = by_test (is_some (recorded answer)) refl
+  where
+    by_test : (b : Bool) → is_some (recorded answer) ≡ b → IsWhole n
+    by_test true is = whole_loaded e n shape w (host ∙ ap (λ (b : Bool). if b then record e.host { past = Load ∷ e.host.past; shapes = e.host.shapes ++ shape ∷ [] } else e.host) is) afoot_is stops_is
+    by_test false is = whole_same e n w (host ∙ ap (λ (b : Bool). if b then record e.host { past = Load ∷ e.host.past; shapes = e.host.shapes ++ shape ∷ [] } else e.host) is) afoot_is stops_is
+
+-- a list change that was answered so
+pub whole_by_list : (e n : Ends) (list : List Words) (answer : Answer) → IsWhole e → n.host ≡ after_list e.host (Some list) answer → afoot_of n ≡ afoot_of e → n.stops.items ≡ e.stops.items → IsWhole n
+whole_by_list e n list answer w host afoot_is stops_is = by_test (is_some (recorded answer)) refl
+  where
+    by_test : (b : Bool) → is_some (recorded answer) ≡ b → IsWhole n
+    by_test true is = whole_listed e n list w (host ∙ ap (λ (b : Bool). if b then record e.host { past = ListChange ∷ e.host.past; lists = e.host.lists ++ list ∷ [] } else e.host) is) afoot_is stops_is
+    by_test false is = whole_same e n w (host ∙ ap (λ (b : Bool). if b then record e.host { past = ListChange ∷ e.host.past; lists = e.host.lists ++ list ∷ [] } else e.host) is) afoot_is stops_is
+
+-- Stops
+
+pub stopped_here : (h : History) (actor : ℕ) (ask : Request) → Legal h → is_stop (out h actor ask) ≡ true → IsStopped h actor ask
+stopped_here h actor ask legal is = record {
+  front = h;
+  later = [];
+  is_front = record {
+    limits = refl;
+    past = refl;
+    shapes = ([], sym (append-nil h.shapes));
+    lists = ([], sym (append-nil h.lists));
+    legal = legal;
+  };
+  since = tt;
+  stops = is;
+}
+
+-- behind such an answer nothing is recorded
+unrecorded : (a : Answer) → is_stop a ≡ true → recorded a ≡ None
+unrecorded (answers.Started x) e = absurd cc
+unrecorded answers.Queued e = absurd cc
+unrecorded (answers.Refused x y z) e = absurd cc
+unrecorded (answers.Done x) e = absurd cc
+unrecorded answers.Suspended e = absurd cc
+unrecorded answers.Delayed e = absurd cc
+unrecorded (answers.Woken x) e = absurd cc
+unrecorded (answers.Accepted x) e = absurd cc
+unrecorded answers.Misuse e = refl
+unrecorded answers.Halted e = refl
+unrecorded answers.Full e = refl
+unrecorded answers.Busy e = absurd cc
+unrecorded answers.Waiting e = absurd cc
+unrecorded answers.Unattached e = absurd cc
+unrecorded answers.BadLine e = absurd cc
+unrecorded answers.OutOfMemory e = absurd cc
+
+pub stopped_now : (h k : History) (actor : ℕ) (ask : Request) (answer : Answer) → Legal h → answer ≡ out h actor ask → is_stop answer ≡ true → k ≡ after h actor ask (out h actor ask) → IsStopped k actor ask
+stopped_now h k actor ask answer legal due stops is =
+    let here : is_stop (out h actor ask) ≡ true = ap is_stop (sym due) ∙ stops in
+    let same : k ≡ h = is ∙ ap (entered h actor ask) (unrecorded (out h actor ask) here) in
+    subst (λ (x : History). IsStopped x actor ask) (sym same) (stopped_here h actor ask legal here)
+
+pub whole_stopped : (e n : Ends) (stop : Stop) → IsWhole e → IsStopped e.host stop.actor stop.ask → n.host ≡ e.host → afoot_of n ≡ afoot_of e → n.stops.items ≡ e.stops.items ++ stop ∷ [] → IsWhole n
+whole_stopped e n stop w is host afoot_is stops_is = record {
+  afoot = subst (λ (x : History). AreAfoot x (afoot_of n)) (sym host) (subst (λ (a : Afoot). AreAfoot e.host a) (sym afoot_is) w.afoot);
+  stopped = subst (λ (x : History). AllStopped x n.stops.items) (sym host) (subst (λ (l : List Stop). AllStopped e.host l) (sym stops_is) (all_more e.stops.items w.stopped));
+}
+  where
+    all_more : (stops : List Stop) → AllStopped e.host stops → AllStopped e.host (stops ++ stop ∷ [])
+    all_more [] all = (is, tt)
+    all_more (s ∷ stops) all = (all.0, all_more stops all.1)
+
+-- What stopped an actor is among the first, or the later ones.
+
+pub known_first : (h : History) (stops later : List Stop) (stop : Stop) (actor : ℕ) (ask : Request) → stops ≡ stop ∷ later → stop.actor ≡ actor → stop.ask ≡ ask → AllStopped h stops → IsStopped h actor ask
+known_first h stops later stop actor ask is of same all =
+    let all_is = subst (λ (l : List Stop). AllStopped h l) is all in
+    subst (λ (r : Request). IsStopped h actor r) same (subst (λ (a : ℕ). IsStopped h a stop.ask) of all_is.0)
+
+pub known_later : (h : History) (stops later : List Stop) (stop : Stop) → stops ≡ stop ∷ later → AllStopped h stops → AllStopped h later
+known_later h stops later stop is all = let all_is = subst (λ (l : List Stop). AllStopped h l) is all in all_is.1
+
+-- Where memory wasn't refused, the answer was the one that was due.
+
+due_answer : (due answer : Answer) → MayLackMemory due answer → (answer ≡ OutOfMemory → ⊥) → answer ≡ due
+due_answer due answer (inl e) enough = e
+due_answer due answer (inr h) enough = absurd (enough h.0)
+
+pub due_history : (h k : History) (shape : Shape) (answer : Answer) → MayLackMemory (out_load h shape) answer → (answer ≡ OutOfMemory → ⊥) → k ≡ after_load h shape answer → k ≡ after_load h shape (out_load h shape)
+due_history h k shape answer may enough is = is ∙ ap (λ (a : Answer). after_load h shape a) (due_answer (out_load h shape) answer may enough)
+
+pub due_texts : (h : History) (shape : Shape) (answer : Answer) (unit before behind : UnitBodies) → MayLackMemory (out_load h shape) answer → (answer ≡ OutOfMemory → ⊥) → behind ≡ texts_after answer unit before → behind ≡ texts_after (out_load h shape) unit before
+due_texts h shape answer unit before behind may enough is = is ∙ ap (λ (a : Answer). texts_after a unit before) (due_answer (out_load h shape) answer may enough)
+
+pub due_listed : (h k : History) (list : List Words) (answer : Answer) → MayLackMemory (out_list h (Some list)) answer → (answer ≡ OutOfMemory → ⊥) → k ≡ after_list h (Some list) answer → k ≡ after_list h (Some list) (out_list h (Some list))
+due_listed h k list answer may enough is = is ∙ ap (λ (a : Answer). after_list h (Some list) a) (due_answer (out_list h (Some list)) answer may enough)

@@ -1,0 +1,70 @@
+-- How many ends of bodies in a history are what their texts mean, and the first whose text means another (own).
+use Rattle.std.specs.Prelude.{◌≡◌, ◌⊎◌, ℕ, suc, true, false, List, [], ◌∷◌, ◌++◌, length, Option, Some, None}
+use Rattle.rv_access.specs.Words.{Words}
+use Rattle.rv_shape.specs.Shape.{Shape}
+use Rattle.rv_code.specs.Bodies.{UnitBodies}
+use Rattle.rv_event.specs.declared.entry.Entry.{Entry}
+use Rattle.rv_event.specs.declared.entry.Entry.TheVariants.{Asked, Load, ListChange}
+use Rattle.rv_event.specs.declared.entry.Recorded.{Recorded}
+use Rattle.rv_event.specs.declared.entry.Request.{Request}
+use Rattle.rv_exec.specs.Bodies.{no_bodies, with_unit}
+use Rattle.rv_history.specs.declared.limits.Limits.{Limits}
+use Rattle.rv_history.specs.History.{History}
+use Rattle.rv_ends.specs.Afoot.{Afoot, AreAfoot, is_end}
+use Rattle.rv_ends.specs.Ends.{IsMeaning, IsTextless, is_settled}
+use Rattle.rv_ends.specs.Explained.{IsExplained, IsFront, innermost}
+use Rattle.rv_ends.specs.declared.meaning.Meaning.{Meaning}
+use Rattle.rv_ends.specs.declared.tally.Found.{Found}
+
+-- an actor's end behind a history, whose loads brought these texts, has none: the body that it ends has no text, or called a body
+-- that has none
+abbrev pub LacksText : UnitBodies → History → ℕ → Type 0
+LacksText texts h actor = (afoot : Afoot) × AreAfoot h afoot × IsTextless texts (innermost actor afoot.bodies)
+
+-- Of the ends among these entries, whose loads brought these texts, so many are explained and so many have no text; there is no other.
+abbrev pub AreCounted : Limits → List Entry → List Shape → List (List Words) → UnitBodies → ℕ → ℕ → Type 0
+AreCounted limits [] shapes lists texts explained without = (texts ≡ no_bodies) × (explained ≡ 0) × (without ≡ 0)
+AreCounted limits (Asked actor request word ∷ past) shapes lists texts explained without =
+    (let before : History = record { limits = limits; past = past; shapes = shapes; lists = lists } in
+    ((is_end request ≡ false) × AreCounted limits past shapes lists texts explained without)
+    ⊎ (((is_end request ≡ true) × IsExplained texts before actor request
+    × (n : ℕ) × (explained ≡ suc n) × AreCounted limits past shapes lists texts n without)
+    ⊎ ((is_end request ≡ true) × LacksText texts before actor
+    × (n : ℕ) × (without ≡ suc n) × AreCounted limits past shapes lists texts explained n)))
+AreCounted limits (Load ∷ past) shapes lists texts explained without =
+    (old : List Shape) × (shape : Shape) × (shapes ≡ old ++ shape ∷ [])
+    × (earlier : UnitBodies) × (unit : UnitBodies) × (texts ≡ with_unit unit earlier) × AreCounted limits past old lists earlier explained without
+AreCounted limits (ListChange ∷ past) shapes lists texts explained without =
+    (old : List (List Words)) × (list : List Words) × (lists ≡ old ++ list ∷ []) × AreCounted limits past shapes old texts explained without
+
+abbrev pub Counts : History → UnitBodies → ℕ → ℕ → Type 0
+Counts h texts explained without = AreCounted h.limits h.past h.shapes h.lists texts explained without
+
+-- The entry of this number is the first end whose text means another: each end before it is explained, or has no text. The text means
+-- this, told by the names of these shapes.
+pub record IsFirstOther (h : History) (shapes : List Shape) (number : ℕ) (meaning : Meaning) : Type 0 where
+  pub front : History
+  pub actor : ℕ
+  pub request : Request
+  pub word : Recorded
+  pub later : List Entry
+  pub is_front : IsFront front h (later ++ Asked actor request word ∷ [])
+  pub names : shapes ≡ front.shapes
+  pub number_is : number ≡ suc (length front.past)
+  pub ends : is_end request ≡ true
+  pub texts : UnitBodies
+  pub explained : ℕ
+  pub without : ℕ
+  pub before : Counts front texts explained without
+  pub afoot : Afoot
+  pub are : AreAfoot front afoot
+  pub means : IsMeaning texts front afoot actor request meaning
+  pub other : is_settled meaning ≡ false
+
+-- what is found of the ends of a history: the first other, or how many there are
+abbrev pub IsFoundBy : History → List Shape → Found → Option (ℕ × Meaning) → Type 0
+IsFoundBy h shapes found None = (texts : UnitBodies) × Counts h texts found.explained found.without_text
+IsFoundBy h shapes found (Some other) = IsFirstOther h shapes other.0 other.1
+
+abbrev pub IsFoundOf : History → List Shape → Found → Type 0
+IsFoundOf h shapes found = IsFoundBy h shapes found found.other

@@ -1,0 +1,78 @@
+-- The ends of bodies, entry by entry of a journal (own).
+use Rattle.std.specs.Prelude.{◌≡◌, ℕ, Bool, true, false, ◌==◌, if◌then◌else◌, List, [], ◌∷◌, map, Option, Some, None, is_some}
+use Rattle.rv_code.specs.Bodies.{UnitBodies}
+use Rattle.rv_event.specs.Recorded.{recorded}
+use Rattle.rv_event.specs.declared.entry.Answer.{Answer}
+use Rattle.rv_event.specs.declared.entry.Request.{Request}
+use Rattle.rv_exec.specs.Bodies.{bodies_view, with_unit}
+use Rattle.rv_history.specs.History.{History}
+use Rattle.rv_ends.specs.Afoot.{Afoot, AreAfoot, Open, open_view}
+use Rattle.rv_ends.specs.Courses.{HasNoText}
+use Rattle.rv_ends.specs.Explained.{AsksBehind, ByRecorded, EndsBy, IsExplained, IsStopped, innermost, is_stopped_end}
+use Rattle.rv_ends.specs.declared.ends.Ends.{Ends}
+use Rattle.rv_ends.specs.declared.ends.Stop.{Stop}
+use Rattle.rv_ends.specs.declared.meaning.Meaning.{Meaning}
+use Rattle.rv_ends.specs.declared.meaning.Meaning.TheVariants as meaning
+
+-- the history of the entries so far
+abbrev pub history_of : Ends → History
+history_of ends = ends.host
+
+-- the texts of what they loaded
+abbrev pub texts_of : Ends → UnitBodies
+texts_of ends = bodies_view ends.bodies
+
+-- the texts behind the answer to a load: one that is recorded brings those of its unit
+abbrev pub texts_after : Answer → UnitBodies → UnitBodies → UnitBodies
+texts_after answer unit bodies = if is_some (recorded answer) then with_unit unit bodies else bodies
+
+-- what is kept of calls and bodies
+abbrev pub afoot_of : Ends → Afoot
+afoot_of ends = record { calls = ends.calls.items; bodies = map open_view ends.under_way.items }
+
+-- each of these asks stopped its actor
+abbrev pub AllStopped : History → List Stop → Type 0
+AllStopped h [] = Unit {0}
+AllStopped h (stop ∷ stops) = IsStopped h stop.actor stop.ask × AllStopped h stops
+
+-- those that stopped others than this actor
+abbrev pub of_others : ℕ → List Stop → List Stop
+of_others actor [] = []
+of_others actor (stop ∷ stops) = if stop.actor == actor then of_others actor stops else stop ∷ of_others actor stops
+
+-- those that are left behind a request of an actor: behind an end by stopped all
+abbrev pub left_stops : Request → ℕ → List Stop → List Stop
+left_stops request actor stops = if is_stopped_end request then stops else of_others actor stops
+
+-- What is kept is what is afoot, and what stopped its actors.
+pub record IsWhole (ends : Ends) : Type 0 where
+  pub afoot : AreAfoot (history_of ends) (afoot_of ends)
+  pub stopped : AllStopped (history_of ends) ends.stops.items
+
+-- an actor is in no body that has a text, or in one that called one without
+abbrev pub IsTextless : UnitBodies → Option Open → Type 0
+IsTextless bodies None = Unit {0}
+IsTextless bodies (Some body) = HasNoText bodies body
+
+-- what is said of an end of an actor's innermost body behind a history
+abbrev pub IsMeaning : UnitBodies → History → Afoot → ℕ → Request → Meaning → Type 0
+IsMeaning bodies h afoot actor end meaning.Explained = IsExplained bodies h actor end
+IsMeaning bodies h afoot actor end meaning.WithoutText = IsTextless bodies (innermost actor afoot.bodies)
+IsMeaning bodies h afoot actor end (meaning.Gives request) =
+    (body : Open) × (innermost actor afoot.bodies ≡ Some body) × EndsBy bodies h.shapes body request × (ByRecorded bodies h.shapes body end → ⊥)
+IsMeaning bodies h afoot actor end (meaning.Asks request) =
+    (body : Open) × (innermost actor afoot.bodies ≡ Some body) × AsksBehind bodies h.shapes body request
+
+-- an end by stopped is explained where this ask stopped its actor
+abbrev pub IsFoundStop : History → ℕ → Request → Meaning → Type 0
+IsFoundStop h actor ask meaning.Explained = IsStopped h actor ask
+IsFoundStop h actor ask meaning.WithoutText = ⊥
+IsFoundStop h actor ask (meaning.Gives request) = ⊥
+IsFoundStop h actor ask (meaning.Asks request) = request ≡ ask
+
+-- whether an end is settled: behind another the entries to come aren't explained
+abbrev pub is_settled : Meaning → Bool
+is_settled meaning.Explained = true
+is_settled meaning.WithoutText = true
+is_settled (meaning.Gives request) = false
+is_settled (meaning.Asks request) = false

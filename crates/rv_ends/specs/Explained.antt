@@ -1,0 +1,177 @@
+-- What explains a recorded end of a body: what its text means on the answers that were recorded between its start and its end
+-- (ISO/IEC 8652:2012, 5, 6.4, 9.5.1, 11.4; limits own).
+use Rattle.std.specs.Prelude.{◌≡◌, ◌⊎◌, ℕ, suc, ◌-◌, ℤ, Bool, true, false, ◌==◌, not, nat_lt, ◌&&◌, if◌then◌else◌, List, [], ◌∷◌, ◌++◌, Option, Some, None}
+use Rattle.rv_access.specs.Words.{Words}
+use Rattle.rv_shape.specs.Shape.{Shape}
+use Rattle.rv_shape.specs.Catalogue.{Target, OnProtected, target}
+use Rattle.rv_code.specs.Bodies.{UnitBodies, Body}
+use Rattle.rv_event.specs.declared.entry.Answer.{Answer}
+use Rattle.rv_event.specs.declared.entry.Answer.TheVariants.{Started, Done, Refused, Full, Halted, Misuse}
+use Rattle.rv_event.specs.declared.entry.Entry.{Entry}
+use Rattle.rv_event.specs.declared.entry.Entry.TheVariants.{Asked}
+use Rattle.rv_event.specs.declared.entry.Exit.{Exit}
+use Rattle.rv_event.specs.declared.entry.Exit.TheVariants.{Stopped}
+use Rattle.rv_event.specs.declared.entry.Request.{Request}
+use Rattle.rv_event.specs.declared.entry.Request.TheVariants.{Call, Complete}
+use Rattle.rv_event.specs.declared.entry.Rule.TheVariants.{Reentry}
+use Rattle.rv_exec.specs.Asking.{Trace, Along, stands}
+use Rattle.rv_exec.specs.Blocks.{operation_run}
+use Rattle.rv_exec.specs.Bodies.{operation_of}
+use Rattle.rv_history.specs.Due.{out}
+use Rattle.rv_history.specs.History.{History}
+use Rattle.rv_history.specs.Legal.{Legal}
+use Rattle.rv_ends.specs.Afoot.{Afoot, AreAfoot, Open}
+use Rattle.rv_ends.specs.declared.afoot.Start.{Start}
+
+-- Calls that aren't asked (own)
+
+abbrev pub on_protected : Target → Bool
+on_protected (OnProtected site) = true
+on_protected other = false
+
+-- a call of a protected operation, where its actor holds 16 objects: it raises Program_Error without a request
+abbrev pub is_unasked : List Shape → ℕ → Request → Bool
+is_unasked shapes held (Call object operation values) = not (nat_lt held 16) && on_protected (target shapes object operation)
+is_unasked shapes held request = false
+
+-- so it stands in a trace as refused by a rule of Program_Error
+abbrev pub unasked : Answer
+unasked = Refused Reentry 0 0
+
+-- how many objects are held behind an answer, 16 at most
+abbrev pub held_after : ℕ → Answer → ℕ
+held_after held (Started components) = if nat_lt held 16 then suc held else held
+held_after held (Done next) = held - 1
+held_after held answer = held
+
+-- Traces
+
+-- A trace is what was recorded, by an actor that holds so many objects at first, with the calls between that aren't asked.
+abbrev pub Follows : List Shape → ℕ → Trace → Trace → Type 0
+Follows shapes held recorded [] = recorded ≡ []
+Follows shapes held recorded (pair ∷ trace) =
+    ((is_unasked shapes held pair.0 ≡ true) × (pair.1 ≡ unasked) × Follows shapes held recorded trace)
+    ⊎ ((is_unasked shapes held pair.0 ≡ false) × (rest : Trace) × (recorded ≡ pair ∷ rest)
+    × Follows shapes (held_after held pair.1) rest trace)
+
+-- the end of a body by stopped
+abbrev pub is_stopped_end : Request → Bool
+is_stopped_end (Complete components Stopped) = true
+is_stopped_end request = false
+
+-- all of these are
+abbrev pub AreStoppedEnds : Trace → Type 0
+AreStoppedEnds [] = Unit {0}
+AreStoppedEnds (pair ∷ more) = (is_stopped_end pair.0 ≡ true) × AreStoppedEnds more
+
+-- The same with one ask that has no entry, of which the body was told that it had no room: what is recorded behind it is the
+-- ends, by stopped, of the bodies that called one another.
+pub record FollowsToStop (shapes : List Shape) (held : ℕ) (recorded : Trace) (other : Request) (trace : Trace) : Type 0 where
+  pub before : Trace
+  pub done : Trace
+  pub ends : Trace
+  pub recorded_is : recorded ≡ done ++ ends
+  pub trace_is : trace ≡ before ++ (other, Full) ∷ ends
+  pub follows : Follows shapes held done before
+  pub stopped : AreStoppedEnds ends
+
+-- Ends
+
+-- the request that a body's end is, with the components as it leaves them, none for a function (9.5.1)
+abbrev pub end_by : Bool → Exit × List ℤ → Request
+end_by true end = Complete [] end.0
+end_by false end = Complete end.1 end.0
+
+abbrev pub end_of_body : Option Body → Exit × List ℤ → Request
+end_of_body None end = Complete end.1 end.0
+end_of_body (Some body) end = end_by body.is_function end
+
+-- with this trace the text of a body that started so ends by this request
+abbrev pub Ends : UnitBodies → Start → Trace → Request → Type 0
+Ends bodies start trace request =
+    (end : Exit × List ℤ)
+    × Along (operation_run bodies start.object start.operation start.values start.components) trace end
+    × (request ≡ end_of_body (operation_of bodies start.object start.operation) end)
+
+-- Stops (own)
+
+-- behind these answers nothing goes on
+abbrev pub is_stop : Answer → Bool
+is_stop Halted = true
+is_stop Full = true
+is_stop Misuse = true
+is_stop answer = false
+
+-- whether an entry is an actor's end of a body by stopped, or another actor's
+abbrev pub leaves_open : ℕ → Entry → Bool
+leaves_open actor (Asked by request answer) = if actor == by then is_stopped_end request else true
+leaves_open actor entry = true
+
+abbrev pub AllLeaveOpen : ℕ → List Entry → Type 0
+AllLeaveOpen actor [] = Unit {0}
+AllLeaveOpen actor (entry ∷ entries) = (leaves_open actor entry ≡ true) × AllLeaveOpen actor entries
+
+-- what was recorded first of a history, the later entries aside
+pub record IsFront (front h : History) (later : List Entry) : Type 0 where
+  pub limits : front.limits ≡ h.limits
+  pub past : h.past ≡ later ++ front.past
+  pub shapes : (more : List Shape) × (h.shapes ≡ front.shapes ++ more)
+  pub lists : (more : List (List Words)) × (h.lists ≡ front.lists ++ more)
+  pub legal : Legal front
+
+-- An ask of an actor is due Halted, Full or Misuse on a history since the actor's last entry, its ends by stopped aside.
+pub record IsStopped (h : History) (actor : ℕ) (other : Request) : Type 0 where
+  pub front : History
+  pub later : List Entry
+  pub is_front : IsFront front h later
+  pub since : AllLeaveOpen actor later
+  pub stops : is_stop (out front actor other) ≡ true
+
+-- What explains an end
+
+-- the newest open body of an actor
+abbrev pub innermost : ℕ → List Open → Option Open
+innermost actor [] = None
+innermost actor (body ∷ bodies) = if body.start.actor == actor then Some body else innermost actor bodies
+
+-- what was recorded of a body makes its text end by this request; by stopped it ends where an ask has no entry, and not so
+abbrev pub ByRecorded : UnitBodies → List Shape → Open → Request → Type 0
+ByRecorded bodies shapes body request =
+    (is_stopped_end request ≡ false) × (trace : Trace) × Follows shapes body.start.held body.asked trace × Ends bodies body.start trace request
+
+-- so it does with one ask that has no entry, which stopped it
+abbrev pub ByStop : UnitBodies → History → ℕ → Open → Request → Type 0
+ByStop bodies h actor body request =
+    (trace : Trace) × (other : Request) × FollowsToStop h.shapes body.start.held body.asked other trace
+    × Ends bodies body.start trace request × IsStopped h actor other
+
+-- What else a text means
+
+-- the text of a body ends by this request, where it follows a front of what was recorded
+pub record EndsBy (bodies : UnitBodies) (shapes : List Shape) (body : Open) (request : Request) : Type 0 where
+  pub front : Trace
+  pub left : Trace
+  pub trace : Trace
+  pub recorded_is : body.asked ≡ front ++ left
+  pub follows : Follows shapes body.start.held front trace
+  pub ends : Ends bodies body.start trace request
+
+-- the text of a body asks this request, where it follows a front of what was recorded, and it isn't what was recorded next
+pub record AsksBehind (bodies : UnitBodies) (shapes : List Shape) (body : Open) (request : Request) : Type 0 where
+  pub front : Trace
+  pub left : Trace
+  pub before : Trace
+  pub behind : Trace
+  pub end : Exit × List ℤ
+  pub recorded_is : body.asked ≡ front ++ left
+  pub follows : Follows shapes body.start.held front before
+  pub asks : Along (operation_run bodies body.start.object body.start.operation body.start.values body.start.components) (before ++ (request, Full) ∷ behind) end
+  pub is_other : (answer : Answer) (rest : Trace) → left ≡ (request, answer) ∷ rest → stands answer ≡ true
+
+-- This end of an actor's innermost body, behind this history, is what its text among these bodies means.
+pub record IsExplained (bodies : UnitBodies) (h : History) (actor : ℕ) (request : Request) : Type 0 where
+  pub afoot : Afoot
+  pub are : AreAfoot h afoot
+  pub body : Open
+  pub innermost_is : innermost actor afoot.bodies ≡ Some body
+  pub explained : ByRecorded bodies h.shapes body request ⊎ ByStop bodies h actor body request

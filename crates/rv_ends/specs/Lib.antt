@@ -1,0 +1,7 @@
+pub mod Afoot
+pub mod Counts
+pub mod Courses
+pub mod Ends
+pub mod Explained
+pub mod Following
+pub mod Tally

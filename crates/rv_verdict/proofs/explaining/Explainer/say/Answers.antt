@@ -1,0 +1,21 @@
+use Rattle.std.proofs.Common.{◌∙◌}
+use Rattle.std.proofs.lemmas.Result.{err_from_is_err_and}
+use Rattle.rv_fault.specs.declared.failure.Failure.TheVariants.{Memory}
+use Rattle.rv_verdict.proofs.EndsSaid.{ends_broken, ends_fail, ends_said}
+use Rattle.rv_verdict.proofs.explaining.Explainer.say.Goals as goal
+
+pub returns-in_err-line : goal.returns-in_err-line
+returns-in_err-line g c = λ h follows.
+    let p = err_from_is_err_and c.from_residual.result c.from_residual.ensures.1 in
+    rw (p.1, p.2) (ends_fail h (g.W.Write.contents c.args.writer.now) Memory tt)
+
+pub returns-in_err-put : goal.returns-in_err-put
+returns-in_err-put g c = λ h follows.
+    let p = err_from_is_err_and c.from_residual-in_err-put.result c.from_residual-in_err-put.ensures.1 in
+    rw (p.1, p.2) (ends_broken h (g.W.Write.contents c.args.writer.now) (g.W.Write.contents c.put.new.writer) c.catalogue.result.now c.found.result c.as_str.result.now _
+    (c.as_str.ensures.value ∙ c.in_ok-line.ensures) c.in_err-put.ensures)
+
+pub returns : goal.returns
+returns g c = λ h follows.
+    ends_said c.args.self.now.tally h (g.W.Write.contents c.args.writer.now) (g.W.Write.contents c.put.new.writer) c.catalogue.result.now c.found.result c.as_str.result.now c.goes_on.result
+    follows c.catalogue.ensures c.found.ensures (c.as_str.ensures.value ∙ c.in_ok-line.ensures) c.goes_on.ensures c.in_ok-put.ensures

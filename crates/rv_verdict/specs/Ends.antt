@@ -1,0 +1,60 @@
+-- What is said of the ends of bodies in a journal (own).
+use Rattle.std.specs.Prelude.{◌≡◌, ℕ, Bool, true, false, List, [], ◌∷◌, ◌++◌, codes, nat_lt, if◌then◌else◌, is_none, Option, Some, None, Result, Ok, Err}
+use Rattle.std.specs.Fmt.{decimal}
+use Rattle.std.specs.Io.KnownBytes.{Appends}
+use Rattle.rv_shape.specs.Shape.{Shape}
+use Rattle.rv_event.specs.Text.{request_text}
+use Rattle.rv_event.specs.declared.entry.Request.{Request}
+use Rattle.rv_history.specs.History.{History}
+use Rattle.rv_ends.specs.declared.meaning.Meaning.{Meaning}
+use Rattle.rv_ends.specs.declared.meaning.Meaning.TheVariants as meaning
+use Rattle.rv_script.specs.Prefixes.{WritesPrefix}
+use Rattle.rv_fault.specs.Written.{Known}
+use Rattle.rv_fault.specs.declared.failure.Failure.{Failure}
+use Rattle.rv_fault.specs.declared.failure.Failure.TheVariants.{Refused, Memory, Io}
+use Rattle.rv_ends.specs.Counts.{IsFoundOf}
+use Rattle.rv_ends.specs.declared.tally.Found.{Found}
+
+-- Lines
+
+-- so many ends were explained; those without a text are told where there are any
+abbrev pub counted_line : ℕ → ℕ → List ℕ
+counted_line explained without_text =
+    if nat_lt 0 without_text
+    then codes "ends " ++ (decimal explained ++ (codes " explained, " ++ (decimal without_text ++ (codes " without a text" ++ 10 ∷ []))))
+    else codes "ends " ++ (decimal explained ++ (codes " explained" ++ 10 ∷ []))
+
+-- the text of an entry's end gives another end, or asks something
+abbrev pub gives_line : List Shape → ℕ → Request → List ℕ
+gives_line shapes number request = codes "entry " ++ (decimal number ++ (codes ": its text gives " ++ (request_text shapes request ++ 10 ∷ [])))
+
+abbrev pub asks_line : List Shape → ℕ → Request → List ℕ
+asks_line shapes number request = codes "entry " ++ (decimal number ++ (codes ": its text asks " ++ (request_text shapes request ++ 10 ∷ [])))
+
+abbrev pub line_by : List Shape → Found → Option (ℕ × Meaning) → List ℕ
+line_by shapes found None = counted_line found.explained found.without_text
+line_by shapes found (Some (number, meaning.Explained)) = counted_line found.explained found.without_text
+line_by shapes found (Some (number, meaning.WithoutText)) = counted_line found.explained found.without_text
+line_by shapes found (Some (number, meaning.Gives request)) = gives_line shapes number request
+line_by shapes found (Some (number, meaning.Asks request)) = asks_line shapes number request
+
+-- the line of what is found, by the names of what was loaded
+abbrev pub ends_line : List Shape → Found → List ℕ
+ends_line shapes found = line_by shapes found found.other
+
+-- the line of what is found of the ends of a history is written, and whether no end has a text that means another is told; where
+-- memory or a write failed, a prefix of such a line
+abbrev pub SaysEnds : History → Known → Known → Result Bool Failure → Type 0
+SaysEnds h old new (Ok is_explained) =
+    (shapes : List Shape) × (found : Found) × IsFoundOf h shapes found × Appends old new (ends_line shapes found) × (is_explained ≡ is_none found.other)
+SaysEnds h old new (Err (Refused told)) = ⊥
+SaysEnds h old new (Err Memory) = (shapes : List Shape) × (found : Found) × WritesPrefix old new (ends_line shapes found)
+SaysEnds h old new (Err (Io error)) = (shapes : List Shape) × (found : Found) × WritesPrefix old new (ends_line shapes found)
+
+-- Behind a verdict
+
+-- so it is of a journal that is legal, of whose history this holds; of another nothing more is said
+abbrev pub SaysBehind : (History → Type 0) → Known → Known → Bool → Result Bool Failure → Type 0
+SaysBehind Of old new true result = (h : History) × Of h × SaysEnds h old new result
+SaysBehind Of old new false (Ok is_explained) = Appends old new [] × (is_explained ≡ false)
+SaysBehind Of old new false (Err failure) = ⊥
