@@ -66,7 +66,7 @@ one_way {A} shapes (asking r next) held (x ∷ t) (y ∷ u) front left a b p q f
 
 pub course_is : (bodies : UnitBodies) (shapes : List Shape) (body : Open) (end : Request) (is_function : Bool) (q : Place) (exit : Exit) (left : List ℤ) (trace : Trace) (found : Course)
     → option_map (λ (b : Body). b.is_function) (operation_of bodies body.start.object body.start.operation) ≡ Some is_function
-    → Along (operation_run_at bodies 1 body.start.object body.start.operation body.start.values body.start.components) trace (exit, left) → Plays (begin_at shapes body) trace q
+    → Along (operation_run_at bodies body.start.held body.start.object body.start.operation body.start.values body.start.components) trace (exit, left) → Plays (begin_at shapes body) trace q
     → IsWeighed q (end_by is_function (exit, left)) end found → IsCourse bodies shapes body end found
 course_is bodies shapes body end is_function q exit left trace found code along plays w = by_found found w
   where
@@ -84,7 +84,7 @@ course_is bodies shapes body end is_function q exit left trace found code along 
     not_so : q.other ≡ None → (q.asked ≡ [] → end_by is_function (exit, left) ≡ end → is_stopped_end end ≡ true) → ByRecorded bodies shapes body end → ⊥
     not_so none only r =
         let s = follows_front (begin_at shapes body) q trace plays none in
-        let one = one_way shapes (operation_run_at bodies 1 body.start.object body.start.operation body.start.values body.start.components) body.start.held trace r.1 s.front q.asked (exit, left) r.3.0 along r.3.1 s.follows
+        let one = one_way shapes (operation_run_at bodies body.start.held body.start.object body.start.operation body.start.values body.start.components) body.start.held trace r.1 s.front q.asked (exit, left) r.3.0 along r.3.1 s.follows
         (subst (λ (l : Trace). Follows shapes body.start.held l r.1) s.recorded_is r.2) in
         let given : end_by is_function (exit, left) ≡ end =
         by_function (operation_of bodies body.start.object body.start.operation) is_function (exit, left) code
@@ -102,7 +102,7 @@ course_is bodies shapes body end is_function q exit left trace found code along 
           end = (exit, left);
           recorded_is = s.recorded_is;
           follows = s.follows;
-          asks = subst (λ (t : Trace). Along (operation_run_at bodies 1 body.start.object body.start.operation body.start.values body.start.components) t (exit, left)) s.trace_is along;
+          asks = subst (λ (t : Trace). Along (operation_run_at bodies body.start.held body.start.object body.start.operation body.start.values body.start.components) t (exit, left)) s.trace_is along;
           is_other = s.is_other;
         }
 

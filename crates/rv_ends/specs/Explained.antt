@@ -90,7 +90,7 @@ end_of_body (Some body) end = end_by body.is_function end
 abbrev pub Ends : UnitBodies → Start → Trace → Request → Type 0
 Ends bodies start trace request =
     (end : Exit × List ℤ)
-    × Along (operation_run_at bodies 1 start.object start.operation start.values start.components) trace end
+    × Along (operation_run_at bodies start.held start.object start.operation start.values start.components) trace end
     × (request ≡ end_of_body (operation_of bodies start.object start.operation) end)
 
 -- Stops (own)
@@ -165,7 +165,7 @@ pub record AsksBehind (bodies : UnitBodies) (shapes : List Shape) (body : Open) 
   pub end : Exit × List ℤ
   pub recorded_is : body.asked ≡ front ++ left
   pub follows : Follows shapes body.start.held front before
-  pub asks : Along (operation_run_at bodies 1 body.start.object body.start.operation body.start.values body.start.components) (before ++ (request, Full) ∷ behind) end
+  pub asks : Along (operation_run_at bodies body.start.held body.start.object body.start.operation body.start.values body.start.components) (before ++ (request, Full) ∷ behind) end
   pub is_other : (answer : Answer) (rest : Trace) → left ≡ (request, answer) ∷ rest → stands answer ≡ true
 
 -- This end of an actor's innermost body, behind this history, is what its text among these bodies means.

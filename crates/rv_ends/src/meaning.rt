@@ -11,7 +11,7 @@ use crate::afoot::OpenBody;
 use crate::following::{Following, is_same, is_stopped_end};
 use rv_event::entry::{Answer, Request};
 use rv_exec::bodies::Bodies;
-use rv_exec::machine::{Ended, run_body};
+use rv_exec::machine::{Ended, run_body_at};
 use rv_shape::catalogue::Catalogue;
 use rv_value::Scalars;
 
@@ -128,9 +128,10 @@ fn run(
         other: None,
         is_broken: false,
     };
-    let ended = run_body(
+    let ended = run_body_at(
         &(),
         bodies,
+        start.held,
         start.object,
         start.operation,
         start.components,

@@ -12,8 +12,8 @@ pub returns : goal.returns
 returns c =
     let body = open_view c.args.body.now in
     let shapes = c.args.catalogue.now in
-    let behind = place_of c.run_body-ended.new.outward in
-    let trace = c.run_body-ended.ensures.trace in
-    let plays = subst (λ (l : Trace). Plays (record (begin_at shapes body) { asked = l }) trace behind) c.as_slice.ensures.value c.run_body-ended.ensures.outside in
-    course_is (bodies_view c.args.bodies.now) shapes body c.args.end.now c.args.is_function behind c.run_body-ended.result.exit c.run_body-ended.result.scalars trace c.weighed.result
-    c.requires c.run_body-ended.ensures.along plays (subst (λ (r : Request). IsWeighed behind r c.args.end.now c.weighed.result) c.end_by.ensures c.weighed.ensures)
+    let behind = place_of c.run_body_at-ended.new.outward in
+    let trace = c.run_body_at-ended.ensures.trace in
+    let plays = subst (λ (l : Trace). Plays (record (begin_at shapes body) { asked = l }) trace behind) c.as_slice.ensures.value c.run_body_at-ended.ensures.outside in
+    course_is (bodies_view c.args.bodies.now) shapes body c.args.end.now c.args.is_function behind c.run_body_at-ended.result.exit c.run_body_at-ended.result.scalars trace c.weighed.result
+    c.requires c.run_body_at-ended.ensures.along plays (subst (λ (r : Request). IsWeighed behind r c.args.end.now c.weighed.result) c.end_by.ensures c.weighed.ensures)
