@@ -19,11 +19,11 @@ use Rattle.rv_history.specs.Due.{out}
 use Rattle.rv_history.specs.History.{History}
 use Rattle.rv_turn.specs.Histories.{mine, StartsWith}
 use Rattle.rv_turn.specs.Prefixes.{starts_both, mine-append}
-use Rattle.rv_meant.specs.Runs.{operation_run_at}
+use Rattle.rv_exec.specs.Blocks.{operation_run_at}
 use Rattle.rv_meant.specs.Asks.{held_behind, recorded_of}
 use Rattle.rv_meant.specs.Nested.{Strays}
-use Rattle.rv_meant.specs.Histories.{asked_by, without_last}
-use Rattle.rv_meant.specs.Explained.{stops, IsExplained}
+use Rattle.rv_meant.specs.Histories.{asks_of, without_last}
+use Rattle.rv_meant.specs.Explained.{stops_bodies, MeantEnd}
 use Rattle.rv_meant.specs.Told.{HasAsked, FitBehind}
 use Rattle.rv_meant.proofs.Explaining.{inner_ends, task_ends}
 use Rattle.rv_behind.specs.Acting.{entered}
@@ -31,7 +31,7 @@ use Rattle.rv_behind.specs.Events.{by, bodies_at, catalogue_of, history_at}
 use Rattle.rv_behind.specs.declared.event.Event.{Event}
 use Rattle.rv_behind.specs.declared.event.Event.TheVariants.{Asks}
 use Rattle.rv_accounts.specs.Seen.{asked_at}
-use Rattle.rv_accounts.specs.Explained.{EndIsExplained}
+use Rattle.rv_accounts.specs.Explained.{ExplainedEnd}
 use Rattle.rv_accounts.proofs.Growing.{asks_stay, without_later}
 use Rattle.rv_port.specs.Traces.{Passing, Trace, limits_in, noted, noted_if, IsAnswered, EachAnswered, Steps, Went}
 use Rattle.rv_port.specs.Composing.{noted-append}
@@ -142,7 +142,7 @@ module _ (v w : Passing) (trace : Trace) (log : List Event) (k : IsLentBy v log)
 
   abbrev IsDue : Trace → Request → Type 0
   IsDue done q =
-      (later : ℕ) × (asked_by a (without_last later (history_at limits before)) ≡ asked_at limits a v.seen ++ recorded_of done) × (stops (out (without_last later (history_at limits before)) a q) ≡ true)
+      (later : ℕ) × (asks_of a (without_last later (history_at limits before)) ≡ asked_at limits a v.seen ++ recorded_of done) × (stops_bodies (out (without_last later (history_at limits before)) a q) ≡ true)
 
   module _ (done : Trace) (q : Request) (r : Answer) (behind : Trace) (split : at_end.before ≡ done ++ (q, r) ∷ behind) (final : is_final r ≡ true) where
     abbrev others : Trace
@@ -181,8 +181,8 @@ module _ (v w : Passing) (trace : Trace) (log : List Event) (k : IsLentBy v log)
       answered_due =
           let same : without_last (length (reverse at_before.0)) (history_at limits before) ≡ history_at limits x.at = ap (λ (l : List Event). without_last (length (reverse at_before.0)) (history_at limits l)) at_before.1 ∙ without_later limits x.at at_before.0 in (
             length (reverse at_before.0),
-            ap (λ (h : History). asked_by a h) same ∙ so_far limits a v.seen w.seen w.left own v.seen x.at done ((q, r) ∷ others) here went.later k.owns to_at x.own_is,
-            ap (λ (h : History). stops (out h a q)) same ∙ final_stops (out (history_at limits x.at) a q) (ap is_final (sym x.due_is) ∙ final),
+            ap (λ (h : History). asks_of a h) same ∙ so_far limits a v.seen w.seen w.left own v.seen x.at done ((q, r) ∷ others) here went.later k.owns to_at x.own_is,
+            ap (λ (h : History). stops_bodies (out h a q)) same ∙ final_stops (out (history_at limits x.at) a q) (ap is_final (sym x.due_is) ∙ final),
           )
 
     is_due : IsDue done q
@@ -199,7 +199,7 @@ module _ (v w : Passing) (trace : Trace) (log : List Event) (k : IsLentBy v log)
   pub trace_at : trace ≡ at_end.before ++ (Complete scalars exit, Answers.Done next) ∷ at_end.after
   trace_at = at_end.trace_is ∙ ap (λ (z : Answer). at_end.before ++ (Complete scalars exit, z) ∷ at_end.after) (done_is at_end.answer next at_end.word_is)
 
-  pub end_explained : Strays (callee_fits (catalogue_of log)) at_end.before ⊎ IsExplained (catalogue_of log) (bodies_at log) (history_at limits before) a scalars exit → EndNotDoneBefore trace scalars exit next ⊎ EndIsExplained limits a before scalars exit
+  pub end_explained : Strays (callee_fits (catalogue_of log)) at_end.before ⊎ MeantEnd (catalogue_of log) (bodies_at log) (history_at limits before) a scalars exit → EndNotDoneBefore trace scalars exit next ⊎ ExplainedEnd limits a before scalars exit
   end_explained s =
       let t = steps_front v at_end.before (end_pair ∷ at_end.after) w (subst (λ (l : Trace). Steps v l w) at_end.trace_is went.steps) in
       ⊎_elim (λ h. inl (record { before = at_end.before; behind = at_end.after; trace_is = trace_at; not_done = strays_end log v at_end.before t.0 k.from t.1 h }))

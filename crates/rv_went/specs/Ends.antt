@@ -12,14 +12,14 @@ use Rattle.rv_exec.specs.Asking.{Trace, Along}
 use Rattle.rv_exec.specs.Stops.{EndsNot}
 use Rattle.rv_exec.specs.Tasks.{task_run}
 use Rattle.rv_turn.specs.Histories.{mine, StartsWith}
-use Rattle.rv_meant.specs.Runs.{operation_run_at}
+use Rattle.rv_exec.specs.Blocks.{operation_run_at}
 use Rattle.rv_meant.specs.Asks.{held_behind, AreRecorded}
-use Rattle.rv_meant.specs.Explained.{Opens, is_protected}
+use Rattle.rv_meant.specs.Explained.{StartsBody, on_protected}
 use Rattle.rv_behind.specs.Events.{by, bodies_at, catalogue_of}
 use Rattle.rv_behind.specs.declared.event.Event.{Event}
 use Rattle.rv_behind.specs.declared.event.Event.TheVariants.{Asks}
 use Rattle.rv_accounts.specs.Seen.{asked_at}
-use Rattle.rv_accounts.specs.Explained.{EndIsExplained}
+use Rattle.rv_accounts.specs.Explained.{ExplainedEnd}
 use Rattle.rv_port.specs.Traces.{Passing, limits_in, Asked, Went}
 
 -- the end of a body, among these asks, is answered otherwise than Done: no host answers the end of a compiled body so (own)
@@ -53,7 +53,7 @@ abbrev pub EndsSinceAreExplained : Passing → Passing → Trace → Type 0
 EndsSinceAreExplained v w trace =
     (before after : List Event) (scalars : List ℤ) (exit : Exit) (next : Next) → StartsWith before v.seen
     → w.seen ≡ before ++ Asks v.actor (Complete scalars exit) (Done next) ∷ after
-    → EndNotDoneBefore trace scalars exit next ⊎ EndIsExplained (limits_in v.about) v.actor before scalars exit
+    → EndNotDoneBefore trace scalars exit next ⊎ ExplainedEnd (limits_in v.about) v.actor before scalars exit
 
 -- Where a body ran on a port, of an actor that held so many objects, and asked this, each end that came since is explained, or one
 -- before it was not answered Done.
@@ -79,7 +79,7 @@ pub record RanSo (u : Passing) (log : List Event) (early opening : Trace) (objec
   pub asked : asked_so_far u ≡ early ++ opening
   pub recorded : AreRecorded (early ++ opening)
   pub few : held_behind 0 (early ++ opening) ≤ 16
-  pub loaded : is_protected (target (catalogue_of log) object operation) ≡ true
+  pub loaded : on_protected (target (catalogue_of log) object operation) ≡ true
   pub along : Along (operation_run_at (bodies_at log) (held_behind 0 (early ++ opening)) object operation values components) trace (exit, left)
   pub went : Went u trace body
 
@@ -94,5 +94,5 @@ OwnEndsAreExplained =
     (request : Request) (next : Next)
     → RanSo u log early opening object operation values components left exit trace body
     → (x : Asked body request (answer.Done next) w)
-    → Opens (catalogue_of x.at) u.actor opening object operation values components
-    → EndNotDone trace ⊎ EndIsExplained (limits_in u.about) u.actor x.at (given_at x.at object operation left) exit
+    → StartsBody (catalogue_of x.at) u.actor opening object operation values components
+    → EndNotDone trace ⊎ ExplainedEnd (limits_in u.about) u.actor x.at (given_at x.at object operation left) exit
