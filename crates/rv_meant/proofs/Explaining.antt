@@ -223,9 +223,9 @@ inner_end shapes bodies h actor first before scalars exit f k (inr c) =
     inr (explained shapes bodies h actor first before scalars exit k (closing_of bodies shapes h.shapes actor (held_behind 0 first) before scalars exit (fits_behind shapes bodies h f) c))
 
 pub inner_ends : InnerEndsAreExplained
-inner_ends shapes bodies h actor first object operation values components left exit before after scalars ended next f few run k =
+inner_ends shapes bodies h actor first object operation values components left exit before after scalars ended next f run k =
     inner_end shapes bodies h actor first before scalars ended f k
-    ((bodies_nest (callee_fits shapes) bodies (held_behind 0 first) object operation values components left (before ++ (request.Complete scalars ended, answer.Done next) ∷ after) exit f.fit few run).close before after scalars ended next refl)
+    ((bodies_nest (callee_fits shapes) bodies (held_behind 0 first) object operation values components left (before ++ (request.Complete scalars ended, answer.Done next) ∷ after) exit f.fit run).close before after scalars ended next refl)
 
 outer_end : (shapes : List Shape) (bodies : UnitBodies) (h : History) (actor : ℕ) (early opening : Trace) (object operation : ℕ) (values components left : List ℤ) (exit : Exit) (trace : Trace)
     → AreRecorded (early ++ opening) → on_protected (target shapes object operation) ≡ true → StartsBody h.shapes actor opening object operation values components
@@ -268,9 +268,9 @@ outer_end shapes bodies h actor early opening object operation values components
     later_due done request answer behind e final = due_in done request answer behind final (place_of (request, answer) (early ++ opening) trace done behind e)
 
 pub outer_ends : OuterEndsAreExplained
-outer_ends shapes bodies h actor early opening object operation values components left exit trace f few r m o run k =
+outer_ends shapes bodies h actor early opening object operation values components left exit trace f r m o run k =
     outer_end shapes bodies h actor early opening object operation values components left exit trace r m o run k
-    ((bodies_nest (callee_fits shapes) bodies (held_behind 0 (early ++ opening)) object operation values components left trace exit f.fit few run).course)
+    ((bodies_nest (callee_fits shapes) bodies (held_behind 0 (early ++ opening)) object operation values components left trace exit f.fit run).course)
 
 no_end_in : (before after : Trace) (scalars : List ℤ) (exit : Exit) (next : Next) (quit : Trace) → (quit ≡ []) ⊎ ((r : Answer) × (quit ≡ (request.Quit, r) ∷ [])) → quit ≡ before ++ (request.Complete scalars exit, answer.Done next) ∷ after → ⊥
 no_end_in before after scalars exit next quit (inl e) h = none_there (request.Complete scalars exit, answer.Done next) before after (sym e ∙ h)
@@ -281,8 +281,8 @@ no_end_in before after scalars exit next quit (inr e) h = only_quit before after
     only_quit (pair ∷ before) after scalars exit next r e = none_there (request.Complete scalars exit, answer.Done next) before after (rest_same (request.Quit, r) pair [] (before ++ (request.Complete scalars exit, answer.Done next) ∷ after) e)
 
 pub task_ends : TaskEndsAreExplained
-task_ends shapes bodies h actor requests exit before after scalars ended next f run k =
+task_ends shapes bodies h actor requests first exit before after scalars ended next f none run k =
     let t = tasks_nest (callee_fits shapes) bodies actor requests (before ++ (request.Complete scalars ended, answer.Done next) ∷ after) exit f.fit run in
-    inner_end shapes bodies h actor [] before scalars ended f k
-    (⊎_elim (λ p. t.nested.close before p.0 scalars ended next p.1) (λ p. absurd (no_end_in p.0 after scalars ended next t.quit t.quits p.2))
-    (place_of (request.Complete scalars ended, answer.Done next) t.asked t.quit before after (sym t.trace_is)))
+    inner_end shapes bodies h actor first before scalars ended f k
+    (subst (λ (n : ℕ). Strays (callee_fits shapes) before ⊎ ClosesBody (callee_fits shapes) bodies n before scalars ended) (sym none) (⊎_elim (λ p. t.nested.close before p.0 scalars ended next p.1) (λ p. absurd (no_end_in p.0 after scalars ended next t.quit t.quits p.2))
+    (place_of (request.Complete scalars ended, answer.Done next) t.asked t.quit before after (sym t.trace_is))))

@@ -364,7 +364,7 @@ full_nested such bodies held c values false first second what b n m e h g =
     performed_nested such bodies held c values raises_at_once first second what b n m
     (λ object operation is_function components o g2. absurd (cc (asks_protected c values first (asked.Started object operation is_function components) o refl, e))) h g
 
-outer_nested : (such : Callee → Bool) (bodies : UnitBodies) (held more : ℕ) (c : Callee) (values : List ℤ) → held + more ≡ 16 → every_call such bodies ≡ true → internal c ≡ None → such c ≡ true → Sound (nesting such bodies held) how_result (outer_at bodies more c values)
+outer_nested : (such : Callee → Bool) (bodies : UnitBodies) (held more : ℕ) (c : Callee) (values : List ℤ) → more ≡ 16 - held → every_call such bodies ≡ true → internal c ≡ None → such c ≡ true → Sound (nesting such bodies held) how_result (outer_at bodies more c values)
 unfolding outer_at reached
 outer_nested such bodies held zero c values room k n m trace b h =
     let p = split (cond (is_protected c) (ended past_held) (asks c values)) (performed raises_at_once) trace b h in
@@ -373,26 +373,24 @@ outer_nested such bodies held zero c values room k n m trace b h =
 outer_nested such bodies held (suc more) c values room k n m trace b h =
     let go : ℕ → ℕ → Bool → List ℤ → Asking Outcome = λ object operation is_function components. and_then (inner_at bodies object (outer_at bodies more) 65 operation values components 100000) (completes is_function) in
     let p = split (asks c values) (performed go) trace b h in
-    let next : suc held + more ≡ 16 = omega (arith, room) in
+    let next : more ≡ 16 - suc held = omega (arith, room) in
+    let all : held + suc more ≡ 16 = omega (arith, room) in
     subst (λ (t : Trace). NestedSo such bodies held t (how_result b)) (sym p.trace_is)
     (performed_nested such bodies held c values go p.first p.second p.middle b n m
-    (λ object operation is_function components o g. started_nested such bodies held more c values object operation is_function components p.first p.second b room n m o
+    (λ object operation is_function components o g. started_nested such bodies held more c values object operation is_function components p.first p.second b all n m o
     (inner_sound (nesting such bodies (suc held)) bodies object (outer_at bodies more) k (λ d v i s. outer_nested such bodies (suc held) more d v next k i s) 65 operation values components 100000) g)
     p.along p.rest)
 
 -- Bodies and tasks
 
-all_held : (held : ℕ) → held ≤ 16 → held + (16 - held) ≡ 16
-all_held held h = omega (arith, h)
-
 pub bodies_nest : BodiesNest
-bodies_nest such bodies held object operation values components left trace x k few h =
+bodies_nest such bodies held object operation values components left trace x k h =
     let p = split (inner_at bodies object (outer_at bodies (16 - held)) 65 operation values components 100000) exits trace (x, left) h in
     let at : (exit_of p.middle.0, p.middle.1.0) ≡ (x, left) = ends_with (exit_of p.middle.0, p.middle.1.0) p.second (x, left) p.rest in
     let none : p.second ≡ [] = ends_at_once (exit_of p.middle.0, p.middle.1.0) p.second (x, left) p.rest in
     let t : p.first ≡ trace = sym (p.trace_is ∙ (ap (λ (l : Trace). p.first ++ l) none ∙ append-nil p.first)) in
     subst (λ (z : Trace × Exit). IsNested such bodies held z.0 (by_stopped z.1)) (λ i. (t i, (at i).0))
-    (nested_by such bodies held p.first p.middle.0 (inner_sound (nesting such bodies held) bodies object (outer_at bodies (16 - held)) k (λ d v i n. outer_nested such bodies held (16 - held) d v (all_held held few) k i n) 65 operation values components 100000 p.first p.middle p.along))
+    (nested_by such bodies held p.first p.middle.0 (inner_sound (nesting such bodies held) bodies object (outer_at bodies (16 - held)) k (λ d v i n. outer_nested such bodies held (16 - held) d v refl k i n) 65 operation values components 100000 p.first p.middle p.along))
 
 -- a task's quit
 record Quitting (outcome : Outcome) (quit : Trace) (x : Exit) : Type 0 where

@@ -1,6 +1,6 @@
 -- The ends of bodies inside one another: each closes a body that started in what was asked before it, and is what that body means
 -- on what was asked between (ISO/IEC 8652:2012, 6.4, 9.5.1, 9.5.3).
-use Rattle.std.specs.Prelude.{◌≡◌, ◌⊎◌, ◌≤◌, ℕ, ℤ, Bool, true, false, if◌then◌else◌, List, [], ◌∷◌, ◌++◌, None}
+use Rattle.std.specs.Prelude.{◌≡◌, ◌⊎◌, ℕ, ℤ, Bool, true, false, if◌then◌else◌, List, [], ◌∷◌, ◌++◌, None}
 use Rattle.rv_code.specs.declared.expression.Callee.{Callee}
 use Rattle.rv_code.specs.Bodies.{UnitBodies}
 use Rattle.rv_fits.specs.Calls.{every_call}
@@ -83,7 +83,7 @@ pub record IsNested (such : Callee → Bool) (bodies : UnitBodies) (held : ℕ) 
 abbrev pub BodiesNest : Type 0
 BodiesNest =
     (such : Callee → Bool) (bodies : UnitBodies) (held object operation : ℕ) (values components left : List ℤ) (trace : Trace) (exit : Exit)
-    → every_call such bodies ≡ true → held ≤ 16
+    → every_call such bodies ≡ true
     → Along (operation_run_at bodies held object operation values components) trace (exit, left)
     → IsNested such bodies held trace (by_stopped exit)
 

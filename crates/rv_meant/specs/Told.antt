@@ -1,5 +1,5 @@
 -- Ends that a run asked are explained, where the history has what it asked (own).
-use Rattle.std.specs.Prelude.{◌≡◌, ◌⊎◌, ◌≤◌, ℕ, ℤ, true, if◌then◌else◌, List, [], ◌∷◌, ◌++◌}
+use Rattle.std.specs.Prelude.{◌≡◌, ◌⊎◌, ℕ, ℤ, true, if◌then◌else◌, List, [], ◌∷◌, ◌++◌}
 use Rattle.rv_shape.specs.Shape.{Shape}
 use Rattle.rv_shape.specs.Catalogue.{target, shares}
 use Rattle.rv_code.specs.Bodies.{UnitBodies}
@@ -42,7 +42,7 @@ InnerEndsAreExplained =
     (shapes : List Shape) (bodies : UnitBodies) (h : History) (actor : ℕ) (first : Trace)
     (object operation : ℕ) (values components left : List ℤ) (exit : Exit)
     (before after : Trace) (scalars : List ℤ) (ended : Exit) (next : Next)
-    → FitBehind shapes bodies h → held_behind 0 first ≤ 16
+    → FitBehind shapes bodies h
     → Along (operation_run_at bodies (held_behind 0 first) object operation values components) (before ++ (request.Complete scalars ended, answer.Done next) ∷ after) (exit, left)
     → HasAsked h actor first before
     → Strays (callee_fits shapes) before ⊎ MeantEnd shapes bodies h actor scalars ended
@@ -52,19 +52,19 @@ abbrev pub OuterEndsAreExplained : Type 0
 OuterEndsAreExplained =
     (shapes : List Shape) (bodies : UnitBodies) (h : History) (actor : ℕ) (early opening : Trace)
     (object operation : ℕ) (values components left : List ℤ) (exit : Exit) (trace : Trace)
-    → FitBehind shapes bodies h → held_behind 0 (early ++ opening) ≤ 16 → AreRecorded (early ++ opening)
+    → FitBehind shapes bodies h → AreRecorded (early ++ opening)
     → on_protected (target shapes object operation) ≡ true
     → StartsBody h.shapes actor opening object operation values components
     → Along (operation_run_at bodies (held_behind 0 (early ++ opening)) object operation values components) trace (exit, left)
     → HasAsked h actor (early ++ opening) trace
     → Strays (callee_fits shapes) trace ⊎ (HoldsMore trace ⊎ MeantEnd shapes bodies h actor (if shares (target h.shapes object operation) then [] else left) exit)
 
--- the same of each end inside a task's run, of whom nothing was recorded before
+-- the same of each end inside a task's run, who held nothing before
 abbrev pub TaskEndsAreExplained : Type 0
 TaskEndsAreExplained =
-    (shapes : List Shape) (bodies : UnitBodies) (h : History) (actor requests : ℕ) (exit : Exit)
+    (shapes : List Shape) (bodies : UnitBodies) (h : History) (actor requests : ℕ) (first : Trace) (exit : Exit)
     (before after : Trace) (scalars : List ℤ) (ended : Exit) (next : Next)
-    → FitBehind shapes bodies h
+    → FitBehind shapes bodies h → held_behind 0 first ≡ 0
     → Along (task_run bodies actor requests) (before ++ (request.Complete scalars ended, answer.Done next) ∷ after) exit
-    → HasAsked h actor [] before
+    → HasAsked h actor first before
     → Strays (callee_fits shapes) before ⊎ MeantEnd shapes bodies h actor scalars ended
