@@ -27,16 +27,7 @@ fn returned(bodies: &Bodies, runs: u64) -> u64 {
     };
     let mut count = 0u64;
     for _ in 0..runs {
-        let ended = run_body(
-            &(),
-            bodies,
-            1,
-            1,
-            1,
-            Scalars::new(),
-            Args::new(),
-            &mut outward,
-        );
+        let ended = run_body(&(), bodies, 1, 1, Scalars::new(), Args::new(), &mut outward);
         if let Exit::Return(_) = ended.exit {
             count = count.saturating_add(1);
         }

@@ -96,7 +96,7 @@ fn of_operation(held: usize, object: usize) -> Setting
 /// Runs the body of an operation that has started, with these components and values of the call (9.5.1). The actor holds
 /// so many objects, this one with them: 1 where it holds no other, at most 16. It takes no memory. An operation without a
 /// body leaves the components and raises Program_Error.
-pub fn run_body<R, O: Outward<R>>(
+pub fn run_body_at<R, O: Outward<R>>(
     runtime: &R,
     bodies: &Bodies,
     held: usize,
@@ -125,6 +125,23 @@ pub fn run_body<R, O: Outward<R>>(
         scalars: left,
         exit: exit_of(&outcome),
     }
+}
+
+/// Runs the body of an operation that has started, as `run_body_at` does, by an actor that holds its object alone.
+pub fn run_body<R, O: Outward<R>>(
+    runtime: &R,
+    bodies: &Bodies,
+    object: usize,
+    operation: usize,
+    scalars: Scalars,
+    values: Args,
+    outward: &mut O,
+) -> Ended
+    ensures { Ran O.went outward.old (operation_run_at (bodies_view bodies.now) 1 object operation values scalars) outward.new (result.exit, result.scalars) }
+{
+    run_body_at(
+        runtime, bodies, 1, object, operation, scalars, values, outward,
+    )
 }
 
 // The end of a task: it quits, where its mode allows (9.3).

@@ -61,7 +61,6 @@ fn run_one<R: Wait>(
     let ended = run_body(
         rt,
         bodies,
-        1,
         begun.object,
         begun.operation,
         *scalars,

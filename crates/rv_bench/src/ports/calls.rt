@@ -98,7 +98,7 @@ fn call_locked<R: Wait>(rt: &R, host: &Mutex<Host>, bodies: &Bodies, actor: u64)
         answers: &[],
         asked: None,
     };
-    let ended = run_body(&(), bodies, 1, 1, 1, scalars, Args::new(), &mut nobody);
+    let ended = run_body(&(), bodies, 1, 1, scalars, Args::new(), &mut nobody);
     let end = Request::Complete(Scalars::new(), ended.exit);
     let done = host.lock(rt).step(actor as usize, end);
     matches!(done, Answer::Done(_))
