@@ -9,7 +9,7 @@ use Rattle.rv_history.specs.Journal.{shapes_before, lists_before}
 use Rattle.rv_history.proofs.Growing.{front_is}
 use Rattle.rv_turn.specs.Histories.{StartsWith, mine}
 use Rattle.rv_turn.specs.Prefixes.{mine-append}
-use Rattle.rv_meant.specs.Histories.{own_ask, history_of, asked_by, without_last}
+use Rattle.rv_meant.specs.Histories.{own_ask, history_of, asks_of, without_last}
 use Rattle.rv_behind.specs.Events.{by, mark, marks, shapes_of, lists_of, history_back, history_at}
 use Rattle.rv_behind.specs.declared.event.Event.{Event}
 use Rattle.rv_behind.specs.declared.event.Event.TheVariants.{Asks, Loads, Lists}
@@ -45,13 +45,13 @@ own_mark limits actor log (Asks a q w) = refl
 own_mark limits actor log (Loads s u) = refl
 own_mark limits actor log (Lists l) = refl
 
-asked_back : (limits : Limits) (actor : ℕ) (e : Event) (es : List Event) → asked_by actor (history_back limits (e ∷ es)) ≡ asked_by actor (history_back limits es) ++ own_ask actor (mark e) (history_back limits es)
-asked_back limits actor e es = ap (λ (h : History). asked_by actor h ++ own_ask actor (mark e) h) (less_is limits e es)
+asked_back : (limits : Limits) (actor : ℕ) (e : Event) (es : List Event) → asks_of actor (history_back limits (e ∷ es)) ≡ asks_of actor (history_back limits es) ++ own_ask actor (mark e) (history_back limits es)
+asked_back limits actor e es = ap (λ (h : History). asks_of actor h ++ own_ask actor (mark e) h) (less_is limits e es)
 
 pub asks_grow : AsksGrow
 asks_grow limits actor log e =
-    ap (λ (es : List Event). asked_by actor (history_back limits es)) (reverse-append log (e ∷ []))
-    ∙ (asked_back limits actor e (reverse log) ∙ ap (λ (t : Trace). asked_by actor (history_back limits (reverse log)) ++ t) (own_mark limits actor log e))
+    ap (λ (es : List Event). asks_of actor (history_back limits es)) (reverse-append log (e ∷ []))
+    ∙ (asked_back limits actor e (reverse log) ∙ ap (λ (t : Trace). asks_of actor (history_back limits (reverse log)) ++ t) (own_mark limits actor log e))
 
 -- Several
 

@@ -7,24 +7,25 @@ use Rattle.rv_event.specs.declared.entry.Request.TheVariants.{Complete}
 use Rattle.rv_fits.specs.Fits.{calls_fit}
 use Rattle.rv_history.specs.declared.limits.Limits.{Limits}
 use Rattle.rv_turn.specs.Histories.{StartsWith, mine}
-use Rattle.rv_meant.specs.Explained.{IsExplained}
+use Rattle.rv_meant.specs.Explained.{MeantEnd}
 use Rattle.rv_behind.specs.Events.{by, bodies_at, catalogue_of, history_at}
 use Rattle.rv_behind.specs.declared.event.Event.{Event}
 use Rattle.rv_behind.specs.declared.event.Event.TheVariants.{Asks}
 
 -- An end of an actor behind a history of a turn is what its body means, of the bodies of all units loaded in one with which that
--- history begins, whose calls fit these units.
-pub record EndIsExplained (limits : Limits) (actor : ℕ) (before : List Event) (scalars : List ℤ) (exit : Exit) : Type 0 where
+-- history begins, and of which one has the operation; their calls fit these units. Where each load brings its unit's bodies
+-- (Loads), that body is the one that came with the operation's unit.
+pub record ExplainedEnd (limits : Limits) (actor : ℕ) (before : List Event) (scalars : List ℤ) (exit : Exit) : Type 0 where
   pub log : List Event
   pub from : StartsWith before log
   pub fit : calls_fit (catalogue_of log) (bodies_at log) ≡ true
-  pub explained : IsExplained (catalogue_of log) (bodies_at log) (history_at limits before) actor scalars exit
+  pub explained : MeantEnd (catalogue_of log) (bodies_at log) (history_at limits before) actor scalars exit
 
 -- so is each end of the actor in what was seen
 abbrev pub Explained : Limits → List Event → ℕ → Type 0
 Explained limits seen actor =
     (before after : List Event) (scalars : List ℤ) (exit : Exit) (next : Next)
-    → seen ≡ before ++ Asks actor (Complete scalars exit) (Done next) ∷ after → EndIsExplained limits actor before scalars exit
+    → seen ≡ before ++ Asks actor (Complete scalars exit) (Done next) ∷ after → ExplainedEnd limits actor before scalars exit
 
 -- where nothing was seen, nothing is to be explained
 abbrev pub NothingToExplain : Type 0
@@ -35,7 +36,7 @@ abbrev pub ExplainedStays : Type 0
 ExplainedStays =
     (limits : Limits) (seen later : List Event) (actor : ℕ) → StartsWith later seen → Explained limits seen actor
     → ((before after : List Event) (scalars : List ℤ) (exit : Exit) (next : Next) → StartsWith before seen
-    → later ≡ before ++ Asks actor (Complete scalars exit) (Done next) ∷ after → EndIsExplained limits actor before scalars exit)
+    → later ≡ before ++ Asks actor (Complete scalars exit) (Done next) ∷ after → ExplainedEnd limits actor before scalars exit)
     → Explained limits later actor
 
 -- so it stays whatever others add

@@ -4,14 +4,14 @@ use Rattle.rv_exec.specs.Asking.{Trace}
 use Rattle.rv_history.specs.declared.limits.Limits.{Limits}
 use Rattle.rv_history.specs.Due.{out}
 use Rattle.rv_turn.specs.Histories.{StartsWith, mine}
-use Rattle.rv_meant.specs.Histories.{asked_by}
+use Rattle.rv_meant.specs.Histories.{asks_of}
 use Rattle.rv_behind.specs.Events.{by, history_at}
 use Rattle.rv_behind.specs.declared.event.Event.{Event}
 use Rattle.rv_behind.specs.declared.event.Event.TheVariants.{Asks, Loads, Lists}
 
 -- the asks of an actor in a history of a turn, the oldest first
 abbrev pub asked_at : Limits → ℕ → List Event → Trace
-asked_at limits actor log = asked_by actor (history_at limits log)
+asked_at limits actor log = asks_of actor (history_at limits log)
 
 -- an event of the actor, with the answer that was due behind this history
 abbrev pub own_event : Limits → ℕ → List Event → Event → Trace

@@ -463,7 +463,7 @@ one_stop such c values q r true f n m e s = inr (
   (λ held. plain_held held r (final_plain r f)),
   record { before = []; request = q; answer = r; behind = []; trace_is = refl; recorded = tt; final = f; ends = tt },
 )
-one_stop such c values q r false f n m e s = inl (inl (inr (f, c, n, m, values, sym e, s)))
+one_stop such c values q r false f n m e s = inl (inl (f, c, n, m, values, sym e, s))
 
 one_ask : (such : Callee → Bool) (c : Callee) (values : List ℤ) (q : Request) (r : Answer) (begun stopped : Bool) → begins_at_once (replied c r) ≡ begun → stops_at_once (replied c r) ≡ stopped → internal c ≡ None → such c ≡ true → request_of c values ≡ q → CameTo such ((q, r) ∷ []) begun stopped
 one_ask such c values q r true stopped b s n m e =

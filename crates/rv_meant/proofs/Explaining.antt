@@ -18,11 +18,11 @@ use Rattle.rv_exec.specs.Asking.{Trace, Along}
 use Rattle.rv_exec.specs.Stops.{is_final}
 use Rattle.rv_history.specs.Due.{out}
 use Rattle.rv_history.specs.History.{History}
-use Rattle.rv_meant.specs.Runs.{operation_run_at}
-use Rattle.rv_meant.specs.Asks.{held_after, held_behind, IsWhole, AreRecorded, recorded_if, recorded_of, AreStoppedEnds, IsCutOff, IsCourse}
-use Rattle.rv_meant.specs.Nested.{by_stopped, Strays, Closes}
-use Rattle.rv_meant.specs.Histories.{asked_by, without_last}
-use Rattle.rv_meant.specs.Explained.{Opens, stops, is_protected, Stopped, Recounts, IsExplained}
+use Rattle.rv_exec.specs.Blocks.{operation_run_at}
+use Rattle.rv_meant.specs.Asks.{held_after, held_behind, IsWhole, HoldsMore, AreRecorded, recorded_if, recorded_of, AreStoppedEnds, IsCutOff, IsCourse}
+use Rattle.rv_meant.specs.Nested.{by_stopped, Strays, ClosesBody, IsLeftInside}
+use Rattle.rv_meant.specs.Histories.{asks_of, without_last}
+use Rattle.rv_meant.specs.Explained.{StartsBody, stops_bodies, on_protected, Stopped, Recounts, MeantEnd}
 use Rattle.rv_meant.specs.Told.{HasAsked, FitBehind, InnerEndsAreExplained, OuterEndsAreExplained, TaskEndsAreExplained}
 use Rattle.rv_meant.proofs.Nesting.{Place, place_of, none_there, rest_same, held_both, recorded_both}
 use Rattle.rv_meant.proofs.NestedBodies.{bodies_nest, tasks_nest}
@@ -120,20 +120,20 @@ pub record Closing (bodies : UnitBodies) (loaded shapes : List Shape) (actor hel
   pub operation : ℕ
   pub values : List ℤ
   pub components : List ℤ
-  pub is_loaded : is_protected (target loaded object operation) ≡ true
-  pub opens : Opens shapes actor opening object operation values components
+  pub is_loaded : on_protected (target loaded object operation) ≡ true
+  pub opens : StartsBody shapes actor opening object operation values components
   pub whole : IsWhole inside
   pub left : List ℤ
   pub along : Along (operation_run_at bodies (held_behind held (early ++ opening)) object operation values components) inside (exit, left)
   pub scalars_are : scalars ≡ (if shares (target shapes object operation) then [] else left)
   pub course : IsCourse (by_stopped exit) inside
 
-called_opens : (shapes : List Shape) (actor object operation : ℕ) (values components : List ℤ) (opening : Trace) → Called object operation values components opening → Opens shapes actor opening object operation values components
+called_opens : (shapes : List Shape) (actor object operation : ℕ) (values components : List ℤ) (opening : Trace) → Called object operation values components opening → StartsBody shapes actor opening object operation values components
 called_opens shapes actor object operation values components opening (inl e) = inl e
 called_opens shapes actor object operation values components opening (inr e) = inr (inl e)
 
 pub closing_of : (bodies : UnitBodies) (loaded shapes : List Shape) (actor held : ℕ) (before : Trace) (scalars : List ℤ) (exit : Exit)
-    → ((c : Callee) → callee_fits loaded c ≡ true → callee_fits shapes c ≡ true) → Closes (callee_fits loaded) bodies held before scalars exit → Closing bodies loaded shapes actor held before scalars exit
+    → ((c : Callee) → callee_fits loaded c ≡ true → callee_fits shapes c ≡ true) → ClosesBody (callee_fits loaded) bodies held before scalars exit → Closing bodies loaded shapes actor held before scalars exit
 closing_of bodies loaded shapes actor held before scalars exit fits c =
     let o : IsOpening c.callee c.values c.opening c.object c.operation c.is_function c.components = opening_of c.callee c.values c.opening c.object c.operation c.is_function c.components c.opens in
     record {
@@ -160,7 +160,7 @@ module _ (shapes : List Shape) (bodies : UnitBodies) (h : History) (actor : ℕ)
   front_is : first ++ (c.early ++ c.opening) ≡ (first ++ c.early) ++ c.opening
   front_is = sym (append_assoc first c.early c.opening)
 
-  asked_so : (inside : Trace) → asked_by actor h ≡ first ++ ((c.early ++ c.opening) ++ inside) → asked_by actor h ≡ (first ++ c.early) ++ (c.opening ++ inside)
+  asked_so : (inside : Trace) → asks_of actor h ≡ first ++ ((c.early ++ c.opening) ++ inside) → asks_of actor h ≡ (first ++ c.early) ++ (c.opening ++ inside)
   asked_so inside e = e ∙ (sym (append_assoc first (c.early ++ c.opening) inside) ∙ (ap (λ (l : Trace). l ++ inside) front_is ∙ append_assoc (first ++ c.early) c.opening inside))
 
   recorded_is : recorded_of before ≡ (c.early ++ c.opening) ++ recorded_of c.inside
@@ -190,7 +190,7 @@ module _ (shapes : List Shape) (bodies : UnitBodies) (h : History) (actor : ℕ)
   recounts_so false r = sym (all_recorded c.inside r)
   recounts_so true g = stopped_at g
 
-  pub explained : IsExplained shapes bodies h actor scalars exit
+  pub explained : MeantEnd shapes bodies h actor scalars exit
   explained = record {
     early = first ++ c.early;
     opening = c.opening;
@@ -205,7 +205,7 @@ module _ (shapes : List Shape) (bodies : UnitBodies) (h : History) (actor : ℕ)
     whole = λ n. recorded_held n c.inside ∙ c.whole n;
     trace = c.inside;
     recounts = recounts_so (by_stopped exit) c.course;
-    left = c.left;
+    leaves = c.left;
     along = subst (λ (n : ℕ). Along (operation_run_at bodies n c.object c.operation c.values c.components) c.inside (exit, c.left))
         (sym (held_both 0 first (c.early ++ c.opening)) ∙ ap (λ (l : Trace). held_behind 0 l) front_is) c.along;
     scalars_are = c.scalars_are;
@@ -217,24 +217,25 @@ fits_behind : (shapes : List Shape) (bodies : UnitBodies) (h : History) → FitB
 fits_behind shapes bodies h f c e = ap (λ (s : List Shape). callee_fits s c) f.loaded ∙ callee_keeps shapes f.more c e
 
 inner_end : (shapes : List Shape) (bodies : UnitBodies) (h : History) (actor : ℕ) (first before : Trace) (scalars : List ℤ) (exit : Exit) → FitBehind shapes bodies h → HasAsked h actor first before
-    → Strays (callee_fits shapes) before ⊎ Closes (callee_fits shapes) bodies (held_behind 0 first) before scalars exit → Strays (callee_fits shapes) before ⊎ IsExplained shapes bodies h actor scalars exit
+    → Strays (callee_fits shapes) before ⊎ ClosesBody (callee_fits shapes) bodies (held_behind 0 first) before scalars exit → Strays (callee_fits shapes) before ⊎ MeantEnd shapes bodies h actor scalars exit
 inner_end shapes bodies h actor first before scalars exit f k (inl s) = inl s
 inner_end shapes bodies h actor first before scalars exit f k (inr c) =
     inr (explained shapes bodies h actor first before scalars exit k (closing_of bodies shapes h.shapes actor (held_behind 0 first) before scalars exit (fits_behind shapes bodies h f) c))
 
 pub inner_ends : InnerEndsAreExplained
-inner_ends shapes bodies h actor first object operation values components left exit before after scalars ended next f few run k =
+inner_ends shapes bodies h actor first object operation values components left exit before after scalars ended next f run k =
     inner_end shapes bodies h actor first before scalars ended f k
-    ((bodies_nest (callee_fits shapes) bodies (held_behind 0 first) object operation values components left (before ++ (request.Complete scalars ended, answer.Done next) ∷ after) exit f.fit few run).close before after scalars ended next refl)
+    ((bodies_nest (callee_fits shapes) bodies (held_behind 0 first) object operation values components left (before ++ (request.Complete scalars ended, answer.Done next) ∷ after) exit f.fit run).close before after scalars ended next refl)
 
 outer_end : (shapes : List Shape) (bodies : UnitBodies) (h : History) (actor : ℕ) (early opening : Trace) (object operation : ℕ) (values components left : List ℤ) (exit : Exit) (trace : Trace)
-    → AreRecorded (early ++ opening) → is_protected (target shapes object operation) ≡ true → Opens h.shapes actor opening object operation values components
+    → AreRecorded (early ++ opening) → on_protected (target shapes object operation) ≡ true → StartsBody h.shapes actor opening object operation values components
     → Along (operation_run_at bodies (held_behind 0 (early ++ opening)) object operation values components) trace (exit, left) → HasAsked h actor (early ++ opening) trace
-    → Strays (callee_fits shapes) trace ⊎ (IsWhole trace × IsCourse (by_stopped exit) trace) → Strays (callee_fits shapes) trace ⊎ IsExplained shapes bodies h actor (if shares (target h.shapes object operation) then [] else left) exit
+    → Strays (callee_fits shapes) trace ⊎ ((IsWhole trace × IsCourse (by_stopped exit) trace) ⊎ IsLeftInside (by_stopped exit) trace) → Strays (callee_fits shapes) trace ⊎ (HoldsMore trace ⊎ MeantEnd shapes bodies h actor (if shares (target h.shapes object operation) then [] else left) exit)
 outer_end shapes bodies h actor early opening object operation values components left exit trace r m o run k (inl s) = inl s
-outer_end shapes bodies h actor early opening object operation values components left exit trace r m o run k (inr w) =
-    let none : asked_by actor h ≡ [] ++ recorded_of ((early ++ opening) ++ trace) = k.has ∙ sym (recorded_append (early ++ opening) trace ∙ ap (λ (l : Trace). l ++ recorded_of trace) (all_recorded (early ++ opening) r)) in
-    inr (explained shapes bodies h actor [] ((early ++ opening) ++ trace) (if shares (target h.shapes object operation) then [] else left) exit
+outer_end shapes bodies h actor early opening object operation values components left exit trace r m o run k (inr (inr left_inside)) = inr (inl left_inside.1)
+outer_end shapes bodies h actor early opening object operation values components left exit trace r m o run k (inr (inl w)) =
+    let none : asks_of actor h ≡ [] ++ recorded_of ((early ++ opening) ++ trace) = k.has ∙ sym (recorded_append (early ++ opening) trace ∙ ap (λ (l : Trace). l ++ recorded_of trace) (all_recorded (early ++ opening) r)) in
+    inr (inr (explained shapes bodies h actor [] ((early ++ opening) ++ trace) (if shares (target h.shapes object operation) then [] else left) exit
     (record { has = none; due = λ done request answer behind e final. later_due done request answer behind e final })
     (record {
       early = early;
@@ -253,23 +254,23 @@ outer_end shapes bodies h actor early opening object operation values components
       along = run;
       scalars_are = refl;
       course = w.1;
-    }))
+    })))
   where
     due_in : (done : Trace) (request : Request) (answer : Answer) (behind : Trace) → is_final answer ≡ true → Place (request, answer) (early ++ opening) trace done behind
-        → (later : ℕ) × (asked_by actor (without_last later h) ≡ [] ++ recorded_of done) × (stops (out (without_last later h) actor request) ≡ true)
+        → (later : ℕ) × (asks_of actor (without_last later h) ≡ [] ++ recorded_of done) × (stops_bodies (out (without_last later h) actor request) ≡ true)
     due_in done request answer behind final (inl p) = absurd (cut_in_recorded (early ++ opening) done request answer p.0 r p.1 final)
     due_in done request answer behind final (inr p) =
         let d = k.due p.0 request answer behind p.2 final in
         (d.0, d.1 ∙ sym (ap recorded_of p.1 ∙ (recorded_append (early ++ opening) p.0 ∙ ap (λ (l : Trace). l ++ recorded_of p.0) (all_recorded (early ++ opening) r))), d.2)
 
     later_due : (done : Trace) (request : Request) (answer : Answer) (behind : Trace) → (early ++ opening) ++ trace ≡ done ++ (request, answer) ∷ behind → is_final answer ≡ true
-        → (later : ℕ) × (asked_by actor (without_last later h) ≡ [] ++ recorded_of done) × (stops (out (without_last later h) actor request) ≡ true)
+        → (later : ℕ) × (asks_of actor (without_last later h) ≡ [] ++ recorded_of done) × (stops_bodies (out (without_last later h) actor request) ≡ true)
     later_due done request answer behind e final = due_in done request answer behind final (place_of (request, answer) (early ++ opening) trace done behind e)
 
 pub outer_ends : OuterEndsAreExplained
-outer_ends shapes bodies h actor early opening object operation values components left exit trace f few r m o run k =
+outer_ends shapes bodies h actor early opening object operation values components left exit trace f r m o run k =
     outer_end shapes bodies h actor early opening object operation values components left exit trace r m o run k
-    ((bodies_nest (callee_fits shapes) bodies (held_behind 0 (early ++ opening)) object operation values components left trace exit f.fit few run).course)
+    ((bodies_nest (callee_fits shapes) bodies (held_behind 0 (early ++ opening)) object operation values components left trace exit f.fit run).course)
 
 no_end_in : (before after : Trace) (scalars : List ℤ) (exit : Exit) (next : Next) (quit : Trace) → (quit ≡ []) ⊎ ((r : Answer) × (quit ≡ (request.Quit, r) ∷ [])) → quit ≡ before ++ (request.Complete scalars exit, answer.Done next) ∷ after → ⊥
 no_end_in before after scalars exit next quit (inl e) h = none_there (request.Complete scalars exit, answer.Done next) before after (sym e ∙ h)
@@ -280,8 +281,8 @@ no_end_in before after scalars exit next quit (inr e) h = only_quit before after
     only_quit (pair ∷ before) after scalars exit next r e = none_there (request.Complete scalars exit, answer.Done next) before after (rest_same (request.Quit, r) pair [] (before ++ (request.Complete scalars exit, answer.Done next) ∷ after) e)
 
 pub task_ends : TaskEndsAreExplained
-task_ends shapes bodies h actor requests exit before after scalars ended next f run k =
+task_ends shapes bodies h actor requests first exit before after scalars ended next f none run k =
     let t = tasks_nest (callee_fits shapes) bodies actor requests (before ++ (request.Complete scalars ended, answer.Done next) ∷ after) exit f.fit run in
-    inner_end shapes bodies h actor [] before scalars ended f k
-    (⊎_elim (λ p. t.nested.close before p.0 scalars ended next p.1) (λ p. absurd (no_end_in p.0 after scalars ended next t.quit t.quits p.2))
-    (place_of (request.Complete scalars ended, answer.Done next) t.asked t.quit before after (sym t.trace_is)))
+    inner_end shapes bodies h actor first before scalars ended f k
+    (subst (λ (n : ℕ). Strays (callee_fits shapes) before ⊎ ClosesBody (callee_fits shapes) bodies n before scalars ended) (sym none) (⊎_elim (λ p. t.nested.close before p.0 scalars ended next p.1) (λ p. absurd (no_end_in p.0 after scalars ended next t.quit t.quits p.2))
+    (place_of (request.Complete scalars ended, answer.Done next) t.asked t.quit before after (sym t.trace_is))))

@@ -4,33 +4,83 @@ use Rattle.std.proofs.Common.{◌≡◌, [], ◌∷◌, ◌++◌, Bool, true, fa
 use Rattle.rv_code.specs.declared.expression.Callee.{Callee}
 use Rattle.rv_exec.specs.declared.activation.Activation.{Activation}
 use Rattle.rv_exec.specs.declared.end.Cause.{Cause}
+use Rattle.rv_exec.specs.declared.end.Cause.TheVariants as cause
 use Rattle.rv_exec.specs.declared.end.End.{End}
 use Rattle.rv_exec.specs.declared.end.End.TheVariants as end
 use Rattle.rv_exec.specs.Asking.{Trace, Asking, ended, asking, and_then, Along}
 use Rattle.rv_exec.specs.Expressions.{on_value, fails}
 use Rattle.rv_exec.specs.Statements.{abandons, go_on, again}
 use Rattle.rv_exec.specs.World.{Run}
-use Rattle.rv_exec.proofs.Stopping.{by_stop, stopped_got, stopped_run}
+use Rattle.rv_exec.proofs.Stopping.{stopped_result, stopped_run}
 
--- what is kept of a trace, and of whether its run stopped; all that is called is such
+-- how what is asked ends: it goes on; it stops; or it stops and leaves its actor waiting, or in a body
+pub data How : Type 0 where
+  ongoing : How
+  halted : How
+  stuck : How
+
+-- whether it stops
+abbrev pub is_stop : How → Bool
+is_stop ongoing = false
+is_stop halted = true
+is_stop stuck = true
+
+abbrev pub how_by : Cause → How
+how_by (cause.Stopped true) = halted
+how_by (cause.Stopped false) = stuck
+how_by (cause.Raised exception) = ongoing
+how_by cause.Overrun = ongoing
+
+abbrev pub how_result : {A : Type 0} → Result A Cause → How
+how_result (Ok v) = ongoing
+how_result (Err why) = how_by why
+
+abbrev pub how_got : {A B : Type 0} → Result A Cause × B → How
+how_got got = how_result got.0
+
+abbrev pub how_end : End → How
+how_end end.Next = ongoing
+how_end end.Exit = ongoing
+how_end (end.Return v) = ongoing
+how_end (end.Abandoned why) = how_by why
+
+abbrev pub how_run : End × Activation → How
+how_run ran = how_end ran.0
+
+pub ongoing_result : {A : Type 0} (r : Result A Cause) → stopped_result r ≡ false → how_result r ≡ ongoing
+ongoing_result (Ok v) e = refl
+ongoing_result (Err (cause.Raised exception)) e = refl
+ongoing_result (Err cause.Overrun) e = refl
+ongoing_result (Err (cause.Stopped is_idle)) e = absurd (cc e)
+
+pub ongoing_run : (ran : End × Activation) → stopped_run ran ≡ false → how_run ran ≡ ongoing
+ongoing_run (end.Next, a) e = refl
+ongoing_run (end.Exit, a) e = refl
+ongoing_run (end.Return v, a) e = refl
+ongoing_run (end.Abandoned (cause.Raised exception), a) e = refl
+ongoing_run (end.Abandoned cause.Overrun, a) e = refl
+ongoing_run (end.Abandoned (cause.Stopped is_idle), a) e = absurd (cc e)
+
+-- what is kept of a trace, and of how its run ends; all that is called is such
 pub record Kept : Type 1 where
   pub such : Callee → Bool
-  pub holds : Trace → Bool → Type 0
-  pub nothing : holds [] false
-  pub both : (first second : Trace) (stopped : Bool) → holds first false → holds second stopped → holds (first ++ second) stopped
+  pub holds : Trace → How → Type 0
+  pub nothing : holds [] ongoing
+  pub both : (first second : Trace) (how : How) → holds first ongoing → holds second how → holds (first ++ second) how
 
 -- it holds of all that is asked
-abbrev pub Sound : {A : Type 0} → Kept → (A → Bool) → Asking A → Type 0
-Sound {A = A} kept stopped what = (trace : Trace) (a : A) → Along what trace a → kept.holds trace (stopped a)
+abbrev pub Sound : {A : Type 0} → Kept → (A → How) → Asking A → Type 0
+Sound {A = A} kept how what = (trace : Trace) (a : A) → Along what trace a → kept.holds trace (how a)
 
--- nothing is asked, and it is a stop
-abbrev pub Silent : {A : Type 0} → (A → Bool) → Asking A → Type 0
-Silent {A = A} stopped what = (trace : Trace) (a : A) → Along what trace a → (trace ≡ []) × (stopped a ≡ true)
+-- nothing is asked, and it ends so
+abbrev pub Silent : {A : Type 0} → How → (A → How) → Asking A → Type 0
+Silent {A = A} k how what = (trace : Trace) (a : A) → Along what trace a → (trace ≡ []) × (how a ≡ k)
 
 -- what follows an end: behind a stop nothing
-abbrev pub Follows : {A : Type 0} → Kept → Bool → (A → Bool) → Asking A → Type 0
-Follows kept true stopped what = Silent stopped what
-Follows kept false stopped what = Sound kept stopped what
+abbrev pub Follows : {A : Type 0} → Kept → How → (A → How) → Asking A → Type 0
+Follows kept ongoing how what = Sound kept how what
+Follows kept halted how what = Silent halted how what
+Follows kept stuck how what = Silent stuck how what
 
 -- Traces
 
@@ -61,72 +111,78 @@ ends_with a (pair ∷ more) b h = absurd h
 
 -- Ends
 
-pub sound_end : (kept : Kept) {A : Type 0} (stopped : A → Bool) (a : A) → stopped a ≡ false → Sound kept stopped (ended a)
-sound_end kept stopped a e [] b h = subst (λ (k : Bool). kept.holds [] k) (sym e ∙ ap stopped h) kept.nothing
-sound_end kept stopped a e (pair ∷ more) b h = absurd h
+pub sound_end : (kept : Kept) {A : Type 0} (how : A → How) (a : A) → how a ≡ ongoing → Sound kept how (ended a)
+sound_end kept how a e [] b h = subst (λ (k : How). kept.holds [] k) (sym e ∙ ap how h) kept.nothing
+sound_end kept how a e (pair ∷ more) b h = absurd h
 
-pub silent_end : {A : Type 0} (stopped : A → Bool) (a : A) → stopped a ≡ true → Silent stopped (ended a)
-silent_end stopped a e [] b h = (refl, sym (ap stopped h) ∙ e)
-silent_end stopped a e (pair ∷ more) b h = absurd h
+pub silent_end : {A : Type 0} (k : How) (how : A → How) (a : A) → how a ≡ k → Silent k how (ended a)
+silent_end k how a e [] b h = (refl, sym (ap how h) ∙ e)
+silent_end k how a e (pair ∷ more) b h = absurd h
 
-pub follows_end : (kept : Kept) {A : Type 0} (k : Bool) (stopped : A → Bool) (a : A) → stopped a ≡ k → Follows kept k stopped (ended a)
-follows_end kept true stopped a e = silent_end stopped a e
-follows_end kept false stopped a e = sound_end kept stopped a e
+pub follows_end : (kept : Kept) {A : Type 0} (k : How) (how : A → How) (a : A) → how a ≡ k → Follows kept k how (ended a)
+follows_end kept ongoing how a e = sound_end kept how a e
+follows_end kept halted how a e = silent_end halted how a e
+follows_end kept stuck how a e = silent_end stuck how a e
 
 -- an end that is no stop, and what follows it
-pub sound_where : (kept : Kept) {A : Type 0} (k : Bool) (stopped : A → Bool) (what : Asking A) → k ≡ false → Follows kept k stopped what → Sound kept stopped what
-sound_where kept true stopped what e f = absurd (cc e)
-sound_where kept false stopped what e f = f
+pub sound_where : (kept : Kept) {A : Type 0} (k : How) (how : A → How) (what : Asking A) → k ≡ ongoing → Follows kept k how what → Sound kept how what
+sound_where kept ongoing how what e f = f
+sound_where kept halted how what e f = absurd (cc e)
+sound_where kept stuck how what e f = absurd (cc e)
 
-pub sound_if : (kept : Kept) {A : Type 0} (k : Bool) (stopped : A → Bool) (one other : Asking A) → Sound kept stopped one → Sound kept stopped other → Sound kept stopped (cond k one other)
-sound_if kept true stopped one other f g = f
-sound_if kept false stopped one other f g = g
+pub sound_if : (kept : Kept) {A : Type 0} (k : Bool) (how : A → How) (one other : Asking A) → Sound kept how one → Sound kept how other → Sound kept how (cond k one other)
+sound_if kept true how one other f g = f
+sound_if kept false how one other f g = g
 
 -- One run and then another
 
-both_if : (kept : Kept) {A B : Type 0} (k : Bool) (one : A → Bool) (two : B → Bool) (first second : Trace) (what : Asking A) (next : Asking B) (a : A) (b : B) → one a ≡ k → Sound kept one what → Follows kept k two next → Along what first a → Along next second b → kept.holds (first ++ second) (two b)
-both_if kept true one two first second what next a b e f g h i =
+both_silent : (kept : Kept) {A B : Type 0} (k : How) (one : A → How) (two : B → How) (first second : Trace) (what : Asking A) (next : Asking B) (a : A) (b : B) → one a ≡ k → Sound kept one what → Silent k two next → Along what first a → Along next second b → kept.holds (first ++ second) (two b)
+both_silent kept k one two first second what next a b e f g h i =
     let quiet = g second b i in
-    subst (λ (x : Trace × Bool). kept.holds x.0 x.1) (λ j. (sym (ap (λ (l : Trace). first ++ l) quiet.0 ∙ append-nil first) j, (e ∙ sym quiet.1) j)) (f first a h)
-both_if kept false one two first second what next a b e f g h i =
-    kept.both first second (two b) (subst (λ (k : Bool). kept.holds first k) e (f first a h)) (g second b i)
+    subst (λ (x : Trace × How). kept.holds x.0 x.1) (λ j. (sym (ap (λ (l : Trace). first ++ l) quiet.0 ∙ append-nil first) j, (e ∙ sym quiet.1) j)) (f first a h)
 
-pub sound_then : (kept : Kept) {A B : Type 0} (one : A → Bool) (two : B → Bool) (what : Asking A) (go : A → Asking B) → Sound kept one what → ((a : A) → Follows kept (one a) two (go a)) → Sound kept two (and_then what go)
+both_if : (kept : Kept) {A B : Type 0} (k : How) (one : A → How) (two : B → How) (first second : Trace) (what : Asking A) (next : Asking B) (a : A) (b : B) → one a ≡ k → Sound kept one what → Follows kept k two next → Along what first a → Along next second b → kept.holds (first ++ second) (two b)
+both_if kept ongoing one two first second what next a b e f g h i =
+    kept.both first second (two b) (subst (λ (k : How). kept.holds first k) e (f first a h)) (g second b i)
+both_if kept halted one two first second what next a b e f g h i = both_silent kept halted one two first second what next a b e f g h i
+both_if kept stuck one two first second what next a b e f g h i = both_silent kept stuck one two first second what next a b e f g h i
+
+pub sound_then : (kept : Kept) {A B : Type 0} (one : A → How) (two : B → How) (what : Asking A) (go : A → Asking B) → Sound kept one what → ((a : A) → Follows kept (one a) two (go a)) → Sound kept two (and_then what go)
 sound_then kept one two what go f g trace b h =
     let p = split what go trace b h in
     subst (λ (t : Trace). kept.holds t (two b)) (sym p.trace_is) (both_if kept (one p.middle) one two p.first p.second what (go p.middle) p.middle b refl f (g p.middle) p.along p.rest)
 
 -- a value, and what follows it
-pub follows_value : (kept : Kept) {A B : Type 0} (go : A → Activation → Asking (Result B Cause × Activation)) → ((v : A) (a : Activation) → Sound kept stopped_got (go v a)) → (got : Result A Cause × Activation) → Follows kept (stopped_got got) stopped_got (on_value fails go got)
+pub follows_value : (kept : Kept) {A B : Type 0} (go : A → Activation → Asking (Result B Cause × Activation)) → ((v : A) (a : Activation) → Sound kept how_got (go v a)) → (got : Result A Cause × Activation) → Follows kept (how_got got) how_got (on_value fails go got)
 follows_value kept go f (Ok v, a) = f v a
-follows_value kept go f (Err why, a) = follows_end kept (by_stop why) stopped_got (Err why, a) refl
+follows_value kept go f (Err why, a) = follows_end kept (how_by why) how_got (Err why, a) refl
 
-pub sound_value : (kept : Kept) {A B : Type 0} (what : Asking (Result A Cause × Activation)) (go : A → Activation → Asking (Result B Cause × Activation)) → Sound kept stopped_got what → ((v : A) (a : Activation) → Sound kept stopped_got (go v a)) → Sound kept stopped_got (and_then what (on_value fails go))
-sound_value kept what go f g = sound_then kept stopped_got stopped_got what (on_value fails go) f (follows_value kept go g)
+pub sound_value : (kept : Kept) {A B : Type 0} (what : Asking (Result A Cause × Activation)) (go : A → Activation → Asking (Result B Cause × Activation)) → Sound kept how_got what → ((v : A) (a : Activation) → Sound kept how_got (go v a)) → Sound kept how_got (and_then what (on_value fails go))
+sound_value kept what go f g = sound_then kept how_got how_got what (on_value fails go) f (follows_value kept go g)
 
-follows_in_run : (kept : Kept) {A : Type 0} (go : A → Activation → Run) → ((v : A) (a : Activation) → Sound kept stopped_run (go v a)) → (got : Result A Cause × Activation) → Follows kept (stopped_got got) stopped_run (on_value abandons go got)
+follows_in_run : (kept : Kept) {A : Type 0} (go : A → Activation → Run) → ((v : A) (a : Activation) → Sound kept how_run (go v a)) → (got : Result A Cause × Activation) → Follows kept (how_got got) how_run (on_value abandons go got)
 follows_in_run kept go f (Ok v, a) = f v a
-follows_in_run kept go f (Err why, a) = follows_end kept (by_stop why) stopped_run (end.Abandoned why, a) refl
+follows_in_run kept go f (Err why, a) = follows_end kept (how_by why) how_run (end.Abandoned why, a) refl
 
-pub sound_in_run : (kept : Kept) {A : Type 0} (what : Asking (Result A Cause × Activation)) (go : A → Activation → Run) → Sound kept stopped_got what → ((v : A) (a : Activation) → Sound kept stopped_run (go v a)) → Sound kept stopped_run (and_then what (on_value abandons go))
-sound_in_run kept what go f g = sound_then kept stopped_got stopped_run what (on_value abandons go) f (follows_in_run kept go g)
+pub sound_in_run : (kept : Kept) {A : Type 0} (what : Asking (Result A Cause × Activation)) (go : A → Activation → Run) → Sound kept how_got what → ((v : A) (a : Activation) → Sound kept how_run (go v a)) → Sound kept how_run (and_then what (on_value abandons go))
+sound_in_run kept what go f g = sound_then kept how_got how_run what (on_value abandons go) f (follows_in_run kept go g)
 
 -- a statement, and what follows it
-pub follows_run : (kept : Kept) (go : Activation → Run) → ((a : Activation) → Sound kept stopped_run (go a)) → (ran : End × Activation) → Follows kept (stopped_run ran) stopped_run (go_on go ran)
+pub follows_run : (kept : Kept) (go : Activation → Run) → ((a : Activation) → Sound kept how_run (go a)) → (ran : End × Activation) → Follows kept (how_run ran) how_run (go_on go ran)
 follows_run kept go f (end.Next, a) = f a
-follows_run kept go f (end.Exit, a) = sound_end kept stopped_run (end.Exit, a) refl
-follows_run kept go f (end.Return v, a) = sound_end kept stopped_run (end.Return v, a) refl
-follows_run kept go f (end.Abandoned why, a) = follows_end kept (by_stop why) stopped_run (end.Abandoned why, a) refl
+follows_run kept go f (end.Exit, a) = sound_end kept how_run (end.Exit, a) refl
+follows_run kept go f (end.Return v, a) = sound_end kept how_run (end.Return v, a) refl
+follows_run kept go f (end.Abandoned why, a) = follows_end kept (how_by why) how_run (end.Abandoned why, a) refl
 
-pub sound_run : (kept : Kept) (what : Run) (go : Activation → Run) → Sound kept stopped_run what → ((a : Activation) → Sound kept stopped_run (go a)) → Sound kept stopped_run (and_then what (go_on go))
-sound_run kept what go f g = sound_then kept stopped_run stopped_run what (go_on go) f (follows_run kept go g)
+pub sound_run : (kept : Kept) (what : Run) (go : Activation → Run) → Sound kept how_run what → ((a : Activation) → Sound kept how_run (go a)) → Sound kept how_run (and_then what (go_on go))
+sound_run kept what go f g = sound_then kept how_run how_run what (go_on go) f (follows_run kept go g)
 
 -- a turn, and the next
-follows_turn : (kept : Kept) (go : Activation → Run) → ((a : Activation) → Sound kept stopped_run (go a)) → (ran : End × Activation) → Follows kept (stopped_run ran) stopped_run (again go ran)
+follows_turn : (kept : Kept) (go : Activation → Run) → ((a : Activation) → Sound kept how_run (go a)) → (ran : End × Activation) → Follows kept (how_run ran) how_run (again go ran)
 follows_turn kept go f (end.Next, a) = f a
-follows_turn kept go f (end.Exit, a) = sound_end kept stopped_run (end.Next, a) refl
-follows_turn kept go f (end.Return v, a) = sound_end kept stopped_run (end.Return v, a) refl
-follows_turn kept go f (end.Abandoned why, a) = follows_end kept (by_stop why) stopped_run (end.Abandoned why, a) refl
+follows_turn kept go f (end.Exit, a) = sound_end kept how_run (end.Next, a) refl
+follows_turn kept go f (end.Return v, a) = sound_end kept how_run (end.Return v, a) refl
+follows_turn kept go f (end.Abandoned why, a) = follows_end kept (how_by why) how_run (end.Abandoned why, a) refl
 
-pub sound_turn : (kept : Kept) (what : Run) (go : Activation → Run) → Sound kept stopped_run what → ((a : Activation) → Sound kept stopped_run (go a)) → Sound kept stopped_run (and_then what (again go))
-sound_turn kept what go f g = sound_then kept stopped_run stopped_run what (again go) f (follows_turn kept go g)
+pub sound_turn : (kept : Kept) (what : Run) (go : Activation → Run) → Sound kept how_run what → ((a : Activation) → Sound kept how_run (go a)) → Sound kept how_run (and_then what (again go))
+sound_turn kept what go f g = sound_then kept how_run how_run what (again go) f (follows_turn kept go g)

@@ -22,9 +22,8 @@ use Rattle.rv_exec.specs.Choices.{named, handler_of}
 use Rattle.rv_exec.specs.Expressions.{value}
 use Rattle.rv_exec.specs.Statements.{go_on, meanings}
 use Rattle.rv_exec.specs.World.{World}
-use Rattle.rv_exec.proofs.Stopping.{stopped_result, stopped_got, stopped_end, stopped_run}
 use Rattle.rv_exec.proofs.StoppedStatements.{assigned_goes}
-use Rattle.rv_meant.proofs.Keeping.{Kept, Sound, Follows, sound_end, silent_end, follows_end, sound_where, sound_then, sound_in_run, sound_run, follows_run}
+use Rattle.rv_meant.proofs.Keeping.{ongoing, how_by, how_result, how_got, how_end, how_run, ongoing_run, Kept, Sound, Follows, sound_end, follows_end, sound_where, sound_then, sound_in_run, sound_run, follows_run}
 use Rattle.rv_meant.proofs.KeptValues.{SoundWorld, value_sound}
 use Rattle.rv_meant.proofs.KeptStatements.{statements_sound}
 
@@ -90,39 +89,39 @@ task_found such bodies actor m =
 -- Blocks
 
 module _ (kept : Kept) (w : World) (k : SoundWorld kept w) where
-  elaborated_sound : (ds : List Declaration) (a : Activation) → list_all (declaration_calls kept.such) ds ≡ true → Sound kept stopped_run (elaborated w ds a)
+  elaborated_sound : (ds : List Declaration) (a : Activation) → list_all (declaration_calls kept.such) ds ≡ true → Sound kept how_run (elaborated w ds a)
   unfolding elaborated
-  elaborated_sound [] a m = sound_end kept stopped_run (end.Next, a) refl
+  elaborated_sound [] a m = sound_end kept how_run (end.Next, a) refl
   elaborated_sound (d ∷ more) a m =
       sound_in_run kept (value w d.initial a) (λ v b. go_on (elaborated w more) (assigned d.target v b)) (value_sound kept w k d.initial a (first_of_both (declaration_calls kept.such d) (list_all (declaration_calls kept.such) more) m))
-      (λ v b. sound_where kept (stopped_run (assigned d.target v b)) stopped_run (go_on (elaborated w more) (assigned d.target v b)) (assigned_goes d.target v b)
+      (λ v b. sound_where kept (how_run (assigned d.target v b)) how_run (go_on (elaborated w more) (assigned d.target v b)) (ongoing_run (assigned d.target v b) (assigned_goes d.target v b))
       (follows_run kept (elaborated w more) (λ c. elaborated_sound more c (second_of_both (declaration_calls kept.such d) (list_all (declaration_calls kept.such) more) m)) (assigned d.target v b)))
 
   -- a handler's statements run in a world of the same calls
   same_calls : (exception : Exception) → SoundWorld kept (in_handler exception w)
   same_calls exception = record { inner = k.inner; outer = k.outer }
 
-  handling_sound : (exception : Exception) (o : Option Statements) (e : End) (a : Activation) → found_calls kept.such o ≡ true → stopped_end e ≡ false → Sound kept stopped_run (handling w exception o (e, a))
-  handling_sound exception None e a m is = sound_end kept stopped_run (e, a) is
+  handling_sound : (exception : Exception) (o : Option Statements) (e : End) (a : Activation) → found_calls kept.such o ≡ true → how_end e ≡ ongoing → Sound kept how_run (handling w exception o (e, a))
+  handling_sound exception None e a m is = sound_end kept how_run (e, a) is
   handling_sound exception (Some ss) e a m is = statements_sound kept (in_handler exception w) (same_calls exception) ss a m
 
-  follows_handled : (handlers : List Handler) (ran : End × Activation) → list_all (handler_calls kept.such) handlers ≡ true → Follows kept (stopped_run ran) stopped_run (handled w handlers ran)
-  follows_handled handlers (end.Next, a) m = sound_end kept stopped_run (end.Next, a) refl
-  follows_handled handlers (end.Exit, a) m = sound_end kept stopped_run (end.Exit, a) refl
-  follows_handled handlers (end.Return v, a) m = sound_end kept stopped_run (end.Return v, a) refl
+  follows_handled : (handlers : List Handler) (ran : End × Activation) → list_all (handler_calls kept.such) handlers ≡ true → Follows kept (how_run ran) how_run (handled w handlers ran)
+  follows_handled handlers (end.Next, a) m = sound_end kept how_run (end.Next, a) refl
+  follows_handled handlers (end.Exit, a) m = sound_end kept how_run (end.Exit, a) refl
+  follows_handled handlers (end.Return v, a) m = sound_end kept how_run (end.Return v, a) refl
   follows_handled handlers (end.Abandoned (cause.Raised exception), a) m = handling_sound exception (handler_of handlers exception) (end.Abandoned (cause.Raised exception)) a (handler_found kept.such handlers exception m) refl
-  follows_handled handlers (end.Abandoned cause.Overrun, a) m = sound_end kept stopped_run (end.Abandoned cause.Overrun, a) refl
-  follows_handled handlers (end.Abandoned (cause.Stopped is_idle), a) m = silent_end stopped_run (end.Abandoned (cause.Stopped is_idle), a) refl
+  follows_handled handlers (end.Abandoned cause.Overrun, a) m = sound_end kept how_run (end.Abandoned cause.Overrun, a) refl
+  follows_handled handlers (end.Abandoned (cause.Stopped is_idle), a) m = follows_end kept (how_by (cause.Stopped is_idle)) how_run (end.Abandoned (cause.Stopped is_idle), a) refl
 
-  pub block_sound : (body : Body) (a : Activation) → body_calls kept.such body ≡ true → Sound kept stopped_run (block w body a)
+  pub block_sound : (body : Body) (a : Activation) → body_calls kept.such body ≡ true → Sound kept how_run (block w body a)
   unfolding block
   block_sound body a m =
       let behind = second_of_both (list_all (declaration_calls kept.such) body.declarations) (statements_call kept.such body.statements && list_all (handler_calls kept.such) body.handlers) m in
       sound_run kept (elaborated w body.declarations a) (λ b. and_then (meanings w body.statements b) (handled w body.handlers)) (elaborated_sound body.declarations a (first_of_both (list_all (declaration_calls kept.such) body.declarations) (statements_call kept.such body.statements && list_all (handler_calls kept.such) body.handlers) m))
-      (λ b. sound_then kept stopped_run stopped_run (meanings w body.statements b) (handled w body.handlers) (statements_sound kept w k body.statements b (first_of_both (statements_call kept.such body.statements) (list_all (handler_calls kept.such) body.handlers) behind))
+      (λ b. sound_then kept how_run how_run (meanings w body.statements b) (handled w body.handlers) (statements_sound kept w k body.statements b (first_of_both (statements_call kept.such body.statements) (list_all (handler_calls kept.such) body.handlers) behind))
       (λ ran. follows_handled body.handlers ran (second_of_both (statements_call kept.such body.statements) (list_all (handler_calls kept.such) body.handlers) behind)))
 
-pub outcome_stops : (is_function : Bool) (e : End) (values : List ℤ) → stopped_result (cond is_function (function_outcome e) (procedure_outcome e values)) ≡ stopped_end e
+pub outcome_stops : (is_function : Bool) (e : End) (values : List ℤ) → how_result (cond is_function (function_outcome e) (procedure_outcome e values)) ≡ how_end e
 outcome_stops true end.Next values = refl
 outcome_stops true end.Exit values = refl
 outcome_stops true (end.Return None) values = refl
@@ -133,19 +132,19 @@ outcome_stops false end.Exit values = refl
 outcome_stops false (end.Return v) values = refl
 outcome_stops false (end.Abandoned why) values = refl
 
-follows_closed : (kept : Kept) (body : Body) (ran : End × Activation) → Follows kept (stopped_run ran) stopped_got (closed body ran)
-follows_closed kept body (e, a) = follows_end kept (stopped_end e) stopped_got (outcome_of body e a, (a.components, a.steps)) (outcome_stops body.is_function e (given_back body.parameters 0 a.slots []))
+follows_closed : (kept : Kept) (body : Body) (ran : End × Activation) → Follows kept (how_run ran) how_got (closed body ran)
+follows_closed kept body (e, a) = follows_end kept (how_end e) how_got (outcome_of body e a, (a.components, a.steps)) (outcome_stops body.is_function e (given_back body.parameters 0 a.slots []))
 
-pub body_sound : (kept : Kept) (w : World) (k : SoundWorld kept w) (o : Option Body) (values components : List ℤ) (steps : ℕ) → task_calls kept.such o ≡ true → Sound kept stopped_got (body_meaning w o values components steps)
+pub body_sound : (kept : Kept) (w : World) (k : SoundWorld kept w) (o : Option Body) (values components : List ℤ) (steps : ℕ) → task_calls kept.such o ≡ true → Sound kept how_got (body_meaning w o values components steps)
 unfolding body_meaning
-body_sound kept w k None values components steps m = sound_end kept stopped_got (Err (cause.Raised ProgramError), (components, steps)) refl
+body_sound kept w k None values components steps m = sound_end kept how_got (Err (cause.Raised ProgramError), (components, steps)) refl
 body_sound kept w k (Some body) values components steps m =
-    sound_then kept stopped_run stopped_got (block w body (opened (bound body.parameters 0 0 values (replicate 132 (pos 0))) components steps 0)) (closed body)
+    sound_then kept how_run how_got (block w body (opened (bound body.parameters 0 0 values (replicate 132 (pos 0))) components steps 0)) (closed body)
     (block_sound kept w k body (opened (bound body.parameters 0 0 values (replicate 132 (pos 0))) components steps 0) m) (follows_closed kept body)
 
-pub inner_sound : (kept : Kept) (bodies : UnitBodies) (object : ℕ) (outer : Callee → List ℤ → Asking Outcome) → every_call kept.such bodies ≡ true → ((c : Callee) (values : List ℤ) → internal c ≡ None → kept.such c ≡ true → Sound kept stopped_result (outer c values)) → (nested operation : ℕ) (values components : List ℤ) (steps : ℕ) → Sound kept stopped_got (inner_at bodies object outer nested operation values components steps)
+pub inner_sound : (kept : Kept) (bodies : UnitBodies) (object : ℕ) (outer : Callee → List ℤ → Asking Outcome) → every_call kept.such bodies ≡ true → ((c : Callee) (values : List ℤ) → internal c ≡ None → kept.such c ≡ true → Sound kept how_result (outer c values)) → (nested operation : ℕ) (values components : List ℤ) (steps : ℕ) → Sound kept how_got (inner_at bodies object outer nested operation values components steps)
 unfolding inner_at
-inner_sound kept bodies object outer m f zero operation values components steps = sound_end kept stopped_got (Err cause.Overrun, (components, steps)) refl
+inner_sound kept bodies object outer m f zero operation values components steps = sound_end kept how_got (Err cause.Overrun, (components, steps)) refl
 inner_sound kept bodies object outer m f (suc nested) operation values components steps =
     body_sound kept (record { inner = inner_at bodies object outer nested; outer = outer; is_task = false; handling = None })
     (record { inner = λ o v c s. inner_sound kept bodies object outer m f nested o v c s; outer = f }) (operation_of bodies object operation) values components steps (operation_calls kept.such bodies object operation m)

@@ -22,9 +22,9 @@ use Rattle.rv_exec.specs.Activations.{joined, spent}
 use Rattle.rv_exec.specs.Calls.{Outcome, internal}
 use Rattle.rv_exec.specs.Expressions.{on_value, fails, returned, answered, asked_by, called_by, called, passing, given, value, linked, arguments}
 use Rattle.rv_exec.specs.World.{World, GotAll}
-use Rattle.rv_exec.proofs.Stopping.{by_stop, stopped_result, stopped_got}
+use Rattle.rv_exec.proofs.Stopping.{stopped_result}
 use Rattle.rv_exec.proofs.StoppedValues.{within_goes}
-use Rattle.rv_meant.proofs.Keeping.{Kept, Sound, Follows, sound_end, follows_end, follows_value, sound_where, sound_if, sound_then, sound_value}
+use Rattle.rv_meant.proofs.Keeping.{how_by, how_result, how_got, ongoing_result, Kept, Sound, Follows, sound_end, follows_end, follows_value, sound_where, sound_if, sound_then, sound_value}
 
 -- Operators never stop
 
@@ -66,64 +66,64 @@ result_goes operator.GreaterEqual v u = refl
 
 -- a world whose calls keep it
 pub record SoundWorld (kept : Kept) (w : World) : Type 0 where
-  pub inner : (operation : ℕ) (values components : List ℤ) (steps : ℕ) → Sound kept stopped_got (w.inner operation values components steps)
-  pub outer : (c : Callee) (values : List ℤ) → internal c ≡ None → kept.such c ≡ true → Sound kept stopped_result (w.outer c values)
+  pub inner : (operation : ℕ) (values components : List ℤ) (steps : ℕ) → Sound kept how_got (w.inner operation values components steps)
+  pub outer : (c : Callee) (values : List ℤ) → internal c ≡ None → kept.such c ≡ true → Sound kept how_result (w.outer c values)
 
-follows_returned : (kept : Kept) (a : Activation) (got : Outcome × (List ℤ × ℕ)) → Follows kept (stopped_got got) stopped_got (returned a got)
-follows_returned kept a (outcome, (components, steps)) = follows_end kept (stopped_result outcome) stopped_got (outcome, record a { components = components; steps = steps }) refl
+follows_returned : (kept : Kept) (a : Activation) (got : Outcome × (List ℤ × ℕ)) → Follows kept (how_got got) how_got (returned a got)
+follows_returned kept a (outcome, (components, steps)) = follows_end kept (how_result outcome) how_got (outcome, record a { components = components; steps = steps }) refl
 
-follows_given : (kept : Kept) (got : GotAll) → Follows kept (stopped_got got) stopped_got (given got)
-follows_given kept (Ok values, a) = sound_end kept stopped_got _ refl
-follows_given kept (Err why, a) = follows_end kept (by_stop why) stopped_got (Err why, a) refl
+follows_given : (kept : Kept) (got : GotAll) → Follows kept (how_got got) how_got (given got)
+follows_given kept (Ok values, a) = sound_end kept how_got _ refl
+follows_given kept (Err why, a) = follows_end kept (how_by why) how_got (Err why, a) refl
 
 module _ (kept : Kept) (w : World) (k : SoundWorld kept w) where
-  follows_answered : (a : Activation) (outcome : Outcome) → Follows kept (stopped_result outcome) stopped_got (answered w a outcome)
-  follows_answered a outcome = follows_end kept (stopped_result outcome) stopped_got _ refl
+  follows_answered : (a : Activation) (outcome : Outcome) → Follows kept (how_result outcome) how_got (answered w a outcome)
+  follows_answered a outcome = follows_end kept (how_result outcome) how_got _ refl
 
-  asked_sound : (c : Callee) (values : List ℤ) (a : Activation) (o : Option Activation) → internal c ≡ None → kept.such c ≡ true → Sound kept stopped_got (asked_by w c values a o)
-  asked_sound c values a None e m = sound_end kept stopped_got _ refl
-  asked_sound c values a (Some b) e m = sound_then kept stopped_result stopped_got (w.outer c values) (answered w b) (k.outer c values e m) (follows_answered b)
+  asked_sound : (c : Callee) (values : List ℤ) (a : Activation) (o : Option Activation) → internal c ≡ None → kept.such c ≡ true → Sound kept how_got (asked_by w c values a o)
+  asked_sound c values a None e m = sound_end kept how_got _ refl
+  asked_sound c values a (Some b) e m = sound_then kept how_result how_got (w.outer c values) (answered w b) (k.outer c values e m) (follows_answered b)
 
-  called_so : (o : Option ℕ) (c : Callee) (values : List ℤ) (a : Activation) → internal c ≡ o → kept.such c ≡ true → Sound kept stopped_got (called_by w o c values a)
-  called_so (Some operation) c values a e m = sound_then kept stopped_got stopped_got (w.inner operation values a.components a.steps) (returned a) (k.inner operation values a.components a.steps) (follows_returned kept a)
+  called_so : (o : Option ℕ) (c : Callee) (values : List ℤ) (a : Activation) → internal c ≡ o → kept.such c ≡ true → Sound kept how_got (called_by w o c values a)
+  called_so (Some operation) c values a e m = sound_then kept how_got how_got (w.inner operation values a.components a.steps) (returned a) (k.inner operation values a.components a.steps) (follows_returned kept a)
   called_so None c values a e m = asked_sound c values a (spent w.is_task a) e m
 
-  called_sound : (c : Callee) (values : List ℤ) (a : Activation) → kept.such c ≡ true → Sound kept stopped_got (called w c values a)
+  called_sound : (c : Callee) (values : List ℤ) (a : Activation) → kept.such c ≡ true → Sound kept how_got (called w c values a)
   unfolding called
   called_sound c values a m = called_so (internal c) c values a refl m
 
-  pub passing_sound : (c : Callee) (what : Asking GotAll) → kept.such c ≡ true → Sound kept stopped_got what → Sound kept stopped_got (passing w c what)
+  pub passing_sound : (c : Callee) (what : Asking GotAll) → kept.such c ≡ true → Sound kept how_got what → Sound kept how_got (passing w c what)
   passing_sound c what m f = sound_value kept what (called w c) f (λ values a. called_sound c values a m)
 
   mutual
     unfolding value
 
-    pub value_sound : (e : Expression) (a : Activation) → expression_calls kept.such e ≡ true → Sound kept stopped_got (value w e a)
-    value_sound (literal n) a m = sound_end kept stopped_got _ refl
-    value_sound (variable slot) a m = sound_end kept stopped_got _ refl
-    value_sound (component index) a m = sound_end kept stopped_got _ refl
-    value_sound (prefixed op e) a m = sound_value kept (value w e a) _ (value_sound e a m) (λ v b. sound_end kept stopped_got (prefix_of op v, b) (prefix_goes op v))
+    pub value_sound : (e : Expression) (a : Activation) → expression_calls kept.such e ≡ true → Sound kept how_got (value w e a)
+    value_sound (literal n) a m = sound_end kept how_got _ refl
+    value_sound (variable slot) a m = sound_end kept how_got _ refl
+    value_sound (component index) a m = sound_end kept how_got _ refl
+    value_sound (prefixed op e) a m = sound_value kept (value w e a) _ (value_sound e a m) (λ v b. sound_end kept how_got (prefix_of op v, b) (ongoing_result (prefix_of op v) (prefix_goes op v)))
     value_sound (chain e links) a m =
         sound_value kept (value w e a) (linked w links) (value_sound e a (first_of_both (expression_calls kept.such e) (links_call kept.such links) m))
         (λ v b. linked_sound links v b (second_of_both (expression_calls kept.such e) (links_call kept.such links) m))
-    value_sound (code.within range e) a m = sound_value kept (value w e a) _ (value_sound e a m) (λ v b. sound_end kept stopped_got (within range v, b) (within_goes range v))
+    value_sound (code.within range e) a m = sound_value kept (value w e a) _ (value_sound e a m) (λ v b. sound_end kept how_got (within range v, b) (ongoing_result (within range v) (within_goes range v)))
     value_sound (call c es) a m =
-        sound_then kept stopped_got stopped_got (passing w c (arguments w es [] a)) given
+        sound_then kept how_got how_got (passing w c (arguments w es [] a)) given
         (passing_sound c (arguments w es [] a) (first_of_both (kept.such c) (expressions_call kept.such es) m) (arguments_sound es [] a (second_of_both (kept.such c) (expressions_call kept.such es) m))) (follows_given kept)
 
-    linked_sound : (links : Links) (v : ℤ) (a : Activation) → links_call kept.such links ≡ true → Sound kept stopped_got (linked w links v a)
-    linked_sound no_links v a m = sound_end kept stopped_got _ refl
+    linked_sound : (links : Links) (v : ℤ) (a : Activation) → links_call kept.such links ≡ true → Sound kept how_got (linked w links v a)
+    linked_sound no_links v a m = sound_end kept how_got _ refl
     linked_sound (and_link op e more) v a m =
         let here = first_of_both (expression_calls kept.such e) (links_call kept.such more) m in
         let there = second_of_both (expression_calls kept.such e) (links_call kept.such more) m in
-        sound_if kept (decides op v) stopped_got (linked w more v a) (and_then (value w e a) (on_value fails (λ u b. on_value fails (linked w more) (result_of op v u, b))))
+        sound_if kept (decides op v) how_got (linked w more v a) (and_then (value w e a) (on_value fails (λ u b. on_value fails (linked w more) (result_of op v u, b))))
         (linked_sound more v a there)
         (sound_value kept (value w e a) (λ u b. on_value fails (linked w more) (result_of op v u, b)) (value_sound e a here)
-        (λ u b. sound_where kept (stopped_result (result_of op v u)) stopped_got (on_value fails (linked w more) (result_of op v u, b)) (result_goes op v u)
+        (λ u b. sound_where kept (how_result (result_of op v u)) how_got (on_value fails (linked w more) (result_of op v u, b)) (ongoing_result (result_of op v u) (result_goes op v u))
         (follows_value kept (linked w more) (λ x c. linked_sound more x c there) (result_of op v u, b))))
 
-    pub arguments_sound : (es : Expressions) (values : List ℤ) (a : Activation) → expressions_call kept.such es ≡ true → Sound kept stopped_got (arguments w es values a)
-    arguments_sound no_expressions values a m = sound_end kept stopped_got _ refl
+    pub arguments_sound : (es : Expressions) (values : List ℤ) (a : Activation) → expressions_call kept.such es ≡ true → Sound kept how_got (arguments w es values a)
+    arguments_sound no_expressions values a m = sound_end kept how_got _ refl
     arguments_sound (and_expression e more) values a m =
         sound_value kept (value w e a) (λ v b. arguments w more (joined values v) b) (value_sound e a (first_of_both (expression_calls kept.such e) (expressions_call kept.such more) m))
         (λ v b. arguments_sound more (joined values v) b (second_of_both (expression_calls kept.such e) (expressions_call kept.such more) m))

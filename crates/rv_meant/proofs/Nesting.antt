@@ -1,5 +1,5 @@
 -- What asks leave held, and which have entries, one after another.
-use Rattle.std.proofs.Common.{◌≡◌, ◌⊎◌, inl, inr, ⊎_elim, ℕ, ℤ, List, [], ◌∷◌, ◌++◌, Bool, true, false, refl, sym, ap, ◌∙◌, subst, append_assoc}
+use Rattle.std.proofs.Common.{◌≡◌, ◌⊎◌, inl, inr, ⊎_elim, ℕ, ◌<◌, ℤ, List, [], ◌∷◌, ◌++◌, Bool, true, false, refl, sym, ap, ◌∙◌, subst, append_assoc, Ok, Err}
 use Rattle.rv_event.specs.declared.entry.Answer.{Answer}
 use Rattle.rv_event.specs.declared.entry.Answer.TheVariants as answer
 use Rattle.rv_event.specs.declared.entry.Exit.{Exit}
@@ -7,11 +7,13 @@ use Rattle.rv_event.specs.declared.entry.Request.{Request}
 use Rattle.rv_event.specs.declared.entry.Request.TheVariants as request
 use Rattle.rv_code.specs.declared.expression.Callee.{Callee}
 use Rattle.rv_code.specs.Bodies.{UnitBodies}
+use Rattle.rv_exec.specs.declared.end.Cause.TheVariants as cause
 use Rattle.rv_exec.specs.Asking.{Trace, Along}
-use Rattle.rv_meant.specs.Runs.{operation_run_at}
-use Rattle.rv_meant.specs.Asks.{held_after, held_behind, IsWhole, AreRecorded, AreStoppedEnds, IsCourse}
-use Rattle.rv_meant.specs.Nested.{StraysWaiting, Strays, Closes, EndsClose, IsNested}
-use Rattle.rv_meant.proofs.Keeping.{Kept}
+use Rattle.rv_exec.specs.Blocks.{operation_run_at}
+use Rattle.rv_exec.specs.Calls.{Outcome, exit_of}
+use Rattle.rv_meant.specs.Asks.{held_after, held_behind, IsWhole, HoldsMore, AreRecorded, AreStoppedEnds, IsCutOff, IsCourse}
+use Rattle.rv_meant.specs.Nested.{StraysWaiting, Strays, by_stopped, ClosesBody, EndsClose, IsLeftInside, IsNested}
+use Rattle.rv_meant.proofs.Keeping.{How, ongoing, halted, stuck, how_result, Kept}
 
 -- Lists
 
@@ -98,7 +100,7 @@ course_both p q true f g = record {
 -- Ends
 
 -- what closes a body does so behind more that was asked before, by which so many were held
-pub closes_later : (such : Callee → Bool) (bodies : UnitBodies) (held n : ℕ) (p before : Trace) (scalars : List ℤ) (exit : Exit) → held_behind held p ≡ n → AreRecorded p → Closes such bodies n before scalars exit → Closes such bodies held (p ++ before) scalars exit
+pub closes_later : (such : Callee → Bool) (bodies : UnitBodies) (held n : ℕ) (p before : Trace) (scalars : List ℤ) (exit : Exit) → held_behind held p ≡ n → AreRecorded p → ClosesBody such bodies n before scalars exit → ClosesBody such bodies held (p ++ before) scalars exit
 closes_later such bodies held n p before scalars exit e r c =
     let h : held_behind n (c.early ++ c.opening) ≡ held_behind held ((p ++ c.early) ++ c.opening)
     = sym (ap (λ (l : Trace). held_behind held l) (append_assoc p c.early c.opening) ∙ (held_both held p (c.early ++ c.opening) ∙ ap (λ (m : ℕ). held_behind m (c.early ++ c.opening)) e)) in
@@ -124,45 +126,77 @@ closes_later such bodies held n p before scalars exit e r c =
       course = c.course;
     }
 
-pub later_end : (such : Callee → Bool) (bodies : UnitBodies) (held n : ℕ) (p before : Trace) (scalars : List ℤ) (exit : Exit) → held_behind held p ≡ n → AreRecorded p → Strays such before ⊎ Closes such bodies n before scalars exit → Strays such (p ++ before) ⊎ Closes such bodies held (p ++ before) scalars exit
+pub later_end : (such : Callee → Bool) (bodies : UnitBodies) (held n : ℕ) (p before : Trace) (scalars : List ℤ) (exit : Exit) → held_behind held p ≡ n → AreRecorded p → Strays such before ⊎ ClosesBody such bodies n before scalars exit → Strays such (p ++ before) ⊎ ClosesBody such bodies held (p ++ before) scalars exit
 later_end such bodies held n p before scalars exit e r (inl s) = inl (strays_behind such p before s)
 later_end such bodies held n p before scalars exit e r (inr c) = inr (closes_later such bodies held n p before scalars exit e r c)
 
-abbrev Kind : (Callee → Bool) → Trace → Bool → Type 0
-Kind such trace stopped = Strays such trace ⊎ (IsWhole trace × IsCourse stopped trace)
+-- what is asked by a run that ends so: where each answer is one that is given, all that started has ended, and each ask has an entry,
+-- or cut it off; or it is left in a body
+abbrev pub Kind : (Callee → Bool) → Trace → How → Type 0
+Kind such trace ongoing = Strays such trace ⊎ (IsWhole trace × AreRecorded trace)
+Kind such trace halted = Strays such trace ⊎ (IsWhole trace × IsCutOff trace)
+Kind such trace stuck = Strays such trace ⊎ ((IsWhole trace × IsCutOff trace) ⊎ HoldsMore trace)
 
-behind_whole : (such : Callee → Bool) (bodies : UnitBodies) (held : ℕ) (p before : Trace) (scalars : List ℤ) (exit : Exit) → Kind such p false → Strays such before ⊎ Closes such bodies held before scalars exit → Strays such (p ++ before) ⊎ Closes such bodies held (p ++ before) scalars exit
+pub more_behind : (p q : Trace) → IsWhole p → HoldsMore q → HoldsMore (p ++ q)
+more_behind p q f g held =
+    let e : held_behind held (p ++ q) ≡ held_behind held q = held_both held p q ∙ ap (λ n. held_behind n q) (f held) in
+    subst (λ (n : ℕ). held < n) (sym e) (g held)
+
+behind_whole : (such : Callee → Bool) (bodies : UnitBodies) (held : ℕ) (p before : Trace) (scalars : List ℤ) (exit : Exit) → Kind such p ongoing → Strays such before ⊎ ClosesBody such bodies held before scalars exit → Strays such (p ++ before) ⊎ ClosesBody such bodies held (p ++ before) scalars exit
 behind_whole such bodies held p before scalars exit (inl s) c = inl (strays_before such p before s)
 behind_whole such bodies held p before scalars exit (inr w) c = later_end such bodies held held p before scalars exit (w.0 held) w.1 c
 
-close_both : (such : Callee → Bool) (bodies : UnitBodies) (held : ℕ) (p q : Trace) → EndsClose such bodies held p → Kind such p false → EndsClose such bodies held q → EndsClose such bodies held (p ++ q)
+close_both : (such : Callee → Bool) (bodies : UnitBodies) (held : ℕ) (p q : Trace) → EndsClose such bodies held p → Kind such p ongoing → EndsClose such bodies held q → EndsClose such bodies held (p ++ q)
 close_both such bodies held p q f w g before after scalars exit next e =
     ⊎_elim (λ h. f before h.0 scalars exit next h.1)
-    (λ h. subst (λ (l : Trace). Strays such l ⊎ Closes such bodies held l scalars exit) (sym h.1) (behind_whole such bodies held p h.0 scalars exit w (g h.0 after scalars exit next h.2)))
+    (λ h. subst (λ (l : Trace). Strays such l ⊎ ClosesBody such bodies held l scalars exit) (sym h.1) (behind_whole such bodies held p h.0 scalars exit w (g h.0 after scalars exit next h.2)))
     (place_of (request.Complete scalars exit, answer.Done next) p q before after e)
 
-kind_both : (such : Callee → Bool) (p q : Trace) (stopped : Bool) → Kind such p false → Kind such q stopped → Kind such (p ++ q) stopped
-kind_both such p q stopped (inl s) g = inl (strays_before such p q s)
-kind_both such p q stopped (inr f) (inl s) = inl (strays_behind such p q s)
-kind_both such p q stopped (inr f) (inr g) = inr (whole_both p q f.0 g.0, course_both p q stopped f.1 g.1)
+kind_both : (such : Callee → Bool) (p q : Trace) (how : How) → Kind such p ongoing → Kind such q how → Kind such (p ++ q) how
+kind_both such p q ongoing (inl s) g = inl (strays_before such p q s)
+kind_both such p q halted (inl s) g = inl (strays_before such p q s)
+kind_both such p q stuck (inl s) g = inl (strays_before such p q s)
+kind_both such p q ongoing (inr f) (inl s) = inl (strays_behind such p q s)
+kind_both such p q halted (inr f) (inl s) = inl (strays_behind such p q s)
+kind_both such p q stuck (inr f) (inl s) = inl (strays_behind such p q s)
+kind_both such p q ongoing (inr f) (inr g) = inr (whole_both p q f.0 g.0, recorded_both p q f.1 g.1)
+kind_both such p q halted (inr f) (inr g) = inr (whole_both p q f.0 g.0, course_both p q true f.1 g.1)
+kind_both such p q stuck (inr f) (inr (inl g)) = inr (inl (whole_both p q f.0 g.0, course_both p q true f.1 g.1))
+kind_both such p q stuck (inr f) (inr (inr g)) = inr (inr (more_behind p q f.0 g))
 
-pub nested_nothing : (such : Callee → Bool) (bodies : UnitBodies) (held : ℕ) → IsNested such bodies held [] false
+-- what is kept of runs
+pub record NestedSo (such : Callee → Bool) (bodies : UnitBodies) (held : ℕ) (trace : Trace) (how : How) : Type 0 where
+  pub close : EndsClose such bodies held trace
+  pub kind : Kind such trace how
+
+pub nested_nothing : (such : Callee → Bool) (bodies : UnitBodies) (held : ℕ) → NestedSo such bodies held [] ongoing
 nested_nothing such bodies held = record {
   close = λ before after scalars exit next e. absurd (none_there (request.Complete scalars exit, answer.Done next) before after e);
-  course = inr ((λ n. refl), tt);
+  kind = inr ((λ n. refl), tt);
 }
 
-pub nested_both : (such : Callee → Bool) (bodies : UnitBodies) (held : ℕ) (p q : Trace) (stopped : Bool) → IsNested such bodies held p false → IsNested such bodies held q stopped → IsNested such bodies held (p ++ q) stopped
-nested_both such bodies held p q stopped f g = record {
-  close = close_both such bodies held p q f.close f.course g.close;
-  course = kind_both such p q stopped f.course g.course;
+pub nested_both : (such : Callee → Bool) (bodies : UnitBodies) (held : ℕ) (p q : Trace) (how : How) → NestedSo such bodies held p ongoing → NestedSo such bodies held q how → NestedSo such bodies held (p ++ q) how
+nested_both such bodies held p q how f g = record {
+  close = close_both such bodies held p q f.close f.kind g.close;
+  kind = kind_both such p q how f.kind g.kind;
 }
 
 -- so it is kept of whole runs
 abbrev pub nesting : (Callee → Bool) → UnitBodies → ℕ → Kept
 nesting such bodies held = record {
   such = such;
-  holds = λ trace stopped. IsNested such bodies held trace stopped;
+  holds = λ trace how. NestedSo such bodies held trace how;
   nothing = nested_nothing such bodies held;
   both = nested_both such bodies held;
 }
+
+-- the same by the exit
+nested_at : (such : Callee → Bool) (bodies : UnitBodies) (held : ℕ) (trace : Trace) (outcome : Outcome) → Kind such trace (how_result outcome) → Strays such trace ⊎ ((IsWhole trace × IsCourse (by_stopped (exit_of outcome)) trace) ⊎ IsLeftInside (by_stopped (exit_of outcome)) trace)
+nested_at such bodies held trace (Ok values) k = ⊎_elim (λ s. inl s) (λ w. inr (inl w)) k
+nested_at such bodies held trace (Err (cause.Raised exception)) k = ⊎_elim (λ s. inl s) (λ w. inr (inl w)) k
+nested_at such bodies held trace (Err cause.Overrun) k = ⊎_elim (λ s. inl s) (λ w. inr (inl w)) k
+nested_at such bodies held trace (Err (cause.Stopped true)) k = ⊎_elim (λ s. inl s) (λ w. inr (inl w)) k
+nested_at such bodies held trace (Err (cause.Stopped false)) k = ⊎_elim (λ s. inl s) (λ w. inr (⊎_elim (λ f. inl f) (λ m. inr (refl, m)) w)) k
+
+pub nested_by : (such : Callee → Bool) (bodies : UnitBodies) (held : ℕ) (trace : Trace) (outcome : Outcome) → NestedSo such bodies held trace (how_result outcome) → IsNested such bodies held trace (by_stopped (exit_of outcome))
+nested_by such bodies held trace outcome f = record { close = f.close; course = nested_at such bodies held trace outcome f.kind }

@@ -18,7 +18,7 @@ use Rattle.rv_exec.specs.declared.end.Reply.{Reply}
 use Rattle.rv_exec.specs.declared.end.Reply.TheVariants as reply
 use Rattle.rv_exec.specs.Asking.{Trace, ended, asking, Along}
 use Rattle.rv_exec.specs.Calls.{request_of, can_refuse, started, woken, replied, resumed, settled, asks}
-use Rattle.rv_meant.specs.Explained.{is_protected}
+use Rattle.rv_meant.specs.Explained.{on_protected}
 use Rattle.rv_meant.proofs.Answered.{begins, begins_at_once, begun_starts, refused_waits, resumed_starts, waits}
 
 no_way : {X : Type 0} → false ≡ true → X
@@ -226,22 +226,22 @@ call_shares shapes c object operation is_function (inr (inr e)) f = entry_shares
 
 -- and of a protected object
 
-function_protected : (t : Target) → calls_function t ≡ true → is_protected t ≡ true
+function_protected : (t : Target) → calls_function t ≡ true → on_protected t ≡ true
 function_protected (OnProtected site) e = refl
 function_protected Nowhere e = no_way e
 function_protected (OnSuspension unit name wanted) e = no_way e
 
-procedure_protected : (t : Target) → calls_procedure t ≡ true → is_protected t ≡ true
+procedure_protected : (t : Target) → calls_procedure t ≡ true → on_protected t ≡ true
 procedure_protected (OnProtected site) e = refl
 procedure_protected Nowhere e = no_way e
 procedure_protected (OnSuspension unit name wanted) e = no_way e
 
-entry_protected : (t : Target) → calls_entry t ≡ true → is_protected t ≡ true
+entry_protected : (t : Target) → calls_entry t ≡ true → on_protected t ≡ true
 entry_protected (OnProtected site) e = refl
 entry_protected Nowhere e = no_way e
 entry_protected (OnSuspension unit name wanted) e = no_way e
 
-pub call_protected : (shapes : List Shape) (c : Callee) (object operation : ℕ) (is_function : Bool) → IsCallOf c object operation is_function → callee_fits shapes c ≡ true → is_protected (target shapes object operation) ≡ true
+pub call_protected : (shapes : List Shape) (c : Callee) (object operation : ℕ) (is_function : Bool) → IsCallOf c object operation is_function → callee_fits shapes c ≡ true → on_protected (target shapes object operation) ≡ true
 call_protected shapes c object operation is_function (inl e) f = function_protected (target shapes object operation) (ap (callee_fits shapes) (sym e.0) ∙ f)
 call_protected shapes c object operation is_function (inr (inl e)) f = procedure_protected (target shapes object operation) (ap (callee_fits shapes) (sym e.0) ∙ f)
 call_protected shapes c object operation is_function (inr (inr e)) f = entry_protected (target shapes object operation) (ap (callee_fits shapes) (sym e.0) ∙ f)

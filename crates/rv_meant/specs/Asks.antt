@@ -1,5 +1,5 @@
 -- What an actor asks, in order, with the answers: what its asks leave held, and which of them have entries (own).
-use Rattle.std.specs.Prelude.{◌≡◌, ℕ, suc, ◌-◌, Bool, true, false, [], ◌∷◌, ◌++◌, Some, is_some}
+use Rattle.std.specs.Prelude.{◌≡◌, ◌<◌, ℕ, suc, ◌-◌, Bool, true, false, [], ◌∷◌, ◌++◌, Some, is_some}
 use Rattle.rv_event.specs.Recorded.{recorded}
 use Rattle.rv_event.specs.declared.entry.Answer.{Answer}
 use Rattle.rv_event.specs.declared.entry.Answer.TheVariants as answer
@@ -28,6 +28,10 @@ held_behind held (pair ∷ more) = held_behind (held_after held pair.1) more
 -- these are.
 abbrev pub IsWhole : Trace → Type 0
 IsWhole trace = (held : ℕ) → held_behind held trace ≡ held
+
+-- more is held behind these asks than before, however many objects that are: a body that started in them goes on
+abbrev pub HoldsMore : Trace → Type 0
+HoldsMore trace = (held : ℕ) → held < held_behind held trace
 
 -- Which asks have entries
 

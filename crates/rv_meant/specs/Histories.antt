@@ -27,8 +27,8 @@ asked_in limits actor (entry ∷ past) shapes lists =
     ++ own_ask actor entry (history_of limits past (shapes_before entry shapes) (lists_before entry lists))
 
 -- what an actor asked, the oldest first: each of its entries, with the answer that was due on the entries before it
-abbrev pub asked_by : ℕ → History → Trace
-asked_by actor h = asked_in h.limits actor h.past h.shapes h.lists
+abbrev pub asks_of : ℕ → History → Trace
+asks_of actor h = asked_in h.limits actor h.past h.shapes h.lists
 
 -- a history without its last entry
 abbrev pub without_entry : List Entry → History → History

@@ -1,4 +1,3 @@
-pub mod Runs
 pub mod Asks
 pub mod Nested
 pub mod Histories

@@ -1,6 +1,6 @@
 -- The ends of bodies inside one another: each closes a body that started in what was asked before it, and is what that body means
 -- on what was asked between (ISO/IEC 8652:2012, 6.4, 9.5.1, 9.5.3).
-use Rattle.std.specs.Prelude.{◌≡◌, ◌⊎◌, ◌≤◌, ℕ, ℤ, Bool, true, false, if◌then◌else◌, List, [], ◌∷◌, ◌++◌, None}
+use Rattle.std.specs.Prelude.{◌≡◌, ◌⊎◌, ℕ, ℤ, Bool, true, false, if◌then◌else◌, List, [], ◌∷◌, ◌++◌, None}
 use Rattle.rv_code.specs.declared.expression.Callee.{Callee}
 use Rattle.rv_code.specs.Bodies.{UnitBodies}
 use Rattle.rv_fits.specs.Calls.{every_call}
@@ -14,26 +14,22 @@ use Rattle.rv_event.specs.declared.entry.Request.TheVariants as request
 use Rattle.rv_exec.specs.declared.end.Asked.TheVariants as asked
 use Rattle.rv_exec.specs.Asking.{Trace, Along}
 use Rattle.rv_exec.specs.Calls.{asks, internal}
-use Rattle.rv_exec.specs.Stops.{EndsNot, IsUnfit, IsUnfitWoken}
+use Rattle.rv_exec.specs.Stops.{IsUnfit, IsUnfitWoken}
 use Rattle.rv_exec.specs.Tasks.{task_run}
-use Rattle.rv_meant.specs.Runs.{operation_run_at}
-use Rattle.rv_meant.specs.Asks.{held_behind, IsWhole, AreRecorded, IsCourse}
+use Rattle.rv_exec.specs.Blocks.{operation_run_at}
+use Rattle.rv_meant.specs.Asks.{held_behind, IsWhole, HoldsMore, AreRecorded, IsCourse}
 
 -- Answers that the host doesn't give to what fits it (own)
 
--- of a form that isn't given to such a callee; or another than Done to the end of a body
-abbrev pub IsStray : (Callee → Bool) → Request → Answer → Type 0
-IsStray such request answer = EndsNot request answer ⊎ IsUnfit such request answer
-
--- the same of the first of these, to a resume
+-- the first of these, to a resume, is of a form that isn't given to such a callee
 abbrev pub StraysWaiting : (Callee → Bool) → Request × Answer → Trace → Type 0
 StraysWaiting such first [] = ⊥
 StraysWaiting such first (pair ∷ more) = IsUnfitWoken such first.0 first.1 pair.0 pair.1
 
--- one of these answers is such a one
+-- one of these answers is of a form that isn't given to such a callee
 abbrev pub Strays : (Callee → Bool) → Trace → Type 0
 Strays such [] = ⊥
-Strays such (pair ∷ more) = IsStray such pair.0 pair.1 ⊎ (StraysWaiting such pair more ⊎ Strays such more)
+Strays such (pair ∷ more) = IsUnfit such pair.0 pair.1 ⊎ (StraysWaiting such pair more ⊎ Strays such more)
 
 -- Ends
 
@@ -45,7 +41,7 @@ by_stopped exit.Stopped = true
 
 -- An end by this exit, with these scalars, behind what an actor asked that held so many objects at first: a call came to the start
 -- of a body, which has asked all since, with all bodies inside it, and means that end. What was asked before it has entries.
-pub record Closes (such : Callee → Bool) (bodies : UnitBodies) (held : ℕ) (before : Trace) (scalars : List ℤ) (exit : Exit) : Type 0 where
+pub record ClosesBody (such : Callee → Bool) (bodies : UnitBodies) (held : ℕ) (before : Trace) (scalars : List ℤ) (exit : Exit) : Type 0 where
   pub early : Trace
   pub opening : Trace
   pub inside : Trace
@@ -71,19 +67,23 @@ abbrev pub EndsClose : (Callee → Bool) → UnitBodies → ℕ → Trace → Ty
 EndsClose such bodies held trace =
     (before after : Trace) (scalars : List ℤ) (exit : Exit) (next : Next)
     → trace ≡ before ++ (request.Complete scalars exit, answer.Done next) ∷ after
-    → Strays such before ⊎ Closes such bodies held before scalars exit
+    → Strays such before ⊎ ClosesBody such bodies held before scalars exit
+
+-- a run that stopped left its actor in a body that it called: the end of that one wasn't answered Done (own)
+abbrev pub IsLeftInside : Bool → Trace → Type 0
+IsLeftInside stopped trace = (stopped ≡ true) × HoldsMore trace
 
 -- What a run asks, of an actor that holds so many objects: its ends close bodies; and where each answer is one that is given, each
--- body that started has ended, and each ask has an entry, or is the one by which the run was cut off.
+-- body that started has ended, and each ask has an entry, or is the one by which the run was cut off; or its actor is left in one.
 pub record IsNested (such : Callee → Bool) (bodies : UnitBodies) (held : ℕ) (trace : Trace) (stopped : Bool) : Type 0 where
   pub close : EndsClose such bodies held trace
-  pub course : Strays such trace ⊎ (IsWhole trace × IsCourse stopped trace)
+  pub course : Strays such trace ⊎ ((IsWhole trace × IsCourse stopped trace) ⊎ IsLeftInside stopped trace)
 
 -- so is what a body asks that calls such callees alone
 abbrev pub BodiesNest : Type 0
 BodiesNest =
     (such : Callee → Bool) (bodies : UnitBodies) (held object operation : ℕ) (values components left : List ℤ) (trace : Trace) (exit : Exit)
-    → every_call such bodies ≡ true → held ≤ 16
+    → every_call such bodies ≡ true
     → Along (operation_run_at bodies held object operation values components) trace (exit, left)
     → IsNested such bodies held trace (by_stopped exit)
 

@@ -1,19 +1,13 @@
 //! What recorded ends of bodies mean. Laws, each on a function that does nothing.
 #![tactic(auto)]
 
-ghost use Rattle.rv_meant.specs.Runs.{OneHeldIsAlone};
 ghost use Rattle.rv_meant.specs.Nested.{BodiesNest, TasksNest};
 ghost use Rattle.rv_meant.specs.Told.{InnerEndsAreExplained, OuterEndsAreExplained, TaskEndsAreExplained};
-
-/// What a body means whose actor holds its object alone is what it means whose actor holds one object.
-pub fn one_held_is_alone()
-    ensures { OneHeldIsAlone }
-{}
 
 /// Each end of a body that a body asked, and that was answered Done, closes a body that it called: it is what that one
 /// means on what was asked between its start and this end, with as many objects held as there were. Where no answer strays
 /// before, all that started have ended, and each ask has an entry; of a run that stopped one has none, and behind it come
-/// ends by stopped alone.
+/// ends by stopped alone; or it left its actor in a body, whose end wasn't answered Done.
 pub fn bodies_nest()
     ensures { BodiesNest }
 {}

@@ -12,7 +12,7 @@ use Rattle.rv_history.specs.Due.{out}
 use Rattle.rv_turn.specs.Histories.{mine, StartsWith}
 use Rattle.rv_turn.specs.Prefixes.{starts_both, mine-append}
 use Rattle.rv_meant.specs.Asks.{recorded_if, recorded_of}
-use Rattle.rv_meant.specs.Explained.{stops}
+use Rattle.rv_meant.specs.Explained.{stops_bodies}
 use Rattle.rv_behind.specs.Events.{by, history_at}
 use Rattle.rv_behind.specs.Acting.{entered, grown}
 use Rattle.rv_behind.specs.declared.event.Event.{Event}
@@ -71,7 +71,7 @@ told_recorded Answers.Unattached word e = refl
 told_recorded Answers.BadLine word e = refl
 told_recorded Answers.OutOfMemory word e = refl
 
-pub final_stops : (d : Answer) → is_final (told d) ≡ true → stops d ≡ true
+pub final_stops : (d : Answer) → is_final (told d) ≡ true → stops_bodies d ≡ true
 final_stops Answers.Halted e = refl
 final_stops Answers.Full e = refl
 final_stops Answers.Misuse e = refl

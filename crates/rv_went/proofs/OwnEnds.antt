@@ -1,5 +1,5 @@
 -- The end of a body that a port started is explained.
-use Rattle.std.proofs.Common.{◌≡◌, ◌⊎◌, inl, inr, ⊎_elim, ℕ, ◌+◌, ◌≤◌, ℤ, List, [], ◌∷◌, ◌++◌, length, true, sym, ap, ◌∙◌, subst, append_assoc, arith, reverse, Option}
+use Rattle.std.proofs.Common.{◌≡◌, ⊎_elim, ℕ, ◌+◌, ◌<◌, ◌≤◌, ℤ, List, [], ◌∷◌, ◌++◌, length, true, sym, ap, ◌∙◌, subst, append_assoc, arith, reverse, Option}
 use Rattle.rv_event.specs.declared.entry.Answer.{Answer}
 use Rattle.rv_event.specs.declared.entry.Answer.TheVariants as Answers
 use Rattle.rv_event.specs.declared.entry.Exit.{Exit}
@@ -12,23 +12,23 @@ use Rattle.rv_history.specs.Due.{out}
 use Rattle.rv_history.specs.History.{History}
 use Rattle.rv_turn.specs.Histories.{mine, StartsWith}
 use Rattle.rv_turn.specs.Prefixes.{starts_self, starts_both}
-use Rattle.rv_meant.specs.Asks.{recorded_of}
-use Rattle.rv_meant.specs.Histories.{asked_by, without_last}
-use Rattle.rv_meant.specs.Explained.{Opens, stops}
+use Rattle.rv_meant.specs.Asks.{held_behind, HoldsMore, recorded_of}
+use Rattle.rv_meant.specs.Histories.{asks_of, without_last}
+use Rattle.rv_meant.specs.Explained.{StartsBody, stops_bodies}
 use Rattle.rv_meant.specs.Told.{HasAsked}
 use Rattle.rv_meant.proofs.Explaining.{outer_ends}
 use Rattle.rv_behind.specs.Acting.{entered}
 use Rattle.rv_behind.specs.Events.{by, bodies_at, catalogue_of, history_at}
 use Rattle.rv_behind.specs.declared.event.Event.{Event}
 use Rattle.rv_accounts.specs.Seen.{asked_at}
-use Rattle.rv_accounts.specs.Explained.{EndIsExplained}
+use Rattle.rv_accounts.specs.Explained.{ExplainedEnd}
 use Rattle.rv_accounts.proofs.Growing.{without_later}
 use Rattle.rv_port.specs.Traces.{Passing, Trace, limits_in, noted, IsAnswered, EachAnswered, Asked}
 use Rattle.rv_port.specs.Composing.{each_both}
 use Rattle.rv_port.proofs.Actors.{catalogue-append}
-use Rattle.rv_went.specs.Ends.{EndNotDone, RanSo, given_at, OwnEndsAreExplained}
+use Rattle.rv_went.specs.Ends.{RanSo, given_at, OwnEndsAreExplained}
 use Rattle.rv_went.proofs.Accounting.{each_at, so_far, final_stops, final_none}
-use Rattle.rv_went.proofs.Straying.{strays_end}
+use Rattle.rv_went.proofs.Straying.{no_strays}
 
 no_act : (n m k t : ℕ) → n + 1 ≡ m → m + t ≡ k → k ≡ 0 → ⊥
 no_act n m k t e f g = omega (arith, e, f, g)
@@ -63,7 +63,7 @@ module _ (u body w : Passing) (trace : Trace) (log : List Event) (early opening 
 
   abbrev IsDue : Trace → Request → Type 0
   IsDue done q =
-      (later : ℕ) × (asked_by a (without_last later (history_at limits x.at)) ≡ asked_at limits a u.seen ++ recorded_of done) × (stops (out (without_last later (history_at limits x.at)) a q) ≡ true)
+      (later : ℕ) × (asks_of a (without_last later (history_at limits x.at)) ≡ asked_at limits a u.seen ++ recorded_of done) × (stops_bodies (out (without_last later (history_at limits x.at)) a q) ≡ true)
 
   module _ (done : Trace) (q : Request) (r : Answer) (behind : Trace) (split : trace ≡ done ++ (q, r) ∷ behind) (final : is_final r ≡ true) where
     here : EachAnswered limits a u.seen x.at body.left own (done ++ (q, r) ∷ (behind ++ []))
@@ -74,8 +74,8 @@ module _ (u body w : Passing) (trace : Trace) (log : List Event) (early opening 
         let to_at : StartsWith x.at y.at = subst (λ (o : Option Recorded). StartsWith x.at (entered y.at a q o)) (final_none r final) y.to in
         let same : without_last (length (reverse to_at.0)) (history_at limits x.at) ≡ history_at limits y.at = ap (λ (l : List Event). without_last (length (reverse to_at.0)) (history_at limits l)) to_at.1 ∙ without_later limits y.at to_at.0 in (
           length (reverse to_at.0),
-          ap (λ (h : History). asked_by a h) same ∙ so_far limits a u.seen x.at body.left own u.seen y.at done ((q, r) ∷ (behind ++ [])) here from_start k.lent.owns to_at y.own_is,
-          ap (λ (h : History). stops (out h a q)) same ∙ final_stops (out (history_at limits y.at) a q) (ap is_final (sym y.due_is) ∙ final),
+          ap (λ (h : History). asks_of a h) same ∙ so_far limits a u.seen x.at body.left own u.seen y.at done ((q, r) ∷ (behind ++ [])) here from_start k.lent.owns to_at y.own_is,
+          ap (λ (h : History). stops_bodies (out h a q)) same ∙ final_stops (out (history_at limits y.at) a q) (ap is_final (sym y.due_is) ∙ final),
         )
 
     is_due : IsDue done q
@@ -84,14 +84,17 @@ module _ (u body w : Passing) (trace : Trace) (log : List Event) (early opening 
   had_asked : HasAsked (history_at limits x.at) a (asked_at limits a u.seen) trace
   had_asked = record { has = has; due = λ done q r behind split final. is_due done q r behind split final }
 
-  pub own_end : Opens (catalogue_of x.at) u.actor opening object operation values components → EndNotDone trace ⊎ EndIsExplained limits a x.at (given_at x.at object operation left) exit
+  not_left : HoldsMore trace → ⊥
+  not_left h = let n : ℕ = held_behind 0 (early ++ opening) in let same : held_behind n trace ≡ n = k.back in let more : n < held_behind n trace = h n in omega (arith, same, more)
+
+  pub own_end : StartsBody (catalogue_of x.at) u.actor opening object operation values components → ExplainedEnd limits a x.at (given_at x.at object operation left) exit
   own_end o =
       let z : StartsWith x.at log = starts_both log u.seen x.at k.lent.from from_start in
-      ⊎_elim (λ h. inl (strays_end log u trace body k.lent.from k.went.steps h))
-      (λ h. inr (record { log = log; from = z; fit = k.lent.fit; explained = h }))
+      ⊎_elim (λ h. no_strays log u trace body k.lent.from k.went.steps h)
+      (λ h. ⊎_elim (λ m. absurd (not_left m)) (λ m. record { log = log; from = z; fit = k.lent.fit; explained = m }) h)
       (outer_ends (catalogue_of log) (bodies_at log) (history_at limits x.at) a early opening object operation values components left exit trace
       (record { fit = k.lent.fit; more = catalogue_of z.0; loaded = ap catalogue_of z.1 ∙ catalogue-append log z.0 })
-      k.few k.recorded k.loaded o k.along
+      k.recorded k.loaded o k.along
       (subst (λ (l : Trace). HasAsked (history_at limits x.at) a l trace) k.asked had_asked))
 
 pub own_ends : OwnEndsAreExplained

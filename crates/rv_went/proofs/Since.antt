@@ -19,11 +19,11 @@ use Rattle.rv_history.specs.Due.{out}
 use Rattle.rv_history.specs.History.{History}
 use Rattle.rv_turn.specs.Histories.{mine, StartsWith}
 use Rattle.rv_turn.specs.Prefixes.{starts_both, mine-append}
-use Rattle.rv_meant.specs.Runs.{operation_run_at}
-use Rattle.rv_meant.specs.Asks.{held_behind, recorded_of}
+use Rattle.rv_exec.specs.Blocks.{operation_run_at}
+use Rattle.rv_meant.specs.Asks.{recorded_of}
 use Rattle.rv_meant.specs.Nested.{Strays}
-use Rattle.rv_meant.specs.Histories.{asked_by, without_last}
-use Rattle.rv_meant.specs.Explained.{stops, IsExplained}
+use Rattle.rv_meant.specs.Histories.{asks_of, without_last}
+use Rattle.rv_meant.specs.Explained.{stops_bodies, MeantEnd}
 use Rattle.rv_meant.specs.Told.{HasAsked, FitBehind}
 use Rattle.rv_meant.proofs.Explaining.{inner_ends, task_ends}
 use Rattle.rv_behind.specs.Acting.{entered}
@@ -31,14 +31,14 @@ use Rattle.rv_behind.specs.Events.{by, bodies_at, catalogue_of, history_at}
 use Rattle.rv_behind.specs.declared.event.Event.{Event}
 use Rattle.rv_behind.specs.declared.event.Event.TheVariants.{Asks}
 use Rattle.rv_accounts.specs.Seen.{asked_at}
-use Rattle.rv_accounts.specs.Explained.{EndIsExplained}
-use Rattle.rv_accounts.proofs.Growing.{asks_stay, without_later}
+use Rattle.rv_accounts.specs.Explained.{ExplainedEnd}
+use Rattle.rv_accounts.proofs.Growing.{without_later}
 use Rattle.rv_port.specs.Traces.{Passing, Trace, limits_in, noted, noted_if, IsAnswered, EachAnswered, Steps, Went}
 use Rattle.rv_port.specs.Composing.{noted-append}
 use Rattle.rv_port.proofs.Actors.{catalogue-append}
-use Rattle.rv_went.specs.Ends.{EndNotDoneBefore, Owns, asked_so_far, IsLentBy, BodiesLeaveEndsExplained, TextsLeaveEndsExplained}
+use Rattle.rv_went.specs.Ends.{Owns, asked_so_far, held_by, IsLentBy, BodiesLeaveEndsExplained, TextsLeaveEndsExplained}
 use Rattle.rv_went.proofs.Accounting.{first_or, rest_of, compared, FoundIn, found, each_at, so_far, final_stops, final_none}
-use Rattle.rv_went.proofs.Straying.{strays_end}
+use Rattle.rv_went.proofs.Straying.{no_strays}
 
 -- Lists
 
@@ -142,7 +142,7 @@ module _ (v w : Passing) (trace : Trace) (log : List Event) (k : IsLentBy v log)
 
   abbrev IsDue : Trace → Request → Type 0
   IsDue done q =
-      (later : ℕ) × (asked_by a (without_last later (history_at limits before)) ≡ asked_at limits a v.seen ++ recorded_of done) × (stops (out (without_last later (history_at limits before)) a q) ≡ true)
+      (later : ℕ) × (asks_of a (without_last later (history_at limits before)) ≡ asked_at limits a v.seen ++ recorded_of done) × (stops_bodies (out (without_last later (history_at limits before)) a q) ≡ true)
 
   module _ (done : Trace) (q : Request) (r : Answer) (behind : Trace) (split : at_end.before ≡ done ++ (q, r) ∷ behind) (final : is_final r ≡ true) where
     abbrev others : Trace
@@ -181,8 +181,8 @@ module _ (v w : Passing) (trace : Trace) (log : List Event) (k : IsLentBy v log)
       answered_due =
           let same : without_last (length (reverse at_before.0)) (history_at limits before) ≡ history_at limits x.at = ap (λ (l : List Event). without_last (length (reverse at_before.0)) (history_at limits l)) at_before.1 ∙ without_later limits x.at at_before.0 in (
             length (reverse at_before.0),
-            ap (λ (h : History). asked_by a h) same ∙ so_far limits a v.seen w.seen w.left own v.seen x.at done ((q, r) ∷ others) here went.later k.owns to_at x.own_is,
-            ap (λ (h : History). stops (out h a q)) same ∙ final_stops (out (history_at limits x.at) a q) (ap is_final (sym x.due_is) ∙ final),
+            ap (λ (h : History). asks_of a h) same ∙ so_far limits a v.seen w.seen w.left own v.seen x.at done ((q, r) ∷ others) here went.later k.owns to_at x.own_is,
+            ap (λ (h : History). stops_bodies (out h a q)) same ∙ final_stops (out (history_at limits x.at) a q) (ap is_final (sym x.due_is) ∙ final),
           )
 
     is_due : IsDue done q
@@ -199,31 +199,25 @@ module _ (v w : Passing) (trace : Trace) (log : List Event) (k : IsLentBy v log)
   pub trace_at : trace ≡ at_end.before ++ (Complete scalars exit, Answers.Done next) ∷ at_end.after
   trace_at = at_end.trace_is ∙ ap (λ (z : Answer). at_end.before ++ (Complete scalars exit, z) ∷ at_end.after) (done_is at_end.answer next at_end.word_is)
 
-  pub end_explained : Strays (callee_fits (catalogue_of log)) at_end.before ⊎ IsExplained (catalogue_of log) (bodies_at log) (history_at limits before) a scalars exit → EndNotDoneBefore trace scalars exit next ⊎ EndIsExplained limits a before scalars exit
+  pub end_explained : Strays (callee_fits (catalogue_of log)) at_end.before ⊎ MeantEnd (catalogue_of log) (bodies_at log) (history_at limits before) a scalars exit → ExplainedEnd limits a before scalars exit
   end_explained s =
       let t = steps_front v at_end.before (end_pair ∷ at_end.after) w (subst (λ (l : Trace). Steps v l w) at_end.trace_is went.steps) in
-      ⊎_elim (λ h. inl (record { before = at_end.before; behind = at_end.after; trace_is = trace_at; not_done = strays_end log v at_end.before t.0 k.from t.1 h }))
-      (λ h. inr (record { log = log; from = starts_both log v.seen before k.from p; fit = k.fit; explained = h })) s
+      ⊎_elim (λ h. no_strays log v at_end.before t.0 k.from t.1 h) (λ h. record { log = log; from = starts_both log v.seen before k.from p; fit = k.fit; explained = h }) s
 
 pub bodies_leave : BodiesLeaveEndsExplained
-bodies_leave v w trace log object operation values components left exit k went owned few run before after scalars ended next p e =
+bodies_leave v w trace log object operation values components left exit k went owned run before after scalars ended next p e =
     let f = at_end v w trace log k went owned before after scalars ended next p e in
     end_explained v w trace log k went owned before after scalars ended next p e
     (inner_ends (catalogue_of log) (bodies_at log) (history_at (limits_in v.about) before) v.actor (asked_so_far v) object operation values components left exit f.before f.after scalars ended next
-    (fit_behind v w trace log k went owned before after scalars ended next p e) few
-    (subst (λ (l : Trace). Along (operation_run_at (bodies_at log) (held_behind 0 (asked_so_far v)) object operation values components) l (exit, left)) (trace_at v w trace log k went owned before after scalars ended next p e) run)
+    (fit_behind v w trace log k went owned before after scalars ended next p e)
+    (subst (λ (l : Trace). Along (operation_run_at (bodies_at log) (held_by v) object operation values components) l (exit, left)) (trace_at v w trace log k went owned before after scalars ended next p e) run)
     (had_asked v w trace log k went owned before after scalars ended next p e))
-
--- what an actor asked that has no event is nothing
-nothing_asked : (limits : Limits) (a : ℕ) (seen : List Event) → mine by a seen ≡ [] → asked_at limits a seen ≡ []
-nothing_asked limits a seen none = asks_stay limits a [] seen (seen, refl) none
 
 pub texts_leave : TextsLeaveEndsExplained
 texts_leave v w trace log budget exit k went owned none run before after scalars ended next p e =
     let f = at_end v w trace log k went owned before after scalars ended next p e in
     end_explained v w trace log k went owned before after scalars ended next p e
-    (task_ends (catalogue_of log) (bodies_at log) (history_at (limits_in v.about) before) v.actor budget exit f.before f.after scalars ended next
-    (fit_behind v w trace log k went owned before after scalars ended next p e)
+    (task_ends (catalogue_of log) (bodies_at log) (history_at (limits_in v.about) before) v.actor budget (asked_so_far v) exit f.before f.after scalars ended next
+    (fit_behind v w trace log k went owned before after scalars ended next p e) none
     (subst (λ (l : Trace). Along (task_run (bodies_at log) v.actor budget) l exit) (trace_at v w trace log k went owned before after scalars ended next p e) run)
-    (subst (λ (l : Trace). HasAsked (history_at (limits_in v.about) before) v.actor l f.before) (nothing_asked (limits_in v.about) v.actor v.seen (k.owns ∙ none))
-    (had_asked v w trace log k went owned before after scalars ended next p e)))
+    (had_asked v w trace log k went owned before after scalars ended next p e))

@@ -1,4 +1,4 @@
--- Of the answers that a port's body is told none strays, but to the end of a body.
+-- Of the answers that a port's body is told none strays.
 use Rattle.std.proofs.Common.{◌≡◌, inl, inr, ⊎_elim, List, [], ◌∷◌, ◌++◌, Bool, true, false, refl, sym, ap, ◌∙◌, subst}
 use Rattle.rv_event.specs.declared.entry.Request.{Request}
 use Rattle.rv_event.specs.declared.entry.Answer.{Answer}
@@ -14,7 +14,6 @@ use Rattle.rv_port.specs.Traces.{Passing, Trace, told, Tells, Steps, Went}
 use Rattle.rv_port.specs.Calls.{stops_within, StopsBody, StoppedAt}
 use Rattle.rv_port.proofs.Asking.{asked_went, worn_told}
 use Rattle.rv_port.proofs.Stopped.{stop_at}
-use Rattle.rv_went.specs.Ends.{EndNotDone}
 
 tells_went : (v w : Passing) (q : Request) (r : Answer) → Tells v q r w → Went v ((q, r) ∷ []) w
 tells_went v w q r t = ⊎_elim (λ x. subst (λ (z : Answer). Went v ((q, z) ∷ []) w) (sym x.3) (asked_went v w q x.0 x.1 x.2))
@@ -87,9 +86,9 @@ stray_waiting : {X : Type 0} (log : List Event) (u m k : Passing) (q : Request) 
 stray_waiting log u m k q r [] later t x n = absurd n
 stray_waiting log u m k q r ((p, s) ∷ more) later t x n = never_unfit_woken log u m x.0 q p r s later t x.1 n
 
-pub strays_end : (log : List Event) (u : Passing) (trace : Trace) (k : Passing) → StartsWith u.seen log → Steps u trace k → Strays (callee_fits (catalogue_of log)) trace → EndNotDone trace
-strays_end log u [] k later t s = absurd s
-strays_end log u ((q, r) ∷ more) k later t s =
-    ⊎_elim (λ h. ⊎_elim (λ e. inl e) (λ n. never_unfit log u t.0 q r later t.1 n) h)
+pub no_strays : {X : Type 0} (log : List Event) (u : Passing) (trace : Trace) (k : Passing) → StartsWith u.seen log → Steps u trace k → Strays (callee_fits (catalogue_of log)) trace → X
+no_strays log u [] k later t s = absurd s
+no_strays log u ((q, r) ∷ more) k later t s =
+    ⊎_elim (λ n. never_unfit log u t.0 q r later t.1 n)
     (λ h. ⊎_elim (λ n. stray_waiting log u t.0 k q r more later t.1 t.2 n)
-    (λ n. inr (strays_end log t.0 more k (starts_both log u.seen t.0.seen later (tells_went u t.0 q r t.1).later) t.2 n)) h) s
+    (λ n. no_strays log t.0 more k (starts_both log u.seen t.0.seen later (tells_went u t.0 q r t.1).later) t.2 n) h) s

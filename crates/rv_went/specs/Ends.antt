@@ -1,5 +1,5 @@
 -- The ends that a port's body asked are explained in what the port has seen then (own).
-use Rattle.std.specs.Prelude.{◌≡◌, ◌⊎◌, ◌≤◌, ℕ, ℤ, true, if◌then◌else◌, List, [], ◌∷◌, ◌++◌}
+use Rattle.std.specs.Prelude.{◌≡◌, ℕ, ℤ, true, if◌then◌else◌, List, [], ◌∷◌, ◌++◌}
 use Rattle.rv_shape.specs.Catalogue.{target, shares}
 use Rattle.rv_event.specs.declared.entry.Answer.TheVariants as answer
 use Rattle.rv_event.specs.declared.entry.Exit.{Exit}
@@ -9,30 +9,17 @@ use Rattle.rv_event.specs.declared.entry.Request.{Request}
 use Rattle.rv_event.specs.declared.entry.Request.TheVariants.{Complete}
 use Rattle.rv_fits.specs.Fits.{calls_fit}
 use Rattle.rv_exec.specs.Asking.{Trace, Along}
-use Rattle.rv_exec.specs.Stops.{EndsNot}
 use Rattle.rv_exec.specs.Tasks.{task_run}
 use Rattle.rv_turn.specs.Histories.{mine, StartsWith}
-use Rattle.rv_meant.specs.Runs.{operation_run_at}
+use Rattle.rv_exec.specs.Blocks.{operation_run_at}
 use Rattle.rv_meant.specs.Asks.{held_behind, AreRecorded}
-use Rattle.rv_meant.specs.Explained.{Opens, is_protected}
+use Rattle.rv_meant.specs.Explained.{StartsBody, on_protected}
 use Rattle.rv_behind.specs.Events.{by, bodies_at, catalogue_of}
 use Rattle.rv_behind.specs.declared.event.Event.{Event}
 use Rattle.rv_behind.specs.declared.event.Event.TheVariants.{Asks}
 use Rattle.rv_accounts.specs.Seen.{asked_at}
-use Rattle.rv_accounts.specs.Explained.{EndIsExplained}
+use Rattle.rv_accounts.specs.Explained.{ExplainedEnd}
 use Rattle.rv_port.specs.Traces.{Passing, limits_in, Asked, Went}
-
--- the end of a body, among these asks, is answered otherwise than Done: no host answers the end of a compiled body so (own)
-abbrev pub EndNotDone : Trace → Type 0
-EndNotDone [] = ⊥
-EndNotDone (pair ∷ more) = EndsNot pair.0 pair.1 ⊎ EndNotDone more
-
--- An end of a body among these asks, before this end, which was answered Done, is answered otherwise. (own)
-pub record EndNotDoneBefore (trace : Trace) (scalars : List ℤ) (exit : Exit) (next : Next) : Type 0 where
-  pub before : Trace
-  pub behind : Trace
-  pub trace_is : trace ≡ before ++ (Complete scalars exit, answer.Done next) ∷ behind
-  pub not_done : EndNotDone before
 
 -- what the actor of a port asked so far, with the answers
 abbrev pub asked_so_far : Passing → Trace
@@ -48,51 +35,55 @@ pub record IsLentBy (v : Passing) (log : List Event) : Type 0 where
   pub from : StartsWith v.seen log
   pub fit : calls_fit (catalogue_of log) (bodies_at log) ≡ true
 
--- each end of the actor that came since in what was seen then is explained, if none before it was answered otherwise than Done
-abbrev pub EndsSinceAreExplained : Passing → Passing → Trace → Type 0
-EndsSinceAreExplained v w trace =
+-- how many objects the actor holds by then
+abbrev pub held_by : Passing → ℕ
+held_by v = held_behind 0 (asked_so_far v)
+
+-- each end of the actor that came since in what was seen then is explained
+abbrev pub EndsSinceAreExplained : Passing → Passing → Type 0
+EndsSinceAreExplained v w =
     (before after : List Event) (scalars : List ℤ) (exit : Exit) (next : Next) → StartsWith before v.seen
     → w.seen ≡ before ++ Asks v.actor (Complete scalars exit) (Done next) ∷ after
-    → EndNotDoneBefore trace scalars exit next ⊎ EndIsExplained (limits_in v.about) v.actor before scalars exit
+    → ExplainedEnd (limits_in v.about) v.actor before scalars exit
 
--- Where a body ran on a port, of an actor that held so many objects, and asked this, each end that came since is explained, or one
--- before it was not answered Done.
+-- Where a body ran on a port, of an actor that held so many objects, each end that came since is explained.
 abbrev pub BodiesLeaveEndsExplained : Type 0
 BodiesLeaveEndsExplained =
     (v w : Passing) (trace : Trace) (log : List Event) (object operation : ℕ) (values components left : List ℤ) (exit : Exit)
-    → IsLentBy v log → Went v trace w → Owns w → held_behind 0 (asked_so_far v) ≤ 16
-    → Along (operation_run_at (bodies_at log) (held_behind 0 (asked_so_far v)) object operation values components) trace (exit, left)
-    → EndsSinceAreExplained v w trace
+    → IsLentBy v log → Went v trace w → Owns w
+    → Along (operation_run_at (bodies_at log) (held_by v) object operation values components) trace (exit, left)
+    → EndsSinceAreExplained v w
 
--- the same of a task's text, before which its actor asked nothing
+-- the same of a task's text, before which its actor held nothing
 abbrev pub TextsLeaveEndsExplained : Type 0
 TextsLeaveEndsExplained =
     (v w : Passing) (trace : Trace) (log : List Event) (budget : ℕ) (exit : Exit)
-    → IsLentBy v log → Went v trace w → Owns w → v.base ++ v.own ≡ []
+    → IsLentBy v log → Went v trace w → Owns w → held_by v ≡ 0
     → Along (task_run (bodies_at log) v.actor budget) trace exit
-    → EndsSinceAreExplained v w trace
+    → EndsSinceAreExplained v w
 
 -- The body of an operation that started on a port ran, and asked this up to here: of the bodies that the port was lent, of an actor
--- that asked first what was before the start, and then, as the last, what opened it.
+-- that asked first what was before the start, and then, as the last, what opened it. Its actor holds as many objects then as at the
+-- start: it isn't left in a body that this one called.
 pub record RanSo (u : Passing) (log : List Event) (early opening : Trace) (object operation : ℕ) (values components left : List ℤ) (exit : Exit) (trace : Trace) (body : Passing) : Type 0 where
   pub lent : IsLentBy u log
   pub asked : asked_so_far u ≡ early ++ opening
   pub recorded : AreRecorded (early ++ opening)
-  pub few : held_behind 0 (early ++ opening) ≤ 16
-  pub loaded : is_protected (target (catalogue_of log) object operation) ≡ true
+  pub loaded : on_protected (target (catalogue_of log) object operation) ≡ true
   pub along : Along (operation_run_at (bodies_at log) (held_behind 0 (early ++ opening)) object operation values components) trace (exit, left)
   pub went : Went u trace body
+  pub back : held_behind (held_behind 0 (early ++ opening)) trace ≡ held_behind 0 (early ++ opening)
 
 -- what an end gives of these scalars, none for a function (9.5.1)
 abbrev pub given_at : List Event → ℕ → ℕ → List ℤ → List ℤ
 given_at at object operation left = if shares (target (catalogue_of at) object operation) then [] else left
 
--- The end of that body, which is answered Done, is explained, or one before it was not answered so.
+-- The end of that body, which is answered Done, is explained.
 abbrev pub OwnEndsAreExplained : Type 0
 OwnEndsAreExplained =
     (u body w : Passing) (trace : Trace) (log : List Event) (early opening : Trace) (object operation : ℕ) (values components left : List ℤ) (exit : Exit)
     (request : Request) (next : Next)
     → RanSo u log early opening object operation values components left exit trace body
     → (x : Asked body request (answer.Done next) w)
-    → Opens (catalogue_of x.at) u.actor opening object operation values components
-    → EndNotDone trace ⊎ EndIsExplained (limits_in u.about) u.actor x.at (given_at x.at object operation left) exit
+    → StartsBody (catalogue_of x.at) u.actor opening object operation values components
+    → ExplainedEnd (limits_in u.about) u.actor x.at (given_at x.at object operation left) exit

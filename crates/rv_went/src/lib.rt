@@ -3,13 +3,12 @@
 
 ghost use Rattle.rv_went.specs.Ends.{BodiesLeaveEndsExplained, OwnEndsAreExplained, TextsLeaveEndsExplained};
 
-/// Where a body ran on a port, each end of its actor that came since in what the port has seen is explained, or an end
-/// before it was not answered Done.
+/// Where a body ran on a port, each end of its actor that came since in what the port has seen is explained.
 pub fn bodies_leave_ends_explained()
     ensures { BodiesLeaveEndsExplained }
 {}
 
-/// And where a task's text ran on a port that had done nothing.
+/// And where a task's text ran on a port whose actor held nothing.
 pub fn texts_leave_ends_explained()
     ensures { TextsLeaveEndsExplained }
 {}
