@@ -1,7 +1,9 @@
-//! The files of the folder that a program of rows is run in: `NAME.ENDING`, of which one ending names the rows.
+//! The files of the folder that a program of rows is run in: `NAME.ENDING`, of which one ending names the rows; and what several
+//! such programs share.
 #![tactic(auto)]
 
 pub mod failing;
+pub mod texts;
 
 use std::alloc::AllocGlobal;
 use std::fs::Files;

@@ -1,3 +1,4 @@
+pub mod Above
 pub mod Actors
 pub mod Asking
 pub mod Gets

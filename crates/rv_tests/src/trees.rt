@@ -8,8 +8,9 @@ use damaged_texts::{
     BEFORE_BODIES, BEFORE_DECLARATIONS, BEFORE_EXPRESSIONS, BEFORE_STATEMENTS, BODIES,
     DECLARATIONS, Damage, EXPRESSIONS, STATEMENTS, TEXTS,
 };
-use example_texts::{COMPARING_BARRIER, NAV, PLANT, TWO_ENTRIES, WHOLE_GRAMMAR};
+use example_texts::{COMPARING_BARRIER, TWO_ENTRIES, WHOLE_GRAMMAR};
 use nested_texts::{Nest, nests};
+use row_files::texts::{NAV, PLANT};
 use rv_lex::lexer::tokens;
 use rv_parse::{ParseFault, parse};
 use rv_tree::print;

@@ -1,4 +1,3 @@
-pub mod Actors
 pub mod Notes
 pub mod Sending
 pub mod Turns

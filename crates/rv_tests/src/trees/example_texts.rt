@@ -1,41 +1,5 @@
 //! Unit texts that derive a tree.
 
-/// A protected object with a function, a procedure and an entry.
-pub const PLANT: &str = "package Plant is
-   protected Valve with Priority => 20 is
-      function Get return Integer;
-      procedure Add (N : in Integer);
-      entry Wait (N : out Integer);
-   private
-      Ready : Boolean := False;
-      Level : Integer := 0;
-   end Valve;
-end Plant;
-package body Plant is
-   protected body Valve is
-      function Get return Integer is begin return Level; end Get;
-      procedure Add (N : in Integer) is begin
-         Level := Level + N; Ready := Level > 5;
-      end Add;
-      entry Wait (N : out Integer) when Ready is begin
-         N := Level; Ready := False;
-      end Wait;
-   end Valve;
-end Plant;
-";
-
-/// Two tasks that call it.
-pub const NAV: &str = "with Plant;
-package Nav is
-   task Pilot;
-   task Aux;
-end Nav;
-package body Nav is
-   task body Pilot is X : Integer; begin Plant.Valve.Wait (X); end Pilot;
-   task body Aux is begin Plant.Valve.Add (4); Plant.Valve.Add (4); end Aux;
-end Nav;
-";
-
 /// Two entries in one protected unit, which a restriction refuses, not the grammar.
 pub const TWO_ENTRIES: &str =
     "package Q is protected B is entry P; entry T; private Count : Integer; end B; end Q; \

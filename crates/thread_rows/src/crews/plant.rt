@@ -1,6 +1,7 @@
 //! The hosts of the crews: a plant with a valve, whose bodies come from its text, and tasks and devices beside it.
 
 use crate::host::{control_with, new_control};
+use row_files::texts::{NAV, PLANT};
 use rv_access::read_list;
 use rv_fault::unit_of;
 use rv_port::control::Control;
@@ -16,42 +17,6 @@ pub const LINE: u64 = 5;
 
 /// How many entries the storm's journal has room for.
 pub const STORM_CAPACITY: usize = 65_536;
-
-// Object 1, Valve: 1 Get, 2 Add, 3 Wait.
-const PLANT: &str = "package Plant is
-   protected Valve with Priority => 20 is
-      function Get return Integer;
-      procedure Add (N : in Integer);
-      entry Wait (N : out Integer);
-   private
-      Ready : Boolean := False;
-      Level : Integer := 0;
-   end Valve;
-end Plant;
-package body Plant is
-   protected body Valve is
-      function Get return Integer is begin return Level; end Get;
-      procedure Add (N : in Integer) is begin
-         Level := Level + N; Ready := Level > 5;
-      end Add;
-      entry Wait (N : out Integer) when Ready is begin
-         N := Level; Ready := False;
-      end Wait;
-   end Valve;
-end Plant;
-";
-
-// Tasks 11 and 12.
-const NAV: &str = "with Plant;
-package Nav is
-   task Pilot;
-   task Aux;
-end Nav;
-package body Nav is
-   task body Pilot is X : Integer; begin Plant.Valve.Wait (X); end Pilot;
-   task body Aux is begin Plant.Valve.Add (4); Plant.Valve.Add (4); end Aux;
-end Nav;
-";
 
 // Task 11.
 const DEVICE: &str = "unit Dev\ntask Main 15\n";

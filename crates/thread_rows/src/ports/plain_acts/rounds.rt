@@ -66,16 +66,16 @@ pub fn host(alloc: Global) -> Option<Host> {
     }
 }
 
-// A call without values.
-fn call(object: usize, operation: usize) -> Request {
-    Request::Call(object, operation, Args::new())
-}
-
 const GO: usize = 1;
 
 const VALVE: usize = 2;
 
 const ALARM: usize = 3;
+
+// A call without values.
+fn call(object: usize, operation: usize) -> Request {
+    Request::Call(object, operation, Args::new())
+}
 
 fn set_true() -> Request {
     call(GO, 1)
