@@ -7,6 +7,7 @@ use crate::declarations::declare;
 use crate::refused::{Refused, mismatch};
 use crate::setting::Setting;
 use rv_scope::members::enter_members;
+use rv_scope::units::unit_number;
 use rv_scope::{Scope, Wanted};
 use rv_shape::object::Operation;
 use rv_text::is_same_name;
