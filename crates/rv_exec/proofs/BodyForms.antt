@@ -20,12 +20,12 @@ use Rattle.rv_exec.specs.declared.end.Cause.TheVariants as cause
 use Rattle.rv_exec.specs.declared.end.End.{End}
 use Rattle.rv_exec.specs.declared.end.End.TheVariants as end
 use Rattle.rv_exec.specs.declared.setting.Setting.{Setting}
-use Rattle.rv_exec.specs.Asking.{Trace, Asking, ended, asking, and_then, Ran}
+use Rattle.rv_exec.specs.Asking.{Trace, Asking, ended, and_then, Ran}
 use Rattle.rv_exec.specs.Activations.{assigned, bound, opened, spent, refilled}
-use Rattle.rv_exec.specs.Blocks.{elaborated, in_handler, raised, handling, handled_by, handled, block, outcome_of, closed, body_meaning, inner_at, performed, outer_at, exits, operation_run, operation_setting, world}
+use Rattle.rv_exec.specs.Blocks.{elaborated, in_handler, raised, handling, handled_by, handled, block, outcome_of, closed, body_meaning, inner_at, performed, outer_at, exits, operation_run_at, operation_setting, world}
 use Rattle.rv_exec.specs.Bodies.{operation_of, task_of}
 use Rattle.rv_exec.specs.Tasks.{task_setting, quits, over, task_meaning, task_run, fired, line_run}
-use Rattle.rv_exec.specs.Calls.{Outcome, internal, reached, exit_of, completed, end_of, completes}
+use Rattle.rv_exec.specs.Calls.{Outcome, internal, reached, exit_of, end_of, ends_by, completes}
 use Rattle.rv_exec.specs.Choices.{handler_of}
 use Rattle.rv_exec.specs.Expressions.{value, called, called_by, asked_by, answered, returned}
 use Rattle.rv_exec.specs.Statements.{abandons, go_on, meanings}
@@ -160,28 +160,28 @@ module _ {S : Type 0} (went : S → Trace → S → Type 0) (none : (s : S) → 
   started_past bodies (suc held) callee values object operation is_function components s t is h = absurd (omega (arith, is))
 
   -- the body that follows, and its end
-  pub started_goes : (bodies : UnitBodies) (held : ℕ) (callee : Callee) (values : List ℤ) (object operation : ℕ) (is_function : Bool) (components left : List ℤ) (steps : ℕ) (outcome last : Outcome) (request : Request) (s t u r : S) → (held ≡ 0 → ⊥) → Ran went s (reached held callee values) t (asked.Started object operation is_function components) → Ran went t (inner_at bodies object (outer_at bodies (held - 1)) 65 operation values components 100000) u (outcome, (left, steps)) → request ≡ end_of is_function outcome left → Ran went u (asking request (λ answer. ended (completed outcome answer))) r last → Ran went s (outer_at bodies held callee values) r last
+  pub started_goes : (bodies : UnitBodies) (held : ℕ) (callee : Callee) (values : List ℤ) (object operation : ℕ) (is_function : Bool) (components left : List ℤ) (steps : ℕ) (outcome last : Outcome) (request : Request) (s t u r : S) → (held ≡ 0 → ⊥) → Ran went s (reached held callee values) t (asked.Started object operation is_function components) → Ran went t (inner_at bodies object (outer_at bodies (held - 1)) 65 operation values components 100000) u (outcome, (left, steps)) → request ≡ end_of is_function outcome left → Ran went u (ends_by request outcome) r last → Ran went s (outer_at bodies held callee values) r last
   unfolding outer_at
   started_goes bodies zero callee values object operation is_function components left steps outcome last request s t u r some h g is f = absurd (some refl)
   started_goes bodies (suc held) callee values object operation is_function components left steps outcome last request s t u r some h g is f =
       let k : suc held - 1 ≡ held = omega arith in
       let g' = subst (λ (n : ℕ). Ran went t (inner_at bodies object (outer_at bodies n) 65 operation values components 100000) u (outcome, (left, steps))) k g in
-      let f' = subst (λ (q : Request). Ran went u (asking q (λ answer. ended (completed outcome answer))) r last) is f in
+      let f' = subst (λ (q : Request). Ran went u (ends_by q outcome) r last) is f in
       ran_then went both s t r _ (performed (λ o p f k. and_then (inner_at bodies o (outer_at bodies held) 65 p values k 100000) (completes f))) (asked.Started object operation is_function components) last h
       (ran_then went both t u r _ (completes is_function) (outcome, (left, steps)) last g' f')
 
   -- the body of an operation that has started, and how it exits
-  pub operation_goes : (bodies : UnitBodies) (object operation : ℕ) (values components left : List ℤ) (steps : ℕ) (setting : Setting) (outcome : Outcome) (exit : Exit) (s t : S) → setting ≡ operation_setting object → Ran went s (inner_at bodies setting.object (outer_at bodies setting.held) setting.nested operation values components 100000) t (outcome, (left, steps)) → exit ≡ exit_of outcome → Ran went s (operation_run bodies object operation values components) t (exit, left)
-  operation_goes bodies object operation values components left steps setting outcome exit s t is h got =
+  pub operation_goes : (bodies : UnitBodies) (held object operation : ℕ) (values components left : List ℤ) (steps : ℕ) (setting : Setting) (outcome : Outcome) (exit : Exit) (s t : S) → setting ≡ operation_setting held object → Ran went s (inner_at bodies setting.object (outer_at bodies setting.held) setting.nested operation values components 100000) t (outcome, (left, steps)) → exit ≡ exit_of outcome → Ran went s (operation_run_at bodies held object operation values components) t (exit, left)
+  operation_goes bodies held object operation values components left steps setting outcome exit s t is h got =
       let h' = subst (λ (k : Setting). Ran went s (inner_at bodies k.object (outer_at bodies k.held) k.nested operation values components 100000) t (outcome, (left, steps))) is h in
       ran_then went both s t t _ exits (outcome, (left, steps)) _ h' (ran_end went none t _ _ (ap (λ (k : Exit). ended (k, left)) (sym got)))
 
   -- the handler of a line, and its end
-  pub line_goes : (bodies : UnitBodies) (object operation : ℕ) (values components left : List ℤ) (steps : ℕ) (setting : Setting) (outcome last : Outcome) (ends : Request) (s t u r : S) → setting ≡ operation_setting object → values ≡ [] → went s ((request.Fire, answer.Started components) ∷ []) t → Ran went t (inner_at bodies setting.object (outer_at bodies setting.held) setting.nested operation values components 100000) u (outcome, (left, steps)) → ends ≡ end_of false outcome left → Ran went u (asking ends (λ given. ended (completed outcome given))) r last → Ran went s (line_run bodies object operation) r last
+  pub line_goes : (bodies : UnitBodies) (object operation : ℕ) (values components left : List ℤ) (steps : ℕ) (setting : Setting) (outcome last : Outcome) (ends : Request) (s t u r : S) → setting ≡ operation_setting 1 object → values ≡ [] → went s ((request.Fire, answer.Started components) ∷ []) t → Ran went t (inner_at bodies setting.object (outer_at bodies setting.held) setting.nested operation values components 100000) u (outcome, (left, steps)) → ends ≡ end_of false outcome left → Ran went u (ends_by ends outcome) r last → Ran went s (line_run bodies object operation) r last
   line_goes bodies object operation values components left steps setting outcome last ends s t u r is empty out h got f =
       let h' = subst (λ (k : Setting). Ran went t (inner_at bodies k.object (outer_at bodies k.held) k.nested operation values components 100000) u (outcome, (left, steps))) is h in
       let h'' = subst (λ (k : List ℤ). Ran went t (inner_at bodies object (outer_at bodies 15) 65 operation k components 100000) u (outcome, (left, steps))) empty h' in
-      let f' = subst (λ (q : Request). Ran went u (asking q (λ given. ended (completed outcome given))) r last) got f in
+      let f' = subst (λ (q : Request). Ran went u (ends_by q outcome) r last) got f in
       ran_ask_then went both s t r request.Fire (answer.Started components) (fired bodies object operation) last out
       (ran_then went both t u r _ (completes false) (outcome, (left, steps)) last h'' f')
 

@@ -10,7 +10,7 @@ use Rattle.rv_exec.specs.declared.end.Asked.TheVariants as asked
 use Rattle.rv_exec.specs.declared.end.Reply.TheVariants as reply
 use Rattle.rv_exec.specs.declared.end.Cause.TheVariants as cause
 use Rattle.rv_exec.specs.Asking.{Trace, Asking, ended, asking, and_then, Along, Ran}
-use Rattle.rv_exec.specs.Calls.{is_past, request_of, replied, resumed, settled, asks, reached}
+use Rattle.rv_exec.specs.Calls.{Outcome, is_past, request_of, replied, resumed, settled, asks, reached, completed, is_stuck, ends_by}
 
 along_then : {A B : Type 0} (w : Asking A) (f : A → Asking B) (a : A) (b : B) (p q : Trace) → Along w p a → Along (f a) q b → Along (and_then w f) (p ++ q) b
 along_then {B = B} (ended x) f a b [] q h g = subst (λ y. Along (f y) q b) (sym h) g
@@ -46,6 +46,13 @@ falls k (suc n) most a b lt small =
     let h : k * most ≤ n * most = mul-le-mul_right most le in
     let e : suc n * most ≡ n * most + most = suc-mul n most in
     omega (arith, h, e, small)
+
+-- the end of a body that is asked, and of one that isn't
+pub ends_asked : (q : Request) (outcome : Outcome) → is_stuck outcome ≡ false → ends_by q outcome ≡ asking q (λ answer. ended (completed outcome answer))
+ends_asked q outcome h = rw h refl
+
+pub ends_unasked : (q : Request) (outcome : Outcome) → is_stuck outcome ≡ true → ends_by q outcome ≡ ended outcome
+ends_unasked q outcome h = rw h refl
 
 -- a call that is past the objects that may be held
 pub reached_past : (held : ℕ) (c : Callee) (values : List ℤ) → is_past held c ≡ true → reached held c values ≡ ended (asked.Abandoned (cause.Raised ProgramError))

@@ -27,13 +27,14 @@ use Rattle.rv_exec.specs.Asking.{Trace, Asking, ended, asking, and_then, Along}
 use Rattle.rv_exec.specs.Activations.{assigned, bound, opened, given_back}
 use Rattle.rv_exec.specs.Blocks.{elaborated, in_handler, handling, handled, block, function_outcome, procedure_outcome, outcome_of, closed, body_meaning, inner_at, performed, outer_at, exits, world}
 use Rattle.rv_exec.specs.Bodies.{numbered, among, flat, operation_of, task_of}
-use Rattle.rv_exec.specs.Calls.{Outcome, internal, request_of, replied, resumed, settled, asks, is_past, reached, exit_of, completed, end_of, completes}
+use Rattle.rv_exec.specs.Calls.{Outcome, internal, request_of, replied, resumed, settled, asks, is_past, reached, exit_of, completed, is_stuck, end_of, completes}
 use Rattle.rv_exec.specs.Choices.{named, handler_of}
 use Rattle.rv_exec.specs.Expressions.{value}
 use Rattle.rv_exec.specs.Statements.{go_on, meanings}
 use Rattle.rv_exec.specs.Stops.{is_final, is_stopped, stops_at_once, IsUnfitWoken, EndsNot, Stops, unwinds, StopsIn, BodiesStopBy, TasksStopBy}
 use Rattle.rv_exec.specs.Tasks.{task_setting, quits, over, task_meaning}
 use Rattle.rv_exec.specs.World.{World}
+use Rattle.rv_exec.proofs.Runs.{ends_asked}
 use Rattle.rv_exec.proofs.Stopping.{stopped_result, stopped_got, stopped_end, stopped_run, Sound, Quiet, Follows, sound_end, quiet_end, follows_end, sound_where, sound_if, sound_then, sound_in_run, sound_run, follows_run}
 use Rattle.rv_exec.proofs.StoppedValues.{SoundWorld, value_sound}
 use Rattle.rv_exec.proofs.StoppedStatements.{assigned_goes, statements_sound}
@@ -230,24 +231,35 @@ end_is : (is_function : Bool) (outcome : Outcome) (components : List ℤ) → en
 end_is true outcome components = refl
 end_is false outcome components = refl
 
-completes_sound : (such : Callee → Bool) (is_function : Bool) (outcome : Outcome) (components : List ℤ) (steps : ℕ) → stopped_result outcome ≡ false → Sound such stopped_result (completes is_function (outcome, (components, steps)))
-completes_sound such is_function outcome components steps f [] last h s = absurd h
-completes_sound such is_function outcome components steps f (pair ∷ []) last h s =
+unstuck : (outcome : Outcome) → stopped_result outcome ≡ false → is_stuck outcome ≡ false
+unstuck (Ok values) f = refl
+unstuck (Err (cause.Raised exception)) f = refl
+unstuck (Err cause.Overrun) f = refl
+unstuck (Err (cause.Stopped is_idle)) f = no_stop (sym f)
+
+ending_sound : (such : Callee → Bool) (is_function : Bool) (outcome : Outcome) (components : List ℤ) → stopped_result outcome ≡ false → Sound such stopped_result (asking (end_of is_function outcome components) (λ r. ended (completed outcome r)))
+ending_sound such is_function outcome components f [] last h s = absurd h
+ending_sound such is_function outcome components f (pair ∷ []) last h s =
     let e : request.Complete (ends_with is_function components) (exit_of outcome) ≡ pair.0 = sym (end_is is_function outcome components) ∙ h.0 in
     inl (inr (inl (subst (λ (q : Request). EndsNot q pair.1) e (not_done pair.0 (ends_with is_function components) (exit_of outcome) pair.1 outcome e f (ap stopped_result h.1 ∙ s)))), tt)
-completes_sound such is_function outcome components steps f (pair ∷ two ∷ more) last h s = absurd h.1
+ending_sound such is_function outcome components f (pair ∷ two ∷ more) last h s = absurd h.1
 
-completes_quiet : (is_function : Bool) (is_idle : Bool) (components : List ℤ) (steps : ℕ) → Quiet (completes is_function (Err (cause.Stopped is_idle), (components, steps)))
-completes_quiet is_function is_idle components steps [] last h = absurd h
-completes_quiet is_function is_idle components steps (pair ∷ []) last h =
-    (sym (ap unwinds (sym (end_is is_function (Err (cause.Stopped is_idle)) components) ∙ h.0)), tt)
-completes_quiet is_function is_idle components steps (pair ∷ two ∷ more) last h = absurd h.1
+completes_sound : (such : Callee → Bool) (is_function : Bool) (outcome : Outcome) (components : List ℤ) (steps : ℕ) → stopped_result outcome ≡ false → Sound such stopped_result (completes is_function (outcome, (components, steps)))
+completes_sound such is_function outcome components steps f =
+    subst (λ (w : Asking Outcome). Sound such stopped_result w) (sym (ends_asked (end_of is_function outcome components) outcome (unstuck outcome f))) (ending_sound such is_function outcome components f)
+
+completes_quiet : (is_function : Bool) (components : List ℤ) (steps : ℕ) → Quiet (completes is_function (Err (cause.Stopped true), (components, steps)))
+completes_quiet is_function components steps [] last h = absurd h
+completes_quiet is_function components steps (pair ∷ []) last h =
+    (sym (ap unwinds (sym (end_is is_function (Err (cause.Stopped true)) components) ∙ h.0)), tt)
+completes_quiet is_function components steps (pair ∷ two ∷ more) last h = absurd h.1
 
 follows_completed : (such : Callee → Bool) (is_function : Bool) (got : Outcome × (List ℤ × ℕ)) → Follows such (stopped_got got) stopped_result (completes is_function got)
 follows_completed such is_function (Ok values, (components, steps)) = completes_sound such is_function (Ok values) components steps refl
 follows_completed such is_function (Err (cause.Raised exception), (components, steps)) = completes_sound such is_function (Err (cause.Raised exception)) components steps refl
 follows_completed such is_function (Err cause.Overrun, (components, steps)) = completes_sound such is_function (Err cause.Overrun) components steps refl
-follows_completed such is_function (Err (cause.Stopped is_idle), (components, steps)) = completes_quiet is_function is_idle components steps
+follows_completed such is_function (Err (cause.Stopped true), (components, steps)) = completes_quiet is_function components steps
+follows_completed such is_function (Err (cause.Stopped false), (components, steps)) = quiet_end (Err (cause.Stopped false))
 
 -- Calls of other objects
 
@@ -288,9 +300,9 @@ follows_exits such (Err cause.Overrun, (components, steps)) = sound_end such sto
 follows_exits such (Err (cause.Stopped is_idle), (components, steps)) = quiet_end (exit.Stopped, components)
 
 pub bodies_stop_by : BodiesStopBy
-bodies_stop_by such bodies object operation values components left trace k h =
-    sound_then such stopped_got stopped_ended (inner_at bodies object (outer_at bodies 15) 65 operation values components 100000) exits
-    (inner_sound such bodies object (outer_at bodies 15) k (λ c v n m. outer_sound such bodies 15 c v k n m) 65 operation values components 100000) (follows_exits such) trace (exit.Stopped, left) h refl
+bodies_stop_by such bodies held object operation values components left trace k h =
+    sound_then such stopped_got stopped_ended (inner_at bodies object (outer_at bodies (16 - held)) 65 operation values components 100000) exits
+    (inner_sound such bodies object (outer_at bodies (16 - held)) k (λ c v n m. outer_sound such bodies (16 - held) c v k n m) 65 operation values components 100000) (follows_exits such) trace (exit.Stopped, left) h refl
 
 quit_sound : (such : Callee → Bool) (x : Exit) → stopped_exit x ≡ false → Sound such stopped_exit (asking request.Quit (λ r. ended x))
 quit_sound such x e [] last h s = absurd h

@@ -1,5 +1,5 @@
 -- What bodies do (ISO/IEC 8652:2012, 3.11, 6.4.1, 6.5, 11.4).
-use Rattle.std.specs.Prelude.{ℕ, zero, suc, ℤ, pos, List, [], ◌∷◌, Bool, false, if◌then◌else◌, Option, Some, None, Ok, Err, replicate}
+use Rattle.std.specs.Prelude.{ℕ, zero, suc, ◌-◌, ℤ, pos, List, [], ◌∷◌, Bool, false, if◌then◌else◌, Option, Some, None, Ok, Err, replicate}
 use Rattle.rv_event.specs.declared.entry.Exception.{Exception}
 use Rattle.rv_event.specs.declared.entry.Exception.TheVariants.{ProgramError}
 use Rattle.rv_event.specs.declared.entry.Exit.{Exit}
@@ -103,14 +103,14 @@ outer_at bodies (suc held) callee values =
 abbrev pub exits : Outcome × (List ℤ × ℕ) → Asking (Exit × List ℤ)
 exits (outcome, (components, steps)) = ended (exit_of outcome, components)
 
--- the body of an operation that has started, whose actor holds this object alone
-abbrev pub operation_run : UnitBodies → ℕ → ℕ → List ℤ → List ℤ → Asking (Exit × List ℤ)
-operation_run bodies object operation values components =
-    and_then (inner_at bodies object (outer_at bodies 15) 65 operation values components 100000) exits
+-- the body of an operation that has started, whose actor holds so many objects, this one with them, of the 16 that it may
+abbrev pub operation_run_at : UnitBodies → (held object operation : ℕ) → List ℤ → List ℤ → Asking (Exit × List ℤ)
+operation_run_at bodies held object operation values components =
+    and_then (inner_at bodies object (outer_at bodies (16 - held)) 65 operation values components 100000) exits
 
 -- what its statements run in (own)
-abbrev pub operation_setting : ℕ → Setting
-operation_setting object = record { object = object; held = 15; nested = 65; is_task = false; handling = None }
+abbrev pub operation_setting : (held object : ℕ) → Setting
+operation_setting held object = record { object = object; held = 16 - held; nested = 65; is_task = false; handling = None }
 
 -- what statements of this setting run in
 abbrev pub world : UnitBodies → Setting → World

@@ -206,7 +206,14 @@ abbrev pub end_of : Bool → Outcome → List ℤ → Request
 end_of true outcome components = request.Complete [] (exit_of outcome)
 end_of false outcome components = request.Complete components (exit_of outcome)
 
--- the end of a body is asked
+-- whether its actor is left waiting, or in a body that it called (own)
+abbrev pub is_stuck : Outcome → Bool
+is_stuck (Err (cause.Stopped false)) = true
+is_stuck other = false
+
+-- the end of a body is asked by this request; where its actor is left waiting, or in a body that it called, it isn't (own)
+abbrev pub ends_by : Request → Outcome → Asking Outcome
+ends_by request outcome = if is_stuck outcome then ended outcome else asking request (λ answer. ended (completed outcome answer))
+
 abbrev pub completes : Bool → Outcome × (List ℤ × ℕ) → Asking Outcome
-completes is_function (outcome, (components, steps)) =
-    asking (end_of is_function outcome components) (λ answer. ended (completed outcome answer))
+completes is_function (outcome, (components, steps)) = ends_by (end_of is_function outcome components) outcome

@@ -14,7 +14,7 @@ use Rattle.rv_exec.specs.declared.end.Cause.TheVariants as cause
 use Rattle.rv_exec.specs.declared.end.Reply.{Reply}
 use Rattle.rv_exec.specs.declared.end.Reply.TheVariants as reply
 use Rattle.rv_exec.specs.Asking.{Trace, Along}
-use Rattle.rv_exec.specs.Blocks.{operation_run}
+use Rattle.rv_exec.specs.Blocks.{operation_run_at}
 use Rattle.rv_exec.specs.Calls.{internal, request_of, replied, resumed}
 use Rattle.rv_exec.specs.Tasks.{task_run}
 
@@ -90,9 +90,9 @@ StopsIn such (pair ∷ more) =
 -- one to a callee that the bodies name
 abbrev pub BodiesStopBy : Type 0
 BodiesStopBy =
-    (such : Callee → Bool) (bodies : UnitBodies) (object operation : ℕ) (values components left : List ℤ) (trace : Trace)
+    (such : Callee → Bool) (bodies : UnitBodies) (held object operation : ℕ) (values components left : List ℤ) (trace : Trace)
     → every_call such bodies ≡ true
-    → Along (operation_run bodies object operation values components) trace (exit.Stopped, left) → StopsIn such trace
+    → Along (operation_run_at bodies held object operation values components) trace (exit.Stopped, left) → StopsIn such trace
 
 -- and so does a task
 abbrev pub TasksStopBy : Type 0

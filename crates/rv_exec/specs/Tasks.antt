@@ -1,5 +1,5 @@
 -- What a task does (ISO/IEC 8652:2012, 9.2, 9.3; limits own).
-use Rattle.std.specs.Prelude.{ℕ, pos, Bool, true, false, if◌then◌else◌, [], Option, Some, None, Ok, Err, replicate}
+use Rattle.std.specs.Prelude.{ℕ, pos, true, false, if◌then◌else◌, [], Option, Some, None, Ok, Err, replicate}
 use Rattle.rv_event.specs.declared.entry.Answer.{Answer}
 use Rattle.rv_event.specs.declared.entry.Answer.TheVariants as answer
 use Rattle.rv_event.specs.declared.entry.Exit.{Exit}
@@ -13,16 +13,11 @@ use Rattle.rv_exec.specs.Asking.{Asking, ended, asking, and_then}
 use Rattle.rv_exec.specs.Activations.{opened}
 use Rattle.rv_exec.specs.Blocks.{block, outcome_of, world, inner_at, outer_at}
 use Rattle.rv_exec.specs.Bodies.{task_of}
-use Rattle.rv_exec.specs.Calls.{Outcome, exit_of, completes}
+use Rattle.rv_exec.specs.Calls.{Outcome, exit_of, is_stuck, completes}
 
 -- a task holds nothing at first, and may hold 16 objects
 abbrev pub task_setting : Setting
 task_setting = record { object = 0; held = 16; nested = 65; is_task = true; handling = None }
-
--- whether its actor is left waiting, or in a body (own)
-abbrev pub is_stuck : Outcome → Bool
-is_stuck (Err (cause.Stopped false)) = true
-is_stuck other = false
 
 -- a task that is left waiting, or in a body, can't quit; each other one quits
 abbrev pub quits : Outcome → Asking Exit

@@ -1,8 +1,8 @@
 //! What is asked of the host, and what its answers come to (9.5.1, 9.5.3, 9.6, D.8, D.10).
 
 ghost use Rattle.std.specs.Prelude.{◌≡◌, ℕ, [], ◌∷◌, Some, None};
-ghost use Rattle.rv_exec.specs.Asking.{Ran, asking, ended};
-ghost use Rattle.rv_exec.specs.Calls.{internal, is_protected, is_past, request_of, refusal, started, queued, suspended, delayed, is_entry, is_suspension, may_block, is_listed, can_refuse, refused, done, state, accepted, replied, woken, dropped, resumed, reached, exit_of, seen, completed, end_of, stops, gives};
+ghost use Rattle.rv_exec.specs.Asking.{Ran};
+ghost use Rattle.rv_exec.specs.Calls.{internal, is_protected, is_past, request_of, refusal, started, queued, suspended, delayed, is_entry, is_suspension, may_block, is_listed, can_refuse, refused, done, state, accepted, replied, woken, dropped, resumed, reached, exit_of, seen, completed, is_stuck, ends_by, end_of, stops, gives};
 
 use crate::activation::value_at;
 use crate::end::{Asked, Cause, Reply};
@@ -330,15 +330,29 @@ pub fn end_of(is_function: bool, outcome: &Result<Args, Cause>, components: Scal
     }
 }
 
-/// Asks the end of a body (9.5.1): by this request, behind which it comes to this.
+/// Whether its actor is left waiting, or in a body that it called.
+pub fn is_stuck(outcome: &Result<Args, Cause>) -> bool
+    ensures { result ≡ is_stuck outcome.now }
+{
+    match outcome {
+        Err(Cause::Stopped(is_idle)) => !*is_idle,
+        _ => false,
+    }
+}
+
+/// Asks the end of a body (9.5.1): by this request, behind which it comes to this. Where the actor is left waiting, or
+/// in a body that this one called, it asks nothing: the host would take the end for that of the other body.
 pub fn complete<R, O: Outward<R>>(
     runtime: &R,
     request: Request,
     outcome: Result<Args, Cause>,
     outward: &mut O,
 ) -> Result<Args, Cause>
-    ensures { Ran O.went outward.old (asking request (λ answer. ended (completed outcome answer))) outward.new result }
+    ensures { Ran O.went outward.old (ends_by request outcome) outward.new result }
 {
+    if is_stuck(&outcome) {
+        return outcome;
+    }
     let answer = outward.ask(runtime, request);
     completed(outcome, answer)
 }

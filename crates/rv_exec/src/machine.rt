@@ -2,18 +2,18 @@
 //!
 //! A run recurses, and takes its memory from the stack alone: `STACK_BYTES` holds the deepest run of any text.
 
-ghost use Rattle.std.specs.Prelude.{◌≡◌, ◌<◌, Ok, Some};
+ghost use Rattle.std.specs.Prelude.{◌≡◌, ◌<◌, ◌-◌, Ok, Some};
 ghost use Rattle.rv_code.specs.BodyView.{body_view};
 ghost use Rattle.rv_exec.specs.Asking.{Ran};
 ghost use Rattle.rv_code.specs.Bodies.{body_size};
-ghost use Rattle.rv_exec.specs.Blocks.{operation_setting, operation_run};
+ghost use Rattle.rv_exec.specs.Blocks.{operation_setting, operation_run_at};
 ghost use Rattle.rv_exec.specs.Bodies.{bodies_view};
 ghost use Rattle.rv_exec.specs.Next.{settling, next_of, told};
 ghost use Rattle.rv_exec.specs.Sizes.{most_size};
-ghost use Rattle.rv_exec.specs.Tasks.{task_setting, task_meaning, is_stuck, quits, task_run, line_run};
+ghost use Rattle.rv_exec.specs.Tasks.{task_setting, task_meaning, quits, task_run, line_run};
 
 use crate::activation::{Activation, MOST_STEPS};
-use crate::asks::{complete, end_of, exit_of};
+use crate::asks::{complete, end_of, exit_of, is_stuck};
 use crate::bodies::Bodies;
 use crate::end::Cause;
 use crate::outcome::outcome_of;
@@ -72,36 +72,45 @@ impl Machine {
     }
 }
 
-// The statements of an operation's body, whose actor holds its object alone.
-fn of_operation(object: usize) -> Setting
-    ensures { result ≡ operation_setting object }
+// How many more objects an actor may hold.
+fn room(held: usize) -> u32
+    ensures { result ≡ 16 - held }
+{
+    let most = MOST_HELD as usize;
+    if held < most { (most - held) as u32 } else { 0 }
+}
+
+// The statements of an operation's body, whose actor holds so many objects, its own with them.
+fn of_operation(held: usize, object: usize) -> Setting
+    ensures { result ≡ operation_setting held object }
 {
     Setting {
         object,
-        held: MOST_HELD - 1,
+        held: room(held),
         nested: MOST_NESTED,
         is_task: false,
         handling: None,
     }
 }
 
-/// Runs the body of an operation that has started, with these components and values of the call, by an actor that
-/// holds the object alone (9.5.1). It takes no memory. An operation without a body leaves the components and raises
-/// Program_Error.
-pub fn run_body<R, O: Outward<R>>(
+/// Runs the body of an operation that has started, with these components and values of the call (9.5.1). The actor holds
+/// so many objects, this one with them: 1 where it holds no other, at most 16. It takes no memory. An operation without a
+/// body leaves the components and raises Program_Error.
+pub fn run_body_at<R, O: Outward<R>>(
     runtime: &R,
     bodies: &Bodies,
+    held: usize,
     object: usize,
     operation: usize,
     scalars: Scalars,
     values: Args,
     outward: &mut O,
 ) -> Ended
-    ensures { Ran O.went outward.old (operation_run (bodies_view bodies.now) object operation values scalars) outward.new (result.exit, result.scalars) }
+    ensures { Ran O.went outward.old (operation_run_at (bodies_view bodies.now) held object operation values scalars) outward.new (result.exit, result.scalars) }
 {
     let surroundings = Surroundings {
         bodies,
-        setting: of_operation(object),
+        setting: of_operation(held, object),
     };
     let (outcome, left, _) = perform(
         runtime,
@@ -118,14 +127,21 @@ pub fn run_body<R, O: Outward<R>>(
     }
 }
 
-// Whether its actor is left waiting, or in a body.
-fn is_stuck(outcome: &Result<Args, Cause>) -> bool
-    ensures { result ≡ is_stuck outcome.now }
+/// Runs the body of an operation that has started, as `run_body_at` does, by an actor that holds its object alone.
+pub fn run_body<R, O: Outward<R>>(
+    runtime: &R,
+    bodies: &Bodies,
+    object: usize,
+    operation: usize,
+    scalars: Scalars,
+    values: Args,
+    outward: &mut O,
+) -> Ended
+    ensures { Ran O.went outward.old (operation_run_at (bodies_view bodies.now) 1 object operation values scalars) outward.new (result.exit, result.scalars) }
 {
-    match outcome {
-        Err(Cause::Stopped(is_idle)) => !*is_idle,
-        _ => false,
-    }
+    run_body_at(
+        runtime, bodies, 1, object, operation, scalars, values, outward,
+    )
 }
 
 // The end of a task: it quits, where its mode allows (9.3).
@@ -212,7 +228,7 @@ pub fn run_line<R, O: Outward<R>>(
     };
     let surroundings = Surroundings {
         bodies,
-        setting: of_operation(object),
+        setting: of_operation(1, object),
     };
     let (outcome, left, _) = perform(
         runtime,

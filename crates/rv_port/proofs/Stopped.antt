@@ -32,7 +32,7 @@ use Rattle.rv_event.specs.declared.entry.Answer.{Answer}
 use Rattle.rv_event.specs.declared.entry.Answer.TheVariants as Answers
 use Rattle.rv_exec.specs.Asking.{stands, Along}
 use Rattle.rv_exec.specs.Calls.{can_refuse, done, refusal, replied, request_of, resumed}
-use Rattle.rv_exec.specs.Blocks.{operation_run}
+use Rattle.rv_exec.specs.Blocks.{operation_run_at}
 use Rattle.rv_exec.specs.Stops.{is_final, is_stopped, stops_at_once, IsUnfit, IsUnfitWoken, EndsNot, Stops, Unwinds, StopsWaiting, StopsIn}
 use Rattle.rv_exec.proofs.StoppedBodies.{bodies_stop_by, tasks_stop_by}
 use Rattle.rv_port.specs.declared.body.Ended.{Ended}
@@ -345,8 +345,8 @@ pub runs_stop : (log : List Event) (bodies : Option UnitBodies) (b : Begun) (sca
     → StopsIn (callee_fits (catalogue_of log)) trace
 runs_stop log None b scalars arguments trace last lent t e = absurd (cc (sym e ∙ ap (λ (z : Ended). z.exit) t.1))
 runs_stop log (Some bodies) b scalars arguments trace last lent t e =
-    bodies_stop_by (callee_fits (catalogue_of log)) bodies b.object b.operation arguments scalars t.0 trace lent.1
-    (subst (λ (x : Exit). Along (operation_run bodies b.object b.operation arguments scalars) trace (x, t.0)) e t.1)
+    bodies_stop_by (callee_fits (catalogue_of log)) bodies 1 b.object b.operation arguments scalars t.0 trace lent.1
+    (subst (λ (x : Exit). Along (operation_run_at bodies 1 b.object b.operation arguments scalars) trace (x, t.0)) e t.1)
 
 -- and so has a task's text
 pub text_stops : (log : List Event) (u w : Passing) (bodies : Option UnitBodies) (budget : ℕ) (trace : Trace) (exit : Exit) → IsLent log bodies → StartsWith u.seen log → TextRuns bodies u.actor budget trace exit → Went u trace w

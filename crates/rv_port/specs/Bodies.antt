@@ -7,7 +7,7 @@ use Rattle.rv_event.specs.declared.entry.Exit.TheVariants.{Raise}
 use Rattle.rv_event.specs.declared.entry.Exception.TheVariants.{ProgramError}
 use Rattle.rv_code.specs.Bodies.{UnitBodies}
 use Rattle.rv_exec.specs.Asking.{Along}
-use Rattle.rv_exec.specs.Blocks.{operation_run}
+use Rattle.rv_exec.specs.Blocks.{operation_run_at}
 use Rattle.rv_port.specs.declared.body.Ended.{Ended}
 use Rattle.rv_behind.specs.declared.event.Begun.{Begun}
 use Rattle.rv_port.specs.Traces.{Trace}
@@ -25,7 +25,7 @@ left_alone begun scalars = record { scalars = given_by begun scalars; exit = Rai
 abbrev pub Runs : Option UnitBodies → Begun → List ℤ → List ℤ → Trace → Ended → Type 0
 Runs None begun scalars arguments trace ended = (trace ≡ []) × (ended ≡ left_alone begun scalars)
 Runs (Some bodies) begun scalars arguments trace ended =
-    (left : List ℤ) × Along (operation_run bodies begun.object begun.operation arguments scalars) trace (ended.exit, left)
+    (left : List ℤ) × Along (operation_run_at bodies 1 begun.object begun.operation arguments scalars) trace (ended.exit, left)
     × (ended.scalars ≡ given_by begun left)
 
 -- The same, where the request asks for that end, which is by this exit. (own)
