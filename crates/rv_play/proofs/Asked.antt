@@ -108,12 +108,14 @@ settling_one : (b : Bool) (answer : Answer) (more : List Answer) → b ≡ false
 settling_one true answer more e = absurd cc
 settling_one false answer more e = refl
 
+settling_step : (b : Bool) (x answer : Answer) (xs : List Answer) → settling (xs ++ answer ∷ []) ≡ settling xs ++ answer ∷ []
+    → (if b then settling (xs ++ answer ∷ []) else x ∷ settling (xs ++ answer ∷ [])) ≡ (if b then settling xs else x ∷ settling xs) ++ answer ∷ []
+settling_step true x answer xs e = e
+settling_step false x answer xs e = ap (λ (z : List Answer). x ∷ z) e
+
 settling_more : (xs : List Answer) (answer : Answer) → stands answer ≡ false → settling (xs ++ answer ∷ []) ≡ settling xs ++ answer ∷ []
 settling_more [] answer e = settling_one (stands answer) answer [] e
-settling_more (x ∷ xs) answer e = other (stands x) where
-  other : (b : Bool) → (if b then settling (xs ++ answer ∷ []) else x ∷ settling (xs ++ answer ∷ [])) ≡ (if b then settling xs else x ∷ settling xs) ++ answer ∷ []
-  other true = settling_more xs answer e
-  other false = ap (λ (z : List Answer). x ∷ z) (settling_more xs answer e)
+settling_more (x ∷ xs) answer e = settling_step (stands x) x answer xs (settling_more xs answer e)
 
 same_number : (n : ℕ) → (n == n) ≡ true
 same_number n = grind (arith, nat_tests)

@@ -125,9 +125,9 @@ live_step : (o : Option Ended) (s t : Live) (pair : Request × Answer) → is_so
 live_step None s t pair e reaches = reaches
 live_step (Some end) s t pair e reaches = absurd cc
 
-pub no_end : (o : Option Ended) → is_some o ≡ false → o ≡ None
-no_end None e = refl
-no_end (Some end) e = absurd cc
+pub is_nothing : {X : Type 0} (o : Option X) → is_some o ≡ false → o ≡ None
+is_nothing None e = refl
+is_nothing (Some x) e = absurd cc
 
 -- where they aren't
 pub live_one : (s t : Live) (request : Request) (answer : Answer) → is_some s.over ≡ false → Reaches s request answer t → Went s ((request, answer) ∷ []) t
@@ -223,6 +223,11 @@ goes_wrong s k p q r failure rest while act given is at asked = record {
 
 -- A whole run
 
+-- what is behind two references, by other names
+pub moved : {W P K Q : Type 0} (contents : W → K) (view : P → Q) (F : K → Q → Type 0) (w v : W) (p q : P) → w ≡ v → p ≡ q → F (contents v) (view q) → F (contents w) (view p)
+moved contents view F w v p q e f here =
+    subst (λ x. F (contents x) (view p)) (sym e) (subst (λ y. F (contents v) (view y)) (sym f) here)
+
 -- how it was along the run of the text that there is
 pub along : (act : Act) (s t : Live) (text : Text) (bodies : UnitBodies) (trace : Trace) → text_of s.playing.stage.texts.bodies s.playing.stage.history.shapes s.actor ≡ Some text → bodies ≡ s.playing.stage.texts.bodies
     → s.over ≡ None → s.rest ≡ settled_in s → IsGo act (going_in s) → Follows (λ given. asked_by bodies s.playing.stage.texts.budget text given) [] trace → Went s trace t → Reached act s (answers trace) t
@@ -241,6 +246,10 @@ ended_there s t act text bodies trace e same ends reached none =
     ap (λ (g : Going). asked_behind g (settled_in t)) at.0 ∙ ap (asked_behind (going_in s)) at.1
     ∙ ap (λ (o : Option Text). asked_by_any s.playing.stage.texts.bodies s.playing.stage.texts.budget o (answers trace ++ t.rest)) e
     ∙ ap (λ (bs : UnitBodies). asked_by bs s.playing.stage.texts.budget text (answers trace ++ t.rest)) (sym same) ∙ ends t.rest
+
+-- the actor is the same
+pub own_actor : (act : Act) (s t : Live) (given : List Answer) → Reached act s given t → t.over ≡ None → t.actor ≡ s.actor
+own_actor act s t given reached none = ap (λ (g : Going). g.actor) (reached.at none).0
 
 -- it is a `go` still
 pub go_still : (act : Act) (s t : Live) (given : List Answer) → Reached act s given t → t.over ≡ None → IsGo act (going_in s) → IsGo act (going_in t)
