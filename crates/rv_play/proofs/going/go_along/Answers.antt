@@ -3,7 +3,7 @@ use Rattle.std.proofs.lemmas.Result.{err_from_is_err_and}
 use Rattle.rv_exec.specs.Next.{settling}
 use Rattle.rv_exec.specs.Bodies.{bodies_view}
 use Rattle.rv_go.specs.Runs.{answers, text_of}
-use Rattle.rv_fault.specs.Written.{Known}
+use Rattle.rv_fault.specs.Written.{Known, Ended}
 use Rattle.rv_play.specs.Scripted.{Playing, playing}
 use Rattle.rv_play.specs.Going.{Live, live, going, settled, settled_in, asked_behind, end_in, IsGo, LeavesSome, Leaves, Reached}
 use Rattle.rv_play.proofs.Carrying.{nothing_done}
@@ -27,7 +27,9 @@ returns-in-Some-Ok g c act is =
     let there : text_of s.playing.stage.texts.bodies s.playing.stage.history.shapes s.actor ≡ Some c.in-Some.text = sym c.text_of.ensures ∙ c.in-Some.is in
     let rest : s.rest ≡ settled_in s = ap settling (c.as_slice.ensures.value ∙ c.in_ok-answers.ensures) in
     let reached : Reached act s (answers c.run.ensures.trace) t = along act s t c.in-Some.text (bodies_view c.in_ok-bodies.bodies) c.run.ensures.trace there c.in_ok-bodies.ensures refl rest is c.run.ensures.follows c.run.ensures.outside.2 in
-    let over : end_in t.over ≡ Ok tt = ap end_in (c.in-Some-Ok.is ∙ ap Some c.in-Some-Ok.field-0-is) in
+    let is_some : t.over ≡ Some c.in-Some-Ok.field-0 = c.in-Some-Ok.is in
+    let is_ok : c.in-Some-Ok.field-0 ≡ Ok tt = rw c.in-Some-Ok.is at c.in-Some-Ok.field-0-is in
+    let over : end_in t.over ≡ Ok tt = ap end_in is_some ∙ is_ok in
     moved g.W.Write.contents playing (λ (k : Known) (q : Playing). LeavesSome s.known k s.playing q act c.args.count t.left) _ _ _ _
     (c.in-Some-Ok.writer-1-own.given.1 (sym c.run.ensures.outside.1)) (c.in-Some-Ok.player-1-own.given.1 (sym c.run.ensures.outside.0)) (along_some act s t (answers c.run.ensures.trace) reached over)
 
@@ -38,7 +40,9 @@ returns-in-Some-Err g c act is =
     let there : text_of s.playing.stage.texts.bodies s.playing.stage.history.shapes s.actor ≡ Some c.in-Some.text = sym c.text_of.ensures ∙ c.in-Some.is in
     let rest : s.rest ≡ settled_in s = ap settling (c.as_slice.ensures.value ∙ c.in_ok-answers.ensures) in
     let reached : Reached act s (answers c.run.ensures.trace) t = along act s t c.in-Some.text (bodies_view c.in_ok-bodies.bodies) c.run.ensures.trace there c.in_ok-bodies.ensures refl rest is c.run.ensures.follows c.run.ensures.outside.2 in
-    let over : t.over ≡ Some (Err c.in-Some-Err.failure) = c.in-Some-Err.is ∙ ap Some c.in-Some-Err.field-0-is in
+    let is_some : t.over ≡ Some c.in-Some-Err.field-0 = c.in-Some-Err.is in
+    let is_err : c.in-Some-Err.field-0 ≡ Err c.in-Some-Err.failure = rw c.in-Some-Err.is at c.in-Some-Err.field-0-is in
+    let over : t.over ≡ Some (Err c.in-Some-Err.failure) = is_some ∙ ap (λ (end : Ended). Some end) is_err in
     moved g.W.Write.contents playing (λ (k : Known) (q : Playing). Leaves s.known k s.playing q act c.args.count (Err c.in-Some-Err.failure)) _ _ _ _
     (c.in-Some-Err.writer-1-own.given.1 (sym c.run.ensures.outside.1)) (c.in-Some-Err.player-1-own.given.1 (sym c.run.ensures.outside.0))
     (along_wrong act s t t.playing (answers c.run.ensures.trace) c.in-Some-Err.failure reached over)

@@ -25,6 +25,9 @@ returns-clause-asked g c =
     let m : Left = (settling c.ask-answer.new.self.answers.now, c.ask-answer.new.self.asked) in
     let plays : Plays l ((c.args.request, c.ask-answer.result) ∷ []) m = subst (λ (q : Request). Plays l ((q, c.ask-answer.result) ∷ []) m) c.copy_of.ensures c.ask-answer.ensures.asked in
     let some : is_some c.ask-answer.new.self.asked ≡ true = c.is_none.ensures ∙ ap not c.if-is_none.false in
-    let live_still : is_some s.over ≡ false = sym c.is_some.ensures ∙ c.if-is_some.false in
-    (c.go_on.ensures.player, c.go_on.ensures.writer, live_one s t c.args.request c.go_on.result live_still
-    (afresh s t l m c.args.request c.ask-answer.result c.go_on.result refl plays some (λ rest. c.go_on.ensures.reached rest (is_nothing s.over live_still))))
+    let live_still : is_some s.over ≡ false = sym c.is_some.ensures ∙ c.if-is_some.false in (
+      c.go_on.ensures.player,
+      c.go_on.ensures.writer,
+      live_one s t c.args.request c.go_on.result live_still
+          (afresh s t l m c.args.request c.ask-answer.result c.go_on.result refl plays some (λ rest. c.go_on.ensures.reached rest (is_nothing s.over live_still))),
+    )
