@@ -1,16 +1,21 @@
 #!/usr/bin/env bash
-# Measures how long the built program takes for requests that a task's text makes by `go`: 1,000 of them, and then as many as
-# a number given. It is no test. It needs python3.
+# Measures how long a program takes for requests that a task's text makes by one `go N`: requests alone, and requests with
+# 1,000 turns of a loop before each call. Fails where an answer is missing, or where ten times as many requests with such turns
+# take more than 12 times as long. The program is the built one, which is proved first, unless one is named. It needs python3.
+#
+#     bench/go.sh [PROGRAM]
 set -eu
 
-python3 -c 'import subprocess, time' 2>/dev/null || {
-    echo "bench/go.sh: python3 is missing" >&2
+python3 -c 'import resource, subprocess, tempfile' 2>/dev/null || {
+    echo "bench/go.sh: python3, or its module resource, is missing" >&2
     exit 127
 }
+program=
+if [ $# -gt 0 ]; then program=$(readlink -f "$1"); fi
 cd "$(dirname "$(readlink -f "$0")")/.."
-./ravenhost --prove
-python3 - "${1:-4000}" <<'EOF'
-import subprocess, sys, time
+if [ -z "$program" ]; then ./ravenhost --prove; fi
+exec python3 - "${program:-crates/ravenhost/out/ravenhost}" <<'EOF'
+import os, subprocess, sys, tempfile
 
 UNIT = """@host.toml
 budget = 10000
@@ -27,16 +32,45 @@ package body Plant is
    protected body Tank is
       procedure Fill (N : in Integer) is begin Level := (Level + N) mod 1000; end Fill;
    end Tank;
-   task body Filler is begin loop Tank.Fill (7); end loop; end Filler;
+   task body Filler is
+      Turn : Integer;
+   begin
+      loop
+         Turn := 0;
+         while Turn < %d loop Turn := Turn + 1; end loop;
+         Tank.Fill (7);
+      end loop;
+   end Filler;
 end Plant;
 @list
 allow Plant Plant.Tank *
 @steps
 Plant.Filler go %d
 """
-for count in (1, 1000, int(sys.argv[1])):
-    start = time.monotonic()
-    journal = subprocess.run(["crates/ravenhost/out/ravenhost", "play"], input=(UNIT % count).encode(),
-                             stdout=subprocess.PIPE, check=True).stdout
-    print(f"{count} requests in {time.monotonic() - start:.2f} s, {journal.count(b'->')} entries")
+# Of the entries two are those of the load and of the list.
+OTHERS = 2
+
+
+def seconds(turns, count):
+    """Plays so many requests, and returns the processor's time in seconds."""
+    with tempfile.TemporaryFile() as script:
+        script.write((UNIT % (turns, count)).encode())
+        script.seek(0)
+        child = subprocess.Popen([sys.argv[1], "play"], stdin=script, stdout=subprocess.PIPE)
+        journal = child.stdout.read()
+        _, status, used = os.wait4(child.pid, 0)
+    entries = journal.count(b" -> ")
+    took = used.ru_utime + used.ru_stime
+    print(f"{count} requests, {turns} turns before each call: {took:.2f} s, {entries} entries", flush=True)
+    if status != 0 or entries != count + OTHERS:
+        sys.exit(f"bench/go.sh: status {status}, {entries} of {count + OTHERS} entries")
+    return took
+
+
+for count in (1, 1000, 4000):
+    seconds(0, count)
+few, many = seconds(1000, 400), seconds(1000, 4000)
+print(f"ten times as many take {many / few:.1f} times as long")
+if many > 12 * few:
+    sys.exit("bench/go.sh: that is more than 12 times")
 EOF

@@ -26,7 +26,7 @@ fn request_in(asked: NextAsk) -> Option<Request>
 }
 
 // Whether an actor in this mode waits for an answer.
-fn awaits(mode: Mode) -> bool
+pub(crate) fn awaits(mode: Mode) -> bool
     ensures { result ≡ awaits mode }
 {
     match mode {

@@ -3,4 +3,5 @@
 #![tactic(auto)]
 
 mod asking;
+pub mod runs;
 pub mod texts;

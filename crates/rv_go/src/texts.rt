@@ -3,6 +3,7 @@
 ghost use Rattle.std.specs.Prelude.{◌≡◌, [], ◌∷◌, ◌++◌, IfOk, OnOk};
 ghost use Rattle.rv_code.specs.BodyView.{unit_view};
 ghost use Rattle.rv_exec.specs.Asking.{stands};
+ghost use Rattle.rv_exec.specs.Bodies.{no_bodies};
 ghost use Rattle.rv_go.specs.Texts.{texts_view, no_texts, with_bodies, is_started, is_fire, is_heard, hears, with_answer, answers_to};
 
 use rv_code::UnitBodies;
@@ -53,8 +54,8 @@ fn is_started(answer: &Answer) -> bool
     }
 }
 
-// Whether it is the fire of a line (C.3).
-fn is_fire(request: &Request) -> bool
+/// Whether it is the fire of a line (C.3).
+pub fn is_fire(request: &Request) -> bool
     ensures { result ≡ is_fire request.now }
 {
     match request {
@@ -63,14 +64,24 @@ fn is_fire(request: &Request) -> bool
     }
 }
 
-// Whether a text goes on by the answer to a request.
-fn is_heard(goes: bool, request: &Request, answer: &Answer) -> bool
+/// Whether a text goes on by the answer to a request: `goes` says whether the request was a `go`.
+pub fn is_heard(goes: bool, request: &Request, answer: &Answer) -> bool
     ensures { result ≡ is_heard goes request.now answer.now }
 {
     if is_fire(request) {
         return is_started(answer);
     }
     goes && !stands(answer)
+}
+
+/// No bodies.
+pub fn no_bodies(alloc: Global) -> UnitBodies
+    ensures { unit_view result ≡ no_bodies }
+{
+    UnitBodies {
+        objects: Vec::new(alloc),
+        tasks: Vec::new(alloc),
+    }
 }
 
 // Adds an item.
@@ -147,8 +158,8 @@ impl Texts {
         add(&mut self.heard, heard)
     }
 
-    // What an actor was answered since its text began, in order.
-    pub(crate) fn answers_to(&self, alloc: Global, actor: usize) -> Result<Vec<Answer>, AllocError>
+    /// What an actor was answered since its text began, in order.
+    pub fn answers_to(&self, alloc: Global, actor: usize) -> Result<Vec<Answer>, AllocError>
         ensures { IfOk result (λ answers. answers.items ≡ answers_to actor (texts_view self.now).heard) }
     {
         let mut answers = Vec::new(alloc);

@@ -1,8 +1,11 @@
+mod Asked
 mod Beginning
 mod Carrying
 mod Growing
 mod Named
 mod Performing
+mod Reaching
 mod Reading
+mod Repeating
 mod Scripting
 mod Telling

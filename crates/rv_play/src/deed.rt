@@ -2,7 +2,6 @@
 
 ghost use Rattle.std.specs.Prelude.{◌≡◌, IfOk, string_bytes};
 ghost use Rattle.rv_code.specs.BodyView.{unit_view};
-ghost use Rattle.rv_exec.specs.Bodies.{no_bodies};
 ghost use Rattle.rv_play.specs.Stages.{deed_text};
 ghost use Rattle.rv_play.specs.Deeds.{plain, load, set, ask, go, changes_line, change_words, words_of};
 
@@ -10,6 +9,7 @@ use rv_access::{AccessList, Change};
 use rv_code::{Unit, UnitBodies};
 use rv_event::entry::Request;
 use rv_event::text::text_of_request;
+use rv_go::texts::no_bodies;
 use rv_history::command::Command;
 use rv_shape::catalogue::Catalogue;
 use rv_step::lookup::OPERATOR;
@@ -28,16 +28,6 @@ pub struct Deed {
     pub goes: bool,
     /// The bodies of the unit that it loads; none where it loads none.
     pub bodies: UnitBodies,
-}
-
-// No bodies.
-fn no_bodies(alloc: Global) -> UnitBodies
-    ensures { unit_view result ≡ no_bodies }
-{
-    UnitBodies {
-        objects: Vec::new(alloc),
-        tasks: Vec::new(alloc),
-    }
 }
 
 // The words of a change, of the line of this number, where it names one.

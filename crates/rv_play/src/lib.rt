@@ -4,6 +4,7 @@
 
 mod acts;
 mod deed;
+mod going;
 mod laws;
 pub mod play;
 mod player;
