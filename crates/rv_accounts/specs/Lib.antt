@@ -1,4 +1,2 @@
 pub mod Seen
 pub mod Explained
-pub mod Loads
-pub mod Followed
