@@ -68,13 +68,18 @@ fn tell_storm<R: Threads + Wait + AllocGlobal + Print>(rt: &R, hands: &Hands) ->
 // Tells how many ends are what their bodies give again.
 fn tell_ends<R: Print>(rt: &R, name: &str, ends: Option<Ends>) -> io::Result<()> {
     match ends {
-        Some(Ends { recorded, same }) => println!(rt; "{name}: {same} of {recorded} ends as run again"),
+        Some(Ends { recorded, same }) => println!(rt;
+            "{name}: {same} of {recorded} ends as run again"
+        ),
         None => println!(rt; "{name}: failed"),
     }
 }
 
 // Tells of a task whose call calls on.
-fn tell_called_back<R: Threads + Wait + AllocGlobal + Print>(rt: &R, hands: &Hands) -> io::Result<()> {
+fn tell_called_back<R: Threads + Wait + AllocGlobal + Print>(
+    rt: &R,
+    hands: &Hands,
+) -> io::Result<()> {
     let closed = texts::play(rt, hands, &CALLS_BACK);
     let ends = match &closed {
         Some(closed) => texts::ends_again(rt.alloc(), &CALLS_BACK, &closed.host),

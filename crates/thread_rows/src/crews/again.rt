@@ -93,12 +93,7 @@ fn held_by(open: &[Open], actor: usize) -> usize {
 }
 
 // The answers to an actor behind the first of all answers.
-fn answers_of(
-    alloc: Global,
-    told: &[Told],
-    actor: usize,
-    before: usize,
-) -> Option<Vec<Answer>> {
+fn answers_of(alloc: Global, told: &[Told], actor: usize, before: usize) -> Option<Vec<Answer>> {
     let mut answers = Vec::new(alloc);
     for (place, one) in told.iter().enumerate() {
         if place >= before && one.actor == actor {
@@ -160,7 +155,12 @@ impl Again<'_> {
     }
 
     // Opens a call.
-    fn open(&mut self, actor: usize, call: (usize, usize, Args), start: Option<Scalars>) -> Option<()> {
+    fn open(
+        &mut self,
+        actor: usize,
+        call: (usize, usize, Args),
+        start: Option<Scalars>,
+    ) -> Option<()> {
         let (object, operation, values) = call;
         let open = Open {
             actor,

@@ -64,12 +64,7 @@ fn allow_all<R: Wait>(rt: &R, alloc: Global, control: &mut Control) -> Option<()
 }
 
 /// The units of these texts, under this list.
-pub fn with_units<R: Wait>(
-    rt: &R,
-    alloc: Global,
-    texts: &[&str],
-    list: &str,
-) -> Option<Control> {
+pub fn with_units<R: Wait>(rt: &R, alloc: Global, texts: &[&str], list: &str) -> Option<Control> {
     let mut control = new_control(alloc)?;
     for text in texts {
         load_text(rt, alloc, &mut control, text)?;
