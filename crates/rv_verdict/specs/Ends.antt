@@ -1,5 +1,5 @@
 -- What is said of the ends of bodies in a journal (own).
-use Rattle.std.specs.Prelude.{◌≡◌, ℕ, Bool, true, false, List, [], ◌∷◌, ◌++◌, codes, nat_lt, if◌then◌else◌, is_none, Option, Some, None, Result, Ok, Err}
+use Rattle.std.specs.Prelude.{◌≡◌, ◌⊎◌, ℕ, Bool, true, false, List, [], ◌∷◌, ◌++◌, codes, nat_lt, if◌then◌else◌, is_none, Option, Some, None, Result, Ok, Err}
 use Rattle.std.specs.Fmt.{decimal}
 use Rattle.std.specs.Io.KnownBytes.{Appends}
 use Rattle.rv_shape.specs.Shape.{Shape}
@@ -42,14 +42,18 @@ line_by shapes found (Some (number, meaning.Asks request)) = asks_line shapes nu
 abbrev pub ends_line : List Shape → Found → List ℕ
 ends_line shapes found = line_by shapes found found.other
 
--- the line of what is found of the ends of a history is written, and whether no end has a text that means another is told; where
--- memory or a write failed, a prefix of such a line
+-- the line of what is found of the ends of a history, or a prefix of it
+abbrev pub BreaksOffEnds : History → Known → Known → Type 0
+BreaksOffEnds h old new = (shapes : List Shape) × (found : Found) × IsFoundOf h shapes found × WritesPrefix old new (ends_line shapes found)
+
+-- The line of what is found of the ends of a history is written, and whether no end has a text that means another is told. Where
+-- memory or a write failed, nothing is written, or a prefix of it.
 abbrev pub SaysEnds : History → Known → Known → Result Bool Failure → Type 0
 SaysEnds h old new (Ok is_explained) =
     (shapes : List Shape) × (found : Found) × IsFoundOf h shapes found × Appends old new (ends_line shapes found) × (is_explained ≡ is_none found.other)
 SaysEnds h old new (Err (Refused told)) = ⊥
-SaysEnds h old new (Err Memory) = (shapes : List Shape) × (found : Found) × WritesPrefix old new (ends_line shapes found)
-SaysEnds h old new (Err (Io error)) = (shapes : List Shape) × (found : Found) × WritesPrefix old new (ends_line shapes found)
+SaysEnds h old new (Err Memory) = Appends old new [] ⊎ BreaksOffEnds h old new
+SaysEnds h old new (Err (Io error)) = Appends old new [] ⊎ BreaksOffEnds h old new
 
 -- Behind a verdict
 

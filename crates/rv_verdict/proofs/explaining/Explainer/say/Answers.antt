@@ -12,7 +12,7 @@ returns-in_err-line g c = λ h follows.
 pub returns-in_err-put : goal.returns-in_err-put
 returns-in_err-put g c = λ h follows.
     let p = err_from_is_err_and c.from_residual-in_err-put.result c.from_residual-in_err-put.ensures.1 in
-    rw (p.1, p.2) (ends_broken h (g.W.Write.contents c.args.writer.now) (g.W.Write.contents c.put.new.writer) c.catalogue.result.now c.found.result c.as_str.result.now _
+    rw (p.1, p.2) (ends_broken c.args.self.now.tally h (g.W.Write.contents c.args.writer.now) (g.W.Write.contents c.put.new.writer) c.catalogue.result.now c.found.result c.as_str.result.now _ follows c.catalogue.ensures c.found.ensures
     (c.as_str.ensures.value ∙ c.in_ok-line.ensures) c.in_err-put.ensures)
 
 pub returns : goal.returns
