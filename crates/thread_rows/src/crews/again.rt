@@ -103,6 +103,11 @@ fn answers_of(alloc: Global, told: &[Told], actor: usize, before: usize) -> Opti
     Some(answers)
 }
 
+// The answer once more.
+fn copy_of(answer: &Answer) -> Answer {
+    *answer
+}
+
 impl Again<'_> {
     // Takes the last open call of an actor.
     fn take(&mut self, actor: usize) -> Option<Open> {
@@ -115,9 +120,17 @@ impl Again<'_> {
 
     // What a body that was open gives on the answers since its start.
     fn run(&self, open: Open, scalars: Scalars) -> Option<Ended> {
-        let others = held_by(self.open.as_slice(), open.actor);
+        let Open {
+            actor,
+            object,
+            operation,
+            values,
+            scalars: _,
+            before,
+        } = open;
+        let others = held_by(self.open.as_slice(), actor);
         let told = self.told.as_slice();
-        let answers = answers_of(self.alloc, told, open.actor, open.before)?;
+        let answers = answers_of(self.alloc, told, actor, before)?;
         let mut replay = Replay {
             answers: answers.as_slice(),
             asked: None,
@@ -126,10 +139,10 @@ impl Again<'_> {
             &(),
             self.bodies,
             others.saturating_add(1),
-            open.object,
-            open.operation,
+            object,
+            operation,
             scalars,
-            open.values,
+            values,
             &mut replay,
         ))
     }
@@ -181,29 +194,58 @@ impl Again<'_> {
         self.open.push(open).ok()
     }
 
-    // Takes a request up with its answer.
-    fn follow(&mut self, actor: usize, request: Request, answer: Answer) -> Option<()> {
-        match (request, answer) {
-            (Request::Call(object, operation, values), Answer::Started(scalars)) => {
-                self.open(actor, (object, operation, values), Some(scalars))
-            }
-            (Request::Call(object, operation, values), Answer::Queued) => {
-                self.open(actor, (object, operation, values), None)
-            }
-            (Request::Resume, Answer::Woken(Some(scalars))) => self.start(actor, scalars),
+    // Takes a call up with its answer.
+    fn called(&mut self, actor: usize, call: (usize, usize, Args), answer: &Answer) -> Option<()> {
+        match answer {
+            Answer::Started(scalars) => self.open(actor, call, Some(*scalars)),
+            Answer::Queued => self.open(actor, call, None),
             _ => Some(()),
         }
     }
 
-    // Carries a request out.
-    fn ask(&mut self, actor: usize, request: Request) -> Option<()> {
-        if let Request::Complete(scalars, exit) = request {
-            let is_same = self.gives(actor, scalars, exit)?;
-            self.ends.count(is_same);
+    // Takes the answer to a resume up.
+    fn resumed(&mut self, actor: usize, answer: &Answer) -> Option<()> {
+        match answer {
+            Answer::Woken(Some(scalars)) => self.start(actor, *scalars),
+            _ => Some(()),
         }
-        let answer = self.host.step(actor, request);
-        self.told.push(Told { actor, answer }).ok()?;
-        self.follow(actor, request, answer)
+    }
+
+    // Takes a request up with its answer.
+    fn follow(&mut self, actor: usize, request: &Request, answer: &Answer) -> Option<()> {
+        match request {
+            Request::Call(object, operation, values) => {
+                self.called(actor, (*object, *operation, *values), answer)
+            }
+            Request::Resume => self.resumed(actor, answer),
+            _ => Some(()),
+        }
+    }
+
+    // Runs the body of an end again, where the request is one.
+    fn end(&mut self, actor: usize, request: &Request) -> Option<()> {
+        match request {
+            Request::Complete(scalars, exit) => {
+                let is_same = self.gives(actor, *scalars, *exit)?;
+                self.ends.count(is_same);
+                Some(())
+            }
+            _ => Some(()),
+        }
+    }
+
+    // Keeps an answer.
+    fn keep(&mut self, actor: usize, answer: &Answer) -> Option<()> {
+        let answer = copy_of(answer);
+        self.told.push(Told { actor, answer }).ok()
+    }
+
+    // Carries a request out.
+    fn ask(&mut self, actor: usize, request: &Request) -> Option<()> {
+        self.end(actor, request)?;
+        let answer = self.host.step(actor, *request);
+        self.keep(actor, &answer)?;
+        self.follow(actor, request, &answer)
     }
 }
 
@@ -219,8 +261,8 @@ pub fn run_again(alloc: Global, host: Host, bodies: &Bodies, entries: &[Entry]) 
         ends: Ends::new(),
     };
     for entry in entries {
-        if let Entry::Asked(actor, request, _) = *entry {
-            again.ask(actor, request)?;
+        if let Entry::Asked(actor, request, _) = entry {
+            again.ask(*actor, request)?;
         }
     }
     Some(again.ends)
