@@ -22,13 +22,6 @@ struct Open {
     before: usize,
 }
 
-// An answer to an actor.
-#[derive(Clone, Copy, Drop)]
-struct Told {
-    actor: usize,
-    answer: Answer,
-}
-
 /// How many ends were recorded, and how many of them are what their bodies give again.
 #[derive(Clone, Copy, Drop)]
 pub struct Ends {
@@ -66,7 +59,9 @@ struct Again<'a> {
     host: Host,
     bodies: &'a Bodies,
     open: Vec<Open>,
-    told: Vec<Told>,
+    // Whom each answer was for, and the answers, in order.
+    actors: Vec<usize>,
+    told: Vec<Answer>,
     ends: Ends,
 }
 
@@ -93,11 +88,17 @@ fn held_by(open: &[Open], actor: usize) -> usize {
 }
 
 // The answers to an actor behind the first of all answers.
-fn answers_of(alloc: Global, told: &[Told], actor: usize, before: usize) -> Option<Vec<Answer>> {
+fn answers_of(
+    alloc: Global,
+    actors: &[usize],
+    told: &[Answer],
+    actor: usize,
+    before: usize,
+) -> Option<Vec<Answer>> {
     let mut answers = Vec::new(alloc);
-    for (place, one) in told.iter().enumerate() {
-        if place >= before && one.actor == actor {
-            answers.push(one.answer).ok()?;
+    for (place, one) in actors.iter().enumerate() {
+        if place >= before && *one == actor && place < told.len() {
+            answers.push(told[place]).ok()?;
         }
     }
     Some(answers)
@@ -129,8 +130,9 @@ impl Again<'_> {
             before,
         } = open;
         let others = held_by(self.open.as_slice(), actor);
+        let actors = self.actors.as_slice();
         let told = self.told.as_slice();
-        let answers = answers_of(self.alloc, told, actor, before)?;
+        let answers = answers_of(self.alloc, actors, told, actor, before)?;
         let mut replay = Replay {
             answers: answers.as_slice(),
             asked: None,
@@ -236,8 +238,8 @@ impl Again<'_> {
 
     // Keeps an answer.
     fn keep(&mut self, actor: usize, answer: &Answer) -> Option<()> {
-        let answer = copy_of(answer);
-        self.told.push(Told { actor, answer }).ok()
+        self.actors.push(actor).ok()?;
+        self.told.push(copy_of(answer)).ok()
     }
 
     // Carries a request out.
@@ -257,6 +259,7 @@ pub fn run_again(alloc: Global, host: Host, bodies: &Bodies, entries: &[Entry]) 
         host,
         bodies,
         open: Vec::new(alloc),
+        actors: Vec::new(alloc),
         told: Vec::new(alloc),
         ends: Ends::new(),
     };
