@@ -1,6 +1,5 @@
 //! Jobs of a crew: prints the journal of each game, whose ports came back, and whose were lost.
 
-mod again;
 mod caller;
 mod changes;
 mod journal;
@@ -16,7 +15,6 @@ pub mod two_readers;
 mod waiting;
 
 use crate::hands::Hands;
-use again::Ends;
 pub use caller::{Caller, call_valve};
 use journal::Journal;
 use rv_crew::crew::Closed;
@@ -24,7 +22,7 @@ use std::alloc::Global;
 use std::io;
 use std::sync::Wait;
 use std::thread::Threads;
-use texts::{CALLS_BACK, TWO_TASKS};
+use texts::CALLS_BACK;
 
 // Tells of actors, each in a line.
 fn tell_each<R: Print>(rt: &R, word: &str, actors: &[u64]) -> io::Result<()> {
@@ -65,30 +63,6 @@ fn tell_storm<R: Threads + Wait + AllocGlobal + Print>(rt: &R, hands: &Hands) ->
     }
 }
 
-// Tells how many ends are what their bodies give again.
-fn tell_ends<R: Print>(rt: &R, name: &str, ends: Option<Ends>) -> io::Result<()> {
-    match ends {
-        Some(Ends { recorded, same }) => println!(rt;
-            "{name}: {same} of {recorded} ends as run again"
-        ),
-        None => println!(rt; "{name}: failed"),
-    }
-}
-
-// Tells of a task whose call calls on.
-fn tell_called_back<R: Threads + Wait + AllocGlobal + Print>(
-    rt: &R,
-    hands: &Hands,
-) -> io::Result<()> {
-    let closed = texts::play(rt, hands, &CALLS_BACK);
-    let ends = match &closed {
-        Some(closed) => texts::ends_again(rt.alloc(), &CALLS_BACK, &closed.host),
-        None => None,
-    };
-    tell(rt, "row_11_on_a_thread", closed)?;
-    tell_ends(rt, "row_11_on_a_thread", ends)
-}
-
 /// Plays all games.
 pub fn play_all<R: Threads + Wait + AllocGlobal + Print>(rt: &R, hands: &Hands) -> io::Result<()> {
     tell(rt, "device_calls_three", three_calls::play(rt, hands))?;
@@ -97,8 +71,10 @@ pub fn play_all<R: Threads + Wait + AllocGlobal + Print>(rt: &R, hands: &Hands) 
     tell(rt, "second_start_fails", starts::second_fails(rt, hands))?;
     tell(rt, "given_up_port_is_lost", starts::given_up(rt))?;
     tell(rt, "finishes_without_a_call", starts::no_call(rt, hands))?;
-    tell_called_back(rt, hands)?;
-    let ends = texts::play_often(rt, hands, &TWO_TASKS);
-    tell_ends(rt, "units_on_two_threads", ends)?;
+    tell(
+        rt,
+        "row_11_on_a_thread",
+        texts::play(rt, hands, &CALLS_BACK),
+    )?;
     tell_storm(rt, hands)
 }

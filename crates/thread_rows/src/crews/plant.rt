@@ -1,13 +1,10 @@
 //! The hosts of the crews: a plant with a valve, whose bodies come from its text, and tasks and devices beside it.
 
-use crate::host::{control_with, new_control, new_host};
+use crate::host::{control_with, new_control};
 use row_files::texts::{NAV, PLANT};
 use rv_access::read_list;
-use rv_exec::bodies::Bodies;
 use rv_fault::unit_of;
-use rv_host::host::Host;
 use rv_port::control::Control;
-use rv_shape::catalogue::Catalogue;
 use rv_shape::reading::read_shape;
 use std::alloc::Global;
 use std::sync::Wait;
@@ -72,30 +69,6 @@ pub fn with_units<R: Wait>(rt: &R, alloc: Global, texts: &[&str], list: &str) ->
     let list = read_list(alloc, list).ok()?;
     let _ = control.set_list(rt, list);
     Some(control)
-}
-
-/// A host with the units of these texts, under this list.
-pub fn host_with_units(alloc: Global, texts: &[&str], list: &str) -> Option<Host> {
-    let mut host = new_host(alloc)?;
-    for text in texts {
-        let unit = unit_of(alloc, host.catalogue(), 1, text).ok()?;
-        let _ = host.load(&unit.shape);
-    }
-    let list = read_list(alloc, list).ok()?;
-    let _ = host.set_list(&list);
-    Some(host)
-}
-
-/// The bodies of the units of these texts.
-pub fn bodies_of(alloc: Global, texts: &[&str]) -> Option<Bodies> {
-    let mut catalogue = Catalogue::new(alloc);
-    let mut bodies = Bodies::new(alloc);
-    for text in texts {
-        let unit = unit_of(alloc, &catalogue, 1, text).ok()?;
-        catalogue.add(&unit.shape).ok()?;
-        bodies.add(unit.bodies).ok()?;
-    }
-    Some(bodies)
 }
 
 /// The plant, and two tasks beside it.

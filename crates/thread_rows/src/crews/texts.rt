@@ -1,28 +1,20 @@
-//! Tasks that run their texts on threads of a crew. Each body that ended is run again on what was recorded.
+//! Tasks that run their texts on threads of a crew.
 
 ghost use Rattle.std.specs.Prelude.{◌≡◌, ◌<◌};
 ghost use Rattle.rv_crew.specs.Teams.{IsOfTurn};
 
-use crate::crews::again::{Ends, run_again};
-use crate::crews::journal::Journal;
-use crate::crews::plant::{FIRST, bodies_of, host_with_units, with_units};
+use crate::crews::plant::{FIRST, with_units};
 use crate::crews::threads::{begin, close};
 use crate::hands::{Hands, Role};
 use crate::host::port_of;
-use row_files::texts::{NAV, PLANT};
 use rv_crew::crew::{Closed, Crew};
-use rv_host::host::Host;
 use rv_port::control::Control;
 use rv_staff::Work;
-use std::alloc::Global;
 use std::sync::Wait;
 use std::thread::Threads;
 
 // How many requests of its own a task may make.
 const BUDGET: u32 = 1_000;
-
-// How often the two tasks are run.
-const RUNS: u32 = 100;
 
 /// The units of a game, the list over them, and how many tasks they have.
 #[derive(Clone, Copy, Drop)]
@@ -70,13 +62,6 @@ pub const CALLS_BACK: Scene = Scene {
     tasks: 1,
 };
 
-/// Two tasks, of which one waits for what the other does.
-pub const TWO_TASKS: Scene = Scene {
-    units: &[PLANT, NAV],
-    list: "allow Nav Plant.Valve *\n",
-    tasks: 2,
-};
-
 // Starts the thread of a task.
 fn begin_text(hands: &Hands, control: &mut Control, crew: &mut Crew, number: u64) -> Option<()>
     requires number { number < 2 }
@@ -105,27 +90,4 @@ pub fn play<R: Threads + Wait + AllocGlobal>(
         begin_text(hands, &mut control, &mut crew, 1)?;
     }
     close(rt, crew, control)
-}
-
-/// Runs the body of each end again that a host of the scene has recorded. None where memory is refused, or an end has no
-/// start.
-pub fn ends_again(alloc: Global, scene: &Scene, host: &Host) -> Option<Ends> {
-    let journal = Journal::of(alloc, host).ok()?;
-    let again = host_with_units(alloc, scene.units, scene.list)?;
-    let bodies = bodies_of(alloc, scene.units)?;
-    run_again(alloc, again, &bodies, journal.entries.as_slice())
-}
-
-/// Runs a scene again and again, and the body of each end.
-pub fn play_often<R: Threads + Wait + AllocGlobal>(
-    rt: &R,
-    hands: &Hands,
-    scene: &Scene,
-) -> Option<Ends> {
-    let mut ends = Ends::new();
-    for _ in 0..RUNS {
-        let closed = play(rt, hands, scene)?;
-        ends.add(ends_again(rt.alloc(), scene, &closed.host)?);
-    }
-    Some(ends)
 }
