@@ -4,7 +4,7 @@
 Each function's frame is what it takes of the stack by `sub rsp` and by pushes, with its return address, as objdump shows
 it. A compiler may put a function into its caller; it has no frame of its own then. The limits of nesting say how often
 each function of the recursion of rv_exec::run is open at once; `rv_exec::machine::STACK_BYTES` tells why. What is asked
-of the host where the recursion is deepest, and what called it, is allowed 64 KiB.
+of the host where the recursion is deepest, and what called it, is allowed 16 MiB.
 
     bench/deepest_frames.py [--room BYTES] [PROGRAM..]
 
@@ -22,7 +22,7 @@ BODIES = 16 * 65 + 1  # 16 objects, in each a body and 64 internal calls; and th
 STATEMENTS = 64
 PARENTHESES = 64
 OPERATIONS = 8  # check of an argument, logic, relation, sum, sign, product, `abs`, call
-REST = 64 * 1024
+REST = 16 * 1024 * 1024
 
 # How often each function is open in one body.
 OPEN = {

@@ -96,7 +96,7 @@ def main():
         first, *rest = told[name].decode().splitlines() or [""]
         if not first.startswith("legal "):
             illegal += 1
-        elif rest and rest[0].startswith(f"entry {entry}: its text gives "):
+        elif rest and rest[0].startswith((f"entry {entry}: its text gives ", f"entry {entry}: its text asks ")):
             named += 1
         else:
             wrong += 1

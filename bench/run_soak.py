@@ -214,15 +214,17 @@ def replayed(program, journal, texts):
 
 
 def judged(program, journal, texts):
-    """Whether `audit` finds the journal legal, with all its entries."""
+    """Whether `audit` finds the journal legal, with all its entries, and the end of each body what its text means."""
     script = "@host.toml\ncapacity = 1048576\n" + "".join("@unit\n" + text for text in texts.values())
     with tempfile.NamedTemporaryFile("w", encoding="utf-8") as file:
         file.writelines(line + "\n" for line in journal)
         file.flush()
-        done = subprocess.run([program, "audit", "--journal", file.name], input=script.encode(), stdout=subprocess.PIPE, stderr=subprocess.PIPE)
+        done = subprocess.run([program, "audit", "--explain", "--journal", file.name], input=script.encode(), stdout=subprocess.PIPE, stderr=subprocess.PIPE)
     said = (done.stdout.decode(), done.stderr.decode(), done.returncode)
-    expect("audit of the journal", said, (f"legal {len(journal)} entries\n", "", 0))
-    print(f"audit: {said[0].strip()}")
+    legal, _, ends = said[0].partition("\n")
+    expect("audit of the journal", (legal, *said[1:]), (f"legal {len(journal)} entries", "", 0))
+    expect("ends of bodies", re.sub(r"\d+", "N", ends), "ends N explained\n")
+    print(f"audit: {legal}; {ends.strip()}")
 
 
 def all_went_on(journal, ticks):

@@ -1,8 +1,8 @@
 #!/usr/bin/env bash
 # Lets the built `ravenhost run` run for so many seconds (600): 32 tasks with texts in four units, and four lines with
 # handlers, while the operator ticks, raises, changes the list and loads units. Then halts it, reads its journal in pages,
-# and replays that entry by entry by `ravenhost play`, which has to print the same journal; `ravenhost audit --journal` has
-# to find it legal. Says how much memory it took, and what stalled. Ends with 1 where something is wrong. It is no test. It
+# and replays that entry by entry by `ravenhost play`, which has to print the same journal; `ravenhost audit --explain`
+# has to find it legal, and to explain the end of each body. Says how much memory it took, and what stalled. Ends with 1 where something is wrong. It is no test. It
 # needs python3.
 #
 #     bench/run_soak.sh [SECONDS [PROGRAM]]
