@@ -17,3 +17,6 @@ pub mod Closings
 pub mod Texts
 pub mod Sends
 pub mod Alone
+pub mod Accounting
+pub mod Straying
+pub mod Holding

@@ -1,5 +1,6 @@
 pub mod Actors
 pub mod Traces
+pub mod Held
 pub mod Composing
 pub mod Reaching
 pub mod Later
