@@ -1,4 +1,6 @@
-pub mod Accounting
-pub mod Straying
 pub mod Since
 pub mod OwnEnds
+pub mod Following
+pub mod Asked
+pub mod Starts
+pub mod Performances

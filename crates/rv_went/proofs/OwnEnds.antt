@@ -27,8 +27,8 @@ use Rattle.rv_port.specs.Traces.{Passing, Trace, limits_in, noted, IsAnswered, E
 use Rattle.rv_port.specs.Composing.{each_both}
 use Rattle.rv_port.proofs.Actors.{catalogue-append}
 use Rattle.rv_went.specs.Ends.{RanSo, given_at, OwnEndsAreExplained}
-use Rattle.rv_went.proofs.Accounting.{each_at, so_far, final_stops, final_none}
-use Rattle.rv_went.proofs.Straying.{no_strays}
+use Rattle.rv_port.proofs.Accounting.{each_at, so_far, final_stops, final_none}
+use Rattle.rv_port.proofs.Straying.{no_strays}
 
 no_act : (n m k t : ℕ) → n + 1 ≡ m → m + t ≡ k → k ≡ 0 → ⊥
 no_act n m k t e f g = omega (arith, e, f, g)

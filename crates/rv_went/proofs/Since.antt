@@ -36,9 +36,10 @@ use Rattle.rv_accounts.proofs.Growing.{without_later}
 use Rattle.rv_port.specs.Traces.{Passing, Trace, limits_in, noted, noted_if, IsAnswered, EachAnswered, Steps, Went}
 use Rattle.rv_port.specs.Composing.{noted-append}
 use Rattle.rv_port.proofs.Actors.{catalogue-append}
-use Rattle.rv_went.specs.Ends.{Owns, asked_so_far, held_by, IsLentBy, BodiesLeaveEndsExplained, TextsLeaveEndsExplained}
-use Rattle.rv_went.proofs.Accounting.{first_or, rest_of, compared, FoundIn, found, each_at, so_far, final_stops, final_none}
-use Rattle.rv_went.proofs.Straying.{no_strays}
+use Rattle.rv_port.specs.Held.{asked_so_far, held_by, Owns}
+use Rattle.rv_went.specs.Ends.{IsLentBy, BodiesLeaveEndsExplained, TextsLeaveEndsExplained}
+use Rattle.rv_port.proofs.Accounting.{first_or, rest_of, compared, FoundIn, found, each_at, so_far, final_stops, final_none}
+use Rattle.rv_port.proofs.Straying.{no_strays}
 
 -- Lists
 
@@ -52,7 +53,7 @@ abbrev next_or : Option Recorded → Next
 next_or (Some (Words.Done next)) = next
 next_or other = Nothing
 
-done_is : (r : Answer) (next : Next) → recorded r ≡ Some (Words.Done next) → r ≡ Answers.Done next
+pub done_is : (r : Answer) (next : Next) → recorded r ≡ Some (Words.Done next) → r ≡ Answers.Done next
 done_is (Answers.Done n) next e = ap (λ (o : Option Recorded). Answers.Done (next_or o)) e
 done_is (Answers.Started s) next e = absurd (cc e)
 done_is Answers.Queued next e = absurd (cc e)

@@ -10,34 +10,22 @@ use Rattle.rv_event.specs.declared.entry.Request.TheVariants.{Complete}
 use Rattle.rv_fits.specs.Fits.{calls_fit}
 use Rattle.rv_exec.specs.Asking.{Trace, Along}
 use Rattle.rv_exec.specs.Tasks.{task_run}
-use Rattle.rv_turn.specs.Histories.{mine, StartsWith}
+use Rattle.rv_turn.specs.Histories.{StartsWith}
 use Rattle.rv_exec.specs.Blocks.{operation_run_at}
 use Rattle.rv_meant.specs.Asks.{held_behind, AreRecorded}
 use Rattle.rv_meant.specs.Explained.{StartsBody, on_protected}
-use Rattle.rv_behind.specs.Events.{by, bodies_at, catalogue_of}
+use Rattle.rv_behind.specs.Events.{bodies_at, catalogue_of}
 use Rattle.rv_behind.specs.declared.event.Event.{Event}
 use Rattle.rv_behind.specs.declared.event.Event.TheVariants.{Asks}
-use Rattle.rv_accounts.specs.Seen.{asked_at}
 use Rattle.rv_accounts.specs.Explained.{ExplainedEnd}
+use Rattle.rv_port.specs.Held.{asked_so_far, held_by, Owns}
 use Rattle.rv_port.specs.Traces.{Passing, limits_in, Asked, Went}
-
--- what the actor of a port asked so far, with the answers
-abbrev pub asked_so_far : Passing → Trace
-asked_so_far v = asked_at (limits_in v.about) v.actor v.seen
-
--- a port's own events are its actor's in all that it has seen, as ports keep
-abbrev pub Owns : Passing → Type 0
-Owns v = mine by v.actor v.seen ≡ v.base ++ v.own
 
 -- What a port has seen begins with this, of whose units it was lent the bodies, which fit.
 pub record IsLentBy (v : Passing) (log : List Event) : Type 0 where
   pub owns : Owns v
   pub from : StartsWith v.seen log
   pub fit : calls_fit (catalogue_of log) (bodies_at log) ≡ true
-
--- how many objects the actor holds by then
-abbrev pub held_by : Passing → ℕ
-held_by v = held_behind 0 (asked_so_far v)
 
 -- each end of the actor that came since in what was seen then is explained
 abbrev pub EndsSinceAreExplained : Passing → Passing → Type 0
