@@ -1,9 +1,9 @@
 //! Looks at the steps of a section: at their form, and whether the names in them are loaded.
 
-ghost use Rattle.std.specs.Prelude.{◌≤◌, ◌+◌, ◌^◌, length};
+ghost use Rattle.std.specs.Prelude.{◌≡◌, ◌≤◌, ◌+◌, ◌^◌, ◌∷◌, [], length};
 ghost use Rattle.std.specs.Str.Lines.{lines};
 ghost use Rattle.rv_text.specs.Words.{words};
-ghost use Rattle.rv_check.specs.StepFaults.{CountsSteps, IsFound, line_fault, request_fault, step_fault};
+ghost use Rattle.rv_check.specs.StepFaults.{CountsSteps, IsFound, line_fault, request_fault, step_fault, steps_count};
 
 use rv_fault::{Failure, What, refused};
 use rv_shape::catalogue::Catalogue;
@@ -58,6 +58,14 @@ fn check_line(alloc: Global, catalogue: &Catalogue, line: usize, text: &str) -> 
     }
 }
 
+// How many steps a line is.
+fn steps_on(text: &str) -> usize
+    ensures value { result ≡ steps_count (text.now ∷ []) }
+    ensures few { result ≤ 1 }
+{
+    if has_words(text) { 1 } else { 0 }
+}
+
 /// How many steps a section has, where nothing stands against one of them. The names are looked up among units that are
 /// loaded.
 pub(crate) fn count_steps(
@@ -77,9 +85,7 @@ pub(crate) fn count_steps(
             Ok(()) => {}
             Err(failure) => return Err(failure),
         }
-        if has_words(text) {
-            count += 1;
-        }
+        count += steps_on(text);
         rest = after;
     }
     Ok(count)

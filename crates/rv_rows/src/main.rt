@@ -1,7 +1,8 @@
 //! Worked rows: plays, checks or audits each script of the folder that it is run in, and says of each whether
 //! it gave what stands beside it.
 //!
-//! `NAME.raven` is a script. Where there is a `NAME.said` it is checked, and that is what has to be said;
+//! `NAME.raven` is a script. Where there is a `NAME.said` it is checked, and that is what has to be said; where there is a
+//! `NAME.whole` it is checked whole, as the command takes it that it is for, and that is what has to be said;
 //! where there is a `NAME.verdict` its journal is judged, and that is the verdict; else it is played, with answers that
 //! aren't recorded, and `NAME.journal` is what has to be written. A journal that is judged may stand in a file of its own,
 //! `NAME.file`.
@@ -27,6 +28,7 @@ use fronts::fronts_of;
 use row_files::failing::{FailingReader, FailingWriter};
 use row_files::{bytes_of, names_before};
 use rv_check::check::check;
+use rv_check::script::check_script_kept;
 use rv_check::warnings::{Warnings, run_warnings_of, warnings_of};
 use rv_exec::machine::STACK_BYTES;
 use rv_explain::explain;
@@ -41,6 +43,8 @@ use std::{env, io, thread};
 enum Deed<'a> {
     Play,
     Check,
+    /// Its steps, its commands or its journal too.
+    CheckScript,
     Audit,
     /// The journal stands in a file of its own.
     AuditFile(&'a [u8]),
@@ -64,6 +68,10 @@ fn carry_out<R: io::Read, W: io::Write>(
     match deed {
         Deed::Play => play(alloc, reader, written, true),
         Deed::Check => check(alloc, reader, written),
+        Deed::CheckScript => {
+            let (_, done) = check_script_kept(alloc, reader, written);
+            done
+        }
         Deed::Audit => {
             let _is_legal = audit(alloc, reader, written)?;
             Ok(())
@@ -137,6 +145,7 @@ fn first_difference(given: &[u8], wanted: &[u8]) -> usize {
 struct Wanted {
     bytes: Vec<u8>,
     is_checked: bool,
+    is_whole: bool,
     is_audited: bool,
 }
 
@@ -190,9 +199,10 @@ fn failures_told(rt: &HostRuntime, name: &str) -> io::Result<String> {
     let Wanted {
         bytes: due,
         is_checked,
+        is_whole,
         is_audited,
     } = wanted_for(rt, name)?;
-    let deed = deed_beside(is_checked, is_audited);
+    let deed = deed_beside(is_checked, is_whole, is_audited);
     let reads = reads_of(alloc, script.as_slice(), deed, due.as_slice());
     let writes = writes_of(alloc, script.as_slice(), deed, due.as_slice());
     match (reads, writes) {
@@ -207,11 +217,14 @@ fn failures_told(rt: &HostRuntime, name: &str) -> io::Result<String> {
 fn wanted_for(rt: &HostRuntime, name: &str) -> io::Result<Wanted> {
     let said = bytes_of(rt, name, "said")?;
     let verdict = bytes_of(rt, name, "verdict")?;
+    let whole = bytes_of(rt, name, "whole")?;
     let is_checked = said.is_some();
+    let is_whole = whole.is_some();
     let is_audited = verdict.is_some();
     let mut bytes = Vec::new(rt.alloc());
     for part in [
         said,
+        whole,
         verdict,
         bytes_of(rt, name, "journal")?,
         bytes_of(rt, name, "fault")?,
@@ -223,14 +236,17 @@ fn wanted_for(rt: &HostRuntime, name: &str) -> io::Result<Wanted> {
     Ok(Wanted {
         bytes,
         is_checked,
+        is_whole,
         is_audited,
     })
 }
 
 // What is done with a script whose journal stands in no file of its own.
-fn deed_beside(is_checked: bool, is_audited: bool) -> Deed<'static> {
+fn deed_beside(is_checked: bool, is_whole: bool, is_audited: bool) -> Deed<'static> {
     if is_audited {
         Deed::Audit
+    } else if is_whole {
+        Deed::CheckScript
     } else if is_checked {
         Deed::Check
     } else {
@@ -245,6 +261,7 @@ fn told(rt: &HostRuntime, name: &str) -> io::Result<String> {
     let Wanted {
         bytes: mut wanted,
         is_checked,
+        is_whole,
         is_audited,
     } = wanted_for(rt, name)?;
     let explained = bytes_of(rt, name, "explained")?;
@@ -258,7 +275,7 @@ fn told(rt: &HostRuntime, name: &str) -> io::Result<String> {
             given(alloc, script.as_slice(), deed, is_explained)?
         }
         None => {
-            let deed = deed_beside(is_checked, is_audited);
+            let deed = deed_beside(is_checked, is_whole, is_audited);
             given(alloc, script.as_slice(), deed, is_explained)?
         }
     };
