@@ -1,10 +1,11 @@
 #!/usr/bin/env python3
 """Reads from a built program how much of its stack the deepest bodies take, and fails where a thread has less.
 
-Each function's frame is what it takes of the stack by `sub rsp` and by pushes, with its return address, as objdump shows
-it. A compiler may put a function into its caller; it has no frame of its own then. The limits of nesting say how often
-each function of the recursion of rv_exec::run is open at once; `rv_exec::machine::STACK_BYTES` tells why. What is asked
-of the host where the recursion is deepest, and what called it, is allowed 16 MiB.
+Each function's frame is what it takes of the stack by `sub rsp`, also in a loop that touches each page, and by pushes,
+with its return address, as objdump shows it. A compiler may put a function into its caller; it has no frame of its own
+then. The limits of nesting say how often each function of the recursion of rv_exec::run is open at once;
+`rv_exec::machine::STACK_BYTES` tells why. What is asked of the host where the recursion is deepest, and what called it,
+is allowed 64 KiB.
 
     bench/deepest_frames.py [--room BYTES] [PROGRAM..]
 
@@ -22,7 +23,7 @@ BODIES = 16 * 65 + 1  # 16 objects, in each a body and 64 internal calls; and th
 STATEMENTS = 64
 PARENTHESES = 64
 OPERATIONS = 8  # check of an argument, logic, relation, sum, sign, product, `abs`, call
-REST = 16 * 1024 * 1024
+REST = 64 * 1024
 
 # How often each function is open in one body.
 OPEN = {
@@ -44,15 +45,20 @@ OPEN = {
 def frames(program):
     """The frames of the functions of the recursion, by the kind of outside and by function."""
     told = subprocess.run(["objdump", "-d", "--no-show-raw-insn", "-M", "intel", program], capture_output=True, text=True, check=True).stdout
-    found, frame = {}, None
+    found, frame, loops = {}, None, False
     for line in told.splitlines():
         if head := re.match(r"[0-9a-f]+ <(.*)>:$", line):
             name = re.fullmatch(r"rv_exec::run::(\w+::\w+)::<(.*)>", head[1])
-            frame = [8] if name else None
+            frame, loops = [8] if name else None, False
             if name:
                 found.setdefault(name[2], {})[name[1]] = frame
+        elif frame is not None and (least := re.search(r"\tlea +r11,\[rsp-(0x[0-9a-f]+)\]$", line)):
+            # A large frame is taken page by page, by a loop down to there.
+            frame[0] += int(least[1], 16)
+            loops = True
         elif frame is not None and (taken := re.search(r"\tsub +rsp,(0x[0-9a-f]+)$", line)):
-            frame[0] += int(taken[1], 16)
+            frame[0] += 0 if loops else int(taken[1], 16)
+            loops = False
         elif frame is not None and re.search(r"\tpush ", line):
             frame[0] += 8
     return {outside: {name: frame[0] for name, frame in those.items()} for outside, those in found.items()}
