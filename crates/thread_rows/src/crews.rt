@@ -2,6 +2,7 @@
 
 mod caller;
 mod changes;
+mod explained;
 mod journal;
 mod notes;
 mod plant;
@@ -16,13 +17,14 @@ mod waiting;
 
 use crate::hands::Hands;
 pub use caller::{Caller, call_valve};
+use explained::{Explained, explain};
 use journal::Journal;
 use rv_crew::crew::Closed;
 use std::alloc::Global;
 use std::io;
 use std::sync::Wait;
 use std::thread::Threads;
-use texts::CALLS_BACK;
+use texts::{CALLS_BACK, TWO_TASKS};
 
 // Tells of actors, each in a line.
 fn tell_each<R: Print>(rt: &R, word: &str, actors: &[u64]) -> io::Result<()> {
@@ -63,6 +65,30 @@ fn tell_storm<R: Threads + Wait + AllocGlobal + Print>(rt: &R, hands: &Hands) ->
     }
 }
 
+// Tells how many ends are explained by their texts.
+fn tell_explained<R: Print>(rt: &R, name: &str, found: Option<Explained>) -> io::Result<()> {
+    match found {
+        Some(Explained { ends, explained }) => println!(rt;
+            "{name}: {explained} of {ends} ends explained"
+        ),
+        None => println!(rt; "{name}: failed"),
+    }
+}
+
+// Tells of a task whose call calls on.
+fn tell_called_back<R: Threads + Wait + AllocGlobal + Print>(
+    rt: &R,
+    hands: &Hands,
+) -> io::Result<()> {
+    let closed = texts::play(rt, hands, &CALLS_BACK);
+    let found = match &closed {
+        Some(closed) => explain(rt.alloc(), &CALLS_BACK, &closed.host),
+        None => None,
+    };
+    tell(rt, "row_11_on_a_thread", closed)?;
+    tell_explained(rt, "row_11_on_a_thread", found)
+}
+
 /// Plays all games.
 pub fn play_all<R: Threads + Wait + AllocGlobal + Print>(rt: &R, hands: &Hands) -> io::Result<()> {
     tell(rt, "device_calls_three", three_calls::play(rt, hands))?;
@@ -71,10 +97,8 @@ pub fn play_all<R: Threads + Wait + AllocGlobal + Print>(rt: &R, hands: &Hands) 
     tell(rt, "second_start_fails", starts::second_fails(rt, hands))?;
     tell(rt, "given_up_port_is_lost", starts::given_up(rt))?;
     tell(rt, "finishes_without_a_call", starts::no_call(rt, hands))?;
-    tell(
-        rt,
-        "row_11_on_a_thread",
-        texts::play(rt, hands, &CALLS_BACK),
-    )?;
+    tell_called_back(rt, hands)?;
+    let found = texts::play_often(rt, hands, &TWO_TASKS);
+    tell_explained(rt, "units_on_two_threads", found)?;
     tell_storm(rt, hands)
 }

@@ -7,8 +7,8 @@ use rv_port::control::Control;
 use rv_port::port::Port;
 use std::alloc::Global;
 
-// How many entries a journal has room for.
-const CAPACITY: usize = 2000;
+/// How many entries a journal has room for, where a game asks for no other room.
+pub const CAPACITY: usize = 2000;
 
 // A host without units whose journal has so much room.
 fn host_with(alloc: Global, capacity: usize) -> Option<Host>

@@ -3,10 +3,12 @@
 ghost use Rattle.std.specs.Prelude.{◌≡◌, ◌<◌};
 ghost use Rattle.rv_crew.specs.Teams.{IsOfTurn};
 
+use crate::crews::explained::{Explained, explain};
 use crate::crews::plant::{FIRST, with_units};
 use crate::crews::threads::{begin, close};
 use crate::hands::{Hands, Role};
 use crate::host::port_of;
+use row_files::texts::{NAV, PLANT};
 use rv_crew::crew::{Closed, Crew};
 use rv_port::control::Control;
 use rv_staff::Work;
@@ -16,11 +18,14 @@ use std::thread::Threads;
 // How many requests of its own a task may make.
 const BUDGET: u32 = 1_000;
 
+// How often two tasks are run.
+const RUNS: u32 = 100;
+
 /// The units of a game, the list over them, and how many tasks they have.
 #[derive(Clone, Copy, Drop)]
 pub struct Scene {
-    units: &'static [&'static str],
-    list: &'static str,
+    pub units: &'static [&'static str],
+    pub list: &'static str,
     tasks: u64,
 }
 
@@ -62,6 +67,13 @@ pub const CALLS_BACK: Scene = Scene {
     tasks: 1,
 };
 
+/// Two tasks, one of which waits for what the other does.
+pub const TWO_TASKS: Scene = Scene {
+    units: &[PLANT, NAV],
+    list: "allow Nav Plant.Valve *\n",
+    tasks: 2,
+};
+
 // Starts the thread of a task.
 fn begin_text(hands: &Hands, control: &mut Control, crew: &mut Crew, number: u64) -> Option<()>
     requires number { number < 2 }
@@ -90,4 +102,18 @@ pub fn play<R: Threads + Wait + AllocGlobal>(
         begin_text(hands, &mut control, &mut crew, 1)?;
     }
     close(rt, crew, control)
+}
+
+/// Plays a scene again and again. Gives how many ends were recorded, and how many of them are explained. None as above.
+pub fn play_often<R: Threads + Wait + AllocGlobal>(
+    rt: &R,
+    hands: &Hands,
+    scene: &Scene,
+) -> Option<Explained> {
+    let mut all = Explained::new();
+    for _ in 0..RUNS {
+        let closed = play(rt, hands, scene)?;
+        all.add(explain(rt.alloc(), scene, &closed.host)?);
+    }
+    Some(all)
 }
