@@ -11,7 +11,7 @@ use Rattle.rv_exec.specs.Blocks.{operation_run_at}
 use Rattle.rv_exec.specs.Bodies.{operation_of}
 use Rattle.rv_ends.specs.Afoot.{Open}
 use Rattle.rv_ends.specs.Courses.{IsCourse, IsWeighed}
-use Rattle.rv_ends.specs.Explained.{AsksBehind, ByRecorded, Ends, EndsBy, Follows, end_by, end_of_body, held_after, is_stopped_end, is_unasked}
+use Rattle.rv_ends.specs.Explained.{AsksBehind, ByRecorded, Ends, EndsBy, Follows, HasNoText, calls_without_text, end_by, end_of_body, held_after, is_stopped_end, is_unasked}
 use Rattle.rv_ends.specs.Following.{Place, Plays}
 use Rattle.rv_ends.specs.declared.meaning.Course.{Course}
 use Rattle.rv_ends.specs.declared.meaning.Course.TheVariants as course
@@ -27,6 +27,10 @@ by_function (Some body) is_function end e = ap (λ (b : Bool). end_by b end) (sy
   where
     same : (a b : Bool) → Some a ≡ Some b → a ≡ b
     same a b e = cc e
+
+text_there : (o : Option Body) (is_function : Bool) → option_map (λ (b : Body). b.is_function) o ≡ Some is_function → o ≡ None → ⊥
+text_there None is_function e none = absurd cc
+text_there (Some body) is_function e none = absurd cc
 
 -- Two traces of one text are one, where one follows a front of what was recorded, and the other all of it.
 
@@ -65,11 +69,16 @@ one_way {A} shapes (asking r next) held (x ∷ t) (y ∷ u) front left a b p q f
         tail_is c d xs ys e = cc e
 
 pub course_is : (bodies : UnitBodies) (shapes : List Shape) (body : Open) (end : Request) (is_function : Bool) (q : Place) (exit : Exit) (left : List ℤ) (trace : Trace) (found : Course)
+    → calls_without_text bodies body.asked ≡ false
     → option_map (λ (b : Body). b.is_function) (operation_of bodies body.start.object body.start.operation) ≡ Some is_function
     → Along (operation_run_at bodies body.start.held body.start.object body.start.operation body.start.values body.start.components) trace (exit, left) → Plays (begin_at shapes body) trace q
     → IsWeighed q (end_by is_function (exit, left)) end found → IsCourse bodies shapes body end found
-course_is bodies shapes body end is_function q exit left trace found code along plays w = by_found found w
+course_is bodies shapes body end is_function q exit left trace found texts code along plays w = by_found found w
   where
+    has_text : HasNoText bodies body → ⊥
+    has_text (inl none) = text_there (operation_of bodies body.start.object body.start.operation) is_function code none
+    has_text (inr calls) = true_is_false (sym calls ∙ texts)
+
     ends : end_by is_function (exit, left) ≡ end → Ends bodies body.start trace end
     ends e = ((exit, left), along, sym e ∙ by_function (operation_of bodies body.start.object body.start.operation) is_function (exit, left) code)
 
@@ -107,8 +116,8 @@ course_is bodies shapes body end is_function q exit left trace found code along 
         }
 
     by_found : (f : Course) → IsWeighed q (end_by is_function (exit, left)) end f → IsCourse bodies shapes body end f
-    by_found course.Explained w = (w.3, trace, by_recorded (begin_at shapes body) q trace plays w.0 w.1, ends w.2)
+    by_found course.Explained w = ((w.3, trace, by_recorded (begin_at shapes body) q trace plays w.0 w.1, ends w.2), has_text)
     by_found course.WithoutText w = absurd w
     by_found (course.Gives request) w = (by_front w.0 w.1, λ r. not_so w.0 w.2 r)
-    by_found (course.Stops other) w = (trace, by_stop (begin_at shapes body) q trace other refl plays w.0 w.1 w.2, ends w.3, by_other other w.0)
+    by_found (course.Stops other) w = (trace, by_stop (begin_at shapes body) q trace other refl plays w.0 w.1 w.2, ends w.3, by_other other w.0, has_text)
     by_found (course.Asks request) w = by_other request w

@@ -5,7 +5,7 @@ use Rattle.rv_event.specs.declared.entry.Answer.{Answer}
 use Rattle.rv_event.specs.declared.entry.Request.{Request}
 use Rattle.rv_exec.specs.Asking.{Trace}
 use Rattle.rv_ends.specs.Afoot.{Open, open_view}
-use Rattle.rv_ends.specs.Courses.{calls_without_text, is_without_text}
+use Rattle.rv_ends.specs.Explained.{calls_without_text, is_without_text}
 use Rattle.rv_ends.specs.declared.afoot.OpenBody.{OpenBody}
 
 -- so many of the first bodies, changed

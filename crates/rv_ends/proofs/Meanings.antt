@@ -2,9 +2,9 @@
 use Rattle.std.proofs.Common.{◌≡◌, ℕ, Option, Some, None, inl, inr, sym, subst}
 use Rattle.rv_event.specs.declared.entry.Request.{Request}
 use Rattle.rv_ends.specs.Afoot.{Open}
-use Rattle.rv_ends.specs.Courses.{HasNoText, IsCourse}
+use Rattle.rv_ends.specs.Courses.{IsCourse}
 use Rattle.rv_ends.specs.Ends.{IsFoundStop, IsMeaning, IsTextless, IsWhole, afoot_of, texts_of}
-use Rattle.rv_ends.specs.Explained.{AsksBehind, innermost}
+use Rattle.rv_ends.specs.Explained.{AsksBehind, HasNoText, innermost}
 use Rattle.rv_ends.specs.declared.ends.Ends.{Ends}
 use Rattle.rv_ends.specs.declared.meaning.Course.TheVariants as course
 use Rattle.rv_ends.specs.declared.meaning.Meaning.{Meaning}
@@ -12,7 +12,7 @@ use Rattle.rv_ends.specs.declared.meaning.Meaning.TheVariants as meaning
 
 pub explained_is : (e : Ends) (actor : ℕ) (end : Request) (body : Open) → IsWhole e → innermost actor (afoot_of e).bodies ≡ Some body → IsCourse (texts_of e) e.host.shapes body end course.Explained
     → IsMeaning (texts_of e) e.host (afoot_of e) actor end meaning.Explained
-explained_is e actor end body w is so = record { afoot = afoot_of e; are = w.afoot; body = body; innermost_is = is; explained = inl so }
+explained_is e actor end body w is so = record { afoot = afoot_of e; are = w.afoot; body = body; innermost_is = is; has_text = so.1; explained = inl so.0 }
 
 pub no_body : (e : Ends) (actor : ℕ) (end : Request) → innermost actor (afoot_of e).bodies ≡ None → IsMeaning (texts_of e) e.host (afoot_of e) actor end meaning.WithoutText
 no_body e actor end is = subst (λ (o : Option Open). IsTextless (texts_of e) o) (sym is) tt
@@ -23,7 +23,7 @@ without_text e actor end body is lacks = subst (λ (o : Option Open). IsTextless
 pub by_found_stop : (e : Ends) (actor : ℕ) (ask end : Request) (body : Open) (m : Meaning) → IsWhole e → innermost actor (afoot_of e).bodies ≡ Some body → IsCourse (texts_of e) e.host.shapes body end (course.Stops ask) → IsFoundStop e.host actor ask m
     → IsMeaning (texts_of e) e.host (afoot_of e) actor end m
 by_found_stop e actor ask end body meaning.Explained w is so stopped =
-    record { afoot = afoot_of e; are = w.afoot; body = body; innermost_is = is; explained = inr (so.0, ask, so.1, so.2, stopped) }
+    record { afoot = afoot_of e; are = w.afoot; body = body; innermost_is = is; has_text = so.4; explained = inr (so.0, ask, so.1, so.2, stopped) }
 by_found_stop e actor ask end body meaning.WithoutText w is so stopped = absurd stopped
 by_found_stop e actor ask end body (meaning.Gives request) w is so stopped = absurd stopped
 by_found_stop e actor ask end body (meaning.Asks request) w is so stopped =

@@ -16,33 +16,44 @@ use Rattle.rv_ends.specs.Explained.{IsExplained, IsFront, innermost}
 use Rattle.rv_ends.specs.declared.meaning.Meaning.{Meaning}
 use Rattle.rv_ends.specs.declared.tally.Found.{Found}
 
+-- a unit as it was loaded: behind these, with these bodies
+pub record Loaded : Type 0 where
+  pub behind : List Shape
+  pub shape : Shape
+  pub bodies : UnitBodies
+
+-- the texts of what was loaded, the newest first
+abbrev pub texts_by : List Loaded → UnitBodies
+texts_by [] = no_bodies
+texts_by (unit ∷ earlier) = with_unit unit.bodies (texts_by earlier)
+
 -- an actor's end behind a history, whose loads brought these texts, has none: the body that it ends has no text, or called a body
 -- that has none
 abbrev pub LacksText : UnitBodies → History → ℕ → Type 0
 LacksText texts h actor = (afoot : Afoot) × AreAfoot h afoot × IsTextless texts (innermost actor afoot.bodies)
 
--- Of the ends among these entries, whose loads brought these texts, so many are explained and so many have no text; there is no other.
-abbrev pub AreCounted : Limits → List Entry → List Shape → List (List Words) → UnitBodies → ℕ → ℕ → Type 0
-AreCounted limits [] shapes lists texts explained without = (texts ≡ no_bodies) × (explained ≡ 0) × (without ≡ 0)
-AreCounted limits (Asked actor request word ∷ past) shapes lists texts explained without =
+-- Of the ends among these entries, whose loads were these, so many are explained and so many have no text; there is no other.
+abbrev pub AreCounted : Limits → List Entry → List Shape → List (List Words) → List Loaded → ℕ → ℕ → Type 0
+AreCounted limits [] shapes lists loads explained without = (loads ≡ []) × (explained ≡ 0) × (without ≡ 0)
+AreCounted limits (Asked actor request word ∷ past) shapes lists loads explained without =
     (let before : History = record { limits = limits; past = past; shapes = shapes; lists = lists } in
-    ((is_end request ≡ false) × AreCounted limits past shapes lists texts explained without)
-    ⊎ (((is_end request ≡ true) × IsExplained texts before actor request
-    × (n : ℕ) × (explained ≡ suc n) × AreCounted limits past shapes lists texts n without)
-    ⊎ ((is_end request ≡ true) × LacksText texts before actor
-    × (n : ℕ) × (without ≡ suc n) × AreCounted limits past shapes lists texts explained n)))
-AreCounted limits (Load ∷ past) shapes lists texts explained without =
-    (old : List Shape) × (shape : Shape) × (shapes ≡ old ++ shape ∷ [])
-    × (earlier : UnitBodies) × (unit : UnitBodies) × (texts ≡ with_unit unit earlier) × AreCounted limits past old lists earlier explained without
-AreCounted limits (ListChange ∷ past) shapes lists texts explained without =
-    (old : List (List Words)) × (list : List Words) × (lists ≡ old ++ list ∷ []) × AreCounted limits past shapes old texts explained without
+    ((is_end request ≡ false) × AreCounted limits past shapes lists loads explained without)
+    ⊎ (((is_end request ≡ true) × IsExplained (texts_by loads) before actor request
+    × (n : ℕ) × (explained ≡ suc n) × AreCounted limits past shapes lists loads n without)
+    ⊎ ((is_end request ≡ true) × LacksText (texts_by loads) before actor
+    × (n : ℕ) × (without ≡ suc n) × AreCounted limits past shapes lists loads explained n)))
+AreCounted limits (Load ∷ past) shapes lists loads explained without =
+    (unit : Loaded) × (shapes ≡ unit.behind ++ unit.shape ∷ [])
+    × (earlier : List Loaded) × (loads ≡ unit ∷ earlier) × AreCounted limits past unit.behind lists earlier explained without
+AreCounted limits (ListChange ∷ past) shapes lists loads explained without =
+    (old : List (List Words)) × (list : List Words) × (lists ≡ old ++ list ∷ []) × AreCounted limits past shapes old loads explained without
 
-abbrev pub Counts : History → UnitBodies → ℕ → ℕ → Type 0
-Counts h texts explained without = AreCounted h.limits h.past h.shapes h.lists texts explained without
+abbrev pub Counts : History → List Loaded → ℕ → ℕ → Type 0
+Counts h loads explained without = AreCounted h.limits h.past h.shapes h.lists loads explained without
 
--- The entry of this number is the first end whose text means another: each end before it is explained, or has no text. The text means
--- this, told by the names of these shapes.
-pub record IsFirstOther (h : History) (shapes : List Shape) (number : ℕ) (meaning : Meaning) : Type 0 where
+-- The entry of this number is the first end whose text means another: each end before it is explained, or has no text. These are the
+-- loads before it. The text means this, told by the names of these shapes.
+pub record IsFirstOther (h : History) (loads : List Loaded) (shapes : List Shape) (number : ℕ) (meaning : Meaning) : Type 0 where
   pub front : History
   pub actor : ℕ
   pub request : Request
@@ -52,19 +63,18 @@ pub record IsFirstOther (h : History) (shapes : List Shape) (number : ℕ) (mean
   pub names : shapes ≡ front.shapes
   pub number_is : number ≡ suc (length front.past)
   pub ends : is_end request ≡ true
-  pub texts : UnitBodies
   pub explained : ℕ
   pub without : ℕ
-  pub before : Counts front texts explained without
+  pub before : Counts front loads explained without
   pub afoot : Afoot
   pub are : AreAfoot front afoot
-  pub means : IsMeaning texts front afoot actor request meaning
+  pub means : IsMeaning (texts_by loads) front afoot actor request meaning
   pub other : is_settled meaning ≡ false
 
--- what is found of the ends of a history: the first other, or how many there are
-abbrev pub IsFoundBy : History → List Shape → Found → Option (ℕ × Meaning) → Type 0
-IsFoundBy h shapes found None = (texts : UnitBodies) × Counts h texts found.explained found.without_text
-IsFoundBy h shapes found (Some other) = IsFirstOther h shapes other.0 other.1
+-- what is found of the ends of a history: the first other, with the loads before it, or how many there are, with all loads
+abbrev pub IsFoundBy : History → List Loaded → List Shape → Found → Option (ℕ × Meaning) → Type 0
+IsFoundBy h loads shapes found None = Counts h loads found.explained found.without_text
+IsFoundBy h loads shapes found (Some other) = IsFirstOther h loads shapes other.0 other.1
 
-abbrev pub IsFoundOf : History → List Shape → Found → Type 0
-IsFoundOf h shapes found = IsFoundBy h shapes found found.other
+abbrev pub IsFoundOf : History → List Loaded → List Shape → Found → Type 0
+IsFoundOf h loads shapes found = IsFoundBy h loads shapes found found.other

@@ -1,42 +1,23 @@
 -- What a body comes to, by its text and what was recorded of it, where an end of it was recorded (own).
-use Rattle.std.specs.Prelude.{◌≡◌, ◌⊎◌, Bool, true, false, if◌then◌else◌, List, [], ◌∷◌, Some, None, is_none}
+use Rattle.std.specs.Prelude.{◌≡◌, true, false, List, [], Some, None}
 use Rattle.rv_shape.specs.Shape.{Shape}
 use Rattle.rv_code.specs.Bodies.{UnitBodies}
-use Rattle.rv_event.specs.declared.entry.Answer.{Answer}
-use Rattle.rv_event.specs.declared.entry.Answer.TheVariants as answer
 use Rattle.rv_event.specs.declared.entry.Request.{Request}
-use Rattle.rv_event.specs.declared.entry.Request.TheVariants as request
 use Rattle.rv_exec.specs.Asking.{Trace}
-use Rattle.rv_exec.specs.Bodies.{operation_of}
 use Rattle.rv_ends.specs.Afoot.{Open}
-use Rattle.rv_ends.specs.Explained.{AsksBehind, ByRecorded, EndsBy, FollowsToStop, Ends, is_stopped_end}
+use Rattle.rv_ends.specs.Explained.{AsksBehind, ByRecorded, EndsBy, FollowsToStop, Ends, HasNoText, is_stopped_end}
 use Rattle.rv_ends.specs.Following.{Place}
 use Rattle.rv_ends.specs.declared.meaning.Course.{Course}
 use Rattle.rv_ends.specs.declared.meaning.Course.TheVariants as course
 
--- whether an ask started a body that has no text
-abbrev pub is_without_text : UnitBodies → Request → Answer → Bool
-is_without_text bodies (request.Call object operation values) (answer.Started components) = is_none (operation_of bodies object operation)
-is_without_text bodies request answer = false
-
--- whether one of these did
-abbrev pub calls_without_text : UnitBodies → Trace → Bool
-calls_without_text bodies [] = false
-calls_without_text bodies (pair ∷ more) = if is_without_text bodies pair.0 pair.1 then true else calls_without_text bodies more
-
--- a body has no text, or called one that has none
-abbrev pub HasNoText : UnitBodies → Open → Type 0
-HasNoText bodies body =
-    (operation_of bodies body.start.object body.start.operation ≡ None) ⊎ (calls_without_text bodies body.asked ≡ true)
-
 -- what a body comes to is so
 abbrev pub IsCourse : UnitBodies → List Shape → Open → Request → Course → Type 0
-IsCourse bodies shapes body end course.Explained = ByRecorded bodies shapes body end
+IsCourse bodies shapes body end course.Explained = ByRecorded bodies shapes body end × (HasNoText bodies body → ⊥)
 IsCourse bodies shapes body end course.WithoutText = HasNoText bodies body
 IsCourse bodies shapes body end (course.Gives request) = EndsBy bodies shapes body request × (ByRecorded bodies shapes body end → ⊥)
 IsCourse bodies shapes body end (course.Stops other) =
     (trace : Trace) × FollowsToStop shapes body.start.held body.asked other trace × Ends bodies body.start trace end
-    × AsksBehind bodies shapes body other
+    × AsksBehind bodies shapes body other × (HasNoText bodies body → ⊥)
 IsCourse bodies shapes body end (course.Asks request) = AsksBehind bodies shapes body request
 
 -- what is found where a run came to this place, and gave this end

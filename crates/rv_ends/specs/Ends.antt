@@ -7,8 +7,7 @@ use Rattle.rv_event.specs.declared.entry.Request.{Request}
 use Rattle.rv_exec.specs.Bodies.{bodies_view, with_unit}
 use Rattle.rv_history.specs.History.{History}
 use Rattle.rv_ends.specs.Afoot.{Afoot, AreAfoot, Open, open_view}
-use Rattle.rv_ends.specs.Courses.{HasNoText}
-use Rattle.rv_ends.specs.Explained.{AsksBehind, ByRecorded, EndsBy, IsExplained, IsStopped, innermost, is_stopped_end}
+use Rattle.rv_ends.specs.Explained.{AsksBehind, ByRecorded, EndsBy, HasNoText, IsExplained, IsStopped, innermost, is_stopped_end}
 use Rattle.rv_ends.specs.declared.ends.Ends.{Ends}
 use Rattle.rv_ends.specs.declared.ends.Stop.{Stop}
 use Rattle.rv_ends.specs.declared.meaning.Meaning.{Meaning}

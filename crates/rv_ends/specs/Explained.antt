@@ -1,6 +1,6 @@
 -- What explains a recorded end of a body: what its text means on the answers that were recorded between its start and its end
 -- (ISO/IEC 8652:2012, 5, 6.4, 9.5.1, 11.4; limits own).
-use Rattle.std.specs.Prelude.{◌≡◌, ◌⊎◌, ℕ, suc, ◌-◌, ℤ, Bool, true, false, ◌==◌, not, nat_lt, ◌&&◌, if◌then◌else◌, List, [], ◌∷◌, ◌++◌, Option, Some, None}
+use Rattle.std.specs.Prelude.{◌≡◌, ◌⊎◌, ℕ, suc, ◌-◌, ℤ, Bool, true, false, ◌==◌, not, nat_lt, ◌&&◌, if◌then◌else◌, List, [], ◌∷◌, ◌++◌, Option, Some, None, is_none}
 use Rattle.rv_access.specs.Words.{Words}
 use Rattle.rv_shape.specs.Shape.{Shape}
 use Rattle.rv_shape.specs.Catalogue.{Target, OnProtected, target}
@@ -129,6 +129,21 @@ pub record IsStopped (h : History) (actor : ℕ) (other : Request) : Type 0 wher
 
 -- What explains an end
 
+-- whether an ask started a body that has no text
+abbrev pub is_without_text : UnitBodies → Request → Answer → Bool
+is_without_text bodies (Call object operation values) (Started components) = is_none (operation_of bodies object operation)
+is_without_text bodies request answer = false
+
+-- whether one of these did
+abbrev pub calls_without_text : UnitBodies → Trace → Bool
+calls_without_text bodies [] = false
+calls_without_text bodies (pair ∷ more) = if is_without_text bodies pair.0 pair.1 then true else calls_without_text bodies more
+
+-- a body has no text, or called one that has none
+abbrev pub HasNoText : UnitBodies → Open → Type 0
+HasNoText bodies body =
+    (operation_of bodies body.start.object body.start.operation ≡ None) ⊎ (calls_without_text bodies body.asked ≡ true)
+
 -- the newest open body of an actor
 abbrev pub innermost : ℕ → List Open → Option Open
 innermost actor [] = None
@@ -168,10 +183,12 @@ pub record AsksBehind (bodies : UnitBodies) (shapes : List Shape) (body : Open) 
   pub asks : Along (operation_run_at bodies body.start.held body.start.object body.start.operation body.start.values body.start.components) (before ++ (request, Full) ∷ behind) end
   pub is_other : (answer : Answer) (rest : Trace) → left ≡ (request, answer) ∷ rest → stands answer ≡ true
 
--- This end of an actor's innermost body, behind this history, is what its text among these bodies means.
+-- This end of an actor's innermost body, behind this history, is what its text among these bodies means; and it has one, as those
+-- have that it called.
 pub record IsExplained (bodies : UnitBodies) (h : History) (actor : ℕ) (request : Request) : Type 0 where
   pub afoot : Afoot
   pub are : AreAfoot h afoot
   pub body : Open
   pub innermost_is : innermost actor afoot.bodies ≡ Some body
+  pub has_text : HasNoText bodies body → ⊥
   pub explained : ByRecorded bodies h.shapes body request ⊎ ByStop bodies h actor body request

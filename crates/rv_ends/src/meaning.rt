@@ -3,9 +3,9 @@
 ghost use Rattle.std.specs.Prelude.{◌≡◌, [], false, true, Some, option_map};
 ghost use Rattle.rv_exec.specs.Bodies.{bodies_view, operation_of};
 ghost use Rattle.rv_ends.specs.Afoot.{open_view};
-ghost use Rattle.rv_ends.specs.Courses.{IsCourse, IsWeighed, calls_without_text, is_without_text};
+ghost use Rattle.rv_ends.specs.Courses.{IsCourse, IsWeighed};
 ghost use Rattle.rv_ends.specs.Following.{place_of};
-ghost use Rattle.rv_ends.specs.Explained.{end_by};
+ghost use Rattle.rv_ends.specs.Explained.{calls_without_text, end_by, is_without_text};
 
 use crate::afoot::OpenBody;
 use crate::following::{Following, is_same, is_stopped_end};
@@ -117,7 +117,8 @@ fn run(
     is_function: bool,
     end: &Request,
 ) -> Course
-    requires { option_map (λ b. b.is_function) (operation_of (bodies_view bodies.now) body.now.start.object body.now.start.operation) ≡ Some is_function }
+    requires texts { calls_without_text (bodies_view bodies.now) body.now.asked.items ≡ false }
+    requires code { option_map (λ b. b.is_function) (operation_of (bodies_view bodies.now) body.now.start.object body.now.start.operation) ≡ Some is_function }
     ensures { IsCourse (bodies_view bodies.now) catalogue.now (open_view body.now) end.now result }
 {
     let start = body.start;

@@ -1,6 +1,6 @@
 //! The ends of bodies in a journal, counted by what their texts mean.
 
-ghost use Rattle.std.specs.Prelude.{◌≡◌, ◌≤◌, ◌^◌, ℕ, IfOk, OnOk, is_none};
+ghost use Rattle.std.specs.Prelude.{◌≡◌, ◌≤◌, ◌^◌, ℕ, [], IfOk, OnOk, is_none};
 ghost use Rattle.rv_code.specs.BodyView.{unit_view};
 ghost use Rattle.rv_history.specs.History.{History};
 ghost use Rattle.rv_history.specs.Legal.{Legal, empty};
@@ -78,7 +78,7 @@ impl Tally {
     /// Before the first entry of a journal over a capacity, 16 .. 1,048,576.
     #[tactic(auto, using(crate::proofs::Counting::at_first))]
     pub fn new(alloc: Global, capacity: usize) -> Result<Tally, NewFault>
-        ensures { IfOk result (λ tally. Follows tally (empty (limits_of capacity))) }
+        ensures { IfOk result (λ tally. Follows tally (empty (limits_of capacity)) []) }
     {
         let ends = Ends::new(alloc, capacity)?;
         Ok(Tally {
@@ -170,7 +170,7 @@ impl Tally {
 
     /// Takes the load of a unit, with its bodies.
     pub fn load(&mut self, shape: &UnitShape, bodies: UnitBodies) -> Result<(), AllocError>
-        ensures { OnOk result (TakesLoad self.old self.new shape.now) }
+        ensures { OnOk result (TakesLoad self.old self.new shape.now (unit_view bodies)) }
     {
         self.ends.load(shape, bodies)?;
         Ok(())

@@ -1,4 +1,5 @@
 pub mod Acts
+pub mod Counts
 pub mod Stages
 pub mod Deeds
 pub mod Scripted

@@ -3,6 +3,7 @@
 #![tactic(auto)]
 
 mod acts;
+pub mod counts;
 mod deed;
 mod going;
 mod laws;

@@ -12,6 +12,7 @@ ghost use Rattle.rv_play.specs.Going.{Leaves};
 ghost use Rattle.rv_play.specs.Scripted.{playing, ReadsLimits, outcome_of};
 
 use crate::acts::{go_deed, list_deed, shape_deed, step_deed, unit_deed};
+use crate::counts::Counts;
 use crate::deed::Deed;
 use crate::going::go_along;
 use crate::player::{Limits, Player};
@@ -233,7 +234,13 @@ fn limits_of(alloc: Global, settings: &Option<Section<'_>>) -> Result<Limits, Fa
 }
 
 // Carries out a text from the beginning.
-fn play_text<W: Write>(alloc: Global, writer: &mut W, all: bool, text: &str) -> Result<(), Failure>
+fn play_text<W: Write>(
+    alloc: Global,
+    writer: &mut W,
+    all: bool,
+    text: &str,
+    counts: &mut Counts,
+) -> Result<(), Failure>
     ensures { Writes (W.contents writer.old) (W.contents writer.new) (outcome_of all text.now) result }
 {
     let script = match open(text) {
@@ -242,7 +249,11 @@ fn play_text<W: Write>(alloc: Global, writer: &mut W, all: bool, text: &str) -> 
     };
     let limits = limits_of(alloc, &script.settings)?;
     match Player::new(alloc, limits, all) {
-        Ok(mut player) => carry_out_all(alloc, &mut player, writer, script.sections),
+        Ok(mut player) => {
+            let done = carry_out_all(alloc, &mut player, writer, script.sections);
+            *counts = player.counts;
+            done
+        }
         Err(NewFault::BadCapacity) | Err(NewFault::NoMemory) => Err(Failure::Memory),
     }
 }
@@ -253,13 +264,29 @@ fn play_bytes<W: Write>(
     writer: &mut W,
     all: bool,
     bytes: &[u8],
+    counts: &mut Counts,
 ) -> Result<(), Failure>
     ensures { WritesScript (W.contents writer.old) (W.contents writer.new) (outcome_of all) bytes.now result }
 {
     match text_of(bytes) {
-        Ok(text) => play_text(alloc, writer, all, text),
+        Ok(text) => play_text(alloc, writer, all, text, counts),
         Err(error) => Err(refused(1, What::of_bytes(error))),
     }
+}
+
+/// As `play`; and gives how many answers there were, and which of them the journal doesn't have.
+pub fn play_counted<R: Read, W: Write>(
+    alloc: Global,
+    reader: &mut R,
+    writer: &mut W,
+    all: bool,
+    counts: &mut Counts,
+) -> Result<(), Failure>
+    ensures { IfSome (R.remaining reader.old) (λ script.
+        WritesScript (W.contents writer.old) (W.contents writer.new) (outcome_of all) script result) }
+{
+    let bytes = read_script(alloc, reader)?;
+    play_bytes(alloc, writer, all, bytes.as_slice(), counts)
 }
 
 /// Carries out the script that a reader gives, and writes its journal: the line of each entry and,
@@ -273,6 +300,6 @@ pub fn play<R: Read, W: Write>(
     ensures { IfSome (R.remaining reader.old) (λ script.
         WritesScript (W.contents writer.old) (W.contents writer.new) (outcome_of all) script result) }
 {
-    let bytes = read_script(alloc, reader)?;
-    play_bytes(alloc, writer, all, bytes.as_slice())
+    let mut counts = Counts::new();
+    play_counted(alloc, reader, writer, all, &mut counts)
 }

@@ -48,12 +48,16 @@ same_reason bytes NotText NotText x y = refl
 same_reason bytes TooLong NotText x y = let few = x.0 in absurd (omega (arith, y))
 same_reason bytes NotText TooLong x y = let few = y.0 in absurd (omega (arith, x))
 
-pub text_audited : {A : Type 0} (has_journal : Bool) (Says : Saying A) (old new : Option (List ℕ)) (bytes text : List ℕ) (r : Result A Failure) → (text ≡ bytes) × IsScript bytes → AuditsText has_journal Says old new text r →
-    AuditsScript has_journal Says old new bytes r
-text_audited has_journal Says old new bytes text r is said = record {
-  text = λ _. subst (λ (l : List ℕ). AuditsText has_journal Says old new l r) is.0 said;
+pub text_audited_by : {A : Type 0} (has_journal : Bool) (Says : List ℕ → Saying A) (old new : Option (List ℕ)) (bytes text : List ℕ) (r : Result A Failure) → (text ≡ bytes) × IsScript bytes → AuditsText has_journal (Says text) old new text r →
+    AuditsScript has_journal (Says bytes) old new bytes r
+text_audited_by has_journal Says old new bytes text r is said = record {
+  text = λ _. subst (λ (l : List ℕ). AuditsText has_journal (Says l) old new l r) is.0 said;
   refused = λ error refused. absurd (not_both bytes error is.1 refused);
 }
+
+pub text_audited : {A : Type 0} (has_journal : Bool) (Says : Saying A) (old new : Option (List ℕ)) (bytes text : List ℕ) (r : Result A Failure) → (text ≡ bytes) × IsScript bytes → AuditsText has_journal Says old new text r →
+    AuditsScript has_journal Says old new bytes r
+text_audited has_journal Says = text_audited_by has_journal (λ script. Says)
 
 abbrev fault_of : TextError → ScriptFault
 fault_of error = record { line = 1; what = of_bytes error }
@@ -79,24 +83,31 @@ refused_read bytes script TooLong e refused = still_long bytes script e refused
 refused_read bytes script NotText e refused =
     subst (λ (l : List ℕ). IsRefused l NotText) (sym (e ∙ take_all 16777217 script (omega (arith, refused.0)))) refused
 
-pub script_audited : {A : Type 0} (has_journal : Bool) (Says : Saying A) (old new known : Option (List ℕ)) (bytes : List ℕ) (r : Result A Failure) → IfSome known (λ input. bytes ≡ take 16777217 input) → AuditsScript has_journal Says old new bytes r →
-    IfSome known (λ script. AuditsScript has_journal Says old new script r)
-script_audited has_journal Says old new None bytes r e said = tt
-script_audited has_journal Says old new (Some script) bytes r e said =
+pub script_audited_by : {A : Type 0} (has_journal : Bool) (Says : List ℕ → Saying A) (old new known : Option (List ℕ)) (bytes : List ℕ) (r : Result A Failure) → IfSome known (λ input. bytes ≡ take 16777217 input) → AuditsScript has_journal (Says bytes) old new bytes r →
+    IfSome known (λ script. AuditsScript has_journal (Says script) old new script r)
+script_audited_by has_journal Says old new None bytes r e said = tt
+script_audited_by has_journal Says old new (Some script) bytes r e said =
     let whole = λ (short : length script ≤ 16777216). e ∙ take_all 16777217 script (omega arith) in
     record {
       text = λ is.
           let same = whole is.short in
-          subst (λ (l : List ℕ). AuditsText has_journal Says old new l r) same (said.text (subst IsScript (sym same) is));
+          subst (λ (l : List ℕ). AuditsText has_journal (Says l) old new l r) same (said.text (subst IsScript (sym same) is));
       refused = λ error refused. said.refused error (refused_read bytes script error e refused);
     }
 
+pub script_audited : {A : Type 0} (has_journal : Bool) (Says : Saying A) (old new known : Option (List ℕ)) (bytes : List ℕ) (r : Result A Failure) → IfSome known (λ input. bytes ≡ take 16777217 input) → AuditsScript has_journal Says old new bytes r →
+    IfSome known (λ script. AuditsScript has_journal Says old new script r)
+script_audited has_journal Says = script_audited_by has_journal (λ script. Says)
+
 -- a reader that gave no bytes
-none_read : {A : Type 0} (has_journal : Bool) (Says : Saying A) (old known : Option (List ℕ)) (e : ReadError) → IfSome known (λ script. AuditsScript has_journal Says old old script (Err (of_read e)))
+none_read : {A : Type 0} (has_journal : Bool) (Says : List ℕ → Saying A) (old known : Option (List ℕ)) (e : ReadError) → IfSome known (λ script. AuditsScript has_journal (Says script) old old script (Err (of_read e)))
 none_read has_journal Says old None e = tt
 none_read has_journal Says old (Some script) Reads.Memory = record { text = λ is. inl (keeps_nothing old); refused = λ error refused. keeps_nothing old }
 none_read has_journal Says old (Some script) (Reads.Io e) = record { text = λ is. inl (keeps_nothing old); refused = λ error refused. keeps_nothing old }
 
+pub unread_audited_by : {A : Type 0} (has_journal : Bool) (Says : List ℕ → Saying A) (old known : Option (List ℕ)) (e : ReadError) (failure : Failure) → failure ≡ of_read e → IfSome known (λ script. AuditsScript has_journal (Says script) old old script (Err failure))
+unread_audited_by has_journal Says old known e failure same =
+    subst (λ (f : Failure). IfSome known (λ script. AuditsScript has_journal (Says script) old old script (Err f))) (sym same) (none_read has_journal Says old known e)
+
 pub unread_audited : {A : Type 0} (has_journal : Bool) (Says : Saying A) (old known : Option (List ℕ)) (e : ReadError) (failure : Failure) → failure ≡ of_read e → IfSome known (λ script. AuditsScript has_journal Says old old script (Err failure))
-unread_audited has_journal Says old known e failure same =
-    subst (λ (f : Failure). IfSome known (λ script. AuditsScript has_journal Says old old script (Err f))) (sym same) (none_read has_journal Says old known e)
+unread_audited has_journal Says = unread_audited_by has_journal (λ script. Says)

@@ -12,8 +12,9 @@ use Rattle.rv_script.specs.Prefixes.{WritesPrefix}
 use Rattle.rv_fault.specs.Written.{Known}
 use Rattle.rv_fault.specs.declared.failure.Failure.{Failure}
 use Rattle.rv_fault.specs.declared.failure.Failure.TheVariants.{Refused, Memory, Io}
-use Rattle.rv_ends.specs.Counts.{IsFoundOf}
+use Rattle.rv_ends.specs.Counts.{IsFoundOf, Loaded}
 use Rattle.rv_ends.specs.declared.tally.Found.{Found}
+use Rattle.rv_verdict.specs.Texts.{HaveBodies}
 
 -- Lines
 
@@ -42,23 +43,31 @@ line_by shapes found (Some (number, meaning.Asks request)) = asks_line shapes nu
 abbrev pub ends_line : List Shape → Found → List ℕ
 ends_line shapes found = line_by shapes found found.other
 
--- the line of what is found of the ends of a history, or a prefix of it
-abbrev pub BreaksOffEnds : History → Known → Known → Type 0
-BreaksOffEnds h old new = (shapes : List Shape) × (found : Found) × IsFoundOf h shapes found × WritesPrefix old new (ends_line shapes found)
+-- what is found of the ends of a history, whose loads brought these texts of these units
+pub record IsFound (units : List Shape) (texts : List (Option (List ℕ))) (h : History) (shapes : List Shape) (found : Found) : Type 0 where
+  pub loads : List Loaded
+  pub bodies : HaveBodies units texts loads
+  pub is : IsFoundOf h loads shapes found
+
+-- the line of what is found, or a prefix of it
+abbrev pub BreaksOffEnds : List Shape → List (Option (List ℕ)) → History → Known → Known → Type 0
+BreaksOffEnds units texts h old new =
+    (shapes : List Shape) × (found : Found) × IsFound units texts h shapes found × WritesPrefix old new (ends_line shapes found)
 
 -- The line of what is found of the ends of a history is written, and whether no end has a text that means another is told. Where
 -- memory or a write failed, nothing is written, or a prefix of it.
-abbrev pub SaysEnds : History → Known → Known → Result Bool Failure → Type 0
-SaysEnds h old new (Ok is_explained) =
-    (shapes : List Shape) × (found : Found) × IsFoundOf h shapes found × Appends old new (ends_line shapes found) × (is_explained ≡ is_none found.other)
-SaysEnds h old new (Err (Refused told)) = ⊥
-SaysEnds h old new (Err Memory) = Appends old new [] ⊎ BreaksOffEnds h old new
-SaysEnds h old new (Err (Io error)) = Appends old new [] ⊎ BreaksOffEnds h old new
+abbrev pub SaysEnds : List Shape → List (Option (List ℕ)) → History → Known → Known → Result Bool Failure → Type 0
+SaysEnds units texts h old new (Ok is_explained) =
+    (shapes : List Shape) × (found : Found) × IsFound units texts h shapes found × Appends old new (ends_line shapes found)
+    × (is_explained ≡ is_none found.other)
+SaysEnds units texts h old new (Err (Refused told)) = ⊥
+SaysEnds units texts h old new (Err Memory) = Appends old new [] ⊎ BreaksOffEnds units texts h old new
+SaysEnds units texts h old new (Err (Io error)) = Appends old new [] ⊎ BreaksOffEnds units texts h old new
 
 -- Behind a verdict
 
 -- so it is of a journal that is legal, of whose history this holds; of another nothing more is said
-abbrev pub SaysBehind : (History → Type 0) → Known → Known → Bool → Result Bool Failure → Type 0
-SaysBehind Of old new true result = (h : History) × Of h × SaysEnds h old new result
-SaysBehind Of old new false (Ok is_explained) = Appends old new [] × (is_explained ≡ false)
-SaysBehind Of old new false (Err failure) = ⊥
+abbrev pub SaysBehind : List Shape → List (Option (List ℕ)) → (History → Type 0) → Known → Known → Bool → Result Bool Failure → Type 0
+SaysBehind units texts Of old new true result = (h : History) × Of h × SaysEnds units texts h old new result
+SaysBehind units texts Of old new false (Ok is_explained) = Appends old new [] × (is_explained ≡ false)
+SaysBehind units texts Of old new false (Err failure) = ⊥

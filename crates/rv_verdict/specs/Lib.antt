@@ -7,3 +7,4 @@ pub mod Explaining
 pub mod Given
 pub mod Judging
 pub mod Said
+pub mod Texts

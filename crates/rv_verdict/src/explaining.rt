@@ -1,6 +1,6 @@
 //! What is found of the ends of bodies in a journal, line by line.
 
-ghost use Rattle.std.specs.Prelude.{◌≡◌, ℕ, List, IfErr, IfOk, OnOk, string_bytes};
+ghost use Rattle.std.specs.Prelude.{◌≡◌, ℕ, [], List, Option, IfErr, IfOk, OnOk, string_bytes};
 ghost use Rattle.rv_event.specs.declared.entry.Recorded.{Recorded};
 ghost use Rattle.rv_history.specs.History.{History};
 ghost use Rattle.rv_history.specs.Legal.{empty};
@@ -10,10 +10,11 @@ ghost use Rattle.rv_reading.specs.Told.{Asks, Lists, Loads};
 ghost use Rattle.rv_shape.specs.Shape.{Shape};
 ghost use Rattle.rv_ends.specs.Tally.{Follows};
 ghost use Rattle.rv_verdict.specs.Ends.{SaysEnds, asks_line, counted_line, ends_line, gives_line};
-ghost use Rattle.rv_verdict.specs.Explaining.{TakesLine, TakesTold};
+ghost use Rattle.rv_verdict.specs.Explaining.{FollowsBy, TakesLine, TakesTold};
 ghost use Rattle.rv_verdict.specs.Judging.{IsOfCall};
+ghost use Rattle.rv_verdict.specs.Texts.{texts_now};
 
-use crate::texts::{UnitText, bodies_of};
+use crate::texts::{bodies_of, text_named};
 use rv_audit::units::first_unit;
 use rv_ends::meaning::Meaning;
 use rv_ends::tally::{Found, Tally};
@@ -36,23 +37,6 @@ pub struct Explainer {
     pub tally: Tally,
     // The text that a line is compared with.
     text: String,
-}
-
-// The text of the first unit of exactly this name; units behind those that have a place among the texts have none.
-fn text_named<'a>(
-    units: &[UnitShape],
-    texts: &[Option<UnitText<'a>>],
-    name: &str,
-) -> Option<UnitText<'a>> {
-    for (place, unit) in units.iter().enumerate() {
-        if unit.name() == name {
-            return match texts.get(place) {
-                Some(text) => *text,
-                None => None,
-            };
-        }
-    }
-    None
 }
 
 // The line of counts.
@@ -106,7 +90,7 @@ fn line_of(alloc: Global, catalogue: &Catalogue, found: &Found) -> Result<String
 impl Explainer {
     /// Before the first line of a journal over a capacity. Err where memory was refused.
     pub fn new(alloc: Global, capacity: usize) -> Result<Explainer, Failure>
-        ensures follows { IfOk result (λ explainer. Follows explainer.tally (empty (limits_of capacity))) }
+        ensures follows { IfOk result (λ explainer. Follows explainer.tally (empty (limits_of capacity)) []) }
         ensures err { IfErr result IsOfCall }
     {
         let Ok(tally) = Tally::new(alloc, capacity) else {
@@ -121,8 +105,8 @@ impl Explainer {
 
     // Takes a request, which may end a body.
     fn ask(&mut self, number: usize, actor: usize, request: &Request) -> Result<(), Failure>
-        ensures takes { OnOk result ((units : List Shape) (word : Recorded) →
-            TakesTold self.old.tally self.new.tally units number (Asks actor request.now word)) }
+        ensures takes { OnOk result ((units : List Shape) (texts : List (Option (List ℕ))) (word : Recorded) →
+            TakesTold self.old.tally self.new.tally units texts number (Asks actor request.now word)) }
         ensures err { IfErr result IsOfCall }
     {
         self.tally.ask(number, actor, request)?;
@@ -133,17 +117,17 @@ impl Explainer {
     fn load(
         &mut self,
         units: &[UnitShape],
-        texts: &[Option<UnitText<'_>>],
+        texts: &[Option<&str>],
         name: &str,
     ) -> Result<(), Failure>
         ensures takes { OnOk result ((number actor : ℕ) (word : Recorded) →
-            TakesTold self.old.tally self.new.tally units.now number (Loads actor name.now word)) }
+            TakesTold self.old.tally self.new.tally units.now (texts_now texts.now) number (Loads actor name.now word)) }
         ensures err { IfErr result IsOfCall }
     {
         let Some(shape) = first_unit(units, name) else {
             return Ok(());
         };
-        let text = text_named(units, texts, name);
+        let text = text_named(units, texts, shape.name());
         let bodies = bodies_of(self.alloc, self.tally.catalogue(), shape, text)?;
         self.tally.load(shape, bodies)?;
         Ok(())
@@ -151,8 +135,8 @@ impl Explainer {
 
     // Takes a list.
     fn set_list(&mut self, text: &str) -> Result<(), Failure>
-        ensures takes { OnOk result ((units : List Shape) (number actor : ℕ) (word : Recorded) →
-            TakesTold self.old.tally self.new.tally units number (Lists actor text.now word)) }
+        ensures takes { OnOk result ((units : List Shape) (texts : List (Option (List ℕ))) (number actor : ℕ) (word : Recorded) →
+            TakesTold self.old.tally self.new.tally units texts number (Lists actor text.now word)) }
         ensures err { IfErr result IsOfCall }
     {
         let Ok(list) = list_of(self.alloc, text) else {
@@ -166,11 +150,11 @@ impl Explainer {
     fn take_deed(
         &mut self,
         units: &[UnitShape],
-        texts: &[Option<UnitText<'_>>],
+        texts: &[Option<&str>],
         number: usize,
         deed: &Deed<'_>,
     ) -> Result<(), Failure>
-        ensures takes { OnOk result (TakesTold self.old.tally self.new.tally units.now number (told deed.now)) }
+        ensures takes { OnOk result (TakesTold self.old.tally self.new.tally units.now (texts_now texts.now) number (told deed.now)) }
         ensures err { IfErr result IsOfCall }
     {
         match *deed {
@@ -184,11 +168,11 @@ impl Explainer {
     fn take_text(
         &mut self,
         units: &[UnitShape],
-        texts: &[Option<UnitText<'_>>],
+        texts: &[Option<&str>],
         number: usize,
         line: &str,
     ) -> Result<(), Failure>
-        ensures takes { OnOk result (TakesLine self.old.tally self.new.tally units.now number line.now) }
+        ensures takes { OnOk result (TakesLine self.old.tally self.new.tally units.now (texts_now texts.now) number line.now) }
         ensures err { IfErr result IsOfCall }
     {
         if !self.tally.goes_on() {
@@ -209,11 +193,11 @@ impl Explainer {
     pub fn take(
         &mut self,
         units: &[UnitShape],
-        texts: &[Option<UnitText<'_>>],
+        texts: &[Option<&str>],
         number: usize,
         line: &[u8],
     ) -> Result<(), Failure>
-        ensures takes { OnOk result (TakesLine self.old.tally self.new.tally units.now number line.now) }
+        ensures takes { OnOk result (TakesLine self.old.tally self.new.tally units.now (texts_now texts.now) number line.now) }
         ensures err { IfErr result IsOfCall }
     {
         self.tally.replays();
@@ -225,7 +209,8 @@ impl Explainer {
 
     /// Says what is found, and gives whether no end has a text that means another.
     pub fn say<W: Write>(&self, writer: &mut W) -> Result<bool, Failure>
-        ensures { (h : History) → Follows self.now.tally h → SaysEnds h (W.contents writer.old) (W.contents writer.new) result }
+        ensures { (units : List Shape) (texts : List (Option (List ℕ))) (h : History) → FollowsBy units texts self.now.tally h →
+            SaysEnds units texts h (W.contents writer.old) (W.contents writer.new) result }
     {
         let line = line_of(self.alloc, self.tally.catalogue(), &self.tally.found())?;
         put(writer, line.as_str())?;

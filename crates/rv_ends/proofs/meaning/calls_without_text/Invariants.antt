@@ -1,6 +1,6 @@
 use Rattle.std.proofs.Common.{◌≡◌, drop}
 use Rattle.rv_exec.specs.Bodies.{bodies_view}
-use Rattle.rv_ends.specs.Courses.{calls_without_text}
+use Rattle.rv_ends.specs.Explained.{calls_without_text}
 use Rattle.rv_ends.proofs.meaning.calls_without_text.Given as goal
 
 abbrev pub invariant-loop-pair : goal.invariant-loop-pair

@@ -5,17 +5,17 @@ use Rattle.rv_verdict.proofs.EndsSaid.{ends_broken, ends_fail, ends_said}
 use Rattle.rv_verdict.proofs.explaining.Explainer.say.Goals as goal
 
 pub returns-in_err-line : goal.returns-in_err-line
-returns-in_err-line g c = λ h follows.
+returns-in_err-line g c = λ units texts h follows.
     let p = err_from_is_err_and c.from_residual.result c.from_residual.ensures.1 in
-    rw (p.1, p.2) (ends_fail h (g.W.Write.contents c.args.writer.now) Memory tt)
+    rw (p.1, p.2) (ends_fail units texts h (g.W.Write.contents c.args.writer.now) Memory tt)
 
 pub returns-in_err-put : goal.returns-in_err-put
-returns-in_err-put g c = λ h follows.
+returns-in_err-put g c = λ units texts h follows.
     let p = err_from_is_err_and c.from_residual-in_err-put.result c.from_residual-in_err-put.ensures.1 in
-    rw (p.1, p.2) (ends_broken c.args.self.now.tally h (g.W.Write.contents c.args.writer.now) (g.W.Write.contents c.put.new.writer) c.catalogue.result.now c.found.result c.as_str.result.now _ follows c.catalogue.ensures c.found.ensures
+    rw (p.1, p.2) (ends_broken units texts c.args.self.now.tally h (g.W.Write.contents c.args.writer.now) (g.W.Write.contents c.put.new.writer) c.catalogue.result.now c.found.result c.as_str.result.now _ follows c.catalogue.ensures c.found.ensures
     (c.as_str.ensures.value ∙ c.in_ok-line.ensures) c.in_err-put.ensures)
 
 pub returns : goal.returns
-returns g c = λ h follows.
-    ends_said c.args.self.now.tally h (g.W.Write.contents c.args.writer.now) (g.W.Write.contents c.put.new.writer) c.catalogue.result.now c.found.result c.as_str.result.now c.goes_on.result
+returns g c = λ units texts h follows.
+    ends_said units texts c.args.self.now.tally h (g.W.Write.contents c.args.writer.now) (g.W.Write.contents c.put.new.writer) c.catalogue.result.now c.found.result c.as_str.result.now c.goes_on.result
     follows c.catalogue.ensures c.found.ensures (c.as_str.ensures.value ∙ c.in_ok-line.ensures) c.goes_on.ensures c.in_ok-put.ensures

@@ -3,7 +3,7 @@ use Rattle.std.specs.Prelude.{IfSome}
 use Rattle.std.proofs.lemmas.Result.{err_from_is_err_and}
 use Rattle.rv_fault.proofs.Scripts.{script_read}
 use Rattle.rv_play.proofs.Beginning.{read_failed}
-use Rattle.rv_play.proofs.play.play.Goals as goal
+use Rattle.rv_play.proofs.play.play_counted.Goals as goal
 
 pub returns : goal.returns
 returns g c =
