@@ -85,7 +85,7 @@ no_misuse u k x e = absurd (cc (ap is_sound x.due_is ∙ resume_sound (history_a
 tied_queue : (v u k w : Passing) (m f : Bool) (o p : ℕ) (vs : List ℤ) (r : Answer) (log : List Event) (reached : Reached) → StartsWith k.seen log → Waits v (Call o p vs) Words.Queued u → Asked u Resume r k → of_resume r ≡ true → asks_on r ≡ false
     → Resumed r log k m (Call o p vs) reached w f → Tied v (Call o p vs) reached w
 tied_queue v u k w m f o p vs (Answers.Woken (Some s)) log reached l a x e n t =
-    tied_body v k w (Call o p vs) reached (opened_by_wait v u k o p vs s a x) (ran_to log k w t.0 (waited_for (Call o p vs)) s vs reached t.1 l t.3)
+    tied_body v k w (Call o p vs) reached (opened_by_wait v u k o p vs s a x) (ran_to log k w t.0 (waited_for (Call o p vs)) s vs reached t.1 l x.owns t.3)
 tied_queue v u k w m f o p vs (Answers.Woken None) log reached l a x e n t = queue_wakes (history_at (limits_in u.about) x.at) u.actor (queue_at v u k o p vs (Answers.Woken None) a x) (sym x.due_is)
 tied_queue v u k w m f o p vs (Answers.Refused rule line version) log reached l a x e n t =
     as_told v k w m f (Call o p vs) (Reaches.Refused rule line version) reached (inr (both_own v u k (Call o p vs) Words.Queued (Words.Refused rule line version) a x.own_is), refused_then v u k o p vs rule line version a x) t
@@ -175,7 +175,7 @@ delayed Halt e = absurd (cc e)
 
 tied_followed : (v u w : Passing) (m f : Bool) (q : Request) (r : Answer) (log : List Event) (b : Begun) (reached : Reached) → StartsWith u.seen log → goes_on q ≡ false → of_first q r ≡ true → asks_on r ≡ false → Asked v q r u
     → Followed r log b u m q reached w f → Tied v q reached w
-tied_followed v u w m f q (Answers.Started s) log b reached l g e n x t = tied_body v u w q reached (opened_at_once v u q s x) (ran_to log u w t.0 b s (arguments_of q) reached t.1 l t.3)
+tied_followed v u w m f q (Answers.Started s) log b reached l g e n x t = tied_body v u w q reached (opened_at_once v u q s x) (ran_to log u w t.0 b s (arguments_of q) reached t.1 l x.owns t.3)
 tied_followed v u w m f q Answers.Queued log b reached l g e n x t =
     after_queue v u w m f q reached e (record { answer = Answers.Queued; asked = x; on = refl; seen_is = x.seen_is; own_is = x.own_is; actor_is = asked_actor v u q _ x }) t
 tied_followed v u w m f q Answers.Suspended log b reached l g e n x t =

@@ -2,7 +2,7 @@
 
 mod finishing;
 
-ghost use Rattle.std.specs.Prelude.{◌≡◌, ◌++◌, List, [], true, false, is_some};
+ghost use Rattle.std.specs.Prelude.{◌≡◌, ◌<◌, ◌^◌, ◌++◌, List, [], true, false, is_some};
 ghost use Rattle.rv_turn.specs.Histories.{mine, StartsWith};
 ghost use Rattle.rv_turn.specs.Passes.{Meets};
 ghost use Rattle.rv_event.specs.declared.entry.Request.TheVariants as asks;
@@ -103,6 +103,8 @@ impl Port {
         requires given { pass.first ≡ false }
         requires limited { is_some pass.about ≡ true }
         requires fresh { pass.base ≡ [] }
+        requires none { pass.own ≡ [] }
+        requires few { pass.left < 2 ^ 63 }
         requires handles { HasHandler (catalogue_of pass.seen) pass.actor }
         requires owns { mine by pass.actor pass.seen ≡ pass.base ++ pass.own }
         ensures { result ≡ porting pass false }
@@ -112,6 +114,7 @@ impl Port {
                 pass,
                 bell,
                 is_refused: false,
+                held: 0,
             },
         }
     }

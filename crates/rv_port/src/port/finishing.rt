@@ -49,6 +49,7 @@ impl Port {
             pass,
             bell: _,
             is_refused,
+            held: _,
         } = asker;
         Finished { pass, is_refused }
     }

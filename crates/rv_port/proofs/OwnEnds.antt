@@ -10,6 +10,7 @@ use Rattle.rv_exec.specs.Stops.{is_final}
 use Rattle.rv_history.specs.declared.limits.Limits.{Limits}
 use Rattle.rv_history.specs.Due.{out}
 use Rattle.rv_history.specs.History.{History}
+use Rattle.rv_history.specs.Legal.{Legal}
 use Rattle.rv_turn.specs.Histories.{mine, StartsWith}
 use Rattle.rv_turn.specs.Prefixes.{starts_self, starts_both}
 use Rattle.rv_meant.specs.Asks.{held_behind, HoldsMore, recorded_of}
@@ -26,9 +27,9 @@ use Rattle.rv_accounts.proofs.Growing.{without_later}
 use Rattle.rv_port.specs.Traces.{Passing, Trace, limits_in, noted, IsAnswered, EachAnswered, Asked}
 use Rattle.rv_port.specs.Composing.{each_both}
 use Rattle.rv_port.proofs.Actors.{catalogue-append}
-use Rattle.rv_went.specs.Ends.{RanSo, given_at, OwnEndsAreExplained}
-use Rattle.rv_went.proofs.Accounting.{each_at, so_far, final_stops, final_none}
-use Rattle.rv_went.proofs.Straying.{no_strays}
+use Rattle.rv_port.proofs.Ends.{RanSo, given_at}
+use Rattle.rv_port.proofs.Accounting.{each_at, so_far, final_stops, final_none}
+use Rattle.rv_port.proofs.Straying.{no_strays}
 
 no_act : (n m k t : ℕ) → n + 1 ≡ m → m + t ≡ k → k ≡ 0 → ⊥
 no_act n m k t e f g = omega (arith, e, f, g)
@@ -84,6 +85,9 @@ module _ (u body w : Passing) (trace : Trace) (log : List Event) (early opening 
   had_asked : HasAsked (history_at limits x.at) a (asked_at limits a u.seen) trace
   had_asked = record { has = has; due = λ done q r behind split final. is_due done q r behind split final }
 
+  legal_at : Legal (history_at limits x.at)
+  legal_at = subst (λ (l : Limits). Legal (history_at l x.at)) (ap (λ (z : Passing). limits_in z.about) k.went.same) x.legal
+
   not_left : HoldsMore trace → ⊥
   not_left h = let n : ℕ = held_behind 0 (early ++ opening) in let same : held_behind n trace ≡ n = k.back in let more : n < held_behind n trace = h n in omega (arith, same, more)
 
@@ -91,12 +95,19 @@ module _ (u body w : Passing) (trace : Trace) (log : List Event) (early opening 
   own_end o =
       let z : StartsWith x.at log = starts_both log u.seen x.at k.lent.from from_start in
       ⊎_elim (λ h. no_strays log u trace body k.lent.from k.went.steps h)
-      (λ h. ⊎_elim (λ m. absurd (not_left m)) (λ m. record { log = log; from = z; fit = k.lent.fit; explained = m }) h)
+      (λ h. ⊎_elim (λ m. absurd (not_left m)) (λ m. record { legal = legal_at; log = log; from = z; fit = k.lent.fit; explained = m }) h)
       (outer_ends (catalogue_of log) (bodies_at log) (history_at limits x.at) a early opening object operation values components left exit trace
       (record { fit = k.lent.fit; more = catalogue_of z.0; loaded = ap catalogue_of z.1 ∙ catalogue-append log z.0 })
       k.recorded k.loaded o k.along
       (subst (λ (l : Trace). HasAsked (history_at limits x.at) a l trace) k.asked had_asked))
 
-pub own_ends : OwnEndsAreExplained
+-- The end of that body, which is answered Done, is explained.
+pub own_ends :
+    (u body w : Passing) (trace : Trace) (log : List Event) (early opening : Trace) (object operation : ℕ) (values components left : List ℤ) (exit : Exit)
+    (request : Request) (next : Next)
+    → RanSo u log early opening object operation values components left exit trace body
+    → (x : Asked body request (Answers.Done next) w)
+    → StartsBody (catalogue_of x.at) u.actor opening object operation values components
+    → ExplainedEnd (limits_in u.about) u.actor x.at (given_at x.at object operation left) exit
 own_ends u body w trace log early opening object operation values components left exit request next k x o =
     own_end u body w trace log early opening object operation values components left exit request next k x o

@@ -53,7 +53,7 @@ same_asks limits a one other later w z e =
 
 -- Answers
 
-told_recorded : (d : Answer) (word : Recorded) → recorded (told d) ≡ Some word → told d ≡ d
+pub told_recorded : (d : Answer) (word : Recorded) → recorded (told d) ≡ Some word → told d ≡ d
 told_recorded Answers.Misuse word e = absurd (cc e)
 told_recorded Answers.Halted word e = refl
 told_recorded Answers.Full word e = refl

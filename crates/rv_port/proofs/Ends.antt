@@ -1,33 +1,22 @@
--- The ends that a port's body asked are explained in what the port has seen then (own).
+-- What is shown of the ends that a port's bodies asked.
 use Rattle.std.specs.Prelude.{◌≡◌, ℕ, ℤ, true, if◌then◌else◌, List, [], ◌∷◌, ◌++◌}
 use Rattle.rv_shape.specs.Catalogue.{target, shares}
-use Rattle.rv_event.specs.declared.entry.Answer.TheVariants as answer
 use Rattle.rv_event.specs.declared.entry.Exit.{Exit}
 use Rattle.rv_event.specs.declared.entry.Next.{Next}
 use Rattle.rv_event.specs.declared.entry.Recorded.TheVariants.{Done}
-use Rattle.rv_event.specs.declared.entry.Request.{Request}
 use Rattle.rv_event.specs.declared.entry.Request.TheVariants.{Complete}
 use Rattle.rv_fits.specs.Fits.{calls_fit}
 use Rattle.rv_exec.specs.Asking.{Trace, Along}
-use Rattle.rv_exec.specs.Tasks.{task_run}
-use Rattle.rv_turn.specs.Histories.{mine, StartsWith}
 use Rattle.rv_exec.specs.Blocks.{operation_run_at}
+use Rattle.rv_turn.specs.Histories.{StartsWith}
 use Rattle.rv_meant.specs.Asks.{held_behind, AreRecorded}
-use Rattle.rv_meant.specs.Explained.{StartsBody, on_protected}
-use Rattle.rv_behind.specs.Events.{by, bodies_at, catalogue_of}
+use Rattle.rv_meant.specs.Explained.{on_protected}
+use Rattle.rv_behind.specs.Events.{bodies_at, catalogue_of}
 use Rattle.rv_behind.specs.declared.event.Event.{Event}
 use Rattle.rv_behind.specs.declared.event.Event.TheVariants.{Asks}
-use Rattle.rv_accounts.specs.Seen.{asked_at}
 use Rattle.rv_accounts.specs.Explained.{ExplainedEnd}
-use Rattle.rv_port.specs.Traces.{Passing, limits_in, Asked, Went}
-
--- what the actor of a port asked so far, with the answers
-abbrev pub asked_so_far : Passing → Trace
-asked_so_far v = asked_at (limits_in v.about) v.actor v.seen
-
--- a port's own events are its actor's in all that it has seen, as ports keep
-abbrev pub Owns : Passing → Type 0
-Owns v = mine by v.actor v.seen ≡ v.base ++ v.own
+use Rattle.rv_port.specs.Held.{asked_so_far, Owns}
+use Rattle.rv_port.specs.Traces.{Passing, limits_in, Went}
 
 -- What a port has seen begins with this, of whose units it was lent the bodies, which fit.
 pub record IsLentBy (v : Passing) (log : List Event) : Type 0 where
@@ -35,32 +24,12 @@ pub record IsLentBy (v : Passing) (log : List Event) : Type 0 where
   pub from : StartsWith v.seen log
   pub fit : calls_fit (catalogue_of log) (bodies_at log) ≡ true
 
--- how many objects the actor holds by then
-abbrev pub held_by : Passing → ℕ
-held_by v = held_behind 0 (asked_so_far v)
-
 -- each end of the actor that came since in what was seen then is explained
 abbrev pub EndsSinceAreExplained : Passing → Passing → Type 0
 EndsSinceAreExplained v w =
     (before after : List Event) (scalars : List ℤ) (exit : Exit) (next : Next) → StartsWith before v.seen
     → w.seen ≡ before ++ Asks v.actor (Complete scalars exit) (Done next) ∷ after
     → ExplainedEnd (limits_in v.about) v.actor before scalars exit
-
--- Where a body ran on a port, of an actor that held so many objects, each end that came since is explained.
-abbrev pub BodiesLeaveEndsExplained : Type 0
-BodiesLeaveEndsExplained =
-    (v w : Passing) (trace : Trace) (log : List Event) (object operation : ℕ) (values components left : List ℤ) (exit : Exit)
-    → IsLentBy v log → Went v trace w → Owns w
-    → Along (operation_run_at (bodies_at log) (held_by v) object operation values components) trace (exit, left)
-    → EndsSinceAreExplained v w
-
--- the same of a task's text, before which its actor held nothing
-abbrev pub TextsLeaveEndsExplained : Type 0
-TextsLeaveEndsExplained =
-    (v w : Passing) (trace : Trace) (log : List Event) (budget : ℕ) (exit : Exit)
-    → IsLentBy v log → Went v trace w → Owns w → held_by v ≡ 0
-    → Along (task_run (bodies_at log) v.actor budget) trace exit
-    → EndsSinceAreExplained v w
 
 -- The body of an operation that started on a port ran, and asked this up to here: of the bodies that the port was lent, of an actor
 -- that asked first what was before the start, and then, as the last, what opened it. Its actor holds as many objects then as at the
@@ -77,13 +46,3 @@ pub record RanSo (u : Passing) (log : List Event) (early opening : Trace) (objec
 -- what an end gives of these scalars, none for a function (9.5.1)
 abbrev pub given_at : List Event → ℕ → ℕ → List ℤ → List ℤ
 given_at at object operation left = if shares (target (catalogue_of at) object operation) then [] else left
-
--- The end of that body, which is answered Done, is explained.
-abbrev pub OwnEndsAreExplained : Type 0
-OwnEndsAreExplained =
-    (u body w : Passing) (trace : Trace) (log : List Event) (early opening : Trace) (object operation : ℕ) (values components left : List ℤ) (exit : Exit)
-    (request : Request) (next : Next)
-    → RanSo u log early opening object operation values components left exit trace body
-    → (x : Asked body request (answer.Done next) w)
-    → StartsBody (catalogue_of x.at) u.actor opening object operation values components
-    → ExplainedEnd (limits_in u.about) u.actor x.at (given_at x.at object operation left) exit

@@ -17,6 +17,7 @@ use Rattle.rv_exec.specs.Tasks.{task_run}
 use Rattle.rv_history.specs.declared.limits.Limits.{Limits}
 use Rattle.rv_history.specs.Due.{out}
 use Rattle.rv_history.specs.History.{History}
+use Rattle.rv_history.specs.Legal.{Legal}
 use Rattle.rv_turn.specs.Histories.{mine, StartsWith}
 use Rattle.rv_turn.specs.Prefixes.{starts_both, mine-append}
 use Rattle.rv_exec.specs.Blocks.{operation_run_at}
@@ -36,15 +37,11 @@ use Rattle.rv_accounts.proofs.Growing.{without_later}
 use Rattle.rv_port.specs.Traces.{Passing, Trace, limits_in, noted, noted_if, IsAnswered, EachAnswered, Steps, Went}
 use Rattle.rv_port.specs.Composing.{noted-append}
 use Rattle.rv_port.proofs.Actors.{catalogue-append}
-use Rattle.rv_went.specs.Ends.{Owns, asked_so_far, held_by, IsLentBy, BodiesLeaveEndsExplained, TextsLeaveEndsExplained}
-use Rattle.rv_went.proofs.Accounting.{first_or, rest_of, compared, FoundIn, found, each_at, so_far, final_stops, final_none}
-use Rattle.rv_went.proofs.Straying.{no_strays}
-
--- Lists
-
-same_behind : (own xs ys : List Event) → own ++ xs ≡ own ++ ys → xs ≡ ys
-same_behind [] xs ys e = e
-same_behind (d ∷ own) xs ys e = same_behind own xs ys (ap (λ (l : List Event). rest_of l) e)
+use Rattle.rv_port.specs.Held.{asked_so_far, held_by, Owns}
+use Rattle.rv_port.proofs.Ends.{IsLentBy, EndsSinceAreExplained}
+use Rattle.rv_port.proofs.Fronts.{same_behind, at_own, each_own, before_noted, legal_before}
+use Rattle.rv_port.proofs.Accounting.{first_or, rest_of, compared, FoundIn, found, each_at, so_far, final_stops, final_none}
+use Rattle.rv_port.proofs.Straying.{no_strays}
 
 -- An end that is recorded was answered Done
 
@@ -52,7 +49,7 @@ abbrev next_or : Option Recorded → Next
 next_or (Some (Words.Done next)) = next
 next_or other = Nothing
 
-done_is : (r : Answer) (next : Next) → recorded r ≡ Some (Words.Done next) → r ≡ Answers.Done next
+pub done_is : (r : Answer) (next : Next) → recorded r ≡ Some (Words.Done next) → r ≡ Answers.Done next
 done_is (Answers.Done n) next e = ap (λ (o : Option Recorded). Answers.Done (next_or o)) e
 done_is (Answers.Started s) next e = absurd (cc e)
 done_is Answers.Queued next e = absurd (cc e)
@@ -109,36 +106,23 @@ module _ (v w : Passing) (trace : Trace) (log : List Event) (k : IsLentBy v log)
   abbrev the_end : Event
   the_end = Asks v.actor (Complete scalars exit) (Words.Done next)
 
-  all_mine : mine by a w.seen ≡ own ++ noted a trace
-  all_mine =
-      ap (λ (n : ℕ). mine by n w.seen) (sym (ap (λ (z : Passing). z.actor) went.same))
-      ∙ (owned ∙ ((λ i. (ap (λ (z : Passing). z.base) went.same) i ++ went.own i) ∙ sym (append_assoc v.base v.own (noted a trace))))
-
-  before_mine : mine by a before ≡ own ++ mine by a p.0
-  before_mine = ap (λ (l : List Event). mine by a l) p.1 ∙ (mine-append by a v.seen p.0 ∙ ap (λ (l : List Event). l ++ mine by a p.0) k.owns)
-
-  end_mine : mine by a (the_end ∷ after) ≡ the_end ∷ mine by a after
-  end_mine = ap (λ (b : Bool). cond b (the_end ∷ mine by a after) (mine by a after)) (eq-eqb a a refl)
-
-  noted_is : noted a trace ≡ mine by a p.0 ++ the_end ∷ mine by a after
-  noted_is = same_behind own (noted a trace) (mine by a p.0 ++ the_end ∷ mine by a after)
-      (sym all_mine ∙ (ap (λ (l : List Event). mine by a l) e ∙ (mine-append by a before (the_end ∷ after)
-      ∙ ((λ i. before_mine i ++ end_mine i) ∙ append_assoc own (mine by a p.0) (the_end ∷ mine by a after)))))
-
   pub at_end : FoundIn a trace (mine by a p.0) (Complete scalars exit) (Words.Done next)
-  at_end = found a trace (mine by a p.0) (mine by a after) (Complete scalars exit) (Words.Done next) noted_is
+  at_end = at_own v w trace k.owns owned went before after (Complete scalars exit) (Words.Done next) p e
 
   abbrev end_pair : Request × Answer
   end_pair = (Complete scalars exit, at_end.answer)
 
   each : EachAnswered limits a v.seen w.seen w.left own (at_end.before ++ end_pair ∷ at_end.after)
-  each = subst (λ (l : Trace). EachAnswered limits a v.seen w.seen w.left own l) at_end.trace_is went.each
+  each = each_own v w trace k.owns owned went before after (Complete scalars exit) (Words.Done next) p e
 
-  before_noted : mine by a before ≡ own ++ noted a at_end.before
-  before_noted = before_mine ∙ ap (λ (l : List Event). own ++ l) (sym at_end.noted_is)
+  noted_before : mine by a before ≡ own ++ noted a at_end.before
+  noted_before = before_noted v w trace k.owns owned went before after (Complete scalars exit) (Words.Done next) p e
+
+  pub legal_end : Legal (history_at limits before)
+  legal_end = legal_before v w trace k.owns owned went before after (Complete scalars exit) (Words.Done next) p e
 
   has : asked_at limits a before ≡ asked_at limits a v.seen ++ recorded_of at_end.before
-  has = so_far limits a v.seen w.seen w.left own v.seen before at_end.before (end_pair ∷ at_end.after) each went.later k.owns (the_end ∷ after, e) before_noted
+  has = so_far limits a v.seen w.seen w.left own v.seen before at_end.before (end_pair ∷ at_end.after) each went.later k.owns (the_end ∷ after, e) noted_before
 
   abbrev IsDue : Trace → Request → Type 0
   IsDue done q =
@@ -164,7 +148,7 @@ module _ (v w : Passing) (trace : Trace) (log : List Event) (k : IsLentBy v log)
           ap (λ (l : List Event). mine by a l) h ∙ (mine-append by a before (d ∷ ds) ∙ ap (λ (z : Event). mine by a before ++ mine by a (z ∷ ds)) i
           ∙ ap (λ (b : Bool). mine by a before ++ cond b (the_end ∷ mine by a ds) (mine by a ds)) (eq-eqb a a refl)) in
           let one : own ++ noted a done ≡ (own ++ (noted a done ++ noted a ((q, r) ∷ behind))) ++ the_end ∷ mine by a ds =
-          sym x.own_is ∙ (m ∙ ap (λ (l : List Event). l ++ the_end ∷ mine by a ds) (before_noted ∙ ap (λ (l : List Event). own ++ l) noted_more)) in
+          sym x.own_is ∙ (m ∙ ap (λ (l : List Event). l ++ the_end ∷ mine by a ds) (noted_before ∙ ap (λ (l : List Event). own ++ l) noted_more)) in
           longer own (noted a done) (noted a ((q, r) ∷ behind)) (mine by a ds) the_end one
 
       front : (rest : List Event) → x.at ≡ before ++ rest → StartsWith before x.at
@@ -202,9 +186,14 @@ module _ (v w : Passing) (trace : Trace) (log : List Event) (k : IsLentBy v log)
   pub end_explained : Strays (callee_fits (catalogue_of log)) at_end.before ⊎ MeantEnd (catalogue_of log) (bodies_at log) (history_at limits before) a scalars exit → ExplainedEnd limits a before scalars exit
   end_explained s =
       let t = steps_front v at_end.before (end_pair ∷ at_end.after) w (subst (λ (l : Trace). Steps v l w) at_end.trace_is went.steps) in
-      ⊎_elim (λ h. no_strays log v at_end.before t.0 k.from t.1 h) (λ h. record { log = log; from = starts_both log v.seen before k.from p; fit = k.fit; explained = h }) s
+      ⊎_elim (λ h. no_strays log v at_end.before t.0 k.from t.1 h) (λ h. record { legal = legal_end; log = log; from = starts_both log v.seen before k.from p; fit = k.fit; explained = h }) s
 
-pub bodies_leave : BodiesLeaveEndsExplained
+-- Where a body ran on a port, of an actor that held so many objects, each end that came since is explained.
+pub bodies_leave :
+    (v w : Passing) (trace : Trace) (log : List Event) (object operation : ℕ) (values components left : List ℤ) (exit : Exit)
+    → IsLentBy v log → Went v trace w → Owns w
+    → Along (operation_run_at (bodies_at log) (held_by v) object operation values components) trace (exit, left)
+    → EndsSinceAreExplained v w
 bodies_leave v w trace log object operation values components left exit k went owned run before after scalars ended next p e =
     let f = at_end v w trace log k went owned before after scalars ended next p e in
     end_explained v w trace log k went owned before after scalars ended next p e
@@ -213,7 +202,12 @@ bodies_leave v w trace log object operation values components left exit k went o
     (subst (λ (l : Trace). Along (operation_run_at (bodies_at log) (held_by v) object operation values components) l (exit, left)) (trace_at v w trace log k went owned before after scalars ended next p e) run)
     (had_asked v w trace log k went owned before after scalars ended next p e))
 
-pub texts_leave : TextsLeaveEndsExplained
+-- the same of a task's text, before which its actor held nothing
+pub texts_leave :
+    (v w : Passing) (trace : Trace) (log : List Event) (budget : ℕ) (exit : Exit)
+    → IsLentBy v log → Went v trace w → Owns w → held_by v ≡ 0
+    → Along (task_run (bodies_at log) v.actor budget) trace exit
+    → EndsSinceAreExplained v w
 texts_leave v w trace log budget exit k went owned none run before after scalars ended next p e =
     let f = at_end v w trace log k went owned before after scalars ended next p e in
     end_explained v w trace log k went owned before after scalars ended next p e
