@@ -211,14 +211,17 @@ module _ (v w : Passing) (trace : Trace) (log : List Event) (k : IsLentBy v log)
     stopped : (y : IsAnswered limits a v.seen (own ++ noted a done) w.seen q r) → stops_bodies (out (history_at limits y.at) a q) ≡ true → is_final r ≡ true → IsAccounted limits a w.left log w.seen done q r behind
     stopped y stops final =
         let to_at : StartsWith w.seen y.at = subst (λ (o : Option Recorded). StartsWith w.seen (entered y.at a q o)) (final_none r final) y.to in
-        inr (inl (final, record {
-          front = y.at;
-          later = starts_both log v.seen y.at k.from y.from;
-          seen_then = to_at;
-          legal = y.legal;
-          had_asked = so_far limits a v.seen w.seen w.left own v.seen y.at done ((q, r) ∷ behind) here went.later k.owns to_at y.own_is ∙ ap (λ (l : Trace). l ++ recorded_of done) nothing;
-          due = stops;
-        }))
+        inr (inl (
+          final,
+          record {
+            front = y.at;
+            later = starts_both log v.seen y.at k.from y.from;
+            seen_then = to_at;
+            legal = y.legal;
+            had_asked = so_far limits a v.seen w.seen w.left own v.seen y.at done ((q, r) ∷ behind) here went.later k.owns to_at y.own_is ∙ ap (λ (l : Trace). l ++ recorded_of done) nothing;
+            due = stops;
+          },
+        ))
 
     answered : IsAnswered limits a v.seen (own ++ noted a done) w.seen q r → IsAccounted limits a w.left log w.seen done q r behind
     answered y =

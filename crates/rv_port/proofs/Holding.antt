@@ -147,7 +147,7 @@ none_more xs e h = let l : length xs ≡ length (xs ++ e ∷ []) = ap length h i
 pub borrow_own : (v w : Passing) (reply : Reply) → Acted by Does v Wants.Bodies reply w → w.own ≡ v.own
 borrow_own v w reply x = ⊎_elim (λ y. y.1) (λ y. absurd (none_more x.at y.0 (sym (bodies_same x.about x.at v.actor reply w.seen x.answer.1) ∙ y.2))) x.entry
 
-counts_borrowed : (v w : Passing) (reply : Reply) (held : ℕ) → Acted by Does v Wants.Bodies reply w → Owns v → held ≡ held_by v → held ≡ held_by w
+pub counts_borrowed : (v w : Passing) (reply : Reply) (held : ℕ) → Acted by Does v Wants.Bodies reply w → Owns v → held ≡ held_by v → held ≡ held_by w
 counts_borrowed v w reply held x owns counts =
     stays_counted v w held (ap (λ (z : Passing). z.about) x.same) (ap (λ (z : Passing). z.actor) x.same) (ap (λ (z : Passing). z.base) x.same) (borrow_own v w reply x) (later_entry x.at v.seen v w x.later x.entry) owns x.owns counts
 

@@ -29,6 +29,7 @@ pub(crate) struct Asker {
     // How many objects the actor holds.
     pub(crate) held: u64,
     pub(crate) ghost given: { pass.first ≡ false },
+    pub(crate) ghost fresh: { pass.base ≡ [] },
     pub(crate) ghost limited: { is_some pass.about ≡ true },
     pub(crate) ghost handles: { HasHandler (catalogue_of pass.seen) pass.actor },
     pub(crate) ghost owns: { mine by pass.actor pass.seen ≡ pass.base ++ pass.own },

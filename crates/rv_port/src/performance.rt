@@ -2,6 +2,7 @@
 
 ghost use Rattle.std.specs.Prelude.{◌≡◌, ◌==◌};
 ghost use Rattle.rv_port.specs.Calls.{EndsIf, Waited, Performed, Stays, Tied};
+ghost use Rattle.rv_port.specs.Ends.{ExplainedUnless};
 ghost use Rattle.rv_port.specs.Reaching.{Performs};
 
 use crate::asker::Asker;
@@ -104,6 +105,7 @@ impl Asker {
         ensures performed { Performed self.old.pass self.old.is_refused request.now result self.new.pass self.new.is_refused }
         ensures tied { Tied self.old.pass request.now result self.new.pass }
         ensures stays { Stays self.old.pass self.new.pass }
+        ensures explains { ExplainedUnless self.old.is_refused self.old.pass → ExplainedUnless self.new.is_refused self.new.pass }
     {
         self.go(rt, gate, request)
     }
