@@ -232,8 +232,8 @@ module _ (v w : Passing) (trace : Trace) (log : List Event) (k : IsLentBy v log)
     accounted = ⊎_elim (λ y. answered y) (λ y. inr (inr (y.0, y.1, none_recorded a behind y.2))) (each_at limits a v.seen w.seen w.left own done q r behind here)
 
   -- each event of the actor came with the text
-  pub due : OwnAreDue limits a w.seen
-  due before after q word e =
+  pub own_due : OwnAreDue limits a w.seen
+  own_due before after q word e =
       ⊎_elim (λ h. absurd (not_mine a q word before h.0 (sym (ap (λ (l : List Event). mine by a l) h.1) ∙ (k.owns ∙ none))))
       (λ h. legal_with v w trace k.owns owned went before after q word (h.0, h.1) e)
       (place_of (Asks a q word) v.seen went.later.0 before after (sym went.later.1 ∙ e))
@@ -255,6 +255,6 @@ texts_follow v w trace log since budget exit k begins has went owned none task r
   exit = exit;
   along = run;
   entries = entries v w trace log k has went owned none;
-  due = due v w trace log k has went owned none;
+  due = own_due v w trace log k has went owned none;
   each = λ before request answer behind split. accounted v w trace log k has went owned none before request answer behind split;
 }

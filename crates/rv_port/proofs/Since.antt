@@ -106,7 +106,7 @@ module _ (v w : Passing) (trace : Trace) (log : List Event) (k : IsLentBy v log)
   abbrev the_end : Event
   the_end = Asks v.actor (Complete scalars exit) (Words.Done next)
 
-  pub at_end : FoundIn a trace (mine by a p.0) (Complete scalars exit) (Words.Done next)
+  abbrev pub at_end : FoundIn a trace (mine by a p.0) (Complete scalars exit) (Words.Done next)
   at_end = at_own v w trace k.owns owned went before after (Complete scalars exit) (Words.Done next) p e
 
   abbrev end_pair : Request × Answer

@@ -75,7 +75,7 @@ queue_at : (v u k : Passing) (o p : ℕ) (vs : List ℤ) (r : Answer) → Waits 
 queue_at v u k o p vs r a x = in_queue_at (limits_in u.about) u.actor u.seen x.at (u.base ++ u.own) a.asked.at o p vs x.from (here v u (Call o p vs) Words.Queued a) a.asked.owns x.owned
 
 -- it is still at its pause
-pause_at : (v u k : Passing) (q : Request) (wait : Recorded) (r : Answer) → Waits v q wait u → IsPause q wait → (x : Asked u Resume r k) → paused (stance u.actor (history_at (limits_in u.about) x.at).past) ≡ true
+pub pause_at : (v u k : Passing) (q : Request) (wait : Recorded) (r : Answer) → Waits v q wait u → IsPause q wait → (x : Asked u Resume r k) → paused (stance u.actor (history_at (limits_in u.about) x.at).past) ≡ true
 pause_at v u k q wait r a pause x = paused_at (limits_in u.about) u.actor u.seen x.at (u.base ++ u.own) a.asked.at q wait x.from (here v u q wait a) a.asked.owns x.owned pause x.legal
 
 -- the resume of one that waits is no misuse
@@ -151,7 +151,7 @@ after_pause : (v u w : Passing) (m f : Bool) (q : Request) (wait : Recorded) (re
 after_pause v u w m f q wait reached h a t = ⊎_elim (λ wore. wore_then v u w q wait reached a wore.0)
     (λ x. tied_pause v u x.1 w m f q wait x.0 x.2.at reached a h x.2 (resumed_so u x.1 x.0 x.2) x.3 x.4) t
 
-suspends : (q : Request) → calls q ≡ true → IsPause q Words.Suspended
+pub suspends : (q : Request) → calls q ≡ true → IsPause q Words.Suspended
 suspends (Call o p vs) e = tt
 suspends (DelayUntil time) e = absurd (cc e)
 suspends Clock e = absurd (cc e)
@@ -162,7 +162,7 @@ suspends Quit e = absurd (cc e)
 suspends (Tick n) e = absurd (cc e)
 suspends Halt e = absurd (cc e)
 
-delayed : (q : Request) → delays q ≡ true → IsPause q Words.Delayed
+pub delayed : (q : Request) → delays q ≡ true → IsPause q Words.Delayed
 delayed (DelayUntil time) e = tt
 delayed (Call o p vs) e = absurd (cc e)
 delayed Clock e = absurd (cc e)

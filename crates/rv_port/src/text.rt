@@ -60,7 +60,6 @@ impl Asker {
     }
 
     // Runs the text of the actor's task, if it holds nothing.
-    #[tactic(auto, using(crate::proofs::Texts::ran_lent))]
     fn go_on<R: Wait>(&mut self, rt: &R, budget: u32) -> Exit
         ensures { TextRan self.old.pass self.old.is_refused budget result self.new.pass self.new.is_refused }
     {
