@@ -162,3 +162,6 @@ few_lent v w (Err e) held most x few = subst (λ (z : Passing). held + z.left < 
 -- a new port holds nothing
 pub counts_new : (v : Passing) → Owns v → v.base ≡ [] → v.own ≡ [] → 0 ≡ held_by v
 counts_new v owns base own = sym (ap (λ (t : Trace). held_behind 0 t) (asks_stay (limits_in v.about) v.actor [] v.seen (v.seen, refl) (owns ∙ (λ i. base i ++ own i))))
+
+pub few_new : (n most : ℕ) → n < most → 0 + n < most
+few_new n most e = omega (arith, e)

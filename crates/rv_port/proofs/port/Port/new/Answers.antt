@@ -1,5 +1,5 @@
 use Rattle.rv_port.proofs.Asked.{new_explained}
-use Rattle.rv_port.proofs.Holding.{counts_new}
+use Rattle.rv_port.proofs.Holding.{counts_new, few_new}
 use Rattle.rv_port.proofs.port.Port.new.Goals as goal
 
 pub invariant_of-result : goal.invariant_of-result
@@ -10,7 +10,7 @@ invariant_of-result c = record {
   handles = c.requires.handles;
   owns = c.requires.owns;
   counts = counts_new c.args.pass c.requires.owns c.requires.fresh c.requires.none;
-  few = c.requires.few;
+  few = few_new c.args.pass.left _ c.requires.few;
 }
 
 pub invariant_of-result-2 : goal.invariant_of-result-2
