@@ -1,11 +1,11 @@
 -- What a start gives.
-use Rattle.std.proofs.Common.{◌≡◌, ℕ, ◌-◌, ℤ, List, Bool, true, false, cond, refl, sym, ap, ◌∙◌, subst, Option, Some, None}
-use Rattle.std.specs.Prelude.{◌&&◌, not, pos, int_le}
-use Rattle.rv_shape.specs.Catalogue.{OperationNumber, Target, Nowhere, OnProtected, OnSuspension, target, handler, is_function}
+use Rattle.std.proofs.Common.{◌≡◌, ℕ, ℤ, List, Bool, true, false, cond, refl, sym, subst, Option, Some, None}
+use Rattle.std.specs.Prelude.{◌&&◌, not}
+use Rattle.rv_shape.specs.Catalogue.{OperationNumber, Target, Nowhere, OnProtected, OnSuspension, target, is_function}
 use Rattle.rv_shape.specs.declared.suspension.SuspensionOperation.{SuspensionOperation}
 use Rattle.rv_shape.specs.declared.suspension.SuspensionOperation.TheVariants.{SetTrue, SetFalse, CurrentState, SuspendUntilTrue}
 use Rattle.rv_event.specs.Recorded.{recorded}
-use Rattle.rv_event.specs.Past.{clock, halted, innermost, scalars, stance, state}
+use Rattle.rv_event.specs.Past.{halted, innermost, scalars, stance, state}
 use Rattle.rv_event.specs.declared.entry.Answer.{Answer}
 use Rattle.rv_event.specs.declared.entry.Answer.TheVariants as Answers
 use Rattle.rv_event.specs.declared.entry.Request.{Request}

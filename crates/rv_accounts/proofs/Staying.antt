@@ -1,7 +1,5 @@
 -- What is explained stays explained.
-use Rattle.std.proofs.Common.{◌≡◌, ⊎_elim, ℕ, ℤ, List, [], ◌∷◌, ◌++◌, Bool, true, false, cond, eqb, eq-eqb, refl, sym, ap, ◌∙◌, subst, append_assoc}
-use Rattle.rv_event.specs.declared.entry.Exit.{Exit}
-use Rattle.rv_event.specs.declared.entry.Next.{Next}
+use Rattle.std.proofs.Common.{◌≡◌, ⊎_elim, ℕ, List, [], ◌∷◌, ◌++◌, Bool, true, false, cond, eqb, eq-eqb, refl, sym, ap, ◌∙◌, subst, append_assoc}
 use Rattle.rv_event.specs.declared.entry.Recorded.{Recorded}
 use Rattle.rv_event.specs.declared.entry.Recorded.TheVariants.{Done}
 use Rattle.rv_event.specs.declared.entry.Request.{Request}

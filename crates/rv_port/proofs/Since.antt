@@ -1,5 +1,5 @@
 -- The ends that came since are explained.
-use Rattle.std.proofs.Common.{◌≡◌, ◌⊎◌, inl, inr, ⊎_elim, ℕ, ◌+◌, ℤ, List, [], ◌∷◌, ◌++◌, length, Bool, true, cond, eq-eqb, refl, sym, ap, ◌∙◌, subst, append_assoc, append-nil, length-append, arith, reverse, Option, Some}
+use Rattle.std.proofs.Common.{◌≡◌, ◌⊎◌, ⊎_elim, ℕ, ◌+◌, ℤ, List, [], ◌∷◌, ◌++◌, length, Bool, true, cond, eq-eqb, refl, sym, ap, ◌∙◌, subst, append_assoc, append-nil, length-append, arith, reverse, Option, Some}
 use Rattle.rv_event.specs.Recorded.{recorded}
 use Rattle.rv_event.specs.declared.entry.Answer.{Answer}
 use Rattle.rv_event.specs.declared.entry.Answer.TheVariants as Answers
@@ -40,7 +40,7 @@ use Rattle.rv_port.proofs.Actors.{catalogue-append}
 use Rattle.rv_port.specs.Held.{asked_so_far, held_by, Owns}
 use Rattle.rv_port.proofs.Ends.{IsLentBy, EndsSinceAreExplained}
 use Rattle.rv_port.proofs.Fronts.{same_behind, at_own, each_own, before_noted, legal_before}
-use Rattle.rv_port.proofs.Accounting.{first_or, rest_of, compared, FoundIn, found, each_at, so_far, final_stops, final_none}
+use Rattle.rv_port.proofs.Accounting.{first_or, compared, FoundIn, each_at, so_far, final_stops, final_none}
 use Rattle.rv_port.proofs.Straying.{no_strays}
 
 -- An end that is recorded was answered Done

@@ -1,5 +1,5 @@
 -- On what a start, or a wait in a queue, is due.
-use Rattle.std.proofs.Common.{◌≡◌, ℕ, ◌-◌, ℤ, List, ◌++◌, Bool, true, false, cond, refl, sym, ap, ◌∙◌, subst, Option, Some, None}
+use Rattle.std.proofs.Common.{◌≡◌, ℕ, ◌-◌, ℤ, List, ◌++◌, Bool, true, false, cond, refl, sym, ap, ◌∙◌, Option, Some, None}
 use Rattle.std.specs.Prelude.{◌&&◌, not, pos, int_le}
 use Rattle.rv_shape.specs.Shape.{Shape}
 use Rattle.rv_shape.specs.Catalogue.{OperationNumber, UnitObject, Target, Nowhere, OnProtected, OnSuspension, target, at_unit_object, place, shares, is_function, is_entry, handler}
@@ -15,7 +15,7 @@ use Rattle.rv_event.specs.declared.entry.Answer.TheVariants as Answers
 use Rattle.rv_event.specs.declared.entry.Request.{Request}
 use Rattle.rv_event.specs.declared.entry.Request.TheVariants.{Call, DelayUntil, Clock, Fire}
 use Rattle.rv_event.specs.declared.entry.Rule.TheVariants as Rules
-use Rattle.rv_history.specs.Due.{out, due, table, gate, within, enough, goes_on, judged, suspended, performed, due_call, due_fire, nothing_more}
+use Rattle.rv_history.specs.Due.{out, due, table, gate, within, enough, goes_on, judged, performed, due_call, due_fire, nothing_more}
 use Rattle.rv_history.specs.Exclusion.{is_barred, is_open}
 use Rattle.rv_history.specs.Fitting.{fits}
 use Rattle.rv_history.specs.History.{History, version}
