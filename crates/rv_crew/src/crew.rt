@@ -252,7 +252,6 @@ impl Crew {
     /// actors whose ports came back and were lost. Of a lost port it has what it did before. The ports
     /// are of this control. Each end of a port that came back is what its text means, unless bodies
     /// were refused to it. Where there is no memory, crew and control come back.
-    #[tactic(auto, using(crate::proofs::Closes::closed_by))]
     pub fn close<R: Wait>(self, rt: &R, control: Control) -> Result<Closed, StillOpen>
         requires joined { self.running ≡ [] }
         requires turn { IsOfTurn control.turn self }
