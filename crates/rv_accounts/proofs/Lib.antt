@@ -1,2 +1,4 @@
 pub mod Growing
 pub mod Staying
+pub mod FollowedLater
+pub mod Giving

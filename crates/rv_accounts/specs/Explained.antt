@@ -6,16 +6,17 @@ use Rattle.rv_event.specs.declared.entry.Recorded.TheVariants.{Done}
 use Rattle.rv_event.specs.declared.entry.Request.TheVariants.{Complete}
 use Rattle.rv_fits.specs.Fits.{calls_fit}
 use Rattle.rv_history.specs.declared.limits.Limits.{Limits}
+use Rattle.rv_history.specs.Legal.{Legal}
 use Rattle.rv_turn.specs.Histories.{StartsWith, mine}
 use Rattle.rv_meant.specs.Explained.{MeantEnd}
 use Rattle.rv_behind.specs.Events.{by, bodies_at, catalogue_of, history_at}
 use Rattle.rv_behind.specs.declared.event.Event.{Event}
 use Rattle.rv_behind.specs.declared.event.Event.TheVariants.{Asks}
 
--- An end of an actor behind a history of a turn is what its body means, of the bodies of all units loaded in one with which that
--- history begins, and of which one has the operation; their calls fit these units. Where each load brings its unit's bodies
--- (Loads), that body is the one that came with the operation's unit.
+-- An end of an actor, behind what was seen before it, which is legal, is explained: with some front of that history the
+-- operation's unit is loaded, all calls of the bodies loaded there fit, and by these bodies the end is meant.
 pub record ExplainedEnd (limits : Limits) (actor : ℕ) (before : List Event) (scalars : List ℤ) (exit : Exit) : Type 0 where
+  pub legal : Legal (history_at limits before)
   pub log : List Event
   pub from : StartsWith before log
   pub fit : calls_fit (catalogue_of log) (bodies_at log) ≡ true

@@ -1,2 +1,4 @@
 pub mod Seen
 pub mod Explained
+pub mod Followed
+pub mod Given

@@ -1,8 +1,11 @@
 -- What an actor asked in what was seen, with the answers that were due (own).
 use Rattle.std.specs.Prelude.{◌≡◌, ℕ, ◌==◌, if◌then◌else◌, List, [], ◌∷◌, ◌++◌}
+use Rattle.rv_event.specs.declared.entry.Recorded.{Recorded}
+use Rattle.rv_event.specs.declared.entry.Request.{Request}
 use Rattle.rv_exec.specs.Asking.{Trace}
 use Rattle.rv_history.specs.declared.limits.Limits.{Limits}
 use Rattle.rv_history.specs.Due.{out}
+use Rattle.rv_history.specs.Legal.{Legal}
 use Rattle.rv_turn.specs.Histories.{StartsWith, mine}
 use Rattle.rv_meant.specs.Histories.{asks_of}
 use Rattle.rv_behind.specs.Events.{by, history_at}
@@ -12,6 +15,12 @@ use Rattle.rv_behind.specs.declared.event.Event.TheVariants.{Asks, Loads, Lists}
 -- the asks of an actor in a history of a turn, the oldest first
 abbrev pub asked_at : Limits → ℕ → List Event → Trace
 asked_at limits actor log = asks_of actor (history_at limits log)
+
+-- in what was seen each event of the actor has the answer that was due, on a legal history
+abbrev pub OwnAreDue : Limits → ℕ → List Event → Type 0
+OwnAreDue limits actor seen =
+    (before after : List Event) (request : Request) (word : Recorded)
+    → seen ≡ before ++ Asks actor request word ∷ after → Legal (history_at limits (before ++ Asks actor request word ∷ []))
 
 -- an event of the actor, with the answer that was due behind this history
 abbrev pub own_event : Limits → ℕ → List Event → Event → Trace

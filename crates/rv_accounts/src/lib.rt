@@ -2,6 +2,8 @@
 #![tactic(auto)]
 
 ghost use Rattle.rv_accounts.specs.Explained.{ExplainedStays, NothingToExplain, OthersExplainNothing};
+ghost use Rattle.rv_accounts.specs.Followed.{FollowedStays};
+ghost use Rattle.rv_accounts.specs.Given.{CallsGiveScalars, FiresGiveScalars, ResumesGiveScalars};
 ghost use Rattle.rv_accounts.specs.Seen.{AsksGrow, AsksStay};
 
 /// An event more in a history is an ask more, where it is the actor's.
@@ -27,4 +29,17 @@ pub fn explained_stays()
 /// So it is whatever others add.
 pub fn others_explain_nothing()
     ensures { OthersExplainNothing }
+{}
+
+/// And a task's text that is followed in what was seen stays so, whatever others add.
+pub fn followed_stays()
+    ensures { FollowedStays }
+{}
+
+/// What a start gives is what its object has in the history, also when a caller that waited wakes: so the components that an
+/// end is explained on are the history's own.
+pub fn starts_give_the_scalars()
+    ensures calls { CallsGiveScalars }
+    ensures fires { FiresGiveScalars }
+    ensures resumes { ResumesGiveScalars }
 {}

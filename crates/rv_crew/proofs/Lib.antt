@@ -1,3 +1,4 @@
 pub mod Joins
 pub mod Doing
 pub mod Turns
+pub mod Closes

@@ -1,9 +1,13 @@
 -- What the calls of a crew leave. (own)
-use Rattle.std.specs.Prelude.{◌≡◌, ℕ, ◌-◌, map, List, [], ◌∷◌, ◌++◌}
+use Rattle.std.specs.Prelude.{◌≡◌, ℕ, ◌-◌, false, map, List, [], ◌∷◌, ◌++◌}
+use Rattle.rv_turn.specs.Histories.{Each}
 use Rattle.rv_turn.specs.Passes.{Noted}
-use Rattle.rv_port.specs.Traces.{Passing}
-use Rattle.rv_port.specs.Ports.{Porting, pass_of}
+use Rattle.rv_accounts.specs.Explained.{Explained}
+use Rattle.rv_port.specs.Controls.{IsPorts}
+use Rattle.rv_port.specs.Traces.{Passing, limits_in}
+use Rattle.rv_port.specs.Ports.{Porting, pass_of, IsExplained}
 use Rattle.rv_port.specs.Closing.{IsClosed}
+use Rattle.rv_behind.specs.Events.{log_of}
 use Rattle.rv_behind.specs.declared.event.Event.{Event}
 use Rattle.rv_crew.specs.Teams.{Owed, Team}
 use Rattle.rv_crew.specs.declared.job.Job.{Job}
@@ -62,9 +66,19 @@ module _ {X : Type 0} {F : X → Type 0} {m : Mut ((x : X) × F x) (Port × Unit
 abbrev pub Joins : List Porting → List Owed → List Porting → Type 0
 Joins before running after = (back : List Porting) × (map told_of back ≡ running) × (after ≡ before ++ back)
 
+-- what every port keeps that is done
+abbrev pub Keeps : Porting → Type 0
+Keeps p = IsPorts (pass_of p) × IsExplained p
+
+-- each end of the port's actor in a history that keeps what the port had seen is what its text means, unless bodies were refused
+-- to the port (own)
+abbrev pub ExplainedIn : List Event → Porting → Type 0
+ExplainedIn log p = p.refused ≡ false → Explained (limits_in p.about) log p.actor
+
 -- What a crew leaves: the host at the close of the control and of each port that came back, which keeps what the lost ports
--- had seen; and who these and the lost are. (own)
+-- had seen; and who these and the lost are. In its journal the ends of each that came back are explained by their texts. (own)
 pub record IsClosedBy (crew : Team) (control : Passing) (closed : Closed) : Type 0 where
   pub host : IsClosed control (map pass_of crew.joined) crew.noted closed.host
   pub finished : closed.finished.items ≡ map actor_of crew.joined
   pub lost : closed.lost.items ≡ crew.lost
+  pub explained : Each (ExplainedIn (log_of closed.host host.units)) crew.joined

@@ -3,7 +3,8 @@
 ghost use Rattle.std.specs.Prelude.{◌≡◌, ◌==◌, ◌+◌, ◌≤◌, [], false, map, reverse, length, vec_len, IfOk, IfErr, IfSome, OnOk, OnErr};
 ghost use Rattle.std.specs.Vec.{vec_capacity};
 ghost use Rattle.rv_crew.specs.Teams.{IsOfTurn, no_threads};
-ghost use Rattle.rv_crew.specs.Crews.{Joins, IsStartFault, IsClosedBy, actor_of, with_started, given_up, with_joined, owed};
+ghost use Rattle.rv_turn.specs.Histories.{Each};
+ghost use Rattle.rv_crew.specs.Crews.{Keeps, Joins, IsStartFault, IsClosedBy, actor_of, with_started, given_up, with_joined, owed};
 
 use crate::job::{Job, OfPort};
 use rv_exec::machine::STACK_BYTES;
@@ -141,6 +142,15 @@ fn actors_of(alloc: Global, ports: &[Finished]) -> Result<Vec<u64>, AllocError>
     Ok(actors)
 }
 
+// Does nothing. Its clause says what each of these ports keeps.
+fn keep_all(ports: &[Finished])
+    ensures { Each (λ p. Keeps p) ports.now }
+{
+    for port in ports {
+        port.keeps();
+    }
+}
+
 impl Crew {
     /// A crew without threads.
     pub fn new(alloc: Global) -> Crew
@@ -240,13 +250,15 @@ impl Crew {
 
     /// The host, whose journal has all that the control and the ports of this crew did, and the
     /// actors whose ports came back and were lost. Of a lost port it has what it did before. The ports
-    /// are of this control. Where there is no memory, crew and control come back.
+    /// are of this control. Each end of a port that came back is what its text means, unless bodies
+    /// were refused to it. Where there is no memory, crew and control come back.
     pub fn close<R: Wait>(self, rt: &R, control: Control) -> Result<Closed, StillOpen>
         requires joined { self.running ≡ [] }
         requires turn { IsOfTurn control.turn self }
         ensures ok { IfOk result (λ closed. IsClosedBy self control closed) }
         ensures err { IfErr result (λ still. (still.crew ≡ self) × (still.control ≡ control)) }
     {
+        keep_all(self.joined.as_slice());
         let Ok(finished) = actors_of(self.alloc, self.joined.as_slice()) else {
             return Err(StillOpen {
                 crew: self,

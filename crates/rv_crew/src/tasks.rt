@@ -1,10 +1,11 @@
 //! What jobs do: plain functions, each of which takes a port and gives it back done.
 
 ghost use Rattle.std.specs.Prelude.{◌≡◌, ℕ};
-ghost use Rattle.rv_port.specs.Ports.{Porting, pass_of};
+ghost use Rattle.rv_port.specs.Following.{FollowsUnless};
+ghost use Rattle.rv_port.specs.Ports.{Porting, pass_of, IsExplained};
 ghost use Rattle.rv_event.specs.declared.entry.Exit.{Exit};
 ghost use Rattle.rv_port.specs.Calls.{Quits, Stays};
-ghost use Rattle.rv_port.specs.Texts.{TextRan};
+ghost use Rattle.rv_port.specs.Texts.{LeavesText, TextRan};
 ghost use Rattle.rv_crew.specs.Tasks.{Calls, Fires, goes_on};
 
 use crossbeam_channel::Receiver;
@@ -36,13 +37,15 @@ fn make_calls<R: Wait>(rt: &R, port: &mut Port, object: usize, operation: usize,
 }
 
 /// The job of a task with a text: it runs the text to its end (9.2, 9.3), with so many requests of
-/// its own, and finishes.
+/// its own, and finishes. What its actor asked is then what the text asks.
 pub fn text_task<R: Wait>(rt: &R, mut port: Port, budget: u32) -> Finished
-    ensures ran { (exit : Exit) × (done : Porting) × TextRan (pass_of port) port.refused budget exit (pass_of done) done.refused × Quits (pass_of done) (pass_of result) }
+    ensures ran { (exit : Exit) × (done : Porting) × TextRan (pass_of port) port.refused budget exit (pass_of done) done.refused × LeavesText done.refused (pass_of done) (pass_of result) }
     ensures stays { Stays (pass_of port) (pass_of result) }
+    ensures explained { IsExplained result }
+    ensures followed { FollowsUnless result.refused budget (pass_of port) (pass_of result) }
 {
     port.run_text(rt, budget);
-    port.finish(rt)
+    port.finish_text(rt)
 }
 
 /// The job of a device: it calls an operation without parameters so many times, by the numbers of
@@ -57,6 +60,7 @@ pub fn device<R: Wait>(
 ) -> Finished
     ensures calls { (done : Porting) × Calls object operation calls port done × Quits (pass_of done) (pass_of result) }
     ensures stays { Stays (pass_of port) (pass_of result) }
+    ensures explained { IsExplained result }
 {
     make_calls(rt, &mut port, object, operation, calls);
     port.finish(rt)
@@ -77,6 +81,7 @@ fn fire_each<R: Wait>(rt: &R, port: &mut Port, receiver: &Receiver<u8>)
 pub fn line_task<R: Wait>(rt: &R, mut port: Port, receiver: Receiver<u8>) -> Finished
     ensures fires { (count : ℕ) × (done : Porting) × Fires count port done × Quits (pass_of done) (pass_of result) }
     ensures stays { Stays (pass_of port) (pass_of result) }
+    ensures explained { IsExplained result }
 {
     fire_each(rt, &mut port, &receiver);
     port.finish(rt)

@@ -57,7 +57,7 @@ pub later_entry : (at seen : List Event) (v w : Passing) → StartsWith at v.see
 later_entry at seen v w p t = ⊎_elim (λ x. subst (λ (l : List Event). StartsWith l v.seen) (sym x.0) p)
     (λ x. subst (λ (l : List Event). StartsWith l v.seen) (sym x.2) (starts_both v.seen at (at ++ x.0 ∷ []) p (x.0 ∷ [], refl))) t
 
-moved : (v w : Passing) → w.actor ≡ v.actor → StartsWith w.seen v.seen → HasHandler (catalogue_of v.seen) v.actor → HasHandler (catalogue_of w.seen) w.actor
+pub moved : (v w : Passing) → w.actor ≡ v.actor → StartsWith w.seen v.seen → HasHandler (catalogue_of v.seen) v.actor → HasHandler (catalogue_of w.seen) w.actor
 moved v w is p has = subst (λ (n : ℕ). HasHandler (catalogue_of w.seen) n) (sym is) (handler_later v.seen w.seen v.actor p has)
 
 pub act_handles : {T : Type 0} (v w : Passing) (ask : Ask) (says : T → Reply) (answer : Result T Worn) → HasHandler (catalogue_of v.seen) v.actor

@@ -1,13 +1,13 @@
 -- A port that was never called on quits, and does nothing else.
 use Rattle.std.proofs.Common.{◌≡◌, ℕ, zero, suc, ◌+◌, ◌-◌, ◌<◌, ◌≤◌, arith, Bool, true, false, eqb, if◌then◌else◌, List, [], ◌∷◌, ◌++◌, reverse, Option, Some, None, refl, sym, ap, ◌∙◌, subst, append_assoc, append-nil, inl, inr, length}
-use Rattle.std.specs.Prelude.{◌⊎◌, ◌&&◌, ◌||◌, nat_lt, slice_get, pos}
+use Rattle.std.specs.Prelude.{◌&&◌, ◌||◌, nat_lt, slice_get, pos}
 use Rattle.std.specs.List.{list_any}
 use Rattle.std.proofs.lemmas.Bool.Decides.{nat_tests}
 use Rattle.std.proofs.lemmas.List.{reverse-append}
 use Rattle.rv_access.specs.Words.{Words}
 use Rattle.rv_shape.specs.Shape.{Shape}
 use Rattle.rv_shape.specs.Fits.{shape_fits}
-use Rattle.rv_shape.specs.Catalogue.{Who, Operator, Line, Task, UnitTask, tasks_of, all_tasks, task_of, who}
+use Rattle.rv_shape.specs.Catalogue.{Operator, Line, Task, UnitTask, tasks_of, all_tasks, task_of, who}
 use Rattle.rv_event.specs.Past.{halted, held, is_own, mode, mode_by, stance}
 use Rattle.rv_event.specs.declared.entry.Answer.{Answer}
 use Rattle.rv_event.specs.declared.entry.Entry.{Entry}
@@ -16,7 +16,7 @@ use Rattle.rv_event.specs.declared.entry.Mode.TheVariants as Modes
 use Rattle.rv_event.specs.declared.entry.Recorded.TheVariants as Says
 use Rattle.rv_event.specs.declared.entry.Request.TheVariants.{Quit}
 use Rattle.rv_event.specs.declared.entry.Stance.TheVariants.{Free}
-use Rattle.rv_history.specs.Due.{due, gate, nothing_more, out, within}
+use Rattle.rv_history.specs.Due.{gate, nothing_more, out, within}
 use Rattle.rv_history.specs.Fitting.{fits, idle_task}
 use Rattle.rv_history.specs.History.{History}
 use Rattle.rv_history.specs.declared.limits.Limits.{Limits}
@@ -31,7 +31,7 @@ use Rattle.rv_turn.specs.Prefixes.{mine-append}
 use Rattle.rv_port.specs.Actors.{performs, is_performer}
 use Rattle.rv_port.specs.Alone.{IsUnused, quit_alone}
 use Rattle.rv_port.specs.Controls.{IsGiven}
-use Rattle.rv_port.specs.Calls.{AskedOnce, QuitBy, Quits}
+use Rattle.rv_port.specs.Calls.{QuitBy, Quits}
 use Rattle.rv_behind.specs.Events.{by, catalogue_of, history_at, marks}
 use Rattle.rv_port.specs.Traces.{Passing, limits_in, noted}
 use Rattle.rv_port.specs.Traces as Traces

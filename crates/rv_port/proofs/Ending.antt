@@ -1,5 +1,5 @@
 -- What a body that started came to.
-use Rattle.std.proofs.Common.{◌≡◌, ◌⊎◌, ℕ, true, List, [], ◌∷◌, ◌++◌, Option, refl, sym, ap, ◌∙◌, subst, inl, inr, ⊎_elim, append_assoc}
+use Rattle.std.proofs.Common.{◌≡◌, ◌⊎◌, ℕ, Bool, true, false, eqb, eq-eqb, List, [], ◌∷◌, ◌++◌, Option, Some, None, refl, sym, ap, ◌∙◌, subst, inl, inr, ⊎_elim, append_assoc}
 use Rattle.std.specs.Prelude.{ℤ}
 use Rattle.rv_code.specs.Bodies.{UnitBodies}
 use Rattle.rv_exec.specs.Stops.{StopsIn}
@@ -14,6 +14,7 @@ use Rattle.rv_event.specs.declared.entry.Recorded.TheVariants as Words
 use Rattle.rv_behind.specs.declared.event.Begun.{Begun}
 use Rattle.rv_behind.specs.declared.event.Event.{Event}
 use Rattle.rv_behind.specs.declared.event.Event.TheVariants.{Asks}
+use Rattle.rv_port.specs.declared.body.Ended.{Ended}
 use Rattle.rv_port.specs.declared.reached.Reached.{Reached}
 use Rattle.rv_port.specs.declared.reached.Reached.TheVariants as Reaches
 use Rattle.rv_fits.specs.Fits.{callee_fits}
@@ -21,11 +22,18 @@ use Rattle.rv_behind.specs.Acting.{IsLent}
 use Rattle.rv_behind.specs.Events.{catalogue_of, history_at}
 use Rattle.rv_port.specs.Traces.{Passing, limits_in, Trace, noted, WoreOut, Went, Asked}
 use Rattle.rv_port.specs.Reaching.{reached_by, end_of}
-use Rattle.rv_port.specs.Calls.{RanOn, InBody, EndedBy, stops_at, StoppedAsking, StoppedAt, StoppedInside, Tied}
+use Rattle.rv_port.specs.Bodies.{Runs}
+use Rattle.rv_port.specs.Held.{held_by, Owns}
+use Rattle.rv_port.specs.Calls.{EndsIf, RanOn, InBody, EndedBy, stops_at, StoppedAsking, StoppedAt, StoppedInside, LeftInside, Tied}
 use Rattle.rv_port.proofs.Asking.{asked_later}
 use Rattle.rv_port.proofs.Gets.{of_end, end_gets}
 use Rattle.rv_port.proofs.Performing.{stays_both, went_stays}
 use Rattle.rv_port.proofs.Stopped.{stop_at, runs_stop}
+use Rattle.rv_port.proofs.Straying.{no_strays}
+use Rattle.rv_port.proofs.Holding.{held_went}
+use Rattle.rv_meant.specs.Asks.{held_behind}
+use Rattle.rv_meant.specs.Nested.{by_stopped}
+use Rattle.rv_meant.proofs.NestedBodies.{bodies_nest}
 use Rattle.rv_turn.specs.Histories.{StartsWith}
 use Rattle.rv_turn.specs.Prefixes.{starts_both}
 use Rattle.rv_port.proofs.Opening.{new_later, Opened}
@@ -48,10 +56,16 @@ pub record NoEnd (u w : Passing) : Type 0 where
   pub exit : Exit
   pub reason : WoreOut body (Complete scalars exit) w ⊎ ((d : Answer) × Asked body (Complete scalars exit) d w × (stops_at (Complete scalars exit) d ≡ true))
 
+-- its end wasn't asked, since its actor is left in a body that it called
+pub record LeftIn (u w : Passing) : Type 0 where
+  pub asked : Trace
+  pub went : Went u asked w
+  pub stopped : StoppedAt u asked
+
 abbrev RanTo : Passing → Reached → Passing → Type 0
 RanTo u (Reaches.Returned values) w = LastEnd u (Exits.Return values) w
 RanTo u (Reaches.Raised exception) w = (exit : Exit) × (reached_by exit ≡ Reaches.Raised exception) × LastEnd u exit w
-RanTo u Reaches.Stopped w = NoEnd u w ⊎ ((t : LastEnd u Exits.Stopped w) × StoppedAt u t.asked)
+RanTo u Reaches.Stopped w = NoEnd u w ⊎ (((t : LastEnd u Exits.Stopped w) × StoppedAt u t.asked) ⊎ LeftIn u w)
 RanTo u reached w = ⊥
 
 ended_by : (v u w : Passing) (q : Request) (exit : Exit) → Opened v q u → LastEnd u exit w → EndedBy v q exit w
@@ -104,10 +118,13 @@ stopped_inside v u w q o t s = record {
   asked_is = s.asked_is;
 }
 
+left_inside : (v u w : Passing) (q : Request) → Opened v q u → LeftIn u w → LeftInside v q w
+left_inside v u w q o t = record { asked = t.asked; inside = in_body v u w q t.asked o t.went; start = u; same = o.stays; went = t.went; stopped = t.stopped }
+
 pub tied_body : (v u w : Passing) (q : Request) (reached : Reached) → Opened v q u → RanTo u reached w → Tied v q reached w
 tied_body v u w q (Reaches.Returned values) o t = inl (ended_by v u w q (Exits.Return values) o t)
 tied_body v u w q (Reaches.Raised e) o t = (t.0, t.1, ended_by v u w q t.0 o t.2)
-tied_body v u w q Reaches.Stopped o t = ⊎_elim (λ none. inl (no_end v u w q o none)) (λ l. inr (stopped_inside v u w q o l.0 l.1)) t
+tied_body v u w q Reaches.Stopped o t = ⊎_elim (λ none. inl (no_end v u w q o none)) (λ k. ⊎_elim (λ l. inr (inl (stopped_inside v u w q o l.0 l.1))) (λ l. inr (inr (left_inside v u w q o l))) k) t
 tied_body v u w q (Reaches.Refused rule line version) o t = absurd t
 tied_body v u w q Reaches.Misuse o t = absurd t
 
@@ -125,7 +142,7 @@ by_exit : (u w : Passing) (exit : Exit) (t : LastEnd u exit w) → (exit ≡ Exi
 by_exit u w (Exits.Return values) t f = t
 by_exit u w (Exits.Raise e) t f = (Exits.Raise e, refl, t)
 by_exit u w Exits.Overrun t f = (Exits.Overrun, refl, t)
-by_exit u w Exits.Stopped t f = inr (t, f refl)
+by_exit u w Exits.Stopped t f = inr (inl (t, f refl))
 
 -- the answer to its end stops the call
 stopped_end : (u w : Passing) (trace : Trace) (k : Passing) (scalars : List ℤ) (exit : Exit) (d : Answer) → Went u trace k → Asked k (Complete scalars exit) d w → stops_at (Complete scalars exit) d ≡ true → NoEnd u w
@@ -153,7 +170,34 @@ ran_end log u w trace k scalars exit Answers.OutOfMemory later p x e f = absurd 
 ended_so : (v w : Passing) (scalars : List ℤ) (exit : Exit) (d : Answer) → Asked v (Complete scalars exit) d w → of_end d ≡ true
 ended_so v w scalars exit d x = ap of_end x.due_is ∙ end_gets (history_at (limits_in v.about) x.at) v.actor scalars exit
 
-pub ran_to : (log : List Event) (u w : Passing) (bodies : Option UnitBodies) (b : Begun) (scalars arguments : List ℤ) (reached : Reached) → IsLent log bodies → StartsWith u.seen log → RanOn bodies u b scalars arguments reached w → RanTo u reached w
-ran_to log u w bodies b scalars arguments reached lent later n =
-    ⊎_elim (λ wore. subst (λ (z : Reached). RanTo u z w) (sym wore.1) (inl (record { asked = n.trace; body = n.body; went = n.went; scalars = n.ended.scalars; exit = n.ended.exit; reason = inl wore.0 })))
-    (λ t. subst (λ (z : Reached). RanTo u z w) (sym t.3) (ran_end log u w n.trace n.body n.ended.scalars n.ended.exit t.0 later n.went t.1 (ended_so n.body w n.ended.scalars n.ended.exit t.0 t.1) (runs_stop log bodies b scalars arguments n.trace n.ended lent n.runs))) n.end_is
+-- A body that is left by its actor was stopped
+
+is_by_stopped : (exit : Exit) → by_stopped exit ≡ true → exit ≡ Exits.Stopped
+is_by_stopped (Exits.Return values) e = absurd (cc e)
+is_by_stopped (Exits.Raise exception) e = absurd (cc e)
+is_by_stopped Exits.Overrun e = absurd (cc e)
+is_by_stopped Exits.Stopped e = refl
+
+unlike : {X : Type 0} (n m : ℕ) → n ≡ m → eqb n m ≡ false → X
+unlike n m e f = absurd (cc (eq-eqb n m e, f))
+
+left_stops : (log : List Event) (u k : Passing) (bodies : Option UnitBodies) (b : Begun) (scalars arguments : List ℤ) (trace : Trace) (last : Ended) → IsLent log bodies → StartsWith u.seen log → Runs bodies (held_by u) b scalars arguments trace last
+    → Went u trace k → Owns u → Owns k → eqb (held_by k) (held_by u) ≡ false → last.exit ≡ Exits.Stopped
+left_stops log u k None b scalars arguments trace last lent later t p own owned n =
+    unlike (held_by k) (held_by u) (held_went u k trace own owned p ∙ ap (λ (l : Trace). held_behind (held_by u) l) t.0) n
+left_stops log u k (Some bodies) b scalars arguments trace last lent later t p own owned n =
+    let nested = bodies_nest (callee_fits (catalogue_of log)) bodies (held_by u) b.object b.operation arguments scalars t.0 trace last.exit lent.1 t.1 in
+    is_by_stopped last.exit
+    (⊎_elim (λ s. no_strays log u trace k later p.steps s)
+    (λ h. ⊎_elim (λ w. unlike (held_by k) (held_by u) (held_went u k trace own owned p ∙ w.0 (held_by u)) n) (λ m. m.0) h) nested.course)
+
+pub ran_to : (log : List Event) (u w : Passing) (bodies : Option UnitBodies) (b : Begun) (scalars arguments : List ℤ) (reached : Reached) → IsLent log bodies → StartsWith u.seen log → Owns u → RanOn bodies u b scalars arguments reached w → RanTo u reached w
+ran_to log u w bodies b scalars arguments reached lent later own n = by_held (eqb (held_by n.body) (held_by u)) refl n.end_is where
+  by_held : (k : Bool) → eqb (held_by n.body) (held_by u) ≡ k → EndsIf k n.body (Complete n.ended.scalars n.ended.exit) n.ended.exit reached w → RanTo u reached w
+  by_held true is e =
+      ⊎_elim (λ wore. subst (λ (z : Reached). RanTo u z w) (sym wore.1) (inl (record { asked = n.trace; body = n.body; went = n.went; scalars = n.ended.scalars; exit = n.ended.exit; reason = inl wore.0 })))
+      (λ t. subst (λ (z : Reached). RanTo u z w) (sym t.3) (ran_end log u w n.trace n.body n.ended.scalars n.ended.exit t.0 later n.went t.1 (ended_so n.body w n.ended.scalars n.ended.exit t.0 t.1) (runs_stop log bodies (held_by u) b scalars arguments n.trace n.ended lent n.runs))) e
+  by_held false is e =
+      let stopped : n.ended.exit ≡ Exits.Stopped = left_stops log u n.body bodies b scalars arguments n.trace n.ended lent later n.runs n.went own n.owned is in
+      subst (λ (z : Passing × Reached). RanTo u z.1 z.0) (λ i. (sym e.0 i, sym e.1 i))
+      (inr (inr (record { asked = n.trace; went = n.went; stopped = stop_at log u n.trace n.body later (runs_stop log bodies (held_by u) b scalars arguments n.trace n.ended lent n.runs stopped) n.went.steps })))

@@ -17,3 +17,15 @@ pub mod Closings
 pub mod Texts
 pub mod Sends
 pub mod Alone
+pub mod Accounting
+pub mod Straying
+pub mod Holding
+pub mod Ends
+pub mod Fronts
+pub mod Since
+pub mod OwnEnds
+pub mod Starts
+pub mod Asked
+pub mod Performances
+pub mod Following
+pub mod TextEnds

@@ -1,8 +1,8 @@
 -- What a call did, from its parts.
-use Rattle.std.proofs.Common.{◌≡◌, ◌+◌, Bool, true, false, List, [], ◌++◌, length, Option, Some, None, refl, sym, ap, ◌∙◌, subst, inr, ⊎_elim, append_assoc, append-nil, arith}
-use Rattle.std.specs.Prelude.{ℤ, nat_lt}
+use Rattle.std.proofs.Common.{◌≡◌, ℕ, ◌+◌, Bool, true, false, List, [], ◌++◌, length, Option, Some, None, refl, sym, ap, ◌∙◌, subst, inr, ⊎_elim, append_assoc, append-nil, arith}
+use Rattle.std.specs.Prelude.{ℤ, nat_lt, ◌==◌}
 use Rattle.rv_event.specs.declared.entry.Request.{Request}
-use Rattle.rv_event.specs.declared.entry.Request.TheVariants.{Resume, Quit}
+use Rattle.rv_event.specs.declared.entry.Request.TheVariants.{Complete, Resume, Quit}
 use Rattle.rv_event.specs.declared.entry.Answer.{Answer}
 use Rattle.rv_event.specs.declared.entry.Answer.TheVariants as Answers
 use Rattle.rv_behind.specs.declared.event.Event.{Event}
@@ -16,7 +16,8 @@ use Rattle.rv_port.specs.Reaching.{arguments_of, reads, plain_of, waits_on, wait
 use Rattle.rv_port.proofs.Asking.{in_vain_later, asked_later}
 use Rattle.rv_event.specs.declared.entry.Exit.{Exit}
 use Rattle.rv_port.specs.Bodies.{RunsTo}
-use Rattle.rv_port.specs.Calls.{marked, Ends, RanOn, Resumed, Waited, Followed, Performed, QuitBy, Quits, Grown, Stays}
+use Rattle.rv_port.specs.Held.{held_by, Owns}
+use Rattle.rv_port.specs.Calls.{marked, EndsIf, RanOn, Resumed, Waited, Followed, Performed, QuitBy, Quits, Grown, Stays}
 use Rattle.rv_turn.specs.Prefixes.{starts_self, starts_both}
 use Rattle.rv_behind.specs.declared.event.Begun.{Begun}
 
@@ -133,15 +134,16 @@ started v u w m n q r b lent scalars arguments reached x calm is same mark ran =
 )
 
 -- a body ran, and its end was asked
-pub ran_on : (bodies : Option UnitBodies) (u v w : Passing) (begun : Begun) (scalars arguments : List ℤ) (q : Request) (exit : Exit) (reached : Reached) → ((trace : Trace) × RunsTo bodies begun scalars arguments trace q exit × Went u trace v)
-    → Ends v q exit reached w → RanOn bodies u begun scalars arguments reached w
-ran_on bodies u v w begun scalars arguments q exit reached ran ends = record {
+pub ran_on : (bodies : Option UnitBodies) (u v w : Passing) (begun : Begun) (scalars arguments : List ℤ) (q : Request) (exit : Exit) (reached : Reached) (last first : ℕ) → ((trace : Trace) × RunsTo bodies (held_by u) begun scalars arguments trace q exit × Went u trace v)
+    → Owns v → last ≡ held_by v → first ≡ held_by u → EndsIf (last == first) v q exit reached w → RanOn bodies u begun scalars arguments reached w
+ran_on bodies u v w begun scalars arguments q exit reached last first ran owned e f ends = record {
   trace = ran.0;
   ended = ran.1.0;
   runs = ran.1.1;
   body = v;
   went = ran.2;
-  end_is = subst (λ (z : Request × Exit). Ends v z.0 z.1 reached w) (λ i. (ran.1.2 i, ran.1.3 i)) ends;
+  owned = owned;
+  end_is = subst (λ (z : Request × Exit × ℕ × ℕ). EndsIf (z.2 == z.3) v z.0 z.1 reached w) (λ i. (ran.1.2 i, ran.1.3 i, e i, f i)) ends;
 }
 
 -- a caller that waited was handed the object over
@@ -216,9 +218,13 @@ asked_stays v w q r x = let act : w.left + 1 ≡ x.before.left = x.act in let ac
   fewer = omega (arith, act, acts);
 }
 
+end_stays : (b : Bool) (v w : Passing) (q : Request) (exit : Exit) (reached : Reached) → EndsIf b v q exit reached w → Stays v w
+end_stays true v w q exit reached e = ⊎_elim (λ wore. vain_stays v w _ wore.0.0) (λ t. asked_stays v w _ t.0 t.1) e
+end_stays false v w q exit reached e = subst (λ (z : Passing). Stays v z) (sym e.0) (stays_self v)
+
 ran_stays : (v w : Passing) (bodies : Option UnitBodies) (b : Begun) (scalars arguments : List ℤ) (reached : Reached) → RanOn bodies v b scalars arguments reached w → Stays v w
 ran_stays v w bodies b scalars arguments reached n =
-    stays_both v n.body w (went_stays v n.body n.trace n.went) (⊎_elim (λ wore. vain_stays n.body w _ wore.0.0) (λ t. asked_stays n.body w _ t.0 t.1) n.end_is)
+    stays_both v n.body w (went_stays v n.body n.trace n.went) (end_stays (held_by n.body == held_by v) n.body w (Complete n.ended.scalars n.ended.exit) n.ended.exit reached n.end_is)
 
 flat_stays : (v u w : Passing) → Stays v u → w ≡ u → Stays v w
 flat_stays v u w s is = subst (λ (z : Passing). Stays v z) (sym is) s

@@ -137,7 +137,7 @@ bell_arc_send : IsSend (arc.the_row bell.the_row global.the_row ghosts)
 bell_arc_send = arc_crosses.the_send bell.the_row global.the_row ghosts bell_crosses.the_send global_crosses.the_send bell_crosses.the_sync global_crosses.the_sync heap_crosses.the_frees
 
 asker_send : IsSend (asker.the_field).row
-asker_send = struct_send (shape asker.the_type) (pass_crosses.the_send behind.the_row ask.the_row reply.the_row letter.the_row event.the_row limits.the_row counted behind_send, (bell_arc_send, (plain_send _ _ _ _ _, tt)))
+asker_send = struct_send (shape asker.the_type) (pass_crosses.the_send behind.the_row ask.the_row reply.the_row letter.the_row event.the_row limits.the_row counted behind_send, (bell_arc_send, (plain_send _ _ _ _ _, (plain_send _ _ _ _ _, tt))))
 
 port_inside_send : IsSend port_inside.the_row
 port_inside_send = recorded_send (port_inside.the_field).row _ _ (port_inside.the_type).to_one (struct_send (shape port_inside.the_type) (asker_send, tt))

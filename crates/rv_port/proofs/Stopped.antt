@@ -1,5 +1,5 @@
 -- The request that stopped a body.
-use Rattle.std.proofs.Common.{◌≡◌, ◌⊎◌, ℕ, ℤ, Bool, true, false, cond, List, [], ◌∷◌, ◌++◌, Option, Some, None, refl, sym, ap, ◌∙◌, subst, inl, inr, ⊎_elim}
+use Rattle.std.proofs.Common.{◌≡◌, ℕ, ℤ, Bool, true, false, cond, List, [], ◌∷◌, ◌++◌, Option, Some, None, refl, sym, ap, ◌∙◌, subst, inl, inr, ⊎_elim}
 use Rattle.std.specs.Prelude.{◌&&◌, int_le, pos, slice_index_or}
 use Rattle.rv_value.specs.Arithmetic.{is_zero}
 use Rattle.rv_shape.specs.Shape.{Shape}
@@ -341,12 +341,12 @@ stop_at log u ((q, r) ∷ more) k later s t =
 
 -- A body that exits by stopped has such a request
 
-pub runs_stop : (log : List Event) (bodies : Option UnitBodies) (b : Begun) (scalars arguments : List ℤ) (trace : Trace) (last : Ended) → IsLent log bodies → Runs bodies b scalars arguments trace last → last.exit ≡ Exits.Stopped
+pub runs_stop : (log : List Event) (bodies : Option UnitBodies) (held : ℕ) (b : Begun) (scalars arguments : List ℤ) (trace : Trace) (last : Ended) → IsLent log bodies → Runs bodies held b scalars arguments trace last → last.exit ≡ Exits.Stopped
     → StopsIn (callee_fits (catalogue_of log)) trace
-runs_stop log None b scalars arguments trace last lent t e = absurd (cc (sym e ∙ ap (λ (z : Ended). z.exit) t.1))
-runs_stop log (Some bodies) b scalars arguments trace last lent t e =
-    bodies_stop_by (callee_fits (catalogue_of log)) bodies 1 b.object b.operation arguments scalars t.0 trace lent.1
-    (subst (λ (x : Exit). Along (operation_run_at bodies 1 b.object b.operation arguments scalars) trace (x, t.0)) e t.1)
+runs_stop log None held b scalars arguments trace last lent t e = absurd (cc (sym e ∙ ap (λ (z : Ended). z.exit) t.1))
+runs_stop log (Some bodies) held b scalars arguments trace last lent t e =
+    bodies_stop_by (callee_fits (catalogue_of log)) bodies held b.object b.operation arguments scalars t.0 trace lent.1
+    (subst (λ (x : Exit). Along (operation_run_at bodies held b.object b.operation arguments scalars) trace (x, t.0)) e t.1)
 
 -- and so has a task's text
 pub text_stops : (log : List Event) (u w : Passing) (bodies : Option UnitBodies) (budget : ℕ) (trace : Trace) (exit : Exit) → IsLent log bodies → StartsWith u.seen log → TextRuns bodies u.actor budget trace exit → Went u trace w

@@ -8,6 +8,7 @@ use Rattle.rv_behind.specs.Events.{by}
 use Rattle.rv_behind.specs.Acting.{Does, IsLent, lent_view}
 use Rattle.rv_port.specs.Traces.{Passing, Trace, Went}
 use Rattle.rv_port.specs.Calls.{marked, Stays}
+use Rattle.rv_port.specs.Held.{held_by}
 use Rattle.rv_port.specs.Texts.{TextRuns, TextRan}
 use Rattle.rv_behind.specs.declared.event.Lent.{Lent}
 use Rattle.rv_behind.specs.declared.event.Event.{Event}
@@ -31,9 +32,10 @@ acted_stays v w ask reply a = let less : w.left ≡ v.left - 1 = ap (λ (k : Pas
 }
 
 -- a text that ran by the bodies that were lent
-pub ran_lent : (v u w : Passing) (mark same after : Bool) (budget : ℕ) (exit : Exit) (lent : Option Lent) → Acted by Does v Wants.Bodies (Gives.Bodies lent) u → same ≡ mark
+pub ran_lent : (v u w : Passing) (mark same after : Bool) (budget : ℕ) (exit : Exit) (lent : Option Lent) → held_by v ≡ 0 → Acted by Does v Wants.Bodies (Gives.Bodies lent) u → same ≡ mark
     → (trace : Trace) × TextRuns (lent_view lent) u.actor budget trace exit × Went u trace w → after ≡ marked same (lent_view lent) → TextRan v mark budget exit w after
-ran_lent v u w mark same after budget exit lent a is t k = inr record {
+ran_lent v u w mark same after budget exit lent none a is t k = inr (inr record {
+  none_held = none;
   bodies = lent_view lent;
   lent = u;
   borrows = record { lent = lent; lent_is = refl; acted = a };
@@ -44,8 +46,9 @@ ran_lent v u w mark same after budget exit lent a is t k = inr record {
       (subst (λ (l : List Event). IsLent l (lent_view lent)) (sym a.answer.1.1) a.answer.1.0) (starts_self u.seen)
       t.1 t.2;
   marked_is = k ∙ ap (λ (b : Bool). marked b (lent_view lent)) is;
-}
+})
 
 pub ran_stays : (v w : Passing) (mark after : Bool) (budget : ℕ) (exit : Exit) → TextRan v mark budget exit w after → Stays v w
 ran_stays v w mark after budget exit t = ⊎_elim (λ worn. subst (λ (z : Passing). Stays v z) (sym worn.0.1) (stays_self v))
-    (λ r. stays_both v r.lent w (acted_stays v r.lent Wants.Bodies (Gives.Bodies r.borrows.lent) r.borrows.acted) (went_stays r.lent w r.trace r.went)) t
+    (λ y. ⊎_elim (λ barred. subst (λ (z : Passing). Stays v z) (sym barred.1) (stays_self v))
+    (λ r. stays_both v r.lent w (acted_stays v r.lent Wants.Bodies (Gives.Bodies r.borrows.lent) r.borrows.acted) (went_stays r.lent w r.trace r.went)) y) t

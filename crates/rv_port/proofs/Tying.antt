@@ -75,7 +75,7 @@ queue_at : (v u k : Passing) (o p : ℕ) (vs : List ℤ) (r : Answer) → Waits 
 queue_at v u k o p vs r a x = in_queue_at (limits_in u.about) u.actor u.seen x.at (u.base ++ u.own) a.asked.at o p vs x.from (here v u (Call o p vs) Words.Queued a) a.asked.owns x.owned
 
 -- it is still at its pause
-pause_at : (v u k : Passing) (q : Request) (wait : Recorded) (r : Answer) → Waits v q wait u → IsPause q wait → (x : Asked u Resume r k) → paused (stance u.actor (history_at (limits_in u.about) x.at).past) ≡ true
+pub pause_at : (v u k : Passing) (q : Request) (wait : Recorded) (r : Answer) → Waits v q wait u → IsPause q wait → (x : Asked u Resume r k) → paused (stance u.actor (history_at (limits_in u.about) x.at).past) ≡ true
 pause_at v u k q wait r a pause x = paused_at (limits_in u.about) u.actor u.seen x.at (u.base ++ u.own) a.asked.at q wait x.from (here v u q wait a) a.asked.owns x.owned pause x.legal
 
 -- the resume of one that waits is no misuse
@@ -85,7 +85,7 @@ no_misuse u k x e = absurd (cc (ap is_sound x.due_is ∙ resume_sound (history_a
 tied_queue : (v u k w : Passing) (m f : Bool) (o p : ℕ) (vs : List ℤ) (r : Answer) (log : List Event) (reached : Reached) → StartsWith k.seen log → Waits v (Call o p vs) Words.Queued u → Asked u Resume r k → of_resume r ≡ true → asks_on r ≡ false
     → Resumed r log k m (Call o p vs) reached w f → Tied v (Call o p vs) reached w
 tied_queue v u k w m f o p vs (Answers.Woken (Some s)) log reached l a x e n t =
-    tied_body v k w (Call o p vs) reached (opened_by_wait v u k o p vs s a x) (ran_to log k w t.0 (waited_for (Call o p vs)) s vs reached t.1 l t.3)
+    tied_body v k w (Call o p vs) reached (opened_by_wait v u k o p vs s a x) (ran_to log k w t.0 (waited_for (Call o p vs)) s vs reached t.1 l x.owns t.3)
 tied_queue v u k w m f o p vs (Answers.Woken None) log reached l a x e n t = queue_wakes (history_at (limits_in u.about) x.at) u.actor (queue_at v u k o p vs (Answers.Woken None) a x) (sym x.due_is)
 tied_queue v u k w m f o p vs (Answers.Refused rule line version) log reached l a x e n t =
     as_told v k w m f (Call o p vs) (Reaches.Refused rule line version) reached (inr (both_own v u k (Call o p vs) Words.Queued (Words.Refused rule line version) a x.own_is), refused_then v u k o p vs rule line version a x) t
@@ -151,7 +151,7 @@ after_pause : (v u w : Passing) (m f : Bool) (q : Request) (wait : Recorded) (re
 after_pause v u w m f q wait reached h a t = ⊎_elim (λ wore. wore_then v u w q wait reached a wore.0)
     (λ x. tied_pause v u x.1 w m f q wait x.0 x.2.at reached a h x.2 (resumed_so u x.1 x.0 x.2) x.3 x.4) t
 
-suspends : (q : Request) → calls q ≡ true → IsPause q Words.Suspended
+pub suspends : (q : Request) → calls q ≡ true → IsPause q Words.Suspended
 suspends (Call o p vs) e = tt
 suspends (DelayUntil time) e = absurd (cc e)
 suspends Clock e = absurd (cc e)
@@ -162,7 +162,7 @@ suspends Quit e = absurd (cc e)
 suspends (Tick n) e = absurd (cc e)
 suspends Halt e = absurd (cc e)
 
-delayed : (q : Request) → delays q ≡ true → IsPause q Words.Delayed
+pub delayed : (q : Request) → delays q ≡ true → IsPause q Words.Delayed
 delayed (DelayUntil time) e = tt
 delayed (Call o p vs) e = absurd (cc e)
 delayed Clock e = absurd (cc e)
@@ -175,7 +175,7 @@ delayed Halt e = absurd (cc e)
 
 tied_followed : (v u w : Passing) (m f : Bool) (q : Request) (r : Answer) (log : List Event) (b : Begun) (reached : Reached) → StartsWith u.seen log → goes_on q ≡ false → of_first q r ≡ true → asks_on r ≡ false → Asked v q r u
     → Followed r log b u m q reached w f → Tied v q reached w
-tied_followed v u w m f q (Answers.Started s) log b reached l g e n x t = tied_body v u w q reached (opened_at_once v u q s x) (ran_to log u w t.0 b s (arguments_of q) reached t.1 l t.3)
+tied_followed v u w m f q (Answers.Started s) log b reached l g e n x t = tied_body v u w q reached (opened_at_once v u q s x) (ran_to log u w t.0 b s (arguments_of q) reached t.1 l x.owns t.3)
 tied_followed v u w m f q Answers.Queued log b reached l g e n x t =
     after_queue v u w m f q reached e (record { answer = Answers.Queued; asked = x; on = refl; seen_is = x.seen_is; own_is = x.own_is; actor_is = asked_actor v u q _ x }) t
 tied_followed v u w m f q Answers.Suspended log b reached l g e n x t =

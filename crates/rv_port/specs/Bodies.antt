@@ -1,5 +1,5 @@
 -- What runs between a start and its end. (own)
-use Rattle.std.specs.Prelude.{◌≡◌, ℤ, List, [], if◌then◌else◌, Option, Some, None}
+use Rattle.std.specs.Prelude.{◌≡◌, ℕ, ℤ, List, [], if◌then◌else◌, Option, Some, None}
 use Rattle.rv_event.specs.declared.entry.Request.{Request}
 use Rattle.rv_event.specs.declared.entry.Request.TheVariants.{Complete}
 use Rattle.rv_event.specs.declared.entry.Exit.{Exit}
@@ -20,15 +20,16 @@ given_by begun scalars = if begun.is_function then [] else scalars
 abbrev pub left_alone : Begun → List ℤ → Ended
 left_alone begun scalars = record { scalars = given_by begun scalars; exit = Raise ProgramError }
 
--- Of these bodies that of this operation, called with these values on these scalars, asks this and ends so, by what bodies
--- mean; an operation without a body leaves the scalars and exits by `raise Program_Error`. (own)
-abbrev pub Runs : Option UnitBodies → Begun → List ℤ → List ℤ → Trace → Ended → Type 0
-Runs None begun scalars arguments trace ended = (trace ≡ []) × (ended ≡ left_alone begun scalars)
-Runs (Some bodies) begun scalars arguments trace ended =
-    (left : List ℤ) × Along (operation_run_at bodies 1 begun.object begun.operation arguments scalars) trace (ended.exit, left)
+-- Of these bodies that of this operation, called with these values on these scalars, by an actor that holds so many objects with
+-- its own, asks this and ends so, by what bodies mean; an operation without a body leaves the scalars and exits by
+-- `raise Program_Error`. (own)
+abbrev pub Runs : Option UnitBodies → (held : ℕ) → Begun → List ℤ → List ℤ → Trace → Ended → Type 0
+Runs None held begun scalars arguments trace ended = (trace ≡ []) × (ended ≡ left_alone begun scalars)
+Runs (Some bodies) held begun scalars arguments trace ended =
+    (left : List ℤ) × Along (operation_run_at bodies held begun.object begun.operation arguments scalars) trace (ended.exit, left)
     × (ended.scalars ≡ given_by begun left)
 
 -- The same, where the request asks for that end, which is by this exit. (own)
-abbrev pub RunsTo : Option UnitBodies → Begun → List ℤ → List ℤ → Trace → Request → Exit → Type 0
-RunsTo bodies begun scalars arguments trace request exit =
-    (ended : Ended) × Runs bodies begun scalars arguments trace ended × (request ≡ Complete ended.scalars ended.exit) × (exit ≡ ended.exit)
+abbrev pub RunsTo : Option UnitBodies → (held : ℕ) → Begun → List ℤ → List ℤ → Trace → Request → Exit → Type 0
+RunsTo bodies held begun scalars arguments trace request exit =
+    (ended : Ended) × Runs bodies held begun scalars arguments trace ended × (request ≡ Complete ended.scalars ended.exit) × (exit ≡ ended.exit)

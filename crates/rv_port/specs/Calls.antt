@@ -1,5 +1,5 @@
 -- What a call on a port did. (own)
-use Rattle.std.specs.Prelude.{◌≡◌, ◌⊎◌, ℕ, ℤ, ◌≤◌, nat_lt, Bool, true, false, List, [], ◌∷◌, ◌++◌, Option, Some, None}
+use Rattle.std.specs.Prelude.{◌≡◌, ◌⊎◌, ℕ, ℤ, ◌≤◌, nat_lt, ◌==◌, Bool, true, false, List, [], ◌∷◌, ◌++◌, Option, Some, None}
 use Rattle.rv_code.specs.Bodies.{UnitBodies}
 use Rattle.rv_exec.specs.Stops.{Unwinds}
 use Rattle.rv_event.specs.declared.entry.Request.{Request}
@@ -25,6 +25,7 @@ use Rattle.rv_turn.specs.Histories.{StartsWith}
 use Rattle.rv_port.specs.Traces.{Passing, Trace, told, noted, WoreOut, Went, Asked, asks_on}
 use Rattle.rv_behind.specs.Acting.{IsLent}
 use Rattle.rv_port.specs.Bodies.{Runs}
+use Rattle.rv_port.specs.Held.{held_by, Owns}
 use Rattle.rv_port.specs.Reaching.{arguments_of, reads, values_of, plain_of, end_of, reached_by, waits_on, waited_for}
 
 -- the pass's own events have grown, if at all (own)
@@ -50,14 +51,21 @@ abbrev pub Ends : Passing → Request → Exit → Reached → Passing → Type 
 Ends v q exit reached w =
     Wore v q reached w ⊎ ((d : Answer) × Asked v q d w × (asks_on d ≡ false) × (reached ≡ end_of d exit))
 
+-- the same; where the actor holds another number of objects than at the body's start it is left in a body that this one called:
+-- then the end isn't asked (own)
+abbrev pub EndsIf : Bool → Passing → Request → Exit → Reached → Passing → Type 0
+EndsIf true v q exit reached w = Ends v q exit reached w
+EndsIf false v q exit reached w = (w ≡ v) × (reached ≡ Reaches.Stopped)
+
 -- A body that started asked what it asks by these bodies, and ended, where an act was left. (own)
 pub record RanOn (bodies : Option UnitBodies) (started : Passing) (begun : Begun) (scalars arguments : List ℤ) (reached : Reached) (w : Passing) : Type 0 where
   pub trace : Trace
   pub ended : Ended
-  pub runs : Runs bodies begun scalars arguments trace ended
+  pub runs : Runs bodies (held_by started) begun scalars arguments trace ended
   pub body : Passing
   pub went : Went started trace body
-  pub end_is : Ends body (Complete ended.scalars ended.exit) ended.exit reached w
+  pub owned : Owns body
+  pub end_is : EndsIf (held_by body == held_by started) body (Complete ended.scalars ended.exit) ended.exit reached w
 
 -- the mark that bodies which were wanted couldn't be had, after a body ran by these bodies, or without (own)
 abbrev pub marked : Bool → Option UnitBodies → Bool
@@ -232,14 +240,24 @@ pub record StoppedInside (v : Passing) (q : Request) (w : Passing) : Type 0 wher
   pub unwinds : Unwinds behind
   pub asked_is : ended.asked ≡ before ++ (request, answer) ∷ behind
 
+-- The call's body was stopped by a request of its own, or of a body inside it, and left its actor in one of these: so its end isn't
+-- asked. (own)
+pub record LeftInside (v : Passing) (q : Request) (w : Passing) : Type 0 where
+  pub asked : Trace
+  pub inside : InBody v q asked w
+  pub start : Passing
+  pub same : Stays v start
+  pub went : Went start asked w
+  pub stopped : StoppedAt start asked
+
 -- What is reached, by the pass's own last event: a refusal is that very answer, by the list in force in what had been seen or
 -- by a later one; values and exceptions are those of the end of the call's body, or of an answer that starts none. Misuse
 -- is the answer to the request, and nothing is new. A call stops at its last ask, or by an answer to a request within its
--- body. (own)
+-- body, whose end may not be asked then. (own)
 abbrev pub Tied : Passing → Request → Reached → Passing → Type 0
 Tied v q (Reaches.Refused rule line version) w =
     Answered v q (Words.Refused rule line version) w × (version_seen v.seen ≤ version)
 Tied v q (Reaches.Returned values) w = Back v q values w
 Tied v q (Reaches.Raised exception) w = (exit : Exit) × (reached_by exit ≡ Reaches.Raised exception) × EndedBy v q exit w
 Tied v q Reaches.Misuse w = Asked v q Answers.Misuse w
-Tied v q Reaches.Stopped w = StoppedAsking v q w ⊎ StoppedInside v q w
+Tied v q Reaches.Stopped w = StoppedAsking v q w ⊎ (StoppedInside v q w ⊎ LeftInside v q w)

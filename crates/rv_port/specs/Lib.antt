@@ -1,5 +1,6 @@
 pub mod Actors
 pub mod Traces
+pub mod Held
 pub mod Composing
 pub mod Reaching
 pub mod Later
@@ -10,3 +11,5 @@ pub mod Controls
 pub mod Closing
 pub mod Texts
 pub mod Alone
+pub mod Ends
+pub mod Following

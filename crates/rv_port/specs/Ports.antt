@@ -7,6 +7,7 @@ use Rattle.rv_behind.specs.declared.event.Event.{Event}
 use Rattle.rv_port.specs.declared.reached.Reached.{Reached}
 use Rattle.rv_port.specs.Traces.{Passing}
 use Rattle.rv_port.specs.Calls.{Performed}
+use Rattle.rv_port.specs.Ends.{ExplainedUnless}
 
 -- All that its pass knows, and a mark. (own)
 pub record Porting : Type 0 where
@@ -63,3 +64,8 @@ pass_of p = record {
 -- one performance of a request by a port, with its mark (own)
 abbrev pub PerformedBy : Porting → Request → Reached → Porting → Type 0
 PerformedBy p q reached after = Performed (pass_of p) p.refused q reached (pass_of after) after.refused
+
+-- each end of the port's actor in what it has seen is what its text means, on what the actor asked between its start and its end;
+-- unless bodies were refused to the port
+abbrev pub IsExplained : Porting → Type 0
+IsExplained p = ExplainedUnless p.refused (pass_of p)

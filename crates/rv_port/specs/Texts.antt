@@ -1,5 +1,5 @@
 -- What the text of a task did with its port. (own)
-use Rattle.std.specs.Prelude.{◌≡◌, ◌⊎◌, ℕ, Bool, [], Option, Some, None}
+use Rattle.std.specs.Prelude.{◌≡◌, ◌⊎◌, ◌<◌, ℕ, Bool, true, false, [], Option, Some, None}
 use Rattle.rv_event.specs.declared.entry.Exit.{Exit}
 use Rattle.rv_event.specs.declared.entry.Exit.TheVariants.{Stopped}
 use Rattle.rv_code.specs.Bodies.{UnitBodies}
@@ -11,7 +11,8 @@ use Rattle.rv_behind.specs.declared.event.Ask.TheVariants as Wants
 use Rattle.rv_behind.specs.declared.event.Reply.TheVariants as Gives
 use Rattle.rv_behind.specs.Acting.{Does, lent_view}
 use Rattle.rv_behind.specs.Events.{by}
-use Rattle.rv_port.specs.Calls.{marked, StoppedAt}
+use Rattle.rv_port.specs.Calls.{marked, StoppedAt, Quits}
+use Rattle.rv_port.specs.Held.{held_by}
 use Rattle.rv_port.specs.Traces.{Passing, Trace, Went}
 
 -- In one act the port was lent the bodies of all units loaded in a history that begins with all that it had seen, and that
@@ -33,8 +34,9 @@ abbrev pub TextStops : Option UnitBodies → Exit → Passing → Trace → Type
 TextStops (Some bodies) Stopped lent trace = StoppedAt lent trace
 TextStops bodies exit lent trace = Unit {0}
 
--- one run of a task's text by the bodies that were lent, with the mark that bodies which were wanted couldn't be had (own)
+-- one run of a task's text by the bodies that were lent, by a port whose actor held nothing, with the mark that bodies which were wanted couldn't be had (own)
 pub record TextLent (v : Passing) (mark : Bool) (budget : ℕ) (exit : Exit) (w : Passing) (after : Bool) : Type 0 where
+  pub none_held : held_by v ≡ 0
   pub bodies : Option UnitBodies
   pub lent : Passing
   pub borrows : Borrows v bodies lent
@@ -44,6 +46,18 @@ pub record TextLent (v : Passing) (mark : Bool) (budget : ℕ) (exit : Exit) (w 
   pub stops : TextStops bodies exit lent trace
   pub marked_is : after ≡ marked mark bodies
 
--- One run of a task's text. Where no act was left for the bodies, nothing changed, and it is stopped. (own)
+-- an actor that holds something, as one that was left in a body, runs no text
+abbrev pub TextBarred : Passing → Bool → Exit → Passing → Bool → Type 0
+TextBarred v mark exit w after = (0 < held_by v) × (w ≡ v) × (after ≡ mark) × (exit ≡ Stopped)
+
+-- One run of a task's text. Where no act was left for the bodies, or the actor holds something, nothing changed, and it is
+-- stopped. (own)
 abbrev pub TextRan : Passing → Bool → ℕ → Exit → Passing → Bool → Type 0
-TextRan v mark budget exit w after = (IsWorn v w × (after ≡ mark) × (exit ≡ Stopped)) ⊎ TextLent v mark budget exit w after
+TextRan v mark budget exit w after =
+    (IsWorn v w × (after ≡ mark) × (exit ≡ Stopped)) ⊎ (TextBarred v mark exit w after ⊎ TextLent v mark budget exit w after)
+
+-- A port is let go of whose text ran: the text has asked its quit, where its task may, so nothing more is asked. Where bodies
+-- couldn't be had, which is marked, the port asks it. (own)
+abbrev pub LeavesText : Bool → Passing → Passing → Type 0
+LeavesText true v w = Quits v w
+LeavesText false v w = w ≡ v

@@ -1,9 +1,11 @@
 //! The asking part of a port.
 
-ghost use Rattle.std.specs.Prelude.{◌≡◌, ℕ, ◌++◌, ◌∷◌, [], MatchResult, true, false, is_some};
+ghost use Rattle.std.specs.Prelude.{◌≡◌, ◌<◌, ◌+◌, ◌^◌, ℕ, ◌++◌, ◌∷◌, [], MatchResult, true, false, is_some};
 ghost use Rattle.rv_turn.specs.Histories.{mine};
 ghost use Rattle.rv_turn.specs.Passes.{IsWorn};
+ghost use Rattle.rv_meant.specs.Asks.{held_after};
 ghost use Rattle.rv_port.specs.Actors.{HasHandler};
+ghost use Rattle.rv_port.specs.Held.{held_by};
 ghost use Rattle.rv_behind.specs.Events.{by, catalogue_of};
 ghost use Rattle.rv_port.specs.Traces.{RepliedOnce, Settled, WoreOut, Went, IsTold, told, asks_on};
 
@@ -24,10 +26,15 @@ pub(crate) struct Asker {
     pub(crate) bell: Arc<Bell, Global>,
     // Whether bodies that were wanted couldn't be had.
     pub(crate) is_refused: bool,
+    // How many objects the actor holds.
+    pub(crate) held: u64,
     pub(crate) ghost given: { pass.first ≡ false },
+    pub(crate) ghost fresh: { pass.base ≡ [] },
     pub(crate) ghost limited: { is_some pass.about ≡ true },
     pub(crate) ghost handles: { HasHandler (catalogue_of pass.seen) pass.actor },
     pub(crate) ghost owns: { mine by pass.actor pass.seen ≡ pass.base ++ pass.own },
+    pub(crate) ghost counts: { held ≡ held_by pass },
+    pub(crate) ghost few: { held + pass.left < 2 ^ 63 },
 }
 
 // Whether the request is to be made again.
@@ -47,6 +54,18 @@ fn told_of(answer: &Answer) -> Answer
     }
 }
 
+// How many objects are held behind an answer.
+fn held_after(held: u64, answer: &Answer) -> u64
+    requires { held + 1 < 2 ^ 63 }
+    ensures { result ≡ held_after held answer.now }
+{
+    match answer {
+        Answer::Started(_) | Answer::Woken(Some(_)) => held + 1,
+        Answer::Done(_) => held.saturating_sub(1),
+        _ => held,
+    }
+}
+
 impl Asker {
     /// Asks once. Err where no act is left.
     pub(crate) fn try_ask<R: Wait>(&mut self, rt: &R, letter: &mut Letter) -> Result<(), Worn>
@@ -57,7 +76,11 @@ impl Asker {
         ensures request { letter.new.request ≡ letter.old.request }
         ensures mark { self.new.is_refused ≡ self.old.is_refused }
     {
-        self.pass.send(rt, letter)
+        let Ok(()) = self.pass.send(rt, letter) else {
+            return Err(Worn);
+        };
+        self.held = held_after(self.held, &letter.answer);
+        Ok(())
     }
 
     /// Asks, and again at each ring while the answer is Busy or Waiting. Err where no act is left.

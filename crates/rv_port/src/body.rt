@@ -8,12 +8,13 @@ ghost use Rattle.rv_port.specs.Traces.{Trace, Went};
 ghost use Rattle.rv_event.specs.declared.entry.Request.TheVariants.{Complete};
 ghost use Rattle.rv_port.specs.Bodies.{RunsTo, left_alone, given_by};
 ghost use Rattle.rv_port.specs.Calls.{marked};
+ghost use Rattle.rv_port.specs.Held.{held_by};
 
 use crate::asker::Asker;
 use rv_behind::event::{Begun, Lent};
 use rv_event::entry::{Exception, Exit, Request};
 use rv_exec::bodies::Bodies;
-use rv_exec::machine::run_body;
+use rv_exec::machine::run_body_at;
 use rv_value::{Args, Scalars};
 use std::sync::Wait;
 
@@ -55,12 +56,13 @@ fn run_one<R: Wait>(
     args: &Args,
     request: &mut Request,
 ) -> Exit
-    ensures runs { (trace : Trace) × RunsTo (Some (bodies_view bodies.now)) begun.now scalars.now args.now trace request.new result × Went asker.old.pass trace asker.new.pass }
+    ensures runs { (trace : Trace) × RunsTo (Some (bodies_view bodies.now)) (held_by asker.old.pass) begun.now scalars.now args.now trace request.new result × Went asker.old.pass trace asker.new.pass }
     ensures mark { asker.new.is_refused ≡ asker.old.is_refused }
 {
-    let ended = run_body(
+    let ended = run_body_at(
         rt,
         bodies,
+        asker.held as usize,
         begun.object,
         begun.operation,
         *scalars,
@@ -83,7 +85,7 @@ pub(crate) fn run<R: Wait>(
     args: &Args,
     request: &mut Request,
 ) -> Exit
-    ensures runs { (trace : Trace) × RunsTo (lent_view lent.now) begun.now scalars.now args.now trace request.new result × Went asker.old.pass trace asker.new.pass }
+    ensures runs { (trace : Trace) × RunsTo (lent_view lent.now) (held_by asker.old.pass) begun.now scalars.now args.now trace request.new result × Went asker.old.pass trace asker.new.pass }
     ensures mark { asker.new.is_refused ≡ marked asker.old.is_refused (lent_view lent.now) }
 {
     match lent {

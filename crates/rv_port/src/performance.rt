@@ -1,7 +1,8 @@
 //! One performance of a request: its answer, and where a body starts, the body and its end.
 
-ghost use Rattle.std.specs.Prelude.{◌≡◌};
-ghost use Rattle.rv_port.specs.Calls.{Ends, Waited, Performed, Stays, Tied};
+ghost use Rattle.std.specs.Prelude.{◌≡◌, ◌==◌};
+ghost use Rattle.rv_port.specs.Calls.{EndsIf, Waited, Performed, Stays, Tied};
+ghost use Rattle.rv_port.specs.Ends.{ExplainedUnless};
 ghost use Rattle.rv_port.specs.Reaching.{Performs};
 
 use crate::asker::Asker;
@@ -13,18 +14,23 @@ use rv_event::entry::{Answer, Exit, Request};
 use std::sync::Wait;
 
 impl Asker {
-    // Passes the gate, and asks for the end of a body.
+    // Passes the gate, and asks for the end of a body, at whose start so many objects were held. Where it isn't so many, the
+    // actor is left in a body that this one called: the host would take the end for that of the other one.
     fn end_body<R: Wait, G: Gate<R>>(
         &mut self,
         rt: &R,
         gate: &G,
         letter: &mut Letter,
         exit: &Exit,
+        held: u64,
     ) -> Reached
-        ensures ends { Ends self.old.pass letter.old.request exit.now result self.new.pass }
+        ensures ends { EndsIf (self.old.held == held) self.old.pass letter.old.request exit.now result self.new.pass }
         ensures mark { self.new.is_refused ≡ self.old.is_refused }
     {
         gate.pass(rt);
+        if self.held != held {
+            return Reached::Stopped;
+        }
         let Ok(()) = self.insist(rt, letter) else {
             return Reached::Stopped;
         };
@@ -42,6 +48,7 @@ impl Asker {
         if let Answer::Woken(Some(scalars)) = &letter.answer {
             let begun = waited_for(request);
             let args = arguments_of(request);
+            let held = self.held;
             let exit = run(
                 rt,
                 self,
@@ -51,7 +58,7 @@ impl Asker {
                 &args,
                 &mut letter.request,
             );
-            return self.end_body(rt, gate, &mut letter, &exit);
+            return self.end_body(rt, gate, &mut letter, &exit, held);
         }
         plain(false, &letter.answer)
     }
@@ -68,6 +75,7 @@ impl Asker {
         };
         if let Answer::Started(scalars) = &letter.answer {
             let args = arguments_of(request);
+            let held = self.held;
             let exit = run(
                 rt,
                 self,
@@ -77,7 +85,7 @@ impl Asker {
                 &args,
                 &mut letter.request,
             );
-            return self.end_body(rt, gate, &mut letter, &exit);
+            return self.end_body(rt, gate, &mut letter, &exit, held);
         }
         if is_wait(&letter.answer) {
             self.bell.wait_past(rt, rings);
@@ -97,6 +105,7 @@ impl Asker {
         ensures performed { Performed self.old.pass self.old.is_refused request.now result self.new.pass self.new.is_refused }
         ensures tied { Tied self.old.pass request.now result self.new.pass }
         ensures stays { Stays self.old.pass self.new.pass }
+        ensures explains { ExplainedUnless self.old.is_refused self.old.pass → ExplainedUnless self.new.is_refused self.new.pass }
     {
         self.go(rt, gate, request)
     }

@@ -2,14 +2,15 @@
 
 mod finishing;
 
-ghost use Rattle.std.specs.Prelude.{◌≡◌, ◌++◌, List, [], true, false, is_some};
+ghost use Rattle.std.specs.Prelude.{◌≡◌, ◌<◌, ◌^◌, ◌++◌, List, [], true, false, is_some};
 ghost use Rattle.rv_turn.specs.Histories.{mine, StartsWith};
 ghost use Rattle.rv_turn.specs.Passes.{Meets};
 ghost use Rattle.rv_event.specs.declared.entry.Request.TheVariants as asks;
 ghost use Rattle.rv_port.specs.Actors.{HasHandler};
 ghost use Rattle.rv_behind.specs.Events.{by, catalogue_of};
 ghost use Rattle.rv_port.specs.Calls.{Stays, Tied};
-ghost use Rattle.rv_port.specs.Ports.{porting, pass_of, PerformedBy};
+ghost use Rattle.rv_port.specs.Ports.{porting, pass_of, IsExplained, PerformedBy};
+ghost use Rattle.rv_port.specs.Reaching.{Performs};
 ghost use Rattle.rv_port.specs.Controls.{IsPorts};
 ghost use Rattle.rv_port.specs.Later.{NoEarlierList};
 ghost use Rattle.rv_behind.specs.declared.event.Event.{Event};
@@ -38,7 +39,7 @@ pub struct Port {
 impl Model for Port {
     ghost use Rattle.std.specs.Coded.{codes};
     ghost use Rattle.rv_behind.specs.contracts.event.Event as e;
-    ghost use Rattle.std.specs.Prelude.{◌≡◌, []};
+    ghost use Rattle.rv_port.specs.Ends.{ExplainedUnless};
     ghost use Rattle.rv_port.specs.Ports.{Porting, porting};
 
     ghost Value = { Porting };
@@ -47,7 +48,7 @@ impl Model for Port {
 
     ghost view = { λ p. porting p.asker.pass p.asker.is_refused };
 
-    ghost invariant = { λ p. p.asker.pass.base ≡ [] };
+    ghost invariant = { λ p. ExplainedUnless p.asker.is_refused p.asker.pass };
 }
 
 /// A port that is done. Contracts see of it what they saw of the port.
@@ -63,6 +64,7 @@ impl Model for Finished {
     ghost use Rattle.std.specs.Prelude.{◌≡◌, ◌++◌, [], true, false, is_some};
     ghost use Rattle.rv_turn.specs.Histories.{mine};
     ghost use Rattle.rv_behind.specs.Events.{by};
+    ghost use Rattle.rv_port.specs.Ends.{ExplainedUnless};
     ghost use Rattle.rv_port.specs.Ports.{Porting, porting};
 
     ghost Value = { Porting };
@@ -71,7 +73,7 @@ impl Model for Finished {
 
     ghost view = { λ f. porting f.pass f.is_refused };
 
-    ghost invariant = { λ f. (f.pass.first ≡ false) × (is_some f.pass.about ≡ true) × (f.pass.base ≡ []) × (mine by f.pass.actor f.pass.seen ≡ f.pass.own) };
+    ghost invariant = { λ f. (f.pass.first ≡ false) × (is_some f.pass.about ≡ true) × (f.pass.base ≡ []) × (mine by f.pass.actor f.pass.seen ≡ f.pass.own) × ExplainedUnless f.is_refused f.pass };
 }
 
 impl Finished {
@@ -82,9 +84,11 @@ impl Finished {
         self.pass.actor()
     }
 
-    /// Does nothing. Its clause says what every port that is done keeps.
+    /// Does nothing. Its clauses say what every port that is done keeps: each end of its actor is
+    /// what its text means, unless bodies were refused to the port.
     pub fn keeps(&self)
-        ensures { IsPorts (pass_of self.now) }
+        ensures keeps { IsPorts (pass_of self.now) }
+        ensures explained { IsExplained self.now }
     {
         let _ = &self.pass;
     }
@@ -103,6 +107,8 @@ impl Port {
         requires given { pass.first ≡ false }
         requires limited { is_some pass.about ≡ true }
         requires fresh { pass.base ≡ [] }
+        requires none { pass.own ≡ [] }
+        requires few { pass.left < 2 ^ 63 }
         requires handles { HasHandler (catalogue_of pass.seen) pass.actor }
         requires owns { mine by pass.actor pass.seen ≡ pass.base ++ pass.own }
         ensures { result ≡ porting pass false }
@@ -112,6 +118,7 @@ impl Port {
                 pass,
                 bell,
                 is_refused: false,
+                held: 0,
             },
         }
     }
@@ -131,12 +138,25 @@ impl Port {
         let _ = &self.asker;
     }
 
-    /// Does nothing. Its clauses say what every port keeps.
+    /// Does nothing. Its clauses say what every port keeps: each end of its actor is what its text
+    /// means, unless bodies were refused to the port.
     pub fn keeps(&self)
         ensures keeps { IsPorts (pass_of self.now) }
+        ensures explained { IsExplained self.now }
         ensures handles { HasHandler (catalogue_of self.now.seen) self.now.actor }
     {
         let _ = &self.asker;
+    }
+
+    // One performance of a request.
+    fn perform<R: Wait, G: Gate<R>>(&mut self, rt: &R, gate: &G, request: &Request) -> Reached
+        requires { Performs request.now }
+        ensures performed { PerformedBy self.old request.now result self.new }
+        ensures tied { Tied (pass_of self.old) request.now result (pass_of self.new) }
+        ensures stays { Stays (pass_of self.old) (pass_of self.new) }
+        ensures explained { IsExplained self.new }
+    {
+        self.asker.perform(rt, gate, request)
     }
 
     /// A call of an operation (9.5.1, 9.5.3, D.10): by the numbers of its object and of the
@@ -148,6 +168,7 @@ impl Port {
         ensures performed { PerformedBy self.old (asks.Call object operation args) result self.new }
         ensures tied { Tied (pass_of self.old) (asks.Call object operation args) result (pass_of self.new) }
         ensures stays { Stays (pass_of self.old) (pass_of self.new) }
+        ensures explained { IsExplained self.new }
     {
         self.call_gated(rt, object, operation, args, &Open)
     }
@@ -164,9 +185,9 @@ impl Port {
         ensures performed { PerformedBy self.old (asks.Call object operation args) result self.new }
         ensures tied { Tied (pass_of self.old) (asks.Call object operation args) result (pass_of self.new) }
         ensures stays { Stays (pass_of self.old) (pass_of self.new) }
+        ensures explained { IsExplained self.new }
     {
-        self.asker
-            .perform(rt, gate, &Request::Call(object, operation, args))
+        self.perform(rt, gate, &Request::Call(object, operation, args))
     }
 
     /// `Set_True` of a suspension object (D.10).
@@ -211,7 +232,7 @@ impl Port {
         ensures tied { Tied (pass_of self.old) (asks.DelayUntil time) result (pass_of self.new) }
         ensures stays { Stays (pass_of self.old) (pass_of self.new) }
     {
-        self.asker.perform(rt, &Open, &Request::DelayUntil(time))
+        self.perform(rt, &Open, &Request::DelayUntil(time))
     }
 
     /// The ticks so far, which are returned (D.8).
@@ -220,7 +241,7 @@ impl Port {
         ensures tied { Tied (pass_of self.old) asks.Clock result (pass_of self.new) }
         ensures stays { Stays (pass_of self.old) (pass_of self.new) }
     {
-        self.asker.perform(rt, &Open, &Request::Clock)
+        self.perform(rt, &Open, &Request::Clock)
     }
 
     /// An interrupt of the port's line: a call of its handler (C.3). It waits while the handler's
@@ -229,8 +250,9 @@ impl Port {
         ensures performed { PerformedBy self.old asks.Fire result self.new }
         ensures tied { Tied (pass_of self.old) asks.Fire result (pass_of self.new) }
         ensures stays { Stays (pass_of self.old) (pass_of self.new) }
+        ensures explained { IsExplained self.new }
     {
-        self.asker.perform(rt, &Open, &Request::Fire)
+        self.perform(rt, &Open, &Request::Fire)
     }
 
     /// What this port has seen, to be told to another of the same control.

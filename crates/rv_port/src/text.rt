@@ -7,7 +7,8 @@ ghost use Rattle.rv_behind.specs.Acting.{Does, lent_view};
 ghost use Rattle.rv_behind.specs.Events.{by};
 ghost use Rattle.rv_port.specs.Traces.{Trace, Went};
 ghost use Rattle.rv_port.specs.Calls.{marked, Stays};
-ghost use Rattle.rv_port.specs.Ports.{pass_of};
+ghost use Rattle.rv_port.specs.Following.{FollowsUnless};
+ghost use Rattle.rv_port.specs.Ports.{pass_of, IsExplained};
 ghost use Rattle.rv_port.specs.Texts.{TextRan, TextRuns};
 
 use crate::asker::Asker;
@@ -58,11 +59,13 @@ impl Asker {
         }
     }
 
-    // Runs the text of the actor's task.
-    #[tactic(auto, using(crate::proofs::Texts::ran_lent))]
+    // Runs the text of the actor's task, if it holds nothing.
     fn go_on<R: Wait>(&mut self, rt: &R, budget: u32) -> Exit
         ensures { TextRan self.old.pass self.old.is_refused budget result self.new.pass self.new.is_refused }
     {
+        if self.held > 0 {
+            return Exit::Stopped;
+        }
         let Ok(lent) = self.borrow(rt) else {
             return Exit::Stopped;
         };
@@ -73,12 +76,15 @@ impl Asker {
 impl Port {
     /// Runs the text of the port's task to its end (9.2, 9.3), by the bodies of the units loaded so
     /// far: its own body, which may make so many requests, 1 to 1,000,000, and each body that starts
-    /// for it. The last request is Quit, where the task's mode allows it. Where no act is left it is
-    /// stopped at once; where the bodies have too many holders too, and the port is marked. The text
-    /// runs on the stack: a thread with `rv_exec::machine::STACK_BYTES` of it holds any.
+    /// for it. The last request is Quit, where the task's mode allows it. Where no act is left, or
+    /// the task was left in a body, it is stopped at once; where the bodies have too many holders
+    /// too, and the port is marked. The text runs on the stack: a thread with
+    /// `rv_exec::machine::STACK_BYTES` of it holds any.
     pub fn run_text<R: Wait>(&mut self, rt: &R, budget: u32) -> Exit
         ensures ran { TextRan (pass_of self.old) self.old.refused budget result (pass_of self.new) self.new.refused }
         ensures stays { Stays (pass_of self.old) (pass_of self.new) }
+        ensures explained { IsExplained self.new }
+        ensures followed { FollowsUnless self.new.refused budget (pass_of self.old) (pass_of self.new) }
     {
         self.asker.go_on(rt, budget)
     }

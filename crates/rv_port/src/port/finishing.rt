@@ -2,7 +2,9 @@
 
 ghost use Rattle.std.specs.Prelude.{◌≡◌};
 ghost use Rattle.rv_port.specs.Calls.{Quits, Stays};
-ghost use Rattle.rv_port.specs.Ports.{pass_of};
+ghost use Rattle.rv_port.specs.Ends.{ExplainedUnless};
+ghost use Rattle.rv_port.specs.Ports.{porting, pass_of, IsExplained};
+ghost use Rattle.rv_port.specs.Texts.{LeavesText};
 
 use super::{Finished, Port};
 use crate::asker::Asker;
@@ -31,8 +33,38 @@ fn quit<R: Wait>(rt: &R, asker: &mut Asker)
     ensures quits { Quits asker.old.pass asker.new.pass }
     ensures stays { Stays asker.old.pass asker.new.pass }
     ensures mark { asker.new.is_refused ≡ asker.old.is_refused }
+    ensures explains { ExplainedUnless asker.old.is_refused asker.old.pass → ExplainedUnless asker.new.is_refused asker.new.pass }
 {
     ask_quit(rt, asker);
+}
+
+// Asks for the end of a task whose text couldn't run, since the bodies couldn't be had.
+#[tactic(auto, using(crate::proofs::TextEnds::leaves_marked, crate::proofs::TextEnds::leaves_unmarked, crate::proofs::Performing::stays_self))]
+fn quit_marked<R: Wait>(rt: &R, asker: &mut Asker)
+    ensures leaves { LeavesText asker.old.is_refused asker.old.pass asker.new.pass }
+    ensures stays { Stays asker.old.pass asker.new.pass }
+    ensures mark { asker.new.is_refused ≡ asker.old.is_refused }
+    ensures explains { ExplainedUnless asker.old.is_refused asker.old.pass → ExplainedUnless asker.new.is_refused asker.new.pass }
+{
+    if !asker.is_refused {
+        return;
+    }
+    quit(rt, asker);
+}
+
+// The port of an asker that is done.
+fn finished(asker: Asker) -> Finished
+    requires explained { ExplainedUnless asker.is_refused asker.pass }
+    ensures same { result ≡ porting asker.pass asker.is_refused }
+    ensures explained { IsExplained result }
+{
+    let Asker {
+        pass,
+        bell: _,
+        is_refused,
+        held: _,
+    } = asker;
+    Finished { pass, is_refused }
 }
 
 impl Port {
@@ -42,14 +74,23 @@ impl Port {
         ensures quits { Quits (pass_of self) (pass_of result) }
         ensures stays { Stays (pass_of self) (pass_of result) }
         ensures mark { result.refused ≡ self.refused }
+        ensures explained { IsExplained result }
     {
         let Port { mut asker } = self;
         quit(rt, &mut asker);
-        let Asker {
-            pass,
-            bell: _,
-            is_refused,
-        } = asker;
-        Finished { pass, is_refused }
+        finished(asker)
+    }
+
+    /// Lets go of the port when its task's text has run, which has asked Quit, where the task may.
+    /// Where the bodies couldn't be had the task quits, as by `finish`.
+    pub fn finish_text<R: Wait>(self, rt: &R) -> Finished
+        ensures leaves { LeavesText self.refused (pass_of self) (pass_of result) }
+        ensures stays { Stays (pass_of self) (pass_of result) }
+        ensures mark { result.refused ≡ self.refused }
+        ensures explained { IsExplained result }
+    {
+        let Port { mut asker } = self;
+        quit_marked(rt, &mut asker);
+        finished(asker)
     }
 }

@@ -1,5 +1,6 @@
 use Rattle.std.proofs.Common.{Option, [], refl, ap, sym, subst, ◌∙◌}
 use Rattle.rv_port.specs.Bodies.{Runs, left_alone}
+use Rattle.rv_port.specs.Held.{held_by}
 use Rattle.rv_port.specs.Composing.{went_none}
 use Rattle.rv_behind.specs.Acting.{lent_view}
 use Rattle.rv_port.specs.Calls.{marked}
@@ -14,5 +15,5 @@ returns-in-None-clause-mark g c = sym (ap (λ (l : Option Lent). marked c.args.a
 
 pub returns-in-None-clause-runs : goal.returns-in-None-clause-runs
 returns-in-None-clause-runs g c = let ended = left_alone c.args.begun.now c.args.scalars.now in
-    let runs = subst (λ (l : Option Lent). Runs (lent_view l) c.args.begun.now c.args.scalars.now c.args.args.now [] ended) (sym c.in-None.is) (refl, refl) in
+    let runs = subst (λ (l : Option Lent). Runs (lent_view l) (held_by c.args.asker.now.pass) c.args.begun.now c.args.scalars.now c.args.args.now [] ended) (sym c.in-None.is) (refl, refl) in
     ([], (ended, runs, c.leave_alone.ensures.request, c.leave_alone.ensures.exit), went_none c.args.asker.now.pass)

@@ -12,7 +12,7 @@ returns-in-Started g c =
     let mark : c.end_body.new.self.is_refused ≡ marked c.args.self.now.is_refused (lent_view c.insist.new.letter.lent) = c.end_body.ensures.mark ∙ (c.run-exit.ensures.mark ∙ ap (λ (b : Bool). marked b (lent_view c.insist.new.letter.lent)) c.insist.ensures.mark) in
     started c.args.self.now.pass c.insist.new.self.pass c.end_body.new.self.pass c.args.self.now.is_refused c.end_body.new.self.is_refused c.args.request.now c.insist.new.letter.answer c.insist.new.letter.begun c.insist.new.letter.lent c.in-Started.scalars c.arguments_of-args.result
     c.end_body.result given.0 given.1 c.in-Started.is c.arguments_of-args.ensures mark
-    (ran_on (lent_view c.insist.new.letter.lent) c.insist.new.self.pass c.run-exit.new.asker.pass c.end_body.new.self.pass c.insist.new.letter.begun c.in-Started.scalars c.arguments_of-args.result c.run-exit.new.request c.run-exit.result c.end_body.result c.run-exit.ensures.runs c.end_body.ensures.ends)
+    (ran_on (lent_view c.insist.new.letter.lent) c.insist.new.self.pass c.run-exit.new.asker.pass c.end_body.new.self.pass c.insist.new.letter.begun c.in-Started.scalars c.arguments_of-args.result c.run-exit.new.request c.run-exit.result c.end_body.result c.run-exit.new.asker.held c.insist.new.self.held c.run-exit.ensures.runs c.run-exit.new.asker.owns c.run-exit.new.asker.counts c.insist.new.self.counts c.end_body.ensures.ends)
 
 pub returns-then-is_wait : goal.returns-then-is_wait
 returns-then-is_wait g c =

@@ -14,7 +14,7 @@ returns-in-Woken-Some g c =
     let is : c.insist.new.letter.answer ≡ Answers.Woken (Some c.in-Woken-Some.scalars) = search rules in
     woken c.args.self.now.pass c.insist.new.self.pass c.end_body.new.self.pass c.args.self.now.is_refused c.end_body.new.self.is_refused c.args.request.now c.insist.new.letter.answer c.insist.new.letter.begun c.insist.new.letter.lent c.in-Woken-Some.scalars c.arguments_of-args.result c.waited_for-begun.result c.end_body.result
     given.0 given.1 is c.waited_for-begun.ensures c.arguments_of-args.ensures mark
-    (ran_on (lent_view c.insist.new.letter.lent) c.insist.new.self.pass c.run-exit.new.asker.pass c.end_body.new.self.pass c.waited_for-begun.result c.in-Woken-Some.scalars c.arguments_of-args.result c.run-exit.new.request c.run-exit.result c.end_body.result c.run-exit.ensures.runs c.end_body.ensures.ends)
+    (ran_on (lent_view c.insist.new.letter.lent) c.insist.new.self.pass c.run-exit.new.asker.pass c.end_body.new.self.pass c.waited_for-begun.result c.in-Woken-Some.scalars c.arguments_of-args.result c.run-exit.new.request c.run-exit.result c.end_body.result c.run-exit.new.asker.held c.insist.new.self.held c.run-exit.ensures.runs c.run-exit.new.asker.owns c.run-exit.new.asker.counts c.insist.new.self.counts c.end_body.ensures.ends)
 
 pub returns : goal.returns
 returns g c =

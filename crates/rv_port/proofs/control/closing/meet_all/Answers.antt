@@ -1,4 +1,4 @@
-use Rattle.std.proofs.Common.{rules, ◌≡◌, [], subst}
+use Rattle.std.proofs.Common.{rules, subst}
 use Rattle.rv_turn.specs.Passes.{Meets, Noted}
 use Rattle.rv_behind.specs.Events.{by}
 use Rattle.rv_behind.specs.declared.event.Event.{Event}

@@ -1,0 +1,22 @@
+use Rattle.std.proofs.Common.{List, map, refl, ap, subst, ◌∙◌}
+use Rattle.rv_turn.specs.Histories.{Each}
+use Rattle.rv_port.specs.Ports.{Porting}
+use Rattle.rv_crew.specs.Crews.{Keeps, IsClosedBy, actor_of, owed}
+use Rattle.rv_crew.specs.Teams.{Team}
+use Rattle.rv_crew.specs.declared.crew.Closed.{Closed}
+use Rattle.rv_crew.proofs.Closes.{closed_by}
+use Rattle.rv_crew.proofs.crew.Crew.close.Goals as goal
+
+pub returns-in-Ok-close-clause-ok : goal.returns-in-Ok-close-clause-ok
+returns-in-Ok-close-clause-ok g c =
+    let crew : Team = record {
+      running = map owed c.self.inside.running.items;
+      joined = c.self.inside.joined.items;
+      lost = c.self.inside.lost.items;
+      noted = c.self.inside.notes.items;
+      refuses = c.self.inside.refuses;
+    } in
+    let closed : Closed = record { host = c.in-Ok-close.host; finished = c.in-Ok.finished; lost = c.self.inside.lost } in
+    subst (λ (z : Team). IsClosedBy z c.args.control closed) c.self.view_is
+    (closed_by crew c.args.control closed (subst (λ (l : List Porting). Each (λ p. Keeps p) l) c.as_slice.ensures.value c.keep_all.ensures) c.in-Ok-close.ensures.ok
+    (c.in-Ok.ensures ∙ ap (map actor_of) c.as_slice-2.ensures.value) refl)

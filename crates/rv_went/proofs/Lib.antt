@@ -1,4 +1,0 @@
-pub mod Accounting
-pub mod Straying
-pub mod Since
-pub mod OwnEnds
