@@ -10,6 +10,7 @@ ghost use Rattle.rv_check.specs.Checks.{KeepsRefused, outcome_of as checked};
 use rv_check::warnings::{Warnings, run_warnings_of, warnings_of};
 use rv_fault::Failure;
 use rv_input::{Before, InputFault};
+use rv_play::counts::Counts;
 use rv_script::read_script;
 use rv_staff::Hires;
 use rv_verdict::{Audited, Explained, Watch};
@@ -62,6 +63,20 @@ pub fn play<R: Read, W: Write>(
         WritesScript (W.contents writer.old) (W.contents writer.new) (outcome_of all) script result) }
 {
     rv_play::play::play(alloc, reader, writer, all)
+}
+
+/// As `play`; and gives how many answers there were, and which of them the journal doesn't have.
+pub fn play_counted<R: Read, W: Write>(
+    alloc: Global,
+    reader: &mut R,
+    writer: &mut W,
+    all: bool,
+    counts: &mut Counts,
+) -> Result<(), Failure>
+    ensures { IfSome (R.remaining reader.old) (λ script.
+        WritesScript (W.contents writer.old) (W.contents writer.new) (outcome_of all) script result) }
+{
+    rv_play::play::play_counted(alloc, reader, writer, all, counts)
 }
 
 /// Looks at the sections of the script that a reader gives, in order, and writes a line for each that
