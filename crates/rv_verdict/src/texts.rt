@@ -57,21 +57,15 @@ pub fn texts_of<'a>(alloc: Global, script: &'a str) -> Result<Vec<Option<&'a str
 pub fn text_named<'a>(units: &[UnitShape], texts: &[Option<&'a str>], name: &str) -> Option<&'a str>
     ensures { text_now result ≡ text_named units.now (texts_now texts.now) name.now }
 {
-    let mut units = units;
-    let mut texts = texts;
-    'each: loop {
-        let Some((unit, others)) = units.split_first() else {
-            return None;
-        };
-        let Some((text, behind)) = texts.split_first() else {
+    for (index, unit) in units.iter().enumerate() {
+        let Some(text) = texts.get(index) else {
             return None;
         };
         if unit.name() == name {
             return *text;
         }
-        units = others;
-        texts = behind;
     }
+    None
 }
 
 // Whether bodies are those of a shape's objects and tasks.
@@ -116,7 +110,7 @@ pub fn bodies_of(
     shape: &UnitShape,
     text: Option<&str>,
 ) -> Result<UnitBodies, AllocError>
-    ensures { IfOk result (λ bodies. HasBodies (text_now text) catalogue.now shape.now (unit_view bodies)) }
+    ensures { IfOk result (λ bodies. HasBodies (text_now text.entry) catalogue.now shape.now (unit_view bodies)) }
 {
     match text {
         Some(text) => bodies_in(alloc, catalogue, shape, text),
