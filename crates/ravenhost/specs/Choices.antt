@@ -1,6 +1,6 @@
--- The command line (own): `play`, which may be given `--all`, `check`, which may be given `--explain`, and `run`, all three with
--- `--notes WHEN` and `--warnings-are-errors`; and `audit`, which may be given `--journal FILE` and, with it, `--torn`, and `--explain`.
--- What words come to is what `clap` says of this command.
+-- The command line (own): `play`, which may be given `--all`, `check`, which may be given `--explain` and `--script`, and `run`, all
+-- three with `--notes WHEN` and `--warnings-are-errors`; and `audit`, which may be given `--journal FILE` and, with it, `--torn`, and
+-- `--explain`. What words come to is what `clap` says of this command.
 use Rattle.std.specs.Prelude.{◌≡◌, Bool, true, false, if◌then◌else◌, List, [], ◌∷◌, Option, Some, None, codes}
 use Rattle.std.specs.Str.{bytes_eq}
 use Rattle.clap.specs.Words.{App, Row, Rule, new_app, new_rule, subcommand_of, with_rule, with_subcommand}
@@ -8,7 +8,7 @@ use Rattle.clap.specs.Simple.{on_top}
 use Rattle.clap.specs.Walk.{Text, first_of, one_of}
 use Rattle.clap.specs.declared.builder.action.ArgAction.TheVariants.{Set, SetTrue}
 use Rattle.ravenhost.specs.declared.chosen.Choice.{Choice}
-use Rattle.ravenhost.specs.declared.chosen.Choice.TheVariants.{Play, Check, Run, Audit, AuditFile}
+use Rattle.ravenhost.specs.declared.chosen.Choice.TheVariants.{Play, Check, CheckScript, Run, Audit, AuditFile}
 use Rattle.ravenhost.specs.declared.chosen.Notes.{Notes}
 use Rattle.ravenhost.specs.declared.chosen.Notes.TheVariants.{Auto, Always, Never}
 use Rattle.ravenhost.specs.declared.chosen.Unchosen.{Unchosen}
@@ -24,6 +24,10 @@ notes_rule = record (new_rule (codes "notes")) { long = Some (codes "notes"); ac
 
 abbrev pub flagged : Text → Text → App
 flagged name flag = with_rule (with_rule (with_rule (new_app name) (flag_rule flag)) notes_rule) (flag_rule (codes "warnings-are-errors"))
+
+-- `check`, which may be told to look at a whole script
+abbrev pub checked : App
+checked = with_rule (flagged (codes "check") (codes "explain")) (flag_rule (codes "script"))
 
 -- `run`
 abbrev pub running : App
@@ -48,7 +52,7 @@ alone = on_top (λ s. record s { subcommand_required = true }) versioned
 
 abbrev pub program : App
 program = with_subcommand (with_subcommand (with_subcommand (with_subcommand alone (flagged (codes "play") (codes "all")).top)
-    (flagged (codes "check") (codes "explain")).top) running.top) audited.top
+    checked.top) running.top) audited.top
 
 -- the text of a flag, as a flag
 abbrev pub IsFlag : Option Text → Bool → Type 0
@@ -58,7 +62,10 @@ IsFlag text flag = (text ≡ Some (codes "true") → flag ≡ true)
 -- a subcommand with what it was given is a choice
 abbrev pub Names : Text × List Row → Choice → Type 0
 Names found (Play all) = (found.0 ≡ codes "play") × IsFlag (one_of (codes "all") found.1) all
-Names found (Check explain) = (found.0 ≡ codes "check") × IsFlag (one_of (codes "explain") found.1) explain
+Names found (Check explain) =
+    (found.0 ≡ codes "check") × IsFlag (one_of (codes "explain") found.1) explain × IsFlag (one_of (codes "script") found.1) false
+Names found (CheckScript explain) =
+    (found.0 ≡ codes "check") × IsFlag (one_of (codes "explain") found.1) explain × IsFlag (one_of (codes "script") found.1) true
 Names found Run = found.0 ≡ codes "run"
 Names found Audit = (found.0 ≡ codes "audit") × IsFlag (one_of (codes "torn") found.1) false × (first_of (codes "journal") found.1 ≡ None)
 Names found (AuditFile torn) = (found.0 ≡ codes "audit") × IsFlag (one_of (codes "torn") found.1) torn × (first_of (codes "journal") found.1 ≡ None → ⊥)
@@ -85,6 +92,7 @@ Tells rows notes errors = (notes_of (first_of (codes "notes") rows) ≡ Some not
 abbrev pub IsNoted : Text × List Row → Choice → Notes → Bool → Type 0
 IsNoted found (Play all) notes errors = Tells found.1 notes errors
 IsNoted found (Check explain) notes errors = Tells found.1 notes errors
+IsNoted found (CheckScript explain) notes errors = Tells found.1 notes errors
 IsNoted found Run notes errors = Tells found.1 notes errors
 IsNoted found choice notes errors = errors ≡ false
 
@@ -97,6 +105,11 @@ IsExplaining found choice explains = explains ≡ false
 -- the word that was given is another
 abbrev pub HasNoWord : List Row → Type 0
 HasNoWord rows = notes_of (first_of (codes "notes") rows) ≡ None
+
+-- what `check` comes to
+abbrev pub check_of : Bool → Bool → Choice
+check_of true explain = CheckScript explain
+check_of false explain = Check explain
 
 -- what `audit` comes to: a flag without a file chooses nothing
 abbrev pub audit_of : Bool → Bool → Option Choice
@@ -127,6 +140,8 @@ line_of (Play false) = codes "play" ∷ []
 line_of (Play true) = codes "play" ∷ codes "--all" ∷ []
 line_of (Check false) = codes "check" ∷ []
 line_of (Check true) = codes "check" ∷ codes "--explain" ∷ []
+line_of (CheckScript false) = codes "check" ∷ codes "--script" ∷ []
+line_of (CheckScript true) = codes "check" ∷ codes "--explain" ∷ codes "--script" ∷ []
 line_of Run = codes "run" ∷ []
 line_of Audit = codes "audit" ∷ []
 line_of (AuditFile false) = codes "audit" ∷ codes "--journal" ∷ codes "J" ∷ []

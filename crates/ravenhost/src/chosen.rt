@@ -6,7 +6,7 @@ ghost use Rattle.clap.specs.Matches.{found_of};
 ghost use Rattle.clap.specs.Walk.{Row, Text, rows_of};
 ghost use Rattle.clap.specs.declared.builder.command.Command.TheViews.{out-Command as fields_of};
 ghost use Rattle.ravenhost.specs.declared.chosen.Unchosen.TheVariants as Unchosen;
-ghost use Rattle.ravenhost.specs.Choices.{Chooses, HasNoWord, IsExplaining, IsJournal, IsNoted, Lacks, Names, NamesNone, Tells, audit_of, audited, flag_rule, judging, line_of, notes_of, notes_rule, program, running};
+ghost use Rattle.ravenhost.specs.Choices.{Chooses, HasNoWord, IsExplaining, IsJournal, IsNoted, Lacks, Names, NamesNone, Tells, audit_of, audited, check_of, flag_rule, judging, line_of, notes_of, notes_rule, program, running};
 
 use clap::error::ErrorKind;
 use clap::{Arg, ArgAction, ArgMatches, Command, Error};
@@ -19,6 +19,8 @@ pub enum Choice {
     Play(bool),
     /// Look at the sections of a script; where the flag is set, its fault is explained.
     Check(bool),
+    /// Look at a whole script, its steps, commands or journal too; where the flag is set, its fault is explained.
+    CheckScript(bool),
     /// Run a host, with a thread for each actor, and serve the operator's commands.
     Run,
     /// Judge the journal of a script.
@@ -201,6 +203,11 @@ fn command<'a>(alloc: Global) -> Result<Command<'a>, AllocError>
         "Example: ravenhost check --explain < examples/checked.raven",
         explain,
     )?;
+    let check = check.arg(flag(
+        alloc,
+        "script",
+        "Look at a whole script of play, run or audit: at its steps, its commands or its journal too",
+    ))?;
     let run = run_subcommand(alloc)?;
     let audit = audit_subcommand(alloc)?;
     Command::new(alloc, "ravenhost")
@@ -211,6 +218,17 @@ fn command<'a>(alloc: Global) -> Result<Command<'a>, AllocError>
         .subcommand(check)?
         .subcommand(run)?
         .subcommand(audit)
+}
+
+// What `check` with its flags chooses.
+fn check_of(is_whole: bool, is_explained: bool) -> Choice
+    ensures { result ≡ check_of is_whole is_explained }
+{
+    if is_whole {
+        Choice::CheckScript(is_explained)
+    } else {
+        Choice::Check(is_explained)
+    }
 }
 
 // What `audit` with its file and its flag chooses; a flag without a file chooses nothing.
@@ -280,7 +298,7 @@ fn choice_of<'a>(matches: &ArgMatches<'a>) -> Option<Selection<'a>>
     if name == "check" {
         let checking = telling_of(words)?;
         return Some(Selection {
-            choice: Choice::Check(words.get_flag("explain")),
+            choice: check_of(words.get_flag("script"), words.get_flag("explain")),
             notes: checking.0,
             are_errors: checking.1,
             journal: None,

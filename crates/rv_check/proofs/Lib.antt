@@ -1,2 +1,3 @@
 mod Checked
 mod Checking
+mod Stepping

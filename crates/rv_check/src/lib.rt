@@ -2,5 +2,9 @@
 #![tactic(auto)]
 
 pub mod check;
+mod commands;
+mod devices;
+pub mod script;
 mod sections;
+mod steps;
 pub mod warnings;
