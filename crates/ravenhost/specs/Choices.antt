@@ -8,13 +8,13 @@ use Rattle.clap.specs.Simple.{on_top}
 use Rattle.clap.specs.Walk.{Text, first_of, one_of}
 use Rattle.clap.specs.declared.builder.action.ArgAction.TheVariants.{Set, SetTrue}
 use Rattle.ravenhost.specs.declared.chosen.Choice.{Choice}
-use Rattle.ravenhost.specs.declared.chosen.Choice.TheVariants.{Play, Check, CheckScript, Run, Audit, AuditFile}
+use Rattle.ravenhost.specs.declared.chosen.Choice.TheVariants.{Play, Check, Run, Audit, AuditFile}
 use Rattle.ravenhost.specs.declared.chosen.Notes.{Notes}
 use Rattle.ravenhost.specs.declared.chosen.Notes.TheVariants.{Auto, Always, Never}
 use Rattle.ravenhost.specs.declared.chosen.Unchosen.{Unchosen}
 use Rattle.ravenhost.specs.declared.chosen.Unchosen.TheVariants.{Usage, Unknown, NoMemory}
 
--- a flag, and a subcommand that may be given it
+-- a flag
 abbrev pub flag_rule : Text → Rule
 flag_rule name = record (new_rule name) { long = Some name; action = Some SetTrue }
 
@@ -22,16 +22,18 @@ flag_rule name = record (new_rule name) { long = Some name; action = Some SetTru
 abbrev pub notes_rule : Rule
 notes_rule = record (new_rule (codes "notes")) { long = Some (codes "notes"); action = Some Set; value_names = 1 }
 
-abbrev pub flagged : Text → Text → App
-flagged name flag = with_rule (with_rule (with_rule (new_app name) (flag_rule flag)) notes_rule) (flag_rule (codes "warnings-are-errors"))
+-- what looks at lists may be told when notes are told, and that they are errors
+abbrev pub with_notes : App → App
+with_notes app = with_rule (with_rule app notes_rule) (flag_rule (codes "warnings-are-errors"))
 
--- `check`, which may be told to look at a whole script
+abbrev pub playing : App
+playing = with_notes (with_rule (new_app (codes "play")) (flag_rule (codes "all")))
+
 abbrev pub checked : App
-checked = with_rule (flagged (codes "check") (codes "explain")) (flag_rule (codes "script"))
+checked = with_notes (with_rule (with_rule (new_app (codes "check")) (flag_rule (codes "explain"))) (flag_rule (codes "script")))
 
--- `run`
 abbrev pub running : App
-running = with_rule (with_rule (new_app (codes "run")) notes_rule) (flag_rule (codes "warnings-are-errors"))
+running = with_notes (new_app (codes "run"))
 
 -- `audit`, which may be given the name of a file, and two flags
 abbrev pub file_rule : Rule
@@ -51,8 +53,8 @@ abbrev pub alone : App
 alone = on_top (λ s. record s { subcommand_required = true }) versioned
 
 abbrev pub program : App
-program = with_subcommand (with_subcommand (with_subcommand (with_subcommand alone (flagged (codes "play") (codes "all")).top)
-    checked.top) running.top) audited.top
+program = with_subcommand (with_subcommand (with_subcommand (with_subcommand alone playing.top) checked.top) running.top)
+    audited.top
 
 -- the text of a flag, as a flag
 abbrev pub IsFlag : Option Text → Bool → Type 0
@@ -62,10 +64,8 @@ IsFlag text flag = (text ≡ Some (codes "true") → flag ≡ true)
 -- a subcommand with what it was given is a choice
 abbrev pub Names : Text × List Row → Choice → Type 0
 Names found (Play all) = (found.0 ≡ codes "play") × IsFlag (one_of (codes "all") found.1) all
-Names found (Check explain) =
-    (found.0 ≡ codes "check") × IsFlag (one_of (codes "explain") found.1) explain × IsFlag (one_of (codes "script") found.1) false
-Names found (CheckScript explain) =
-    (found.0 ≡ codes "check") × IsFlag (one_of (codes "explain") found.1) explain × IsFlag (one_of (codes "script") found.1) true
+Names found (Check explain whole) =
+    (found.0 ≡ codes "check") × IsFlag (one_of (codes "explain") found.1) explain × IsFlag (one_of (codes "script") found.1) whole
 Names found Run = found.0 ≡ codes "run"
 Names found Audit = (found.0 ≡ codes "audit") × IsFlag (one_of (codes "torn") found.1) false × (first_of (codes "journal") found.1 ≡ None)
 Names found (AuditFile torn) = (found.0 ≡ codes "audit") × IsFlag (one_of (codes "torn") found.1) torn × (first_of (codes "journal") found.1 ≡ None → ⊥)
@@ -91,8 +91,7 @@ Tells rows notes errors = (notes_of (first_of (codes "notes") rows) ≡ Some not
 -- the same, for `play`, `check` and `run`
 abbrev pub IsNoted : Text × List Row → Choice → Notes → Bool → Type 0
 IsNoted found (Play all) notes errors = Tells found.1 notes errors
-IsNoted found (Check explain) notes errors = Tells found.1 notes errors
-IsNoted found (CheckScript explain) notes errors = Tells found.1 notes errors
+IsNoted found (Check explain whole) notes errors = Tells found.1 notes errors
 IsNoted found Run notes errors = Tells found.1 notes errors
 IsNoted found choice notes errors = errors ≡ false
 
@@ -105,11 +104,6 @@ IsExplaining found choice explains = explains ≡ false
 -- the word that was given is another
 abbrev pub HasNoWord : List Row → Type 0
 HasNoWord rows = notes_of (first_of (codes "notes") rows) ≡ None
-
--- what `check` comes to
-abbrev pub check_of : Bool → Bool → Choice
-check_of true explain = CheckScript explain
-check_of false explain = Check explain
 
 -- what `audit` comes to: a flag without a file chooses nothing
 abbrev pub audit_of : Bool → Bool → Option Choice
@@ -138,10 +132,10 @@ Lacks words (Usage error) = ⊥
 abbrev pub line_of : Choice → List Text
 line_of (Play false) = codes "play" ∷ []
 line_of (Play true) = codes "play" ∷ codes "--all" ∷ []
-line_of (Check false) = codes "check" ∷ []
-line_of (Check true) = codes "check" ∷ codes "--explain" ∷ []
-line_of (CheckScript false) = codes "check" ∷ codes "--script" ∷ []
-line_of (CheckScript true) = codes "check" ∷ codes "--explain" ∷ codes "--script" ∷ []
+line_of (Check false false) = codes "check" ∷ []
+line_of (Check false true) = codes "check" ∷ codes "--script" ∷ []
+line_of (Check true false) = codes "check" ∷ codes "--explain" ∷ []
+line_of (Check true true) = codes "check" ∷ codes "--explain" ∷ codes "--script" ∷ []
 line_of Run = codes "run" ∷ []
 line_of Audit = codes "audit" ∷ []
 line_of (AuditFile false) = codes "audit" ∷ codes "--journal" ∷ codes "J" ∷ []

@@ -1,6 +1,6 @@
--- A whole script that is looked at, its steps, its commands or its journal too: for which command it is, what is said of its
--- sections, and what stands against them (own).
-use Rattle.std.specs.Prelude.{◌≡◌, ◌⊎◌, ℕ, ◌+◌, Bool, true, false, List, [], ◌∷◌, ◌++◌, length, codes, Option, Some, None, Result, Ok, Err}
+-- A whole script that is looked at, its steps, its commands or its journal too: what is said of its sections, and what stands
+-- against them (own).
+use Rattle.std.specs.Prelude.{◌≡◌, ◌⊎◌, ℕ, ◌+◌, List, [], ◌∷◌, ◌++◌, length, codes, Option, Some, None, Result, Ok, Err}
 use Rattle.std.specs.Fmt.{decimal}
 use Rattle.std.specs.Str.Lines.{lines}
 use Rattle.rv_text.specs.Sections.{SectionText}
@@ -9,37 +9,21 @@ use Rattle.rv_shape.specs.ShapeText.{shape_of}
 use Rattle.rv_shape.specs.Fits.{fault}
 use Rattle.rv_shape.specs.declared.fault.ShapeFault.{ShapeFault}
 use Rattle.rv_shape.specs.declared.fault.ShapeFault.TheVariants.{BadText}
-use Rattle.rv_script.specs.Openings.{OpenedText, opened, opening_of}
-use Rattle.rv_script.specs.declared.opening.Opening.{Opening}
-use Rattle.rv_script.specs.declared.opening.Opening.TheVariants as Openings
+use Rattle.rv_script.specs.Openings.{OpenedText, opened}
 use Rattle.rv_settings.specs.Settings.{DeviceText, SettingsText}
 use Rattle.rv_fault.specs.Sections.{GivesSettings, line_of}
 use Rattle.rv_fault.specs.declared.fault.What.{What}
 use Rattle.rv_fault.specs.declared.fault.What.TheVariants as Whats
 use Rattle.rv_fault.specs.declared.fault.ScriptFault.{ScriptFault}
 use Rattle.rv_fault.specs.Written.{Outcome}
-use Rattle.rv_check.specs.Checks.{Checks, ChecksSome, Judging, Telling, as_section, at_line, shape_line}
+use Rattle.rv_check.specs.Checks.{Checks, ChecksSome, Judging, OfSection, Telling, at_line, shape_line}
 use Rattle.rv_check.specs.CommandLines.{TakesAll, before_commands, lines_behind}
 use Rattle.rv_check.specs.DeviceFaults.{devices_fault, with_devices}
 use Rattle.rv_check.specs.StepFaults.{steps_count, steps_fault}
-use Rattle.rv_check.specs.declared.script.Purpose.{Purpose}
-use Rattle.rv_check.specs.declared.script.Purpose.TheVariants.{Play, Run, Audit}
-
--- the command that alone takes a section of an opening
-abbrev pub taken_by : Option Opening → Option Purpose
-taken_by (Some Openings.Steps) = Some Play
-taken_by (Some Openings.Journal) = Some Audit
-taken_by (Some Openings.Run) = Some Run
-taken_by opening = None
-
--- the first section that one command alone takes tells which command a script is for; without one it is for `play`
-abbrev pub or_later : Option Purpose → Purpose → Purpose
-or_later None later = later
-or_later (Some purpose) later = purpose
-
-abbrev pub purpose_of : List SectionText → Purpose
-purpose_of [] = Play
-purpose_of (section ∷ others) = or_later (taken_by (opening_of section.opening)) (purpose_of others)
+use Rattle.rv_check.specs.Purposes.{is_last, part_in, purpose_of}
+use Rattle.rv_check.specs.declared.purpose.Purpose.{Purpose}
+use Rattle.rv_check.specs.declared.purpose.Part.{Part}
+use Rattle.rv_check.specs.declared.purpose.Part.TheVariants.{AsChecked, Steps, Journal, Given, NotTaken, Commands}
 
 -- the lines that are said
 abbrev pub steps_line : ℕ → List ℕ
@@ -75,30 +59,14 @@ as_given shapes after line None said told = (said ≡ []) × (told ≡ Some (rec
 as_given shapes after line (Some shape) said told =
     (said ≡ shape_line shape.name) × (told ≡ None) × (after ≡ fitted (fault shapes shape) shapes shape)
 
--- a section, as each command takes it; one that isn't named is as `check` has it
-abbrev pub of_play : List Shape → List Shape → SectionText → Option Opening → Telling
-of_play shapes after section (Some Openings.Steps) said told = OfSteps shapes section said told × (after ≡ shapes)
-of_play shapes after section opening said told = at_line section.line (as_section shapes after section.text opening) said told
-
-abbrev pub of_run : List Shape → List Shape → SectionText → Option Opening → Telling
-of_run shapes after section (Some Openings.Shape) said told = IsNotTaken section said told
-of_run shapes after section opening said told = at_line section.line (as_section shapes after section.text opening) said told
-
-abbrev pub of_audit : List Shape → List Shape → SectionText → Option Opening → Telling
-of_audit shapes after section (Some Openings.Journal) said told = OfJournal section said told × (after ≡ shapes)
-of_audit shapes after section (Some Openings.Shape) said told = as_given shapes after section.line (shape_of section.text) said told
-of_audit shapes after section (Some Openings.AccessList) said told = IsNotTaken section said told
-of_audit shapes after section opening said told = at_line section.line (as_section shapes after section.text opening) said told
-
-abbrev pub by_purpose : Purpose → List Shape → List Shape → SectionText → Option Opening → Telling
-by_purpose Play = of_play
-by_purpose Run = of_run
-by_purpose Audit = of_audit
-
--- commands follow the opening of a section, for `run` alone
-abbrev pub is_run : Purpose → Option Opening → Bool
-is_run Run (Some Openings.Run) = true
-is_run purpose opening = false
+-- a section as a part
+abbrev pub OfPart : Part → List Shape → List Shape → SectionText → Telling
+OfPart AsChecked shapes after section = at_line section.line (OfSection shapes after section)
+OfPart Steps shapes after section = λ said told. OfSteps shapes section said told × (after ≡ shapes)
+OfPart Journal shapes after section = λ said told. OfJournal section said told × (after ≡ shapes)
+OfPart Given shapes after section = as_given shapes after section.line (shape_of section.text)
+OfPart NotTaken shapes after section = IsNotTaken section
+OfPart Commands shapes after section = λ said told. ⊥
 
 -- from there on the devices are loaded, whose settings open at a line, and then commands are read
 abbrev pub OfRun : ℕ → List DeviceText → List Shape → SectionText → List SectionText → Telling
@@ -115,8 +83,8 @@ OfRun line devices shapes section others said (Some told) =
 -- how the sections of a script are judged that is for a command
 abbrev pub judging : Purpose → ℕ → List DeviceText → Judging
 judging purpose line devices = record {
-  Section = λ shapes after section. by_purpose purpose shapes after section (opening_of section.opening);
-  is_last = λ section. is_run purpose (opening_of section.opening);
+  Section = λ shapes after section. OfPart (part_in purpose section) shapes after section;
+  is_last = λ section. is_last (part_in purpose section);
   Rest = OfRun line devices;
 }
 

@@ -20,12 +20,11 @@ abbrev pub unless_known : {X : Type 0} → Option X → Option What
 unless_known None = Some Whats.UnknownName
 unless_known (Some found) = None
 
--- what stands against a request; a change of the list names nothing, but its line may be none
+-- what stands against a request: a call's object and operation have to be loaded, and a line for the list has to be one
 abbrev pub request_fault : List Shape → Asked → Option What
-request_fault shapes (Asks.Change (Ok change) number) = None
+request_fault shapes (Asks.Call object operation values) = unless_known (request_of shapes (Asks.Call object operation values))
 request_fault shapes (Asks.Change (Err fault) number) = Some (Whats.List fault)
-request_fault shapes (Asks.Go count) = None
-request_fault shapes asked = unless_known (request_of shapes asked)
+request_fault shapes asked = None
 
 -- the actor is looked for first
 abbrev pub asker_fault : List Shape → Asked → Option ℕ → Option What

@@ -5,57 +5,23 @@ ghost use Rattle.std.specs.Str.Lines.{lines};
 ghost use Rattle.rv_shape.specs.ShapeText.{shape_of};
 ghost use Rattle.rv_fault.specs.Sections.{line_of};
 ghost use Rattle.rv_fault.specs.Written.{Writes, WritesScript};
-ghost use Rattle.rv_script.specs.Openings.{AreNumbered, OpenedText, opened, opening_of};
+ghost use Rattle.rv_script.specs.Openings.{AreNumbered};
 ghost use Rattle.rv_check.specs.Checks.{KeepsRefused, TellsAll, WritesOne};
-ghost use Rattle.rv_check.specs.Scripts.{OfJournal, OfRun, OfSteps, as_given, by_purpose, commands_line, is_run, journal_line, judging, of_audit, of_play, of_run, outcome_of, purpose_of, steps_line, taken_by};
+ghost use Rattle.rv_check.specs.Scripts.{OfJournal, OfPart, OfRun, OfSteps, as_given, commands_line, is_last, journal_line, judging, outcome_of, steps_line};
 
 use crate::commands::count_commands;
 use crate::devices::load_devices;
+use crate::purpose::{Part, Purpose, is_last, part_of, purpose_in};
 use crate::sections::{check_section, say, shape_line};
 use crate::steps::count_steps;
 use rv_fault::{Failure, What, refused, settings_of, shape_of};
-use rv_script::{Opening, open, opening_of, read_script, text_of};
+use rv_script::{open, read_script, text_of};
 use rv_settings::Device;
 use rv_shape::catalogue::Catalogue;
 use rv_shape::fault::ShapeFault;
 use rv_text::{Section, Sections, next_line};
 use std::alloc::{AllocError, Global};
 use std::io::{Read, Write};
-
-/// Which command a script is for.
-#[derive(Clone, Copy, Debug, Drop, PartialEq, Eq)]
-pub enum Purpose {
-    /// It has steps, or nothing that one command alone takes.
-    Play,
-    /// It has a line `@run`.
-    Run,
-    /// It has a journal.
-    Audit,
-}
-
-// The command that alone takes a section of an opening.
-fn taken_by(opening: &str) -> Option<Purpose>
-    ensures { result ≡ taken_by (opening_of opening.now) }
-{
-    match opening_of(opening) {
-        Some(Opening::Steps) => Some(Purpose::Play),
-        Some(Opening::Journal) => Some(Purpose::Audit),
-        Some(Opening::Run) => Some(Purpose::Run),
-        _ => None,
-    }
-}
-
-// Which command sections are for.
-fn purpose_of(mut sections: Sections<'_>) -> Purpose
-    ensures { result ≡ purpose_of sections.entry }
-{
-    'each: while let Some(section) = sections.next_section() {
-        if let Some(purpose) = taken_by(section.opening) {
-            return purpose;
-        }
-    }
-    Purpose::Play
-}
 
 // The line that is said of steps.
 fn steps_line(alloc: Global, count: usize) -> Result<String, AllocError>
@@ -140,90 +106,25 @@ fn check_given<W: Write>(
     }
 }
 
-// Looks at a section of a script for `play`.
-fn check_played<W: Write>(
+// Looks at a section as a part, which isn't the commands.
+fn check_part<W: Write>(
     alloc: Global,
     writer: &mut W,
     catalogue: &mut Catalogue,
+    part: Part,
     section: &Section<'_>,
 ) -> Result<(), Failure>
     requires lines { section.now.line + length section.now.text.now ≤ 2 ^ 63 }
+    requires inner { is_last part ≡ false }
     ensures { WritesOne (W.contents writer.old) (W.contents writer.new)
-        (of_play catalogue.old catalogue.new (record { line = section.now.line; opening = section.now.opening.now; text = section.now.text.now })
-        (opening_of section.now.opening.now)) result }
+        (OfPart part catalogue.old catalogue.new (record { line = section.now.line; opening = section.now.opening.now; text = section.now.text.now })) result }
 {
-    match opening_of(section.opening) {
-        Some(Opening::Steps) => check_steps(alloc, writer, catalogue, section),
-        _ => check_section(alloc, writer, catalogue, section),
-    }
-}
-
-// Looks at a section of a script for `run`.
-fn check_run<W: Write>(
-    alloc: Global,
-    writer: &mut W,
-    catalogue: &mut Catalogue,
-    section: &Section<'_>,
-) -> Result<(), Failure>
-    ensures { WritesOne (W.contents writer.old) (W.contents writer.new)
-        (of_run catalogue.old catalogue.new (record { line = section.now.line; opening = section.now.opening.now; text = section.now.text.now })
-        (opening_of section.now.opening.now)) result }
-{
-    match opening_of(section.opening) {
-        Some(Opening::Shape) => Err(refused(section.line, What::BadSection)),
-        _ => check_section(alloc, writer, catalogue, section),
-    }
-}
-
-// Looks at a section of a script for `audit`.
-fn check_audited<W: Write>(
-    alloc: Global,
-    writer: &mut W,
-    catalogue: &mut Catalogue,
-    section: &Section<'_>,
-) -> Result<(), Failure>
-    ensures { WritesOne (W.contents writer.old) (W.contents writer.new)
-        (of_audit catalogue.old catalogue.new (record { line = section.now.line; opening = section.now.opening.now; text = section.now.text.now })
-        (opening_of section.now.opening.now)) result }
-{
-    match opening_of(section.opening) {
-        Some(Opening::Journal) => check_journal(alloc, writer, section),
-        Some(Opening::Shape) => check_given(alloc, writer, catalogue, section),
-        Some(Opening::AccessList) => Err(refused(section.line, What::BadSection)),
-        _ => check_section(alloc, writer, catalogue, section),
-    }
-}
-
-// Looks at a section, as a command takes it.
-fn check_for<W: Write>(
-    alloc: Global,
-    writer: &mut W,
-    catalogue: &mut Catalogue,
-    purpose: Purpose,
-    section: &Section<'_>,
-) -> Result<(), Failure>
-    requires lines { section.now.line + length section.now.text.now ≤ 2 ^ 63 }
-    ensures { WritesOne (W.contents writer.old) (W.contents writer.new)
-        (by_purpose purpose catalogue.old catalogue.new (record { line = section.now.line; opening = section.now.opening.now; text = section.now.text.now })
-        (opening_of section.now.opening.now)) result }
-{
-    match purpose {
-        Purpose::Play => check_played(alloc, writer, catalogue, section),
-        Purpose::Run => check_run(alloc, writer, catalogue, section),
-        Purpose::Audit => check_audited(alloc, writer, catalogue, section),
-    }
-}
-
-// Whether commands follow an opening.
-fn is_run(purpose: Purpose, opening: &str) -> bool
-    ensures { result ≡ is_run purpose (opening_of opening.now) }
-{
-    match purpose {
-        Purpose::Run => match opening_of(opening) {
-            Some(Opening::Run) => true,
-            _ => false,
-        },
-        _ => false,
+    match part {
+        Part::Steps => check_steps(alloc, writer, catalogue, section),
+        Part::Journal => check_journal(alloc, writer, section),
+        Part::Given => check_given(alloc, writer, catalogue, section),
+        Part::NotTaken => Err(refused(section.line, What::BadSection)),
+        Part::AsChecked | Part::Commands => check_section(alloc, writer, catalogue, section),
     }
 }
 
@@ -267,10 +168,11 @@ fn check_all<W: Write>(
 {
     let mut catalogue = Catalogue::new(alloc);
     'each: while let Some(section) = sections.next_section() {
-        if is_run(purpose, section.opening) {
+        let part = part_of(purpose, section.opening);
+        if is_last(part) {
             return check_commands(alloc, writer, catalogue, line, devices, &section, sections);
         }
-        match check_for(alloc, writer, &mut catalogue, purpose, &section) {
+        match check_part(alloc, writer, &mut catalogue, part, &section) {
             Ok(()) => {}
             Err(failure) => return Err(failure),
         }
@@ -285,16 +187,6 @@ fn settings_line(settings: &Option<Section<'_>>) -> usize
     match settings {
         Some(section) => section.line,
         None => 1,
-    }
-}
-
-// Which command the text of a script is for.
-fn purpose_in(text: &str) -> Purpose
-    ensures { (script : OpenedText) → opened text.now ≡ Ok script → result ≡ purpose_of script.sections }
-{
-    match open(text) {
-        Ok(script) => purpose_of(script.sections),
-        Err(_) => Purpose::Play,
     }
 }
 

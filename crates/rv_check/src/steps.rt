@@ -23,13 +23,13 @@ fn find_names(
     ensures { IsFound line (request_fault catalogue.now asked.now) result }
 {
     match asked {
-        Asked::Go(_) | Asked::Change(Ok(_), _) => Ok(()),
-        Asked::Change(Err(fault), _) => Err(refused(line, What::List(*fault))),
-        asked => match request_of(alloc, catalogue, asked) {
+        Asked::Call(_, _, _) => match request_of(alloc, catalogue, asked) {
             Ok(Some(_)) => Ok(()),
             Ok(None) => Err(refused(line, What::UnknownName)),
             Err(_) => Err(Failure::Memory),
         },
+        Asked::Change(Err(fault), _) => Err(refused(line, What::List(*fault))),
+        _ => Ok(()),
     }
 }
 

@@ -1,6 +1,6 @@
 use Rattle.std.proofs.Common.{◌≡◌, length}
-use Rattle.rv_check.specs.Scripts.{purpose_of}
-use Rattle.rv_check.proofs.script.purpose_of.Given as goal
+use Rattle.rv_check.specs.Purposes.{purpose_of}
+use Rattle.rv_check.proofs.purpose.purpose_of.Given as goal
 
 -- no section so far is one that one command alone takes
 abbrev pub invariant-each : goal.invariant-each
