@@ -1,6 +1,6 @@
 -- What `clap` finds of a command line, as a choice.
 use Rattle.std.proofs.Common.{◌≡◌, ◌∷◌, List, Option, Some, None, Bool, true, false, true≢false, codes, slice_index, ap, ap₂, sym, ◌∙◌, refl, subst}
-use Rattle.std.specs.Prelude.{◌==◌, IfSome, IfNone, is_some, option_map, unwrap_or}
+use Rattle.std.specs.Prelude.{◌==◌, is_some, option_map, unwrap_or}
 use Rattle.clap.specs.Words.{is_simple, subcommand_of, takes}
 use Rattle.clap.specs.Walk.{Row, Text, first_of, one_of}
 use Rattle.clap.proofs.OnLiterals.{clap_on_literals}
