@@ -1,10 +1,7 @@
 -- The commands of a run, a line after another, as long as the run reads them; and what stands against them (own). A line is the
 -- command that it is in a run. That a load is accepted is taken for granted.
-use Rattle.std.specs.Prelude.{◌≡◌, ◌≤◌, ◌<◌, ℕ, ◌+◌, ◌==◌, Bool, true, false, List, [], ◌∷◌, ◌++◌, length, Option, Some, None, Result, Ok, Err}
-use Rattle.std.specs.List.{flat_map}
-use Rattle.std.specs.Str.Lines.{lines}
+use Rattle.std.specs.Prelude.{◌≡◌, ◌≤◌, ℕ, ◌+◌, ◌==◌, Bool, true, false, List, [], ◌∷◌, ◌++◌, length, Option, Some, None, Result, Ok, Err}
 use Rattle.rv_text.specs.Words.{words}
-use Rattle.rv_text.specs.Sections.{SectionText}
 use Rattle.rv_input.specs.Coming.{is_end}
 use Rattle.rv_shape.specs.Shape.{Shape}
 use Rattle.rv_shell.specs.Orders.{order_of}
@@ -17,25 +14,8 @@ use Rattle.rv_fault.specs.declared.failure.Failure.TheVariants.{Refused, Memory,
 use Rattle.rv_fault.specs.declared.fault.What.{What}
 use Rattle.rv_fault.specs.declared.fault.What.TheVariants as Whats
 use Rattle.rv_fault.specs.declared.fault.ScriptFault.{ScriptFault}
-use Rattle.rv_check.specs.Checks.{OfUnit, unit_line}
-
--- a line of a script, and its number
-pub record LineText : Type 0 where
-  pub number : ℕ
-  pub text : List ℕ
-
--- lines, the first of which has this number
-abbrev pub numbered : ℕ → List (List ℕ) → List LineText
-numbered number [] = []
-numbered number (line ∷ others) = record { number = number; text = line } ∷ numbered (number + 1) others
-
--- the lines of a section, its opening among them
-abbrev pub section_lines : SectionText → List LineText
-section_lines section = record { number = section.line; text = section.opening } ∷ numbered (section.line + 1) (lines section.text)
-
--- all lines behind the opening of a section, which others follow
-abbrev pub lines_behind : SectionText → List SectionText → List LineText
-lines_behind section others = numbered (section.line + 1) (lines section.text) ++ flat_map section_lines others
+use Rattle.rv_check.specs.Checks.{OfUnit}
+use Rattle.rv_check.specs.ScriptLines.{LineText}
 
 -- how many commands a run reads at most
 abbrev pub most_commands : ℕ

@@ -17,7 +17,8 @@ use Rattle.rv_fault.specs.declared.fault.What.TheVariants as Whats
 use Rattle.rv_fault.specs.declared.fault.ScriptFault.{ScriptFault}
 use Rattle.rv_fault.specs.Written.{Outcome}
 use Rattle.rv_check.specs.Checks.{Checks, ChecksSome, Judging, OfSection, Telling, at_line, shape_line}
-use Rattle.rv_check.specs.CommandLines.{TakesAll, before_commands, lines_behind}
+use Rattle.rv_check.specs.CommandLines.{TakesAll, before_commands}
+use Rattle.rv_check.specs.ScriptLines.{lines_behind}
 use Rattle.rv_check.specs.DeviceFaults.{devices_fault, with_devices}
 use Rattle.rv_check.specs.StepFaults.{steps_count, steps_fault}
 use Rattle.rv_check.specs.Purposes.{is_last, part_in, purpose_of}

@@ -1,84 +1,24 @@
 //! Looks at the commands of a run, as long as a run reads them.
 
-ghost use Rattle.std.specs.Prelude.{◌≡◌, ◌<◌, ◌≤◌, ◌+◌, ◌^◌, ◌∷◌, [], None, Some, Ok, true, false, length, IfNone, IfSome, option_map, string_bytes};
+ghost use Rattle.std.specs.Prelude.{◌≡◌, ◌<◌, ◌≤◌, ◌+◌, ◌^◌, None, Some, Ok, true, false, length, string_bytes};
 ghost use Rattle.rv_script.specs.Openings.{AreNumbered};
 ghost use Rattle.rv_shell.specs.Orders.{order_of};
 ghost use Rattle.rv_text.specs.Words.{words};
-ghost use Rattle.rv_check.specs.CommandLines.{CountsCommands, IsLeft, Leads, Loads, TakesLine, before_commands, by_end, by_order, lines_behind, most_commands, unless_most};
+ghost use Rattle.rv_check.specs.ScriptLines.{lines_behind};
+ghost use Rattle.rv_check.specs.CommandLines.{CountsCommands, IsLeft, Leads, Loads, TakesLine, before_commands, by_end, by_order, most_commands, unless_most};
 
+use crate::lines::LinesBehind;
 use rv_fault::{Failure, What, refused, text_unit};
 use rv_shape::catalogue::Catalogue;
 use rv_shell::{Order, order_of};
 use rv_step::reading::StepError;
-use rv_text::{Section, Sections, next_line};
+use rv_text::{Section, Sections};
 use std::alloc::Global;
 use std::marker::Model;
 use std::mem;
 
 // How many commands a run reads at most.
 const MOST_COMMANDS: usize = 100_000;
-
-// The lines that are left behind the line `@run`: those of its section, and then the others with their openings.
-#[derive(Drop)]
-struct CommandLines<'a> {
-    // The number of the line that was taken last.
-    line: usize,
-    text: &'a str,
-    sections: Sections<'a>,
-}
-
-impl<'a> Model for CommandLines<'a> {
-    ghost use Rattle.std.specs.Prelude.{◌≤◌, ◌+◌, ◌^◌, ◌++◌, List, length};
-    ghost use Rattle.std.specs.List.{flat_map};
-    ghost use Rattle.std.specs.Str.Lines.{lines};
-    ghost use Rattle.rv_script.specs.Openings.{AreNumbered};
-    ghost use Rattle.rv_check.specs.CommandLines.{LineText, numbered, section_lines};
-
-    ghost Value = { List LineText };
-
-    ghost view = { λ c. numbered (c.line + 1) (lines c.text.now) ++ flat_map section_lines c.sections };
-
-    ghost invariant = { λ c. (c.line + length c.text.now ≤ 2 ^ 63) × AreNumbered c.sections };
-}
-
-impl<'a> CommandLines<'a> {
-    // Those behind the opening of a section.
-    fn behind(section: &Section<'a>, others: Sections<'a>) -> CommandLines<'a>
-        requires lines { section.now.line + length section.now.text.now ≤ 2 ^ 63 }
-        requires numbered { AreNumbered others }
-        ensures { result ≡ lines_behind (record {
-          line = section.now.line;
-          opening = section.now.opening.now;
-          text = section.now.text.now;
-        }) others.entry }
-    {
-        CommandLines {
-            line: section.line,
-            text: section.text,
-            sections: others,
-        }
-    }
-
-    // Takes the next line, with its number.
-    fn take_line(&mut self) -> Option<(usize, &'a str)>
-        ensures none { IfNone result (self.old ≡ []) }
-        ensures first { IfSome result (λ l. self.old ≡ record { number = l.0; text = l.1.now } ∷ self.new) }
-    {
-        if let Some((line, rest)) = next_line(self.text) {
-            self.line += 1;
-            self.text = rest;
-            return Some((self.line, line));
-        }
-        match self.sections.next_section() {
-            Some(section) => {
-                self.line = section.line;
-                self.text = section.text;
-                Some((section.line, section.opening))
-            }
-            None => None,
-        }
-    }
-}
 
 // A unit text that is being read behind a command `load` at a line.
 #[derive(Drop)]
@@ -229,7 +169,7 @@ pub(crate) fn count_commands<'a>(
       text = section.now.text.now;
     }) others.entry) result }
 {
-    let mut lines = CommandLines::behind(section, others);
+    let mut lines = LinesBehind::new(section, others);
     let mut review = Review {
         alloc,
         catalogue,

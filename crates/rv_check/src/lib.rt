@@ -4,6 +4,7 @@
 pub mod check;
 mod commands;
 mod devices;
+mod lines;
 mod purpose;
 pub mod script;
 mod sections;

@@ -1,6 +1,7 @@
 use Rattle.std.proofs.Common.{ℕ, Option, length}
 use Rattle.rv_fault.specs.declared.fault.ScriptFault.{ScriptFault}
-use Rattle.rv_check.specs.CommandLines.{TakesAll, before_commands, lines_behind}
+use Rattle.rv_check.specs.CommandLines.{TakesAll, before_commands}
+use Rattle.rv_check.specs.ScriptLines.{lines_behind}
 use Rattle.rv_check.proofs.commands.count_commands.Given as goal
 
 -- the lines that are left go on behind those that were taken
