@@ -15,7 +15,7 @@ use Rattle.rv_fault.specs.declared.failure.Failure.{Failure}
 use Rattle.rv_fault.specs.declared.failure.Failure.TheVariants.{Refused, Memory, Io}
 use Rattle.rv_fault.specs.declared.fault.What.TheVariants as Whats
 use Rattle.rv_fault.specs.declared.fault.ScriptFault.{ScriptFault}
-use Rattle.rv_fault.specs.Written.{WritesSome, Writes, WritesScript, refused_bytes}
+use Rattle.rv_fault.specs.Written.{Outcome, WritesSome, Writes, WritesScript, refused_bytes}
 use Rattle.rv_check.specs.Checks.{Finding, Judging, Telling, WritesOne, WritesPart, TellsSome, Tells, TellsAll, OfSection, Checks, ChecksSome, AreSettings, OfSettings, ChecksOpened, BeginsOpened, KeepsRefused, at_line, by_last, checking, outcome_of}
 
 -- what a section is told as whose fault is told at its line
@@ -167,15 +167,15 @@ front_told script old line e =
     let told : Option ScriptFault = Some (record { line = line; what = Whats.BadSection }) in
     record { text = []; is = subst (λ (o : Result OpenedText ℕ). ChecksOpened o [] told) (sym e) (refl, refl); written = keeps_nothing old }
 
--- nothing is written of any script
-pub memory_told : (script : List ℕ) (old : Option (List ℕ)) → WritesSome old old (outcome_of script).Begins
-memory_told script old = record { text = []; begins = inl refl; written = nothing_yet old [] }
+-- nothing is written of a script
+pub nothing_told : (outcome : List ℕ → Outcome) (script : List ℕ) (old : Option (List ℕ)) → (outcome script).Begins [] → WritesSome old old (outcome script).Begins
+nothing_told outcome script old begins = record { text = []; begins = begins; written = nothing_yet old [] }
 
 -- settings that were refused, or not read
 pub settings_told : (script : List ℕ) (old : Option (List ℕ)) (whole : OpenedText) (e : Failure) → opened script ≡ Ok whole → (let r : Result (Unit {0}) Failure = Err e in OfSettings whole.settings r) → let r : Result (Unit {0}) Failure = Err e in Writes old old (outcome_of script) r
 settings_told script old whole (Refused told) is settings =
     record { text = []; is = subst (λ (o : Result OpenedText ℕ). ChecksOpened o [] (Some told)) (sym is) (inr (told, settings, refl, refl)); written = keeps_nothing old }
-settings_told script old whole Memory is settings = memory_told script old
+settings_told script old whole Memory is settings = nothing_told outcome_of script old (inl refl)
 settings_told script old whole (Io error) is settings = absurd settings
 
 -- the sections behind the settings
@@ -194,13 +194,15 @@ none_told : (old : Option (List ℕ)) (error : TextError) → WritesSome old old
 none_told old error = record { text = []; begins = refl; written = nothing_yet old [] }
 
 -- a reader that gave no bytes
-none_read : (old known : Option (List ℕ)) (e : ReadError) → IfSome known (λ script. let r : Result (Unit {0}) Failure = Err (of_read e) in WritesScript old old outcome_of script r)
-none_read old None e = tt
-none_read old (Some script) Reads.Memory = record { text = λ is. memory_told script old; refused = λ error refused. none_told old error }
-none_read old (Some script) (Reads.Io e) = record { text = λ is. memory_told script old; refused = λ error refused. none_told old error }
+none_read : (outcome : List ℕ → Outcome) (old known : Option (List ℕ)) (e : ReadError) → ((script : List ℕ) → (outcome script).Begins []) → IfSome known (λ script. let r : Result (Unit {0}) Failure = Err (of_read e) in WritesScript old old outcome script r)
+none_read outcome old None e begins = tt
+none_read outcome old (Some script) Reads.Memory begins = record { text = λ is. nothing_told outcome script old (begins script); refused = λ error refused. none_told old error }
+none_read outcome old (Some script) (Reads.Io e) begins = record { text = λ is. nothing_told outcome script old (begins script); refused = λ error refused. none_told old error }
 
-pub failed_unread : (old known : Option (List ℕ)) (e : ReadError) (failure : Failure) → failure ≡ of_read e → IfSome known (λ script. let r : Result (Unit {0}) Failure = Err failure in WritesScript old old outcome_of script r)
-failed_unread old known e failure same = subst (λ (f : Failure). IfSome known (λ script. let r : Result (Unit {0}) Failure = Err f in WritesScript old old outcome_of script r)) (sym same) (none_read old known e)
+pub failed_unread : (outcome : List ℕ → Outcome) (old known : Option (List ℕ)) (e : ReadError) (failure : Failure) → ((script : List ℕ) → (outcome script).Begins []) → failure ≡ of_read e
+    → IfSome known (λ script. let r : Result (Unit {0}) Failure = Err failure in WritesScript old old outcome script r)
+failed_unread outcome old known e failure begins same =
+    subst (λ (f : Failure). IfSome known (λ script. let r : Result (Unit {0}) Failure = Err f in WritesScript old old outcome script r)) (sym same) (none_read outcome old known e begins)
 
 -- of a script that wasn't read nothing is told
 pub keeps_none : (script : Option (List ℕ)) (read : List ℕ) (e : ReadError) (failure : Failure) → failure ≡ of_read e → KeepsRefused script read failure

@@ -1,3 +1,6 @@
 mod Checked
 mod Checking
+mod Commanded
+mod Judged
+mod Loaded
 mod Stepping
