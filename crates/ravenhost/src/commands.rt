@@ -8,7 +8,7 @@ ghost use Rattle.rv_play.specs.Scripted.{outcome_of};
 ghost use Rattle.rv_check.specs.Checks.{KeepsRefused, outcome_of as checked};
 ghost use Rattle.rv_check.specs.Scripts.{outcome_of as judged};
 
-use rv_check::warnings::{Warnings, run_warnings_of, warnings_of};
+use rv_check::warnings::{Warnings, run_warnings_of, warnings_of, whole_warnings_of};
 use rv_fault::Failure;
 use rv_input::{Before, InputFault};
 use rv_script::read_script;
@@ -33,6 +33,11 @@ pub fn read<R: Read>(alloc: Global, reader: &mut R) -> Result<Vec<u8>, Failure>
 /// What is told of the lists of a script.
 pub fn warnings(alloc: Global, script: &[u8]) -> Result<Warnings, Failure> {
     warnings_of(alloc, script)
+}
+
+/// What is told of the lists of a whole script, as the command carries it out that it is for.
+pub fn whole_warnings(alloc: Global, script: &[u8]) -> Result<Warnings, Failure> {
+    whole_warnings_of(alloc, script)
 }
 
 /// What stands before the commands of a script for `run`, and what had to be read with it: with what is left the whole.

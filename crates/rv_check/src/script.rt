@@ -1,13 +1,15 @@
 //! Looks at a whole script, as the command that it is for takes it: at its steps, its commands or its journal too.
 
-ghost use Rattle.std.specs.Prelude.{◌≡◌, ◌≤◌, ◌+◌, ◌^◌, length, Ok, IfErr, IfOk, IfSome, option_map, string_bytes};
+ghost use Rattle.std.specs.Prelude.{◌≡◌, ◌≤◌, ◌+◌, ◌^◌, length, false, IfErr, IfOk, IfSome, OnOk, option_map, string_bytes};
 ghost use Rattle.std.specs.Str.Lines.{lines};
+ghost use Rattle.rv_shape.specs.Fits.{fault};
 ghost use Rattle.rv_shape.specs.ShapeText.{shape_of};
 ghost use Rattle.rv_fault.specs.Sections.{line_of};
 ghost use Rattle.rv_fault.specs.Written.{Writes, WritesScript};
 ghost use Rattle.rv_script.specs.Openings.{AreNumbered};
 ghost use Rattle.rv_check.specs.Checks.{KeepsRefused, TellsAll, WritesOne};
-ghost use Rattle.rv_check.specs.Scripts.{OfJournal, OfPart, OfRun, OfSteps, as_given, commands_line, is_last, journal_line, judging, outcome_of, steps_line};
+ghost use Rattle.rv_check.specs.Purposes.{is_last};
+ghost use Rattle.rv_check.specs.Scripts.{OfJournal, OfPart, OfRun, OfSteps, as_given, commands_line, fitted, journal_line, judging, outcome_of, steps_line};
 
 use crate::commands::count_commands;
 use crate::devices::load_devices;
@@ -19,6 +21,7 @@ use rv_script::{open, read_script, text_of};
 use rv_settings::Device;
 use rv_shape::catalogue::Catalogue;
 use rv_shape::fault::ShapeFault;
+use rv_shape::shape::UnitShape;
 use rv_text::{Section, Sections, next_line};
 use std::alloc::{AllocError, Global};
 use std::io::{Read, Write};
@@ -86,6 +89,17 @@ fn check_journal<W: Write>(
     say(writer, journal_line(alloc, count_lines(section.text)))
 }
 
+// Adds a shape to those of the sections before where it fits, and leaves it out where it doesn't. Memory alone may be refused.
+fn add_fitting(catalogue: &mut Catalogue, shape: &UnitShape) -> Result<(), Failure>
+    ensures ok { OnOk result (catalogue.new ≡ fitted (fault catalogue.old shape.now) catalogue.old shape.now) }
+    ensures err { IfErr result (λ failure. failure ≡ Failure.Memory) }
+{
+    match catalogue.add(shape) {
+        Err(ShapeFault::NoMemory) => Err(Failure::Memory),
+        Ok(()) | Err(_) => Ok(()),
+    }
+}
+
 // Looks at a shape for an audit, which need not fit those of the sections before.
 fn check_given<W: Write>(
     alloc: Global,
@@ -100,9 +114,9 @@ fn check_given<W: Write>(
         Ok(shape) => shape,
         Err(failure) => return Err(failure),
     };
-    match catalogue.add(&shape) {
-        Err(ShapeFault::NoMemory) => Err(Failure::Memory),
-        Ok(()) | Err(_) => say(writer, shape_line(alloc, shape.name())),
+    match add_fitting(catalogue, &shape) {
+        Ok(()) => say(writer, shape_line(alloc, shape.name())),
+        Err(failure) => Err(failure),
     }
 }
 

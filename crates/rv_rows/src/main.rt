@@ -34,7 +34,7 @@ use row_files::failing::{FailingReader, FailingWriter};
 use row_files::{bytes_of, names_before};
 use rv_check::check::check;
 use rv_check::script::check_script_kept;
-use rv_check::warnings::{Warnings, run_warnings_of, warnings_of};
+use rv_check::warnings::{Warnings, run_warnings_of, warnings_of, whole_warnings_of};
 use rv_exec::machine::STACK_BYTES;
 use rv_explain::explain;
 use rv_fault::Failure;
@@ -364,7 +364,12 @@ fn told(rt: &HostRuntime, name: &str) -> io::Result<String> {
     let mut given = given(alloc, script.as_slice(), deed, is_explained)?;
     if let Some(notes) = bytes_of(rt, name, "notes")? {
         wanted.bytes.extend_from_slice(notes.as_slice())?;
-        add_notes(warnings_of(alloc, script.as_slice()), &mut given)?;
+        let warnings = if wanted.is_whole {
+            whole_warnings_of(alloc, script.as_slice())
+        } else {
+            warnings_of(alloc, script.as_slice())
+        };
+        add_notes(warnings, &mut given)?;
     }
     match difference(rt, name, script.as_slice(), given.as_slice(), &wanted)? {
         Some(words) => Ok(format!(in alloc; "{name}: {words}")?),
