@@ -4,8 +4,11 @@ use Rattle.rv_shape.specs.Shape.{Shape}
 use Rattle.rv_fault.specs.declared.failure.Failure.{Failure}
 use Rattle.rv_fault.specs.declared.failure.Failure.TheVariants.{Refused, Memory, Io}
 use Rattle.rv_fault.specs.declared.fault.ScriptFault.{ScriptFault}
+use Rattle.rv_fault.specs.Sections.{GivesUnit, Reads}
+use Rattle.rv_code.specs.declared.unit.Unit.{Unit as Compiled}
 use Rattle.rv_check.specs.ScriptLines.{LineText}
-use Rattle.rv_check.specs.CommandLines.{CountsCommands, Ends, Goes, IsLeft, Leads, LoadText, Serving, Stops, Taken, TakesAll, TakesLine, at_end, before_commands}
+use Rattle.rv_check.proofs.Checking.{unit_told}
+use Rattle.rv_check.specs.CommandLines.{CountsCommands, Ends, Goes, IsLeft, Leads, LoadsUnit, Serving, Stops, Taken, TakesAll, TakesLine, at_end, before_commands}
 
 -- what is said of the lines that are left is said of all
 abbrev pub GoesOn : List Shape → List LineText → Serving → List LineText → Type 0
@@ -37,3 +40,10 @@ lines_end shapes all serving left (Err (Refused told)) e on h =
     (serving.count, on serving.count (Some told) (subst (λ (ls : List LineText). TakesAll serving ls serving.count (Some told)) (sym e) (refl, sym h)))
 lines_end shapes all serving left (Err Memory) e on h = absurd h
 lines_end shapes all serving left (Err (Io error)) e on h = absurd h
+
+-- what stands against a unit text is told at its command
+pub load_refused : (shapes : List Shape) (text : List ℕ) (line : ℕ) (failure : Failure) → (let read : Result Compiled Failure = Err failure in Reads line (GivesUnit shapes text) read)
+    → let r : Result (Unit {0}) Failure = Err failure in LoadsUnit line shapes shapes text r
+load_refused shapes text line Memory h = tt
+load_refused shapes text line (Io error) h = absurd h
+load_refused shapes text line (Refused told) h = let t = unit_told shapes shapes text None line (Refused told) h in (t.0, t.1)

@@ -75,15 +75,11 @@ given_said shapes after text shape line read e = by_shape (shape_of text) read
     by_shape None same = absurd cc
 
 -- it stands behind the others where it fits, and is left out where it doesn't
-pub fits_behind : (shapes after : List Shape) (shape : Shape) → fault shapes shape ≡ None → after ≡ shapes ++ shape ∷ [] → after ≡ fitted (fault shapes shape) shapes shape
-fits_behind shapes after shape f e = subst (λ (o : Option ShapeFault). after ≡ fitted o shapes shape) (sym f) e
+pub fits_behind : (shapes after : List Shape) (shape : Shape) (found : Option ShapeFault) → found ≡ fault shapes shape → found ≡ None → after ≡ shapes ++ shape ∷ [] → after ≡ fitted (fault shapes shape) shapes shape
+fits_behind shapes after shape found same none e = subst (λ (o : Option ShapeFault). after ≡ fitted o shapes shape) (sym none ∙ same) e
 
-pub left_out : (shapes after : List Shape) (shape : Shape) (told : ShapeFault) → (told ≡ Shapes.NoMemory → ⊥) → (fault shapes shape ≡ None → told ≡ Shapes.NoMemory) → after ≡ shapes → after ≡ fitted (fault shapes shape) shapes shape
-left_out shapes after shape told other memory e = by_fault (fault shapes shape) memory
-  where
-    by_fault : (o : Option ShapeFault) → (o ≡ None → told ≡ Shapes.NoMemory) → after ≡ fitted o shapes shape
-    by_fault None none = absurd (other (none refl))
-    by_fault (Some f) none = e
+pub left_out : (shapes : List Shape) (shape : Shape) (found : Option ShapeFault) (told : ShapeFault) → found ≡ fault shapes shape → found ≡ Some told → shapes ≡ fitted (fault shapes shape) shapes shape
+left_out shapes shape found told same some = subst (λ (o : Option ShapeFault). shapes ≡ fitted o shapes shape) (sym some ∙ same) refl
 
 -- what stands against devices is told
 pub devices_told : (line : ℕ) (devices : List DeviceText) (shapes after : List Shape) (section : SectionText) (others : List SectionText) (old : Option (List ℕ)) (e : Failure) → (let r : Result (Unit {0}) Failure = Err e in LoadsAll line shapes after devices r)

@@ -1,6 +1,6 @@
-mod Checked
-mod Checking
-mod Commanded
-mod Judged
-mod Loaded
-mod Stepping
+pub mod Checked
+pub mod Checking
+pub mod Commanded
+pub mod Judged
+pub mod Loaded
+pub mod Stepping

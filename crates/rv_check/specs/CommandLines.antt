@@ -14,6 +14,7 @@ use Rattle.rv_fault.specs.declared.failure.Failure.TheVariants.{Refused, Memory,
 use Rattle.rv_fault.specs.declared.fault.What.{What}
 use Rattle.rv_fault.specs.declared.fault.What.TheVariants as Whats
 use Rattle.rv_fault.specs.declared.fault.ScriptFault.{ScriptFault}
+use Rattle.rv_fault.specs.Written.{Ended}
 use Rattle.rv_check.specs.Checks.{OfUnit}
 use Rattle.rv_check.specs.ScriptLines.{LineText}
 
@@ -55,11 +56,13 @@ abbrev pub unless_most : Bool → Serving → Taken → Taken
 unless_most true serving taken = Ends serving.count
 unless_most false serving taken = taken
 
--- a unit text that is whole is compiled over the units that are loaded, and its unit is loaded; its fault is told at its command
+-- a text is a unit over those that are loaded, and stands behind them from then on
+abbrev pub IsLoaded : List Shape → List Shape → List ℕ → Type 0
+IsLoaded shapes after text = (shape : Shape) × (length text ≤ most_unit_bytes) × IsUnit shapes text shape × (after ≡ shapes ++ shape ∷ [])
+
+-- a unit text that is whole is loaded; its fault is told at its command
 abbrev pub Loads : Serving → LoadText → Taken → Type 0
-Loads serving load (Goes next) =
-    (shape : Shape) × (length load.text ≤ most_unit_bytes) × IsUnit serving.shapes load.text shape
-    × (next ≡ record { shapes = serving.shapes ++ shape ∷ []; load = None; count = serving.count })
+Loads serving load (Goes next) = IsLoaded serving.shapes next.shapes load.text × (next.load ≡ None) × (next.count ≡ serving.count)
 Loads serving load (Ends count) = ⊥
 Loads serving load (Stops told) = OfUnit serving.shapes serving.shapes load.text [] (Some told.what) × (told.line ≡ load.line)
 
@@ -104,6 +107,13 @@ TakesAll serving (line ∷ others) count told =
 -- a run before its first command
 abbrev pub before_commands : List Shape → Serving
 before_commands shapes = record { shapes = shapes; load = None; count = 0 }
+
+-- a call loads a text, or tells what stands against it at a line, unless memory ran out
+abbrev pub LoadsUnit : ℕ → List Shape → List Shape → List ℕ → Ended → Type 0
+LoadsUnit line shapes after text (Ok x) = IsLoaded shapes after text
+LoadsUnit line shapes after text (Err (Refused told)) = OfUnit shapes shapes text [] (Some told.what) × (told.line ≡ line)
+LoadsUnit line shapes after text (Err Memory) = Unit {0}
+LoadsUnit line shapes after text (Err (Io error)) = ⊥
 
 -- a call finds what a line leads to: it tells whether the run goes on, or what stands against the line, unless memory ran out
 abbrev pub Leads : (Taken → Type 0) → Serving → Result Bool Failure → Type 0

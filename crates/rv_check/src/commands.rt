@@ -5,7 +5,7 @@ ghost use Rattle.rv_script.specs.Openings.{AreNumbered};
 ghost use Rattle.rv_shell.specs.Orders.{order_of};
 ghost use Rattle.rv_text.specs.Words.{words};
 ghost use Rattle.rv_check.specs.ScriptLines.{lines_behind};
-ghost use Rattle.rv_check.specs.CommandLines.{CountsCommands, IsLeft, Leads, Loads, TakesLine, before_commands, by_end, by_order, most_commands, unless_most};
+ghost use Rattle.rv_check.specs.CommandLines.{CountsCommands, IsLeft, Leads, Loads, LoadsUnit, TakesLine, before_commands, by_end, by_order, most_commands, unless_most};
 
 use crate::lines::LinesBehind;
 use rv_fault::{Failure, What, refused, text_unit};
@@ -25,6 +25,25 @@ const MOST_COMMANDS: usize = 100_000;
 struct Loading {
     line: usize,
     text: String,
+}
+
+// Loads the unit of a text, whose command stands on a line.
+fn load_unit(
+    alloc: Global,
+    catalogue: &mut Catalogue,
+    line: usize,
+    text: &str,
+) -> Result<(), Failure>
+    ensures { LoadsUnit line catalogue.old catalogue.new text.now result }
+{
+    let unit = match text_unit(alloc, catalogue, line, text) {
+        Ok(unit) => unit,
+        Err(failure) => return Err(failure),
+    };
+    match catalogue.add(&unit.shape) {
+        Ok(()) => Ok(()),
+        Err(_) => Err(Failure::Memory),
+    }
 }
 
 // A run whose commands are looked at: the units that are loaded, what a `load` began, and how many commands were read.
@@ -98,11 +117,13 @@ impl Review {
         requires { self.now.load ≡ None }
         ensures { Leads (Loads self.old (record { line = load.line; text = string_bytes load.text })) self.new result }
     {
-        match text_unit(self.alloc, &self.catalogue, load.line, load.text.as_str()) {
-            Ok(unit) => match self.catalogue.add(&unit.shape) {
-                Ok(()) => Ok(true),
-                Err(_) => Err(Failure::Memory),
-            },
+        match load_unit(
+            self.alloc,
+            &mut self.catalogue,
+            load.line,
+            load.text.as_str(),
+        ) {
+            Ok(()) => Ok(true),
             Err(failure) => Err(failure),
         }
     }

@@ -7,7 +7,6 @@ use rv_fault::{Failure, What, device_unit, refused};
 use rv_settings::Device;
 use rv_shape::actor::Callee;
 use rv_shape::catalogue::Catalogue;
-use rv_shape::fault::ShapeFault;
 use std::alloc::Global;
 
 // Whether a call takes no values.
@@ -35,6 +34,7 @@ fn is_callable(catalogue: &Catalogue, device: &Device) -> bool
 }
 
 // Loads the unit of a device, if nothing stands against it. Its settings open at a line.
+#[tactic(auto, using(crate::proofs::Loaded::device_clashes))]
 fn load_device(
     alloc: Global,
     catalogue: &mut Catalogue,
@@ -49,10 +49,12 @@ fn load_device(
     let Ok(shape) = device_unit(alloc, device) else {
         return Err(Failure::Memory);
     };
-    match catalogue.add(&shape) {
+    if let Some(fault) = catalogue.shape_fits(&shape) {
+        return Err(refused(line, What::Shape(fault)));
+    }
+    match catalogue.add_fitting(&shape) {
         Ok(()) => Ok(()),
-        Err(ShapeFault::NoMemory) => Err(Failure::Memory),
-        Err(fault) => Err(refused(line, What::Shape(fault))),
+        Err(_) => Err(Failure::Memory),
     }
 }
 

@@ -20,7 +20,6 @@ use rv_fault::{Failure, What, refused, settings_of, shape_of};
 use rv_script::{open, read_script, text_of};
 use rv_settings::Device;
 use rv_shape::catalogue::Catalogue;
-use rv_shape::fault::ShapeFault;
 use rv_shape::shape::UnitShape;
 use rv_text::{Section, Sections, next_line};
 use std::alloc::{AllocError, Global};
@@ -90,13 +89,16 @@ fn check_journal<W: Write>(
 }
 
 // Adds a shape to those of the sections before where it fits, and leaves it out where it doesn't. Memory alone may be refused.
-fn add_fitting(catalogue: &mut Catalogue, shape: &UnitShape) -> Result<(), Failure>
+fn add_where_it_fits(catalogue: &mut Catalogue, shape: &UnitShape) -> Result<(), Failure>
     ensures ok { OnOk result (catalogue.new ≡ fitted (fault catalogue.old shape.now) catalogue.old shape.now) }
     ensures err { IfErr result (λ failure. failure ≡ Failure.Memory) }
 {
-    match catalogue.add(shape) {
-        Err(ShapeFault::NoMemory) => Err(Failure::Memory),
-        Ok(()) | Err(_) => Ok(()),
+    match catalogue.shape_fits(shape) {
+        Some(_) => Ok(()),
+        None => match catalogue.add_fitting(shape) {
+            Ok(()) => Ok(()),
+            Err(_) => Err(Failure::Memory),
+        },
     }
 }
 
@@ -114,7 +116,7 @@ fn check_given<W: Write>(
         Ok(shape) => shape,
         Err(failure) => return Err(failure),
     };
-    match add_fitting(catalogue, &shape) {
+    match add_where_it_fits(catalogue, &shape) {
         Ok(()) => say(writer, shape_line(alloc, shape.name())),
         Err(failure) => Err(failure),
     }

@@ -16,7 +16,7 @@ loop-text-preserved c =
     record {
       text = search rules;
       few = omega (arith, c.in-Some.ensures.shorter);
-      less = omega (arith, c.steps_on.ensures.few);
+      less = omega (arith, c.steps_on-count.ensures.few);
       faults = fault_behind c.args.catalogue.now (c.loop-text.line + 1) c.in-Some.text.now (lines c.loop-text.rest.now) (lines c.in-Some.after.now) _ c.in-Some.ensures.lines inv.faults c.in-Ok.ensures;
-      counted = count_behind c.loop-text.count c.steps_on.result c.in-Some.text.now (lines c.loop-text.rest.now) (lines c.in-Some.after.now) _ c.in-Some.ensures.lines c.steps_on.ensures.value inv.counted;
+      counted = count_behind c.loop-text.count c.steps_on-count.result c.in-Some.text.now (lines c.loop-text.rest.now) (lines c.in-Some.after.now) _ c.in-Some.ensures.lines c.steps_on-count.ensures.value inv.counted;
     }
