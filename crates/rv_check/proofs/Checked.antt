@@ -136,6 +136,11 @@ stopped by old now new shapes after section left others all (Refused told) f e s
 stopped by old now new shapes after section left others all Memory f e so h = part_said by old now new shapes after section left others all f e so h
 stopped by old now new shapes after section left others all (Io error) f e so h = part_said by old now new shapes after section left others all f e so h
 
+pub checked_stops : (old now new : Option (List ℕ)) (shapes after : List Shape) (section : SectionText) (left others all : List SectionText) (e : Failure) → left ≡ section ∷ others → SoFar checking old now shapes left all
+    → (let r : Result (Unit {0}) Failure = Err e in Tells now new section.line (OfSection shapes after section) r) → let r : Result (Unit {0}) Failure = Err e in TellsAll checking old new all r
+checked_stops old now new shapes after section left others all e is so h =
+    stopped checking old now new shapes after section left others all e refl is so (told_at now new section.line (OfSection shapes after section) (Err e) h)
+
 -- what is said of all, where this is said of a last section and of all that is left
 rest_whole : (by : Judging) (old now : Option (List ℕ)) (shapes : List Shape) (section : SectionText) (left others all : List SectionText) (so : SoFar by old now shapes left all) (line : List ℕ) → by.is_last section ≡ true → left ≡ section ∷ others
     → by.Rest shapes section others line None → Checks by [] all (so.said ++ line) None

@@ -1,5 +1,5 @@
 -- What is told of the sections of a whole script.
-use Rattle.std.proofs.Common.{◌≡◌, inl, inr, ℕ, ◌+◌, List, [], ◌∷◌, ◌++◌, Some, None, Option, Ok, Err, Result, length, refl, sym, ap, ◌∙◌, subst}
+use Rattle.std.proofs.Common.{◌≡◌, ◌≤◌, ◌+◌, ◌^◌, inl, inr, ℕ, List, [], ◌∷◌, ◌++◌, Some, None, Option, Ok, Err, Result, length, refl, sym, ap, ◌∙◌, subst}
 use Rattle.std.specs.Str.Lines.{lines}
 use Rattle.rv_text.specs.Sections.{SectionText}
 use Rattle.rv_shape.specs.Shape.{Shape}
@@ -8,7 +8,7 @@ use Rattle.rv_shape.specs.Fits.{fault}
 use Rattle.rv_shape.specs.declared.fault.ShapeFault.{ShapeFault}
 use Rattle.rv_shape.specs.declared.fault.ShapeFault.TheVariants as Shapes
 use Rattle.rv_settings.specs.Settings.{DeviceText, SettingsText}
-use Rattle.rv_script.specs.Openings.{OpenedText, opened}
+use Rattle.rv_script.specs.Openings.{AreNumbered, OpenedText, opened}
 use Rattle.rv_script.proofs.Wrote.{keeps_nothing}
 use Rattle.rv_fault.specs.declared.failure.Failure.{Failure}
 use Rattle.rv_fault.specs.declared.failure.Failure.TheVariants.{Refused, Memory, Io}
@@ -21,9 +21,10 @@ use Rattle.rv_check.specs.declared.purpose.Purpose.{Purpose}
 use Rattle.rv_check.specs.Checks.{Telling, TellsAll, WritesOne, shape_line}
 use Rattle.rv_check.specs.CommandLines.{CountsCommands, TakesAll, before_commands}
 use Rattle.rv_check.specs.DeviceFaults.{LoadsAll, devices_fault, with_devices}
-use Rattle.rv_check.specs.Purposes.{purpose_of}
+use Rattle.rv_check.specs.declared.purpose.Part.{Part}
+use Rattle.rv_check.specs.Purposes.{part_in, purpose_of}
 use Rattle.rv_check.specs.ScriptLines.{lines_behind}
-use Rattle.rv_check.specs.Scripts.{BeginsJudged, JudgesOpened, OfRun, OfSteps, as_given, commands_line, fitted, judging, outcome_of}
+use Rattle.rv_check.specs.Scripts.{BeginsJudged, JudgesOpened, OfPart, OfRun, OfSteps, as_given, commands_line, fitted, judging, outcome_of}
 use Rattle.rv_check.specs.StepFaults.{CountsSteps}
 use Rattle.rv_check.proofs.Checked.{nothing_told}
 
@@ -42,6 +43,18 @@ one_with P old new tells (Err Memory) p (inl e) = inl e
 one_with P old new tells (Err Memory) p (inr h) = inr (h.0, (h.1, p), h.2)
 one_with P old new tells (Err (Io error)) p (inl e) = inl e
 one_with P old new tells (Err (Io error)) p (inr h) = inr (h.0, (h.1, p), h.2)
+
+-- what is told of a section as this part, as that which its opening makes it
+pub as_part : (old new : Option (List ℕ)) (part : Part) (purpose : Purpose) (shapes after : List Shape) (section : SectionText) (r : Result (Unit {0}) Failure) → part ≡ part_in purpose section → WritesOne old new (OfPart part shapes after section) r
+    → WritesOne old new (OfPart (part_in purpose section) shapes after section) r
+as_part old new part purpose shapes after section r e h = subst (λ (p : Part). WritesOne old new (OfPart p shapes after section) r) e h
+
+-- the lines of the first section, and of those behind it
+pub numbered_first : (section : SectionText) (left others : List SectionText) → left ≡ section ∷ others → AreNumbered left → section.line + length section.text ≤ 2 ^ 63
+numbered_first section left others e h = (subst AreNumbered e h).0
+
+pub numbered_others : (section : SectionText) (left others : List SectionText) → left ≡ section ∷ others → AreNumbered left → AreNumbered others
+numbered_others section left others e h = (subst AreNumbered e h).1
 
 -- what stands against steps is told
 pub steps_told : (shapes : List Shape) (section : SectionText) (old : Option (List ℕ)) (e : Failure) → (let r : Result ℕ Failure = Err e in CountsSteps shapes (section.line + 1) (lines section.text) r)

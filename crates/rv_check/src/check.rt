@@ -22,7 +22,10 @@ fn check_sections<W: Write>(
 {
     let mut catalogue = Catalogue::new(alloc);
     'each: while let Some(section) = sections.next_section() {
-        check_section(alloc, writer, &mut catalogue, &section)?;
+        match check_section(alloc, writer, &mut catalogue, &section) {
+            Ok(()) => {}
+            Err(failure) => return Err(failure),
+        }
     }
     Ok(())
 }
