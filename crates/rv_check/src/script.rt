@@ -89,6 +89,7 @@ fn check_journal<W: Write>(
 }
 
 // Adds a shape to those of the sections before where it fits, and leaves it out where it doesn't. Memory alone may be refused.
+#[tactic(auto, using(crate::proofs::Judged::fits_behind, crate::proofs::Judged::left_out))]
 fn add_where_it_fits(catalogue: &mut Catalogue, shape: &UnitShape) -> Result<(), Failure>
     ensures ok { OnOk result (catalogue.new ≡ fitted (fault catalogue.old shape.now) catalogue.old shape.now) }
     ensures err { IfErr result (λ failure. failure ≡ Failure.Memory) }

@@ -11,7 +11,7 @@ returns-in-Ok-count_commands g c =
 
 pub returns-in-Err-count_commands : goal.returns-in-Err-count_commands
 returns-in-Err-count_commands g c =
-    commands_told c.args.line c.args.devices.now c.args.catalogue c.load_devices.new.catalogue _ c.args.others (g.W.Write.contents c.args.writer.now) c.in-Err-count_commands.failure c.in-Ok.ensures c.in-Err-count_commands.ensures
+    commands_told c.args.line c.args.devices.now c.args.catalogue c.load_devices.new.catalogue (record { line = c.args.section.now.line; opening = c.args.section.now.opening.now; text = c.args.section.now.text.now }) c.args.others (g.W.Write.contents c.args.writer.now) c.in-Err-count_commands.failure c.in-Ok.ensures c.in-Err-count_commands.ensures
 
 pub returns-in-Err : goal.returns-in-Err
-returns-in-Err g c = devices_told c.args.line c.args.devices.now c.args.catalogue c.load_devices.new.catalogue _ c.args.others (g.W.Write.contents c.args.writer.now) c.in-Err.failure c.in-Err.ensures
+returns-in-Err g c = devices_told c.args.line c.args.devices.now c.args.catalogue c.load_devices.new.catalogue (record { line = c.args.section.now.line; opening = c.args.section.now.opening.now; text = c.args.section.now.text.now }) c.args.others (g.W.Write.contents c.args.writer.now) c.in-Err.failure c.in-Err.ensures

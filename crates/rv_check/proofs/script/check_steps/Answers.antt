@@ -9,4 +9,4 @@ returns-in-Ok g c =
     (c.in-Ok.ensures.0, ap steps_line c.in-Ok.ensures.1) (c.say.ensures _ c.steps_line.ensures)
 
 pub returns-in-Err : goal.returns-in-Err
-returns-in-Err g c = steps_told c.args.catalogue.now _ (g.W.Write.contents c.args.writer.now) c.in-Err.failure c.in-Err.ensures
+returns-in-Err g c = steps_told c.args.catalogue.now (record { line = c.args.section.now.line; opening = c.args.section.now.opening.now; text = c.args.section.now.text.now }) (g.W.Write.contents c.args.writer.now) c.in-Err.failure c.in-Err.ensures
