@@ -1,4 +1,5 @@
 use Rattle.std.proofs.Common.{◌≡◌, true, false, Ok, Err, sym, ap, ◌∙◌}
+use Rattle.rv_text.specs.Sections.{SectionText}
 use Rattle.rv_check.specs.Purposes.{is_last, part_in}
 use Rattle.rv_check.specs.Scripts.{judging}
 use Rattle.rv_check.proofs.Checked.{at_first, one_said, stopped, rest_told, all_said}
@@ -11,7 +12,7 @@ each-init g c =
 
 pub each-preserved : goal.each-preserved
 each-preserved g c =
-    let section = record { line = c.in-Some.section.line; opening = c.in-Some.section.opening.now; text = c.in-Some.section.text.now } in
+    let section : SectionText = record { line = c.in-Some.section.line; opening = c.in-Some.section.opening.now; text = c.in-Some.section.text.now } in
     let inner : is_last (part_in c.args.purpose section) ≡ false = ap is_last (sym c.part_of-part.ensures) ∙ (sym c.is_last.ensures ∙ c.if-is_last.false) in (
       one_said (judging c.args.purpose c.args.line c.args.devices.now) (g.W.Write.contents c.args.writer.now) (g.W.Write.contents c.each.writer) (g.W.Write.contents c.check_part.new.writer) c.each.catalogue c.check_part.new.catalogue section
           c.each.sections c.next_section.new.self c.args.sections inner c.in-Some.ensures.first c.each.invariant.0
@@ -21,7 +22,7 @@ each-preserved g c =
 
 pub returns-in-Err : goal.returns-in-Err
 returns-in-Err g c =
-    let section = record { line = c.in-Some.section.line; opening = c.in-Some.section.opening.now; text = c.in-Some.section.text.now } in
+    let section : SectionText = record { line = c.in-Some.section.line; opening = c.in-Some.section.opening.now; text = c.in-Some.section.text.now } in
     let inner : is_last (part_in c.args.purpose section) ≡ false = ap is_last (sym c.part_of-part.ensures) ∙ (sym c.is_last.ensures ∙ c.if-is_last.false) in
     stopped (judging c.args.purpose c.args.line c.args.devices.now) (g.W.Write.contents c.args.writer.now) (g.W.Write.contents c.each.writer) (g.W.Write.contents c.check_part.new.writer) c.each.catalogue c.check_part.new.catalogue section
     c.each.sections c.next_section.new.self c.args.sections c.in-Err.failure inner c.in-Some.ensures.first c.each.invariant.0
@@ -29,7 +30,7 @@ returns-in-Err g c =
 
 pub returns-then-is_last : goal.returns-then-is_last
 returns-then-is_last g c =
-    let section = record { line = c.in-Some.section.line; opening = c.in-Some.section.opening.now; text = c.in-Some.section.text.now } in
+    let section : SectionText = record { line = c.in-Some.section.line; opening = c.in-Some.section.opening.now; text = c.in-Some.section.text.now } in
     let last : is_last (part_in c.args.purpose section) ≡ true = ap is_last (sym c.part_of-part.ensures) ∙ (sym c.is_last.ensures ∙ c.if-is_last.true) in
     rest_told (judging c.args.purpose c.args.line c.args.devices.now) (g.W.Write.contents c.args.writer.now) (g.W.Write.contents c.each.writer) (g.W.Write.contents c.check_commands.new.writer) c.each.catalogue section
     c.each.sections c.next_section.new.self c.args.sections c.check_commands.result last c.in-Some.ensures.first c.each.invariant.0 c.check_commands.ensures
