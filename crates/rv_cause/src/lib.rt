@@ -1,0 +1,9 @@
+//! The one cause of a fault of a script, found from its text: what is wrong with which word, in the words of the text, and how
+//! to mend it where that is known.
+#![tactic(auto)]
+
+pub mod around;
+pub mod cause;
+pub mod declared;
+pub mod known;
+pub mod words;
