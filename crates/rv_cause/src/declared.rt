@@ -36,7 +36,7 @@ pub struct Declared<'a> {
     pub operation: &'a str,
     pub name: &'a str,
     pub sort: Sort,
-    /// The name of its subtype or type, if it has one.
+    /// The name of its subtype or type, if it has one; `type` of a protected type.
     pub mark: &'a str,
     /// The byte of its unit's text where its name stands.
     pub at: usize,
@@ -69,14 +69,23 @@ impl Sort {
     pub fn is_operation(self) -> bool {
         self == Sort::Function || self == Sort::Procedure || self == Sort::Entry
     }
-
-    /// Whether others call its operations.
-    pub fn is_object(self) -> bool {
-        self == Sort::Protected || self == Sort::Object
-    }
 }
 
-impl Declared<'_> {
+impl<'a> Declared<'a> {
+    /// Whether others call its operations.
+    pub fn is_object(&self) -> bool {
+        self.sort == Sort::Protected && self.mark != "type" || self.sort == Sort::Object
+    }
+
+    /// The protected unit that has its operations.
+    pub fn operations_home(&self) -> &'a str {
+        if self.sort == Sort::Protected {
+            self.name
+        } else {
+            self.mark
+        }
+    }
+
     /// Whether it has this name.
     pub fn is_named(&self, name: &str) -> bool {
         is_same_name(self.name, name)

@@ -149,7 +149,7 @@ fn declaration<'a>(words: &Words<'a>, around: &Around<'a>) -> Option<Declared<'a
             operation: "",
             name,
             sort,
-            mark: "",
+            mark: if words.was(1, "type") { "type" } else { "" },
             at: words.place(0),
             is_hidden: around.is_hidden,
         });
@@ -281,7 +281,7 @@ impl<'a> Known<'a> {
         let mut names = Vec::new(alloc);
         for item in self.items.as_slice() {
             let is_task = item.sort == Sort::Task;
-            let is_wanted = is_task && are_tasks || item.sort.is_object() && !are_tasks;
+            let is_wanted = is_task && are_tasks || item.is_object() && !are_tasks;
             if is_wanted && item.is_of_package(unit) {
                 names.push(item.name)?;
             }

@@ -6,4 +6,8 @@ pub mod around;
 pub mod cause;
 pub mod declared;
 pub mod known;
+pub mod line;
+pub mod lists;
+pub mod sections;
+pub mod steps;
 pub mod words;
