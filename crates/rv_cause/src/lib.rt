@@ -9,5 +9,6 @@ pub mod known;
 pub mod line;
 pub mod lists;
 pub mod sections;
+pub mod settings;
 pub mod steps;
 pub mod words;
