@@ -66,6 +66,11 @@ impl<'a> Around<'a> {
         !self.home.is_empty() && !self.is_body && !self.is_task
     }
 
+    /// Whether a part is open that ends with `end`.
+    pub fn is_open(&self) -> bool {
+        self.depth > 0
+    }
+
     // A package begins.
     fn begin_package(&mut self, word: &Words<'a>) {
         let is_body = word.is(1, "body");

@@ -5,7 +5,9 @@
 pub mod around;
 pub mod cause;
 pub mod declared;
+pub mod grammar;
 pub mod known;
+pub mod lexical;
 pub mod line;
 pub mod lists;
 pub mod sections;
