@@ -1,6 +1,7 @@
 //! Where a word of a unit text stands: in which package, protected unit, task and operation.
 
 use crate::words::Words;
+use rv_lex::token::Token;
 
 /// What is around a word of a unit text.
 #[derive(Clone, Copy)]
@@ -17,8 +18,10 @@ pub struct Around<'a> {
     pub is_body: bool,
     /// Whether it is a task.
     pub is_task: bool,
-    /// Whether the word stands behind `private`, or in the package's body.
-    pub is_hidden: bool,
+    /// Whether the package is a body.
+    pub is_package_body: bool,
+    // Whether `private` of the protected unit stands before the word.
+    is_private: bool,
     /// How many parentheses are open.
     pub parentheses: usize,
     // How many parts that end with `end` are open, and how many are around the body of `home` and of `operation`.
@@ -52,7 +55,8 @@ impl<'a> Around<'a> {
             is_function: false,
             is_body: false,
             is_task: false,
-            is_hidden: false,
+            is_package_body: false,
+            is_private: false,
             parentheses: 0,
             depth: 0,
             home_depth: 0,
@@ -66,6 +70,39 @@ impl<'a> Around<'a> {
         !self.home.is_empty() && !self.is_body && !self.is_task
     }
 
+    /// What is around the first word at a place or behind it.
+    pub fn of(tokens: &'a [Token<'a>], place: usize) -> Around<'a> {
+        let mut around = Around::nothing();
+        for (here, token) in tokens.iter().enumerate() {
+            if token.place >= place {
+                return around;
+            }
+            around.pass(&Words::from(tokens, here));
+        }
+        around
+    }
+
+    /// Whether what is declared here is hidden from other units: behind `private`, or in the package's body.
+    pub fn is_hidden(&self) -> bool {
+        self.is_package_body || self.is_private && !self.home.is_empty()
+    }
+
+    /// Whether the word stands in the head of a protected unit, a task or an operation.
+    pub fn is_in_head(&self) -> bool {
+        self.is_heading
+    }
+
+    /// The name of the innermost operation, protected unit, task or package that isn't ended here.
+    pub fn innermost(&self) -> &'a str {
+        if !self.operation.is_empty() {
+            return self.operation;
+        }
+        if !self.home.is_empty() {
+            return self.home;
+        }
+        self.unit
+    }
+
     /// Whether a part is open that ends with `end`.
     pub fn is_open(&self) -> bool {
         self.depth > 0
@@ -74,10 +111,12 @@ impl<'a> Around<'a> {
     // A package begins.
     fn begin_package(&mut self, word: &Words<'a>) {
         let is_body = word.is(1, "body");
-        self.unit = if is_body { word.word(2) } else { word.word(1) };
+        if !is_body {
+            self.unit = word.word(1);
+        }
         self.home = "";
         self.operation = "";
-        self.is_hidden = is_body;
+        self.is_package_body = is_body;
         self.is_heading = true;
         self.depth = 0;
     }
@@ -86,8 +125,13 @@ impl<'a> Around<'a> {
     fn begin_home(&mut self, word: &Words<'a>) {
         let is_body = word.is(1, "body");
         let is_second = is_body || word.is(1, "type");
-        self.home = if is_second { word.word(2) } else { word.word(1) };
+        self.home = if is_second {
+            word.word(2)
+        } else {
+            word.word(1)
+        };
         self.is_body = is_body;
+        self.is_private = false;
         self.is_task = word.is(0, "task");
         self.operation = "";
         self.home_depth = self.depth.saturating_add(1);
@@ -158,7 +202,7 @@ impl<'a> Around<'a> {
         } else if begins_operation(word) {
             self.begin_operation(word);
         } else if word.is(0, "private") && self.is_specification() {
-            self.is_hidden = true;
+            self.is_private = true;
         } else {
             self.pass_inner(word);
         }

@@ -1,5 +1,6 @@
 //! What the units of a script declare, as their texts have it.
 
+use crate::cause::Cause;
 use rv_text::is_same_name;
 
 /// What a declaration declares.
@@ -42,6 +43,8 @@ pub struct Declared<'a> {
     pub at: usize,
     /// Whether it stands behind `private`, or in the package's body.
     pub is_hidden: bool,
+    /// Whether it stands in no body of a protected unit or task.
+    pub is_declaration: bool,
 }
 
 impl Sort {
@@ -96,9 +99,24 @@ impl<'a> Declared<'a> {
         self.home.is_empty() && self.sort != Sort::Unit && is_same_name(self.unit, unit)
     }
 
+    /// Whether it is a parameter of an operation, in the operation's declaration.
+    pub fn is_parameter_of(&self, operation: &Declared<'_>) -> bool {
+        let is_parameter = self.sort == Sort::Given || self.sort == Sort::Parameter;
+        is_parameter
+            && self.is_declaration
+            && is_same_name(self.operation, operation.name)
+            && is_same_name(self.home, operation.home)
+            && is_same_name(self.unit, operation.unit)
+    }
+
     /// Whether it is a component or an operation of this protected unit.
     pub fn is_member(&self, unit: &str, home: &str) -> bool {
         let is_part = self.sort == Sort::Component || self.sort.is_operation();
         is_part && is_same_name(self.home, home) && is_same_name(self.unit, unit)
     }
+}
+
+/// That something is what it is, and what follows from that.
+pub fn is_a<'a>(at: usize, item: &Declared<'a>, behind: &'a str) -> Cause<'a> {
+    Cause::new(at, [item.name, " is ", item.sort.words(), behind, "", ""])
 }

@@ -39,20 +39,31 @@ const LOGICAL: [&str; 3] = ["and", "or", "xor"];
 
 // What begins a statement or a declaration.
 const BEGINNINGS: [&str; 20] = [
-    "null", "if", "case", "while", "for", "loop", "exit", "return", "raise", "delay", "begin",
-    "end", "protected", "task", "function", "procedure", "entry", "private", "subtype", "package",
+    "null",
+    "if",
+    "case",
+    "while",
+    "for",
+    "loop",
+    "exit",
+    "return",
+    "raise",
+    "delay",
+    "begin",
+    "end",
+    "protected",
+    "task",
+    "function",
+    "procedure",
+    "entry",
+    "private",
+    "subtype",
+    "package",
 ];
 
-// What is around the last word before a place.
-fn around_of<'a>(tokens: &'a [Token<'a>], place: usize) -> Around<'a> {
-    let mut around = Around::nothing();
-    for (here, token) in tokens.iter().enumerate() {
-        if token.place >= place {
-            return around;
-        }
-        around.pass(&Words::from(tokens, here));
-    }
-    around
+// Whether a declaration could begin here.
+fn is_behind_declaration(words: &Words<'_>) -> bool {
+    words.was(1, ";") || words.was(1, "is")
 }
 
 // What can't be declared here.
@@ -85,7 +96,10 @@ fn declaration<'a>(words: &Words<'a>, around: &Around<'a>) -> Option<Cause<'a>> 
             "there are no block statements here; declare before the body's begin (5.6)",
         ));
     }
-    if (words.is(0, "use") || words.is(0, "with")) && !around.unit.is_empty() && words.was(1, ";") {
+    if (words.is(0, "use") || words.is(0, "with"))
+        && !around.unit.is_empty()
+        && is_behind_declaration(words)
+    {
         return Some(Cause::of(at, word, " clauses stand before the package only (10.1.2)"));
     }
     if words.is(0, "(") && words.was(1, "is") && around.is_function {
@@ -128,50 +142,77 @@ fn operator<'a>(words: &Words<'a>) -> Option<Cause<'a>> {
     None
 }
 
-// What the text lacks where it ends too early.
-fn at_end<'a>(text_end: usize, around: &Around<'a>) -> Cause<'a> {
-    if !around.operation.is_empty() {
-        return ends_within(text_end, around.operation);
-    }
-    if !around.home.is_empty() {
-        return ends_within(text_end, around.home);
-    }
+// What the text lacks where it ends too early, behind its last word.
+fn at_end<'a>(text_end: usize, last: &'a str, around: &Around<'a>) -> Cause<'a> {
     if around.unit.is_empty() {
-        return Cause::plain(text_end, "a unit text is a package and its body; no package is here");
+        return Cause::plain(
+            text_end,
+            "a unit text is a package and its body; there is none",
+        );
     }
     if around.is_open() {
-        return ends_within(text_end, around.unit);
+        return Cause::new(
+            text_end,
+            [
+                "the text ends here, within ",
+                around.innermost(),
+                ", which isn't ended",
+                "",
+                "",
+                "",
+            ],
+        );
     }
-    Cause::new(
+    if around.is_package_body {
+        return is_missing(text_end, ";", last);
+    }
+    Cause::around(
         text_end,
-        [
-            "the text ends here, without: package body ",
-            around.unit,
-            " is .. end ",
-            around.unit,
-            ";",
-            "",
-        ],
+        "the text ends here, without the body of package ",
+        around.unit,
+        "",
     )
 }
 
-// That the text ends within a part of this name.
-fn ends_within<'a>(text_end: usize, name: &'a str) -> Cause<'a> {
-    Cause::new(
-        text_end,
-        ["the text ends here, within ", name, ": a ; or an end is missing", "", "", ""],
-    )
+// What is missing before a word that begins something new: `;`, or what opens a part.
+fn missing_before(words: &Words<'_>) -> &'static str {
+    for count in 1..64usize {
+        if words.was(count, "if") || words.was(count, "elsif") {
+            return "then";
+        }
+        if words.was(count, "while") || words.was(count, "for") {
+            return "loop";
+        }
+        if words.was(count, "case") {
+            return "is";
+        }
+        if is_listed(
+            &[";", "then", "loop", "is", "=>", "begin", "else", "when"],
+            words.back(count),
+        ) {
+            return ";";
+        }
+    }
+    ";"
 }
 
-// That a semicolon is missing, where a word begins something new behind one that ends something.
-fn semicolon<'a>(words: &Words<'a>) -> Option<Cause<'a>> {
+// That a sign or a word is missing, where a word begins something new behind one that ends something.
+fn semicolon<'a>(words: &Words<'a>, around: &Around<'a>) -> Option<Cause<'a>> {
     let before = words.back(1);
-    let begins = is_listed(&BEGINNINGS, words.word(0)) || is_new_name(words);
-    let ends = before == ")" || is_identifier(before) && !is_reserved_start(before) || is_literal(before);
+    let is_new = is_new_name(words) && !around.is_in_head();
+    let begins = is_listed(&BEGINNINGS, words.word(0)) || is_new;
+    let ends = before == ")"
+        || is_identifier(before) && !is_reserved_start(before)
+        || is_literal(before);
     if begins && ends {
-        return Some(Cause::around(words.place(0), "a ; is missing behind ", before, ""));
+        return Some(is_missing(words.place(0), missing_before(words), before));
     }
     None
+}
+
+// That something is missing behind a word.
+fn is_missing<'a>(at: usize, missing: &'a str, before: &'a str) -> Cause<'a> {
+    Cause::new(at, [missing, " is missing behind ", before, "", "", ""])
 }
 
 // Whether a word is digits.
@@ -184,7 +225,11 @@ fn is_literal(word: &str) -> bool {
 
 // Whether a name begins here that is assigned or called.
 fn is_new_name(words: &Words<'_>) -> bool {
-    let is_used = words.is(1, ":=") || words.is(1, ".") || words.is(1, ";") || words.is(1, ":") || words.is(1, "(");
+    let is_used = words.is(1, ":=")
+        || words.is(1, ".")
+        || words.is(1, ";")
+        || words.is(1, ":")
+        || words.is(1, "(");
     is_identifier(words.word(0)) && is_used
 }
 
@@ -192,20 +237,29 @@ fn is_new_name(words: &Words<'_>) -> bool {
 fn is_reserved_start(word: &str) -> bool {
     is_listed(&OTHER_WORDS, word)
         || is_listed(&LOGICAL, word)
-        || is_listed(&["is", "then", "else", "do", "not", "abs", "mod", "rem", "in", "out", "when", "until", "constant", "range", "reverse", "if", "with", "use", "of", "begin"], word)
+        || is_listed(
+            &[
+                "is", "then", "else", "do", "not", "abs", "mod", "rem", "in", "out", "when",
+                "until", "constant", "range", "reverse", "if", "with", "use", "of", "begin",
+            ],
+            word,
+        )
 }
 
 // What stands against a word, from what it is and what stands before it.
 fn unexpected_word<'a>(words: &Words<'a>, around: &Around<'a>) -> Cause<'a> {
+    let at = words.place(0);
+    let word = words.word(0);
+    if around.is_package_body && !around.is_open() && words.was(1, ";") {
+        return Cause::of(at, word, " stands behind the end of the package's body");
+    }
     if let Some(cause) = declaration(words, around) {
         return cause;
     }
-    let at = words.place(0);
-    let word = words.word(0);
     if is_listed(&OTHER_WORDS, word) {
         return Cause::of(at, word, " isn't in the part of Ada that is taken here");
     }
-    if let Some(cause) = semicolon(words) {
+    if let Some(cause) = semicolon(words, around) {
         return cause;
     }
     if let Some(cause) = operator(words) {
@@ -213,17 +267,24 @@ fn unexpected_word<'a>(words: &Words<'a>, around: &Around<'a>) -> Cause<'a> {
     }
     Cause::new(
         at,
-        [word, " can't stand behind ", words.back(1), " here (docs/GRAMMAR.md)", "", ""],
+        [
+            word,
+            " can't stand behind ",
+            words.back(1),
+            " here (docs/GRAMMAR.md)",
+            "",
+            "",
+        ],
     )
 }
 
 /// Why no text goes on with the word at a place, or ends there.
 pub fn unexpected<'a>(text: &str, tokens: &'a [Token<'a>], place: usize) -> Cause<'a> {
-    let around = around_of(tokens, place);
-    if place >= text.len() {
-        return at_end(place, &around);
-    }
+    let around = Around::of(tokens, place);
     let words = Words::at(tokens, place);
+    if place >= text.len() {
+        return at_end(place, words.back(1), &around);
+    }
     unexpected_word(&words, &around)
 }
 
@@ -231,7 +292,10 @@ pub fn unexpected<'a>(text: &str, tokens: &'a [Token<'a>], place: usize) -> Caus
 pub fn too_deep<'a>(tokens: &'a [Token<'a>], place: usize) -> Cause<'a> {
     let words = Words::at(tokens, place);
     if words.is(0, "(") {
-        return Cause::plain(place, "this parenthesis is the 65th that is open; 64 may be");
+        return Cause::plain(
+            place,
+            "this parenthesis is the 65th that is open; 64 may be",
+        );
     }
     Cause::plain(place, "this statement is the 65th that is open; 64 may be")
 }

@@ -133,7 +133,10 @@ fn declared_as<'a>(words: &Words<'a>, around: &Around<'a>) -> Option<(Sort, &'a 
         return None;
     }
     let colon = colon_behind(words);
-    Some((sort_of_list(words, colon, around), mark_of_list(words, colon)))
+    Some((
+        sort_of_list(words, colon, around),
+        mark_of_list(words, colon),
+    ))
 }
 
 // What a word declares.
@@ -151,19 +154,25 @@ fn declaration<'a>(words: &Words<'a>, around: &Around<'a>) -> Option<Declared<'a
             sort,
             mark: if words.was(1, "type") { "type" } else { "" },
             at: words.place(0),
-            is_hidden: around.is_hidden,
+            is_hidden: around.is_hidden(),
+            is_declaration: true,
         });
     }
     let (sort, mark) = declared_as(words, around)?;
     Some(Declared {
         unit: around.unit,
         home: around.home,
-        operation: if sort.is_operation() { "" } else { around.operation },
+        operation: if sort.is_operation() {
+            ""
+        } else {
+            around.operation
+        },
         name,
         sort,
         mark,
         at: words.place(0),
-        is_hidden: around.is_hidden,
+        is_hidden: around.is_hidden(),
+        is_declaration: !around.is_body,
     })
 }
 
@@ -255,6 +264,52 @@ impl<'a> Known<'a> {
         None
     }
 
+    /// What the name that stands at a word denotes, as far as it is seen there, and how many words behind its last part stands.
+    pub fn denoted(&self, words: &Words<'a>, around: &Around<'a>) -> Option<(Declared<'a>, usize)> {
+        let first = words.word(0);
+        let is_dotted = words.is(1, ".");
+        if !is_dotted {
+            return Some((self.meaning(first, around)?, 0));
+        }
+        if !self.has_unit(first) {
+            let item = self.meaning(first, around)?;
+            let part = self.member(item.unit, item.operations_home(), words.word(2))?;
+            return Some((part, 2));
+        }
+        let item = self.of_package(first, words.word(2))?;
+        let is_shown = !item.is_hidden || is_same_name(first, around.unit);
+        if !is_shown || !words.is(3, ".") {
+            return Some((item, 2));
+        }
+        let part = self.member(first, item.operations_home(), words.word(4))?;
+        Some((part, 4))
+    }
+
+    /// What a text declares at a place.
+    pub fn declared_at(&self, unit: &str, place: usize) -> Option<Declared<'a>> {
+        for item in self.items.as_slice() {
+            if item.at == place && is_same_name(item.unit, unit) {
+                return Some(*item);
+            }
+        }
+        None
+    }
+
+    /// The names of the parameters of an operation.
+    pub fn parameters(
+        &self,
+        alloc: Global,
+        operation: &Declared<'_>,
+    ) -> Result<Names<'a>, AllocError> {
+        let mut names = Vec::new(alloc);
+        for item in self.items.as_slice() {
+            if item.is_parameter_of(operation) {
+                names.push(item.name)?;
+            }
+        }
+        Ok(names)
+    }
+
     /// Whether a unit has this name.
     pub fn has_unit(&self, name: &str) -> bool {
         for item in self.items.as_slice() {
@@ -277,7 +332,12 @@ impl<'a> Known<'a> {
     }
 
     /// The names of the tasks of a unit, or of its objects.
-    pub fn parts(&self, alloc: Global, unit: &str, are_tasks: bool) -> Result<Names<'a>, AllocError> {
+    pub fn parts(
+        &self,
+        alloc: Global,
+        unit: &str,
+        are_tasks: bool,
+    ) -> Result<Names<'a>, AllocError> {
         let mut names = Vec::new(alloc);
         for item in self.items.as_slice() {
             let is_task = item.sort == Sort::Task;

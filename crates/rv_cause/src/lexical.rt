@@ -5,7 +5,10 @@ use crate::cause::Cause;
 fn run_from(text: &str, at: usize) -> &str {
     let rest = text.get(at..).unwrap_or("");
     for (place, byte) in rest.as_bytes().iter().enumerate() {
-        let is_part = byte.is_ascii_alphanumeric() || *byte == b'_' || *byte == b'#' || *byte == b'.';
+        let is_part = byte.is_ascii_alphanumeric()
+            || *byte == b'_'
+            || *byte == b'#'
+            || *byte == b'.';
         if !is_part {
             return rest.get(..place).unwrap_or("");
         }
@@ -31,13 +34,19 @@ pub fn bad_character<'a>(text: &'a str, at: usize) -> Cause<'a> {
     let two = cut(text, at, 2);
     let one = cut(text, at, 1);
     if one == "\"" {
-        return Cause::plain(at, "there are no strings here, nor characters in quotes (2.6)");
+        return Cause::plain(
+            at,
+            "there are no strings here, nor characters in quotes (2.6)",
+        );
     }
     if two == "**" {
         return Cause::plain(at, "** is no operator here; multiply instead (4.5.6)");
     }
     if one == "&" {
-        return Cause::plain(at, "& joins no values here; write and for Boolean ones (4.5)");
+        return Cause::plain(
+            at,
+            "& joins no values here; write and for Boolean ones (4.5)",
+        );
     }
     if two == "!=" {
         return Cause::plain(at, "write /= for not equal (4.5.2)");
@@ -85,7 +94,11 @@ pub fn bad_literal<'a>(text: &'a str, at: usize) -> Cause<'a> {
         return Cause::of(at, word, " has a fraction; numbers are whole here (2.4.1)");
     }
     if has_stray_underscore(word) {
-        return Cause::of(at, word, " has an underscore that isn't between two digits (2.4.1)");
+        return Cause::of(
+            at,
+            word,
+            " has an underscore that isn't between two digits (2.4.1)",
+        );
     }
     let letter = first_letter(word);
     if letter == 0 {
@@ -94,7 +107,12 @@ pub fn bad_literal<'a>(text: &'a str, at: usize) -> Cause<'a> {
     if letter == b'e' || letter == b'E' {
         return Cause::of(at, word, " has an exponent; write the number out (2.4.1)");
     }
-    Cause::around(at, "a letter stands directly behind the digits of ", word, " (2.4)")
+    Cause::around(
+        at,
+        "a letter stands directly behind the digits of ",
+        word,
+        " (2.4)",
+    )
 }
 
 /// Why a word that begins with a letter is no identifier.
@@ -107,10 +125,16 @@ pub fn bad_identifier<'a>(text: &'a str, at: usize) -> Cause<'a> {
             " has an underscore that isn't between two letters or digits (2.3)",
         );
     }
-    Cause::plain(at, "this name has over 64 characters, which is the most here (2.3)")
+    Cause::plain(
+        at,
+        "this name has over 64 characters, which is the most here (2.3)",
+    )
 }
 
 /// Why a character past ASCII can't stand there.
 pub fn not_ascii<'a>(at: usize) -> Cause<'a> {
-    Cause::plain(at, "characters that aren't ASCII stand in comments only (2.1)")
+    Cause::plain(
+        at,
+        "characters that aren't ASCII stand in comments only (2.1)",
+    )
 }

@@ -20,6 +20,22 @@ const OPENINGS: [&str; 7] = [
 fn elsewhere(opening: Opening, word: &str) -> Cause<'_> {
     match opening {
         Opening::Settings => Cause::of(0, word, " may only stand first"),
+        Opening::Steps => {
+            Cause::plain(
+                0,
+                "only play takes steps; check looks at them with --script",
+            )
+        }
+        Opening::Run => Cause::plain(
+            0,
+            "only run takes commands; check looks at them with --script",
+        ),
+        Opening::Journal => {
+            Cause::plain(
+                0,
+                "only audit takes a journal; check looks at it with --script",
+            )
+        }
         _ => Cause::of(0, word, " has no place in this command"),
     }
 }

@@ -118,10 +118,18 @@ fn misspelt<'a>(at: usize, key: &'a str, near: &'a str) -> Cause<'a> {
 fn unknown<'a>(alloc: Global, entry: &Entry<'a>) -> Result<Cause<'a>, AllocError> {
     let key = entry.key;
     if is_among(&TOP_KEYS, key) {
-        return Ok(Cause::of(entry.at, key, " stands in a device; put it above [[device]]"));
+        return Ok(Cause::of(
+            entry.at,
+            key,
+            " stands in a device; put it above [[device]]",
+        ));
     }
     if is_among(&DEVICE_KEYS, key) {
-        return Ok(Cause::of(entry.at, key, " is a key of devices; put it below [[device]]"));
+        return Ok(Cause::of(
+            entry.at,
+            key,
+            " is a key of devices; put it below [[device]]",
+        ));
     }
     if let Some(near) = near_key(alloc, key)? {
         return Ok(misspelt(entry.at, key, near));
@@ -149,10 +157,7 @@ pub fn unknown_key<'a>(alloc: Global, text: &'a str) -> Result<Cause<'a>, AllocE
             ));
         }
     }
-    Ok(Cause::plain(
-        0,
-        "the keys are capacity, budget and device",
-    ))
+    Ok(Cause::plain(0, "the keys are capacity, budget and device"))
 }
 
 // Whether a value is a number within limits. Of a number with a sign or an underscore it isn't known, and taken so.
@@ -206,7 +211,10 @@ fn value_cause<'a>(entry: &Entry<'a>) -> Option<Cause<'a>> {
         return Some(Cause::plain(entry.at, "object is Unit.Object in quotes"));
     }
     if value == "[device]" || key == "device" {
-        return Some(Cause::plain(entry.at, "devices are tables of their own: write [[device]]"));
+        return Some(Cause::plain(
+            entry.at,
+            "devices are tables of their own: write [[device]]",
+        ));
     }
     None
 }

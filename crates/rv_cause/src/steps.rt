@@ -63,7 +63,10 @@ fn call<'a>(line: &Line<'a>) -> Cause<'a> {
         return Cause::of(line.at(2), object, " is no object: write Unit.Object");
     }
     if !is_identifier(line.word(3)) {
-        return Cause::plain(line.at(3), "call takes Unit.Object and the name of an operation");
+        return Cause::plain(
+            line.at(3),
+            "call takes Unit.Object and the name of an operation",
+        );
     }
     let other = first_word(line, 4, line.count().min(8));
     Cause::of(

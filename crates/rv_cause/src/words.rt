@@ -73,6 +73,17 @@ impl<'a> Words<'a> {
         }
     }
 
+    /// The place of the word that stands so many before, from 1; 0 where the text begins behind that.
+    pub fn place_back(&self, count: usize) -> usize {
+        let Some(index) = self.here.checked_sub(count) else {
+            return 0;
+        };
+        match self.tokens.get(index) {
+            Some(token) => token.place,
+            None => 0,
+        }
+    }
+
     /// Whether so many words behind, from 0, stands this one.
     pub fn is(&self, count: usize, word: &str) -> bool {
         is_same_name(self.word(count), word)
