@@ -4,7 +4,7 @@ use crate::cause::Cause;
 use crate::line::Line;
 
 // What a command takes, by its word.
-fn form_of(word: &str) -> Option<&'static str> {
+fn form_of<'w>(word: &str) -> Option<&'w str> {
     if word == "append" {
         return Some("append takes a line of a list");
     }
@@ -35,12 +35,12 @@ fn form_of(word: &str) -> Option<&'static str> {
 /// Why a line is no command.
 pub fn bad_command<'a>(line: &Line<'a>) -> Cause<'a> {
     let word = line.word(0);
-    match form_of(word) {
-        Some(form) => Cause::plain(line.at(1), form),
-        None => Cause::of(
+    let Some(form) = form_of(word) else {
+        return Cause::of(
             line.at(0),
             word,
             " is no command; there are append, remove, replace, tick, raise, halt, load, journal and quit",
-        ),
-    }
+        );
+    };
+    Cause::plain(line.at(1), form)
 }

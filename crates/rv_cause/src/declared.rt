@@ -49,7 +49,7 @@ pub struct Declared<'a> {
 
 impl Sort {
     /// What it is, in words.
-    pub fn words(self) -> &'static str {
+    pub fn words<'w>(self) -> &'w str {
         match self {
             Sort::Unit => "a package",
             Sort::Subtype => "a subtype",
@@ -116,7 +116,12 @@ impl<'a> Declared<'a> {
     }
 }
 
+/// That a name is of a sort, and what follows from that.
+pub fn phrase<'a>(at: usize, name: &'a str, sort: &'a str, behind: &'a str) -> Cause<'a> {
+    Cause::new(at, [name, " is ", sort, behind, "", ""])
+}
+
 /// That something is what it is, and what follows from that.
 pub fn is_a<'a>(at: usize, item: &Declared<'a>, behind: &'a str) -> Cause<'a> {
-    Cause::new(at, [item.name, " is ", item.sort.words(), behind, "", ""])
+    phrase(at, item.name, item.sort.words(), behind)
 }

@@ -35,6 +35,19 @@ const OTHER_WORDS: [&str; 24] = [
     "type",
 ];
 
+// Behind which a name stands.
+const BEFORE_NAMES: [&str; 9] = [
+    "protected",
+    "task",
+    "function",
+    "procedure",
+    "package",
+    "subtype",
+    "entry",
+    "for",
+    ".",
+];
+
 const LOGICAL: [&str; 3] = ["and", "or", "xor"];
 
 // What begins a statement or a declaration.
@@ -255,6 +268,9 @@ fn unexpected_word<'a>(words: &Words<'a>, around: &Around<'a>) -> Cause<'a> {
     }
     if let Some(cause) = declaration(words, around) {
         return cause;
+    }
+    if is_listed(&BEFORE_NAMES, words.back(1)) && is_identifier(word) {
+        return Cause::of(at, word, " is a reserved word, and no name (2.9)");
     }
     if is_listed(&OTHER_WORDS, word) {
         return Cause::of(at, word, " isn't in the part of Ada that is taken here");

@@ -35,7 +35,7 @@ const STANDARD: [&str; 8] = [
 ];
 
 /// The library package that declares a name, if one does that needs a `with`.
-pub fn home_of(name: &str) -> Option<&'static str> {
+pub fn home_of<'w>(name: &str) -> Option<&'w str> {
     if is_listed(&TIMES, name) {
         return Some("Ada.Real_Time");
     }
@@ -55,7 +55,7 @@ pub fn home_of(name: &str) -> Option<&'static str> {
 }
 
 /// The library package whose name ends with a word, as `Real_Time`.
-pub fn ends_with(word: &str) -> Option<&'static str> {
+pub fn ends_with<'w>(word: &str) -> Option<&'w str> {
     if is_listed(&["Real_Time"], word) {
         return Some("Ada.Real_Time");
     }
@@ -75,7 +75,7 @@ pub fn ends_with(word: &str) -> Option<&'static str> {
 }
 
 /// What a predefined name of the language denotes, in words.
-pub fn words_of(name: &str) -> Option<&'static str> {
+pub fn words_of<'w>(name: &str) -> Option<&'w str> {
     if is_listed(
         &["Constraint_Error", "Program_Error", "Access_Denied"],
         name,

@@ -2,7 +2,7 @@
 
 use crate::around::Around;
 use crate::cause::Cause;
-use crate::declared::{Declared, Sort, is_a};
+use crate::declared::{Declared, Sort, is_a, phrase};
 use crate::known::Known;
 use crate::library;
 use crate::unknown::is_operation_body;
@@ -109,7 +109,7 @@ fn unseen_part<'a>(
 }
 
 // The library package that a name would be of.
-fn library_of(words: &Words<'_>) -> Option<&'static str> {
+fn library_of<'a>(words: &Words<'a>) -> Option<&'a str> {
     if words.is(0, "Ada") {
         return library::ends_with(words.word(2));
     }
@@ -145,14 +145,15 @@ pub fn not_visible<'a>(
         }
         return unseen(words, &item);
     }
-    match library_of(words) {
-        Some(library) => needs_library(tokens, at, word, library, library::home_of(word).is_some()),
-        None => Cause::of(
+    let Some(library) = library_of(words) else {
+        return Cause::of(
             at,
             word,
             " isn't seen here; its declaration stands elsewhere (8.3)",
-        ),
-    }
+        );
+    };
+    let is_simple = library::home_of(word).is_some();
+    needs_library(tokens, at, word, library, is_simple)
 }
 
 // That a declaration has no body.
@@ -240,7 +241,7 @@ fn is_mark(words: &Words<'_>) -> bool {
 }
 
 // What would have to stand where a name stands whose last part is so many words behind.
-fn wanted(words: &Words<'_>, behind: usize) -> &'static str {
+fn wanted<'a>(words: &Words<'a>, behind: usize) -> &'a str {
     let next = behind.saturating_add(1);
     if words.is(next, ":=") {
         return "; what is assigned is a variable or a component (5.2)";
@@ -267,10 +268,33 @@ fn bad_sort<'a>(words: &Words<'a>, around: &Around<'a>, known: &Known<'a>) -> Ca
         return is_a(words.place(behind), &item, wanted(words, behind));
     }
     let word = words.word(0);
-    match library::words_of(word) {
-        Some(sort) => Cause::new(at, [word, " is ", sort, wanted(words, 0), "", ""]),
-        None => Cause::of(at, word, " denotes nothing that can stand here (8.6)"),
+    let Some(sort) = library::words_of(word) else {
+        return Cause::of(at, word, " denotes nothing that can stand here (8.6)");
+    };
+    phrase(at, word, sort, wanted(words, 0))
+}
+
+// What is wrong with a pragma that matters.
+fn bad_pragma<'a>(words: &Words<'a>, around: &Around<'a>) -> Cause<'a> {
+    let at = words.place(0);
+    if !words.is(0, "Attach_Handler") {
+        return Cause::around(
+            at,
+            "the pragma ",
+            words.word(0),
+            " stands in the declaration of a protected unit or a task only (J.15.11)",
+        );
     }
+    if around.is_specification() {
+        return Cause::plain(
+            at,
+            "the pragma Attach_Handler takes the name of a procedure and a line (J.15.7)",
+        );
+    }
+    Cause::plain(
+        at,
+        "the pragma Attach_Handler stands in the declaration of a protected unit only (J.15.7)",
+    )
 }
 
 /// Why what stands at a word can't stand there.
@@ -287,7 +311,7 @@ pub fn wrong_kind<'a>(words: &Words<'a>, around: &Around<'a>, known: &Known<'a>)
         return cause;
     }
     if words.was(1, "pragma") {
-        return Cause::around(at, "the pragma ", word, " can't stand here, or so (J.15)");
+        return bad_pragma(words, around);
     }
     if words.is(0, "Attach_Handler") {
         return Cause::plain(

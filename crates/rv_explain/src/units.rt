@@ -24,6 +24,7 @@ use rv_unit::UnitFault;
 use std::alloc::{AllocError, Global};
 
 // A unit text at a place, and what is declared.
+#[derive(Clone, Copy)]
 struct Seen<'a, 'k> {
     tokens: &'a [Token<'a>],
     words: Words<'a>,
