@@ -164,20 +164,21 @@ fn at_end<'a>(text_end: usize, last: &'a str, around: &Around<'a>) -> Cause<'a> 
         );
     }
     if around.is_open() {
+        let name = around.innermost();
         return Cause::new(
             text_end,
             [
                 "the text ends here, within ",
-                around.innermost(),
-                ", which isn't ended",
-                "",
-                "",
+                name,
+                ": write end ",
+                name,
+                ";",
                 "",
             ],
         );
     }
     if around.is_package_body {
-        return is_missing(text_end, ";", last);
+        return is_missing(text_end, "a ;", last);
     }
     Cause::around(
         text_end,
@@ -203,10 +204,10 @@ fn missing_before(words: &Words<'_>) -> &'static str {
             &[";", "then", "loop", "is", "=>", "begin", "else", "when"],
             words.back(count),
         ) {
-            return ";";
+            return "a ;";
         }
     }
-    ";"
+    "a ;"
 }
 
 // That a sign or a word is missing, where a word begins something new behind one that ends something.

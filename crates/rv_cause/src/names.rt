@@ -243,6 +243,9 @@ fn is_mark(words: &Words<'_>) -> bool {
 // What would have to stand where a name stands whose last part is so many words behind.
 fn wanted<'a>(words: &Words<'a>, behind: usize) -> &'a str {
     let next = behind.saturating_add(1);
+    if is_mark(words) {
+        return "; a subtype has to stand here (3.2.2)";
+    }
     if words.is(next, ":=") {
         return "; what is assigned is a variable or a component (5.2)";
     }
@@ -251,9 +254,6 @@ fn wanted<'a>(words: &Words<'a>, behind: usize) -> &'a str {
     }
     if begins_statement(words) {
         return "; a statement calls a procedure or an entry (6.4)";
-    }
-    if is_mark(words) {
-        return "; a subtype has to stand here (3.2.2)";
     }
     if words.is(next, "(") {
         return "; an expression calls a function (6.4)";

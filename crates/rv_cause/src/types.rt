@@ -93,9 +93,10 @@ pub fn bad_mode<'a>(words: &Words<'a>, around: &Around<'a>, known: &Known<'a>) -
 
 /// Why a value has to be known from the text.
 pub fn not_static<'a>(words: &Words<'a>) -> Cause<'a> {
+    let part = words.last_part();
     Cause::of(
-        words.place(0),
-        words.word(0),
+        words.place(part),
+        words.word(part),
         " isn't known from the text alone, as it has to be here (4.9)",
     )
 }
@@ -266,7 +267,7 @@ fn bad_type<'a>(words: &Words<'a>, found: Option<(Declared<'a>, usize)>) -> Caus
                 words.place(behind),
                 [
                     item.name,
-                    " is of ",
+                    " is of the subtype ",
                     item.mark,
                     ", which doesn't fit here (8.6)",
                     "",

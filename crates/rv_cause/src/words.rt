@@ -84,6 +84,17 @@ impl<'a> Words<'a> {
         }
     }
 
+    /// How many words behind the last part of the name stands that begins here.
+    pub fn last_part(&self) -> usize {
+        for count in 0..8usize {
+            let part = count.saturating_mul(2);
+            if !self.is(part.saturating_add(1), ".") {
+                return part;
+            }
+        }
+        0
+    }
+
     /// Whether so many words behind, from 0, stands this one.
     pub fn is(&self, count: usize, word: &str) -> bool {
         is_same_name(self.word(count), word)
