@@ -206,11 +206,6 @@ impl<'a> Known<'a> {
         }
     }
 
-    /// All declarations, in the order of the script.
-    pub fn items(&self) -> &[Declared<'a>] {
-        self.items.as_slice()
-    }
-
     /// Adds a declaration.
     pub fn add(&mut self, item: Declared<'a>) -> Result<(), AllocError> {
         self.items.push(item)?;
@@ -377,15 +372,6 @@ impl<'a> Known<'a> {
         }
         Ok(names)
     }
-}
-
-/// Of names the one that is nearest to a word, if one is near.
-pub fn near<'a>(
-    alloc: Global,
-    word: &str,
-    names: &Names<'a>,
-) -> Result<Option<&'a str>, AllocError> {
-    nearest(alloc, word, names.as_slice())
 }
 
 /// Of names the one that is nearest to a word, else all.

@@ -35,14 +35,6 @@ impl<'a> Words<'a> {
         Words { tokens, here }
     }
 
-    /// Seen from so many words further on.
-    pub fn ahead(&self, count: usize) -> Words<'a> {
-        Words {
-            tokens: self.tokens,
-            here: self.here.saturating_add(count),
-        }
-    }
-
     /// The word that stands so many behind, from 0; empty where the text ends before.
     pub fn word(&self, count: usize) -> &'a str {
         match self.tokens.get(self.here.saturating_add(count)) {
