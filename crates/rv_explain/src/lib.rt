@@ -1,10 +1,14 @@
 //! What is said below the line of a fault where it is asked for: where in the script the fault stands, the line with a
-//! caret under the place, and what the fault means.
+//! caret under the word at fault, and what is wrong with it (`CAUSES.md` has the closed list).
 #![tactic(auto)]
 
 mod excerpt;
 mod explanation;
-mod meaning;
+mod finding;
+mod places;
+mod sections;
 pub mod spot;
+mod units;
 
-pub use explanation::{Explanation, explain};
+pub use explanation::Explanation;
+pub use finding::explain;

@@ -131,7 +131,7 @@ fn given(alloc: Global, script: &[u8], deed: Deed<'_>, is_explained: bool) -> io
             let line = format!(in alloc; "{fault}\n")?;
             written.extend_from_slice(line.as_bytes())?;
             if is_explained {
-                let text = explain(script, fault).to_string(alloc)?;
+                let text = explain(alloc, script, fault).to_string(alloc)?;
                 written.extend_from_slice(text.as_bytes())?;
             }
         }

@@ -1,0 +1,127 @@
+//! What the units of a script declare, as their texts have it.
+
+use crate::cause::Cause;
+use rv_text::is_same_name;
+
+/// What a declaration declares.
+#[derive(Clone, Copy, PartialEq)]
+pub enum Sort {
+    Unit,
+    Subtype,
+    Constant,
+    Task,
+    /// A protected unit, single or a type.
+    Protected,
+    /// An object of a protected type, or a suspension object.
+    Object,
+    Component,
+    Function,
+    Procedure,
+    Entry,
+    /// A parameter `in`.
+    Given,
+    /// A parameter `out` or `in out`.
+    Parameter,
+    LoopParameter,
+    Variable,
+}
+
+/// A declaration of a unit.
+#[derive(Clone, Copy)]
+pub struct Declared<'a> {
+    /// The unit.
+    pub unit: &'a str,
+    /// The protected unit or the task that it stands in; empty where it is the package's.
+    pub home: &'a str,
+    /// The operation that it stands in, if it does.
+    pub operation: &'a str,
+    pub name: &'a str,
+    pub sort: Sort,
+    /// The name of its subtype or type, if it has one; `type` of a protected type.
+    pub mark: &'a str,
+    /// The byte of its unit's text where its name stands.
+    pub at: usize,
+    /// Whether it stands behind `private`, or in the package's body.
+    pub is_hidden: bool,
+    /// Whether it stands in no body of a protected unit or task.
+    pub is_declaration: bool,
+}
+
+impl Sort {
+    /// What it is, in words.
+    pub fn words<'w>(self) -> &'w str {
+        match self {
+            Sort::Unit => "a package",
+            Sort::Subtype => "a subtype",
+            Sort::Constant => "a constant",
+            Sort::Task => "a task",
+            Sort::Protected => "a protected unit",
+            Sort::Object => "an object",
+            Sort::Component => "a component",
+            Sort::Function => "a function",
+            Sort::Procedure => "a procedure",
+            Sort::Entry => "an entry",
+            Sort::Given => "an in parameter",
+            Sort::Parameter => "a parameter",
+            Sort::LoopParameter => "a loop parameter",
+            Sort::Variable => "a variable",
+        }
+    }
+
+    /// Whether it is called.
+    pub fn is_operation(self) -> bool {
+        self == Sort::Function || self == Sort::Procedure || self == Sort::Entry
+    }
+}
+
+impl<'a> Declared<'a> {
+    /// Whether others call its operations.
+    pub fn is_object(&self) -> bool {
+        self.sort == Sort::Protected && self.mark != "type" || self.sort == Sort::Object
+    }
+
+    /// The protected unit that has its operations.
+    pub fn operations_home(&self) -> &'a str {
+        if self.sort == Sort::Protected {
+            self.name
+        } else {
+            self.mark
+        }
+    }
+
+    /// Whether it has this name.
+    pub fn is_named(&self, name: &str) -> bool {
+        is_same_name(self.name, name)
+    }
+
+    /// Whether it stands in this unit, outside of protected units and tasks.
+    pub fn is_of_package(&self, unit: &str) -> bool {
+        self.home.is_empty() && self.sort != Sort::Unit && is_same_name(self.unit, unit)
+    }
+
+    /// Whether it is a parameter of an operation, in the operation's declaration.
+    pub fn is_parameter_of(&self, operation: &Declared<'_>) -> bool {
+        let is_parameter = self.sort == Sort::Given || self.sort == Sort::Parameter;
+        is_parameter
+            && self.is_declaration
+            && is_same_name(self.operation, operation.name)
+            && is_same_name(self.home, operation.home)
+            && is_same_name(self.unit, operation.unit)
+    }
+
+    /// Whether it is a component or an operation of this protected unit.
+    pub fn is_member(&self, unit: &str, home: &str) -> bool {
+        let is_part = self.sort == Sort::Component || self.sort.is_operation();
+        is_part && is_same_name(self.home, home) && is_same_name(self.unit, unit)
+    }
+}
+
+/// That a name is of a sort, and what follows from that.
+pub fn phrase<'a>(at: usize, name: &'a str, sort: &'a str, behind: &'a str) -> Cause<'a> {
+    Cause::new(at, [name, " is ", sort, behind, "", ""])
+}
+
+/// That something is what it is, and what follows from that.
+pub fn is_a<'a>(at: usize, item: &Declared<'a>, behind: &'a str) -> Cause<'a> {
+    phrase(at, item.name, item.sort.words(), behind)
+}

@@ -1,0 +1,24 @@
+//! The one cause of a fault of a script, found from its text: what is wrong with which word, in the words of the text, and how
+//! to mend it where that is known.
+#![tactic(auto)]
+
+pub mod around;
+pub mod cause;
+pub mod commands;
+pub mod declared;
+pub mod grammar;
+pub mod known;
+pub mod lexical;
+pub mod library;
+pub mod line;
+pub mod lists;
+pub mod loaded;
+pub mod names;
+pub mod restrictions;
+pub mod sections;
+pub mod settings;
+pub mod shapes;
+pub mod steps;
+pub mod types;
+pub mod unknown;
+pub mod words;

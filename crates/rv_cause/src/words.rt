@@ -1,0 +1,99 @@
+//! The words of a unit text around a place.
+
+use rv_lex::token::Token;
+use rv_text::is_same_name;
+
+/// The words of a unit text, seen from one of them.
+#[derive(Clone, Copy)]
+pub struct Words<'a> {
+    tokens: &'a [Token<'a>],
+    // The word that it is seen from, or how many there are.
+    here: usize,
+}
+
+// The first word that stands at a place or behind it, or how many words there are.
+fn index_from(tokens: &[Token<'_>], place: usize) -> usize {
+    for (index, token) in tokens.iter().enumerate() {
+        if token.place >= place {
+            return index;
+        }
+    }
+    tokens.len()
+}
+
+impl<'a> Words<'a> {
+    /// Seen from the word at a place, or the next one.
+    pub fn at(tokens: &'a [Token<'a>], place: usize) -> Words<'a> {
+        Words {
+            tokens,
+            here: index_from(tokens, place),
+        }
+    }
+
+    /// Seen from the word of a number, from 0.
+    pub fn from(tokens: &'a [Token<'a>], here: usize) -> Words<'a> {
+        Words { tokens, here }
+    }
+
+    /// The word that stands so many behind, from 0; empty where the text ends before.
+    pub fn word(&self, count: usize) -> &'a str {
+        match self.tokens.get(self.here.saturating_add(count)) {
+            Some(token) => token.text,
+            None => "",
+        }
+    }
+
+    /// The word that stands so many before, from 1; empty where the text begins behind that.
+    pub fn back(&self, count: usize) -> &'a str {
+        let Some(index) = self.here.checked_sub(count) else {
+            return "";
+        };
+        match self.tokens.get(index) {
+            Some(token) => token.text,
+            None => "",
+        }
+    }
+
+    /// The place of the word that stands so many behind, from 0; of none the place of the last.
+    pub fn place(&self, count: usize) -> usize {
+        match self.tokens.get(self.here.saturating_add(count)) {
+            Some(token) => token.place,
+            None => match self.tokens.last() {
+                Some(token) => token.place,
+                None => 0,
+            },
+        }
+    }
+
+    /// The place of the word that stands so many before, from 1; 0 where the text begins behind that.
+    pub fn place_back(&self, count: usize) -> usize {
+        let Some(index) = self.here.checked_sub(count) else {
+            return 0;
+        };
+        match self.tokens.get(index) {
+            Some(token) => token.place,
+            None => 0,
+        }
+    }
+
+    /// How many words behind the last part of the name stands that begins here.
+    pub fn last_part(&self) -> usize {
+        for count in 0..8usize {
+            let part = count.saturating_mul(2);
+            if !self.is(part.saturating_add(1), ".") {
+                return part;
+            }
+        }
+        0
+    }
+
+    /// Whether so many words behind, from 0, stands this one.
+    pub fn is(&self, count: usize, word: &str) -> bool {
+        is_same_name(self.word(count), word)
+    }
+
+    /// Whether so many words before, from 1, stands this one.
+    pub fn was(&self, count: usize, word: &str) -> bool {
+        is_same_name(self.back(count), word)
+    }
+}

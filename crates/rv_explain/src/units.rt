@@ -1,0 +1,244 @@
+//! The cause of a fault of a unit text.
+
+ghost use Rattle.std.specs.Prelude.{◌+◌, ◌≤◌, ◌^◌, length};
+
+use crate::explanation::{Explanation, of_section};
+use crate::places::place_of;
+use crate::sections::{known_before, texts_before};
+use rv_cause::around::Around;
+use rv_cause::cause::Cause;
+use rv_cause::known::Known;
+use rv_cause::words::Words;
+use rv_cause::{grammar, lexical, names, restrictions, shapes, types, unknown};
+use rv_lex::fault::LexFault;
+use rv_lex::lexer::tokens;
+use rv_lex::token::Token;
+use rv_names::NameFault;
+use rv_parse::ParseFault;
+use rv_restrict::Restriction;
+use rv_script::unit_text::unit_text;
+use rv_shape::fault::ShapeFault;
+use rv_static::TypeFault;
+use rv_text::Section;
+use rv_unit::UnitFault;
+use std::alloc::{AllocError, Global};
+
+// A unit text at a place, and what is declared.
+#[derive(Clone, Copy)]
+struct Seen<'a, 'k> {
+    tokens: &'a [Token<'a>],
+    words: Words<'a>,
+    around: Around<'a>,
+    known: &'k Known<'a>,
+}
+
+const NO_MEMORY: &str = "memory was refused";
+
+// The cause of a fault of words.
+fn of_words(text: &str, fault: LexFault) -> Cause<'_> {
+    match fault {
+        LexFault::BadCharacter(at) => lexical::bad_character(text, at),
+        LexFault::BadLiteral(at) => lexical::bad_literal(text, at),
+        LexFault::BadIdentifier(at) => lexical::bad_identifier(text, at),
+        LexFault::NotAscii(at) => lexical::not_ascii(at),
+        LexFault::NoMemory => Cause::plain(0, NO_MEMORY),
+    }
+}
+
+// The cause of a fault of the grammar.
+fn of_grammar<'a>(text: &'a str, tokens: &'a [Token<'a>], fault: ParseFault) -> Cause<'a> {
+    match fault {
+        ParseFault::Lex(fault) => of_words(text, fault),
+        ParseFault::Unexpected(at) => grammar::unexpected(text, tokens, at),
+        ParseFault::TooDeep(at) => grammar::too_deep(tokens, at),
+        ParseFault::NoMemory => Cause::plain(0, NO_MEMORY),
+    }
+}
+
+// The cause of a broken restriction.
+fn of_restriction<'a>(seen: &Seen<'a, '_>, restriction: Restriction) -> Cause<'a> {
+    let words = &seen.words;
+    let at = words.place(0);
+    match restriction {
+        Restriction::NoAbortStatements => {
+            Cause::plain(
+                at,
+                "there is no abort statement in the profile Ravenscar (D.7)",
+            )
+        }
+        Restriction::NoRequeueStatements => {
+            Cause::plain(
+                at,
+                "there is no requeue statement in the profile Ravenscar (D.7)",
+            )
+        }
+        Restriction::NoSelectStatements => {
+            Cause::plain(
+                at,
+                "there is no select statement in the profile Ravenscar (D.7)",
+            )
+        }
+        Restriction::NoRelativeDelay => {
+            Cause::plain(at, "a task delays until a time: write delay until (D.7)")
+        }
+        Restriction::NoLocalProtectedObjects => Cause::plain(
+            at,
+            "protected objects are declared in the package or its body, not in a block (D.7)",
+        ),
+        Restriction::NoTaskHierarchy => Cause::plain(
+            at,
+            "tasks are declared in the package or its body, not in a block (D.7)",
+        ),
+        Restriction::MaxProtectedEntries => restrictions::second_entry(words),
+        Restriction::MaxTaskEntries => restrictions::task_entry(words),
+        Restriction::SimpleBarriers => restrictions::barrier(words, &seen.around, seen.known),
+        Restriction::NoDynamicPriorities => restrictions::dynamic_priority(words),
+        Restriction::NoDependence => restrictions::library_unit(words),
+    }
+}
+
+// The cause of a fault of names.
+fn of_names<'a>(
+    alloc: Global,
+    seen: &Seen<'a, '_>,
+    fault: NameFault,
+) -> Result<Cause<'a>, AllocError> {
+    let words = &seen.words;
+    match fault {
+        NameFault::Unknown(_) => unknown::unknown(alloc, words, &seen.around, seen.known),
+        NameFault::Duplicate(_) => Ok(names::duplicate(words, &seen.around)),
+        NameFault::NotVisible(_) => {
+            Ok(names::not_visible(seen.tokens, words, &seen.around, seen.known))
+        }
+        NameFault::WrongKind(_) => Ok(names::wrong_kind(words, &seen.around, seen.known)),
+        NameFault::EndName(_) => Ok(names::end_name(seen.tokens, words)),
+        NameFault::NoMemory => Ok(Cause::plain(0, NO_MEMORY)),
+    }
+}
+
+// The cause of a fault of types.
+fn of_types<'a>(
+    alloc: Global,
+    seen: &Seen<'a, '_>,
+    fault: TypeFault,
+) -> Result<Cause<'a>, AllocError> {
+    let words = &seen.words;
+    match fault {
+        TypeFault::Mismatch(_) => types::mismatch(alloc, words, &seen.around, seen.known),
+        TypeFault::NotStatic(_) => Ok(types::not_static(words)),
+        TypeFault::ConstantWritten(_) => {
+            Ok(types::constant_written(words, &seen.around, seen.known))
+        }
+        TypeFault::BadMode(_) => Ok(types::bad_mode(words, &seen.around, seen.known)),
+        TypeFault::TooLarge(_) => Ok(types::too_large(words, &seen.around, seen.known)),
+        TypeFault::BadChoice(_) => Ok(types::bad_choice(words)),
+        TypeFault::NoMemory => Ok(Cause::plain(0, NO_MEMORY)),
+    }
+}
+
+// The cause of a fault of a unit text's shape, seen from its package; known is what stands before.
+fn of_shape<'a>(seen: &Seen<'a, '_>, fault: ShapeFault) -> Cause<'a> {
+    let words = &seen.words;
+    let at = words.place(1);
+    match fault {
+        ShapeFault::NameTaken => match shapes::unit_name(at, words.word(1), seen.known) {
+            Some(cause) => cause,
+            None => Cause::of(at, words.word(1), " stands twice"),
+        },
+        ShapeFault::TooMany => Cause::plain(
+            at,
+            "with this unit there would be more units, tasks, objects or parts than fit",
+        ),
+        ShapeFault::LineTaken => {
+            Cause::plain(
+                at,
+                "an interrupt line of this unit has a handler already (C.3.1)",
+            )
+        }
+        ShapeFault::CeilingTooLow => Cause::plain(
+            at,
+            "a protected unit with a handler has a priority of 31 .. 40 (C.3.1)",
+        ),
+        ShapeFault::BadRange => Cause::plain(
+            at,
+            "a priority of this unit is outside 1 .. 40 (D.1)",
+        ),
+        ShapeFault::BadText => Cause::plain(at, "this unit has no shape"),
+        ShapeFault::NoMemory => Cause::plain(at, NO_MEMORY),
+    }
+}
+
+// A unit text seen from a place.
+fn seen_at<'a, 'k>(tokens: &'a [Token<'a>], known: &'k Known<'a>, place: usize) -> Seen<'a, 'k> {
+    Seen {
+        tokens,
+        words: Words::at(tokens, place),
+        around: Around::of(tokens, place),
+        known,
+    }
+}
+
+// The place of a text's package.
+fn package_place(tokens: &[Token<'_>]) -> usize {
+    for token in tokens {
+        if token.text.eq_ignore_ascii_case("package") {
+            return token.place;
+        }
+    }
+    0
+}
+
+// The cause of a fault of a text that has words.
+fn cause_of<'a>(
+    alloc: Global,
+    text: &'a str,
+    tokens: &'a [Token<'a>],
+    known: &Known<'a>,
+    fault: UnitFault,
+) -> Result<Cause<'a>, AllocError> {
+    let place = place_of(fault).unwrap_or(package_place(tokens));
+    let seen = seen_at(tokens, known, place);
+    match fault {
+        UnitFault::Lex(fault) => Ok(of_words(text, fault)),
+        UnitFault::Parse(fault) => Ok(of_grammar(text, tokens, fault)),
+        UnitFault::Restriction(violation) => Ok(of_restriction(&seen, violation.restriction)),
+        UnitFault::Names(fault) => of_names(alloc, &seen, fault),
+        UnitFault::Types(fault) => of_types(alloc, &seen, fault),
+        UnitFault::Shape(fault) => Ok(of_shape(&seen, fault)),
+        UnitFault::NoMemory => Ok(Cause::plain(0, NO_MEMORY)),
+    }
+}
+
+// Whether what the text itself declares matters to a fault.
+fn knows_itself(fault: UnitFault) -> bool {
+    match fault {
+        UnitFault::Shape(_) => false,
+        _ => true,
+    }
+}
+
+/// What is said of a fault of the unit text of a section.
+pub(crate) fn of_unit<'a>(
+    alloc: Global,
+    script: &'a str,
+    section: &Section<'a>,
+    fault: UnitFault,
+) -> Result<Explanation<'a>, AllocError>
+    requires { section.now.line + length section.now.text.now ≤ 2 ^ 63 }
+{
+    let text = unit_text(alloc, section.text)?;
+    let texts = texts_before(alloc, script, section.line)?;
+    let Ok(own) = tokens(alloc, text.as_str()) else {
+        let cause = match fault {
+            UnitFault::Lex(fault) => of_words(text.as_str(), fault),
+            _ => Cause::plain(0, NO_MEMORY),
+        };
+        return of_section(alloc, section, &cause);
+    };
+    let mut known = known_before(alloc, script, section.line, texts.as_slice())?;
+    if knows_itself(fault) {
+        known.add_text(own.as_slice())?;
+    }
+    let cause = cause_of(alloc, text.as_str(), own.as_slice(), &known, fault)?;
+    of_section(alloc, section, &cause)
+}
