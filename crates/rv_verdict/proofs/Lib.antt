@@ -9,4 +9,4 @@ pub mod Wholly
 pub mod Ending
 pub mod EndsSaid
 pub mod Followed
-pub mod Putting
+pub mod Bodied

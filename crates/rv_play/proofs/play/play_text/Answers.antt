@@ -12,4 +12,4 @@ returns-in_err-limits g c =
 
 pub returns-in-Ok-new : goal.returns-in-Ok-new
 returns-in-Ok-new g c =
-    carried_writes c.args.all _ _ c.args.text.now _ c.in_ok-limits.limits _ _ _ c.in-Ok.ensures.ok c.in_ok-limits.ensures c.in-Ok-new.ensures c.carry_out_all.ensures
+    carried_writes c.args.all _ _ c.args.text.now _ c.in_ok-limits.limits _ _ _ c.in-Ok.ensures.ok c.in_ok-limits.ensures c.in-Ok-new.ensures c.carry_out_all-done.ensures
