@@ -1,4 +1,4 @@
-use Rattle.std.proofs.Common.{◌≡◌, ◌∙◌, List, Option, ap, subst, sym, ℕ}
+use Rattle.std.proofs.Common.{◌∙◌, List, Option, ap, subst, sym, ℕ}
 use Rattle.rv_shape.specs.Shape.{Shape}
 use Rattle.rv_code.specs.BodyView.{unit_view}
 use Rattle.rv_verdict.specs.Texts.{HasBodies, text_named, texts_now}
