@@ -1,5 +1,5 @@
 -- What a `go` asks, by what the actor's text asks next; and what its answer leaves behind.
-use Rattle.std.proofs.Common.{◌≡◌, ℕ, Bool, true, false, List, [], ◌∷◌, ◌++◌, Some, None, Option, Ok, refl, sym, ap, ◌∙◌, subst, arith}
+use Rattle.std.proofs.Common.{◌≡◌, ℕ, Bool, true, false, List, [], ◌∷◌, ◌++◌, Some, None, Option, Ok, Err, Result, refl, sym, ap, ◌∙◌, subst, arith}
 use Rattle.std.specs.Prelude.{nat_lt, ◌==◌, ◌&&◌, not, if◌then◌else◌}
 use Rattle.std.proofs.lemmas.Bool.Decides.{nat_tests}
 use Rattle.rv_shape.specs.Shape.{Shape}
@@ -21,14 +21,14 @@ use Rattle.rv_exec.specs.Asking.{stands}
 use Rattle.rv_exec.specs.Bodies.{operation_of, task_of}
 use Rattle.rv_exec.specs.Next.{settling, next_of}
 use Rattle.rv_exec.specs.Tasks.{task_run, line_run}
-use Rattle.rv_go.specs.Texts.{TextsView, is_fire, is_started, is_heard, answers_to}
+use Rattle.rv_go.specs.Texts.{TextsView, is_fire, is_started, is_heard, hears, with_answer, answers_to}
 use Rattle.rv_go.specs.declared.texts.Heard.{Heard}
-use Rattle.rv_go.specs.Goes.{if_body, handler_asks, line_asks, asks_by, asks}
-use Rattle.rv_go.specs.Runs.{task_text, operation_text, handler_text, text_by, text_of, asked_by_any, fires, asks_beside}
+use Rattle.rv_go.specs.Goes.{if_body, task_asks, handler_asks, line_asks, asks_by, asks_at, asks}
+use Rattle.rv_go.specs.Runs.{task_text, operation_text, handler_text, text_by, text_of, asked_by_any, fires, beside, asks_beside}
 use Rattle.rv_fault.specs.Written.{Known}
 use Rattle.rv_play.specs.Acts.{Act}
 use Rattle.rv_play.specs.Stages.{Stage, due_answer, after_deed}
-use Rattle.rv_play.specs.Deeds.{ComesToDeed, asked_command, go}
+use Rattle.rv_play.specs.Deeds.{ComesToDeed, asked_command, go, goes}
 use Rattle.rv_play.specs.Scripted.{Playing, Does}
 use Rattle.rv_play.specs.Going.{asks_fire, heard_of, going, settled, asked_behind, IsGo, GoesOn}
 

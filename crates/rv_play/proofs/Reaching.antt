@@ -1,26 +1,28 @@
 -- `go`s along a run of a text.
-use Rattle.std.proofs.Common.{◌≡◌, ℕ, ◌+◌, ◌-◌, ◌<◌, ◌≤◌, true, false, List, [], ◌∷◌, ◌++◌, replicate, Some, None, Option, Ok, Err, Result, refl, sym, ap, ◌∙◌, subst, arith, append_assoc, append-nil}
+use Rattle.std.proofs.Common.{◌≡◌, ℕ, ◌+◌, ◌-◌, ◌<◌, ◌≤◌, Bool, true, false, List, [], ◌∷◌, ◌++◌, replicate, Some, None, Option, Ok, Err, Result, refl, sym, ap, ◌∙◌, subst, arith, append_assoc, append-nil}
 use Rattle.std.specs.Prelude.{is_some}
 use Rattle.std.proofs.lemmas.List.{replicate-append-replicate}
 use Rattle.rv_shape.specs.Shape.{Shape}
 use Rattle.rv_event.specs.declared.entry.Answer.{Answer}
 use Rattle.rv_event.specs.declared.entry.Request.{Request}
 use Rattle.rv_code.specs.Bodies.{UnitBodies}
-use Rattle.rv_exec.specs.Asking.{Trace}
-use Rattle.rv_exec.specs.Next.{Left, Plays}
-use Rattle.rv_go.specs.Runs.{text_of, asked_by, asked_by_any, answers, Follows}
+use Rattle.rv_exec.specs.Asking.{stands, Trace}
+use Rattle.rv_exec.specs.Next.{settling, Left, after_ask, Plays}
+use Rattle.rv_go.specs.Texts.{answers_to}
+use Rattle.rv_go.specs.Runs.{text_of, asked_by, asked_by_any, answers, Follows, Runs}
 use Rattle.rv_go.specs.declared.runs.Text.{Text}
 use Rattle.rv_fault.specs.declared.failure.Failure.{Failure}
+use Rattle.rv_fault.specs.declared.failure.Failure.TheVariants.{Refused, Memory, Io}
 use Rattle.rv_fault.specs.Written.{Known, Ended}
 use Rattle.rv_step.specs.declared.step.Asker.{Asker}
 use Rattle.rv_step.specs.Lookup.{actor_of}
 use Rattle.rv_play.specs.Acts.{Act, Goes}
 use Rattle.rv_play.specs.Stages.{Stage}
-use Rattle.rv_play.specs.Deeds.{goes, if_known, ◌>>◌}
+use Rattle.rv_play.specs.Deeds.{ComesToDeed, goes, if_known, ◌>>◌}
 use Rattle.rv_play.specs.Scripted.{Playing}
 use Rattle.rv_play.specs.Carried.{Carries}
 use Rattle.rv_play.specs.declared.going.Paused.{Paused}
-use Rattle.rv_play.specs.Going.{Going, going, settled, asked_behind, IsGo, GoesOn, GoesWhile, LeavesSome, Leaves, Live, rest_of, going_in, settled_in, end_in, Reached, Reaches, Steps, Went}
+use Rattle.rv_play.specs.Going.{Going, going, settled, asked_behind, IsGo, GoesOn, GoesSome, GoesWhile, LeavesSome, Leaves, Live, rest_of, going_in, settled_in, end_in, Reached, Reaches, Steps, Went}
 use Rattle.rv_play.proofs.Carrying.{carries_nothing, carries_then, carries_stop}
 
 -- Acts in a row

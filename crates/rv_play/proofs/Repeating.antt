@@ -1,5 +1,5 @@
 -- `go`s one after another, while the actor's text asks the same.
-use Rattle.std.proofs.Common.{◌≡◌, ℕ, ◌+◌, ◌-◌, ◌<◌, ◌≤◌, false, List, [], ◌∷◌, ◌++◌, replicate, Some, None, Option, Ok, Err, Result, refl, ap, ◌∙◌, subst, arith}
+use Rattle.std.proofs.Common.{◌≡◌, ℕ, ◌+◌, ◌-◌, ◌<◌, ◌≤◌, false, List, [], ◌∷◌, ◌++◌, replicate, Some, None, Option, Ok, Err, Result, refl, sym, ap, ◌∙◌, subst, arith}
 use Rattle.rv_event.specs.declared.entry.Answer.{Answer}
 use Rattle.rv_event.specs.declared.entry.Request.{Request}
 use Rattle.rv_exec.specs.Next.{settling}
@@ -12,7 +12,8 @@ use Rattle.rv_play.specs.Stages.{due_answer}
 use Rattle.rv_play.specs.Deeds.{ComesToDeed, asked_command, go}
 use Rattle.rv_play.specs.Scripted.{Playing, Does}
 use Rattle.rv_play.specs.Carried.{Carries}
-use Rattle.rv_play.specs.Going.{Going, asks_fire, heard_of, going, settled, asked_behind, IsGo, GoesSome}
+use Rattle.rv_play.specs.declared.going.Paused.{Paused}
+use Rattle.rv_play.specs.Going.{Going, asks_fire, heard_of, going, settled, asked_behind, IsGo, GoesSome, GoesWhile}
 use Rattle.rv_play.proofs.Asked.{comes, once_same, once_unheard, once_heard}
 use Rattle.rv_play.proofs.Performing.{does_act, one_more, others_left}
 use Rattle.rv_play.proofs.Carrying.{carries_nothing, carries_then, carries_fails}

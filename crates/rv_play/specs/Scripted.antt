@@ -19,6 +19,7 @@ use Rattle.rv_settings.specs.declared.fault.SettingsFault.{SettingsFault}
 use Rattle.rv_settings.specs.declared.fault.SettingsFault.TheVariants.{NoMemory}
 use Rattle.rv_fault.specs.declared.failure.Failure.{Failure}
 use Rattle.rv_fault.specs.declared.failure.Failure.TheVariants.{Refused, Memory, Io}
+use Rattle.rv_fault.specs.declared.fault.What.{What}
 use Rattle.rv_fault.specs.declared.fault.What.TheVariants as Whats
 use Rattle.rv_fault.specs.declared.fault.ScriptFault.{ScriptFault}
 use Rattle.rv_fault.specs.Written.{Known, Ended, Outcome, Puts}

@@ -1,9 +1,12 @@
-use Rattle.std.proofs.Common.{◌≡◌, false, arith, sym, ◌∙◌, subst}
+use Rattle.std.proofs.Common.{◌≡◌, ◌+◌, Some, None, Ok, Err, false, arith, sym, ◌∙◌, subst}
 use Rattle.std.specs.Prelude.{ℕ}
 use Rattle.std.proofs.lemmas.Result.{err_from_is_err_and}
+use Rattle.rv_play.specs.Stages.{due_answer}
+use Rattle.rv_play.specs.Deeds.{asked_command}
 use Rattle.rv_play.specs.Scripted.{playing}
-use Rattle.rv_play.specs.Going.{asks_fire}
-use Rattle.rv_play.proofs.Repeating.{Repeated, repeated_more, paused, paused_heard, failed}
+use Rattle.rv_play.specs.Going.{asks_fire, heard_of}
+use Rattle.rv_play.proofs.Repeating.{Repeated, repeated_none, repeated_more, paused, paused_heard, failed}
+use Rattle.rv_play.proofs.Asked.{settles}
 use Rattle.rv_play.proofs.going.go_while.Goals as goal
 
 pub loop-done-preserved : goal.loop-done-preserved

@@ -1,7 +1,9 @@
-use Rattle.std.proofs.Common.{◌<◌, ◌-◌, Ok, Err, arith}
+use Rattle.std.proofs.Common.{◌≡◌, ◌<◌, ◌-◌, ◌∷◌, [], Ok, Err, arith, sym, subst}
+use Rattle.std.specs.Prelude.{ℕ}
 use Rattle.std.proofs.lemmas.Result.{err_from_is_err_and}
 use Rattle.rv_play.specs.Acts.{Act, Goes}
 use Rattle.rv_play.specs.Scripted.{playing}
+use Rattle.rv_play.specs.Going.{LeavesSome}
 use Rattle.rv_play.proofs.Reaching.{leaves_then, one_left, one_stops}
 use Rattle.rv_play.proofs.play.perform_more.Goals as goal
 

@@ -1,11 +1,12 @@
-use Rattle.std.proofs.Common.{◌≡◌, Some, ap, sym, ◌∙◌, List}
+use Rattle.std.proofs.Common.{◌≡◌, Some, Option, ap, sym, ◌∙◌, List}
+use Rattle.std.specs.Prelude.{ℕ}
 use Rattle.std.proofs.lemmas.Result.{err_from_is_err_and}
 use Rattle.rv_shape.specs.Shape.{Shape}
 use Rattle.rv_step.specs.Lookup.{actor_of}
 use Rattle.rv_play.specs.Acts.{Goes}
 use Rattle.rv_play.specs.Scripted.{playing}
 use Rattle.rv_play.proofs.Carrying.{nothing_done}
-use Rattle.rv_play.proofs.Reaching.{is_go}
+use Rattle.rv_play.proofs.Reaching.{is_go, leaves_all}
 use Rattle.rv_play.proofs.play.perform_some.Goals as goal
 
 pub returns-in_err-actor : goal.returns-in_err-actor

@@ -1,0 +1,489 @@
+-- Entry by entry, what an actor's asks leave held.
+use Rattle.std.proofs.Common.{◌≡◌, ◌≢◌, ℕ, suc, ◌+◌, ◌-◌, ◌<◌, ℤ, List, [], ◌∷◌, ◌++◌, length, drop, Bool, true, false, cond, refl, sym, ap, ◌∙◌, subst, arith, append-nil, Option, Some, None}
+use Rattle.std.specs.Prelude.{◌==◌, not, nat_lt, if◌then◌else◌, slice_get, int_le, pos}
+use Rattle.std.specs.List.{filter}
+use Rattle.std.proofs.lemmas.Bool.Decides.{nat_tests}
+use Rattle.rv_access.specs.Words.{Words}
+use Rattle.rv_shape.specs.Shape.{Shape}
+use Rattle.rv_shape.specs.Catalogue.{OperationNumber, UnitTask, Who, Operator, Line, Task, Nobody, Target, Nowhere, OnProtected, OnSuspension, all_tasks, first_of, handler, is_function, target, task_of, who}
+use Rattle.rv_shape.specs.declared.suspension.SuspensionOperation.{SuspensionOperation}
+use Rattle.rv_shape.specs.declared.suspension.SuspensionOperation.TheVariants.{SetTrue, SetFalse, CurrentState, SuspendUntilTrue}
+use Rattle.rv_event.proofs.Matching.{by, filter_without}
+use Rattle.rv_event.specs.Past.{begun, clock, fired, halted, held, innermost, last_queued, mode_by, named_in, next_of, or_else, released, scalars, stance, stance_of, state, under_way, without}
+use Rattle.rv_event.specs.Recorded.{recorded}
+use Rattle.rv_event.specs.declared.entry.Answer.{Answer}
+use Rattle.rv_event.specs.declared.entry.Answer.TheVariants as Answers
+use Rattle.rv_event.specs.declared.entry.Body.{Body}
+use Rattle.rv_event.specs.declared.entry.Entry.{Entry}
+use Rattle.rv_event.specs.declared.entry.Entry.TheVariants.{Asked, Load, ListChange}
+use Rattle.rv_event.specs.declared.entry.Exit.{Exit}
+use Rattle.rv_event.specs.declared.entry.Next.{Next}
+use Rattle.rv_event.specs.declared.entry.Next.TheVariants.{Nothing, HandedTo, Dropped}
+use Rattle.rv_event.specs.declared.entry.Recorded.{Recorded}
+use Rattle.rv_event.specs.declared.entry.Recorded.TheVariants as Recordeds
+use Rattle.rv_event.specs.declared.entry.Request.{Request}
+use Rattle.rv_event.specs.declared.entry.Request.TheVariants.{Call, Complete, Resume, DelayUntil, Clock, Fire, Quit, Tick, Halt}
+use Rattle.rv_event.specs.declared.entry.Rule.TheVariants as Rules
+use Rattle.rv_event.specs.declared.entry.Stance.{Stance}
+use Rattle.rv_event.specs.declared.entry.Stance.TheVariants.{Free, InQueue, HandedOver, DroppedBy, WaitsOn, WaitsUntil, Gone}
+use Rattle.rv_exec.specs.Asking.{Trace}
+use Rattle.rv_history.specs.declared.limits.Limits.{Limits}
+use Rattle.rv_history.specs.Due.{out, due, table, gate, within, enough, judged, performed, due_call, due_delay, due_end, due_fire, due_resume, end_of, or_waiting}
+use Rattle.rv_history.specs.Exclusion.{excluded, full_queue, is_barred}
+use Rattle.rv_history.specs.Fitting.{call_fits, end_fits, idle_line, idle_task, in_body, is_operator, is_tick, is_time, may_call}
+use Rattle.rv_history.specs.History.{History, version}
+use Rattle.rv_history.specs.HandOver.{is_complete}
+use Rattle.rv_history.specs.Legal.{IsLegal, Legal}
+use Rattle.rv_history.specs.Rules.{breaks, decided, holds_any}
+use Rattle.rv_history.specs.Subject.{subject}
+use Rattle.rv_history.proofs.Answered.{answered, both, off, within_recorded, word_is}
+use Rattle.rv_history.proofs.Bodies.{count_less}
+use Rattle.rv_history.proofs.Ending.{Names, ends, head_waits, names_at}
+use Rattle.rv_history.proofs.Growing.{front_is}
+use Rattle.rv_history.proofs.HandOver.{done_at_ends}
+use Rattle.rv_history.proofs.Loaded.{way_stays}
+use Rattle.rv_history.proofs.Stances.{another, held_other, is_other, itself, own_stance, same_number, unnamed_stance}
+use Rattle.rv_history.proofs.Waits.{Waits, legal_waits}
+use Rattle.rv_meant.specs.Asks.{held_after, held_behind}
+use Rattle.rv_meant.specs.Histories.{asked_in, asks_of, own_ask}
+use Rattle.rv_meant.proofs.Nesting.{held_both}
+use Rattle.rv_holds.specs.Holds.{handed_one, AsksCountTheHeld}
+
+-- What an answer leaves held
+
+-- a recorded answer is that of the table
+out_table : (h : History) (a : ℕ) (q : Request) (w : Recorded) → recorded (out h a q) ≡ Some w → out h a q ≡ table h a q
+out_table h a q w e =
+    let g = answered h a q w e in
+    let room = within_recorded (enough h a q (recorded (due h a q))) (due h a q) w e in
+    (λ i. within (room.0 i) (due h a q)) ∙ (λ i. gate (g.fitting i) (g.unshut i) (table h a q))
+
+-- what a word leaves held, which isn't that of an end, nor of a wake
+abbrev behind_word : ℕ → Recorded → ℕ
+behind_word n Recordeds.Started = suc n
+behind_word n w = n
+
+judged_holds : (n number line : ℕ) (values : List ℤ) (denied blocking reentry above busy barred full : Bool) (w : Recorded) → recorded (judged number line values denied blocking reentry above busy barred full) ≡ Some w
+    → held_after n (judged number line values denied blocking reentry above busy barred full) ≡ behind_word n w
+judged_holds n number line values true blocking reentry above busy barred full w e = ap (λ z. behind_word n z) (word_is _ w e)
+judged_holds n number line values false true reentry above busy barred full w e = ap (λ z. behind_word n z) (word_is _ w e)
+judged_holds n number line values false false true above busy barred full w e = ap (λ z. behind_word n z) (word_is _ w e)
+judged_holds n number line values false false false true busy barred full w e = ap (λ z. behind_word n z) (word_is _ w e)
+judged_holds n number line values false false false false true barred full w e = absurd (cc)
+judged_holds n number line values false false false false false true true w e = ap (λ z. behind_word n z) (word_is _ w e)
+judged_holds n number line values false false false false false true false w e = ap (λ z. behind_word n z) (word_is _ w e)
+judged_holds n number line values false false false false false false full w e = ap (λ z. behind_word n z) (word_is _ w e)
+
+performed_holds : (n number : ℕ) (blocking waited now : Bool) (wanted : SuspensionOperation) (w : Recorded) → recorded (performed number blocking waited now wanted) ≡ Some w → held_after n (performed number blocking waited now wanted) ≡ behind_word n w
+performed_holds n number blocking waited now SetTrue w e = ap (λ z. behind_word n z) (word_is _ w e)
+performed_holds n number blocking waited now SetFalse w e = ap (λ z. behind_word n z) (word_is _ w e)
+performed_holds n number blocking waited now CurrentState w e = ap (λ z. behind_word n z) (word_is _ w e)
+performed_holds n number true waited now SuspendUntilTrue w e = ap (λ z. behind_word n z) (word_is _ w e)
+performed_holds n number false true now SuspendUntilTrue w e = ap (λ z. behind_word n z) (word_is _ w e)
+performed_holds n number false false true SuspendUntilTrue w e = ap (λ z. behind_word n z) (word_is _ w e)
+performed_holds n number false false false SuspendUntilTrue w e = ap (λ z. behind_word n z) (word_is _ w e)
+
+granted_holds : (n line number : ℕ) (denied : Bool) (r : Answer) (w : Recorded) → recorded (if denied then Answers.Refused Rules.Grant line number else r) ≡ Some w → (recorded r ≡ Some w → held_after n r ≡ behind_word n w)
+    → held_after n (if denied then Answers.Refused Rules.Grant line number else r) ≡ behind_word n w
+granted_holds n line number true r w e f = ap (λ z. behind_word n z) (word_is _ w e)
+granted_holds n line number false r w e f = f e
+
+call_holds : (h : History) (a n : ℕ) (q : Request) (o : ℕ) (t : Target) (w : Recorded) → recorded (due_call h a q o t) ≡ Some w → held_after n (due_call h a q o t) ≡ behind_word n w
+call_holds h a n q o Nowhere w e = absurd (cc)
+call_holds h a n q o (OnProtected site) w e =
+    judged_holds n (version h) (decided h (subject h a) (OnProtected site)) (scalars h.shapes o h.past)
+    (breaks h Rules.Grant a q o (OnProtected site)) (breaks h Rules.Blocking a q o (OnProtected site)) (breaks h Rules.Reentry a q o (OnProtected site)) (breaks h Rules.Ceiling a q o (OnProtected site))
+    (excluded h o (is_function site.operation.kind)) (is_barred h o site.operation.kind) (full_queue h o) w e
+call_holds h a n q o (OnSuspension unit name wanted) w e =
+    granted_holds n (decided h (subject h a) (OnSuspension unit name wanted)) (version h) (breaks h Rules.Grant a q o (OnSuspension unit name wanted))
+    (performed (version h) (breaks h Rules.Blocking a q o (OnSuspension unit name wanted)) (breaks h Rules.Waiter a q o (OnSuspension unit name wanted)) (state o h.past) wanted) w e
+    (λ f. performed_holds n (version h) (breaks h Rules.Blocking a q o (OnSuspension unit name wanted)) (breaks h Rules.Waiter a q o (OnSuspension unit name wanted)) (state o h.past) wanted w f)
+
+fire_holds : (h : History) (a n : ℕ) (s : Option OperationNumber) (w : Recorded) → recorded (due_fire h a s) ≡ Some w → held_after n (due_fire h a s) ≡ behind_word n w
+fire_holds h a n None w e = absurd (cc)
+fire_holds h a n (Some s) w e = call_holds h a n Fire s.object (target h.shapes s.object s.operation) w e
+
+delay_holds : (h : History) (n : ℕ) (blocking over : Bool) → held_after n (due_delay h blocking over) ≡ n
+delay_holds h n true over = refl
+delay_holds h n false true = refl
+delay_holds h n false false = refl
+
+waiting_holds : (h : History) (n : ℕ) (ready : Bool) → held_after n (or_waiting h ready) ≡ n
+waiting_holds h n true = refl
+waiting_holds h n false = by_halt (halted h.past) where
+  by_halt : (b : Bool) → held_after n (cond b Answers.Halted Answers.Waiting) ≡ n
+  by_halt true = refl
+  by_halt false = refl
+
+resume_holds : (h : History) (a n : ℕ) (s : Stance) → held_after n (due_resume h a s) ≡ n + handed_one s
+resume_holds h a n Free = omega arith
+resume_holds h a n InQueue = waiting_holds h n false ∙ omega arith
+resume_holds h a n HandedOver = omega arith
+resume_holds h a n (DroppedBy line) = omega arith
+resume_holds h a n (WaitsOn object) = waiting_holds h n (released a object h.past) ∙ omega arith
+resume_holds h a n (WaitsUntil time) = waiting_holds h n (int_le time (pos (clock h.past))) ∙ omega arith
+resume_holds h a n Gone = omega arith
+
+-- Who was handed an object asks nothing but its resume
+
+may_call_free : (k : Who) (bs : List Body) (s : Stance) → may_call k (mode_by bs s) ≡ true → handed_one s ≡ 0
+may_call_free k bs Free e = refl
+may_call_free k bs InQueue e = refl
+may_call_free Operator bs HandedOver e = absurd (cc)
+may_call_free (Line line) bs HandedOver e = absurd (cc)
+may_call_free (Task task) bs HandedOver e = absurd (cc)
+may_call_free Nobody bs HandedOver e = absurd (cc)
+may_call_free k bs (DroppedBy line) e = refl
+may_call_free k bs (WaitsOn object) e = refl
+may_call_free k bs (WaitsUntil time) e = refl
+may_call_free k bs Gone e = refl
+
+idle_line_free : (k : Who) (bs : List Body) (s : Stance) → idle_line k (mode_by bs s) ≡ true → handed_one s ≡ 0
+idle_line_free k bs Free e = refl
+idle_line_free k bs InQueue e = refl
+idle_line_free Operator bs HandedOver e = absurd (cc)
+idle_line_free (Line line) bs HandedOver e = absurd (cc)
+idle_line_free (Task task) bs HandedOver e = absurd (cc)
+idle_line_free Nobody bs HandedOver e = absurd (cc)
+idle_line_free k bs (DroppedBy line) e = refl
+idle_line_free k bs (WaitsOn object) e = refl
+idle_line_free k bs (WaitsUntil time) e = refl
+idle_line_free k bs Gone e = refl
+
+idle_task_free : (k : Who) (bs : List Body) (s : Stance) → idle_task k (mode_by bs s) ≡ true → handed_one s ≡ 0
+idle_task_free k bs Free e = refl
+idle_task_free k bs InQueue e = refl
+idle_task_free Operator bs HandedOver e = absurd (cc)
+idle_task_free (Line line) bs HandedOver e = absurd (cc)
+idle_task_free (Task task) bs HandedOver e = absurd (cc)
+idle_task_free Nobody bs HandedOver e = absurd (cc)
+idle_task_free k bs (DroppedBy line) e = refl
+idle_task_free k bs (WaitsOn object) e = refl
+idle_task_free k bs (WaitsUntil time) e = refl
+idle_task_free k bs Gone e = refl
+
+-- an actor in a body is free
+in_body_free : (bs : List Body) (s : Stance) → in_body (mode_by bs s) ≡ true → s ≡ Free
+in_body_free bs Free e = refl
+in_body_free bs InQueue e = absurd (cc)
+in_body_free bs HandedOver e = absurd (cc)
+in_body_free bs (DroppedBy line) e = absurd (cc)
+in_body_free bs (WaitsOn object) e = absurd (cc)
+in_body_free bs (WaitsUntil time) e = absurd (cc)
+in_body_free bs Gone e = absurd (cc)
+
+free_not_queued : (s : Stance) → s ≡ Free → s ≡ InQueue → ⊥
+free_not_queued s e f = cc (e, f)
+
+not_operator : (shapes : List Shape) (a : ℕ) → 0 < a → is_operator (who shapes a) ≡ false
+not_operator shapes a some =
+    let other : (a == 0) ≡ false = grind (arith, nat_tests) in
+    ap (λ (b : Bool). is_operator (if b then Operator else (if nat_lt a 11 then Line (a - 1) else task_of (slice_get (all_tasks shapes) (a - 11))))) other ∙ line_or (nat_lt a 11)
+  where
+    task_is : (o : Option UnitTask) → is_operator (task_of o) ≡ false
+    task_is None = refl
+    task_is (Some task) = refl
+
+    line_or : (b : Bool) → is_operator (if b then Line (a - 1) else task_of (slice_get (all_tasks shapes) (a - 11))) ≡ false
+    line_or true = refl
+    line_or false = task_is (slice_get (all_tasks shapes) (a - 11))
+
+never_handed : (a : ℕ) (q : Request) (w : Recorded) → handed_one (stance_of (Asked a q w)) ≡ 0
+never_handed a (Call o p vs) Recordeds.Queued = refl
+never_handed a (Call o p vs) Recordeds.Suspended = refl
+never_handed a (Call o p vs) w = refl
+never_handed a (DelayUntil t) Recordeds.Delayed = refl
+never_handed a (DelayUntil t) w = refl
+never_handed a Quit (Recordeds.Accepted v) = refl
+never_handed a Quit w = refl
+never_handed a q w = refl
+
+-- One entry of the actor's own
+
+one_more : (a : ℕ) (b : Body) (bs : List Body) → b.actor ≡ a → length (filter (by a) (b ∷ bs)) ≡ suc (length (filter (by a) bs))
+one_more a b bs is = ap (λ (t : Bool). length (cond t (b ∷ filter (by a) bs) (filter (by a) bs))) (ap (λ (n : ℕ). n == a) is ∙ itself a)
+
+none_more : (a : ℕ) (b : Body) (bs : List Body) → b.actor ≢ a → length (filter (by a) (b ∷ bs)) ≡ length (filter (by a) bs)
+none_more a b bs apart = ap (λ (t : Bool). length (cond t (b ∷ filter (by a) bs) (filter (by a) bs))) (another b.actor a (λ is. apart (sym is)))
+
+module _ (h : History) (a n : ℕ) (k : length (held h.shapes a h.past) ≡ n + handed_one (stance a h.past)) where
+  abbrev Counts : Request → Recorded → Type 0
+  Counts q w = length (held h.shapes a (Asked a q w ∷ h.past)) ≡ held_after n (out h a q) + handed_one (stance a (Asked a q w ∷ h.past))
+
+  abbrev was : ℕ
+  was = length (held h.shapes a h.past)
+
+  own_free : (q : Request) (w : Recorded) → next_of (Asked a q w) ≡ Nothing → handed_one (stance a (Asked a q w ∷ h.past)) ≡ 0
+  own_free q w none = ap (λ z. handed_one z) (own_stance a q w h.past none) ∙ never_handed a q w
+
+  -- one that starts nothing
+  own_plain : (q : Request) (w : Recorded) → next_of (Asked a q w) ≡ Nothing → length (held h.shapes a (Asked a q w ∷ h.past)) ≡ was → held_after n (out h a q) ≡ n → handed_one (stance a h.past) ≡ 0 → Counts q w
+  own_plain q w none same holds free = let f : handed_one (stance a (Asked a q w ∷ h.past)) ≡ 0 = own_free q w none in omega (arith, k, same, holds, free, f)
+
+  -- one that starts a body
+  own_start : (q : Request) (w : Recorded) → next_of (Asked a q w) ≡ Nothing → length (held h.shapes a (Asked a q w ∷ h.past)) ≡ suc was → held_after n (out h a q) ≡ suc n → handed_one (stance a h.past) ≡ 0 → Counts q w
+  own_start q w none more holds free = let f : handed_one (stance a (Asked a q w ∷ h.past)) ≡ 0 = own_free q w none in omega (arith, k, more, holds, free, f)
+
+  -- a resume
+  own_resume : (w : Recorded) → recorded (out h a Resume) ≡ Some w → next_of (Asked a Resume w) ≡ Nothing → Counts Resume w
+  own_resume w e none =
+      let f : handed_one (stance a (Asked a Resume w ∷ h.past)) ≡ 0 = own_free Resume w none in
+      let r : held_after n (out h a Resume) ≡ n + handed_one (stance a h.past) = ap (λ z. held_after n z) (out_table h a Resume w e) ∙ resume_holds h a n (stance a h.past) in
+      omega (arith, k, f, r)
+
+  own_call : (o p : ℕ) (vs : List ℤ) (w : Recorded) → recorded (out h a (Call o p vs)) ≡ Some w → Counts (Call o p vs) w
+  own_call o p vs w e = by_word w e (ap (λ z. held_after n z) (out_table h a (Call o p vs) w e) ∙ call_holds h a n (Call o p vs) o (target h.shapes o p) w (answered h a (Call o p vs) w e).said) where
+    free : handed_one (stance a h.past) ≡ 0
+    free = may_call_free (who h.shapes a) (held h.shapes a h.past) (stance a h.past) (both _ (call_fits (length (held h.shapes a h.past)) vs (target h.shapes o p)) (answered h a (Call o p vs) w e).fits_in).0
+
+    by_word : (w : Recorded) → recorded (out h a (Call o p vs)) ≡ Some w → held_after n (out h a (Call o p vs)) ≡ behind_word n w → Counts (Call o p vs) w
+    by_word Recordeds.Started e holds = own_start (Call o p vs) Recordeds.Started refl (one_more a (record { actor = a; object = o; operation = p }) (under_way h.shapes h.past) refl) holds free
+    by_word (Recordeds.Done next) e holds = absurd (off (done_at_ends h a (Call o p vs) next e))
+    by_word Recordeds.Queued e holds = own_plain (Call o p vs) Recordeds.Queued refl refl holds free
+    by_word (Recordeds.Refused rule line number) e holds = own_plain (Call o p vs) (Recordeds.Refused rule line number) refl refl holds free
+    by_word Recordeds.Suspended e holds = own_plain (Call o p vs) Recordeds.Suspended refl refl holds free
+    by_word Recordeds.Delayed e holds = own_plain (Call o p vs) Recordeds.Delayed refl refl holds free
+    by_word Recordeds.Woken e holds = own_plain (Call o p vs) Recordeds.Woken refl refl holds free
+    by_word (Recordeds.Accepted value) e holds = own_plain (Call o p vs) (Recordeds.Accepted value) refl refl holds free
+
+  own_fire : (w : Recorded) → recorded (out h a Fire) ≡ Some w → Counts Fire w
+  own_fire w e = by_word w e (ap (λ z. held_after n z) (out_table h a Fire w e) ∙ fire_holds h a n (handler h.shapes (a - 1)) w (answered h a Fire w e).said) where
+    free : handed_one (stance a h.past) ≡ 0
+    free = idle_line_free (who h.shapes a) (held h.shapes a h.past) (stance a h.past) (answered h a Fire w e).fits_in
+
+    starts : (s : Option OperationNumber) → handler h.shapes (a - 1) ≡ s → recorded (due_fire h a s) ≡ Some Recordeds.Started → length (filter (by a) (begun (fired a s) (under_way h.shapes h.past))) ≡ suc was
+    starts None is f = absurd (cc)
+    starts (Some s) is f = one_more a (record { actor = a; object = s.object; operation = s.operation }) (under_way h.shapes h.past) refl
+
+    by_word : (w : Recorded) → recorded (out h a Fire) ≡ Some w → held_after n (out h a Fire) ≡ behind_word n w → Counts Fire w
+    by_word Recordeds.Started e holds = own_start Fire Recordeds.Started refl (starts (handler h.shapes (a - 1)) refl (answered h a Fire Recordeds.Started e).said) holds free
+    by_word (Recordeds.Done next) e holds = absurd (off (done_at_ends h a Fire next e))
+    by_word Recordeds.Queued e holds = own_plain Fire Recordeds.Queued refl refl holds free
+    by_word (Recordeds.Refused rule line number) e holds = own_plain Fire (Recordeds.Refused rule line number) refl refl holds free
+    by_word Recordeds.Suspended e holds = own_plain Fire Recordeds.Suspended refl refl holds free
+    by_word Recordeds.Delayed e holds = own_plain Fire Recordeds.Delayed refl refl holds free
+    by_word Recordeds.Woken e holds = own_plain Fire Recordeds.Woken refl refl holds free
+    by_word (Recordeds.Accepted value) e holds = own_plain Fire (Recordeds.Accepted value) refl refl holds free
+
+  next_none : (q : Request) (w : Recorded) → recorded (out h a q) ≡ Some w → is_complete q ≡ false → next_of (Asked a q w) ≡ Nothing
+  next_none q (Recordeds.Done next) e c = absurd (off (sym c ∙ done_at_ends h a q next e))
+  next_none q Recordeds.Started e c = refl
+  next_none q Recordeds.Queued e c = refl
+  next_none q (Recordeds.Refused rule line number) e c = refl
+  next_none q Recordeds.Suspended e c = refl
+  next_none q Recordeds.Delayed e c = refl
+  next_none q Recordeds.Woken e c = refl
+  next_none q (Recordeds.Accepted value) e c = refl
+
+  -- one that is no call
+  own_calm : (q : Request) (w : Recorded) → recorded (out h a q) ≡ Some w → is_complete q ≡ false → length (held h.shapes a (Asked a q w ∷ h.past)) ≡ was → held_after n (table h a q) ≡ n → handed_one (stance a h.past) ≡ 0 → Counts q w
+  own_calm q w e c same holds free = own_plain q w (next_none q w e c) same (ap (λ z. held_after n z) (out_table h a q w e) ∙ holds) free
+
+  -- an end
+  module _ (l : Legal h) (vs : List ℤ) (x : Exit) where
+    first_some : (bs : List Body) (b : Body) → slice_get bs 0 ≡ Some b → 0 < length bs
+    first_some [] b e = absurd (cc)
+    first_some (c ∷ bs) b e = omega arith
+
+    one_less : (bs : List Body) → length (drop 1 bs) ≡ length bs - 1
+    one_less [] = refl
+    one_less (b ∷ bs) = omega arith
+
+    without_one : length (filter (by a) (without a (under_way h.shapes h.past))) ≡ was - 1
+    without_one = ap length (filter_without a (under_way h.shapes h.past)) ∙ one_less (held h.shapes a h.past)
+
+    is_free : (w : Recorded) → recorded (out h a (Complete vs x)) ≡ Some w → stance a h.past ≡ Free
+    is_free w e = in_body_free (held h.shapes a h.past) (stance a h.past) (both _ (end_fits h.shapes vs x (innermost h.shapes a h.past)) (answered h a (Complete vs x) w e).fits_in).0
+
+    end_holds : (w : Recorded) → recorded (out h a (Complete vs x)) ≡ Some w → held_after n (out h a (Complete vs x)) ≡ n - 1
+    end_holds w e =
+        let t = ends h a vs x w e in
+        ap (λ z. held_after n z) (out_table h a (Complete vs x) w e ∙ (ap (λ (o : Option Body). due_end h vs o) t.inner ∙ ap (λ (g : Target). end_of h vs t.body.object g) t.at))
+
+    own_end : (w : Recorded) → recorded (out h a (Complete vs x)) ≡ Some w → length (held h.shapes a (Asked a (Complete vs x) w ∷ h.past)) ≡ was - 1 → handed_one (stance a (Asked a (Complete vs x) w ∷ h.past)) ≡ 0 → Counts (Complete vs x) w
+    own_end w e less free =
+        let some : 0 < was = first_some (held h.shapes a h.past) (ends h a vs x w e).body (ends h a vs x w e).inner in
+        let before : handed_one (stance a h.past) ≡ 0 = ap (λ z. handed_one z) (is_free w e) in
+        let holds : held_after n (out h a (Complete vs x)) ≡ n - 1 = end_holds w e in
+        omega (arith, k, less, free, some, before, holds)
+
+    -- an end that names a caller
+    module _ (next : Next) (m : ℕ) (e : recorded (out h a (Complete vs x)) ≡ Some (Recordeds.Done next)) (names : Names h a vs next m) where
+      waits : Waits h.shapes h.past names.served_by.call
+      waits = head_waits h.shapes h.past names.body.object names.served_by.call names.served_by.rest (legal_waits h.limits h.past h.shapes h.lists l) names.served_by.queued
+
+      apart : a ≢ m
+      apart i = free_not_queued (stance a h.past) (is_free (Recordeds.Done next) e) (ap (λ (z : ℕ). stance z h.past) (i ∙ sym names.served_by.is_its) ∙ waits.at)
+
+      calls_last : last_queued m h.past ≡ Some names.served_by.call
+      calls_last = ap (λ (z : ℕ). last_queued z h.past) (sym names.served_by.is_its) ∙ waits.last
+
+    own_done : (next : Next) → recorded (out h a (Complete vs x)) ≡ Some (Recordeds.Done next) → Counts (Complete vs x) (Recordeds.Done next)
+    own_done Nothing e = own_end (Recordeds.Done Nothing) e without_one (own_free (Complete vs x) (Recordeds.Done Nothing) refl)
+    own_done (HandedTo m) e =
+        let names = names_at h a vs x (HandedTo m) m e refl in
+        let off_it : a ≢ m = apart (HandedTo m) m e names in
+        own_end (Recordeds.Done (HandedTo m)) e
+        (ap (λ (o : Option Body). length (filter (by a) (begun o (without a (under_way h.shapes h.past))))) (calls_last (HandedTo m) m e names)
+        ∙ (none_more a names.served_by.call (without a (under_way h.shapes h.past)) (λ i. off_it (sym i ∙ names.served_by.is_its)) ∙ without_one))
+        (λ i. handed_one (or_else (first_of (if another m a off_it i then Some HandedOver else None) (if itself a i then Some Free else None)) (stance a h.past)))
+    own_done (Dropped m line) e =
+        let names = names_at h a vs x (Dropped m line) m e refl in
+        let off_it : a ≢ m = apart (Dropped m line) m e names in
+        own_end (Recordeds.Done (Dropped m line)) e without_one
+        (λ i. handed_one (or_else (first_of (if another m a off_it i then Some (DroppedBy line) else None) (if itself a i then Some Free else None)) (stance a h.past)))
+
+    own_complete : (w : Recorded) → recorded (out h a (Complete vs x)) ≡ Some w → Counts (Complete vs x) w
+    own_complete (Recordeds.Done next) e = own_done next e
+    own_complete Recordeds.Started e = absurd (cc (ends h a vs x Recordeds.Started e).word)
+    own_complete Recordeds.Queued e = absurd (cc (ends h a vs x Recordeds.Queued e).word)
+    own_complete (Recordeds.Refused rule line number) e = absurd (cc (ends h a vs x (Recordeds.Refused rule line number) e).word)
+    own_complete Recordeds.Suspended e = absurd (cc (ends h a vs x Recordeds.Suspended e).word)
+    own_complete Recordeds.Delayed e = absurd (cc (ends h a vs x Recordeds.Delayed e).word)
+    own_complete Recordeds.Woken e = absurd (cc (ends h a vs x Recordeds.Woken e).word)
+    own_complete (Recordeds.Accepted value) e = absurd (cc (ends h a vs x (Recordeds.Accepted value) e).word)
+
+  own_counts : Legal h → 0 < a → (q : Request) (w : Recorded) → recorded (out h a q) ≡ Some w → Counts q w
+  own_counts l some (Call o p vs) w e = own_call o p vs w e
+  own_counts l some (Complete vs x) w e = own_complete l vs x w e
+  own_counts l some Resume w e = own_resume w e (next_none Resume w e refl)
+  own_counts l some (DelayUntil t) w e =
+      own_calm (DelayUntil t) w e refl refl (delay_holds h n (holds_any h a) (int_le t (pos (clock h.past))))
+      (may_call_free (who h.shapes a) (held h.shapes a h.past) (stance a h.past) (both _ (is_time t) (answered h a (DelayUntil t) w e).fits_in).0)
+  own_counts l some Clock w e = own_calm Clock w e refl refl refl (may_call_free (who h.shapes a) (held h.shapes a h.past) (stance a h.past) (answered h a Clock w e).fits_in)
+  own_counts l some Fire w e = own_fire w e
+  own_counts l some Quit w e = own_calm Quit w e refl refl refl (idle_task_free (who h.shapes a) (held h.shapes a h.past) (stance a h.past) (answered h a Quit w e).fits_in)
+  own_counts l some (Tick m) w e = absurd (off (sym (not_operator h.shapes a some) ∙ (both _ (is_tick m) (answered h a (Tick m) w e).fits_in).0))
+  own_counts l some Halt w e = absurd (off (sym (not_operator h.shapes a some) ∙ (answered h a Halt w e).fits_in))
+
+-- One entry of another
+
+module _ (h : History) (a b n : ℕ) (l : Legal h) (apart : a ≢ b) (k : length (held h.shapes a h.past) ≡ n + handed_one (stance a h.past)) where
+  abbrev CountsBy : Request → Recorded → Type 0
+  CountsBy q w = length (held h.shapes a (Asked b q w ∷ h.past)) ≡ n + handed_one (stance a (Asked b q w ∷ h.past))
+
+  unnamed : (q : Request) (w : Recorded) → is_other (named_in (next_of (Asked b q w))) a ≡ true → CountsBy q w
+  unnamed q w e =
+      ap length (held_other h.shapes h.past b q w a apart e)
+      ∙ (k ∙ ap (λ z. n + handed_one z) (sym (unnamed_stance (next_of (Asked b q w)) a b (stance_of (Asked b q w)) (stance a h.past) e apart)))
+
+  module _ (vs : List ℤ) (x : Exit) (next : Next) (names : Names h b vs next a) where
+    waits_for : Waits h.shapes h.past names.served_by.call
+    waits_for = head_waits h.shapes h.past names.body.object names.served_by.call names.served_by.rest (legal_waits h.limits h.past h.shapes h.lists l) names.served_by.queued
+
+    its : names.served_by.call.actor ≡ a
+    its = names.served_by.is_its
+
+    held_none : length (held h.shapes a h.past) ≡ 0
+    held_none = ap (λ (z : ℕ). length (held h.shapes z h.past)) (sym its) ∙ ap length waits_for.none
+
+    none_held : n ≡ 0
+    none_held = let z : length (held h.shapes a h.past) ≡ 0 = held_none in omega (arith, k, z)
+
+    none_left : length (filter (by a) (without b (under_way h.shapes h.past))) ≡ 0
+    none_left = let less = count_less (by a) b (under_way h.shapes h.past) in let z : length (held h.shapes a h.past) ≡ 0 = held_none in omega (arith, less, z)
+
+    named_last : last_queued a h.past ≡ Some names.served_by.call
+    named_last = ap (λ (z : ℕ). last_queued z h.past) (sym its) ∙ waits_for.last
+
+  named : (vs : List ℤ) (x : Exit) (next : Next) → recorded (out h b (Complete vs x)) ≡ Some (Recordeds.Done next) → is_other (named_in next) a ≡ false → CountsBy (Complete vs x) (Recordeds.Done next)
+  named vs x Nothing e f = absurd (off (sym f))
+  named vs x (HandedTo m) e f = by_number m (same_number m a (not_false (m == a) f)) e where
+    not_false : (t : Bool) → not t ≡ false → t ≡ true
+    not_false true g = refl
+    not_false false g = absurd (off (sym g))
+
+    by_number : (m : ℕ) → m ≡ a → recorded (out h b (Complete vs x)) ≡ Some (Recordeds.Done (HandedTo m)) → CountsBy (Complete vs x) (Recordeds.Done (HandedTo m))
+    by_number m is e =
+        let e' : recorded (out h b (Complete vs x)) ≡ Some (Recordeds.Done (HandedTo a)) = subst (λ (z : ℕ). recorded (out h b (Complete vs x)) ≡ Some (Recordeds.Done (HandedTo z))) is e in
+        let names = names_at h b vs x (HandedTo a) a e' refl in
+        let one : length (held h.shapes a (Asked b (Complete vs x) (Recordeds.Done (HandedTo a)) ∷ h.past)) ≡ suc (length (filter (by a) (without b (under_way h.shapes h.past)))) =
+        ap (λ (o : Option Body). length (filter (by a) (begun o (without b (under_way h.shapes h.past))))) (named_last vs x (HandedTo a) names) ∙ one_more a names.served_by.call (without b (under_way h.shapes h.past)) names.served_by.is_its in
+        let now : handed_one (stance a (Asked b (Complete vs x) (Recordeds.Done (HandedTo a)) ∷ h.past)) ≡ 1 =
+        λ i. handed_one (or_else (first_of (if itself a i then Some HandedOver else None) (if b == a then Some Free else None)) (stance a h.past)) in
+        let left : length (filter (by a) (without b (under_way h.shapes h.past))) ≡ 0 = none_left vs x (HandedTo a) names in
+        let zero : n ≡ 0 = none_held vs x (HandedTo a) names in
+        let all : CountsBy (Complete vs x) (Recordeds.Done (HandedTo a)) = omega (arith, one, now, left, zero) in
+        subst (λ (z : ℕ). CountsBy (Complete vs x) (Recordeds.Done (HandedTo z))) (sym is) all
+  named vs x (Dropped m line) e f = by_number m (same_number m a (not_false (m == a) f)) e where
+    not_false : (t : Bool) → not t ≡ false → t ≡ true
+    not_false true g = refl
+    not_false false g = absurd (off (sym g))
+
+    by_number : (m : ℕ) → m ≡ a → recorded (out h b (Complete vs x)) ≡ Some (Recordeds.Done (Dropped m line)) → CountsBy (Complete vs x) (Recordeds.Done (Dropped m line))
+    by_number m is e =
+        let e' : recorded (out h b (Complete vs x)) ≡ Some (Recordeds.Done (Dropped a line)) = subst (λ (z : ℕ). recorded (out h b (Complete vs x)) ≡ Some (Recordeds.Done (Dropped z line))) is e in
+        let names = names_at h b vs x (Dropped a line) a e' refl in
+        let now : handed_one (stance a (Asked b (Complete vs x) (Recordeds.Done (Dropped a line)) ∷ h.past)) ≡ 0 =
+        λ i. handed_one (or_else (first_of (if itself a i then Some (DroppedBy line) else None) (if b == a then Some Free else None)) (stance a h.past)) in
+        let left : length (filter (by a) (without b (under_way h.shapes h.past))) ≡ 0 = none_left vs x (Dropped a line) names in
+        let zero : n ≡ 0 = none_held vs x (Dropped a line) names in
+        let all : CountsBy (Complete vs x) (Recordeds.Done (Dropped a line)) = omega (arith, now, left, zero) in
+        subst (λ (z : ℕ). CountsBy (Complete vs x) (Recordeds.Done (Dropped z line))) (sym is) all
+
+  done_counts : (q : Request) (next : Next) → recorded (out h b q) ≡ Some (Recordeds.Done next) → is_complete q ≡ true → is_other (named_in next) a ≡ false → CountsBy q (Recordeds.Done next)
+  done_counts (Complete vs x) next e c f = named vs x next e f
+  done_counts (Call o p vs) next e c f = absurd (off c)
+  done_counts Resume next e c f = absurd (off c)
+  done_counts (DelayUntil t) next e c f = absurd (off c)
+  done_counts Clock next e c f = absurd (off c)
+  done_counts Fire next e c f = absurd (off c)
+  done_counts Quit next e c f = absurd (off c)
+  done_counts (Tick m) next e c f = absurd (off c)
+  done_counts Halt next e c f = absurd (off c)
+
+  other_counts : (q : Request) (w : Recorded) → recorded (out h b q) ≡ Some w → CountsBy q w
+  other_counts q (Recordeds.Done next) e = by_name (is_other (named_in next) a) refl where
+    by_name : (t : Bool) → is_other (named_in next) a ≡ t → CountsBy q (Recordeds.Done next)
+    by_name true f = unnamed q (Recordeds.Done next) f
+    by_name false f = done_counts q next e (done_at_ends h b q next e) f
+  other_counts q Recordeds.Started e = unnamed q Recordeds.Started refl
+  other_counts q Recordeds.Queued e = unnamed q Recordeds.Queued refl
+  other_counts q (Recordeds.Refused rule line number) e = unnamed q (Recordeds.Refused rule line number) refl
+  other_counts q Recordeds.Suspended e = unnamed q Recordeds.Suspended refl
+  other_counts q Recordeds.Delayed e = unnamed q Recordeds.Delayed refl
+  other_counts q Recordeds.Woken e = unnamed q Recordeds.Woken refl
+  other_counts q (Recordeds.Accepted value) e = unnamed q (Recordeds.Accepted value) refl
+
+-- All entries
+
+abbrev Count : Limits → List Entry → List Shape → List (List Words) → ℕ → Type 0
+Count c past shapes lists a = length (held shapes a past) ≡ held_behind 0 (asked_in c a past shapes lists) + handed_one (stance a past)
+
+not_same : (a b : ℕ) → (b == a) ≡ false → a ≢ b
+not_same a b e i = off (sym e ∙ (ap (λ (z : ℕ). z == a) (sym i) ∙ itself a))
+
+entry_counts : (h : History) (a b : ℕ) (q : Request) (w : Recorded) → Legal h → 0 < a → recorded (out h b q) ≡ Some w → length (held h.shapes a h.past) ≡ held_behind 0 (asks_of a h) + handed_one (stance a h.past)
+    → length (held h.shapes a (Asked b q w ∷ h.past)) ≡ held_behind 0 (asks_of a h ++ own_ask a (Asked b q w) h) + handed_one (stance a (Asked b q w ∷ h.past))
+entry_counts h a b q w l some e k = by_actor (b == a) refl where
+  own : (b : ℕ) → b ≡ a → recorded (out h b q) ≡ Some w → length (held h.shapes a (Asked b q w ∷ h.past)) ≡ held_behind 0 (asks_of a h ++ (q, out h a q) ∷ []) + handed_one (stance a (Asked b q w ∷ h.past))
+  own b is e =
+      let e' : recorded (out h a q) ≡ Some w = subst (λ (z : ℕ). recorded (out h z q) ≡ Some w) is e in
+      subst (λ (z : ℕ). length (held h.shapes a (Asked z q w ∷ h.past)) ≡ held_behind 0 (asks_of a h ++ (q, out h a q) ∷ []) + handed_one (stance a (Asked z q w ∷ h.past))) (sym is)
+      (own_counts h a (held_behind 0 (asks_of a h)) k l some q w e' ∙ ap (λ (m : ℕ). m + handed_one (stance a (Asked a q w ∷ h.past))) (sym (held_both 0 (asks_of a h) ((q, out h a q) ∷ []))))
+
+  by_actor : (t : Bool) → (b == a) ≡ t → length (held h.shapes a (Asked b q w ∷ h.past)) ≡ held_behind 0 (asks_of a h ++ cond t ((q, out h a q) ∷ []) []) + handed_one (stance a (Asked b q w ∷ h.past))
+  by_actor true is = own b (same_number b a is) e
+  by_actor false is =
+      other_counts h a b (held_behind 0 (asks_of a h)) l (not_same a b is) k q w e
+      ∙ ap (λ (t : Trace). held_behind 0 t + handed_one (stance a (Asked b q w ∷ h.past))) (sym (append-nil (asks_of a h)))
+
+count : (c : Limits) (past : List Entry) (shapes : List Shape) (lists : List (List Words)) (a : ℕ) → 0 < a → IsLegal c past shapes lists → Count c past shapes lists a
+count c [] shapes lists a some l = refl
+count c (Asked b q w ∷ past) shapes lists a some l =
+    entry_counts (record { limits = c; past = past; shapes = shapes; lists = lists }) a b q w l.0 some l.1 (count c past shapes lists a some l.0)
+count c (Load ∷ past) shapes lists a some l =
+    let k : Count c past l.0 lists a = count c past l.0 lists a some l.3 in
+    let more : List Shape = l.0 ++ l.1 ∷ [] in
+    let now : Count c (Load ∷ past) more lists a =
+    ap (λ (bs : List Body). length (filter (by a) bs)) (way_stays c past l.0 (l.1 ∷ []) lists l.3)
+    ∙ (k ∙ ap (λ (t : Trace). held_behind 0 t + handed_one (stance a past)) (sym (append-nil (asked_in c a past l.0 lists)) ∙ ap (λ (ss : List Shape). asked_in c a past ss lists ++ []) (sym (front_is l.0 l.1)))) in
+    subst (λ (ss : List Shape). Count c (Load ∷ past) ss lists a) (sym l.2) now
+count c (ListChange ∷ past) shapes lists a some l =
+    let k : Count c past shapes l.0 a = count c past shapes l.0 a some l.3 in
+    let now : Count c (ListChange ∷ past) shapes (l.0 ++ l.1 ∷ []) a =
+    k ∙ ap (λ (t : Trace). held_behind 0 t + handed_one (stance a past)) (sym (append-nil (asked_in c a past shapes l.0)) ∙ ap (λ (ls : List (List Words)). asked_in c a past shapes ls ++ []) (sym (front_is l.0 l.1))) in
+    subst (λ (ls : List (List Words)). Count c (ListChange ∷ past) shapes ls a) (sym l.2) now
+
+pub counts_held : AsksCountTheHeld
+counts_held h a l some = count h.limits h.past h.shapes h.lists a some l
