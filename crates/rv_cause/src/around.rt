@@ -33,7 +33,7 @@ pub struct Around<'a> {
 }
 
 // Whether the word begins a statement that ends with `end`.
-fn opens(word: &Words<'_>) -> bool {
+fn opens(word: &Words<'_, '_>) -> bool {
     if word.was(1, "end") {
         return false;
     }
@@ -41,7 +41,7 @@ fn opens(word: &Words<'_>) -> bool {
 }
 
 // Whether the word begins an operation.
-fn begins_operation(word: &Words<'_>) -> bool {
+fn begins_operation(word: &Words<'_, '_>) -> bool {
     word.is(0, "function") || word.is(0, "procedure") || word.is(0, "entry")
 }
 
@@ -71,7 +71,7 @@ impl<'a> Around<'a> {
     }
 
     /// What is around the first word at a place or behind it.
-    pub fn of(tokens: &'a [Token<'a>], place: usize) -> Around<'a> {
+    pub fn of(tokens: &[Token<'a>], place: usize) -> Around<'a> {
         let mut around = Around::nothing();
         for (here, token) in tokens.iter().enumerate() {
             if token.place >= place {
@@ -109,7 +109,7 @@ impl<'a> Around<'a> {
     }
 
     // A package begins.
-    fn begin_package(&mut self, word: &Words<'a>) {
+    fn begin_package(&mut self, word: &Words<'_, 'a>) {
         let is_body = word.is(1, "body");
         if !is_body {
             self.unit = word.word(1);
@@ -122,7 +122,7 @@ impl<'a> Around<'a> {
     }
 
     // A protected unit or a task begins.
-    fn begin_home(&mut self, word: &Words<'a>) {
+    fn begin_home(&mut self, word: &Words<'_, 'a>) {
         let is_body = word.is(1, "body");
         let is_second = is_body || word.is(1, "type");
         self.home = if is_second {
@@ -139,7 +139,7 @@ impl<'a> Around<'a> {
     }
 
     // An operation begins.
-    fn begin_operation(&mut self, word: &Words<'a>) {
+    fn begin_operation(&mut self, word: &Words<'_, 'a>) {
         self.operation = word.word(1);
         self.is_function = word.is(0, "function");
         self.operation_depth = self.depth.saturating_add(1);
@@ -169,7 +169,7 @@ impl<'a> Around<'a> {
     }
 
     // Signs.
-    fn pass_sign(&mut self, word: &Words<'a>) {
+    fn pass_sign(&mut self, word: &Words<'_, 'a>) {
         if word.is(0, "(") {
             self.parentheses = self.parentheses.saturating_add(1);
         } else if word.is(0, ")") {
@@ -180,7 +180,7 @@ impl<'a> Around<'a> {
     }
 
     // Words within a part.
-    fn pass_inner(&mut self, word: &Words<'a>) {
+    fn pass_inner(&mut self, word: &Words<'_, 'a>) {
         if word.is(0, "is") && self.is_heading {
             self.depth = self.depth.saturating_add(1);
             self.is_heading = false;
@@ -194,7 +194,7 @@ impl<'a> Around<'a> {
     }
 
     /// Behind one word more.
-    pub fn pass(&mut self, word: &Words<'a>) {
+    pub fn pass(&mut self, word: &Words<'_, 'a>) {
         if word.is(0, "package") {
             self.begin_package(word);
         } else if word.is(0, "protected") || word.is(0, "task") {

@@ -75,12 +75,12 @@ const BEGINNINGS: [&str; 20] = [
 ];
 
 // Whether a declaration could begin here.
-fn is_behind_declaration(words: &Words<'_>) -> bool {
+fn is_behind_declaration(words: &Words<'_, '_>) -> bool {
     words.was(1, ";") || words.was(1, "is")
 }
 
 // What can't be declared here.
-fn declaration<'a>(words: &Words<'a>, around: &Around<'a>) -> Option<Cause<'a>> {
+fn declaration<'a>(words: &Words<'_, 'a>, around: &Around<'a>) -> Option<Cause<'a>> {
     let at = words.place(0);
     let word = words.word(0);
     let is_subprogram = words.is(0, "procedure") || words.is(0, "function");
@@ -125,7 +125,7 @@ fn declaration<'a>(words: &Words<'a>, around: &Around<'a>) -> Option<Cause<'a>> 
 }
 
 // What is wrong with an assignment sign or a comparison.
-fn operator<'a>(words: &Words<'a>) -> Option<Cause<'a>> {
+fn operator<'a>(words: &Words<'_, 'a>) -> Option<Cause<'a>> {
     let at = words.place(0);
     if words.is(0, "=") && words.was(1, "=") {
         return Some(Cause::plain(at, "write one = to compare (4.5.2)"));
@@ -189,7 +189,7 @@ fn at_end<'a>(text_end: usize, last: &'a str, around: &Around<'a>) -> Cause<'a> 
 }
 
 // What is missing before a word that begins something new: `;`, or what opens a part.
-fn missing_before(words: &Words<'_>) -> &'static str {
+fn missing_before(words: &Words<'_, '_>) -> &'static str {
     for count in 1..64usize {
         if words.was(count, "if") || words.was(count, "elsif") {
             return "then";
@@ -211,7 +211,7 @@ fn missing_before(words: &Words<'_>) -> &'static str {
 }
 
 // That a sign or a word is missing, where a word begins something new behind one that ends something.
-fn semicolon<'a>(words: &Words<'a>, around: &Around<'a>) -> Option<Cause<'a>> {
+fn semicolon<'a>(words: &Words<'_, 'a>, around: &Around<'a>) -> Option<Cause<'a>> {
     let before = words.back(1);
     let is_new = is_new_name(words) && !around.is_in_head();
     let begins = is_listed(&BEGINNINGS, words.word(0)) || is_new;
@@ -238,7 +238,7 @@ fn is_literal(word: &str) -> bool {
 }
 
 // Whether a name begins here that is assigned or called.
-fn is_new_name(words: &Words<'_>) -> bool {
+fn is_new_name(words: &Words<'_, '_>) -> bool {
     let is_used = words.is(1, ":=")
         || words.is(1, ".")
         || words.is(1, ";")
@@ -261,7 +261,7 @@ fn is_reserved_start(word: &str) -> bool {
 }
 
 // What stands against a word, from what it is and what stands before it.
-fn unexpected_word<'a>(words: &Words<'a>, around: &Around<'a>) -> Cause<'a> {
+fn unexpected_word<'a>(words: &Words<'_, 'a>, around: &Around<'a>) -> Cause<'a> {
     let at = words.place(0);
     let word = words.word(0);
     if around.is_package_body && !around.is_open() && words.was(1, ";") {
@@ -296,7 +296,7 @@ fn unexpected_word<'a>(words: &Words<'a>, around: &Around<'a>) -> Cause<'a> {
 }
 
 /// Why no text goes on with the word at a place, or ends there.
-pub fn unexpected<'a>(text: &str, tokens: &'a [Token<'a>], place: usize) -> Cause<'a> {
+pub fn unexpected<'a>(text: &str, tokens: &[Token<'a>], place: usize) -> Cause<'a> {
     let around = Around::of(tokens, place);
     let words = Words::at(tokens, place);
     if place >= text.len() {
@@ -306,7 +306,7 @@ pub fn unexpected<'a>(text: &str, tokens: &'a [Token<'a>], place: usize) -> Caus
 }
 
 /// Why a word nests too deep.
-pub fn too_deep<'a>(tokens: &'a [Token<'a>], place: usize) -> Cause<'a> {
+pub fn too_deep<'a>(tokens: &[Token<'a>], place: usize) -> Cause<'a> {
     let words = Words::at(tokens, place);
     if words.is(0, "(") {
         return Cause::plain(

@@ -18,7 +18,7 @@ pub struct Known<'a> {
 pub type Names<'a> = Vec<&'a str>;
 
 // Whether a list of identifiers up to a colon begins here.
-fn is_declared_here(words: &Words<'_>) -> bool {
+fn is_declared_here(words: &Words<'_, '_>) -> bool {
     for count in 0..64usize {
         let next = count.saturating_mul(2).saturating_add(1);
         if words.is(next, ":") {
@@ -32,7 +32,7 @@ fn is_declared_here(words: &Words<'_>) -> bool {
 }
 
 // How many words behind an identifier the colon of its list stands.
-fn colon_behind(words: &Words<'_>) -> usize {
+fn colon_behind(words: &Words<'_, '_>) -> usize {
     for count in 0..64usize {
         let next = count.saturating_mul(2).saturating_add(1);
         if !words.is(next, ",") {
@@ -43,7 +43,7 @@ fn colon_behind(words: &Words<'_>) -> usize {
 }
 
 // What a list of identifiers declares, of which a colon stands so many words behind.
-fn sort_of_list(words: &Words<'_>, colon: usize, around: &Around<'_>) -> Sort {
+fn sort_of_list(words: &Words<'_, '_>, colon: usize, around: &Around<'_>) -> Sort {
     let behind = colon.saturating_add(1);
     if around.parentheses > 0 {
         let is_written = words.is(behind, "out") || words.is(behind.saturating_add(1), "out");
@@ -66,7 +66,7 @@ fn sort_of_list(words: &Words<'_>, colon: usize, around: &Around<'_>) -> Sort {
 }
 
 // The last part of the name that stands so many words behind.
-fn last_part<'a>(words: &Words<'a>, behind: usize) -> &'a str {
+fn last_part<'a>(words: &Words<'_, 'a>, behind: usize) -> &'a str {
     if !words.is(behind.saturating_add(1), ".") {
         return words.word(behind);
     }
@@ -77,7 +77,7 @@ fn last_part<'a>(words: &Words<'a>, behind: usize) -> &'a str {
 }
 
 // The subtype or type of a list whose colon stands so many words behind.
-fn mark_of_list<'a>(words: &Words<'a>, colon: usize) -> &'a str {
+fn mark_of_list<'a>(words: &Words<'_, 'a>, colon: usize) -> &'a str {
     let mut behind = colon.saturating_add(1);
     for _ in 0..2 {
         if words.is(behind, "constant") || words.is(behind, "in") || words.is(behind, "out") {
@@ -88,7 +88,7 @@ fn mark_of_list<'a>(words: &Words<'a>, colon: usize) -> &'a str {
 }
 
 // What the word before an identifier says that it declares.
-fn sort_behind(words: &Words<'_>, around: &Around<'_>) -> Option<Sort> {
+fn sort_behind(words: &Words<'_, '_>, around: &Around<'_>) -> Option<Sort> {
     if words.was(1, "subtype") {
         return Some(Sort::Subtype);
     }
@@ -111,7 +111,7 @@ fn sort_behind(words: &Words<'_>, around: &Around<'_>) -> Option<Sort> {
 }
 
 // The same of packages, protected units and tasks.
-fn outer_sort(words: &Words<'_>) -> Option<Sort> {
+fn outer_sort(words: &Words<'_, '_>) -> Option<Sort> {
     if words.was(1, "package") {
         return Some(Sort::Unit);
     }
@@ -125,7 +125,7 @@ fn outer_sort(words: &Words<'_>) -> Option<Sort> {
 }
 
 // What a word declares as part of what is around it, with its mark.
-fn declared_as<'a>(words: &Words<'a>, around: &Around<'a>) -> Option<(Sort, &'a str)> {
+fn declared_as<'a>(words: &Words<'_, 'a>, around: &Around<'a>) -> Option<(Sort, &'a str)> {
     if let Some(sort) = sort_behind(words, around) {
         return Some((sort, ""));
     }
@@ -140,7 +140,7 @@ fn declared_as<'a>(words: &Words<'a>, around: &Around<'a>) -> Option<(Sort, &'a 
 }
 
 // What a word declares.
-fn declaration<'a>(words: &Words<'a>, around: &Around<'a>) -> Option<Declared<'a>> {
+fn declaration<'a>(words: &Words<'_, 'a>, around: &Around<'a>) -> Option<Declared<'a>> {
     let name = words.word(0);
     if !is_identifier(name) || words.is(0, "body") || words.is(0, "type") {
         return None;
@@ -213,7 +213,7 @@ impl<'a> Known<'a> {
     }
 
     /// Adds what a unit text declares, by its words.
-    pub fn add_text(&mut self, tokens: &'a [Token<'a>]) -> Result<(), AllocError> {
+    pub fn add_text(&mut self, tokens: &[Token<'a>]) -> Result<(), AllocError> {
         let mut around = Around::nothing();
         for here in 0..tokens.len() {
             let words = Words::from(tokens, here);
@@ -260,7 +260,11 @@ impl<'a> Known<'a> {
     }
 
     /// What the name that stands at a word denotes, as far as it is seen there, and how many words behind its last part stands.
-    pub fn denoted(&self, words: &Words<'a>, around: &Around<'a>) -> Option<(Declared<'a>, usize)> {
+    pub fn denoted(
+        &self,
+        words: &Words<'_, 'a>,
+        around: &Around<'a>,
+    ) -> Option<(Declared<'a>, usize)> {
         let first = words.word(0);
         let is_dotted = words.is(1, ".");
         if !is_dotted {

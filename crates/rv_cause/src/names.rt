@@ -51,7 +51,7 @@ fn needs_library<'a>(
 }
 
 // Why a declaration of the text isn't seen.
-fn unseen<'a>(words: &Words<'a>, item: &Declared<'a>) -> Cause<'a> {
+fn unseen<'a>(words: &Words<'_, 'a>, item: &Declared<'a>) -> Cause<'a> {
     let at = words.place(0);
     if item.at < at {
         return Cause::of(
@@ -69,7 +69,7 @@ fn unseen<'a>(words: &Words<'a>, item: &Declared<'a>) -> Cause<'a> {
 
 // Why the part of a name behind a point isn't seen.
 fn unseen_part<'a>(
-    words: &Words<'a>,
+    words: &Words<'_, 'a>,
     around: &Around<'a>,
     item: &Declared<'a>,
     behind: usize,
@@ -109,7 +109,7 @@ fn unseen_part<'a>(
 }
 
 // The library package that a name would be of.
-fn library_of<'a>(words: &Words<'a>) -> Option<&'a str> {
+fn library_of<'a>(words: &Words<'_, 'a>) -> Option<&'a str> {
     if words.is(0, "Ada") {
         return library::ends_with(words.word(2));
     }
@@ -122,7 +122,7 @@ fn library_of<'a>(words: &Words<'a>) -> Option<&'a str> {
 /// Why a name isn't seen where it stands.
 pub fn not_visible<'a>(
     tokens: &[Token<'_>],
-    words: &Words<'a>,
+    words: &Words<'_, 'a>,
     around: &Around<'a>,
     known: &Known<'a>,
 ) -> Cause<'a> {
@@ -157,7 +157,7 @@ pub fn not_visible<'a>(
 }
 
 // That a declaration has no body.
-fn missing_body<'a>(words: &Words<'a>, around: &Around<'a>) -> Option<Cause<'a>> {
+fn missing_body<'a>(words: &Words<'_, 'a>, around: &Around<'a>) -> Option<Cause<'a>> {
     let at = words.place(0);
     if words.is(0, "task") || words.is(0, "protected") {
         let name = if words.is(1, "type") {
@@ -188,7 +188,7 @@ fn missing_body<'a>(words: &Words<'a>, around: &Around<'a>) -> Option<Cause<'a>>
 }
 
 // What is wrong with a body whose declaration is there.
-fn bad_body<'a>(words: &Words<'a>, around: &Around<'a>, known: &Known<'a>) -> Cause<'a> {
+fn bad_body<'a>(words: &Words<'_, 'a>, around: &Around<'a>, known: &Known<'a>) -> Cause<'a> {
     let at = words.place(0);
     let word = words.word(0);
     let declared = known.member(around.unit, around.home, word);
@@ -222,7 +222,7 @@ fn other_kind<'a>(at: usize, item: &Declared<'a>) -> Cause<'a> {
 }
 
 // Whether a statement begins at a word.
-fn begins_statement(words: &Words<'_>) -> bool {
+fn begins_statement(words: &Words<'_, '_>) -> bool {
     words.was(1, ";")
         || words.was(1, "begin")
         || words.was(1, "then")
@@ -232,7 +232,7 @@ fn begins_statement(words: &Words<'_>) -> bool {
 }
 
 // Whether a subtype stands at a word.
-fn is_mark(words: &Words<'_>) -> bool {
+fn is_mark(words: &Words<'_, '_>) -> bool {
     words.was(1, ":")
         || words.was(1, "constant")
         || words.was(1, "in")
@@ -241,7 +241,7 @@ fn is_mark(words: &Words<'_>) -> bool {
 }
 
 // What would have to stand where a name stands whose last part is so many words behind.
-fn wanted<'a>(words: &Words<'a>, behind: usize) -> &'a str {
+fn wanted<'a>(words: &Words<'_, 'a>, behind: usize) -> &'a str {
     let next = behind.saturating_add(1);
     if is_mark(words) {
         return "; a subtype has to stand here (3.2.2)";
@@ -262,7 +262,7 @@ fn wanted<'a>(words: &Words<'a>, behind: usize) -> &'a str {
 }
 
 // That what a name denotes can't stand here.
-fn bad_sort<'a>(words: &Words<'a>, around: &Around<'a>, known: &Known<'a>) -> Cause<'a> {
+fn bad_sort<'a>(words: &Words<'_, 'a>, around: &Around<'a>, known: &Known<'a>) -> Cause<'a> {
     let at = words.place(0);
     if let Some((item, behind)) = known.denoted(words, around) {
         return is_a(words.place(behind), &item, wanted(words, behind));
@@ -275,7 +275,7 @@ fn bad_sort<'a>(words: &Words<'a>, around: &Around<'a>, known: &Known<'a>) -> Ca
 }
 
 // What is wrong with a pragma that matters.
-fn bad_pragma<'a>(words: &Words<'a>, around: &Around<'a>) -> Cause<'a> {
+fn bad_pragma<'a>(words: &Words<'_, 'a>, around: &Around<'a>) -> Cause<'a> {
     let at = words.place(0);
     if !words.is(0, "Attach_Handler") {
         return Cause::around(
@@ -298,7 +298,7 @@ fn bad_pragma<'a>(words: &Words<'a>, around: &Around<'a>) -> Cause<'a> {
 }
 
 /// Why what stands at a word can't stand there.
-pub fn wrong_kind<'a>(words: &Words<'a>, around: &Around<'a>, known: &Known<'a>) -> Cause<'a> {
+pub fn wrong_kind<'a>(words: &Words<'_, 'a>, around: &Around<'a>, known: &Known<'a>) -> Cause<'a> {
     let at = words.place(0);
     let word = words.word(0);
     if words.is(0, "exit") {
@@ -339,7 +339,7 @@ pub fn wrong_kind<'a>(words: &Words<'a>, around: &Around<'a>, known: &Known<'a>)
 }
 
 /// What is there twice.
-pub fn duplicate<'a>(words: &Words<'a>, around: &Around<'a>) -> Cause<'a> {
+pub fn duplicate<'a>(words: &Words<'_, 'a>, around: &Around<'a>) -> Cause<'a> {
     let at = words.place(0);
     let word = words.word(0);
     if words.was(1, "body") || is_operation_body(words, around) {
@@ -359,7 +359,7 @@ pub fn duplicate<'a>(words: &Words<'a>, around: &Around<'a>) -> Cause<'a> {
 }
 
 /// What a name behind `end` has to be.
-pub fn end_name<'a>(tokens: &'a [Token<'a>], words: &Words<'a>) -> Cause<'a> {
+pub fn end_name<'a>(tokens: &[Token<'a>], words: &Words<'_, 'a>) -> Cause<'a> {
     let around = Around::of(tokens, words.place_back(1));
     let name = around.innermost();
     Cause::new(

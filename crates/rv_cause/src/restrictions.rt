@@ -7,12 +7,12 @@ use crate::known::Known;
 use crate::words::Words;
 
 // The name of an entry that a word `entry` begins.
-fn of_entry<'a>(words: &Words<'a>, behind: &'static str) -> Cause<'a> {
+fn of_entry<'a>(words: &Words<'_, 'a>, behind: &'static str) -> Cause<'a> {
     Cause::of(words.place(0), words.word(1), behind)
 }
 
 /// A second entry of a protected unit.
-pub fn second_entry<'a>(words: &Words<'a>) -> Cause<'a> {
+pub fn second_entry<'a>(words: &Words<'_, 'a>) -> Cause<'a> {
     of_entry(
         words,
         " is a second entry of its protected unit; one is the most (D.7)",
@@ -20,12 +20,12 @@ pub fn second_entry<'a>(words: &Words<'a>) -> Cause<'a> {
 }
 
 /// An entry of a task.
-pub fn task_entry<'a>(words: &Words<'a>) -> Cause<'a> {
+pub fn task_entry<'a>(words: &Words<'_, 'a>) -> Cause<'a> {
     of_entry(words, " is an entry of a task; tasks have none (D.7)")
 }
 
 /// A barrier of another form.
-pub fn barrier<'a>(words: &Words<'a>, around: &Around<'a>, known: &Known<'a>) -> Cause<'a> {
+pub fn barrier<'a>(words: &Words<'_, 'a>, around: &Around<'a>, known: &Known<'a>) -> Cause<'a> {
     let at = words.place(0);
     if words.is(1, "is") {
         if let Some((item, _)) = known.denoted(words, around) {
@@ -45,7 +45,7 @@ pub fn barrier<'a>(words: &Words<'a>, around: &Around<'a>, known: &Known<'a>) ->
 }
 
 /// A library unit that the profile doesn't allow, or priorities that change.
-pub fn library_unit<'a>(words: &Words<'a>) -> Cause<'a> {
+pub fn library_unit<'a>(words: &Words<'_, 'a>) -> Cause<'a> {
     Cause::new(
         words.place(0),
         [
@@ -60,7 +60,7 @@ pub fn library_unit<'a>(words: &Words<'a>) -> Cause<'a> {
 }
 
 /// Priorities that change, or are read.
-pub fn dynamic_priority<'a>(words: &Words<'a>) -> Cause<'a> {
+pub fn dynamic_priority<'a>(words: &Words<'_, 'a>) -> Cause<'a> {
     if words.is(2, "Dynamic_Priorities") {
         return library_unit(words);
     }

@@ -50,7 +50,7 @@ fn unwritable<'a>(at: usize, item: &Declared<'a>) -> Cause<'a> {
 
 /// Why what stands at a word may not be written.
 pub fn constant_written<'a>(
-    words: &Words<'a>,
+    words: &Words<'_, 'a>,
     around: &Around<'a>,
     known: &Known<'a>,
 ) -> Cause<'a> {
@@ -65,7 +65,7 @@ pub fn constant_written<'a>(
 }
 
 /// Why a mode doesn't fit at a word.
-pub fn bad_mode<'a>(words: &Words<'a>, around: &Around<'a>, known: &Known<'a>) -> Cause<'a> {
+pub fn bad_mode<'a>(words: &Words<'_, 'a>, around: &Around<'a>, known: &Known<'a>) -> Cause<'a> {
     let at = words.place(0);
     if around.is_in_head() {
         return Cause::of(
@@ -92,7 +92,7 @@ pub fn bad_mode<'a>(words: &Words<'a>, around: &Around<'a>, known: &Known<'a>) -
 }
 
 /// Why a value has to be known from the text.
-pub fn not_static<'a>(words: &Words<'a>) -> Cause<'a> {
+pub fn not_static<'a>(words: &Words<'_, 'a>) -> Cause<'a> {
     let part = words.last_part();
     Cause::of(
         words.place(part),
@@ -102,7 +102,7 @@ pub fn not_static<'a>(words: &Words<'a>) -> Cause<'a> {
 }
 
 // Whether the expression that begins at a word has the divisor 0; it is sought up to the next semicolon.
-fn divides_by_zero(words: &Words<'_>) -> bool {
+fn divides_by_zero(words: &Words<'_, '_>) -> bool {
     for behind in 0..256usize {
         let is_divided = words.is(behind, "/")
             || words.is(behind, "mod")
@@ -126,7 +126,7 @@ fn is_literal(word: &str) -> bool {
 }
 
 /// What is too large, or one too many.
-pub fn too_large<'a>(words: &Words<'a>, around: &Around<'a>, known: &Known<'a>) -> Cause<'a> {
+pub fn too_large<'a>(words: &Words<'_, 'a>, around: &Around<'a>, known: &Known<'a>) -> Cause<'a> {
     let at = words.place(0);
     let word = words.word(0);
     if known.declared_at(around.unit, at).is_some() {
@@ -155,7 +155,7 @@ pub fn too_large<'a>(words: &Words<'a>, around: &Around<'a>, known: &Known<'a>) 
 }
 
 /// What is wrong with the choices of a case statement.
-pub fn bad_choice<'a>(words: &Words<'a>) -> Cause<'a> {
+pub fn bad_choice<'a>(words: &Words<'_, 'a>) -> Cause<'a> {
     let at = words.place(0);
     let word = words.word(0);
     if words.is(0, "others") {
@@ -180,7 +180,7 @@ pub fn bad_choice<'a>(words: &Words<'a>) -> Cause<'a> {
 }
 
 // How many arguments stand behind a name whose last part is so many words behind.
-fn arguments(words: &Words<'_>, behind: usize) -> usize {
+fn arguments(words: &Words<'_, '_>, behind: usize) -> usize {
     let open = behind.saturating_add(1);
     if !words.is(open, "(") {
         return 0;
@@ -205,7 +205,7 @@ fn arguments(words: &Words<'_>, behind: usize) -> usize {
 // That a call has other arguments than there are parameters, if it has.
 fn bad_count<'a>(
     alloc: Global,
-    words: &Words<'a>,
+    words: &Words<'_, 'a>,
     item: &Declared<'a>,
     behind: usize,
     known: &Known<'a>,
@@ -230,7 +230,7 @@ fn bad_count<'a>(
 }
 
 // What is wrong from what stands before an expression.
-fn before<'a>(words: &Words<'a>, around: &Around<'a>) -> Option<Cause<'a>> {
+fn before<'a>(words: &Words<'_, 'a>, around: &Around<'a>) -> Option<Cause<'a>> {
     let at = words.place(0);
     let word = words.word(0);
     let is_when = words.was(1, "when") && (words.was(2, "exit") || around.is_in_head());
@@ -258,7 +258,7 @@ fn before<'a>(words: &Words<'a>, around: &Around<'a>) -> Option<Cause<'a>> {
 }
 
 // That a name or a literal is of a type that doesn't fit.
-fn bad_type<'a>(words: &Words<'a>, found: Option<(Declared<'a>, usize)>) -> Cause<'a> {
+fn bad_type<'a>(words: &Words<'_, 'a>, found: Option<(Declared<'a>, usize)>) -> Cause<'a> {
     let at = words.place(0);
     let word = words.word(0);
     if let Some((item, behind)) = found {
@@ -300,7 +300,7 @@ fn bad_type<'a>(words: &Words<'a>, found: Option<(Declared<'a>, usize)>) -> Caus
 /// Why a type, or a number of arguments, doesn't fit at a word.
 pub fn mismatch<'a>(
     alloc: Global,
-    words: &Words<'a>,
+    words: &Words<'_, 'a>,
     around: &Around<'a>,
     known: &Known<'a>,
 ) -> Result<Cause<'a>, AllocError> {

@@ -26,7 +26,7 @@ fn no_part<'a>(
 // Which part of a name behind a unit isn't there.
 fn of_unit<'a>(
     alloc: Global,
-    words: &Words<'a>,
+    words: &Words<'_, 'a>,
     known: &Known<'a>,
 ) -> Result<Cause<'a>, AllocError> {
     let unit = words.word(0);
@@ -42,7 +42,7 @@ fn of_unit<'a>(
 // Which part of a name with points isn't there.
 fn dotted<'a>(
     alloc: Global,
-    words: &Words<'a>,
+    words: &Words<'_, 'a>,
     around: &Around<'a>,
     known: &Known<'a>,
 ) -> Result<Cause<'a>, AllocError> {
@@ -85,7 +85,7 @@ fn near_predefined(alloc: Global, word: &str) -> Result<Option<&'static str>, Al
 // That nothing of a simple name is declared.
 fn simple<'a>(
     alloc: Global,
-    words: &Words<'a>,
+    words: &Words<'_, 'a>,
     around: &Around<'a>,
     known: &Known<'a>,
 ) -> Result<Cause<'a>, AllocError> {
@@ -109,7 +109,7 @@ fn misspelt<'a>(at: usize, word: &'a str, near: &'a str) -> Cause<'a> {
 // That a context clause names no library unit.
 fn in_context<'a>(
     alloc: Global,
-    words: &Words<'a>,
+    words: &Words<'_, 'a>,
     known: &Known<'a>,
 ) -> Result<Cause<'a>, AllocError> {
     let word = words.word(0);
@@ -142,7 +142,7 @@ fn unloaded<'a>(at: usize, word: &'a str, near: &'a str) -> Cause<'a> {
 // That a body has no declaration.
 fn of_body<'a>(
     alloc: Global,
-    words: &Words<'a>,
+    words: &Words<'_, 'a>,
     around: &Around<'a>,
     known: &Known<'a>,
 ) -> Result<Cause<'a>, AllocError> {
@@ -174,7 +174,7 @@ fn of_body<'a>(
 }
 
 // Whether the name of an operation's body stands here.
-pub(crate) fn is_operation_body(words: &Words<'_>, around: &Around<'_>) -> bool {
+pub(crate) fn is_operation_body(words: &Words<'_, '_>, around: &Around<'_>) -> bool {
     let is_behind = words.was(1, "function") || words.was(1, "procedure") || words.was(1, "entry");
     is_behind && around.is_body
 }
@@ -182,7 +182,7 @@ pub(crate) fn is_operation_body(words: &Words<'_>, around: &Around<'_>) -> bool 
 /// Why a name denotes nothing at all.
 pub fn unknown<'a>(
     alloc: Global,
-    words: &Words<'a>,
+    words: &Words<'_, 'a>,
     around: &Around<'a>,
     known: &Known<'a>,
 ) -> Result<Cause<'a>, AllocError> {

@@ -5,8 +5,8 @@ use rv_text::is_same_name;
 
 /// The words of a unit text, seen from one of them.
 #[derive(Clone, Copy)]
-pub struct Words<'a> {
-    tokens: &'a [Token<'a>],
+pub struct Words<'t, 'a> {
+    tokens: &'t [Token<'a>],
     // The word that it is seen from, or how many there are.
     here: usize,
 }
@@ -21,9 +21,9 @@ fn index_from(tokens: &[Token<'_>], place: usize) -> usize {
     tokens.len()
 }
 
-impl<'a> Words<'a> {
+impl<'t, 'a> Words<'t, 'a> {
     /// Seen from the word at a place, or the next one.
-    pub fn at(tokens: &'a [Token<'a>], place: usize) -> Words<'a> {
+    pub fn at(tokens: &'t [Token<'a>], place: usize) -> Words<'t, 'a> {
         Words {
             tokens,
             here: index_from(tokens, place),
@@ -31,7 +31,7 @@ impl<'a> Words<'a> {
     }
 
     /// Seen from the word of a number, from 0.
-    pub fn from(tokens: &'a [Token<'a>], here: usize) -> Words<'a> {
+    pub fn from(tokens: &'t [Token<'a>], here: usize) -> Words<'t, 'a> {
         Words { tokens, here }
     }
 

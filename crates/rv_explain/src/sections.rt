@@ -93,7 +93,7 @@ pub(crate) fn known_before<'a>(
     alloc: Global,
     script: &'a str,
     line: usize,
-    texts: &'a [Tokens<'a>],
+    texts: &[Tokens<'a>],
 ) -> Result<Known<'a>, AllocError> {
     let mut known = Known::new(alloc);
     for words in texts {

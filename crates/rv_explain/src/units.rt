@@ -25,9 +25,9 @@ use std::alloc::{AllocError, Global};
 
 // A unit text at a place, and what is declared.
 #[derive(Clone, Copy)]
-struct Seen<'a, 'k> {
-    tokens: &'a [Token<'a>],
-    words: Words<'a>,
+struct Seen<'t, 'a, 'k> {
+    tokens: &'t [Token<'a>],
+    words: Words<'t, 'a>,
     around: Around<'a>,
     known: &'k Known<'a>,
 }
@@ -46,7 +46,7 @@ fn of_words(text: &str, fault: LexFault) -> Cause<'_> {
 }
 
 // The cause of a fault of the grammar.
-fn of_grammar<'a>(text: &'a str, tokens: &'a [Token<'a>], fault: ParseFault) -> Cause<'a> {
+fn of_grammar<'a>(text: &'a str, tokens: &[Token<'a>], fault: ParseFault) -> Cause<'a> {
     match fault {
         ParseFault::Lex(fault) => of_words(text, fault),
         ParseFault::Unexpected(at) => grammar::unexpected(text, tokens, at),
@@ -56,7 +56,7 @@ fn of_grammar<'a>(text: &'a str, tokens: &'a [Token<'a>], fault: ParseFault) -> 
 }
 
 // The cause of a broken restriction.
-fn of_restriction<'a>(seen: &Seen<'a, '_>, restriction: Restriction) -> Cause<'a> {
+fn of_restriction<'a>(seen: &Seen<'_, 'a, '_>, restriction: Restriction) -> Cause<'a> {
     let words = &seen.words;
     let at = words.place(0);
     match restriction {
@@ -100,7 +100,7 @@ fn of_restriction<'a>(seen: &Seen<'a, '_>, restriction: Restriction) -> Cause<'a
 // The cause of a fault of names.
 fn of_names<'a>(
     alloc: Global,
-    seen: &Seen<'a, '_>,
+    seen: &Seen<'_, 'a, '_>,
     fault: NameFault,
 ) -> Result<Cause<'a>, AllocError> {
     let words = &seen.words;
@@ -119,7 +119,7 @@ fn of_names<'a>(
 // The cause of a fault of types.
 fn of_types<'a>(
     alloc: Global,
-    seen: &Seen<'a, '_>,
+    seen: &Seen<'_, 'a, '_>,
     fault: TypeFault,
 ) -> Result<Cause<'a>, AllocError> {
     let words = &seen.words;
@@ -137,7 +137,7 @@ fn of_types<'a>(
 }
 
 // The cause of a fault of a unit text's shape, seen from its package; known is what stands before.
-fn of_shape<'a>(seen: &Seen<'a, '_>, fault: ShapeFault) -> Cause<'a> {
+fn of_shape<'a>(seen: &Seen<'_, 'a, '_>, fault: ShapeFault) -> Cause<'a> {
     let words = &seen.words;
     let at = words.place(1);
     match fault {
@@ -169,7 +169,11 @@ fn of_shape<'a>(seen: &Seen<'a, '_>, fault: ShapeFault) -> Cause<'a> {
 }
 
 // A unit text seen from a place.
-fn seen_at<'a, 'k>(tokens: &'a [Token<'a>], known: &'k Known<'a>, place: usize) -> Seen<'a, 'k> {
+fn seen_at<'t, 'a, 'k>(
+    tokens: &'t [Token<'a>],
+    known: &'k Known<'a>,
+    place: usize,
+) -> Seen<'t, 'a, 'k> {
     Seen {
         tokens,
         words: Words::at(tokens, place),
@@ -192,7 +196,7 @@ fn package_place(tokens: &[Token<'_>]) -> usize {
 fn cause_of<'a>(
     alloc: Global,
     text: &'a str,
-    tokens: &'a [Token<'a>],
+    tokens: &[Token<'a>],
     known: &Known<'a>,
     fault: UnitFault,
 ) -> Result<Cause<'a>, AllocError> {
@@ -217,6 +221,33 @@ fn knows_itself(fault: UnitFault) -> bool {
     }
 }
 
+// The cause of a fault of the unit text of a section that opens at a line of a script.
+fn cause_in<'a>(
+    alloc: Global,
+    script: &'a str,
+    line: usize,
+    text: &'a str,
+    fault: UnitFault,
+) -> Result<Cause<'a>, AllocError> {
+    let Ok(own) = tokens(alloc, text) else {
+        return Ok(without_words(text, fault));
+    };
+    let texts = texts_before(alloc, script, line)?;
+    let mut known = known_before(alloc, script, line, texts.as_slice())?;
+    if knows_itself(fault) {
+        known.add_text(own.as_slice())?;
+    }
+    cause_of(alloc, text, own.as_slice(), &known, fault)
+}
+
+// The cause of a fault of a text that has no words.
+fn without_words(text: &str, fault: UnitFault) -> Cause<'_> {
+    match fault {
+        UnitFault::Lex(fault) => of_words(text, fault),
+        _ => Cause::plain(0, NO_MEMORY),
+    }
+}
+
 /// What is said of a fault of the unit text of a section.
 pub(crate) fn of_unit<'a>(
     alloc: Global,
@@ -227,18 +258,6 @@ pub(crate) fn of_unit<'a>(
     requires { section.now.line + length section.now.text.now ≤ 2 ^ 63 }
 {
     let text = unit_text(alloc, section.text)?;
-    let texts = texts_before(alloc, script, section.line)?;
-    let Ok(own) = tokens(alloc, text.as_str()) else {
-        let cause = match fault {
-            UnitFault::Lex(fault) => of_words(text.as_str(), fault),
-            _ => Cause::plain(0, NO_MEMORY),
-        };
-        return of_section(alloc, section, &cause);
-    };
-    let mut known = known_before(alloc, script, section.line, texts.as_slice())?;
-    if knows_itself(fault) {
-        known.add_text(own.as_slice())?;
-    }
-    let cause = cause_of(alloc, text.as_str(), own.as_slice(), &known, fault)?;
+    let cause = cause_in(alloc, script, section.line, text.as_str(), fault)?;
     of_section(alloc, section, &cause)
 }
