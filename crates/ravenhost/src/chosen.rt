@@ -10,6 +10,7 @@ ghost use Rattle.ravenhost.specs.Choices.{Chooses, HasNoWord, IsExplaining, IsJo
 
 use clap::error::ErrorKind;
 use clap::{Arg, ArgAction, ArgMatches, Command, Error};
+use rv_keep::Syncing;
 use std::alloc::{AllocError, Global};
 
 /// What the program is to do.
@@ -49,6 +50,8 @@ pub struct Selection<'a> {
     pub journal: Option<&'a str>,
     /// Whether the ends of bodies in a journal are explained.
     pub explains: bool,
+    /// When the file of a run's journal is synced.
+    pub syncing: Syncing,
 }
 
 /// Why the words of a command line choose nothing.
@@ -128,11 +131,25 @@ fn run_subcommand<'a>(alloc: Global) -> Result<Command<'a>, AllocError>
     ensures app { IfOk result (λ c. app_of c ≡ running) }
     ensures local { IfOk result (λ c. (fields_of c).has_globals ≡ false) }
 {
+    let journal = Arg::new(alloc, "journal")
+        .long("journal")
+        .value_name("FILE")
+        .help("Write the journal into this file as it comes; the file must be new or empty")
+        .action(ArgAction::Set);
+    let sync = Arg::new(alloc, "sync")
+        .long("sync")
+        .value_name("WHEN")
+        .help(
+            "With --journal: when the file is synced with its disk: each (before each answer), second or never",
+        )
+        .action(ArgAction::Set);
     let command = Command::new(alloc, "run")
         .about(
             "Run the host of a script from standard input, and serve the commands that follow its line @run",
         )
-        .after_help("Example: ravenhost run < examples/plant.raven");
+        .after_help("Example: ravenhost run < examples/plant.raven")
+        .arg(journal)?
+        .arg(sync)?;
     noted(alloc, command)
 }
 
@@ -256,6 +273,31 @@ fn telling_of(words: &ArgMatches<'_>) -> Option<(Notes, bool)>
     }
 }
 
+// When a file is synced, by the word that was given; none for another word.
+fn syncing_of(word: &str) -> Option<Syncing> {
+    if word == "each" {
+        return Some(Syncing::Each);
+    }
+    if word == "second" {
+        return Some(Syncing::Second);
+    }
+    if word == "never" {
+        return Some(Syncing::Never);
+    }
+    None
+}
+
+// The same, where no word may be given; one without a file chooses nothing.
+fn keeping_of(has_journal: bool, word: Option<&str>) -> Option<Syncing> {
+    let Some(word) = word else {
+        return Some(Syncing::Second);
+    };
+    if !has_journal {
+        return None;
+    }
+    syncing_of(word)
+}
+
 // What a command line that was read chooses.
 fn choice_of<'a>(matches: &ArgMatches<'a>) -> Option<Selection<'a>>
     ensures found { IfSome result (λ chosen. (found : Text × List Row)
@@ -275,6 +317,7 @@ fn choice_of<'a>(matches: &ArgMatches<'a>) -> Option<Selection<'a>>
             are_errors: playing.1,
             journal: None,
             explains: false,
+            syncing: Syncing::Second,
         });
     }
     if name == "check" {
@@ -285,16 +328,20 @@ fn choice_of<'a>(matches: &ArgMatches<'a>) -> Option<Selection<'a>>
             are_errors: checking.1,
             journal: None,
             explains: false,
+            syncing: Syncing::Second,
         });
     }
     if name == "run" {
         let running = telling_of(words)?;
+        let journal = words.get_str("journal");
+        let syncing = keeping_of(journal.is_some(), words.get_str("sync"))?;
         return Some(Selection {
             choice: Choice::Run,
             notes: running.0,
             are_errors: running.1,
-            journal: None,
+            journal,
             explains: false,
+            syncing,
         });
     }
     if name == "audit" {
@@ -307,6 +354,7 @@ fn choice_of<'a>(matches: &ArgMatches<'a>) -> Option<Selection<'a>>
             are_errors: false,
             journal,
             explains,
+            syncing: Syncing::Second,
         });
     }
     None

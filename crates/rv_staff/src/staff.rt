@@ -1,16 +1,17 @@
 //! A host that runs: its operator and the crew of its threads, which are of one turn.
 
-ghost use Rattle.std.specs.Prelude.{◌≡◌, [], Err, IfErr, IfOk, IfSome, MatchResult};
+ghost use Rattle.std.specs.Prelude.{◌≡◌, [], Err, IfErr, IfOk, IfSome, MatchResult, OnErr, OnOk};
 ghost use Rattle.rv_text.specs.Words.{words};
 ghost use Rattle.rv_turn.specs.Passes.{IsWorn};
 ghost use Rattle.rv_behind.specs.Events.{catalogue_of};
 ghost use Rattle.rv_port.specs.Ports.{pass_of};
-ghost use Rattle.rv_port.specs.Controls.{Brings, IsGiven, IsPortFault, LoadTold};
+ghost use Rattle.rv_port.specs.Controls.{Brings, IsGiven, IsPortFault, LoadTold, PageFailed};
 ghost use Rattle.rv_crew.specs.Crews.{IsClosedBy};
 ghost use Rattle.rv_crew.specs.Teams.{IsOfTurn};
 ghost use Rattle.rv_shell.specs.Serving.{Serves, Writes, answer_line};
 ghost use Rattle.rv_staff.specs.Ending.{Closes, Ended};
 ghost use Rattle.rv_staff.specs.Hiring.{hired};
+ghost use Rattle.rv_staff.specs.Paging.{ReadsPage};
 ghost use Rattle.rv_staff.specs.Staffs.{AreOf, no_crew};
 
 use crate::hands::give_up;
@@ -19,8 +20,9 @@ use crate::work::Work;
 use rv_code::Unit;
 use rv_crew::crew::{Closed, Crew};
 use rv_event::entry::Answer;
+use rv_host::pages::Page;
 use rv_port::control::Control;
-use rv_port::fault::PortFault;
+use rv_port::fault::{PageFault, PortFault};
 use rv_port::port::Port;
 use rv_shape::catalogue::Catalogue;
 use rv_shell::{LineFault, Next, Shell};
@@ -128,6 +130,22 @@ impl Staff {
         ensures crew { self.new.crew ≡ self.old.crew }
     {
         self.control.load(rt, unit)
+    }
+
+    /// Copies the entries of the journal from a number on, which counts from 1, in place of those that `into` had: up to 50.
+    #[tactic(auto, using(crate::proofs::OneTurn::moved, crate::proofs::OneTurn::look_stays))]
+    pub fn page<R: Wait>(
+        &mut self,
+        rt: &R,
+        from: usize,
+        into: &mut Page,
+    ) -> Result<(), PageFault>
+        ensures ok { OnOk result (ReadsPage self.old.control from into.new self.new.control) }
+        ensures err { OnErr result (into.new ≡ into.old) }
+        ensures fault { IfErr result (λ f. PageFailed self.old.control from f self.new.control) }
+        ensures crew { self.new.crew ≡ self.old.crew }
+    {
+        self.control.entries(rt, from, into)
     }
 
     /// Writes the answer to a request of the operator.
