@@ -1,5 +1,5 @@
 -- Threads stay of one turn.
-use Rattle.std.proofs.Common.{◌≡◌, List, [], ◌++◌, ◌∷◌, Ok, Err, inl, inr, refl, sym, ap, ◌∙◌, subst, MatchResult, ℕ, Option, Some, None, IfSome, IfErr, OnOk}
+use Rattle.std.proofs.Common.{◌≡◌, List, [], ◌++◌, ◌∷◌, Ok, Err, inl, inr, refl, sym, ap, ◌∙◌, subst, MatchResult, ℕ, zero, suc, Option, Some, None, IfSome}
 use Rattle.std.specs.Prelude.{Result}
 use Rattle.atomic_table.specs.Seated.{TableId}
 use Rattle.rv_code.specs.declared.body.UnitBodies.{UnitBodies}
@@ -10,10 +10,8 @@ use Rattle.rv_turn.specs.Passes.{IsWorn}
 use Rattle.rv_turn.specs.declared.pass.Worn.{Worn as Spent}
 use Rattle.rv_port.specs.Traces.{Passing}
 use Rattle.rv_port.specs.Ports.{Porting}
-use Rattle.rv_port.specs.Controls.{IsGiven, LoadTold, PageFailed, Told}
-use Rattle.rv_port.specs.declared.fault.PageFault.{PageFault}
-use Rattle.rv_port.specs.declared.fault.PageFault.TheVariants as PageFaults
-use Rattle.rv_host.specs.Pages.{Item}
+use Rattle.rv_follow.specs.Following.{Reads, ReadsOn}
+use Rattle.rv_port.specs.Controls.{IsGiven, LoadTold, Told}
 use Rattle.rv_crew.specs.Teams.{Team, IsOfTurn}
 use Rattle.rv_behind.specs.declared.event.Ask.{Ask}
 use Rattle.rv_crew.specs.Crews.{Joins, IsClosedBy, with_joined}
@@ -22,7 +20,6 @@ use Rattle.rv_crew.proofs.Turns.{none_of_turn, started_of_turn, given_up_of_turn
 use Rattle.rv_staff.specs.declared.hires.HireFault.{HireFault}
 use Rattle.rv_staff.specs.declared.hires.HireFault.TheVariants.{NoThread, GivenUp, NoMemory}
 use Rattle.rv_staff.specs.Hiring.{hired}
-use Rattle.rv_staff.specs.Paging.{ReadsPage}
 use Rattle.rv_staff.specs.Staffs.{AreOf, Staffed, no_crew}
 use Rattle.rv_staff.specs.Ending.{Closes, Ended, Halts}
 
@@ -47,18 +44,13 @@ pub loads_stay : (v w : Passing) (shape : Shape) (Such : UnitBodies → Type 0) 
 loads_stay v w shape Such (Ok a) told = load_stays v w shape Such a told
 loads_stay v w shape Such (Err x) worn = ap (λ (p : Passing). p.turn) worn.1
 
--- so does it where a page is read, or isn't
-page_stays : (v w : Passing) (from : ℕ) (page : List Item) → ReadsPage v from page w → w.turn ≡ v.turn
-page_stays v w from page read = ap (λ (p : Passing). p.turn) read.same
+-- so does it where pages are read
+reads_on_stay : (count : ℕ) (v w : Passing) → ReadsOn count v w → w.turn ≡ v.turn
+reads_on_stay zero v w same = ap (λ (p : Passing). p.turn) same
+reads_on_stay (suc count) v w reads = ap (λ (p : Passing). p.turn) reads.4.same ∙ reads_on_stay count v reads.0 reads.3
 
-no_page_stays : (v w : Passing) (from : ℕ) (fault : PageFault) → PageFailed v from fault w → w.turn ≡ v.turn
-no_page_stays v w from PageFaults.NoMemory failed = ap (λ (p : Passing). p.turn) failed.same
-no_page_stays v w from PageFaults.Worn worn = ap (λ (p : Passing). p.turn) worn.1
-
-pub look_stays : (v w : Passing) (from : ℕ) (page : List Item) (result : Result (Unit {0}) PageFault)
-    → OnOk result (ReadsPage v from page w) → IfErr result (λ f. PageFailed v from f w) → w.turn ≡ v.turn
-look_stays v w from page (Ok x) read failed = page_stays v w from page read
-look_stays v w from page (Err fault) read failed = no_page_stays v w from fault failed
+pub reads_stay : (v w : Passing) → Reads v w → w.turn ≡ v.turn
+reads_stay v w reads = reads_on_stay reads.0 v w reads.1
 
 -- a port that is given is of the same turn
 pub given_stays : (v w : Passing) (actor : ℕ) (port : Passing) → IsGiven v actor w port → w.turn ≡ v.turn

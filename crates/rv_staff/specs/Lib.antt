@@ -4,4 +4,3 @@ pub mod Ending
 pub mod Saying
 pub mod Giving
 pub mod Working
-pub mod Paging

@@ -1,17 +1,18 @@
 //! A host that runs: its operator and the crew of its threads, which are of one turn.
 
-ghost use Rattle.std.specs.Prelude.{◌≡◌, [], Err, IfErr, IfOk, IfSome, MatchResult, OnErr, OnOk};
+ghost use Rattle.std.specs.Prelude.{◌≡◌, [], Err, IfErr, IfOk, IfSome, MatchResult};
 ghost use Rattle.rv_text.specs.Words.{words};
 ghost use Rattle.rv_turn.specs.Passes.{IsWorn};
 ghost use Rattle.rv_behind.specs.Events.{catalogue_of};
 ghost use Rattle.rv_port.specs.Ports.{pass_of};
-ghost use Rattle.rv_port.specs.Controls.{Brings, IsGiven, IsPortFault, LoadTold, PageFailed};
+ghost use Rattle.rv_port.specs.Controls.{Brings, IsGiven, IsPortFault, LoadTold};
+ghost use Rattle.rv_follow.specs.Following.{IsKept, Looked, Reads};
+ghost use Rattle.rv_keep.specs.Keeping.{Known};
 ghost use Rattle.rv_crew.specs.Crews.{IsClosedBy};
 ghost use Rattle.rv_crew.specs.Teams.{IsOfTurn};
 ghost use Rattle.rv_shell.specs.Serving.{Serves, Writes, answer_line};
 ghost use Rattle.rv_staff.specs.Ending.{Closes, Ended};
 ghost use Rattle.rv_staff.specs.Hiring.{hired};
-ghost use Rattle.rv_staff.specs.Paging.{ReadsPage};
 ghost use Rattle.rv_staff.specs.Staffs.{AreOf, no_crew};
 
 use crate::hands::give_up;
@@ -20,9 +21,10 @@ use crate::work::Work;
 use rv_code::Unit;
 use rv_crew::crew::{Closed, Crew};
 use rv_event::entry::Answer;
-use rv_host::pages::Page;
+use rv_follow::follow;
+use rv_keep::{KeepFault, Keeper};
 use rv_port::control::Control;
-use rv_port::fault::{PageFault, PortFault};
+use rv_port::fault::PortFault;
 use rv_port::port::Port;
 use rv_shape::catalogue::Catalogue;
 use rv_shell::{LineFault, Next, Shell};
@@ -32,6 +34,7 @@ use std::io::Write;
 use std::marker::Model;
 use std::sync::Wait;
 use std::thread::Threads;
+use std::time::Clock;
 
 /// A host that runs: its operator and the crew of its threads. Each thread has a port of this control, and none was joined.
 pub struct Staff {
@@ -132,20 +135,23 @@ impl Staff {
         self.control.load(rt, unit)
     }
 
-    /// Copies the entries of the journal from a number on, which counts from 1, in place of those that `into` had: up to 50.
-    #[tactic(auto, using(crate::proofs::OneTurn::moved, crate::proofs::OneTurn::look_stays))]
-    pub fn page<R: Wait>(
+    /// Writes the entries that came since the last look into a keeper's file. Gives whether there were some.
+    ///
+    /// # Errors
+    /// `Write` where a write or a sync fails.
+    #[tactic(auto, using(crate::proofs::OneTurn::moved, crate::proofs::OneTurn::reads_stay))]
+    pub fn follow<R: Wait + Clock, F: Write>(
         &mut self,
         rt: &R,
-        from: usize,
-        into: &mut Page,
-    ) -> Result<(), PageFault>
-        ensures ok { OnOk result (ReadsPage self.old.control from into.new self.new.control) }
-        ensures err { OnErr result (into.new ≡ into.old) }
-        ensures fault { IfErr result (λ f. PageFailed self.old.control from f self.new.control) }
+        alloc: Global,
+        keeper: &mut Keeper<F>,
+    ) -> Result<bool, KeepFault>
+        ensures reads { Reads self.old.control self.new.control }
+        ensures kept { (opened : Known) → IsKept opened (F.contents keeper.old.file) self.old.control keeper.old.next
+            → Looked opened (F.contents keeper.new.file) self.new.control keeper.new.next result }
         ensures crew { self.new.crew ≡ self.old.crew }
     {
-        self.control.entries(rt, from, into)
+        follow(rt, alloc, &mut self.control, keeper)
     }
 
     /// Writes the answer to a request of the operator.
