@@ -138,7 +138,7 @@ fn run_subcommand<'a>(alloc: Global) -> Result<Command<'a>, AllocError>
         .action(ArgAction::Set);
     let sync = Arg::new(alloc, "sync")
         .long("sync")
-        .value_name("WHEN")
+        .value_name("HOW")
         .help(
             "With --journal: when the file is synced with its disk: each (before each answer), second or never",
         )
