@@ -10,7 +10,7 @@ ghost use Rattle.rv_check.specs.Checks.{KeepsRefused, outcome_of as checked};
 use rv_check::warnings::{Warnings, run_warnings_of, warnings_of};
 use rv_fault::Failure;
 use rv_input::{Before, InputFault};
-use rv_run::Follower;
+use rv_run::{Follower, KeptFailure};
 use rv_script::read_script;
 use rv_staff::Hires;
 use rv_verdict::{Audited, Explained, Watch};
@@ -157,6 +157,6 @@ pub fn run_kept<T: Threads + Wait + Clock, H: Hires, W: Write, E: Write, F: Writ
     follower: &mut Follower<F>,
     writer: &mut W,
     errors: &mut E,
-) -> Result<(), Failure> {
+) -> Result<(), KeptFailure> {
     rv_run::kept::run_kept(rt, hires, before, follower, writer, errors)
 }

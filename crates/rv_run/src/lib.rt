@@ -11,4 +11,4 @@ mod loads;
 mod opening;
 pub mod run;
 
-pub use following::Follower;
+pub use following::{Follower, KeptFailure};
