@@ -3,10 +3,9 @@
 use crossbeam_channel::{Receiver, Sender, TryRecvError, bounded};
 use rv_input::{Input, InputFault};
 use std::alloc::{AllocError, Global};
-use std::io;
 use std::io::{ErrorKind, Read};
-use std::mem;
 use std::sync::Wait;
+use std::{io, mem};
 
 // How many pieces may be under way.
 const PIECES: usize = 4;
