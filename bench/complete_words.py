@@ -52,6 +52,8 @@ ROWS = [
     ("{} play --a", ONE, "{} play --all "),
     ("{} play --all --", ALL, "{} play --all --notes --warnings-are-errors "),
     ("{} check --e", ONE, "{} check --explain "),
+    ("{} check --", ALL, "{} check --explain --help --notes --script --warnings-are-errors "),
+    ("{} check --s", ONE, "{} check --script "),
     ("{} audit --", ALL, "{} audit --explain --help --journal --torn"),
     ("{} audit --t", ONE, "{} audit --torn "),
     ("{} audit --torn --j", ONE, "{} audit --torn --journal"),

@@ -1,6 +1,6 @@
 -- What `clap` finds of a command line, as a choice.
-use Rattle.std.proofs.Common.{◌≡◌, ◌∷◌, List, Option, Some, None, Bool, true, false, true≢false, codes, slice_index, ap, sym, ◌∙◌, refl, subst}
-use Rattle.std.specs.Prelude.{◌==◌, IfSome, IfNone, is_some, option_map, unwrap_or}
+use Rattle.std.proofs.Common.{◌≡◌, ◌∷◌, inl, inr, List, Option, Some, None, Bool, true, false, true≢false, codes, slice_index, ap, ap₂, sym, ◌∙◌, refl, subst}
+use Rattle.std.specs.Prelude.{◌==◌, ◌⊎◌, is_some, option_map, unwrap_or}
 use Rattle.clap.specs.Words.{is_simple, subcommand_of, takes}
 use Rattle.clap.specs.Walk.{Row, Text, first_of, one_of}
 use Rattle.clap.proofs.OnLiterals.{clap_on_literals}
@@ -8,7 +8,8 @@ use Rattle.ravenhost.specs.declared.chosen.Choice.{Choice}
 use Rattle.ravenhost.specs.declared.chosen.Choice.TheVariants.{Play, Check, Run, Audit, AuditFile}
 use Rattle.ravenhost.specs.declared.chosen.Notes.{Notes}
 use Rattle.ravenhost.specs.declared.chosen.Notes.TheVariants.{Auto}
-use Rattle.ravenhost.specs.Choices.{HasNoWord, IsExplaining, IsFlag, IsJournal, IsNoted, Names, NamesNone, audit_of, line_of, notes_of, program}
+use Rattle.ravenhost.specs.declared.chosen.Sync.TheVariants.{Second}
+use Rattle.ravenhost.specs.Choices.{HasNoFile, HasNoWord, IsExplaining, IsFlag, IsJournal, IsKeeping, IsNoted, Names, NamesNone, audit_of, line_of, notes_of, program, sync_of}
 
 -- The subcommand that was found, from its name and its rows.
 
@@ -30,8 +31,10 @@ pub taken : (name : Text) (choice : Choice) → takes program (name ∷ line_of 
 unfolding clap_on_literals
 taken name (Play false) = refl
 taken name (Play true) = refl
-taken name (Check false) = refl
-taken name (Check true) = refl
+taken name (Check false false) = refl
+taken name (Check false true) = refl
+taken name (Check true false) = refl
+taken name (Check true true) = refl
 taken name Run = refl
 taken name Audit = refl
 taken name (AuditFile false) = refl
@@ -51,7 +54,7 @@ file_in = option_map (λ (p : Text × List Row). first_of (codes "journal") p.1)
 -- what they are of a plain line
 abbrev word_of : Choice → Text
 word_of (Play all) = codes "play"
-word_of (Check explain) = codes "check"
+word_of (Check explain whole) = codes "check"
 word_of Run = codes "run"
 word_of Audit = codes "audit"
 word_of (AuditFile torn) = codes "audit"
@@ -64,8 +67,10 @@ name_is : (name : Text) (choice : Choice) → name_in (subcommand_of program (na
 unfolding clap_on_literals
 name_is name (Play false) = refl
 name_is name (Play true) = refl
-name_is name (Check false) = refl
-name_is name (Check true) = refl
+name_is name (Check false false) = refl
+name_is name (Check false true) = refl
+name_is name (Check true false) = refl
+name_is name (Check true true) = refl
 name_is name Run = refl
 name_is name Audit = refl
 name_is name (AuditFile false) = refl
@@ -76,10 +81,19 @@ unfolding clap_on_literals
 play_flag name true = refl
 play_flag name false = refl
 
-check_flag : (name : Text) (explain : Bool) → flag_in (codes "explain") (subcommand_of program (name ∷ line_of (Check explain))) ≡ Some (Some (flag_text explain))
+check_flag : (name : Text) (explain whole : Bool) → flag_in (codes "explain") (subcommand_of program (name ∷ line_of (Check explain whole))) ≡ Some (Some (flag_text explain))
 unfolding clap_on_literals
-check_flag name true = refl
-check_flag name false = refl
+check_flag name false false = refl
+check_flag name false true = refl
+check_flag name true false = refl
+check_flag name true true = refl
+
+script_flag : (name : Text) (explain whole : Bool) → flag_in (codes "script") (subcommand_of program (name ∷ line_of (Check explain whole))) ≡ Some (Some (flag_text whole))
+unfolding clap_on_literals
+script_flag name false false = refl
+script_flag name false true = refl
+script_flag name true false = refl
+script_flag name true true = refl
 
 torn_flag : (name : Text) (torn : Bool) → flag_in (codes "torn") (subcommand_of program (name ∷ line_of (AuditFile torn))) ≡ Some (Some (flag_text torn))
 unfolding clap_on_literals
@@ -109,10 +123,12 @@ unfolding clap_on_literals
 play_notes name true = refl
 play_notes name false = refl
 
-check_notes : (name : Text) (explain : Bool) → notes_in (subcommand_of program (name ∷ line_of (Check explain))) ≡ Some None
+check_notes : (name : Text) (explain whole : Bool) → notes_in (subcommand_of program (name ∷ line_of (Check explain whole))) ≡ Some None
 unfolding clap_on_literals
-check_notes name true = refl
-check_notes name false = refl
+check_notes name false false = refl
+check_notes name false true = refl
+check_notes name true false = refl
+check_notes name true true = refl
 
 run_notes : (name : Text) → notes_in (subcommand_of program (name ∷ line_of Run)) ≡ Some None
 unfolding clap_on_literals
@@ -124,6 +140,23 @@ has_word q found e f none =
     let is : first_of (codes "notes") found.1 ≡ None = ap (λ (o : Option (Option Text)). unwrap_or o None) (sym (ap notes_in e) ∙ f) in
     let both : Some Auto ≡ None = sym (ap notes_of is) ∙ none in
     absurd cc
+
+-- no word for syncs
+abbrev sync_in : Option (Text × List Row) → Option (Option Text)
+sync_in = option_map (λ (p : Text × List Row). first_of (codes "sync") p.1)
+
+run_sync : (name : Text) → sync_in (subcommand_of program (name ∷ line_of Run)) ≡ Some None
+unfolding clap_on_literals
+run_sync name = refl
+
+has_file : (q : Option (Text × List Row)) (found : Text × List Row) → q ≡ Some found → sync_in q ≡ Some None → HasNoFile found.1 → ⊥
+has_file q found e f none = wrong none
+  where
+    is : first_of (codes "sync") found.1 ≡ None
+    is = ap (λ (o : Option (Option Text)). unwrap_or o None) (sym (ap sync_in e) ∙ f)
+    wrong : HasNoFile found.1 → ⊥
+    wrong (inl word) = let both : Some Second ≡ None = sym (ap sync_of is) ∙ word in absurd cc
+    wrong (inr file) = file.1 is
 
 -- a flag that has this text is it
 by_flag : (one other : Bool) (text : Option Text) → text ≡ Some (flag_text one) → IsFlag text other → other ≡ one
@@ -168,7 +201,7 @@ found_word name choice found e = ap (λ (o : Option Text). unwrap_or o found.0) 
 -- a choice that it names has that word
 word_named : (choice : Choice) (found : Text × List Row) → Names found choice → found.0 ≡ word_of choice
 word_named (Play all) found n = n.0
-word_named (Check explain) found n = n.0
+word_named (Check explain whole) found n = n.0
 word_named Run found n = n
 word_named Audit found n = n.0
 word_named (AuditFile torn) found n = n.0
@@ -176,27 +209,29 @@ word_named (AuditFile torn) found n = n.0
 -- a choice that a plain line names is its own
 same_choice : (name : Text) (choice other : Choice) (found : Text × List Row) → subcommand_of program (name ∷ line_of choice) ≡ Some found → word_of choice ≡ word_of other → Names found other → other ≡ choice
 same_choice name (Play all) (Play other) found e w n = ap Play (by_flag all other _ (flag_found (codes "all") (flag_text all) _ found e (play_flag name all)) n.1)
-same_choice name (Play all) (Check other) found e w n = absurd (no_check w)
+same_choice name (Play all) (Check other both) found e w n = absurd (no_check w)
 same_choice name (Play all) Run found e w n = absurd (no_run w)
-same_choice name (Check explain) (Play other) found e w n = absurd (no_check (sym w))
-same_choice name (Check explain) (Check other) found e w n = ap Check (by_flag explain other _ (flag_found (codes "explain") (flag_text explain) _ found e (check_flag name explain)) n.1)
-same_choice name (Check explain) Run found e w n = absurd (check_no_run w)
+same_choice name (Check explain whole) (Play other) found e w n = absurd (no_check (sym w))
+same_choice name (Check explain whole) (Check other both) found e w n =
+    ap₂ Check (by_flag explain other _ (flag_found (codes "explain") (flag_text explain) _ found e (check_flag name explain whole)) n.1)
+    (by_flag whole both _ (flag_found (codes "script") (flag_text whole) _ found e (script_flag name explain whole)) n.2)
+same_choice name (Check explain whole) Run found e w n = absurd (check_no_run w)
 same_choice name (Play all) Audit found e w n = absurd (no_audit w)
 same_choice name (Play all) (AuditFile torn) found e w n = absurd (no_audit w)
-same_choice name (Check explain) Audit found e w n = absurd (check_no_audit w)
-same_choice name (Check explain) (AuditFile torn) found e w n = absurd (check_no_audit w)
+same_choice name (Check explain whole) Audit found e w n = absurd (check_no_audit w)
+same_choice name (Check explain whole) (AuditFile torn) found e w n = absurd (check_no_audit w)
 same_choice name Run (Play other) found e w n = absurd (no_run (sym w))
-same_choice name Run (Check other) found e w n = absurd (check_no_run (sym w))
+same_choice name Run (Check other both) found e w n = absurd (check_no_run (sym w))
 same_choice name Run Run found e w n = refl
 same_choice name Run Audit found e w n = absurd (run_no_audit w)
 same_choice name Run (AuditFile torn) found e w n = absurd (run_no_audit w)
 same_choice name Audit (Play other) found e w n = absurd (no_audit (sym w))
-same_choice name Audit (Check other) found e w n = absurd (check_no_audit (sym w))
+same_choice name Audit (Check other both) found e w n = absurd (check_no_audit (sym w))
 same_choice name Audit Run found e w n = absurd (run_no_audit (sym w))
 same_choice name Audit Audit found e w n = refl
 same_choice name Audit (AuditFile torn) found e w n = absurd (n.2 (file_found None _ found e (no_file name)))
 same_choice name (AuditFile torn) (Play other) found e w n = absurd (no_audit (sym w))
-same_choice name (AuditFile torn) (Check other) found e w n = absurd (check_no_audit (sym w))
+same_choice name (AuditFile torn) (Check other both) found e w n = absurd (check_no_audit (sym w))
 same_choice name (AuditFile torn) Run found e w n = absurd (run_no_audit (sym w))
 same_choice name (AuditFile torn) Audit found e w n =
     let file : None ≡ Some (codes "J") = sym n.2 ∙ file_found (Some (codes "J")) _ found e (some_file name torn) in
@@ -211,8 +246,12 @@ names_it name choice other found e n =
 none_chosen : (name : Text) (choice : Choice) (m : Option (Text × List Row)) → m ≡ subcommand_of program (name ∷ line_of choice) → ((found : Text × List Row) → m ≡ Some found → NamesNone found)
     → (found : Text × List Row) → m ≡ Some found → found.0 ≡ word_of choice → ⊥
 none_chosen name (Play all) m e none found is w = has_word _ found (sym e ∙ is) (play_notes name all) ((none found is).0 w)
-none_chosen name (Check explain) m e none found is w = has_word _ found (sym e ∙ is) (check_notes name explain) ((none found is).1 w)
-none_chosen name Run m e none found is w = has_word _ found (sym e ∙ is) (run_notes name) ((none found is).2 w)
+none_chosen name (Check explain whole) m e none found is w = has_word _ found (sym e ∙ is) (check_notes name explain whole) ((none found is).1 w)
+none_chosen name Run m e none found is w = no_wrong ((none found is).2 w)
+  where
+    no_wrong : HasNoWord found.1 ⊎ HasNoFile found.1 → ⊥
+    no_wrong (inl word) = has_word _ found (sym e ∙ is) (run_notes name) word
+    no_wrong (inr file) = has_file _ found (sym e ∙ is) (run_sync name) file
 none_chosen name Audit m e none found is w =
     let n = (none found is).3 w in
     true≢false (n.0.1 (row_found (codes "torn") (Some (flag_text false)) _ found (sym e ∙ is) (no_torn name)))
@@ -280,7 +319,7 @@ check_wrong m found is w none other f =
     let same : found ≡ other = ap (λ (o : Option (Text × List Row)). unwrap_or o found) (sym is ∙ f) in
     subst NamesNone same (λ p. absurd (no_check (sym p ∙ w)), λ _. none, λ p. absurd (check_no_run (sym w ∙ p)), λ p. absurd (check_no_audit (sym w ∙ p)))
 
-pub run_wrong : (m : Option (Text × List Row)) (found : Text × List Row) → m ≡ Some found → found.0 ≡ codes "run" → HasNoWord found.1 → (other : Text × List Row) → m ≡ Some other → NamesNone other
+pub run_wrong : (m : Option (Text × List Row)) (found : Text × List Row) → m ≡ Some found → found.0 ≡ codes "run" → HasNoWord found.1 ⊎ HasNoFile found.1 → (other : Text × List Row) → m ≡ Some other → NamesNone other
 run_wrong m found is w none other f =
     let same : found ≡ other = ap (λ (o : Option (Text × List Row)). unwrap_or o found) (sym is ∙ f) in
     subst NamesNone same (λ p. absurd (no_run (sym p ∙ w)), λ p. absurd (check_no_run (sym p ∙ w)), λ _. none, λ p. absurd (run_no_audit (sym w ∙ p)))
@@ -288,7 +327,7 @@ run_wrong m found is w none other f =
 -- what `audit` chooses looks at no lists
 pub unnoted : (found : Text × List Row) (choice : Choice) (notes : Notes) (errors : Bool) → found.0 ≡ codes "audit" → Names found choice → errors ≡ false → IsNoted found choice notes errors
 unnoted found (Play all) notes errors w n e = absurd (no_audit (sym n.0 ∙ w))
-unnoted found (Check explain) notes errors w n e = absurd (check_no_audit (sym n.0 ∙ w))
+unnoted found (Check explain whole) notes errors w n e = absurd (check_no_audit (sym n.0 ∙ w))
 unnoted found Run notes errors w n e = absurd (run_no_audit (sym n ∙ w))
 unnoted found Audit notes errors w n e = e
 unnoted found (AuditFile torn) notes errors w n e = e
@@ -296,7 +335,15 @@ unnoted found (AuditFile torn) notes errors w n e = e
 -- whether it explains ends is its own flag
 pub explaining : (found : Text × List Row) (choice : Choice) (explains : Bool) → found.0 ≡ codes "audit" → Names found choice → IsFlag (one_of (codes "explain") found.1) explains → IsExplaining found choice explains
 explaining found (Play all) explains w n flag = absurd (no_audit (sym n.0 ∙ w))
-explaining found (Check explain) explains w n flag = absurd (check_no_audit (sym n.0 ∙ w))
+explaining found (Check explain whole) explains w n flag = absurd (check_no_audit (sym n.0 ∙ w))
 explaining found Run explains w n flag = absurd (run_no_audit (sym n ∙ w))
 explaining found Audit explains w n flag = flag
 explaining found (AuditFile torn) explains w n flag = flag
+
+-- it keeps no journal
+pub unkept : (found : Text × List Row) (choice : Choice) → found.0 ≡ codes "audit" → Names found choice → IsKeeping found choice None
+unkept found (Play all) w n = refl
+unkept found (Check explain whole) w n = refl
+unkept found Run w n = absurd (run_no_audit (sym n ∙ w))
+unkept found Audit w n = refl
+unkept found (AuditFile torn) w n = refl

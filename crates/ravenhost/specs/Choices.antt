@@ -1,6 +1,6 @@
--- The command line (own): `play`, which may be given `--all`, `check`, which may be given `--explain`, and `run`, which may be
--- given `--journal FILE` and, with it, `--sync HOW`, all three with `--notes WHEN` and `--warnings-are-errors`; and `audit`, which may be given `--journal FILE` and, with it, `--torn`, and `--explain`.
--- What words come to is what `clap` says of this command.
+-- The command line (own): `play`, which may be given `--all`, `check`, which may be given `--explain` and `--script`, and `run`, which
+-- may be given `--journal FILE` and, with it, `--sync HOW`, all three with `--notes WHEN` and `--warnings-are-errors`; and `audit`, which may be given `--journal FILE` and, with it, `--torn`, and
+-- `--explain`. What words come to is what `clap` says of this command.
 use Rattle.std.specs.Prelude.{◌≡◌, ◌⊎◌, Bool, true, false, if◌then◌else◌, List, [], ◌∷◌, Option, Some, None, codes}
 use Rattle.std.specs.Str.{bytes_eq}
 use Rattle.clap.specs.Words.{App, Row, Rule, new_app, new_rule, subcommand_of, with_rule, with_subcommand}
@@ -17,7 +17,7 @@ use Rattle.ravenhost.specs.declared.chosen.Sync.TheVariants.{Each, Second, Never
 use Rattle.ravenhost.specs.declared.chosen.Unchosen.{Unchosen}
 use Rattle.ravenhost.specs.declared.chosen.Unchosen.TheVariants.{Usage, Unknown, NoMemory}
 
--- a flag, and a subcommand that may be given it
+-- a flag
 abbrev pub flag_rule : Text → Rule
 flag_rule name = record (new_rule name) { long = Some name; action = Some SetTrue }
 
@@ -25,8 +25,15 @@ flag_rule name = record (new_rule name) { long = Some name; action = Some SetTru
 abbrev pub notes_rule : Rule
 notes_rule = record (new_rule (codes "notes")) { long = Some (codes "notes"); action = Some Set; value_names = 1 }
 
-abbrev pub flagged : Text → Text → App
-flagged name flag = with_rule (with_rule (with_rule (new_app name) (flag_rule flag)) notes_rule) (flag_rule (codes "warnings-are-errors"))
+-- what looks at lists may be told when notes are told, and that they are errors
+abbrev pub with_notes : App → App
+with_notes app = with_rule (with_rule app notes_rule) (flag_rule (codes "warnings-are-errors"))
+
+abbrev pub playing : App
+playing = with_notes (with_rule (new_app (codes "play")) (flag_rule (codes "all")))
+
+abbrev pub checked : App
+checked = with_notes (with_rule (with_rule (new_app (codes "check")) (flag_rule (codes "explain"))) (flag_rule (codes "script")))
 
 -- the name of a file, and when it is synced
 abbrev pub file_rule : Rule
@@ -37,7 +44,7 @@ sync_rule = record (new_rule (codes "sync")) { long = Some (codes "sync"); actio
 
 -- `run`, which may keep its journal in a file
 abbrev pub running : App
-running = with_rule (with_rule (with_rule (with_rule (new_app (codes "run")) file_rule) sync_rule) notes_rule) (flag_rule (codes "warnings-are-errors"))
+running = with_notes (with_rule (with_rule (new_app (codes "run")) file_rule) sync_rule)
 
 -- `audit`, which may be given the name of a file, and two flags
 abbrev pub judging : App
@@ -54,8 +61,8 @@ abbrev pub alone : App
 alone = on_top (λ s. record s { subcommand_required = true }) versioned
 
 abbrev pub program : App
-program = with_subcommand (with_subcommand (with_subcommand (with_subcommand alone (flagged (codes "play") (codes "all")).top)
-    (flagged (codes "check") (codes "explain")).top) running.top) audited.top
+program = with_subcommand (with_subcommand (with_subcommand (with_subcommand alone playing.top) checked.top) running.top)
+    audited.top
 
 -- the text of a flag, as a flag
 abbrev pub IsFlag : Option Text → Bool → Type 0
@@ -65,7 +72,8 @@ IsFlag text flag = (text ≡ Some (codes "true") → flag ≡ true)
 -- a subcommand with what it was given is a choice
 abbrev pub Names : Text × List Row → Choice → Type 0
 Names found (Play all) = (found.0 ≡ codes "play") × IsFlag (one_of (codes "all") found.1) all
-Names found (Check explain) = (found.0 ≡ codes "check") × IsFlag (one_of (codes "explain") found.1) explain
+Names found (Check explain whole) =
+    (found.0 ≡ codes "check") × IsFlag (one_of (codes "explain") found.1) explain × IsFlag (one_of (codes "script") found.1) whole
 Names found Run = found.0 ≡ codes "run"
 Names found Audit = (found.0 ≡ codes "audit") × IsFlag (one_of (codes "torn") found.1) false × (first_of (codes "journal") found.1 ≡ None)
 Names found (AuditFile torn) = (found.0 ≡ codes "audit") × IsFlag (one_of (codes "torn") found.1) torn × (first_of (codes "journal") found.1 ≡ None → ⊥)
@@ -91,7 +99,7 @@ Tells rows notes errors = (notes_of (first_of (codes "notes") rows) ≡ Some not
 -- the same, for `play`, `check` and `run`
 abbrev pub IsNoted : Text × List Row → Choice → Notes → Bool → Type 0
 IsNoted found (Play all) notes errors = Tells found.1 notes errors
-IsNoted found (Check explain) notes errors = Tells found.1 notes errors
+IsNoted found (Check explain whole) notes errors = Tells found.1 notes errors
 IsNoted found Run notes errors = Tells found.1 notes errors
 IsNoted found choice notes errors = errors ≡ false
 
@@ -157,8 +165,10 @@ Lacks words (Usage error) = ⊥
 abbrev pub line_of : Choice → List Text
 line_of (Play false) = codes "play" ∷ []
 line_of (Play true) = codes "play" ∷ codes "--all" ∷ []
-line_of (Check false) = codes "check" ∷ []
-line_of (Check true) = codes "check" ∷ codes "--explain" ∷ []
+line_of (Check false false) = codes "check" ∷ []
+line_of (Check false true) = codes "check" ∷ codes "--script" ∷ []
+line_of (Check true false) = codes "check" ∷ codes "--explain" ∷ []
+line_of (Check true true) = codes "check" ∷ codes "--explain" ∷ codes "--script" ∷ []
 line_of Run = codes "run" ∷ []
 line_of Audit = codes "audit" ∷ []
 line_of (AuditFile false) = codes "audit" ∷ codes "--journal" ∷ codes "J" ∷ []

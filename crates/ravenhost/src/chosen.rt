@@ -6,7 +6,7 @@ ghost use Rattle.clap.specs.Matches.{found_of};
 ghost use Rattle.clap.specs.Walk.{Row, Text, rows_of};
 ghost use Rattle.clap.specs.declared.builder.command.Command.TheViews.{out-Command as fields_of};
 ghost use Rattle.ravenhost.specs.declared.chosen.Unchosen.TheVariants as Unchosen;
-ghost use Rattle.ravenhost.specs.Choices.{Chooses, HasNoFile, HasNoWord, IsExplaining, IsJournal, IsKeeping, IsNoted, Keeps, Lacks, Names, NamesNone, Tells, audit_of, audited, flag_rule, judging, line_of, notes_of, notes_rule, program, running, sync_of};
+ghost use Rattle.ravenhost.specs.Choices.{Chooses, HasNoFile, HasNoWord, IsExplaining, IsJournal, IsKeeping, IsNoted, Keeps, Lacks, Names, NamesNone, Tells, audit_of, audited, checked, flag_rule, judging, line_of, notes_of, notes_rule, playing, program, running, sync_of, with_notes};
 
 use clap::error::ErrorKind;
 use clap::{Arg, ArgAction, ArgMatches, Command, Error};
@@ -17,8 +17,9 @@ use std::alloc::{AllocError, Global};
 pub enum Choice {
     /// Carry out a script; where the flag is set, unrecorded answers are printed too.
     Play(bool),
-    /// Look at the sections of a script; where the flag is set, its fault is explained.
-    Check(bool),
+    /// Look at the sections of a script. Where the first flag is set, its fault is explained; where the second is, a whole
+    /// script is looked at, its steps, commands or journal too.
+    Check(bool, bool),
     /// Run a host, with a thread for each actor, and serve the operator's commands.
     Run,
     /// Judge the journal of a script.
@@ -115,7 +116,7 @@ fn notes_flag<'a>(alloc: Global) -> Arg<'a>
 // A subcommand that looks at lists: it may be told when notes on them are told, and that they are errors.
 fn noted<'a>(alloc: Global, command: Command<'a>) -> Result<Command<'a>, AllocError>
     requires { (fields_of command).has_globals ≡ false }
-    ensures app { IfOk result (λ c. app_of c ≡ with_rule (with_rule (app_of command.entry) notes_rule) (flag_rule (codes "warnings-are-errors"))) }
+    ensures app { IfOk result (λ c. app_of c ≡ with_notes (app_of command.entry)) }
     ensures local { IfOk result (λ c. (fields_of c).has_globals ≡ false) }
 {
     let are_errors = flag(
@@ -126,22 +127,43 @@ fn noted<'a>(alloc: Global, command: Command<'a>) -> Result<Command<'a>, AllocEr
     command.arg(notes_flag(alloc))?.arg(are_errors)
 }
 
-// Such a subcommand, which may be given a flag, too.
-fn subcommand<'a>(
-    alloc: Global,
-    name: &'a str,
-    about: &'a str,
-    example: &'a str,
-    flag_of: Arg<'a>,
-) -> Result<Command<'a>, AllocError>
-    requires { flag_of.global ≡ false }
-    ensures app { IfOk result (λ c. app_of c ≡ with_rule (with_rule (with_rule (new_app name.now) (rule_of flag_of.entry)) notes_rule) (flag_rule (codes "warnings-are-errors"))) }
+// The subcommand `play`, which may print more.
+fn play_subcommand<'a>(alloc: Global) -> Result<Command<'a>, AllocError>
+    ensures app { IfOk result (λ c. app_of c ≡ playing) }
     ensures local { IfOk result (λ c. (fields_of c).has_globals ≡ false) }
 {
-    let command = Command::new(alloc, name)
-        .about(about)
-        .after_help(example)
-        .arg(flag_of)?;
+    let all = flag(
+        alloc,
+        "all",
+        "Print unrecorded answers too, as lines that begin with -",
+    );
+    let command = Command::new(alloc, "play")
+        .about("Carry out a script from standard input, and print its journal")
+        .after_help("Example: ravenhost play --all < examples/first.raven")
+        .arg(all)?;
+    noted(alloc, command)
+}
+
+// The subcommand `check`, which may explain a fault, and look at whole scripts.
+fn check_subcommand<'a>(alloc: Global) -> Result<Command<'a>, AllocError>
+    ensures app { IfOk result (λ c. app_of c ≡ checked) }
+    ensures local { IfOk result (λ c. (fields_of c).has_globals ≡ false) }
+{
+    let explain = flag(
+        alloc,
+        "explain",
+        "Below a fault, show the line with its place, and say what the fault means",
+    );
+    let whole = flag(
+        alloc,
+        "script",
+        "Look at a whole script of play, run or audit, also at its steps, its commands or its journal",
+    );
+    let command = Command::new(alloc, "check")
+        .about("Say of each section of a script from standard input whether it is well formed")
+        .after_help("Example: ravenhost check --script --explain < examples/first.raven")
+        .arg(explain)?
+        .arg(whole)?;
     noted(alloc, command)
 }
 
@@ -213,30 +235,8 @@ fn audit_subcommand<'a>(alloc: Global) -> Result<Command<'a>, AllocError>
 fn command<'a>(alloc: Global) -> Result<Command<'a>, AllocError>
     ensures { IfOk result (λ c. app_of c ≡ program) }
 {
-    let all = flag(
-        alloc,
-        "all",
-        "Print unrecorded answers too, as lines that begin with -",
-    );
-    let explain = flag(
-        alloc,
-        "explain",
-        "Below a fault, show the line with its place, and say what the fault means",
-    );
-    let play = subcommand(
-        alloc,
-        "play",
-        "Carry out a script from standard input, and print its journal",
-        "Example: ravenhost play --all < examples/first.raven",
-        all,
-    )?;
-    let check = subcommand(
-        alloc,
-        "check",
-        "Say of each section of a script from standard input whether it is well formed",
-        "Example: ravenhost check --explain < examples/checked.raven",
-        explain,
-    )?;
+    let play = play_subcommand(alloc)?;
+    let check = check_subcommand(alloc)?;
     let run = run_subcommand(alloc)?;
     let audit = audit_subcommand(alloc)?;
     Command::new(alloc, "ravenhost")
@@ -355,7 +355,7 @@ fn choice_of<'a>(matches: &ArgMatches<'a>) -> Option<Selection<'a>>
     if name == "check" {
         let checking = telling_of(words)?;
         return Some(Selection {
-            choice: Choice::Check(words.get_flag("explain")),
+            choice: Choice::Check(words.get_flag("explain"), words.get_flag("script")),
             notes: checking.0,
             are_errors: checking.1,
             journal: None,

@@ -6,8 +6,9 @@ ghost use Rattle.rv_script.specs.Whole.{most_bytes};
 ghost use Rattle.rv_fault.specs.Written.{WritesScript};
 ghost use Rattle.rv_play.specs.Scripted.{outcome_of};
 ghost use Rattle.rv_check.specs.Checks.{KeepsRefused, outcome_of as checked};
+ghost use Rattle.rv_check.specs.Scripts.{outcome_of as judged};
 
-use rv_check::warnings::{Warnings, run_warnings_of, warnings_of};
+use rv_check::warnings::{Warnings, run_warnings_of, warnings_of, whole_warnings_of};
 use rv_fault::Failure;
 use rv_input::{Before, InputFault};
 use rv_run::{Follower, KeptFailure};
@@ -34,6 +35,11 @@ pub fn read<R: Read>(alloc: Global, reader: &mut R) -> Result<Vec<u8>, Failure>
 /// What is told of the lists of a script.
 pub fn warnings(alloc: Global, script: &[u8]) -> Result<Warnings, Failure> {
     warnings_of(alloc, script)
+}
+
+/// What is told of the lists of a whole script, as the command carries it out that it is for.
+pub fn whole_warnings(alloc: Global, script: &[u8]) -> Result<Warnings, Failure> {
+    whole_warnings_of(alloc, script)
 }
 
 /// What stands before the commands of a script for `run`, and what had to be read with it: with what is left the whole.
@@ -90,6 +96,19 @@ pub fn check_kept<R: Read, W: Write>(
     ensures kept { IfErr result.1 (λ failure. KeepsRefused (R.remaining reader.old) result.0.items failure) }
 {
     rv_check::check::check_kept(alloc, reader, writer)
+}
+
+/// Looks at a whole script as the command takes it that it is for, and gives back what was read of it.
+pub fn check_whole<R: Read, W: Write>(
+    alloc: Global,
+    reader: &mut R,
+    writer: &mut W,
+) -> (Vec<u8>, Result<(), Failure>)
+    ensures told { IfSome (R.remaining reader.old) (λ script.
+        WritesScript (W.contents writer.old) (W.contents writer.new) judged script result.1) }
+    ensures kept { IfErr result.1 (λ failure. KeepsRefused (R.remaining reader.old) result.0.items failure) }
+{
+    rv_check::script::check_script_kept(alloc, reader, writer)
 }
 
 /// Judges the journal that a script brings in a section, and writes one line that says what was found. Gives whether it

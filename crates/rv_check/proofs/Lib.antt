@@ -1,2 +1,6 @@
-mod Checked
-mod Checking
+pub mod Checked
+pub mod Checking
+pub mod Commanded
+pub mod Judged
+pub mod Loaded
+pub mod Stepping

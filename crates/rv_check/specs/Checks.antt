@@ -1,5 +1,5 @@
 -- The sections of a script that is checked: what is said of each, or what stands against it (own).
-use Rattle.std.specs.Prelude.{◌≡◌, ◌⊎◌, ◌<◌, ◌≤◌, ℕ, List, [], ◌∷◌, ◌++◌, ◌+◌, length, take, codes, Option, Some, None, IfSome, Result, Ok, Err}
+use Rattle.std.specs.Prelude.{◌≡◌, ◌⊎◌, Bool, true, false, ◌<◌, ◌≤◌, ℕ, List, [], ◌∷◌, ◌++◌, ◌+◌, length, take, codes, Option, Some, None, IfSome, Result, Ok, Err}
 use Rattle.std.specs.Fmt.{decimal}
 use Rattle.std.specs.Io.KnownBytes.{Appends}
 use Rattle.rv_text.specs.Sections.{SectionText}
@@ -104,23 +104,62 @@ Tells old new line finds (Err (Refused told)) = finds [] (Some told.what) × (to
 Tells old new line finds (Err Memory) = TellsSome old new finds
 Tells old new line finds (Err (Io error)) = TellsSome old new finds
 
--- sections in turn: what is said of them, up to the first that something stands against, which is told with its line
-abbrev pub Checks : List Shape → List SectionText → List ℕ → Option ScriptFault → Type 0
-Checks shapes [] said told = (said ≡ []) × (told ≡ None)
-Checks shapes (section ∷ others) said told =
-    ((what : What) × (after : List Shape) × OfSection shapes after section [] (Some what) × (said ≡ []) × (told ≡ Some (record { line = section.line; what = what })))
-    ⊎ ((line more : List ℕ) × (after : List Shape) × OfSection shapes after section line None × Checks after others more told × (said ≡ line ++ more))
+-- what is said of a section, or of all that is left, and what is told
+abbrev pub Telling : Type 1
+Telling = List ℕ → Option ScriptFault → Type 0
+
+-- so it is of a finding whose fault is told at a line
+abbrev pub at_line : ℕ → Finding → Telling
+at_line line finds said None = finds said None
+at_line line finds said (Some told) = finds said (Some told.what) × (told.line ≡ line)
+
+-- a prefix of what is to be said is written, or nothing yet
+abbrev pub WritesPart : Known → Known → Telling → Type 0
+WritesPart old new tells = (new ≡ old) ⊎ ((said : List ℕ) × tells said None × WritesPrefix old new said)
+
+-- what is to be said is written, or a fault is told
+abbrev pub WritesOne : Known → Known → Telling → Ended → Type 0
+WritesOne old new tells (Ok x) = (said : List ℕ) × tells said None × Appends old new said
+WritesOne old new tells (Err (Refused told)) = tells [] (Some told) × (new ≡ old)
+WritesOne old new tells (Err Memory) = WritesPart old new tells
+WritesOne old new tells (Err (Io error)) = WritesPart old new tells
+
+-- how sections are judged: each over the units before it, with those behind it; and, from a last section on, all that is left
+pub record Judging : Type 1 where
+  pub Section : List Shape → List Shape → SectionText → Telling
+  pub is_last : SectionText → Bool
+  pub Rest : List Shape → SectionText → List SectionText → Telling
+
+-- `check` looks at each section, to the end
+abbrev pub checking : Judging
+checking = record {
+  Section = λ shapes after section. at_line section.line (OfSection shapes after section);
+  is_last = λ section. false;
+  Rest = λ shapes section others said told. ⊥;
+}
+
+-- what holds from a last section on, and what else
+abbrev pub by_last : Bool → Type 0 → Type 0 → Type 0
+by_last true rest section = rest
+by_last false rest section = section
+
+-- sections in turn: what is said of them, up to the first that something stands against, which is told
+abbrev pub Checks : Judging → List Shape → List SectionText → List ℕ → Option ScriptFault → Type 0
+Checks by shapes [] said told = (said ≡ []) × (told ≡ None)
+Checks by shapes (section ∷ others) said told = by_last (by.is_last section) (by.Rest shapes section others said told)
+    (((fault : ScriptFault) × (after : List Shape) × by.Section shapes after section [] (Some fault) × (said ≡ []) × (told ≡ Some fault))
+    ⊎ ((line more : List ℕ) × (after : List Shape) × by.Section shapes after section line None × Checks by after others more told × (said ≡ line ++ more)))
 
 -- what is said of some first sections
-abbrev pub ChecksSome : List SectionText → List ℕ → Type 0
-ChecksSome sections said = (done rest : List SectionText) × (sections ≡ done ++ rest) × Checks [] done said None
+abbrev pub ChecksSome : Judging → List SectionText → List ℕ → Type 0
+ChecksSome by sections said = (done rest : List SectionText) × (sections ≡ done ++ rest) × Checks by [] done said None
 
 -- all that is to be said of sections is written, and a refusal is what is to be told
-abbrev pub TellsAll : Known → Known → List SectionText → Ended → Type 0
-TellsAll old new sections (Ok x) = (said : List ℕ) × Checks [] sections said None × Appends old new said
-TellsAll old new sections (Err (Refused told)) = (said : List ℕ) × Checks [] sections said (Some told) × Appends old new said
-TellsAll old new sections (Err Memory) = (said : List ℕ) × ChecksSome sections said × WritesPrefix old new said
-TellsAll old new sections (Err (Io error)) = (said : List ℕ) × ChecksSome sections said × WritesPrefix old new said
+abbrev pub TellsAll : Judging → Known → Known → List SectionText → Ended → Type 0
+TellsAll by old new sections (Ok x) = (said : List ℕ) × Checks by [] sections said None × Appends old new said
+TellsAll by old new sections (Err (Refused told)) = (said : List ℕ) × Checks by [] sections said (Some told) × Appends old new said
+TellsAll by old new sections (Err Memory) = (said : List ℕ) × ChecksSome by sections said × WritesPrefix old new said
+TellsAll by old new sections (Err (Io error)) = (said : List ℕ) × ChecksSome by sections said × WritesPrefix old new said
 
 -- what stands against the settings of a script, if something does; nothing is said of them
 abbrev pub AreSettings : Option SectionText → Option ScriptFault → Type 0
@@ -139,13 +178,13 @@ OfSettings settings (Err (Io error)) = ⊥
 -- what is said of a script, and what is told; settings come before the other sections
 abbrev pub ChecksOpened : Result OpenedText ℕ → List ℕ → Option ScriptFault → Type 0
 ChecksOpened (Ok script) said told =
-    (AreSettings script.settings None × Checks [] script.sections said told)
+    (AreSettings script.settings None × Checks checking [] script.sections said told)
     ⊎ ((fault : ScriptFault) × AreSettings script.settings (Some fault) × (said ≡ []) × (told ≡ Some fault))
 ChecksOpened (Err line) said told = (said ≡ []) × (told ≡ Some (record { line = line; what = Whats.BadSection }))
 
 -- what is said of some first sections of a script
 abbrev pub BeginsOpened : Result OpenedText ℕ → List ℕ → Type 0
-BeginsOpened (Ok script) said = AreSettings script.settings None × ChecksSome script.sections said
+BeginsOpened (Ok script) said = AreSettings script.settings None × ChecksSome checking script.sections said
 BeginsOpened (Err line) said = ⊥
 
 -- what there is to write of a script; before a failure nothing or what is said of some first sections

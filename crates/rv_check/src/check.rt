@@ -2,7 +2,7 @@
 
 ghost use Rattle.std.specs.Prelude.{◌≡◌, [], IfErr, IfSome};
 ghost use Rattle.rv_fault.specs.Written.{Writes, WritesScript};
-ghost use Rattle.rv_check.specs.Checks.{KeepsRefused, TellsAll, outcome_of};
+ghost use Rattle.rv_check.specs.Checks.{KeepsRefused, TellsAll, checking, outcome_of};
 
 use crate::sections::{check_section, check_settings};
 use rv_fault::{Failure, What, refused};
@@ -18,11 +18,14 @@ fn check_sections<W: Write>(
     writer: &mut W,
     mut sections: Sections<'_>,
 ) -> Result<(), Failure>
-    ensures { TellsAll (W.contents writer.old) (W.contents writer.new) sections.entry result }
+    ensures { TellsAll checking (W.contents writer.old) (W.contents writer.new) sections.entry result }
 {
     let mut catalogue = Catalogue::new(alloc);
     'each: while let Some(section) = sections.next_section() {
-        check_section(alloc, writer, &mut catalogue, &section)?;
+        match check_section(alloc, writer, &mut catalogue, &section) {
+            Ok(()) => {}
+            Err(failure) => return Err(failure),
+        }
     }
     Ok(())
 }

@@ -2,5 +2,11 @@
 #![tactic(auto)]
 
 pub mod check;
+mod commands;
+mod devices;
+mod lines;
+mod purpose;
+pub mod script;
 mod sections;
+mod steps;
 pub mod warnings;

@@ -22,8 +22,8 @@ fn unit_line(alloc: Global, name: &str) -> Result<String, AllocError>
     format!(in alloc; "unit {name}: ok\n")
 }
 
-// The line that is said of a shape.
-fn shape_line(alloc: Global, name: &str) -> Result<String, AllocError>
+/// The line that is said of a shape.
+pub(crate) fn shape_line(alloc: Global, name: &str) -> Result<String, AllocError>
     ensures { IfOk result (λ line. string_bytes line ≡ shape_line name.now) }
 {
     format!(in alloc; "shape {name}: ok\n")
@@ -36,8 +36,8 @@ fn list_line(alloc: Global, count: usize) -> Result<String, AllocError>
     format!(in alloc; "list: ok {count} lines\n")
 }
 
-// Says that a section is well formed.
-fn say<W: Write>(writer: &mut W, line: Result<String, AllocError>) -> Result<(), Failure>
+/// Says that a section is well formed.
+pub(crate) fn say<W: Write>(writer: &mut W, line: Result<String, AllocError>) -> Result<(), Failure>
     ensures { (text : List ℕ) → IfOk line (λ l. string_bytes l ≡ text)
         → Puts (W.contents writer.old) (W.contents writer.new) text result }
 {

@@ -3,6 +3,7 @@
 
 ghost use Rattle.std.specs.Prelude.{◌≤◌, ◌^◌, ◌+◌, length};
 
+use crate::purpose::{Purpose, purpose_in};
 use rv_access::{AccessList, Change, Line, MOST_LINES};
 use rv_fault::{Failure, device_unit, list_of, settings_of, shape_of, unit_of};
 use rv_notes::{Note, notes, words_of};
@@ -316,9 +317,20 @@ impl Review {
         }
     }
 
-    // Sections, up to the first fault, which isn't told here. False where there is one.
+    // Whether the commands of a run follow an opening.
+    fn ends_at(&self, opening: &str) -> bool {
+        match opening_of(opening) {
+            Some(Opening::Run) => self.runs,
+            _ => false,
+        }
+    }
+
+    // Sections, up to the commands of a run, or the first fault, which isn't told here. False where there is one.
     fn sections(&mut self, mut sections: Sections<'_>) -> Result<bool, Failure> {
         'each: while let Some(section) = sections.next_section() {
+            if self.ends_at(section.opening) {
+                return Ok(true);
+            }
             match self.section(&section) {
                 Ok(true) => {}
                 Ok(false) | Err(Failure::Refused(_)) => return Ok(false),
@@ -384,6 +396,18 @@ pub fn warnings_of(alloc: Global, script: &[u8]) -> Result<Warnings, Failure> {
 /// before the first thread. Else as `warnings_of`.
 pub fn run_warnings_of(alloc: Global, before: &[u8]) -> Result<Warnings, Failure> {
     review_of(alloc, true, before)
+}
+
+/// What is told of the lists of a whole script, as the command carries it out that it is for.
+pub fn whole_warnings_of(alloc: Global, script: &[u8]) -> Result<Warnings, Failure> {
+    let runs = match text_of(script) {
+        Ok(text) => match purpose_in(text) {
+            Purpose::Run => true,
+            _ => false,
+        },
+        Err(_) => false,
+    };
+    review_of(alloc, runs, script)
 }
 
 // What is told of the lists of a script for `run`, or else for `play`.

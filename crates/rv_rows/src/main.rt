@@ -1,7 +1,8 @@
 //! Worked rows: plays, checks or audits each script of the folder that it is run in, and says of each whether
 //! it gave what stands beside it.
 //!
-//! `NAME.raven` is a script. Where there is a `NAME.said` it is checked, and that is what has to be said;
+//! `NAME.raven` is a script. Where there is a `NAME.said` it is checked, and that is what has to be said; where there is a
+//! `NAME.whole` it is checked whole, as the command takes it that it is for, and that is what has to be said;
 //! where there is a `NAME.verdict` its journal is judged, and that is the verdict; else it is played, with answers that
 //! aren't recorded, and `NAME.journal` is what has to be written. A journal that is judged may stand in a file of its own,
 //! `NAME.file`.
@@ -32,7 +33,8 @@ use fronts::fronts_of;
 use row_files::failing::{FailingReader, FailingWriter};
 use row_files::{bytes_of, names_before};
 use rv_check::check::check;
-use rv_check::warnings::{Warnings, run_warnings_of, warnings_of};
+use rv_check::script::check_script_kept;
+use rv_check::warnings::{Warnings, run_warnings_of, warnings_of, whole_warnings_of};
 use rv_exec::machine::STACK_BYTES;
 use rv_explain::explain;
 use rv_fault::Failure;
@@ -46,6 +48,8 @@ use std::{env, io, thread};
 enum Deed<'a> {
     Play,
     Check,
+    /// Its steps, its commands or its journal too.
+    CheckScript,
     Audit,
     /// The journal stands in a file of its own.
     AuditFile(&'a [u8]),
@@ -73,6 +77,10 @@ fn carry_out<R: io::Read, W: io::Write>(
     match deed {
         Deed::Play => play(alloc, reader, written, true),
         Deed::Check => check(alloc, reader, written),
+        Deed::CheckScript => {
+            let (_, done) = check_script_kept(alloc, reader, written);
+            done
+        }
         Deed::Audit => {
             let _is_legal = audit(alloc, reader, written)?;
             Ok(())
@@ -164,6 +172,7 @@ fn first_difference(given: &[u8], wanted: &[u8]) -> usize {
 struct Wanted {
     bytes: Vec<u8>,
     is_checked: bool,
+    is_whole: bool,
     is_audited: bool,
     // Whether the ends in a journal that is judged are explained.
     is_explained: bool,
@@ -218,7 +227,7 @@ fn failures_told(rt: &HostRuntime, name: &str) -> io::Result<String> {
     let script = bytes_of(rt, name, "raven")?.unwrap_or(Vec::new(alloc));
     let wanted = wanted_for(rt, name)?;
     let due = wanted.bytes.as_slice();
-    let deed = deed_beside(wanted.is_checked, wanted.is_audited, wanted.is_explained);
+    let deed = deed_beside(&wanted);
     let reads = reads_of(alloc, script.as_slice(), deed, due);
     let writes = writes_of(alloc, script.as_slice(), deed, due);
     match (reads, writes) {
@@ -233,7 +242,9 @@ fn failures_told(rt: &HostRuntime, name: &str) -> io::Result<String> {
 fn wanted_for(rt: &HostRuntime, name: &str) -> io::Result<Wanted> {
     let said = bytes_of(rt, name, "said")?;
     let verdict = bytes_of(rt, name, "verdict")?;
+    let whole = bytes_of(rt, name, "whole")?;
     let is_checked = said.is_some();
+    let is_whole = whole.is_some();
     let is_audited = verdict.is_some();
     let ends = if is_audited {
         bytes_of(rt, name, "ends")?
@@ -244,6 +255,7 @@ fn wanted_for(rt: &HostRuntime, name: &str) -> io::Result<Wanted> {
     let mut bytes = Vec::new(rt.alloc());
     for part in [
         said,
+        whole,
         verdict,
         ends,
         bytes_of(rt, name, "journal")?,
@@ -256,18 +268,21 @@ fn wanted_for(rt: &HostRuntime, name: &str) -> io::Result<Wanted> {
     Ok(Wanted {
         bytes,
         is_checked,
+        is_whole,
         is_audited,
         is_explained,
     })
 }
 
 // What is done with a script whose journal stands in no file of its own.
-fn deed_beside(is_checked: bool, is_audited: bool, is_explained: bool) -> Deed<'static> {
-    if is_audited && is_explained {
+fn deed_beside(wanted: &Wanted) -> Deed<'static> {
+    if wanted.is_audited && wanted.is_explained {
         Deed::Explain
-    } else if is_audited {
+    } else if wanted.is_audited {
         Deed::Audit
-    } else if is_checked {
+    } else if wanted.is_whole {
+        Deed::CheckScript
+    } else if wanted.is_checked {
         Deed::Check
     } else {
         Deed::Play
@@ -305,7 +320,7 @@ fn deed_for<'a>(wanted: &Wanted, file: &'a Option<Vec<u8>>) -> Deed<'a> {
     match file {
         Some(file) if wanted.is_explained => Deed::ExplainFile(file.as_slice()),
         Some(file) => Deed::AuditFile(file.as_slice()),
-        None => deed_beside(wanted.is_checked, wanted.is_audited, wanted.is_explained),
+        None => deed_beside(wanted),
     }
 }
 
@@ -327,7 +342,7 @@ fn difference(
         let line = first_difference(given, wanted.bytes.as_slice());
         return Ok(Some(format!(in alloc; "differs at line {line}")?));
     }
-    let is_played = !wanted.is_checked && !wanted.is_audited;
+    let is_played = !wanted.is_checked && !wanted.is_whole && !wanted.is_audited;
     if !is_played || has_more(rt, name)? {
         return Ok(None);
     }
@@ -349,7 +364,12 @@ fn told(rt: &HostRuntime, name: &str) -> io::Result<String> {
     let mut given = given(alloc, script.as_slice(), deed, is_explained)?;
     if let Some(notes) = bytes_of(rt, name, "notes")? {
         wanted.bytes.extend_from_slice(notes.as_slice())?;
-        add_notes(warnings_of(alloc, script.as_slice()), &mut given)?;
+        let warnings = if wanted.is_whole {
+            whole_warnings_of(alloc, script.as_slice())
+        } else {
+            warnings_of(alloc, script.as_slice())
+        };
+        add_notes(warnings, &mut given)?;
     }
     match difference(rt, name, script.as_slice(), given.as_slice(), &wanted)? {
         Some(words) => Ok(format!(in alloc; "{name}: {words}")?),

@@ -27,7 +27,11 @@ returns-then-eq-2-clause-found c =
     let word : c.in_ok-name.name.now ≡ codes "check" = search rules in (
       (c.in_ok-name.name.now, rows_of given),
       found_is _ _ _ _ _ (search rules) (search rules),
-      (word, (λ e. c.get_flag-then-eq-2.ensures.value (one_text-rows given (codes "explain") ∙ e), λ e. c.get_flag-then-eq-2.ensures.other (one_text-rows given (codes "explain") ∙ e))),
+      (
+        word,
+        (λ e. c.get_flag-then-eq-2.ensures.value (one_text-rows given (codes "explain") ∙ e), λ e. c.get_flag-then-eq-2.ensures.other (one_text-rows given (codes "explain") ∙ e)),
+        (λ e. c.get_flag-then-eq-2-2.ensures.value (one_text-rows given (codes "script") ∙ e), λ e. c.get_flag-then-eq-2-2.ensures.other (one_text-rows given (codes "script") ∙ e)),
+      ),
       λ e. absurd (not_audit_check _ word e),
       c.in_ok-checking.ensures.some,
       refl,

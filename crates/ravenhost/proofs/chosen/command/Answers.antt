@@ -1,26 +1,19 @@
 use Rattle.std.proofs.Common.{◌≡◌, ◌∙◌, true, ap, ap₂, codes}
 use Rattle.std.proofs.lemmas.Result.{IfOk-weaker}
-use Rattle.clap.specs.Words.{App, Rule, app_of, new_app, with_rule, with_subcommand}
+use Rattle.clap.specs.Words.{App, app_of, new_app, with_subcommand}
 use Rattle.clap.specs.Simple.{app_of_fields, on_top}
-use Rattle.ravenhost.specs.Choices.{flag_rule, flagged, notes_rule, running, versioned, alone}
-use Rattle.clap.specs.Walk.{Text}
+use Rattle.ravenhost.specs.Choices.{alone, checked, playing, running, versioned}
 use Rattle.ravenhost.proofs.chosen.command.Goals as goal
-
--- a subcommand with a rule of its own and those of notes
-abbrev more : Text → Rule → App
-more name rule = with_rule (with_rule (with_rule (new_app name) rule) notes_rule) (flag_rule (codes "warnings-are-errors"))
 
 pub returns : goal.returns
 returns c =
-    let play_is : app_of c.in_ok-play.play ≡ flagged (codes "play") (codes "all") = c.in_ok-play.ensures.app ∙ ap (more (codes "play")) c.flag-all.ensures.rule in
-    let check_is : app_of c.in_ok-check.check ≡ flagged (codes "check") (codes "explain") = c.in_ok-check.ensures.app ∙ ap (more (codes "check")) c.flag-explain.ensures.rule in
     let top : app_of c.about.result ≡ new_app (codes "ravenhost") = ap app_of_fields c.about.ensures ∙ c.new.ensures.app in
     let version : app_of c.version.result ≡ versioned = ap app_of_fields c.version.ensures ∙ ap (on_top (λ s. record s { has_version = true })) top in
     let top_is : app_of c.subcommand_required.result ≡ alone = ap app_of_fields c.subcommand_required.ensures ∙ ap (on_top (λ s. record s { subcommand_required = true })) version in
-    let one : app_of c.in_ok-subcommand.field-0 ≡ with_subcommand alone (flagged (codes "play") (codes "all")).top =
-    c.in_ok-subcommand.ensures.shape c.in_ok-play.ensures.local ∙ ap₂ with_subcommand top_is (ap (λ (a : App). a.top) play_is) in
-    let two : app_of c.in_ok-subcommand-2.field-0 ≡ with_subcommand (with_subcommand alone (flagged (codes "play") (codes "all")).top) (flagged (codes "check") (codes "explain")).top =
-    c.in_ok-subcommand-2.ensures.shape c.in_ok-check.ensures.local ∙ ap₂ with_subcommand one (ap (λ (a : App). a.top) check_is) in
-    let three : app_of c.in_ok-subcommand-3.field-0 ≡ with_subcommand (with_subcommand (with_subcommand alone (flagged (codes "play") (codes "all")).top) (flagged (codes "check") (codes "explain")).top) running.top =
+    let one : app_of c.in_ok-subcommand.field-0 ≡ with_subcommand alone playing.top =
+    c.in_ok-subcommand.ensures.shape c.in_ok-play.ensures.local ∙ ap₂ with_subcommand top_is (ap (λ (a : App). a.top) c.in_ok-play.ensures.app) in
+    let two : app_of c.in_ok-subcommand-2.field-0 ≡ with_subcommand (with_subcommand alone playing.top) checked.top =
+    c.in_ok-subcommand-2.ensures.shape c.in_ok-check.ensures.local ∙ ap₂ with_subcommand one (ap (λ (a : App). a.top) c.in_ok-check.ensures.app) in
+    let three : app_of c.in_ok-subcommand-3.field-0 ≡ with_subcommand (with_subcommand (with_subcommand alone playing.top) checked.top) running.top =
     c.in_ok-subcommand-3.ensures.shape c.in_ok-run.ensures.local ∙ ap₂ with_subcommand two (ap (λ (a : App). a.top) c.in_ok-run.ensures.app) in
-    IfOk-weaker c.subcommand-6.result _ _ (λ r h. h.shape c.in_ok-audit.ensures.local ∙ ap₂ with_subcommand three (ap (λ (a : App). a.top) c.in_ok-audit.ensures.app)) c.subcommand-6.ensures
+    IfOk-weaker c.subcommand-4.result _ _ (λ r h. h.shape c.in_ok-audit.ensures.local ∙ ap₂ with_subcommand three (ap (λ (a : App). a.top) c.in_ok-audit.ensures.app)) c.subcommand-4.ensures

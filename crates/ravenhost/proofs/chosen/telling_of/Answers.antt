@@ -1,4 +1,4 @@
-use Rattle.std.proofs.Common.{◌≡◌, ◌∙◌, codes, ap, sym}
+use Rattle.std.proofs.Common.{◌∙◌, codes, ap, sym}
 use Rattle.clap.specs.Matches.{found_of}
 use Rattle.clap.proofs.WalkLemmas.{first_value-rows, one_text-rows}
 use Rattle.ravenhost.specs.Choices.{notes_of}

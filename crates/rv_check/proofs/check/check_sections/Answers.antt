@@ -1,23 +1,26 @@
-use Rattle.std.proofs.lemmas.Result.{err_from_is_err_and}
-use Rattle.rv_check.proofs.Checked.{at_first, one_said, stopped, all_said}
+use Rattle.std.proofs.Common.{refl}
+use Rattle.rv_text.specs.Sections.{SectionText}
+use Rattle.rv_check.specs.Checks.{checking}
+use Rattle.rv_check.proofs.Checked.{at_first, one_said, checked_stops, all_said}
 use Rattle.rv_check.proofs.check.check_sections.Goals as goal
 
 pub each-preserved : goal.each-preserved
 each-preserved g c =
-    one_said (g.W.Write.contents c.args.writer.now) (g.W.Write.contents c.each.writer) (g.W.Write.contents c.check_section.new.writer) c.each.catalogue c.check_section.new.catalogue _ c.each.sections c.next_section.new.self c.args.sections
-    c.in-Some.ensures.first c.each.invariant c.in_ok-check_section.ensures
+    let section : SectionText = record { line = c.in-Some.section.line; opening = c.in-Some.section.opening.now; text = c.in-Some.section.text.now } in
+    one_said checking (g.W.Write.contents c.args.writer.now) (g.W.Write.contents c.each.writer) (g.W.Write.contents c.check_section.new.writer) c.each.catalogue c.check_section.new.catalogue section c.each.sections c.next_section.new.self c.args.sections
+    refl c.in-Some.ensures.first c.each.invariant c.in-Ok.ensures
 
-pub returns-in_err-check_section : goal.returns-in_err-check_section
-returns-in_err-check_section g c =
-    let p = err_from_is_err_and c.from_residual.result c.from_residual.ensures.1 in
-    rw (p.1, p.2) (stopped (g.W.Write.contents c.args.writer.now) (g.W.Write.contents c.each.writer) (g.W.Write.contents c.check_section.new.writer) c.each.catalogue c.check_section.new.catalogue _ c.each.sections c.next_section.new.self c.args.sections
-    _ c.in-Some.ensures.first c.each.invariant c.in_err-check_section.ensures)
+pub returns-in-Err : goal.returns-in-Err
+returns-in-Err g c =
+    let section : SectionText = record { line = c.in-Some.section.line; opening = c.in-Some.section.opening.now; text = c.in-Some.section.text.now } in
+    checked_stops (g.W.Write.contents c.args.writer.now) (g.W.Write.contents c.each.writer) (g.W.Write.contents c.check_section.new.writer) c.each.catalogue c.check_section.new.catalogue section c.each.sections c.next_section.new.self c.args.sections
+    c.in-Err.failure c.in-Some.ensures.first c.each.invariant c.in-Err.ensures
 
 pub returns : goal.returns
 returns g c =
-    all_said (g.W.Write.contents c.args.writer.now) (g.W.Write.contents c.each.writer) c.each.catalogue c.each.sections c.args.sections
+    all_said checking (g.W.Write.contents c.args.writer.now) (g.W.Write.contents c.each.writer) c.each.catalogue c.each.sections c.args.sections
     c.in_default.ensures.none.0 c.each.invariant
 
 pub each-init : goal.each-init
 each-init g c =
-    at_first (g.W.Write.contents c.args.writer.now) c.new-catalogue.result c.args.sections c.new-catalogue.ensures
+    at_first checking (g.W.Write.contents c.args.writer.now) c.new-catalogue.result c.args.sections c.new-catalogue.ensures

@@ -1,0 +1,65 @@
+-- Devices that are loaded one after another.
+use Rattle.std.proofs.Common.{◌≡◌, ◌<◌, ◌+◌, ℕ, suc, length, get_or, drop, drop-cons, add-one, List, [], ◌∷◌, ◌++◌, map, Some, None, Option, Ok, Err, Result, refl, sym, ap, ◌∙◌, subst, append_assoc, append-nil}
+use Rattle.std.specs.Prelude.{Bool, true, false, if◌then◌else◌, option_map}
+use Rattle.rv_shape.specs.Shape.{Shape}
+use Rattle.rv_shape.specs.Fits.{fault}
+use Rattle.rv_shape.specs.declared.fault.ShapeFault.{ShapeFault}
+use Rattle.rv_settings.specs.Settings.{DeviceText}
+use Rattle.rv_fault.specs.Sections.{device_shape}
+use Rattle.rv_fault.specs.declared.failure.Failure.{Failure}
+use Rattle.rv_fault.specs.declared.failure.Failure.TheVariants.{Refused, Memory, Io}
+use Rattle.rv_fault.specs.declared.fault.What.{What}
+use Rattle.rv_fault.specs.declared.fault.What.TheVariants as Whats
+use Rattle.rv_check.specs.DeviceFaults.{DeviceEnds, LoadsAll, device_fault, devices_fault, is_callable, or_next, with_devices}
+
+-- what stands against a device whose call is loaded
+by_call : (shapes : List Shape) (device : DeviceText) (found : Option ShapeFault) → is_callable shapes device ≡ true → fault shapes (device_shape device) ≡ found → device_fault shapes device ≡ option_map Whats.Shape found
+by_call shapes device found call fits =
+    ap (λ (b : Bool). if b then option_map Whats.Shape (fault shapes (device_shape device)) else Some Whats.UnknownName) call ∙ ap (λ (o : Option ShapeFault). option_map Whats.Shape o) fits
+
+-- its unit doesn't fit
+pub device_clashes : (shapes : List Shape) (device : DeviceText) (shape : Shape) (told : ShapeFault) → is_callable shapes device ≡ true → shape ≡ device_shape device → fault shapes shape ≡ Some told → device_fault shapes device ≡ Some (Whats.Shape told)
+device_clashes shapes device shape told call is clash = by_call shapes device (Some told) call (ap (fault shapes) (sym is) ∙ clash)
+
+-- it is loaded
+pub device_loads : (shapes after : List Shape) (device : DeviceText) (shape : Shape) → is_callable shapes device ≡ true → shape ≡ device_shape device → fault shapes shape ≡ None → after ≡ shapes ++ shape ∷ []
+    → (device_fault shapes device ≡ None) × (after ≡ shapes ++ device_shape device ∷ [])
+device_loads shapes after device shape call is fits e =
+    (by_call shapes device None call (ap (fault shapes) (sym is) ∙ fits), e ∙ ap (λ (s : Shape). shapes ++ s ∷ []) is)
+
+-- what a device calls isn't loaded
+pub device_unknown : (shapes : List Shape) (device : DeviceText) → is_callable shapes device ≡ false → device_fault shapes device ≡ Some Whats.UnknownName
+device_unknown shapes device call = ap (λ (b : Bool). if b then option_map Whats.Shape (fault shapes (device_shape device)) else Some Whats.UnknownName) call
+
+-- the next of those that are left
+pub next_device : (all : List DeviceText) (i : ℕ) (device : DeviceText) → i < length all → device ≡ get_or all i device → drop i all ≡ device ∷ drop (i + 1) all
+next_device all i device within is =
+    subst (λ (n : ℕ). drop i all ≡ device ∷ drop n all) (sym (add-one i))
+    (subst (λ (d : DeviceText). drop i all ≡ d ∷ drop (suc i) all) (sym is) (drop-cons all i device within))
+
+-- what stands against those from the first on
+first_fault : (shapes : List Shape) (device : DeviceText) (left rest : List DeviceText) (found : Option What) → left ≡ device ∷ rest → device_fault shapes device ≡ found
+    → devices_fault shapes left ≡ or_next found (devices_fault (shapes ++ device_shape device ∷ []) rest)
+first_fault shapes device left rest found e h = ap (devices_fault shapes) e ∙ ap (λ (o : Option What). or_next o (devices_fault (shapes ++ device_shape device ∷ []) rest)) h
+
+-- one more is loaded
+pub fault_next : (first shapes after : List Shape) (device : DeviceText) (all left rest : List DeviceText) → left ≡ device ∷ rest → devices_fault first all ≡ devices_fault shapes left → device_fault shapes device ≡ None → after ≡ shapes ++ device_shape device ∷ []
+    → devices_fault first all ≡ devices_fault after rest
+fault_next first shapes after device all left rest e same none is =
+    same ∙ first_fault shapes device left rest None e none ∙ ap (λ (ss : List Shape). devices_fault ss rest) (sym is)
+
+pub with_next : (first shapes after : List Shape) (device : DeviceText) (all left rest : List DeviceText) → left ≡ device ∷ rest → with_devices first all ≡ with_devices shapes left → after ≡ shapes ++ device_shape device ∷ [] → with_devices first all ≡ with_devices after rest
+with_next first shapes after device all left rest e same is =
+    same ∙ ap (with_devices shapes) e ∙ sym (append_assoc shapes (device_shape device ∷ []) (map device_shape rest)) ∙ ap (λ (ss : List Shape). with_devices ss rest) (sym is)
+
+-- something stands against the next, or memory ran out
+pub device_stops : (line : ℕ) (first shapes after : List Shape) (device : DeviceText) (all left rest : List DeviceText) (e : Failure) → left ≡ device ∷ rest → devices_fault first all ≡ devices_fault shapes left
+    → (let r : Result (Unit {0}) Failure = Err e in DeviceEnds line shapes after device r) → let r : Result (Unit {0}) Failure = Err e in LoadsAll line first after all r
+device_stops line first shapes after device all left rest (Refused told) e same h = (same ∙ first_fault shapes device left rest (Some told.what) e h.0, h.1)
+device_stops line first shapes after device all left rest Memory e same h = tt
+device_stops line first shapes after device all left rest (Io error) e same h = absurd h
+
+-- none is left
+pub all_loaded : (first shapes : List Shape) (all left : List DeviceText) → left ≡ [] → devices_fault first all ≡ devices_fault shapes left → with_devices first all ≡ with_devices shapes left → (devices_fault first all ≡ None) × (shapes ≡ with_devices first all)
+all_loaded first shapes all left e faults same =
+    (faults ∙ ap (devices_fault shapes) e, sym (same ∙ ap (with_devices shapes) e ∙ append-nil shapes))

@@ -1,0 +1,10 @@
+use Rattle.std.proofs.Common.{◌≡◌, length}
+use Rattle.rv_check.specs.Purposes.{purpose_of}
+use Rattle.rv_check.proofs.purpose.purpose_of.Given as goal
+
+-- no section so far is one that one command alone takes
+abbrev pub invariant-each : goal.invariant-each
+invariant-each l = purpose_of l.fn.sections ≡ purpose_of l.sections
+
+abbrev pub decreases-each : goal.decreases-each
+decreases-each l = length l.sections

@@ -1,0 +1,44 @@
+-- Which command a script is for, and what that command makes of its sections (own).
+use Rattle.std.specs.Prelude.{Bool, true, false, List, [], ◌∷◌, Option, Some, None}
+use Rattle.rv_text.specs.Sections.{SectionText}
+use Rattle.rv_script.specs.Openings.{opening_of}
+use Rattle.rv_script.specs.declared.opening.Opening.{Opening}
+use Rattle.rv_script.specs.declared.opening.Opening.TheVariants as Openings
+use Rattle.rv_check.specs.declared.purpose.Purpose.{Purpose}
+use Rattle.rv_check.specs.declared.purpose.Purpose.TheVariants.{Play, Run, Audit}
+use Rattle.rv_check.specs.declared.purpose.Part.{Part}
+use Rattle.rv_check.specs.declared.purpose.Part.TheVariants.{AsChecked, Steps, Journal, Given, NotTaken, Commands}
+
+-- the command that alone takes a section of an opening
+abbrev pub taken_by : Option Opening → Option Purpose
+taken_by (Some Openings.Steps) = Some Play
+taken_by (Some Openings.Journal) = Some Audit
+taken_by (Some Openings.Run) = Some Run
+taken_by opening = None
+
+-- the first section that one command alone takes tells which command a script is for; without one it is for `play`
+abbrev pub or_later : Option Purpose → Purpose → Purpose
+or_later None later = later
+or_later (Some purpose) later = purpose
+
+abbrev pub purpose_of : List SectionText → Purpose
+purpose_of [] = Play
+purpose_of (section ∷ others) = or_later (taken_by (opening_of section.opening)) (purpose_of others)
+
+-- what each command makes of an opening; what isn't named is as `check` has it
+abbrev pub part_of : Purpose → Option Opening → Part
+part_of Play (Some Openings.Steps) = Steps
+part_of Run (Some Openings.Shape) = NotTaken
+part_of Run (Some Openings.Run) = Commands
+part_of Audit (Some Openings.Shape) = Given
+part_of Audit (Some Openings.AccessList) = NotTaken
+part_of Audit (Some Openings.Journal) = Journal
+part_of purpose opening = AsChecked
+
+abbrev pub part_in : Purpose → SectionText → Part
+part_in purpose section = part_of purpose (opening_of section.opening)
+
+-- commands come to the end of the script
+abbrev pub is_last : Part → Bool
+is_last Commands = true
+is_last part = false
