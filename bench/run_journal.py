@@ -141,6 +141,28 @@ def silent(program, folder):
     expect_that("what audit says", judged(program, file, FREE) == f"legal {whole.count(10)} entries\n", judged(program, file, FREE))
 
 
+def as_without(program, folder):
+    """The parts of run_pipe.py, each with a file: the same answers, and the file is all of the journal."""
+    plain, files = Run.__init__, []
+
+    def kept_run(run, run_program, script, words=(), **how):
+        files.append(os.path.join(folder, f"part{len(files)}"))
+        how_synced = ("each", "second", "never")[len(files) % 3]
+        plain(run, run_program, script, words=(*words, "--journal", files[-1], "--sync", how_synced), **how)
+    Run.__init__ = kept_run
+    try:
+        for part in (run_pipe.commands, run_pipe.device, run_pipe.two_devices, run_pipe.live, run_pipe.closed):
+            part(program)
+        run_pipe.midst(program, "quit\n", r"entries \d+\n")
+        run_pipe.midst(program, "", r"entries \d+\n")
+    finally:
+        Run.__init__ = plain
+    for file in files:
+        lines = text_of(file).splitlines()
+        run_pipe.numbered("a kept journal", lines)
+        expect_that("a kept journal ends in a halt, or behind it", any(" operator halt -> " in line for line in lines), lines[-1:])
+
+
 def kills(program, folder, times):
     """The program is killed at drawn moments: what stands is legal, but for a torn last line."""
     draw = random.Random(SEED)
@@ -219,7 +241,7 @@ def main():
         times, words = int(words[1]), words[2:]
     program = os.path.abspath(words[0]) if words else os.path.join(TOP, "crates/ravenhost/out/ravenhost")
     with tempfile.TemporaryDirectory() as folder:
-        for part in (transcript, refused_files, refused_scripts, silent, full_disk, synced):
+        for part in (transcript, refused_files, refused_scripts, silent, as_without, full_disk, synced):
             try:
                 part(program, folder)
             except BrokenPipeError:

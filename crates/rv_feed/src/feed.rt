@@ -50,7 +50,7 @@ pub struct Feed {
 }
 
 /// The two ends.
-pub fn feed(alloc: Global) -> Result<(Speaker, Feed), AllocError> {
+pub fn ends(alloc: Global) -> Result<(Speaker, Feed), AllocError> {
     let (sender, receiver) = bounded(alloc, PIECES)?;
     let speaker = Speaker {
         alloc,

@@ -4,5 +4,5 @@
 mod feed;
 mod listening;
 
-pub use feed::{Came, Feed, Speaker, feed};
+pub use feed::{Came, Feed, Speaker, ends};
 pub use listening::Listening;
