@@ -16,7 +16,7 @@ use Rattle.rv_fault.specs.declared.failure.Failure.TheVariants.{Refused, Memory,
 use Rattle.rv_fault.specs.declared.fault.What.TheVariants as Whats
 use Rattle.rv_fault.specs.declared.fault.ScriptFault.{ScriptFault}
 use Rattle.rv_fault.specs.Written.{Outcome, WritesSome, Writes, WritesScript, refused_bytes}
-use Rattle.rv_check.specs.Checks.{Finding, Judging, Telling, WritesOne, WritesPart, TellsSome, Tells, TellsAll, OfSection, Checks, ChecksSome, AreSettings, OfSettings, ChecksOpened, BeginsOpened, KeepsRefused, at_line, by_last, checking, outcome_of}
+use Rattle.rv_check.specs.Checks.{Finding, Judging, WritesOne, WritesPart, Tells, TellsAll, OfSection, Checks, ChecksSome, AreSettings, OfSettings, ChecksOpened, BeginsOpened, KeepsRefused, at_line, by_last, checking, outcome_of}
 
 -- what a section is told as whose fault is told at its line
 pub told_at : (old new : Option (List ℕ)) (line : ℕ) (finds : Finding) (r : Result (Unit {0}) Failure) → Tells old new line finds r → WritesOne old new (at_line line finds) r

@@ -16,7 +16,7 @@ use Rattle.rv_fault.specs.declared.fault.What.{What}
 use Rattle.rv_fault.specs.declared.fault.What.TheVariants as Whats
 use Rattle.rv_fault.specs.declared.fault.ScriptFault.{ScriptFault}
 use Rattle.rv_fault.specs.Sections.{GivesSettings, Just, Reads, if_shape, line_of}
-use Rattle.rv_fault.specs.Written.{Puts, Writes, WritesSome}
+use Rattle.rv_fault.specs.Written.{Puts, Writes}
 use Rattle.rv_check.specs.declared.purpose.Purpose.{Purpose}
 use Rattle.rv_check.specs.Checks.{Telling, TellsAll, WritesOne, shape_line}
 use Rattle.rv_check.specs.CommandLines.{CountsCommands, TakesAll, before_commands}

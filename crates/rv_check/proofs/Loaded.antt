@@ -1,5 +1,5 @@
 -- Devices that are loaded one after another.
-use Rattle.std.proofs.Common.{◌≡◌, ◌<◌, ◌+◌, ℕ, suc, length, get_or, drop, drop-cons, add-one, List, [], ◌∷◌, ◌++◌, map, Some, None, Option, Ok, Err, Result, refl, sym, ap, ◌∙◌, subst, append_assoc, append-nil}
+use Rattle.std.proofs.Common.{◌≡◌, ◌<◌, ◌+◌, ℕ, suc, length, get_or, drop, drop-cons, add-one, List, [], ◌∷◌, ◌++◌, map, Some, None, Option, Err, Result, sym, ap, ◌∙◌, subst, append_assoc, append-nil}
 use Rattle.std.specs.Prelude.{Bool, true, false, if◌then◌else◌, option_map}
 use Rattle.rv_shape.specs.Shape.{Shape}
 use Rattle.rv_shape.specs.Fits.{fault}

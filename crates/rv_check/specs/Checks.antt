@@ -13,7 +13,6 @@ use Rattle.rv_shape.specs.declared.fault.ShapeFault.{ShapeFault}
 use Rattle.rv_shape.specs.declared.fault.ShapeFault.TheVariants.{BadText}
 use Rattle.rv_shape.specs.declared.fault.ShapeFault.TheVariants as Shapes
 use Rattle.rv_unit.specs.Compiles.{IsUnit, IsRefused as IsNoUnit}
-use Rattle.rv_unit.specs.declared.fault.UnitFault.{UnitFault}
 use Rattle.rv_unit.specs.declared.fault.UnitFault.TheVariants as Units
 use Rattle.rv_script.specs.Openings.{OpenedText, opened, opening_of}
 use Rattle.rv_script.specs.Prefixes.{WritesPrefix}

@@ -1,5 +1,5 @@
 -- What stands against the devices of settings, as a run loads them behind its sections (own).
-use Rattle.std.specs.Prelude.{◌≡◌, ℕ, Bool, true, false, if◌then◌else◌, List, [], ◌∷◌, ◌++◌, map, length, ◌==◌, Option, Some, None, option_map, Result, Ok, Err}
+use Rattle.std.specs.Prelude.{◌≡◌, ℕ, Bool, true, false, if◌then◌else◌, List, [], ◌∷◌, ◌++◌, map, length, ◌==◌, Option, Some, None, option_map, Ok, Err}
 use Rattle.rv_shape.specs.Shape.{Shape}
 use Rattle.rv_shape.specs.Fits.{fault}
 use Rattle.rv_shape.specs.Names.{object_number, operation_number}
@@ -8,11 +8,9 @@ use Rattle.rv_shape.specs.Readers.{target_of}
 use Rattle.rv_shape.specs.declared.actor.Callee.{Callee}
 use Rattle.rv_settings.specs.Settings.{DeviceText}
 use Rattle.rv_fault.specs.Sections.{device_shape}
-use Rattle.rv_fault.specs.declared.failure.Failure.{Failure}
 use Rattle.rv_fault.specs.declared.failure.Failure.TheVariants.{Refused, Memory, Io}
 use Rattle.rv_fault.specs.declared.fault.What.{What}
 use Rattle.rv_fault.specs.declared.fault.What.TheVariants as Whats
-use Rattle.rv_fault.specs.declared.fault.ScriptFault.{ScriptFault}
 use Rattle.rv_fault.specs.Written.{Ended}
 
 -- a call takes no values

@@ -12,7 +12,6 @@ use Rattle.rv_shape.specs.declared.fault.ShapeFault.TheVariants.{BadText}
 use Rattle.rv_script.specs.Openings.{OpenedText, opened}
 use Rattle.rv_settings.specs.Settings.{DeviceText, SettingsText}
 use Rattle.rv_fault.specs.Sections.{GivesSettings, line_of}
-use Rattle.rv_fault.specs.declared.fault.What.{What}
 use Rattle.rv_fault.specs.declared.fault.What.TheVariants as Whats
 use Rattle.rv_fault.specs.declared.fault.ScriptFault.{ScriptFault}
 use Rattle.rv_fault.specs.Written.{Outcome}

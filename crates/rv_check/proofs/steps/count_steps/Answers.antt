@@ -1,6 +1,5 @@
-use Rattle.std.proofs.Common.{◌+◌, arith, rules, sym, ap, ◌∙◌}
+use Rattle.std.proofs.Common.{◌+◌, arith, rules}
 use Rattle.std.specs.Str.Lines.{lines}
-use Rattle.rv_check.specs.StepFaults.{steps_count}
 use Rattle.rv_check.proofs.Stepping.{fault_behind, count_behind, counts_not}
 use Rattle.rv_check.proofs.steps.count_steps.Goals as goal
 
