@@ -1,5 +1,7 @@
 //! The two ends of an input that a thread reads.
 
+ghost use Rattle.std.specs.Prelude.{◌≤◌, IfOk, length};
+
 use crossbeam_channel::{Receiver, Sender, TryRecvError, bounded};
 use rv_input::{Input, InputFault};
 use std::alloc::{AllocError, Global};
@@ -126,7 +128,9 @@ impl Feed {
     }
 
     // Takes bytes of a piece, as many as a buffer holds, and keeps the others.
-    fn take(&mut self, bytes: &[u8], buf: &mut [u8]) -> io::Result<usize> {
+    fn take(&mut self, bytes: &[u8], buf: &mut [u8]) -> io::Result<usize>
+        ensures { IfOk result (λ count. count ≤ length buf.new) }
+    {
         let count = bytes.len().min(buf.len());
         let (first, others) = bytes.split_at(count);
         buf[..count].copy_from_slice(first);
@@ -141,7 +145,9 @@ impl Feed {
     ///
     /// # Errors
     /// As the read that failed, or for want of memory.
-    pub(crate) fn read<R: Wait>(&mut self, rt: &R, buf: &mut [u8]) -> io::Result<usize> {
+    pub(crate) fn read<R: Wait>(&mut self, rt: &R, buf: &mut [u8]) -> io::Result<usize>
+        ensures { IfOk result (λ count. count ≤ length buf.new) }
+    {
         if self.rest.len() > 0 {
             let rest = mem::replace(&mut self.rest, Vec::new(self.alloc));
             return self.take(rest.as_slice(), buf);
