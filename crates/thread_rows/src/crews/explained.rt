@@ -4,6 +4,7 @@ use crate::crews::journal::Journal;
 use crate::crews::texts::Scene;
 use crate::host::CAPACITY;
 use rv_access::read_list;
+use rv_code::Unit;
 use rv_ends::tally::Tally;
 use rv_event::entry::{Entry, Request};
 use rv_fault::unit_of;
@@ -35,8 +36,8 @@ impl Explained {
 
 // Loads the unit of a text.
 fn load_text(alloc: Global, tally: &mut Tally, text: &str) -> Option<()> {
-    let unit = unit_of(alloc, tally.catalogue(), 1, text).ok()?;
-    tally.load(&unit.shape, unit.bodies).ok()
+    let Unit { shape, bodies } = unit_of(alloc, tally.catalogue(), 1, text).ok()?;
+    tally.load(&shape, bodies).ok()
 }
 
 // The units of a scene, under its list, before anything was asked.
