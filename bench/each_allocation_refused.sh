@@ -6,7 +6,8 @@
 # - `audit`, on rows: journals that are legal and that aren't, over shapes, unit texts and devices;
 # - `audit --journal`, with and without `--torn`, on rows whose journal is a file;
 # - `run`, on commands to a host without threads, and on examples/plant.raven.
-# Of all but `run` each must end with status 3, want of memory, and must have written a front of the whole output. A `run` must
+# Of all but `run` each must end with status 3, want of memory, and must have written a front of the whole output; where only the
+# explanation of a fault wants memory, the fault is told with status 1. A `run` must
 # end in a minute, with status 3, or with 0 and its last line. Each line must be an answer, `nomemory` among them; and `audit`
 # must find the journal that it printed legal. Without threads a run that ends with 0 has answered each command with one line.
 # Some of `check`, `play`, `audit`, `run` may be named, or scripts be given for `check --explain` alone, and before them
@@ -35,17 +36,23 @@ refuse() {
         >"$folder/written" 2>"$folder/error" 9>"$folder/none" || status=$?
 }
 
+# Whether a fault was told as it should be, with its status and all output, and only its explanation was cut short.
+lacks_explanation() {
+    [ "$status" -eq "$1" ] && [ "$1" -eq 1 ] && cmp -s "$folder/written" "$folder/whole" &&
+        [ "$(head -n 1 "$folder/error")" = "$(head -n 1 "$folder/told")" ]
+}
+
 # Refuses each allocation over one script in turn. The words of the command line follow.
 refuse_each() {
     local script=$1 number=0 status=0 due
     shift
-    "$program" "$@" <"$script" >"$folder/whole" 2>/dev/null || status=$?
+    "$program" "$@" <"$script" >"$folder/whole" 2>"$folder/told" || status=$?
     due=$status
     while true; do
         number=$((number + 1))
         refuse "$script" "$number" "$@"
         if [ -s "$folder/none" ]; then break; fi
-        [ "$status" -eq 3 ] || fail "$* < $script: allocation $number refused: status $status"
+        [ "$status" -eq 3 ] || lacks_explanation "$due" || fail "$* < $script: allocation $number refused: status $status"
         cmp -s -n "$(stat -c %s "$folder/written")" "$folder/written" "$folder/whole" ||
             fail "$* < $script: allocation $number refused: other output"
     done
