@@ -139,7 +139,7 @@ of_check() {
         set -- "$@" "${first%.fault}.raven"
     done
     for script in "$@"; do refuse_each "$script" check --explain; done
-    tell "check --explain" "$front"
+    tell "check --explain" "$front, or the fault alone"
 }
 
 of_play() {
@@ -222,6 +222,6 @@ case ${1:-} in
     "") for part in check play audit run; do "of_$part"; done ;;
     *)
         for script in "$@"; do refuse_each "$script" check --explain; done
-        tell "check --explain" "$front"
+        tell "check --explain" "$front, or the fault alone"
         ;;
 esac
