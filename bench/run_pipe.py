@@ -92,8 +92,8 @@ def looper(name):
 class Run:
     """A run of the program with its input and output in hand."""
 
-    def __init__(self, program, script, **how):
-        self.process = subprocess.Popen([program, "run"], stdin=subprocess.PIPE, stdout=subprocess.PIPE,
+    def __init__(self, program, script, words=(), **how):
+        self.process = subprocess.Popen([program, "run", *words], stdin=subprocess.PIPE, stdout=subprocess.PIPE,
                                         stderr=subprocess.PIPE, **how)
         self.send(script)
 

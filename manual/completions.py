@@ -17,7 +17,7 @@ HELP, VERSION = ("-h", "--help"), ("-V", "--version")
 
 # What completes a value of no listed words, by the name that the help gives it.
 FILES, FOLDERS = "files", "folders"
-VALUES = {"FILE": FILES, "PREFIX": FOLDERS, "WHEN": ("auto", "always", "never")}
+VALUES = {"FILE": FILES, "PREFIX": FOLDERS, "WHEN": ("auto", "always", "never"), "HOW": ("each", "second", "never")}
 
 
 class Flag:

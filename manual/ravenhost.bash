@@ -7,7 +7,7 @@ _ravenhost_flags() {
         "") echo "-h --help -V --version" ;;
         play) echo "--all --notes --warnings-are-errors -h --help" ;;
         check) echo "--explain --script --notes --warnings-are-errors -h --help" ;;
-        run) echo "--notes --warnings-are-errors -h --help" ;;
+        run) echo "--journal --sync --notes --warnings-are-errors -h --help" ;;
         audit) echo "--journal --torn --explain -h --help" ;;
     esac
 }
@@ -26,6 +26,7 @@ _ravenhost_value() {
         --install) echo "folders" ;;
         --notes) echo "auto always never" ;;
         --journal) echo "files" ;;
+        --sync) echo "each second never" ;;
     esac
 }
 

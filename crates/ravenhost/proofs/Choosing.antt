@@ -1,6 +1,6 @@
 -- What `clap` finds of a command line, as a choice.
-use Rattle.std.proofs.Common.{◌≡◌, ◌∷◌, List, Option, Some, None, Bool, true, false, true≢false, codes, slice_index, ap, ap₂, sym, ◌∙◌, refl, subst}
-use Rattle.std.specs.Prelude.{◌==◌, is_some, option_map, unwrap_or}
+use Rattle.std.proofs.Common.{◌≡◌, ◌∷◌, inl, inr, List, Option, Some, None, Bool, true, false, true≢false, codes, slice_index, ap, ap₂, sym, ◌∙◌, refl, subst}
+use Rattle.std.specs.Prelude.{◌==◌, ◌⊎◌, is_some, option_map, unwrap_or}
 use Rattle.clap.specs.Words.{is_simple, subcommand_of, takes}
 use Rattle.clap.specs.Walk.{Row, Text, first_of, one_of}
 use Rattle.clap.proofs.OnLiterals.{clap_on_literals}
@@ -8,7 +8,8 @@ use Rattle.ravenhost.specs.declared.chosen.Choice.{Choice}
 use Rattle.ravenhost.specs.declared.chosen.Choice.TheVariants.{Play, Check, Run, Audit, AuditFile}
 use Rattle.ravenhost.specs.declared.chosen.Notes.{Notes}
 use Rattle.ravenhost.specs.declared.chosen.Notes.TheVariants.{Auto}
-use Rattle.ravenhost.specs.Choices.{HasNoWord, IsExplaining, IsFlag, IsJournal, IsNoted, Names, NamesNone, audit_of, line_of, notes_of, program}
+use Rattle.ravenhost.specs.declared.chosen.Sync.TheVariants.{Second}
+use Rattle.ravenhost.specs.Choices.{HasNoFile, HasNoWord, IsExplaining, IsFlag, IsJournal, IsKeeping, IsNoted, Names, NamesNone, audit_of, line_of, notes_of, program, sync_of}
 
 -- The subcommand that was found, from its name and its rows.
 
@@ -140,6 +141,23 @@ has_word q found e f none =
     let both : Some Auto ≡ None = sym (ap notes_of is) ∙ none in
     absurd cc
 
+-- no word for syncs
+abbrev sync_in : Option (Text × List Row) → Option (Option Text)
+sync_in = option_map (λ (p : Text × List Row). first_of (codes "sync") p.1)
+
+run_sync : (name : Text) → sync_in (subcommand_of program (name ∷ line_of Run)) ≡ Some None
+unfolding clap_on_literals
+run_sync name = refl
+
+has_file : (q : Option (Text × List Row)) (found : Text × List Row) → q ≡ Some found → sync_in q ≡ Some None → HasNoFile found.1 → ⊥
+has_file q found e f none = wrong none
+  where
+    is : first_of (codes "sync") found.1 ≡ None
+    is = ap (λ (o : Option (Option Text)). unwrap_or o None) (sym (ap sync_in e) ∙ f)
+    wrong : HasNoFile found.1 → ⊥
+    wrong (inl word) = let both : Some Second ≡ None = sym (ap sync_of is) ∙ word in absurd cc
+    wrong (inr file) = file.1 is
+
 -- a flag that has this text is it
 by_flag : (one other : Bool) (text : Option Text) → text ≡ Some (flag_text one) → IsFlag text other → other ≡ one
 by_flag true other text f n = n.0 f
@@ -229,7 +247,11 @@ none_chosen : (name : Text) (choice : Choice) (m : Option (Text × List Row)) �
     → (found : Text × List Row) → m ≡ Some found → found.0 ≡ word_of choice → ⊥
 none_chosen name (Play all) m e none found is w = has_word _ found (sym e ∙ is) (play_notes name all) ((none found is).0 w)
 none_chosen name (Check explain whole) m e none found is w = has_word _ found (sym e ∙ is) (check_notes name explain whole) ((none found is).1 w)
-none_chosen name Run m e none found is w = has_word _ found (sym e ∙ is) (run_notes name) ((none found is).2 w)
+none_chosen name Run m e none found is w = no_wrong ((none found is).2 w)
+  where
+    no_wrong : HasNoWord found.1 ⊎ HasNoFile found.1 → ⊥
+    no_wrong (inl word) = has_word _ found (sym e ∙ is) (run_notes name) word
+    no_wrong (inr file) = has_file _ found (sym e ∙ is) (run_sync name) file
 none_chosen name Audit m e none found is w =
     let n = (none found is).3 w in
     true≢false (n.0.1 (row_found (codes "torn") (Some (flag_text false)) _ found (sym e ∙ is) (no_torn name)))
@@ -297,7 +319,7 @@ check_wrong m found is w none other f =
     let same : found ≡ other = ap (λ (o : Option (Text × List Row)). unwrap_or o found) (sym is ∙ f) in
     subst NamesNone same (λ p. absurd (no_check (sym p ∙ w)), λ _. none, λ p. absurd (check_no_run (sym w ∙ p)), λ p. absurd (check_no_audit (sym w ∙ p)))
 
-pub run_wrong : (m : Option (Text × List Row)) (found : Text × List Row) → m ≡ Some found → found.0 ≡ codes "run" → HasNoWord found.1 → (other : Text × List Row) → m ≡ Some other → NamesNone other
+pub run_wrong : (m : Option (Text × List Row)) (found : Text × List Row) → m ≡ Some found → found.0 ≡ codes "run" → HasNoWord found.1 ⊎ HasNoFile found.1 → (other : Text × List Row) → m ≡ Some other → NamesNone other
 run_wrong m found is w none other f =
     let same : found ≡ other = ap (λ (o : Option (Text × List Row)). unwrap_or o found) (sym is ∙ f) in
     subst NamesNone same (λ p. absurd (no_run (sym p ∙ w)), λ p. absurd (check_no_run (sym p ∙ w)), λ _. none, λ p. absurd (run_no_audit (sym w ∙ p)))
@@ -317,3 +339,11 @@ explaining found (Check explain whole) explains w n flag = absurd (check_no_audi
 explaining found Run explains w n flag = absurd (run_no_audit (sym n ∙ w))
 explaining found Audit explains w n flag = flag
 explaining found (AuditFile torn) explains w n flag = flag
+
+-- it keeps no journal
+pub unkept : (found : Text × List Row) (choice : Choice) → found.0 ≡ codes "audit" → Names found choice → IsKeeping found choice None
+unkept found (Play all) w n = refl
+unkept found (Check explain whole) w n = refl
+unkept found Run w n = absurd (run_no_audit (sym n ∙ w))
+unkept found Audit w n = refl
+unkept found (AuditFile torn) w n = refl

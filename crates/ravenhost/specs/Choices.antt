@@ -1,7 +1,7 @@
--- The command line (own): `play`, which may be given `--all`, `check`, which may be given `--explain` and `--script`, and `run`, all
--- three with `--notes WHEN` and `--warnings-are-errors`; and `audit`, which may be given `--journal FILE` and, with it, `--torn`, and
+-- The command line (own): `play`, which may be given `--all`, `check`, which may be given `--explain` and `--script`, and `run`, which
+-- may be given `--journal FILE` and, with it, `--sync HOW`, all three with `--notes WHEN` and `--warnings-are-errors`; and `audit`, which may be given `--journal FILE` and, with it, `--torn`, and
 -- `--explain`. What words come to is what `clap` says of this command.
-use Rattle.std.specs.Prelude.{◌≡◌, Bool, true, false, if◌then◌else◌, List, [], ◌∷◌, Option, Some, None, codes}
+use Rattle.std.specs.Prelude.{◌≡◌, ◌⊎◌, Bool, true, false, if◌then◌else◌, List, [], ◌∷◌, Option, Some, None, codes}
 use Rattle.std.specs.Str.{bytes_eq}
 use Rattle.clap.specs.Words.{App, Row, Rule, new_app, new_rule, subcommand_of, with_rule, with_subcommand}
 use Rattle.clap.specs.Simple.{on_top}
@@ -10,7 +10,10 @@ use Rattle.clap.specs.declared.builder.action.ArgAction.TheVariants.{Set, SetTru
 use Rattle.ravenhost.specs.declared.chosen.Choice.{Choice}
 use Rattle.ravenhost.specs.declared.chosen.Choice.TheVariants.{Play, Check, Run, Audit, AuditFile}
 use Rattle.ravenhost.specs.declared.chosen.Notes.{Notes}
-use Rattle.ravenhost.specs.declared.chosen.Notes.TheVariants.{Auto, Always, Never}
+use Rattle.ravenhost.specs.declared.chosen.Notes.TheVariants.{Auto, Always}
+use Rattle.ravenhost.specs.declared.chosen.Notes.TheVariants as NotesWords
+use Rattle.ravenhost.specs.declared.chosen.Sync.{Sync}
+use Rattle.ravenhost.specs.declared.chosen.Sync.TheVariants.{Each, Second, Never}
 use Rattle.ravenhost.specs.declared.chosen.Unchosen.{Unchosen}
 use Rattle.ravenhost.specs.declared.chosen.Unchosen.TheVariants.{Usage, Unknown, NoMemory}
 
@@ -32,13 +35,18 @@ playing = with_notes (with_rule (new_app (codes "play")) (flag_rule (codes "all"
 abbrev pub checked : App
 checked = with_notes (with_rule (with_rule (new_app (codes "check")) (flag_rule (codes "explain"))) (flag_rule (codes "script")))
 
-abbrev pub running : App
-running = with_notes (new_app (codes "run"))
-
--- `audit`, which may be given the name of a file, and two flags
+-- the name of a file, and when it is synced
 abbrev pub file_rule : Rule
 file_rule = record (new_rule (codes "journal")) { long = Some (codes "journal"); action = Some Set; value_names = 1 }
 
+abbrev pub sync_rule : Rule
+sync_rule = record (new_rule (codes "sync")) { long = Some (codes "sync"); action = Some Set; value_names = 1 }
+
+-- `run`, which may keep its journal in a file
+abbrev pub running : App
+running = with_notes (with_rule (with_rule (new_app (codes "run")) file_rule) sync_rule)
+
+-- `audit`, which may be given the name of a file, and two flags
 abbrev pub judging : App
 judging = with_rule (with_rule (new_app (codes "audit")) file_rule) (flag_rule (codes "torn"))
 
@@ -81,7 +89,7 @@ notes_of None = Some Auto
 notes_of (Some word) =
     if bytes_eq word (codes "auto") then Some Auto
     else if bytes_eq word (codes "always") then Some Always
-    else if bytes_eq word (codes "never") then Some Never
+    else if bytes_eq word (codes "never") then Some NotesWords.Never
     else None
 
 -- when they are told, and whether they are errors, by what a subcommand was given
@@ -101,6 +109,29 @@ IsExplaining found Audit explains = IsFlag (one_of (codes "explain") found.1) ex
 IsExplaining found (AuditFile torn) explains = IsFlag (one_of (codes "explain") found.1) explains
 IsExplaining found choice explains = explains ≡ false
 
+-- when a file is synced, by the word that is given, if it is one of these
+abbrev pub sync_of : Option Text → Option Sync
+sync_of None = Some Second
+sync_of (Some word) =
+    if bytes_eq word (codes "each") then Some Each
+    else if bytes_eq word (codes "second") then Some Second
+    else if bytes_eq word (codes "never") then Some Never
+    else None
+
+-- the file that a journal is kept in, and when it is synced; without a file no word says when
+abbrev pub Keeps : List Row → Option (Text × Sync) → Type 0
+Keeps rows None = (first_of (codes "journal") rows ≡ None) × (first_of (codes "sync") rows ≡ None)
+Keeps rows (Some kept) = (first_of (codes "journal") rows ≡ Some kept.0) × (sync_of (first_of (codes "sync") rows) ≡ Some kept.1)
+
+-- the same, for `run` alone
+abbrev pub IsKeeping : Text × List Row → Choice → Option (Text × Sync) → Type 0
+IsKeeping found Run kept = Keeps found.1 kept
+IsKeeping found choice kept = kept ≡ None
+
+-- the word that says when is another, or there is no file
+abbrev pub HasNoFile : List Row → Type 0
+HasNoFile rows = (sync_of (first_of (codes "sync") rows) ≡ None) ⊎ ((first_of (codes "journal") rows ≡ None) × (first_of (codes "sync") rows ≡ None → ⊥))
+
 -- the word that was given is another
 abbrev pub HasNoWord : List Row → Type 0
 HasNoWord rows = notes_of (first_of (codes "notes") rows) ≡ None
@@ -113,13 +144,15 @@ audit_of false false = Some Audit
 
 -- no choice has the name of what was found, or notes have another word, or it has the flag of `audit` without a file
 abbrev pub NamesNone : Text × List Row → Type 0
-NamesNone found = (found.0 ≡ codes "play" → HasNoWord found.1) × (found.0 ≡ codes "check" → HasNoWord found.1) × (found.0 ≡ codes "run" → HasNoWord found.1)
+NamesNone found = (found.0 ≡ codes "play" → HasNoWord found.1) × (found.0 ≡ codes "check" → HasNoWord found.1) × (found.0 ≡ codes "run" → HasNoWord found.1 ⊎ HasNoFile found.1)
     × (found.0 ≡ codes "audit" → IsFlag (one_of (codes "torn") found.1) true × (first_of (codes "journal") found.1 ≡ None))
 
--- the words name a choice, a file where there is one, what becomes of notes, and whether ends are explained
-abbrev pub Chooses : List Text → Choice → Option Text → Notes → Bool → Bool → Type 0
-Chooses words choice file notes errors explains = (found : Text × List Row) × (subcommand_of program words ≡ Some found)
+-- the words name a choice, a file that is judged where there is one, what becomes of notes, whether ends are explained, and the file
+-- that a journal is kept in
+abbrev pub Chooses : List Text → Choice → Option Text → Notes → Bool → Bool → Option (Text × Sync) → Type 0
+Chooses words choice file notes errors explains kept = (found : Text × List Row) × (subcommand_of program words ≡ Some found)
     × Names found choice × IsJournal found file × IsNoted found choice notes errors × IsExplaining found choice explains
+    × IsKeeping found choice kept
 
 -- where `clap` takes the words, nothing is chosen only for want of memory, or where its matches name no choice
 abbrev pub Lacks : List Text → Unchosen → Type 0

@@ -6,7 +6,7 @@ ghost use Rattle.clap.specs.Matches.{found_of};
 ghost use Rattle.clap.specs.Walk.{Row, Text, rows_of};
 ghost use Rattle.clap.specs.declared.builder.command.Command.TheViews.{out-Command as fields_of};
 ghost use Rattle.ravenhost.specs.declared.chosen.Unchosen.TheVariants as Unchosen;
-ghost use Rattle.ravenhost.specs.Choices.{Chooses, HasNoWord, IsExplaining, IsJournal, IsNoted, Lacks, Names, NamesNone, Tells, audit_of, audited, checked, flag_rule, judging, line_of, notes_of, notes_rule, playing, program, running, with_notes};
+ghost use Rattle.ravenhost.specs.Choices.{Chooses, HasNoFile, HasNoWord, IsExplaining, IsJournal, IsKeeping, IsNoted, Keeps, Lacks, Names, NamesNone, Tells, audit_of, audited, checked, flag_rule, judging, line_of, notes_of, notes_rule, playing, program, running, sync_of, with_notes};
 
 use clap::error::ErrorKind;
 use clap::{Arg, ArgAction, ArgMatches, Command, Error};
@@ -37,6 +37,26 @@ pub enum Notes {
     Never,
 }
 
+/// When the file of a journal is synced with its disk.
+#[derive(Clone, Copy, Debug, Drop, PartialEq, Eq)]
+pub enum Sync {
+    /// Behind each page that is written.
+    Each,
+    /// Where a second went by since the last time.
+    Second,
+    /// Not at all.
+    Never,
+}
+
+/// The file that a run's journal is kept in.
+#[derive(Clone, Copy, Drop)]
+pub struct KeptFile<'a> {
+    /// Its name.
+    pub name: &'a str,
+    /// When it is synced.
+    pub sync: Sync,
+}
+
 /// What the words of a command line choose.
 #[derive(Clone, Copy, Drop)]
 pub struct Selection<'a> {
@@ -50,6 +70,8 @@ pub struct Selection<'a> {
     pub journal: Option<&'a str>,
     /// Whether the ends of bodies in a journal are explained.
     pub explains: bool,
+    /// The file that a run's journal is kept in, where one is given.
+    pub kept: Option<KeptFile<'a>>,
 }
 
 /// Why the words of a command line choose nothing.
@@ -57,7 +79,7 @@ pub struct Selection<'a> {
 pub enum Unchosen {
     /// They are no command line, or ask for help, which this prints.
     Usage(Error),
-    /// There is no subcommand of this name, `--torn` stands without a file, or `--notes` has another word.
+    /// There is no subcommand of this name, `--torn` or `--sync` stands without a file, or `--notes` or `--sync` has another word.
     Unknown,
     /// Memory was refused.
     NoMemory,
@@ -150,11 +172,25 @@ fn run_subcommand<'a>(alloc: Global) -> Result<Command<'a>, AllocError>
     ensures app { IfOk result (λ c. app_of c ≡ running) }
     ensures local { IfOk result (λ c. (fields_of c).has_globals ≡ false) }
 {
+    let journal = Arg::new(alloc, "journal")
+        .long("journal")
+        .value_name("FILE")
+        .help("Write the journal into this file as it comes; the file must be new or empty")
+        .action(ArgAction::Set);
+    let sync = Arg::new(alloc, "sync")
+        .long("sync")
+        .value_name("HOW")
+        .help(
+            "With --journal: when the file is synced with its disk: each (before each answer), second or never",
+        )
+        .action(ArgAction::Set);
     let command = Command::new(alloc, "run")
         .about(
             "Run the host of a script from standard input, and serve the commands that follow its line @run",
         )
-        .after_help("Example: ravenhost run < examples/plant.raven");
+        .after_help("Example: ravenhost run < examples/plant.raven")
+        .arg(journal)?
+        .arg(sync)?;
     noted(alloc, command)
 }
 
@@ -256,13 +292,51 @@ fn telling_of(words: &ArgMatches<'_>) -> Option<(Notes, bool)>
     }
 }
 
+// When a file is synced, by the word that was given; none for another word.
+fn sync_of(word: Option<&str>) -> Option<Sync>
+    ensures { result ≡ sync_of (option_map (λ w. w.now) word.entry) }
+{
+    let Some(word) = word else {
+        return Some(Sync::Second);
+    };
+    if word == "each" {
+        return Some(Sync::Each);
+    }
+    if word == "second" {
+        return Some(Sync::Second);
+    }
+    if word == "never" {
+        return Some(Sync::Never);
+    }
+    None
+}
+
+// The file that a run's journal is kept in, if one is given; none where the word for its sync is another, or has no file.
+fn kept_of<'a>(words: &ArgMatches<'a>) -> Option<Option<KeptFile<'a>>>
+    ensures some { IfSome result (λ kept. Keeps (rows_of (found_of words.now)) (option_map (λ k. (k.name.now, k.sync)) kept)) }
+    ensures none { IfNone result (HasNoFile (rows_of (found_of words.now))) }
+{
+    let word = words.get_str("sync");
+    let Some(sync) = sync_of(word) else {
+        return None;
+    };
+    match words.get_str("journal") {
+        Some(name) => Some(Some(KeptFile { name, sync })),
+        None => match word {
+            Some(_) => None,
+            None => Some(None),
+        },
+    }
+}
+
 // What a command line that was read chooses.
 fn choice_of<'a>(matches: &ArgMatches<'a>) -> Option<Selection<'a>>
     ensures found { IfSome result (λ chosen. (found : Text × List Row)
         × (subcommand_rows_of matches.now ≡ Some found) × Names found chosen.choice
         × IsJournal found (option_map (λ s. s.now) chosen.journal)
         × IsNoted found chosen.choice chosen.notes chosen.are_errors
-        × IsExplaining found chosen.choice chosen.explains) }
+        × IsExplaining found chosen.choice chosen.explains
+        × IsKeeping found chosen.choice (option_map (λ k. (k.name.now, k.sync)) chosen.kept)) }
     ensures none { IfNone result ((found : Text × List Row) → subcommand_rows_of matches.now ≡ Some found
         → NamesNone found) }
 {
@@ -275,6 +349,7 @@ fn choice_of<'a>(matches: &ArgMatches<'a>) -> Option<Selection<'a>>
             are_errors: playing.1,
             journal: None,
             explains: false,
+            kept: None,
         });
     }
     if name == "check" {
@@ -285,16 +360,19 @@ fn choice_of<'a>(matches: &ArgMatches<'a>) -> Option<Selection<'a>>
             are_errors: checking.1,
             journal: None,
             explains: false,
+            kept: None,
         });
     }
     if name == "run" {
         let running = telling_of(words)?;
+        let kept = kept_of(words)?;
         return Some(Selection {
             choice: Choice::Run,
             notes: running.0,
             are_errors: running.1,
             journal: None,
             explains: false,
+            kept,
         });
     }
     if name == "audit" {
@@ -307,6 +385,7 @@ fn choice_of<'a>(matches: &ArgMatches<'a>) -> Option<Selection<'a>>
             are_errors: false,
             journal,
             explains,
+            kept: None,
         });
     }
     None
@@ -315,7 +394,8 @@ fn choice_of<'a>(matches: &ArgMatches<'a>) -> Option<Selection<'a>>
 /// What the words of a command line choose, the first of which is the program's name.
 pub fn chosen<'a>(alloc: Global, words: &'a [&'a str]) -> Result<Selection<'a>, Unchosen>
     ensures ok { IfOk result (λ chosen. Chooses (map (λ w. w.now) words.now) chosen.choice
-        (option_map (λ s. s.now) chosen.journal) chosen.notes chosen.are_errors chosen.explains) }
+        (option_map (λ s. s.now) chosen.journal) chosen.notes chosen.are_errors chosen.explains
+        (option_map (λ k. (k.name.now, k.sync)) chosen.kept)) }
     ensures taken { takes program (map (λ w. w.now) words.now) ≡ true
         → IfErr result (Lacks (map (λ w. w.now) words.now)) }
     ensures line { (name : Text) → (choice : Choice) → map (λ w. w.now) words.now ≡ name ∷ line_of choice

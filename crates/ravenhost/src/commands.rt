@@ -12,6 +12,7 @@ use rv_check::warnings::{Warnings, run_warnings_of, warnings_of, whole_warnings_
 use rv_fault::Failure;
 use rv_input::{Before, InputFault};
 use rv_play::counts::Counts;
+use rv_run::{Follower, KeptFailure};
 use rv_script::read_script;
 use rv_staff::Hires;
 use rv_verdict::{Audited, Explained, Watch};
@@ -19,6 +20,7 @@ use std::alloc::Global;
 use std::io::{Read, Write};
 use std::sync::Wait;
 use std::thread::Threads;
+use std::time::Clock;
 
 /// The bytes of the script that a reader gives, at most one past the greatest length, so that its lists are judged before
 /// it is carried out or looked at.
@@ -179,4 +181,16 @@ pub fn run<T: Threads + Wait, H: Hires, R: Read, W: Write, E: Write>(
     errors: &mut E,
 ) -> Result<(), Failure> {
     rv_run::run::run(rt, hires, alloc, reader, writer, errors)
+}
+
+/// Does what `run` does, and keeps the journal in a file; of the input these bytes were read before.
+pub fn run_kept<T: Threads + Wait + Clock, H: Hires, W: Write, E: Write, F: Write>(
+    rt: &T,
+    hires: &H,
+    before: &[u8],
+    follower: &mut Follower<F>,
+    writer: &mut W,
+    errors: &mut E,
+) -> Result<(), KeptFailure> {
+    rv_run::kept::run_kept(rt, hires, before, follower, writer, errors)
 }

@@ -21,12 +21,16 @@ pub enum Stop {
     Explained,
     /// A note on a list was told, and notes are errors.
     Warned,
+    /// The file of a run's journal can't be written, which was said.
+    Unkept,
+    /// No thread can be started, which was said.
+    NoThread,
     /// A journal isn't that of a legal history, or an end in it isn't what its text means, which was said.
     NotLegal,
 }
 
-/// The status of the program: 0 done, 1 a refused script, one with notes that are errors or a journal that isn't legal, 2 usage or help, 3 want of memory,
-/// 4 a failed read or write.
+/// The status of the program: 0 done, 1 a refused script, one with notes that are errors or a journal that isn't legal, 2 usage or help, 3 want of memory
+/// or of a thread, 4 a failed read or write.
 pub fn status_of(outcome: &Result<(), Stop>) -> u8
     ensures { result ≡ status_of outcome.now }
 {
@@ -35,7 +39,7 @@ pub fn status_of(outcome: &Result<(), Stop>) -> u8
         Err(Stop::Failed(Failure::Refused(_)) | Stop::Explained | Stop::Warned | Stop::NotLegal) =>
             1,
         Err(Stop::Usage) => 2,
-        Err(Stop::Failed(Failure::Memory)) => 3,
-        Err(Stop::Failed(Failure::Io(_))) => 4,
+        Err(Stop::Failed(Failure::Memory) | Stop::NoThread) => 3,
+        Err(Stop::Failed(Failure::Io(_)) | Stop::Unkept) => 4,
     }
 }

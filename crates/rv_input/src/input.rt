@@ -1,13 +1,13 @@
 //! Lines of an input, each as soon as its line feed has come.
 
-ghost use Rattle.std.specs.Prelude.{◌≡◌, ◌<◌, ◌≤◌, ◌+◌, ◌++◌, ◌∷◌, [], length, IfOk, OnOk, IfSome, MatchOption, Some, option_map, string_bytes};
+ghost use Rattle.std.specs.Prelude.{◌≡◌, ◌<◌, ◌≤◌, ◌+◌, ◌++◌, ◌∷◌, [], length, IfOk, OnOk, OnErr, IfSome, MatchOption, Some, option_map, string_bytes};
 ghost use Rattle.std.specs.Io.KnownBytes.{Consumes, IsAtEnd, Keeps, prepend_known};
 ghost use Rattle.std.specs.Str.Lines.{strip_carriage_return};
 ghost use Rattle.rv_input.specs.Coming.{IfTold, Takes, GivesByte, GivesLine, GivesBefore, GivesText, ReadsAs, byte_alone, coming, content, is_run, most_bytes, most_before};
 
 use crate::fault::InputFault;
 use crate::lines::{is_run, keep, keep_line, keep_text, text_line};
-use std::alloc::Global;
+use std::alloc::{AllocError, Global};
 use std::io::Read;
 use std::marker::Model;
 
@@ -142,6 +142,18 @@ impl Input {
             return &[];
         }
         &self.ahead[self.next..]
+    }
+
+    /// Puts bytes behind what was read ahead. Where memory is refused nothing is put.
+    pub fn put(&mut self, bytes: &[u8]) -> Result<(), AllocError>
+        ensures ok { OnOk result (self.new ≡ record { ahead = self.old.ahead ++ bytes.now; given = self.old.given }) }
+        ensures err { OnErr result (self.new ≡ self.old) }
+    {
+        if self.next >= self.ahead.len() {
+            self.ahead.clear();
+            self.next = 0;
+        }
+        self.ahead.extend_from_slice(bytes)
     }
 
     /// What stands before the line `@run`, which is taken too; up to one byte past the greatest length.

@@ -3,3 +3,5 @@ pub mod Ended
 pub mod Served
 pub mod Opened
 pub mod Prepared
+pub mod Growing
+pub mod Keeping

@@ -4,3 +4,4 @@ pub mod ServingLines
 pub mod Finishing
 pub mod Preparing
 pub mod Running
+pub mod KeepingRuns

@@ -4,7 +4,11 @@
 
 mod command;
 mod devices;
+mod following;
 mod journal;
+pub mod kept;
 mod loads;
 mod opening;
 pub mod run;
+
+pub use following::{Follower, KeptFailure};

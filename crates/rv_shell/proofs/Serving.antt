@@ -18,7 +18,8 @@ use Rattle.rv_shell.specs.declared.shell.LineFault.TheVariants.{NoMemory, Write,
 use Rattle.rv_shell.specs.declared.order.Order.{Order}
 use Rattle.rv_shell.specs.declared.order.Order.TheVariants as Orders
 use Rattle.rv_shell.specs.Orders.{order_of}
-use Rattle.rv_shell.specs.Serving.{Written, Writes, RequestsOrWorn, ReadsOrWorn, Obeys, Carries, Serves, answer_line, page_text}
+use Rattle.rv_shell.specs.Serving.{Written, Writes, RequestsOrWorn, ReadsOrWorn, Obeys, Carries, Serves, answer_line}
+use Rattle.rv_keep.specs.PageText.{page_text}
 
 -- a request was told, and its answer is written
 pub asks_by : (old new : Written) (v w : Passing) (ask : Ask) (answer : Answer) (result : Result Next LineFault)

@@ -1,6 +1,6 @@
 -- What a command line does: one request of the operator, one page of the journal, or nothing but a word to the caller; and what
 -- is written of it (own).
-use Rattle.std.specs.Prelude.{◌≡◌, ◌⊎◌, ℕ, ◌+◌, List, [], ◌∷◌, ◌++◌, codes, Option, Some, None, Result, Ok, Err}
+use Rattle.std.specs.Prelude.{◌≡◌, ◌⊎◌, ℕ, List, [], ◌∷◌, ◌++◌, codes, Option, Some, None, Result, Ok, Err}
 use Rattle.std.specs.Fmt.{decimal}
 use Rattle.std.specs.Io.KnownBytes.{Appends}
 use Rattle.rv_script.specs.Prefixes.{WritesPrefix}
@@ -8,10 +8,11 @@ use Rattle.rv_access.specs.declared.change.Change.{Change}
 use Rattle.rv_access.specs.declared.fault.ListFault.{ListFault}
 use Rattle.rv_access.specs.declared.fault.ListFault.TheVariants as Lists
 use Rattle.rv_shape.specs.Shape.{Shape}
-use Rattle.rv_event.specs.Text.{answer_text, entry_line}
+use Rattle.rv_event.specs.Text.{answer_text}
 use Rattle.rv_event.specs.declared.entry.Answer.{Answer}
 use Rattle.rv_event.specs.declared.entry.Request.TheVariants as asks
 use Rattle.rv_host.specs.Pages.{Item}
+use Rattle.rv_keep.specs.PageText.{page_text}
 use Rattle.rv_turn.specs.Passes.{Acted, IsWorn}
 use Rattle.rv_behind.specs.Events.{by, catalogue_of}
 use Rattle.rv_behind.specs.Acting.{Does}
@@ -44,15 +45,6 @@ fault_words Lists.NoMemory = codes "list NoMemory"
 
 abbrev pub fault_line : ListFault → List ℕ
 fault_line fault = fault_words fault ++ 10 ∷ []
-
--- the words of an entry are the unit's name of a load, and the whole list after a list change
-abbrev pub item_line : List Shape → ℕ → Item → List ℕ
-item_line shapes number item = entry_line shapes number item.entry item.words item.words
-
--- the lines of entries that stand one behind another, the first of which has this number
-abbrev pub page_text : List Shape → ℕ → List Item → List ℕ
-page_text shapes number [] = []
-page_text shapes number (item ∷ items) = item_line shapes number item ++ page_text shapes (number + 1) items
 
 -- What is written
 

@@ -2,7 +2,6 @@
 #![tactic(auto)]
 
 mod order;
-mod page;
 mod shell;
 
 pub use order::{Order, order_of};

@@ -6,11 +6,11 @@ ghost use Rattle.rv_behind.specs.Events.{catalogue_of};
 ghost use Rattle.rv_shell.specs.Serving.{Obeys, Prints, ReadsOrWorn, Serves, Writes, answer_line, fault_line};
 
 use crate::order::{Order, order_of};
-use crate::page::page_text;
 use rv_access::ListFault;
 use rv_event::entry::Answer;
 use rv_event::text::text_of_answer;
 use rv_host::pages::Page;
+use rv_keep::page_text;
 use rv_port::control::Control;
 use rv_port::fault::PageFault;
 use rv_script::write_whole;

@@ -1,5 +1,5 @@
 -- Threads stay of one turn.
-use Rattle.std.proofs.Common.{◌≡◌, List, [], ◌++◌, ◌∷◌, Ok, Err, inl, inr, refl, sym, ap, ◌∙◌, subst, MatchResult, ℕ, Option, Some, None, IfSome}
+use Rattle.std.proofs.Common.{◌≡◌, List, [], ◌++◌, ◌∷◌, Ok, Err, inl, inr, refl, sym, ap, ◌∙◌, subst, MatchResult, ℕ, zero, suc, Option, Some, None, IfSome}
 use Rattle.std.specs.Prelude.{Result}
 use Rattle.atomic_table.specs.Seated.{TableId}
 use Rattle.rv_code.specs.declared.body.UnitBodies.{UnitBodies}
@@ -10,6 +10,7 @@ use Rattle.rv_turn.specs.Passes.{IsWorn}
 use Rattle.rv_turn.specs.declared.pass.Worn.{Worn as Spent}
 use Rattle.rv_port.specs.Traces.{Passing}
 use Rattle.rv_port.specs.Ports.{Porting}
+use Rattle.rv_follow.specs.Following.{Reads, ReadsOn}
 use Rattle.rv_port.specs.Controls.{IsGiven, LoadTold, Told}
 use Rattle.rv_crew.specs.Teams.{Team, IsOfTurn}
 use Rattle.rv_behind.specs.declared.event.Ask.{Ask}
@@ -42,6 +43,14 @@ load_stays v w shape Such r (inr told) = ap (λ (p : Passing). p.turn) told.2.sa
 pub loads_stay : (v w : Passing) (shape : Shape) (Such : UnitBodies → Type 0) (r : Result Answer Spent) → MatchResult r (λ a. LoadTold v shape Such a w) (λ x. IsWorn v w) → w.turn ≡ v.turn
 loads_stay v w shape Such (Ok a) told = load_stays v w shape Such a told
 loads_stay v w shape Such (Err x) worn = ap (λ (p : Passing). p.turn) worn.1
+
+-- so does it where pages are read
+reads_on_stay : (count : ℕ) (v w : Passing) → ReadsOn count v w → w.turn ≡ v.turn
+reads_on_stay zero v w same = ap (λ (p : Passing). p.turn) same
+reads_on_stay (suc count) v w reads = ap (λ (p : Passing). p.turn) reads.4.same ∙ reads_on_stay count v reads.0 reads.3
+
+pub reads_stay : (v w : Passing) → Reads v w → w.turn ≡ v.turn
+reads_stay v w reads = reads_on_stay reads.0 v w reads.1
 
 -- a port that is given is of the same turn
 pub given_stays : (v w : Passing) (actor : ℕ) (port : Passing) → IsGiven v actor w port → w.turn ≡ v.turn

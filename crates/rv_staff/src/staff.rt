@@ -6,6 +6,8 @@ ghost use Rattle.rv_turn.specs.Passes.{IsWorn};
 ghost use Rattle.rv_behind.specs.Events.{catalogue_of};
 ghost use Rattle.rv_port.specs.Ports.{pass_of};
 ghost use Rattle.rv_port.specs.Controls.{Brings, IsGiven, IsPortFault, LoadTold};
+ghost use Rattle.rv_follow.specs.Following.{IsKept, Looked, Reads};
+ghost use Rattle.rv_keep.specs.Keeping.{Known};
 ghost use Rattle.rv_crew.specs.Crews.{IsClosedBy};
 ghost use Rattle.rv_crew.specs.Teams.{IsOfTurn};
 ghost use Rattle.rv_shell.specs.Serving.{Serves, Writes, answer_line};
@@ -19,6 +21,8 @@ use crate::work::Work;
 use rv_code::Unit;
 use rv_crew::crew::{Closed, Crew};
 use rv_event::entry::Answer;
+use rv_follow::follow;
+use rv_keep::{KeepFault, Keeper};
 use rv_port::control::Control;
 use rv_port::fault::PortFault;
 use rv_port::port::Port;
@@ -30,6 +34,7 @@ use std::io::Write;
 use std::marker::Model;
 use std::sync::Wait;
 use std::thread::Threads;
+use std::time::Clock;
 
 /// A host that runs: its operator and the crew of its threads. Each thread has a port of this control, and none was joined.
 pub struct Staff {
@@ -128,6 +133,25 @@ impl Staff {
         ensures crew { self.new.crew ≡ self.old.crew }
     {
         self.control.load(rt, unit)
+    }
+
+    /// Writes the entries that came since the last look into a keeper's file. Gives whether there were some.
+    ///
+    /// # Errors
+    /// `Write` where a write or a sync fails.
+    #[tactic(auto, using(crate::proofs::OneTurn::moved, crate::proofs::OneTurn::reads_stay))]
+    pub fn follow<R: Wait + Clock, F: Write>(
+        &mut self,
+        rt: &R,
+        alloc: Global,
+        keeper: &mut Keeper<F>,
+    ) -> Result<bool, KeepFault>
+        ensures reads { Reads self.old.control self.new.control }
+        ensures kept { (opened : Known) → IsKept opened (F.contents keeper.old.file) self.old.control keeper.old.next
+            → Looked opened (F.contents keeper.new.file) self.new.control keeper.new.next result }
+        ensures crew { self.new.crew ≡ self.old.crew }
+    {
+        follow(rt, alloc, &mut self.control, keeper)
     }
 
     /// Writes the answer to a request of the operator.

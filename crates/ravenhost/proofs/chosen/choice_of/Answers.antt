@@ -1,11 +1,11 @@
-use Rattle.std.proofs.Common.{◌≡◌, rules, ◌∙◌, codes, refl, sym, Some, None}
+use Rattle.std.proofs.Common.{◌≡◌, rules, ◌∙◌, codes, inl, inr, refl, sym, Some, None}
 use Rattle.std.specs.Prelude.{is_some}
 use Rattle.clap.specs.Words.{subcommand_rows_of}
 use Rattle.clap.specs.Matches.{found_of}
 use Rattle.clap.specs.Walk.{rows_of}
 use Rattle.clap.proofs.WalkLemmas.{first_value-rows, one_text-rows}
 use Rattle.ravenhost.specs.Choices.{audit_of}
-use Rattle.ravenhost.proofs.Choosing.{found_is, not_audit_play, not_audit_check, not_audit_run, audit_named, check_wrong, explaining, play_wrong, run_wrong, torn_alone, unnoted}
+use Rattle.ravenhost.proofs.Choosing.{found_is, not_audit_play, not_audit_check, not_audit_run, audit_named, check_wrong, explaining, play_wrong, run_wrong, torn_alone, unkept, unnoted}
 use Rattle.ravenhost.proofs.chosen.choice_of.Goals as goal
 
 pub returns-then-eq-clause-found : goal.returns-then-eq-clause-found
@@ -17,6 +17,7 @@ returns-then-eq-clause-found c =
       (word, (λ e. c.get_flag.ensures.value (one_text-rows given (codes "all") ∙ e), λ e. c.get_flag.ensures.other (one_text-rows given (codes "all") ∙ e))),
       λ e. absurd (not_audit_play _ word e),
       c.in_ok-playing.ensures.some,
+      refl,
       refl,
     )
 
@@ -34,6 +35,7 @@ returns-then-eq-2-clause-found c =
       λ e. absurd (not_audit_check _ word e),
       c.in_ok-checking.ensures.some,
       refl,
+      refl,
     )
 
 pub returns-then-eq-3-clause-found : goal.returns-then-eq-3-clause-found
@@ -46,6 +48,7 @@ returns-then-eq-3-clause-found c =
       λ e. absurd (not_audit_run _ word e),
       c.in_ok-running.ensures.some,
       refl,
+      c.in_ok-kept.ensures.some,
     )
 
 pub returns-then-eq-4-clause-found : goal.returns-then-eq-4-clause-found
@@ -64,6 +67,7 @@ returns-then-eq-4-clause-found c =
       unnoted (c.in_ok-name.name.now, rows_of given) c.in_ok-choice.choice _ _ word named.0 refl,
       explaining (c.in_ok-name.name.now, rows_of given) c.in_ok-choice.choice _ word named.0
           (λ e. c.get_flag-explains.ensures.value (one_text-rows given (codes "explain") ∙ e), λ e. c.get_flag-explains.ensures.other (one_text-rows given (codes "explain") ∙ e)),
+      unkept (c.in_ok-name.name.now, rows_of given) c.in_ok-choice.choice word named.0,
     )
 
 pub returns-in_err-choice-clause-none : goal.returns-in_err-choice-clause-none
@@ -97,5 +101,12 @@ pub returns-in_err-running-clause-none : goal.returns-in_err-running-clause-none
 returns-in_err-running-clause-none c =
     let given = found_of c.in_ok-name.words.now in
     let word : c.in_ok-name.name.now ≡ codes "run" = search rules in
-    let none = run_wrong (subcommand_rows_of c.args.matches.now) (c.in_ok-name.name.now, rows_of given) (found_is _ _ _ _ _ (search rules) (search rules)) word c.in_err-running.ensures.none in
+    let none = run_wrong (subcommand_rows_of c.args.matches.now) (c.in_ok-name.name.now, rows_of given) (found_is _ _ _ _ _ (search rules) (search rules)) word (inl c.in_err-running.ensures.none) in
     rw c.from_residual-in_err-running.ensures (λ other e. none other e)
+
+pub returns-in_err-kept-clause-none : goal.returns-in_err-kept-clause-none
+returns-in_err-kept-clause-none c =
+    let given = found_of c.in_ok-name.words.now in
+    let word : c.in_ok-name.name.now ≡ codes "run" = search rules in
+    let none = run_wrong (subcommand_rows_of c.args.matches.now) (c.in_ok-name.name.now, rows_of given) (found_is _ _ _ _ _ (search rules) (search rules)) word (inr c.in_err-kept.ensures.none) in
+    rw c.from_residual-in_err-kept.ensures (λ other e. none other e)

@@ -1,7 +1,7 @@
 use Rattle.std.proofs.Common.{◌≡◌, List, ℕ, subst, string_bytes, IfOk}
 use Rattle.rv_shape.specs.Shape.{Shape}
 use Rattle.rv_behind.specs.Events.{catalogue_of}
-use Rattle.rv_shell.specs.Serving.{page_text}
+use Rattle.rv_keep.specs.PageText.{page_text}
 use Rattle.rv_shell.proofs.Serving.{pages_by}
 use Rattle.rv_shell.proofs.shell.Shell.journal.Goals as goal
 

@@ -1,5 +1,4 @@
-use Rattle.std.proofs.Common.{◌≡◌, List, ℕ, Ok, Err, subst, sym, string_bytes, IfOk, MatchResult}
-use Rattle.std.specs.Prelude.{Result}
+use Rattle.std.proofs.Common.{◌≡◌, List, ℕ, subst, string_bytes, IfOk}
 use Rattle.rv_shape.specs.Shape.{Shape}
 use Rattle.rv_behind.specs.Events.{catalogue_of}
 use Rattle.rv_shell.specs.Serving.{answer_line}

@@ -1,0 +1,160 @@
+//! The two ends of an input that a thread reads.
+
+ghost use Rattle.std.specs.Prelude.{◌≤◌, IfOk, length};
+
+use crossbeam_channel::{Receiver, Sender, TryRecvError, bounded};
+use rv_input::{Input, InputFault};
+use std::alloc::{AllocError, Global};
+use std::io::{ErrorKind, Read};
+use std::sync::Wait;
+use std::{io, mem};
+
+// How many pieces may be under way.
+const PIECES: usize = 4;
+
+// How many bytes a piece has at most.
+const PIECE: usize = 4096;
+
+/// What comes of an input.
+#[derive(Drop)]
+pub enum Piece {
+    /// Its next bytes.
+    Bytes(Vec<u8>),
+    /// A read failed, or memory for its bytes was refused.
+    Failed(InputFault),
+}
+
+/// What was found of an input.
+#[derive(Clone, Copy, Debug, PartialEq, Eq, Drop)]
+pub enum Came {
+    /// Bytes came.
+    Bytes,
+    /// None yet.
+    Nothing,
+    /// The input is over.
+    Over,
+}
+
+/// The end that reads the input.
+#[derive(Drop)]
+pub struct Speaker {
+    alloc: Global,
+    pieces: Sender<Piece>,
+}
+
+/// The end that waits for it.
+#[derive(Drop)]
+pub struct Feed {
+    alloc: Global,
+    pieces: Receiver<Piece>,
+    // What a read into a short buffer left of a piece.
+    rest: Vec<u8>,
+}
+
+/// The two ends.
+pub fn ends(alloc: Global) -> Result<(Speaker, Feed), AllocError> {
+    let (sender, receiver) = bounded(alloc, PIECES)?;
+    let speaker = Speaker {
+        alloc,
+        pieces: sender,
+    };
+    let feed = Feed {
+        alloc,
+        pieces: receiver,
+        rest: Vec::new(alloc),
+    };
+    Ok((speaker, feed))
+}
+
+impl Speaker {
+    // The bytes that were read, or none where memory for them was refused.
+    fn copied(&self, bytes: &[u8]) -> Piece {
+        let mut copy = Vec::new(self.alloc);
+        match copy.extend_from_slice(bytes) {
+            Ok(()) => Piece::Bytes(copy),
+            Err(_) => Piece::Failed(InputFault::Memory),
+        }
+    }
+
+    // The next piece; none at the end.
+    fn piece<I: Read>(&self, reader: &mut I) -> Option<Piece> {
+        let mut chunk = [0; PIECE];
+        match reader.read(&mut chunk) {
+            Ok(0) => None,
+            Ok(count) => Some(self.copied(&chunk[..count])),
+            Err(e) => Some(Piece::Failed(InputFault::Io(e))),
+        }
+    }
+
+    /// Reads an input to its end, or until nobody waits for it, and hands on what comes.
+    pub fn read_all<R: Wait, I: Read>(self, rt: &R, reader: &mut I) {
+        for _ in rt.forever() {
+            let Some(piece) = self.piece(reader) else {
+                break;
+            };
+            let is_last = matches!(piece, Piece::Failed(_));
+            if self.pieces.send(rt, piece).is_err() || is_last {
+                break;
+            }
+        }
+    }
+}
+
+impl Feed {
+    /// Looks whether more of the input came, and puts it behind what was read ahead.
+    ///
+    /// # Errors
+    /// As the read that failed, or for want of memory.
+    pub fn poll<R: Wait>(&mut self, rt: &R, input: &mut Input) -> Result<Came, InputFault> {
+        match self.pieces.try_recv(rt) {
+            Ok(Piece::Bytes(bytes)) => match input.put(bytes.as_slice()) {
+                Ok(()) => Ok(Came::Bytes),
+                Err(_) => Err(InputFault::Memory),
+            },
+            Ok(Piece::Failed(fault)) => Err(fault),
+            Err(TryRecvError::Disconnected) => Ok(Came::Over),
+            Err(_) => Ok(Came::Nothing),
+        }
+    }
+
+    // The next bytes, for which it waits; none at the end.
+    fn next<R: Wait>(&mut self, rt: &R) -> io::Result<Option<Vec<u8>>> {
+        match self.pieces.recv(rt) {
+            Ok(Piece::Bytes(bytes)) => Ok(Some(bytes)),
+            Ok(Piece::Failed(InputFault::Io(e))) => Err(e),
+            Ok(Piece::Failed(InputFault::Memory)) => Err(io::Error::from(ErrorKind::OutOfMemory)),
+            Err(_) => Ok(None),
+        }
+    }
+
+    // Takes bytes of a piece, as many as a buffer holds, and keeps the others.
+    fn take(&mut self, bytes: &[u8], buf: &mut [u8]) -> io::Result<usize>
+        ensures { IfOk result (λ count. count ≤ length buf.new) }
+    {
+        let count = bytes.len().min(buf.len());
+        let (first, others) = bytes.split_at(count);
+        buf[..count].copy_from_slice(first);
+        self.rest.clear();
+        match self.rest.extend_from_slice(others) {
+            Ok(()) => Ok(count),
+            Err(_) => Err(io::Error::from(ErrorKind::OutOfMemory)),
+        }
+    }
+
+    /// Reads the next bytes, for which it waits; none at the end.
+    ///
+    /// # Errors
+    /// As the read that failed, or for want of memory.
+    pub(crate) fn read<R: Wait>(&mut self, rt: &R, buf: &mut [u8]) -> io::Result<usize>
+        ensures { IfOk result (λ count. count ≤ length buf.new) }
+    {
+        if self.rest.len() > 0 {
+            let rest = mem::replace(&mut self.rest, Vec::new(self.alloc));
+            return self.take(rest.as_slice(), buf);
+        }
+        match self.next(rt)? {
+            Some(bytes) => self.take(bytes.as_slice(), buf),
+            None => Ok(0),
+        }
+    }
+}
