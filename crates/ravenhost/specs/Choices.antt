@@ -43,8 +43,11 @@ abbrev pub sync_rule : Rule
 sync_rule = record (new_rule (codes "sync")) { long = Some (codes "sync"); action = Some Set; value_names = 1 }
 
 -- `run`, which may keep its journal in a file
+abbrev pub keeping : App
+keeping = with_rule (with_rule (new_app (codes "run")) file_rule) sync_rule
+
 abbrev pub running : App
-running = with_notes (with_rule (with_rule (new_app (codes "run")) file_rule) sync_rule)
+running = with_notes keeping
 
 -- `audit`, which may be given the name of a file, and two flags
 abbrev pub judging : App
@@ -118,19 +121,26 @@ sync_of (Some word) =
     else if bytes_eq word (codes "never") then Some Never
     else None
 
--- the file that a journal is kept in, and when it is synced; without a file no word says when
-abbrev pub Keeps : List Row → Option (Text × Sync) → Type 0
-Keeps rows None = (first_of (codes "journal") rows ≡ None) × (first_of (codes "sync") rows ≡ None)
-Keeps rows (Some kept) = (first_of (codes "journal") rows ≡ Some kept.0) × (sync_of (first_of (codes "sync") rows) ≡ Some kept.1)
+-- the file of this name that a journal is kept in, and when it is synced, by the word that is given; without a file no word says when
+abbrev pub KeepsAs : Option Text → Option Text → Option (Text × Sync) → Type 0
+KeepsAs name word None = (name ≡ None) × (word ≡ None)
+KeepsAs name word (Some kept) = (name ≡ Some kept.0) × (sync_of word ≡ Some kept.1)
 
--- the same, for `run` alone
+-- the word that says when is another, or there is no file
+abbrev pub HasNoFileAs : Option Text → Option Text → Type 0
+HasNoFileAs name word = (sync_of word ≡ None) ⊎ ((name ≡ None) × (word ≡ None → ⊥))
+
+-- both by what `run` is given
+abbrev pub Keeps : List Row → Option (Text × Sync) → Type 0
+Keeps rows kept = KeepsAs (first_of (codes "journal") rows) (first_of (codes "sync") rows) kept
+
+abbrev pub HasNoFile : List Row → Type 0
+HasNoFile rows = HasNoFileAs (first_of (codes "journal") rows) (first_of (codes "sync") rows)
+
+-- the file of a run's journal, for `run` alone
 abbrev pub IsKeeping : Text × List Row → Choice → Option (Text × Sync) → Type 0
 IsKeeping found Run kept = Keeps found.1 kept
 IsKeeping found choice kept = kept ≡ None
-
--- the word that says when is another, or there is no file
-abbrev pub HasNoFile : List Row → Type 0
-HasNoFile rows = (sync_of (first_of (codes "sync") rows) ≡ None) ⊎ ((first_of (codes "journal") rows ≡ None) × (first_of (codes "sync") rows ≡ None → ⊥))
 
 -- the word that was given is another
 abbrev pub HasNoWord : List Row → Type 0

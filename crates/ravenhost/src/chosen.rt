@@ -6,7 +6,7 @@ ghost use Rattle.clap.specs.Matches.{found_of};
 ghost use Rattle.clap.specs.Walk.{Row, Text, rows_of};
 ghost use Rattle.clap.specs.declared.builder.command.Command.TheViews.{out-Command as fields_of};
 ghost use Rattle.ravenhost.specs.declared.chosen.Unchosen.TheVariants as Unchosen;
-ghost use Rattle.ravenhost.specs.Choices.{Chooses, HasNoFile, HasNoWord, IsExplaining, IsJournal, IsKeeping, IsNoted, Keeps, Lacks, Names, NamesNone, Tells, audit_of, audited, checked, flag_rule, judging, line_of, notes_of, notes_rule, playing, program, running, sync_of, with_notes};
+ghost use Rattle.ravenhost.specs.Choices.{Chooses, HasNoFile, HasNoFileAs, HasNoWord, IsExplaining, IsJournal, IsKeeping, IsNoted, Keeps, KeepsAs, Lacks, Names, NamesNone, Tells, audit_of, audited, checked, file_rule, flag_rule, judging, keeping, line_of, notes_of, notes_rule, playing, program, running, sync_of, sync_rule, with_notes};
 
 use clap::error::ErrorKind;
 use clap::{Arg, ArgAction, ArgMatches, Command, Error};
@@ -113,6 +113,32 @@ fn notes_flag<'a>(alloc: Global) -> Arg<'a>
         .action(ArgAction::Set)
 }
 
+// The name of a journal's file.
+fn file_arg<'a>(alloc: Global, help: &'a str) -> Arg<'a>
+    ensures rule { rule_of result ≡ file_rule }
+    ensures local { result.global ≡ false }
+{
+    Arg::new(alloc, "journal")
+        .long("journal")
+        .value_name("FILE")
+        .help(help)
+        .action(ArgAction::Set)
+}
+
+// When the file of a journal is synced.
+fn sync_arg<'a>(alloc: Global) -> Arg<'a>
+    ensures rule { rule_of result ≡ sync_rule }
+    ensures local { result.global ≡ false }
+{
+    Arg::new(alloc, "sync")
+        .long("sync")
+        .value_name("HOW")
+        .help(
+            "With --journal: when the file is synced with its disk: each (before each answer), second or never",
+        )
+        .action(ArgAction::Set)
+}
+
 // A subcommand that looks at lists: it may be told when notes on them are told, and that they are errors.
 fn noted<'a>(alloc: Global, command: Command<'a>) -> Result<Command<'a>, AllocError>
     requires { (fields_of command).has_globals ≡ false }
@@ -167,30 +193,30 @@ fn check_subcommand<'a>(alloc: Global) -> Result<Command<'a>, AllocError>
     noted(alloc, command)
 }
 
-// The subcommand `run`.
-fn run_subcommand<'a>(alloc: Global) -> Result<Command<'a>, AllocError>
-    ensures app { IfOk result (λ c. app_of c ≡ running) }
+// The subcommand `run`, which may keep its journal in a file.
+fn keeping_subcommand<'a>(alloc: Global) -> Result<Command<'a>, AllocError>
+    ensures app { IfOk result (λ c. app_of c ≡ keeping) }
     ensures local { IfOk result (λ c. (fields_of c).has_globals ≡ false) }
 {
-    let journal = Arg::new(alloc, "journal")
-        .long("journal")
-        .value_name("FILE")
-        .help("Write the journal into this file as it comes; the file must be new or empty")
-        .action(ArgAction::Set);
-    let sync = Arg::new(alloc, "sync")
-        .long("sync")
-        .value_name("HOW")
-        .help(
-            "With --journal: when the file is synced with its disk: each (before each answer), second or never",
-        )
-        .action(ArgAction::Set);
-    let command = Command::new(alloc, "run")
+    let journal = file_arg(
+        alloc,
+        "Write the journal into this file as it comes; the file must be new or empty",
+    );
+    Command::new(alloc, "run")
         .about(
             "Run the host of a script from standard input, and serve the commands that follow its line @run",
         )
         .after_help("Example: ravenhost run < examples/plant.raven")
         .arg(journal)?
-        .arg(sync)?;
+        .arg(sync_arg(alloc))
+}
+
+// The same, which may be told of notes.
+fn run_subcommand<'a>(alloc: Global) -> Result<Command<'a>, AllocError>
+    ensures app { IfOk result (λ c. app_of c ≡ running) }
+    ensures local { IfOk result (λ c. (fields_of c).has_globals ≡ false) }
+{
+    let command = keeping_subcommand(alloc)?;
     noted(alloc, command)
 }
 
@@ -199,11 +225,10 @@ fn judging_subcommand<'a>(alloc: Global) -> Result<Command<'a>, AllocError>
     ensures app { IfOk result (λ c. app_of c ≡ judging) }
     ensures local { IfOk result (λ c. (fields_of c).has_globals ≡ false) }
 {
-    let journal = Arg::new(alloc, "journal")
-        .long("journal")
-        .value_name("FILE")
-        .help("Judge the journal in this file, of any length, instead of one in the script")
-        .action(ArgAction::Set);
+    let journal = file_arg(
+        alloc,
+        "Judge the journal in this file, of any length, instead of one in the script",
+    );
     let torn = flag(
         alloc,
         "torn",
@@ -311,22 +336,29 @@ fn sync_of(word: Option<&str>) -> Option<Sync>
     None
 }
 
-// The file that a run's journal is kept in, if one is given; none where the word for its sync is another, or has no file.
-fn kept_of<'a>(words: &ArgMatches<'a>) -> Option<Option<KeptFile<'a>>>
-    ensures some { IfSome result (λ kept. Keeps (rows_of (found_of words.now)) (option_map (λ k. (k.name.now, k.sync)) kept)) }
-    ensures none { IfNone result (HasNoFile (rows_of (found_of words.now))) }
+// The file of this name that a run's journal is kept in, and when it is synced; none where that word is another, or has no file.
+fn file_of<'a>(name: Option<&'a str>, word: Option<&str>) -> Option<Option<KeptFile<'a>>>
+    ensures some { IfSome result (λ kept. KeepsAs (option_map (λ w. w.now) name.entry) (option_map (λ w. w.now) word.entry) (option_map (λ k. (k.name.now, k.sync)) kept)) }
+    ensures none { IfNone result (HasNoFileAs (option_map (λ w. w.now) name.entry) (option_map (λ w. w.now) word.entry)) }
 {
-    let word = words.get_str("sync");
-    let Some(sync) = sync_of(word) else {
-        return None;
-    };
-    match words.get_str("journal") {
-        Some(name) => Some(Some(KeptFile { name, sync })),
+    match name {
+        Some(name) => match sync_of(word) {
+            Some(sync) => Some(Some(KeptFile { name, sync })),
+            None => None,
+        },
         None => match word {
             Some(_) => None,
             None => Some(None),
         },
     }
+}
+
+// The same, by what `run` was given.
+fn kept_of<'a>(words: &ArgMatches<'a>) -> Option<Option<KeptFile<'a>>>
+    ensures some { IfSome result (λ kept. Keeps (rows_of (found_of words.now)) (option_map (λ k. (k.name.now, k.sync)) kept)) }
+    ensures none { IfNone result (HasNoFile (rows_of (found_of words.now))) }
+{
+    file_of(words.get_str("journal"), words.get_str("sync"))
 }
 
 // What a command line that was read chooses.
