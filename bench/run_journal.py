@@ -97,11 +97,12 @@ def refused_files(program, folder):
 
 
 def refused_scripts(program, folder):
-    """A script that is refused: its file has the journal that is printed."""
+    """A script that is refused: its journal is printed, and the file stays empty for the next try."""
     for number, (script, out, err) in enumerate(run_pipe.device_faults()):
         file = os.path.join(folder, f"refused{number}")
-        expect("a script that is refused", kept(program, file, script), (out, err, 1))
-        expect("its file", text_of(file), out)
+        for _ in range(2):
+            expect("a script that is refused", kept(program, file, script), (out, err, 1))
+            expect("its file", text_of(file), "")
     file = os.path.join(folder, "unread")
     expect("a script that isn't one", kept(program, file, "tick 1\n@run\n"), ("", "script line 1: BadSection\n", 1))
     expect("its file", text_of(file), "")

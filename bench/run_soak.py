@@ -114,12 +114,12 @@ def memory(process):
 
 
 class Soak:
-    def __init__(self, program, seconds):
+    def __init__(self, program, seconds, words):
         self.seconds, self.random = seconds, random.Random(SEED)
         self.texts = {"P": PLANT, **{name: team(name) for name in TEAMS}}
         script = "@host.toml\ncapacity = 1048576\nbudget = 1000000\n"
         script += "".join("@unit\n" + text for text in self.texts.values()) + "@list\nallow * * *\n@run\n"
-        self.run = Run(program, script)
+        self.run = Run(program, script, words=words)
         self.denied = self.loaded = self.ticks = 0
         self.raised = [0] * LINES
         self.slowest = 0.0
@@ -251,8 +251,8 @@ def all_fired(journal, raised):
 
 
 def main():
-    seconds, program = float(sys.argv[1]), sys.argv[2]
-    soak = Soak(program, seconds)
+    seconds, program, file = float(sys.argv[1]), sys.argv[2], sys.argv[3] if len(sys.argv) > 3 else None
+    soak = Soak(program, seconds, ("--journal", file) if file else ())
     first = memory(soak.run.process)
     soak.drive()
     before = soak.settle(1)
@@ -264,6 +264,9 @@ def main():
     out, err, status = soak.run.end()
     expect("quit", (out, err, status), (f"entries {len(journal)}\n", "", 0))
     numbered("the journal", journal)
+    if file:
+        with open(file) as kept:
+            expect_that("what stands in the file is the journal", kept.read().splitlines() == journal)
     print(f"{soak.ticks} ticks, {soak.loaded} loads, {len(journal)} entries, of them {sum(' refused ' in line for line in journal)} refusals")
     print(f"the slowest answer took {soak.slowest:.3f} s")
     grown = (soak.memory[-1] - soak.memory[0]) * 1024 // max(1, len(journal)) if soak.memory else 0

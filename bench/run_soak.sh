@@ -2,12 +2,13 @@
 # Lets the built `ravenhost run` run for so many seconds (600): 32 tasks with texts in four units, and four lines with
 # handlers, while the operator ticks, raises, changes the list and loads units. Then halts it, reads its journal in pages,
 # and replays that entry by entry by `ravenhost play`, which has to print the same journal; `ravenhost audit --explain`
-# has to find it legal, and to explain the end of each body. Says how much memory it took, and what stalled. Ends with 1 where something is wrong. It is no test. It
-# needs python3.
+# has to find it legal, and to explain the end of each body. Where a FILE is named the run keeps its journal there, which
+# has to be the one that was read. Says how much memory it took, and what stalled. Ends with 1 where something is wrong. It is
+# no test. It needs python3.
 #
-#     bench/run_soak.sh [SECONDS [PROGRAM]]
+#     bench/run_soak.sh [SECONDS [PROGRAM [FILE]]]
 set -eu
 
 cd "$(dirname "$(readlink -f "$0")")/.."
 [ -n "${2:-}" ] || ./ravenhost --prove
-PYTHONDONTWRITEBYTECODE=1 exec python3 bench/run_soak.py "${1:-600}" "${2:-crates/ravenhost/out/ravenhost}"
+PYTHONDONTWRITEBYTECODE=1 exec python3 bench/run_soak.py "${1:-600}" "${2:-crates/ravenhost/out/ravenhost}" ${3:+"$3"}

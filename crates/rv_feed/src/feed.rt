@@ -1,6 +1,7 @@
 //! The two ends of an input that a thread reads.
 
-ghost use Rattle.std.specs.Prelude.{◌≤◌, IfOk, length};
+ghost use Rattle.std.specs.Prelude.{◌≡◌, IfOk};
+ghost use Rattle.rv_feed.specs.Hearing.{Hands, Polls, Reads};
 
 use crossbeam_channel::{Receiver, Sender, TryRecvError, bounded};
 use rv_input::{Input, InputFault};
@@ -105,7 +106,10 @@ impl Feed {
     ///
     /// # Errors
     /// As the read that failed, or for want of memory.
-    pub fn poll<R: Wait>(&mut self, rt: &R, input: &mut Input) -> Result<Came, InputFault> {
+    pub fn poll<R: Wait>(&mut self, rt: &R, input: &mut Input) -> Result<Came, InputFault>
+        ensures polls { Polls input.old input.new result }
+        ensures rest { self.new.rest ≡ self.old.rest }
+    {
         match self.pieces.try_recv(rt) {
             Ok(Piece::Bytes(bytes)) => match input.put(bytes.as_slice()) {
                 Ok(()) => Ok(Came::Bytes),
@@ -129,7 +133,7 @@ impl Feed {
 
     // Takes bytes of a piece, as many as a buffer holds, and keeps the others.
     fn take(&mut self, bytes: &[u8], buf: &mut [u8]) -> io::Result<usize>
-        ensures { IfOk result (λ count. count ≤ length buf.new) }
+        ensures { IfOk result (λ count. Hands bytes.now buf.new self.new.rest.items count) }
     {
         let count = bytes.len().min(buf.len());
         let (first, others) = bytes.split_at(count);
@@ -146,7 +150,7 @@ impl Feed {
     /// # Errors
     /// As the read that failed, or for want of memory.
     pub(crate) fn read<R: Wait>(&mut self, rt: &R, buf: &mut [u8]) -> io::Result<usize>
-        ensures { IfOk result (λ count. count ≤ length buf.new) }
+        ensures { IfOk result (λ count. Reads self.old.rest.items buf.new self.new.rest.items count) }
     {
         if self.rest.len() > 0 {
             let rest = mem::replace(&mut self.rest, Vec::new(self.alloc));

@@ -7,6 +7,7 @@ use rv_history::command::Command;
 use rv_host::answers::Answers;
 use rv_host::host::Host;
 use rv_host::pages::Page;
+use rv_keep::{Keeper, Syncing};
 use rv_shape::reading::read_shape;
 use rv_shape::shape::UnitShape;
 use rv_value::Args;
@@ -93,5 +94,29 @@ fn pages_have_words(rt: HostRuntime) -> Result<(), Fail> {
         Some(item) => assert!(rt; item.words() == "Nav" && item.entry() == Entry::Load),
         None => panic!(rt; "no item"),
     }
+    Ok(())
+}
+
+// What stands in a file for which two looks are taken at a journal, with a list change between them.
+fn kept(alloc: Global) -> Result<Vec<u8>, Fail> {
+    let list = listing(alloc, "allow * * *\n")?;
+    let plant = unit(alloc, "unit Plant\nprotected Valve 20\n")?;
+    let mut host = host(alloc)?;
+    let mut keeper = Keeper::new(alloc, Vec::new(alloc), Syncing::Never);
+    host.load(&plant);
+    let first = keeper.put_rest(&host);
+    host.set_list(&list);
+    let second = keeper.put_rest(&host);
+    drop(host);
+    match (first, second) {
+        (Ok(()), Ok(())) => Ok(keeper.file),
+        _ => Err("write".into()),
+    }
+}
+
+#[test]
+fn keepers_write_each_line_once(rt: HostRuntime) -> Result<(), Fail> {
+    let file = kept(rt.alloc())?;
+    assert!(rt; file.as_slice() == b"1 operator load Plant -> accepted 0\n2 operator list [allow * * *] -> accepted 0\n");
     Ok(())
 }

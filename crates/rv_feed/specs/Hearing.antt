@@ -1,0 +1,24 @@
+-- What becomes of the pieces of an input that come: each byte is handed on once, in order. (own)
+use Rattle.std.specs.Prelude.{◌≡◌, ℕ, ◌≤◌, List, ◌++◌, length, take, Result, Ok, Err}
+use Rattle.rv_input.specs.Coming.{Reading}
+use Rattle.rv_feed.specs.declared.feed.Came.{Came}
+use Rattle.rv_feed.specs.declared.feed.Came.TheVariants.{Bytes, Nothing, Over}
+
+-- the bytes of a piece are put behind what was read ahead
+abbrev pub Puts : Reading → Reading → Type 0
+Puts old new = (piece : List ℕ) × (new ≡ record old { ahead = old.ahead ++ piece })
+
+-- a look at an input: a piece that came is put there, and nothing else
+abbrev pub Polls : {E : Type 0} → Reading → Reading → Result Came E → Type 0
+Polls old new (Ok Bytes) = Puts old new
+Polls old new (Ok Nothing) = new ≡ old
+Polls old new (Ok Over) = new ≡ old
+Polls old new (Err fault) = new ≡ old
+
+-- a piece is handed on up to the size of a buffer, and the others of its bytes are left
+abbrev pub Hands : List ℕ → List ℕ → List ℕ → ℕ → Type 0
+Hands piece buffer rest count = (count ≤ length buffer) × (take count buffer ++ rest ≡ piece)
+
+-- a read hands on what was left, or else the next piece
+abbrev pub Reads : List ℕ → List ℕ → List ℕ → ℕ → Type 0
+Reads left buffer rest count = (piece : List ℕ) × Hands (left ++ piece) buffer rest count
