@@ -236,13 +236,25 @@ def synced(program, folder):
     expect_that("answers and syncs in the trace", answers > 0 and syncs > 0, (answers, syncs))
 
 
+def cost(program, folder):
+    """How many entries calls of tasks add in three seconds, without a file and with one."""
+    script, counts = "@host.toml\ncapacity = 1048576\nbudget = 1000000\n" + FREE + "@run\n", []
+    for words in ((), ("--journal", os.path.join(folder, "cost"))):
+        run = Run(program, script, words=words)
+        time.sleep(3)
+        out, err, status = run.end()
+        expect("the end of a run whose cost is measured", (err, status), ("", 0))
+        counts.append(int(re.search(r"entries (\d+)\n$", out)[1]))
+    print(f"entries in three seconds: {counts[0]} without a file, {counts[1]} with one")
+
+
 def main():
     words, times = sys.argv[1:], 200
     if words[:1] == ["--kills"]:
         times, words = int(words[1]), words[2:]
     program = os.path.abspath(words[0]) if words else os.path.join(TOP, "crates/ravenhost/out/ravenhost")
     with tempfile.TemporaryDirectory() as folder:
-        for part in (transcript, refused_files, refused_scripts, silent, as_without, full_disk, synced):
+        for part in (transcript, refused_files, refused_scripts, silent, as_without, full_disk, synced, cost):
             try:
                 part(program, folder)
             except BrokenPipeError:
