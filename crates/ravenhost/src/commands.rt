@@ -188,7 +188,7 @@ pub fn run_kept<T: Threads + Wait + Clock, H: Hires, W: Write, E: Write, F: Writ
     rt: &T,
     hires: &H,
     before: &[u8],
-    follower: &mut Follower<F>,
+    follower: &mut Follower<'_, T, F>,
     writer: &mut W,
     errors: &mut E,
 ) -> Result<(), KeptFailure> {

@@ -11,7 +11,7 @@ pub struct Listening<'a, R> {
     /// What waits.
     pub rt: &'a R,
     /// The feed.
-    pub feed: &'a mut Feed,
+    pub feed: Feed,
 }
 
 impl<R: Wait> Read for Listening<'_, R> {
