@@ -139,7 +139,6 @@ impl Staff {
     ///
     /// # Errors
     /// `Write` where a write or a sync fails.
-    #[tactic(auto, using(crate::proofs::OneTurn::moved, crate::proofs::OneTurn::reads_stay))]
     pub fn follow<R: Wait + Clock, F: Write>(
         &mut self,
         rt: &R,
