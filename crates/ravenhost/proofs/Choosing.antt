@@ -154,6 +154,7 @@ has_file q found e f none = wrong none
   where
     is : first_of (codes "sync") found.1 ≡ None
     is = ap (λ (o : Option (Option Text)). unwrap_or o None) (sym (ap sync_in e) ∙ f)
+
     wrong : HasNoFile found.1 → ⊥
     wrong (inl word) = let both : Some Second ≡ None = sym (ap sync_of is) ∙ word in absurd cc
     wrong (inr file) = file.1 is

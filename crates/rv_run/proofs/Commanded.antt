@@ -1,24 +1,22 @@
 -- What is asked and said makes what a command does.
-use Rattle.std.proofs.Common.{◌≡◌, ◌+◌, ℕ, List, Option, Some, None, Ok, Err, inl, inr, refl, sym, ap, subst, IfNone, IfSome}
-use Rattle.std.specs.Prelude.{Result, codes, ◌⊎◌}
+use Rattle.std.proofs.Common.{◌≡◌, ◌+◌, ℕ, List, Option, Some, None, Ok, Err, inl, inr, sym, ap, subst, IfNone, IfSome}
+use Rattle.std.specs.Prelude.{Result, codes}
 use Rattle.rv_code.specs.declared.unit.Unit.{Unit as Compiled}
 use Rattle.rv_crew.specs.Teams.{Team}
 use Rattle.rv_event.specs.declared.entry.Answer.{Answer}
 use Rattle.rv_fault.specs.Sections.{GivesUnit}
 use Rattle.rv_behind.specs.Events.{catalogue_of}
-use Rattle.rv_port.specs.Traces.{Passing}
 use Rattle.rv_shape.specs.Shape.{Shape}
 use Rattle.rv_shape.specs.Catalogue.{OperationNumber}
 use Rattle.rv_shell.specs.Serving.{Serves}
 use Rattle.rv_shell.specs.declared.shell.Next.{Next}
-use Rattle.rv_shell.specs.declared.shell.Next.TheVariants as Nexts
 use Rattle.rv_shell.specs.declared.shell.LineFault.{LineFault}
 use Rattle.rv_staff.specs.Giving.{Starts}
 use Rattle.rv_staff.specs.Saying.{Known, Says, SaysNoThread, SaysRaised}
 use Rattle.rv_staff.specs.Staffs.{Staffed}
 use Rattle.rv_text.specs.Words.{words}
 use Rattle.rv_turn.specs.declared.pass.Worn.{Worn}
-use Rattle.rv_run.specs.Commanding.{Commands, Follows, LoadsIn, LoadsText, LoadsUnit, SaysOfLine, StartsOn, Welcomes}
+use Rattle.rv_run.specs.Commanding.{Commands, Follows, LoadsIn, LoadsText, SaysOfLine, Welcomes}
 use Rattle.rv_run.specs.Staging.{GoesOn, IsSaid, Outcome, SaysOn, Stage}
 
 -- a text is said by what writes it

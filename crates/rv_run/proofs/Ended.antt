@@ -1,5 +1,5 @@
 -- The start and the end of a run.
-use Rattle.std.proofs.Common.{◌≡◌, Bool, ℕ, List, Ok, Err, refl, sym, subst, MatchResult}
+use Rattle.std.proofs.Common.{◌≡◌, Bool, ℕ, List, Ok, Err, sym, subst, MatchResult}
 use Rattle.std.specs.Prelude.{Result}
 use Rattle.rv_staff.specs.Giving.{Starts}
 use Rattle.rv_shape.specs.Shape.{Shape}

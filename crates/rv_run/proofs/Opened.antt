@@ -1,5 +1,5 @@
 -- What a script opens.
-use Rattle.std.proofs.Common.{◌≡◌, ℕ, Bool, List, [], Ok, inl, refl, sym, ap, subst}
+use Rattle.std.proofs.Common.{◌≡◌, ℕ, Bool, List, [], Ok, inl, sym, ap, subst}
 use Rattle.rv_fault.specs.Sections.{GivesSettings, line_of}
 use Rattle.rv_history.specs.Legal.{empty}
 use Rattle.rv_history.specs.Limits.{limits_of}

@@ -1,5 +1,5 @@
 -- One command after another.
-use Rattle.std.proofs.Common.{◌≡◌, ◌<◌, ◌+◌, ℕ, suc, Ok, Err, inl, inr, refl, sym, subst, add-one}
+use Rattle.std.proofs.Common.{◌≡◌, ◌<◌, ◌+◌, ℕ, Ok, Err, inl, inr, refl, sym, subst, add-one}
 use Rattle.rv_fault.specs.declared.failure.Failure.{Failure}
 use Rattle.rv_run.specs.declared.command.Goes.TheVariants.{On, Out}
 use Rattle.rv_run.specs.ServingLines.{ServesAll, ServesOne, ServesUpTo, StopsBehind, most_commands}

@@ -1,5 +1,5 @@
 -- What a command of the operator does: what it asks of the host, what is written, and whether the run goes on. (own)
-use Rattle.std.specs.Prelude.{◌≡◌, ◌⊎◌, ℕ, ◌+◌, List, Option, Some, None, codes, Result, Ok, Err, MatchResult}
+use Rattle.std.specs.Prelude.{◌≡◌, ◌⊎◌, ℕ, List, Option, Some, None, codes, Result, Ok, Err, MatchResult}
 use Rattle.rv_code.specs.declared.unit.Unit.{Unit as Compiled}
 use Rattle.rv_code.specs.declared.body.UnitBodies.{UnitBodies}
 use Rattle.rv_shape.specs.Shape.{Shape}
@@ -22,11 +22,11 @@ use Rattle.rv_shell.specs.declared.shell.LineFault.TheVariants as Faults
 use Rattle.rv_shell.specs.declared.shell.LineFault.{LineFault}
 use Rattle.rv_text.specs.Words.{words}
 use Rattle.rv_staff.specs.Giving.{Starts}
-use Rattle.rv_staff.specs.Saying.{Known, Says, SaysNoThread, SaysRaised, no_memory_line}
+use Rattle.rv_staff.specs.Saying.{Known, Says, SaysRaised, no_memory_line}
 use Rattle.rv_staff.specs.Staffs.{Staffed}
 use Rattle.rv_run.specs.declared.command.Goes.{Goes}
 use Rattle.rv_run.specs.declared.command.Goes.TheVariants.{On, Out}
-use Rattle.rv_run.specs.Staging.{Comes, Fails, GoesOn, IsNoFault, OnlyReads, Outcome, ReadsNothing, SaysOn, Stage}
+use Rattle.rv_run.specs.Staging.{Comes, Fails, GoesOn, OnlyReads, Outcome, ReadsNothing, SaysOn, Stage}
 
 -- no more is read behind `quit`
 abbrev pub goes_behind : Next → Goes

@@ -1,5 +1,5 @@
 -- What the sections of a script and its devices ask of the host, in order, up to the first fault. (own)
-use Rattle.std.specs.Prelude.{◌≡◌, ◌⊎◌, ℕ, List, [], ◌∷◌, Option, Some, None, Result, Ok, Err, MatchResult}
+use Rattle.std.specs.Prelude.{◌≡◌, ◌⊎◌, ℕ, List, [], ◌∷◌, Option, Some, Result, Ok, Err, MatchResult}
 use Rattle.rv_access.specs.Reading.{list_of}
 use Rattle.rv_access.specs.Words.{Words}
 use Rattle.rv_access.specs.declared.change.Change.TheVariants as Changes

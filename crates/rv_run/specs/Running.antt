@@ -1,5 +1,5 @@
 -- A run that comes to its end: its sections are carried out, and then its commands. (own)
-use Rattle.std.specs.Prelude.{◌≡◌, ◌⊎◌, ℕ, List, [], Bool, Option, Some, Ok, Err}
+use Rattle.std.specs.Prelude.{◌≡◌, ◌⊎◌, ℕ, List, [], Bool, Ok, Err}
 use Rattle.rv_fault.specs.Sections.{GivesSettings, line_of}
 use Rattle.rv_history.specs.History.{History}
 use Rattle.rv_history.specs.Legal.{empty}

@@ -1,4 +1,4 @@
-use Rattle.std.proofs.Common.{◌≡◌, Ok, Err, refl, rules}
+use Rattle.std.proofs.Common.{◌≡◌, Ok, refl, rules}
 use Rattle.rv_behind.specs.Events.{catalogue_of}
 use Rattle.rv_shape.specs.Catalogue.{handler}
 use Rattle.rv_shell.specs.declared.shell.Next.TheVariants as Nexts

@@ -1,6 +1,5 @@
-use Rattle.std.proofs.Common.{◌≡◌, List, Ok, Err, inl, inr, refl, subst, sym, MatchResult}
+use Rattle.std.proofs.Common.{◌≡◌, List, inl, inr, refl, subst, MatchResult}
 use Rattle.rv_code.specs.BodyView.{unit_view}
-use Rattle.rv_fault.specs.Sections.{device_shape}
 use Rattle.rv_port.specs.Controls.{LoadTold, no_bodies_of}
 use Rattle.rv_shape.specs.Shape.{Shape}
 use Rattle.rv_turn.specs.Passes.{IsWorn}

@@ -1,5 +1,4 @@
-use Rattle.std.proofs.Common.{◌≡◌, ◌<◌, ◌≤◌, ◌+◌, [], drop, length, arith, rules}
-use Rattle.rv_settings.specs.Settings.{DeviceText}
+use Rattle.std.proofs.Common.{◌≡◌, ◌<◌, ◌≤◌, ◌+◌, [], drop, length, arith}
 use Rattle.std.proofs.lemmas.List.{drop_all}
 use Rattle.rv_run.proofs.Prepared.{devices_end, devices_first, devices_further, devices_stop, next_device}
 use Rattle.rv_run.proofs.devices.load_devices.Goals as goal
