@@ -8,8 +8,9 @@ use Rattle.atomic_table.proofs.Lists.{at_set, set_again, set_else, at_snoc, at_l
 use Rattle.rv_turn.specs.declared.view.View.{View}
 use Rattle.rv_turn.specs.declared.view.Joined.{Joined}
 use Rattle.rv_turn.specs.Histories.{mine, Has, Each}
-use Rattle.rv_turn.specs.Views.{note_of, pass_of, gave, informed, took_in, looking}
-use Rattle.rv_turn.specs.Rules.{total, ticket_count, acts_left, waiting, Apart, Fits, Stands, learned}
+use Rattle.rv_turn.specs.Views.{note_of, pass_of, gave, informed, took_in, looking, heeding}
+use Rattle.rv_turn.specs.Rules.{total, ticket_count, acts_left, waiting, Apart, Fits, Stands, learned, heard}
+use Rattle.rv_turn.proofs.Longer.{longer_within}
 use Rattle.rv_turn.proofs.KeptBySteps.{each_map, acts-set, waiting-set, no_ticket, alone_of, each_after, apart_after, AllApart, starts_self, starts_none, there, goes, by_bool, off_before, not_strange, Rule, St}
 
 -- the total with one view more
@@ -72,6 +73,18 @@ module _ {C E A : Type 0} (history : C → List E) (about : C → A) (by : E →
       ),
       ap (λ (ws : List ℕ). get_or ws 0 0) k.words,
     ),
+  )
+
+  pub heeds : (slots id : ℕ) (m : Me (Option C) (View E A)) → m.0.turn ≡ false → Allows R slots id m 0 (λ n. n) (heard history about by (step slots 0 0 0 none) m)
+  heeds slots id m off s k wide at small = let v : View E A = m.0 in let w : View E A = heeding v in let f = k.each id v at in let moved = acts-set s.views id v w at in let few = k.few in let tickets = k.tickets in let line = waiting-set s.views id v w at in (
+    w,
+    keeps,
+    tt,
+    goes history about by made s k id v w k.log k.next k.now (set s.words 0 (get_or s.words 0 0)) s.homes at (set-get_or s.words 0 0 ∙ k.words) k.one_slot k.fresh
+        (λ none_has. k.home (each_back s.views id v w at refl none_has))
+        record { seen = longer_within k.log v.seen v.told f.seen f.told; told = f.told; turn = λ on. absurd (cc (off, on)); ticket = f.ticket; owns = f.owns; about = f.about; actor = f.actor; first = f.first }
+        (λ j u other e g a b. (g, a, b)) (λ p. (p, refl)) (λ j z _. z) k.strangers (omega arith) (omega arith),
+    (k.log, refl, f.seen, f.told, f.owns),
   )
 
   pub notes : (id : ℕ) (v : View E A) → Splits R id v v (note_of v.seen)

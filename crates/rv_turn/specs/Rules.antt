@@ -4,7 +4,7 @@ use mathlib.Core.Option.{some}
 use lib.ListN.{get_elem?}
 use Rattle.atomic_table.specs.Table.{State, Me, Step}
 use Rattle.rv_turn.specs.Histories.{mine, StartsWith, Has, Each, NoStrangers}
-use Rattle.rv_turn.specs.Views.{queued, turned, grown, served, looking}
+use Rattle.rv_turn.specs.Views.{queued, turned, grown, served, looking, heeding}
 use Rattle.rv_turn.specs.declared.view.View.{View}
 use Rattle.rv_turn.specs.declared.view.Joined.{Joined}
 
@@ -115,6 +115,12 @@ module _ {C E A : Type 0} (history : C → List E) (about : C → A) (by : E →
       × (m.0.turn ≡ true → log ≡ m.0.seen) × (m.0.first ≡ true → Each (Stands by log) m.0.kept)
       × (m.0.first ≡ true → NoStrangers by log m.0.given)
 
+  -- The seat took in what it was told. The history begins with all that was seen and told, and in it the seat's own entries are
+  -- its actor's. (own)
+  abbrev pub Heard : Sat → Sat → Type 0
+  Heard m w = (log : List E) × (w ≡ (heeding m.0, m.1)) × StartsWith log m.0.seen × StartsWith log m.0.told
+      × (m.0.passes ≡ true → mine by m.0.actor log ≡ m.0.base ++ m.0.own)
+
   -- the seat has the turn and the value, with the whole history (own)
   abbrev pub TookTurn : Sat → Sat → Type 0
   TookTurn m w = (x : C) × (w ≡ (turned m.0 (history x), (0, Some x) ∷ m.1))
@@ -146,3 +152,7 @@ module _ {C E A : Type 0} (history : C → List E) (about : C → A) (by : E →
   -- load of word 0: a look at the history, and its length (own)
   abbrev pub learned : Step (Option C) → Sat → ℕ → Sat → Type 0
   learned st m r w = Met m w × (r ≡ length w.0.seen)
+
+  -- load of word 0: what was told is taken in (own)
+  abbrev pub heard : Step (Option C) → Sat → ℕ → Sat → Type 0
+  heard st m r w = Heard m w

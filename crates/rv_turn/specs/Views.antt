@@ -1,6 +1,6 @@
 -- What a seat knows, and how each kind of step changes it. (own)
 use Rattle.std.specs.Prelude.{◌≡◌, ℕ, ◌+◌, ◌-◌, Bool, true, false, List, [], ◌∷◌, ◌++◌, Some, None}
-use Rattle.rv_turn.specs.Histories.{mine}
+use Rattle.rv_turn.specs.Histories.{mine, longer}
 use Rattle.rv_turn.specs.declared.view.View.{View}
 use Rattle.rv_turn.specs.declared.view.Joined.{Joined}
 
@@ -47,6 +47,10 @@ module _ {E A : Type 0} where
   -- the view after a look at the whole history (own)
   abbrev pub looking : View E A → List E → View E A
   looking v log = record v { seen = log }
+
+  -- the view after it took in what it was told (own)
+  abbrev pub heeding : View E A → View E A
+  heeding v = record v { seen = longer v.seen v.told }
 
   -- a note of what was seen (own)
   abbrev pub note_of : List E → View E A

@@ -27,7 +27,7 @@
 //! - The entries of a pass's actor in its Seen are its Own, behind those that the actor had before.
 //!   Only actor 0 has any before: the value's history is the first pass's first Seen, and has
 //!   entries of actor 0 alone.
-//! - `meet`: Seen then begins with the pass's earlier Seen and with that of the note.
+//! - `meet`: Seen then begins with the pass's earlier Seen and with that of the note, and is one of these.
 //! - `split`: the new pass has Seen as the first pass then has it, no entry of its actor in it, and
 //!   the acts that were asked for, which the first pass has less. `TooFew` comes exactly where more
 //!   acts are asked for than are left.
