@@ -138,5 +138,5 @@ abbrev pub IsWorn : {E A : Type 0} → Known E A → Known E A → Type 0
 IsWorn before after = (before.left ≡ 0) × (after ≡ before)
 
 -- what is kept of a pass that was joined (own)
-abbrev pub kept_of : {E A : Type 0} → Known E A → Joined E
-kept_of p = record { actor = p.actor; own = p.base ++ p.own; seen = p.seen }
+abbrev pub kept_of : {E A : Type 0} → Known E A → Joined E A
+kept_of p = record { about = p.about; actor = p.actor; own = p.base ++ p.own; seen = p.seen }

@@ -33,7 +33,7 @@
 //!   acts are asked for than are left.
 //! - `close`: the history of the value begins with the Seen of every pass that is given, has of the
 //!   actor of each of them its Own, behind what was there before, and no entry of an actor that was
-//!   given no pass. It asks nothing of a pass that was lost, with a ticket or without.
+//!   given no pass. Each knew what of the value no act changes. It asks nothing of a pass that was lost, with a ticket or without.
 //! - `make`: where there is no memory the very value comes back.
 //! - One recorded entry is one `fetch_add` by one on word 0 of the table, and the rule `Kept`
 //!   (`specs/Rules.antt`) holds between any two steps of any threads. Each kind of step is a

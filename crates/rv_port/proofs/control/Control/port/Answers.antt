@@ -3,7 +3,7 @@ use Rattle.rv_port.specs.Actors.{is_performer}
 use Rattle.rv_port.specs.Controls.{listed, IsControl}
 use Rattle.rv_port.proofs.Actors.{performer_some}
 use Rattle.rv_port.proofs.Operators.{not_given}
-use Rattle.rv_port.proofs.Controls.{port_kept, port_handles, port_limited}
+use Rattle.rv_port.proofs.Controls.{port_kept, port_handles, port_limited, port_fits}
 use Rattle.rv_port.proofs.control.Control.port.Goals as goal
 
 pub split-requires-clause-actor : goal.split-requires-clause-actor
@@ -21,3 +21,6 @@ invariant_of-self-in-Ok-split c =
 
 pub new-requires-clause-limited : goal.new-requires-clause-limited
 new-requires-clause-limited c = port_limited _ _ _ _ _ _ c.args.actor _ c.self.invariant c.in-Ok-split.ensures.ok
+
+pub new-requires-clause-fits : goal.new-requires-clause-fits
+new-requires-clause-fits c = port_fits _ _ _ _ _ _ c.args.actor _ c.self.invariant c.in-Ok-split.ensures.ok
