@@ -1,5 +1,5 @@
 -- What a queued call is given that was handed its object.
-use Rattle.std.proofs.Common.{◌≡◌, ℕ, ◌≤◌, ℤ, Bool, true, false, cond, eqb, eq-eqb, if◌then◌else◌, List, [], ◌∷◌, ◌++◌, length, length-append, append_assoc, append-nil, Option, Some, None, refl, sym, ap, ◌∙◌, subst, arith}
+use Rattle.std.proofs.Common.{◌≡◌, ℕ, ◌≤◌, ℤ, Bool, true, false, cond, eqb, eq-eqb, if◌then◌else◌, List, [], ◌∷◌, ◌++◌, append_assoc, append-nil, Option, Some, None, refl, sym, ap, ◌∙◌, subst, arith}
 use Rattle.std.specs.Prelude.{◌&&◌, ◌||◌, not, int_le, pos, slice_get}
 use Rattle.std.specs.List.{list_any}
 use Rattle.std.proofs.lemmas.Bool.{eqb-true}
@@ -7,7 +7,7 @@ use Rattle.std.proofs.lemmas.Bool.Decides.{nat_tests}
 use Rattle.rv_access.specs.Words.{Words as Lines}
 use Rattle.rv_shape.specs.Catalogue.{first_of}
 use Rattle.rv_shape.specs.Shape.{Shape}
-use Rattle.rv_event.specs.Past.{clock, halted, if_named, innermost, is_own, last_queued, next_of, or_else, queued_by, released, scalars, stance, stance_of}
+use Rattle.rv_event.specs.Past.{clock, halted, if_named, is_own, last_queued, next_of, or_else, queued_by, released, scalars, stance, stance_of}
 use Rattle.rv_event.specs.Recorded.{recorded}
 use Rattle.rv_event.specs.declared.entry.Answer.{Answer}
 use Rattle.rv_event.specs.declared.entry.Answer.TheVariants as Answers
@@ -37,7 +37,7 @@ use Rattle.rv_history.proofs.Handing.{handed_wakes}
 use Rattle.rv_history.proofs.Room.{legal_solvent}
 use Rattle.rv_history.proofs.Silent.{neither}
 use Rattle.rv_history.proofs.Stances.{other_queued, queued_actor}
-use Rattle.rv_meant.specs.Histories.{asked_in, asks_of, history_of}
+use Rattle.rv_meant.specs.Histories.{asked_in, history_of}
 use Rattle.rv_accounts.specs.Given.{HandsScalars, HandedCallsGiveScalars}
 use Rattle.rv_accounts.proofs.Giving.{resumes_give}
 
@@ -187,23 +187,24 @@ record LastOwn (a : ℕ) (past : List Entry) (q : Request) (r : Answer) : Type 0
   silent : list_any (is_own a) newer ≡ false
 
 others : (a : ℕ) (e : Entry) (past : List Entry) (q : Request) (r : Answer) → is_own a e ≡ false → LastOwn a past q r → LastOwn a (e ∷ past) q r
-others a e past q r no t = record {
+others a e past q r other t = record {
   newer = e ∷ t.newer;
   older = t.older;
   word = t.word;
   split = ap (λ (l : List Entry). e ∷ l) t.split;
   word_is = t.word_is;
-  silent = λ i. no i || t.silent i;
+  silent = λ i. other i || t.silent i;
 }
 
 last_own : (limits : Limits) (a : ℕ) (past : List Entry) (shapes : List Shape) (lists : List (List Lines)) (before : Trace) (q : Request) (r : Answer) → IsLegal limits past shapes lists → asked_in limits a past shapes lists ≡ before ++ (q, r) ∷ [] → LastOwn a past q r
 last_own limits a [] shapes lists before q r l e = absurd (no_last before (q, r) e)
-last_own limits a (Asked b p word ∷ past) shapes lists before q r l e = by_test (eqb b a) refl e where
+last_own limits a (Asked b p word ∷ past) shapes lists before q r l e =
+    by_test (eqb b a) refl (λ f. last_own limits a past shapes lists before q r l.0 (sym (append-nil (asked_in limits a past shapes lists)) ∙ f)) e where
   h : History
   h = history_of limits past shapes lists
 
-  by_test : (k : Bool) → eqb b a ≡ k → asked_in limits a past shapes lists ++ cond k ((p, out h a p) ∷ []) [] ≡ before ++ (q, r) ∷ [] → LastOwn a (Asked b p word ∷ past) q r
-  by_test true is f =
+  by_test : (k : Bool) → eqb b a ≡ k → (asked_in limits a past shapes lists ++ [] ≡ before ++ (q, r) ∷ [] → LastOwn a past q r) → asked_in limits a past shapes lists ++ cond k ((p, out h a p) ∷ []) [] ≡ before ++ (q, r) ∷ [] → LastOwn a (Asked b p word ∷ past) q r
+  by_test true is earlier f =
       let same = last_same (asked_in limits a past shapes lists) before (p, out h a p) (q, r) f in
       let here : b ≡ a = eqb-true b a is in
       record {
@@ -214,7 +215,7 @@ last_own limits a (Asked b p word ∷ past) shapes lists before q r l e = by_tes
         word_is = ap (λ (z : Request × Answer). recorded z.1) (sym same) ∙ (ap (λ (n : ℕ). recorded (out h n p)) (sym here) ∙ l.1);
         silent = refl;
       }
-  by_test false is f = others a (Asked b p word) past q r is (last_own limits a past shapes lists before q r l.0 (sym (append-nil (asked_in limits a past shapes lists)) ∙ f))
+  by_test false is earlier f = others a (Asked b p word) past q r is (earlier f)
 last_own limits a (Load ∷ past) shapes lists before q r l e =
     let earlier : shapes_before Load shapes ≡ l.0 = ap (λ (s : List Shape). shapes_before Load s) l.2 ∙ front_is l.0 l.1 in
     others a Load past q r refl
