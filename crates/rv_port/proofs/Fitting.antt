@@ -1,5 +1,5 @@
 -- The calls of the bodies that a control or a port has seen fit the units.
-use Rattle.std.proofs.Common.{◌≡◌, ⊎_elim, ℕ, Bool, true, false, if◌then◌else◌, eqb, List, [], ◌∷◌, ◌++◌, reverse, map, sym, ap, ◌∙◌, subst}
+use Rattle.std.proofs.Common.{◌≡◌, ⊎_elim, Bool, true, false, if◌then◌else◌, eqb, List, [], ◌∷◌, ◌++◌, reverse, map, sym, ap, ◌∙◌, subst}
 use Rattle.std.specs.Prelude.{Result, Ok, Err, MatchResult}
 use Rattle.std.proofs.lemmas.List.{reverse-append}
 use Rattle.rv_code.specs.BodyView.{unit_view}
@@ -10,7 +10,7 @@ use Rattle.rv_turn.specs.Histories.{mine}
 use Rattle.rv_turn.specs.Passes.{Acted, IsWorn, Meets}
 use Rattle.rv_turn.specs.declared.pass.Worn.{Worn}
 use Rattle.rv_behind.specs.Acting.{CallsFit, Does}
-use Rattle.rv_behind.specs.Events.{by, catalogue_of, units_in}
+use Rattle.rv_behind.specs.Events.{by, units_in}
 use Rattle.rv_behind.specs.declared.event.Ask.{Ask}
 use Rattle.rv_behind.specs.declared.event.Event.{Event}
 use Rattle.rv_behind.specs.declared.event.Event.TheVariants.{Asks, Loads, Lists}

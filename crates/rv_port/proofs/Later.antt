@@ -1,14 +1,10 @@
 -- What longer histories have of shorter ones: list changes, and the hand-over of one that waited.
 use Rattle.std.proofs.Common.{◌≡◌, ℕ, ◌≤◌, Bool, true, false, eqb, if◌then◌else◌, List, [], ◌∷◌, ◌++◌, length, reverse, Option, Some, None, refl, sym, ap, ◌∙◌, subst, arith, append_assoc, append-nil, length-append}
-use Rattle.std.specs.Prelude.{is_some, ℤ, ◌&&◌, not, int_le, pos}
-use Rattle.std.proofs.lemmas.Bool.{eqb-true}
-use Rattle.std.proofs.lemmas.Bool.Decides.{nat_tests}
+use Rattle.std.specs.Prelude.{is_some, ℤ, int_le, pos}
 use Rattle.std.proofs.lemmas.List.{reverse-append}
 use Rattle.rv_access.specs.Words.{Words}
-use Rattle.rv_shape.specs.Catalogue.{first_of}
-use Rattle.rv_event.specs.Past.{clock, halted, next_of, if_named, or_else, released, said, stance, stance_of, until_then}
+use Rattle.rv_event.specs.Past.{clock, halted, next_of, released, said, stance, stance_of, until_then}
 use Rattle.rv_event.specs.Recorded.{recorded}
-use Rattle.rv_event.specs.declared.entry.Answer.{Answer}
 use Rattle.rv_event.specs.declared.entry.Answer.TheVariants as Answers
 use Rattle.rv_event.specs.declared.entry.Rule.{Rule}
 use Rattle.rv_event.specs.declared.entry.Stance.{Stance}
@@ -16,14 +12,12 @@ use Rattle.rv_event.specs.declared.entry.Stance.TheVariants.{Free, InQueue, Hand
 use Rattle.rv_event.specs.declared.entry.Entry.{Entry}
 use Rattle.rv_event.specs.declared.entry.Entry.TheVariants.{Asked}
 use Rattle.rv_event.specs.declared.entry.Request.{Request}
-use Rattle.rv_event.specs.declared.entry.Request.TheVariants.{Call, Complete, Resume, DelayUntil, Clock, Fire, Quit, Tick, Halt}
+use Rattle.rv_event.specs.declared.entry.Request.TheVariants.{Call, Resume}
 use Rattle.rv_event.specs.declared.entry.Recorded.{Recorded}
 use Rattle.rv_event.specs.declared.entry.Recorded.TheVariants as Words
-use Rattle.rv_event.specs.declared.entry.Next.{Next}
-use Rattle.rv_event.specs.declared.entry.Next.TheVariants.{Nothing, HandedTo, Dropped}
+use Rattle.rv_event.specs.declared.entry.Next.TheVariants.{HandedTo}
 use Rattle.rv_history.specs.History.{History, changes}
-use Rattle.rv_history.specs.Fitting.{fits}
-use Rattle.rv_history.specs.Due.{out, due, table, gate, within, enough, goes_on, due_resume, or_waiting}
+use Rattle.rv_history.specs.Due.{out, due_resume, or_waiting}
 use Rattle.rv_history.proofs.Answered.{answered}
 use Rattle.rv_turn.specs.Histories.{StartsWith}
 use Rattle.rv_accounts.proofs.HandedCalls.{is_handed, own_not_handed, unless_named, done_by, still_waits, itself}

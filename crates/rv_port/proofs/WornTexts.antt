@@ -31,10 +31,12 @@ full_end (ended a) = a
 full_end (asking q go) = full_end (go Full)
 
 along_full : {A : Type 0} (what : Asking A) → Along what (full_trace what) (full_end what)
+unfolding full_trace full_end
 along_full (ended a) = refl
 along_full (asking q go) = (refl, along_full (go Full))
 
 none_recorded : {A : Type 0} (what : Asking A) → recorded_of (full_trace what) ≡ []
+unfolding full_trace
 none_recorded (ended a) = refl
 none_recorded (asking q go) = none_recorded (go Full)
 
@@ -47,6 +49,7 @@ rest_of [] = []
 rest_of (pair ∷ more) = more
 
 each_full : {A : Type 0} (what : Asking A) (before : Trace) (q : Request) (r : Answer) (behind : Trace) → full_trace what ≡ before ++ (q, r) ∷ behind → (r ≡ Full) × (recorded_of behind ≡ [])
+unfolding full_trace
 each_full (ended a) [] q r behind e = absurd (cc e)
 each_full (ended a) (x ∷ before) q r behind e = absurd (cc e)
 each_full (asking p go) [] q r behind e = (sym (ap (answer_in r) e), ap (λ (l : Trace). recorded_of (rest_of l)) (sym e) ∙ none_recorded (go Full))
