@@ -37,8 +37,8 @@ use Rattle.rv_exec.specs.Bodies.{all_of, bodies_view, held, shared_view, units_o
 use Rattle.rv_exec.specs.declared.bodies.Bodies.{Bodies}
 use Rattle.rv_exec.specs.declared.bodies.SharedUnit.{SharedUnit}
 use Rattle.rv_behind.specs.declared.event.Lent.{Lent}
-use Rattle.rv_behind.specs.Events.{events, back_of, log_of, log_in, history_at, catalogue_of}
-use Rattle.rv_behind.specs.Acting.{AreBrought, entered, changes, listed, changed_to, Loaded, LoadedIf, fits_behind, Unloaded, Changed, IfOperator, IsLent, lent_view, Due, Does, begun_by}
+use Rattle.rv_behind.specs.Events.{events, back_of, log_of, log_in, history_at, catalogue_of, bodies_at}
+use Rattle.rv_behind.specs.Acting.{AreBrought, CallsFit, entered, changes, listed, changed_to, Loaded, LoadedIf, fits_behind, Unloaded, Changed, IfOperator, IsLent, lent_view, Due, Does, begun_by}
 use Rattle.rv_behind.specs.declared.event.Begun.{Begun}
 use Rattle.rv_behind.specs.declared.event.Ask.{Ask}
 use Rattle.rv_behind.specs.declared.event.Ask.TheVariants as Wants
@@ -66,25 +66,34 @@ views_of : (us : List SharedUnit) → map shared_view us ≡ map unit_view (map 
 views_of [] = refl
 views_of (u ∷ us) = ap (λ (z : List Code.UnitBodies). shared_view u ∷ z) (views_of us)
 
+-- the bodies of the events are these
+bodies_log : (h : History) (bodies : Bodies) → Legal h → AreBrought h bodies → bodies_view bodies ≡ bodies_at (log_in h bodies)
+bodies_log h bodies l b = ap all_of (views_of bodies.units.items) ∙ ap (λ (z : List UnitBodies). all_of (map unit_view z)) (sym (rebuilt_units h (units_of bodies) l b.count))
+
+-- and their calls fit the units
+pub fits_log : (h : History) (bodies : Bodies) → Legal h → AreBrought h bodies → CallsFit (log_in h bodies)
+fits_log h bodies l b = (λ i. calls_fit (catalogue_log h (units_of bodies) l i) (sym (bodies_log h bodies l b) i)) ∙ b.fit
+
 -- what was lent are the bodies of the events
 lent_log : (h : History) (bodies : Bodies) (lent : Option Lent) → Legal h → AreBrought h bodies
     → IfSome lent (λ l. bodies_view (arc_value l.bodies) ≡ bodies_view bodies) → IsLent (log_in h bodies) (lent_view lent)
 lent_log h bodies None l b same = tt
 lent_log h bodies (Some lent) l b same = (
-  same ∙ (ap all_of (views_of bodies.units.items) ∙ ap (λ (z : List UnitBodies). all_of (map unit_view z)) (sym (rebuilt_units h (units_of bodies) l b.count))),
+  same ∙ bodies_log h bodies l b,
   (λ i. calls_fit (catalogue_log h (units_of bodies) l i) (same i)) ∙ b.fit,
 )
 
 -- the bodies are given
 pub given : (h : History) (bodies : Bodies) (a : ℕ) (lent : Option Lent) → Legal h → AreBrought h bodies → IfSome lent (λ l. bodies_view (arc_value l.bodies) ≡ bodies_view bodies)
     → Does h.limits (log_in h bodies) a Wants.Bodies (Gives.Bodies lent) (log_in h bodies)
-given h bodies a lent l some kept = (legal_log h (units_of bodies) l, (lent_log h bodies lent l some kept, refl))
+given h bodies a lent l some kept = (legal_log h (units_of bodies) l, fits_log h bodies l some, (lent_log h bodies lent l some kept, refl))
 
 pub stepped : (h k : History) (bodies : Bodies) (a : ℕ) (q : Request) (r : Answer) (b : Begun) (lent : Option Lent) → Legal h → AreBrought h bodies → r ≡ out h a q → k ≡ legal.after h a q r
     → b ≡ begun_by k.shapes a q r → k.shapes ≡ h.shapes → IfSome lent (λ l. bodies_view (arc_value l.bodies) ≡ bodies_view bodies)
     → Does h.limits (log_in h bodies) a (Wants.Step q) (Gives.Answered r b lent) (log_in k bodies)
 stepped h k bodies a q r b lent l some is e begun same kept = let us = units_of bodies in (
   legal_log h us l,
+  fits_log h bodies l some,
   (
     (is ∙ ap (λ (z : History). out z a q) (sym (rebuilt h us l)), ap (λ (z : History). log_of z us) e ∙ entered_log (recorded r) h us a q),
     begun ∙ ap (λ (z : List Shape). begun_by z a q r) (same ∙ sym (catalogue_log h us l)),
@@ -217,14 +226,21 @@ fits_found h bodies units shape unit r l more is e =
     ap (λ (z : List Shape). calls_fit (z ++ shape ∷ []) (unit_view unit)) (catalogue_log h (units_of bodies) l)
     ∙ (ap (λ (z : List Shape). calls_fit z (unit_view unit)) (sym more) ∙ (sym is ∙ e))
 
+-- those of one more unit fit too
+pub one_more_fits : (shapes : List Shape) (shape : Shape) (us : List UnitBodies) (unit : UnitBodies) → calls_fit shapes (all_of (map unit_view us)) ≡ true → calls_fit (shapes ++ shape ∷ []) (unit_view unit) ≡ true
+    → calls_fit (shapes ++ shape ∷ []) (all_of (map unit_view (us ++ unit ∷ []))) ≡ true
+one_more_fits shapes shape us unit old new =
+    let all : List Shape = shapes ++ shape ∷ [] in
+    ap (λ (z : List Code.UnitBodies). calls_fit all (all_of z)) (views_more us unit)
+    ∙ units_call (callee_fits all) (map unit_view us) (unit_view unit ∷ []) (calls_keep shapes (shape ∷ []) (all_of (map unit_view us)) old) (one_calls (callee_fits all) (unit_view unit) new)
+
 fits_more : (h k : History) (bodies more : Bodies) (shape : Shape) (unit : UnitBodies) (r : Answer) → Legal h → calls_fit h.shapes (bodies_view bodies) ≡ true → fits_behind (log_in h bodies) shape unit ≡ true → k ≡ after_load h shape r
     → is_some (recorded r) ≡ true → units_of more ≡ units_of bodies ++ unit ∷ [] → calls_fit k.shapes (bodies_view more) ≡ true
 fits_more h k bodies more shape unit r l old new e b is =
-    let shapes : List Shape = h.shapes ++ shape ∷ [] in
-    let these : calls_fit shapes (all_of (map unit_view (units_of bodies))) ≡ true = ap (λ (z : Code.UnitBodies). calls_fit shapes z) (sym (view_is bodies)) ∙ calls_keep h.shapes (shape ∷ []) (bodies_view bodies) old in
-    let this : calls_fit shapes (unit_view unit) ≡ true = ap (λ (z : List Shape). calls_fit (z ++ shape ∷ []) (unit_view unit)) (sym (catalogue_log h (units_of bodies) l)) ∙ new in
-    (λ i. calls_fit ((ap (λ (z : History). z.shapes) e ∙ shapes_more (is_some (recorded r)) h shape b) i) ((view_is more ∙ (ap (λ (z : List UnitBodies). all_of (map unit_view z)) is ∙ ap all_of (views_more (units_of bodies) unit))) i))
-    ∙ units_call (callee_fits shapes) (map unit_view (units_of bodies)) (unit_view unit ∷ []) these (one_calls (callee_fits shapes) (unit_view unit) this)
+    let these : calls_fit h.shapes (all_of (map unit_view (units_of bodies))) ≡ true = ap (λ (z : Code.UnitBodies). calls_fit h.shapes z) (sym (view_is bodies)) ∙ old in
+    let this : calls_fit (h.shapes ++ shape ∷ []) (unit_view unit) ≡ true = ap (λ (z : List Shape). calls_fit (z ++ shape ∷ []) (unit_view unit)) (sym (catalogue_log h (units_of bodies) l)) ∙ new in
+    (λ i. calls_fit ((ap (λ (z : History). z.shapes) e ∙ shapes_more (is_some (recorded r)) h shape b) i) ((view_is more ∙ ap (λ (z : List UnitBodies). all_of (map unit_view z)) is) i))
+    ∙ one_more_fits h.shapes shape (units_of bodies) unit these this
 
 fits_same : (h k : History) (bodies : Bodies) (shape : Shape) (r : Answer) → calls_fit h.shapes (bodies_view bodies) ≡ true → k ≡ after_load h shape r → is_some (recorded r) ≡ false → calls_fit k.shapes (bodies_view bodies) ≡ true
 fits_same h k bodies shape r fit e b = ap (λ (z : List Shape). calls_fit z (bodies_view bodies)) (ap (λ (z : History). z.shapes) e ∙ shapes_same (is_some (recorded r)) h shape b) ∙ fit
@@ -335,9 +351,9 @@ changed_is h k us change r l m e = let same : h ≡ history_at h.limits (log_of 
 )
 
 -- an ask of an actor
-pub does_ask : (h : History) (us : List UnitBodies) (a : ℕ) (ask wanted : Ask) (reply : Reply) (after : List Event) → ask ≡ wanted → Legal h → Due h.limits (log_of h us) a wanted reply after
-    → Does h.limits (log_of h us) a ask reply after
-does_ask h us a ask wanted reply after is l d = subst (λ (z : Ask). Does h.limits (log_of h us) a z reply after) (sym is) (legal_log h us l, d)
+pub does_ask : (h : History) (bodies : Bodies) (a : ℕ) (ask wanted : Ask) (reply : Reply) (after : List Event) → ask ≡ wanted → Legal h → AreBrought h bodies → Due h.limits (log_in h bodies) a wanted reply after
+    → Does h.limits (log_in h bodies) a ask reply after
+does_ask h bodies a ask wanted reply after is l b d = subst (λ (z : Ask). Does h.limits (log_in h bodies) a z reply after) (sym is) (legal_log h (units_of bodies) l, fits_log h bodies l b, d)
 
 -- what only the operator may ask
 misused : (b : Bool) (does : Type 0) (log : List Event) → b ≡ false → IfOperator b does Misuse log log
@@ -352,6 +368,6 @@ misused_due c log a (Wants.Load s unit) b t e = misused (eqb a 0) _ log e
 misused_due c log a (Wants.LoadWithoutMemory s) b t e = misused (eqb a 0) _ log e
 misused_due c log a (Wants.Change s) b t e = misused (eqb a 0) _ log e
 
-pub does_misuse : (h : History) (us : List UnitBodies) (a : ℕ) (ask : Ask) (b : Begun) → changes ask ≡ true → Legal h → (a ≡ 0 → ⊥)
-    → Does h.limits (log_of h us) a ask (Gives.Answered Misuse b None) (log_of h us)
-does_misuse h us a ask b t l n = (legal_log h us l, misused_due h.limits (log_of h us) a ask b t (ne_eqb a 0 n))
+pub does_misuse : (h : History) (bodies : Bodies) (a : ℕ) (ask : Ask) (b : Begun) → changes ask ≡ true → Legal h → AreBrought h bodies → (a ≡ 0 → ⊥)
+    → Does h.limits (log_in h bodies) a ask (Gives.Answered Misuse b None) (log_in h bodies)
+does_misuse h bodies a ask b t l kept n = (legal_log h (units_of bodies) l, fits_log h bodies l kept, misused_due h.limits (log_in h bodies) a ask b t (ne_eqb a 0 n))

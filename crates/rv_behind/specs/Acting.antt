@@ -130,9 +130,19 @@ Due c log a (Wants.Read from) Gives.Unread after = after ≡ log
 Due c log a Wants.Bodies (Gives.Bodies lent) after = IsLent log (lent_view lent) × (after ≡ log)
 Due c log a ask reply after = ⊥
 
--- an act of the host behind the turn (own)
+-- the calls of all bodies in this history fit its units (own)
+abbrev pub CallsFit : List Event → Type 0
+CallsFit log = calls_fit (catalogue_of log) (bodies_at log) ≡ true
+
+-- an act of the host behind the turn, on a legal history, in which all calls fit (own)
 abbrev pub Does : Limits → List Event → ℕ → Ask → Reply → List Event → Type 0
-Does limits log a ask reply after = Legal (history_at limits log) × Due limits log a ask reply after
+Does limits log a ask reply after = Legal (history_at limits log) × CallsFit log × Due limits log a ask reply after
+
+-- behind it they fit still (own)
+abbrev pub CallsStayFit : Type 0
+CallsStayFit =
+    (limits : Limits) (log : List Event) (a : ℕ) (ask : Ask) (reply : Reply) (after : List Event)
+    → Does limits log a ask reply after → CallsFit after
 
 -- The law: one event of the actor more, or none
 
@@ -200,4 +210,4 @@ due_adds c log a Wants.Bodies Gives.Unread after d = absurd d
 due_adds c log a Wants.Bodies (Gives.Bodies lent) after d = inl d.1
 
 pub adds : (limits : Limits) (log : List Event) (a : ℕ) (ask : Ask) (reply : Reply) (after : List Event) → Does limits log a ask reply after → Adds by log a after
-adds limits log a ask reply after d = due_adds limits log a ask reply after d.1
+adds limits log a ask reply after d = due_adds limits log a ask reply after d.2
