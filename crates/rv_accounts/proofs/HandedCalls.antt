@@ -200,22 +200,22 @@ last_own : (limits : Limits) (a : ℕ) (past : List Entry) (shapes : List Shape)
 last_own limits a [] shapes lists before q r l e = absurd (no_last before (q, r) e)
 last_own limits a (Asked b p word ∷ past) shapes lists before q r l e =
     by_test (eqb b a) refl (λ f. last_own limits a past shapes lists before q r l.0 (sym (append-nil (asked_in limits a past shapes lists)) ∙ f)) e where
-  h : History
-  h = history_of limits past shapes lists
+      h : History
+      h = history_of limits past shapes lists
 
-  by_test : (k : Bool) → eqb b a ≡ k → (asked_in limits a past shapes lists ++ [] ≡ before ++ (q, r) ∷ [] → LastOwn a past q r) → asked_in limits a past shapes lists ++ cond k ((p, out h a p) ∷ []) [] ≡ before ++ (q, r) ∷ [] → LastOwn a (Asked b p word ∷ past) q r
-  by_test true is earlier f =
-      let same = last_same (asked_in limits a past shapes lists) before (p, out h a p) (q, r) f in
-      let here : b ≡ a = eqb-true b a is in
-      record {
-        newer = [];
-        older = past;
-        word = word;
-        split = λ i. Asked (here i) (ap (λ (z : Request × Answer). z.0) same i) word ∷ past;
-        word_is = ap (λ (z : Request × Answer). recorded z.1) (sym same) ∙ (ap (λ (n : ℕ). recorded (out h n p)) (sym here) ∙ l.1);
-        silent = refl;
-      }
-  by_test false is earlier f = others a (Asked b p word) past q r is (earlier f)
+      by_test : (k : Bool) → eqb b a ≡ k → (asked_in limits a past shapes lists ++ [] ≡ before ++ (q, r) ∷ [] → LastOwn a past q r) → asked_in limits a past shapes lists ++ cond k ((p, out h a p) ∷ []) [] ≡ before ++ (q, r) ∷ [] → LastOwn a (Asked b p word ∷ past) q r
+      by_test true is earlier f =
+          let same = last_same (asked_in limits a past shapes lists) before (p, out h a p) (q, r) f in
+          let here : b ≡ a = eqb-true b a is in
+          record {
+            newer = [];
+            older = past;
+            word = word;
+            split = λ i. Asked (here i) (ap (λ (z : Request × Answer). z.0) same i) word ∷ past;
+            word_is = ap (λ (z : Request × Answer). recorded z.1) (sym same) ∙ (ap (λ (n : ℕ). recorded (out h n p)) (sym here) ∙ l.1);
+            silent = refl;
+          }
+      by_test false is earlier f = others a (Asked b p word) past q r is (earlier f)
 last_own limits a (Load ∷ past) shapes lists before q r l e =
     let earlier : shapes_before Load shapes ≡ l.0 = ap (λ (s : List Shape). shapes_before Load s) l.2 ∙ front_is l.0 l.1 in
     others a Load past q r refl
@@ -296,7 +296,7 @@ handed_give h a o p vs s before room l e woken =
     let f : HandOver a t.newer = handed_among a t.newer (Asked a q Words.Queued ∷ t.older) (still_waits a o p vs t.older) (subst (λ (es : List Entry). is_handed (stance a es) ≡ true) split (woken_handed h a s woken)) in
     let start : Entry = Asked f.of f.request (Words.Done (HandedTo a)) in
     let whole : h.past ≡ f.newer ++ start ∷ (f.older ++ Asked a q Words.Queued ∷ t.older) =
-        split ∙ (ap (λ (es : List Entry). es ++ Asked a q Words.Queued ∷ t.older) f.split ∙ append_assoc f.newer (start ∷ f.older) (Asked a q Words.Queued ∷ t.older)) in
+    split ∙ (ap (λ (es : List Entry). es ++ Asked a q Words.Queued ∷ t.older) f.split ∙ append_assoc f.newer (start ∷ f.older) (Asked a q Words.Queued ∷ t.older)) in
     let quiet = none_both (is_own a) f.newer (start ∷ f.older) (subst (λ (es : List Entry). list_any (is_own a) es ≡ false) f.split t.silent) in
     let w = legal_before h.limits f.newer (start ∷ (f.older ++ Asked a q Words.Queued ∷ t.older)) h.shapes h.lists (legal_split h f.newer (start ∷ (f.older ++ Asked a q Words.Queued ∷ t.older)) l whole) in
     handed_by h a o p vs s l room woken f.newer f.older t.older f.of f.request whole quiet.0 (neither (is_own a start) (list_any (is_own a) f.older) quiet.1).1
