@@ -17,8 +17,8 @@ use Rattle.rv_exec.specs.Bodies.{held, units_of}
 use Rattle.rv_exec.specs.declared.bodies.SharedUnit.{SharedUnit}
 use Rattle.rv_exec.specs.declared.bodies.Bodies.{Bodies}
 use Rattle.rv_behind.specs.Events.{by, log_of, log_in, rest_of, catalogue_of}
-use Rattle.rv_behind.specs.Acting.{AreBrought, CallsFit, Does, Due, LoadedIf, fits_behind, IfOperator}
-use Rattle.rv_behind.proofs.Doing.{none_fit}
+use Rattle.rv_behind.specs.Acting.{AreBrought, BodiesFit, Does, Due, LoadedIf, fits_behind, IfOperator}
+use Rattle.rv_behind.proofs.Doing.{none_fit, none_numbered}
 use Rattle.rv_behind.proofs.Fitting.{stay_fit}
 use Rattle.rv_port.specs.Traces.{Passing}
 use Rattle.rv_fits.specs.Fits.{are_of}
@@ -41,7 +41,7 @@ at_catalogue turn v given catalogue log k owned =
 
 -- after an act
 acted_control : (turn : TableId) (v w : Passing) (given : List ℕ) (catalogue more : List Shape) → IsControl turn v given catalogue
-    → w ≡ record v { seen = w.seen; own = w.own; left = v.left - 1 } → mine by w.actor w.seen ≡ w.base ++ w.own → more ≡ catalogue_of w.seen → CallsFit w.seen → IsControl turn w given more
+    → w ≡ record v { seen = w.seen; own = w.own; left = v.left - 1 } → mine by w.actor w.seen ≡ w.base ++ w.own → more ≡ catalogue_of w.seen → BodiesFit w.seen → IsControl turn w given more
 acted_control turn v w given catalogue more k same owns is fit =
     let actor : w.actor ≡ 0 = ap (λ (z : Passing). z.actor) same ∙ k.operator in record {
       here = ap (λ (z : Passing). z.turn) same ∙ k.here;
@@ -148,7 +148,7 @@ pub act_or_worn : (turn : TableId) (v w : Passing) (given : List ℕ) (catalogue
 act_or_worn turn v w given catalogue ask (Ok r) k n t = act_kept turn v w given catalogue ask r k n t
 act_or_worn turn v w given catalogue ask (Err e) k n t = worn_kept turn v w given catalogue k t
 
-pub opened_by : (turn : TableId) (pass : Passing) (given : List ℕ) (catalogue : List Shape) (h : History) (us : List UnitBodies) → Legal h → CallsFit (log_of h us) → pass ≡ opening_of turn h.limits by (log_of h us) → given ≡ [] → catalogue ≡ h.shapes
+pub opened_by : (turn : TableId) (pass : Passing) (given : List ℕ) (catalogue : List Shape) (h : History) (us : List UnitBodies) → Legal h → BodiesFit (log_of h us) → pass ≡ opening_of turn h.limits by (log_of h us) → given ≡ [] → catalogue ≡ h.shapes
     → IsControl turn pass given catalogue
 opened_by turn pass given catalogue h us l fit is none same =
     subst (λ (z : Passing × List ℕ × List Shape). IsControl turn z.0 z.1 z.2) (λ i. (sym is i, sym none i, sym same i)) (opened turn h us l fit)
@@ -171,7 +171,7 @@ as_many (u ∷ us) [] e = absurd (omega (arith, ap length e))
 as_many (u ∷ us) (s ∷ ss) e = let more = as_many us ss (ap rest_of e) in omega (arith, more)
 
 pub none_brought : (h : History) (bodies : Bodies) → map unit_view (units_of bodies) ≡ map no_bodies_of h.shapes → AreBrought h bodies
-none_brought h bodies none = record { count = as_many (units_of bodies) h.shapes none; fit = none_fit h.shapes h.shapes bodies none }
+none_brought h bodies none = record { count = as_many (units_of bodies) h.shapes none; numbered = none_numbered h.shapes bodies none; fit = none_fit h.shapes h.shapes bodies none }
 
 pub load_more : (turn : TableId) (v w : Passing) (given : List ℕ) (catalogue more : List Shape) (shape : Shape) (unit : SharedUnit) (r : Answer) → IsControl turn v given catalogue → Told v (Wants.Load shape unit) r w
     → is_some (recorded r) ≡ true → more ≡ catalogue ++ shape ∷ [] → IsControl turn w given more
@@ -195,6 +195,6 @@ pub port_limited : (turn : TableId) (v w p : Passing) (given : List ℕ) (catalo
 port_limited turn v w p given catalogue actor acts k t = ap (λ (z : Passing). is_some z.about) t.new_is ∙ k.limited
 
 -- and has seen what the control had
-pub port_fits : (turn : TableId) (v w p : Passing) (given : List ℕ) (catalogue : List Shape) (actor acts : ℕ) → IsControl turn v given catalogue → Parted by v actor acts w p → CallsFit p.seen
+pub port_fits : (turn : TableId) (v w p : Passing) (given : List ℕ) (catalogue : List Shape) (actor acts : ℕ) → IsControl turn v given catalogue → Parted by v actor acts w p → BodiesFit p.seen
 port_fits turn v w p given catalogue actor acts k t =
-    subst (λ (z : Passing). CallsFit z.seen) (sym t.new_is) (port_kept turn v w p given catalogue actor acts k t).fit
+    subst (λ (z : Passing). BodiesFit z.seen) (sym t.new_is) (port_kept turn v w p given catalogue actor acts k t).fit

@@ -3,7 +3,6 @@ use Rattle.std.proofs.Common.{◌≡◌, ⊎_elim, ℕ, zero, suc, ◌-◌, ◌<
 use Rattle.std.specs.Prelude.{is_some, nat_lt, slice_get, if◌then◌else◌}
 use Rattle.rv_code.specs.Bodies.{UnitBodies}
 use Rattle.rv_event.specs.declared.entry.Exit.{Exit}
-use Rattle.rv_fits.specs.Fits.{calls_fit}
 use Rattle.rv_exec.specs.Asking.{Along}
 use Rattle.rv_exec.specs.Bodies.{flat, task_of}
 use Rattle.rv_exec.specs.Tasks.{task_run}
@@ -11,7 +10,7 @@ use Rattle.rv_history.specs.declared.limits.Limits.{Limits}
 use Rattle.rv_turn.specs.Histories.{StartsWith}
 use Rattle.rv_turn.specs.Passes.{Acted}
 use Rattle.rv_turn.specs.Prefixes.{starts_self}
-use Rattle.rv_behind.specs.Acting.{CallsFit, Does, IsLent, lent_view}
+use Rattle.rv_behind.specs.Acting.{BodiesFit, Does, IsLent, lent_view}
 use Rattle.rv_behind.specs.Events.{by, bodies_at, catalogue_of}
 use Rattle.rv_behind.specs.declared.event.Ask.TheVariants as Wants
 use Rattle.rv_behind.specs.declared.event.Event.{Event}
@@ -69,7 +68,7 @@ module _ (v u w : Passing) (lent : Option Lent) (bodies : UnitBodies) (budget : 
   k = record {
     owns = acted.owns;
     from = subst (λ (l : List Event). StartsWith l at) (sym acted.answer.2.1) (starts_self at);
-    fit = subst (λ (z : UnitBodies). calls_fit (catalogue_of at) z ≡ true) given.0 given.1;
+    fit = given.1;
   }
 
   actor_is : u.actor ≡ v.actor
@@ -124,7 +123,7 @@ text_lent_follows v w mark after budget exit owns owned base has r none task is 
 none_left : (n : ℕ) → 0 < n → n ≡ 0 → ⊥
 none_left n few e = omega (arith, few, e)
 
-pub text_follows : (v w : Passing) (mark after : Bool) (budget : ℕ) (exit : Exit) → Owns v → Owns w → v.base ≡ [] → HasHandler (catalogue_of v.seen) v.actor → CallsFit v.seen → TextRan v mark budget exit w after → FollowsUnless after budget v w
+pub text_follows : (v w : Passing) (mark after : Bool) (budget : ℕ) (exit : Exit) → Owns v → Owns w → v.base ≡ [] → HasHandler (catalogue_of v.seen) v.actor → BodiesFit v.seen → TextRan v mark budget exit w after → FollowsUnless after budget v w
 text_follows v w mark after budget exit owns owned base has fit t none task is =
     ⊎_elim (λ x. worn_follows v w budget owns base fit x.0 none task)
     (λ y. ⊎_elim (λ x. absurd (none_left (held_by v) x.0 (sym (counts_new v owns base none)))) (λ r. text_lent_follows v w mark after budget exit owns owned base has r none task is) y) t

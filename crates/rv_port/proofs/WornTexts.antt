@@ -11,7 +11,7 @@ use Rattle.rv_turn.specs.Histories.{mine}
 use Rattle.rv_turn.specs.Passes.{IsWorn}
 use Rattle.rv_turn.specs.Prefixes.{starts_self}
 use Rattle.rv_meant.specs.Asks.{recorded_of}
-use Rattle.rv_behind.specs.Acting.{CallsFit}
+use Rattle.rv_behind.specs.Acting.{BodiesFit}
 use Rattle.rv_behind.specs.Events.{by, bodies_at}
 use Rattle.rv_behind.specs.declared.event.Event.{Event}
 use Rattle.rv_accounts.specs.Followed.{TextFollowed}
@@ -56,7 +56,7 @@ each_full (asking p go) [] q r behind e = (sym (ap (answer_in r) e), ap (λ (l :
 each_full (asking p go) (x ∷ before) q r behind e = each_full (go Full) before q r behind (ap rest_of e)
 
 -- So it is followed: it asked nothing that has an entry.
-pub worn_follows : (v w : Passing) (budget : ℕ) → Owns v → v.base ≡ [] → CallsFit v.seen → IsWorn v w → v.own ≡ [] → is_some (task_of (bodies_at v.seen) v.actor) ≡ true
+pub worn_follows : (v w : Passing) (budget : ℕ) → Owns v → v.base ≡ [] → BodiesFit v.seen → IsWorn v w → v.own ≡ [] → is_some (task_of (bodies_at v.seen) v.actor) ≡ true
     → TextFollowed (limits_in w.about) w.actor budget w.left v.seen w.seen
 worn_follows v w budget owns base fit worn none task =
     let what = task_run (bodies_at v.seen) v.actor budget in

@@ -17,7 +17,7 @@ use Rattle.rv_exec.specs.declared.bodies.SharedUnit.{SharedUnit}
 use Rattle.rv_history.specs.History.{History}
 use Rattle.rv_behind.specs.Events.{by, log_of, catalogue_of}
 use Rattle.rv_behind.specs.declared.event.Event.{Event}
-use Rattle.rv_behind.specs.Acting.{CallsFit, Does}
+use Rattle.rv_behind.specs.Acting.{BodiesFit, Does}
 use Rattle.rv_port.specs.Actors.{is_performer}
 use Rattle.rv_port.specs.Traces.{Passing}
 use Rattle.rv_port.specs.declared.fault.PortFault.{PortFault}
@@ -101,7 +101,7 @@ pub record IsControl (turn : TableId) (pass : Passing) (given : List ℕ) (catal
   pub owns : mine by 0 pass.seen ≡ pass.base ++ pass.own
   pub limited : is_some pass.about ≡ true
   pub catalogue_is : catalogue ≡ catalogue_of pass.seen
-  pub fit : CallsFit pass.seen
+  pub fit : BodiesFit pass.seen
 
 -- What every control keeps: it is the operator's, its limits are known, and its own events are the operator's in all that it has seen, behind those
 -- that the host had at first, which are the operator's too. (own)

@@ -22,7 +22,7 @@ impl Model for Note {
 
     ghost view = { λ n. n.note };
 
-    ghost use Rattle.rv_behind.specs.Acting.{CallsFit};
+    ghost use Rattle.rv_behind.specs.Acting.{BodiesFit};
 
-    ghost invariant = { λ n. CallsFit n.note.seen };
+    ghost invariant = { λ n. BodiesFit n.note.seen };
 }
