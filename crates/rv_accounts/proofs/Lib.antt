@@ -2,3 +2,4 @@ pub mod Growing
 pub mod Staying
 pub mod FollowedLater
 pub mod Giving
+pub mod HandedCalls

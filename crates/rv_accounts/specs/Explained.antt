@@ -1,25 +1,25 @@
 -- The recorded ends of an actor in what was seen are what their texts mean (own).
-use Rattle.std.specs.Prelude.{◌≡◌, ℕ, ℤ, true, List, [], ◌∷◌, ◌++◌}
+use Rattle.std.specs.Prelude.{◌≡◌, ℕ, ℤ, List, [], ◌∷◌, ◌++◌}
 use Rattle.rv_event.specs.declared.entry.Exit.{Exit}
 use Rattle.rv_event.specs.declared.entry.Next.{Next}
 use Rattle.rv_event.specs.declared.entry.Recorded.TheVariants.{Done}
 use Rattle.rv_event.specs.declared.entry.Request.TheVariants.{Complete}
-use Rattle.rv_fits.specs.Fits.{calls_fit}
 use Rattle.rv_history.specs.declared.limits.Limits.{Limits}
 use Rattle.rv_history.specs.Legal.{Legal}
 use Rattle.rv_turn.specs.Histories.{StartsWith, mine}
 use Rattle.rv_meant.specs.Explained.{MeantEnd}
+use Rattle.rv_behind.specs.Acting.{BodiesFit}
 use Rattle.rv_behind.specs.Events.{by, bodies_at, catalogue_of, history_at}
 use Rattle.rv_behind.specs.declared.event.Event.{Event}
 use Rattle.rv_behind.specs.declared.event.Event.TheVariants.{Asks}
 
 -- An end of an actor, behind what was seen before it, which is legal, is explained: with some front of that history the
--- operation's unit is loaded, all calls of the bodies loaded there fit, and by these bodies the end is meant.
+-- operation's unit is loaded, each unit there has bodies of its own, whose calls fit, and by these bodies the end is meant.
 pub record ExplainedEnd (limits : Limits) (actor : ℕ) (before : List Event) (scalars : List ℤ) (exit : Exit) : Type 0 where
   pub legal : Legal (history_at limits before)
   pub log : List Event
   pub from : StartsWith before log
-  pub fit : calls_fit (catalogue_of log) (bodies_at log) ≡ true
+  pub fit : BodiesFit log
   pub explained : MeantEnd (catalogue_of log) (bodies_at log) (history_at limits before) actor scalars exit
 
 -- so is each end of the actor in what was seen

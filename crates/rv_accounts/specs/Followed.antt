@@ -5,7 +5,6 @@ use Rattle.rv_event.specs.declared.entry.Answer.{Answer}
 use Rattle.rv_event.specs.declared.entry.Answer.TheVariants.{Full}
 use Rattle.rv_event.specs.declared.entry.Exit.{Exit}
 use Rattle.rv_event.specs.declared.entry.Request.{Request}
-use Rattle.rv_fits.specs.Fits.{calls_fit}
 use Rattle.rv_exec.specs.Asking.{Trace, Along}
 use Rattle.rv_exec.specs.Bodies.{task_of}
 use Rattle.rv_exec.specs.Stops.{is_final}
@@ -16,7 +15,8 @@ use Rattle.rv_history.specs.Legal.{Legal}
 use Rattle.rv_turn.specs.Histories.{StartsWith, mine}
 use Rattle.rv_meant.specs.Asks.{recorded_of}
 use Rattle.rv_meant.specs.Explained.{stops_bodies}
-use Rattle.rv_behind.specs.Events.{by, bodies_at, catalogue_of, history_at}
+use Rattle.rv_behind.specs.Acting.{BodiesFit}
+use Rattle.rv_behind.specs.Events.{by, bodies_at, history_at}
 use Rattle.rv_behind.specs.declared.event.Event.{Event}
 use Rattle.rv_accounts.specs.Seen.{asked_at, OwnAreDue}
 
@@ -40,15 +40,15 @@ IsAccounted limits actor acts began seen before request answer behind =
     (is_some (recorded answer) ≡ true)
     ⊎ (((is_final answer ≡ true) × DueToStop limits actor began seen before request) ⊎ WornFrom acts answer behind)
 
--- Of the bodies of a history that begins with what was seen at first, and with which what was seen at last begins, and whose calls
--- fit its units, the actor has a task: that asks all this, with so many requests of its own, to its quit. What of it has entries is
--- all that the actor asked in what was seen, with the answers that were due; any other ask stopped it, on a front of what was seen,
--- or since no act was left.
+-- Of the bodies of a history that begins with what was seen at first, and with which what was seen at last begins, and in which
+-- each unit has bodies of its own, whose calls fit, the actor has a task: that asks all this, with so many requests of its own, to
+-- its quit. What of it has entries is all that the actor asked in what was seen, with the answers that were due; any other ask
+-- stopped it, on a front of what was seen, or since no act was left.
 pub record TextFollowed (limits : Limits) (actor budget acts : ℕ) (since seen : List Event) : Type 0 where
   pub began : List Event
   pub later : StartsWith began since
   pub from : StartsWith seen began
-  pub fit : calls_fit (catalogue_of began) (bodies_at began) ≡ true
+  pub fit : BodiesFit began
   pub task : is_some (task_of (bodies_at began) actor) ≡ true
   pub trace : Trace
   pub exit : Exit

@@ -1,10 +1,20 @@
 -- What a start gives: the scalars of its object in the history (ISO/IEC 8652:2012, 9.5.1, 9.5.3, C.3).
-use Rattle.std.specs.Prelude.{◌≡◌, ℕ, ℤ, List, Some}
-use Rattle.rv_event.specs.Past.{innermost, scalars}
-use Rattle.rv_event.specs.declared.entry.Answer.TheVariants.{Started, Woken}
-use Rattle.rv_event.specs.declared.entry.Request.TheVariants.{Call, Fire, Resume}
+use Rattle.std.specs.Prelude.{◌≡◌, ℕ, ◌≤◌, ℤ, false, List, [], ◌∷◌, ◌++◌, Some}
+use Rattle.std.specs.List.{list_any}
+use Rattle.rv_event.specs.Past.{innermost, is_own, scalars}
+use Rattle.rv_event.specs.declared.entry.Answer.TheVariants.{Started, Queued, Woken}
+use Rattle.rv_event.specs.declared.entry.Body.{Body}
+use Rattle.rv_event.specs.declared.entry.Entry.{Entry}
+use Rattle.rv_event.specs.declared.entry.Entry.TheVariants.{Asked}
+use Rattle.rv_event.specs.declared.entry.Exit.{Exit}
+use Rattle.rv_event.specs.declared.entry.Next.TheVariants.{HandedTo}
+use Rattle.rv_event.specs.declared.entry.Recorded.TheVariants.{Done}
+use Rattle.rv_event.specs.declared.entry.Request.TheVariants.{Call, Complete, Fire, Resume}
+use Rattle.rv_exec.specs.Asking.{Trace}
 use Rattle.rv_history.specs.Due.{out, scalars_held}
 use Rattle.rv_history.specs.History.{History}
+use Rattle.rv_history.specs.Legal.{Legal}
+use Rattle.rv_meant.specs.Histories.{asks_of}
 use Rattle.rv_meant.specs.Explained.{Handles}
 
 -- a call that starts gives the scalars that its object has there
@@ -24,3 +34,25 @@ abbrev pub ResumesGiveScalars : Type 0
 ResumesGiveScalars =
     (h : History) (actor : ℕ) (components : List ℤ)
     → out h actor Resume ≡ Woken (Some components) → components ≡ scalars_held h (innermost h.shapes actor h.past)
+
+-- An end, with this exit, handed its object over to an actor, which asked nothing since: what it left are the object's scalars
+-- still (9.5.3).
+pub record HandsScalars (h : History) (actor object : ℕ) (left : List ℤ) : Type 0 where
+  pub later : List Entry
+  pub past : List Entry
+  pub by : ℕ
+  pub exit : Exit
+  pub split : h.past ≡ later ++ Asked by (Complete left exit) (Done (HandedTo actor)) ∷ past
+  pub silent : list_any (is_own actor) later ≡ false
+  pub ended : Body
+  pub ending : innermost h.shapes by past ≡ Some ended
+  pub there : ended.object ≡ object
+  pub still : left ≡ scalars h.shapes object h.past
+
+-- So a caller is given, whose last ask was this call, which waited in a queue, what the end that handed it the object left of it.
+abbrev pub HandedCallsGiveScalars : Type 0
+HandedCallsGiveScalars =
+    (h : History) (actor object operation : ℕ) (values components : List ℤ) (before : Trace)
+    → 1 ≤ h.limits.capacity → Legal h
+    → asks_of actor h ≡ before ++ (Call object operation values, Queued) ∷ []
+    → out h actor Resume ≡ Woken (Some components) → HandsScalars h actor object components

@@ -3,7 +3,7 @@
 
 ghost use Rattle.rv_accounts.specs.Explained.{ExplainedStays, NothingToExplain, OthersExplainNothing};
 ghost use Rattle.rv_accounts.specs.Followed.{FollowedStays};
-ghost use Rattle.rv_accounts.specs.Given.{CallsGiveScalars, FiresGiveScalars, ResumesGiveScalars};
+ghost use Rattle.rv_accounts.specs.Given.{CallsGiveScalars, FiresGiveScalars, HandedCallsGiveScalars, ResumesGiveScalars};
 ghost use Rattle.rv_accounts.specs.Seen.{AsksGrow, AsksStay};
 
 /// An event more in a history is an ask more, where it is the actor's.
@@ -37,9 +37,11 @@ pub fn followed_stays()
 {}
 
 /// What a start gives is what its object has in the history, also when a caller that waited wakes: so the components that an
-/// end is explained on are the history's own.
+/// end is explained on are the history's own. To a caller that waited in a queue they are those of its call's object, and what
+/// the end that handed this over left.
 pub fn starts_give_the_scalars()
     ensures calls { CallsGiveScalars }
     ensures fires { FiresGiveScalars }
     ensures resumes { ResumesGiveScalars }
+    ensures handed { HandedCallsGiveScalars }
 {}

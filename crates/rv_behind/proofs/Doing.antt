@@ -1,8 +1,8 @@
 -- What the host's calls do to the history behind the turn.
 use Rattle.std.proofs.Common.{◌≡◌, ℕ, length, map, arith, Bool, true, false, if◌then◌else◌, List, [], ◌∷◌, ◌++◌, reverse, Option, Some, None, refl, sym, ap, ◌∙◌, eqb, inl, inr, subst}
 use Rattle.std.specs.Prelude.{is_some}
-use Rattle.std.proofs.lemmas.Bool.{ne_eqb}
-use Rattle.std.proofs.lemmas.List.{reverse-append, length-append}
+use Rattle.std.proofs.lemmas.Bool.{eq-eqb, ne_eqb}
+use Rattle.std.proofs.lemmas.List.{reverse-append, length-append, length-replicate}
 use Rattle.rv_access.specs.Words.{Words}
 use Rattle.rv_access.specs.declared.change.Change.{Change}
 use Rattle.rv_shape.specs.Shape.{Shape}
@@ -30,15 +30,15 @@ use Rattle.rv_code.specs.declared.expression.Callee.{Callee}
 use Rattle.rv_fits.proofs.Both.{first_of_both, second_of_both, both_hold}
 use Rattle.rv_fits.proofs.Keeps.{calls_keep, alone_fits}
 use Rattle.rv_fits.specs.Calls.{object_calls, task_calls, every_call}
-use Rattle.rv_fits.specs.Fits.{callee_fits, calls_fit}
+use Rattle.rv_fits.specs.Fits.{are_of, callee_fits, calls_fit, numbered_as}
 use Rattle.rv_code.specs.BodyView.{unit_view}
 use Rattle.rv_code.specs.declared.body.UnitBodies.{UnitBodies}
 use Rattle.rv_exec.specs.Bodies.{all_of, bodies_view, held, shared_view, units_of}
 use Rattle.rv_exec.specs.declared.bodies.Bodies.{Bodies}
 use Rattle.rv_exec.specs.declared.bodies.SharedUnit.{SharedUnit}
 use Rattle.rv_behind.specs.declared.event.Lent.{Lent}
-use Rattle.rv_behind.specs.Events.{events, back_of, log_of, log_in, history_at, catalogue_of}
-use Rattle.rv_behind.specs.Acting.{AreBrought, entered, changes, listed, changed_to, Loaded, LoadedIf, fits_behind, Unloaded, Changed, IfOperator, IsLent, lent_view, Due, Does, begun_by}
+use Rattle.rv_behind.specs.Events.{events, back_of, log_of, log_in, history_at, catalogue_of, bodies_at}
+use Rattle.rv_behind.specs.Acting.{AreBrought, all_numbered, BodiesFit, entered, changes, listed, changed_to, Loaded, LoadedIf, fits_behind, Unloaded, Changed, IfOperator, IsLent, lent_view, Due, Does, begun_by}
 use Rattle.rv_behind.specs.declared.event.Begun.{Begun}
 use Rattle.rv_behind.specs.declared.event.Ask.{Ask}
 use Rattle.rv_behind.specs.declared.event.Ask.TheVariants as Wants
@@ -66,25 +66,37 @@ views_of : (us : List SharedUnit) → map shared_view us ≡ map unit_view (map 
 views_of [] = refl
 views_of (u ∷ us) = ap (λ (z : List Code.UnitBodies). shared_view u ∷ z) (views_of us)
 
+-- the bodies of the events are these
+bodies_log : (h : History) (bodies : Bodies) → Legal h → AreBrought h bodies → bodies_view bodies ≡ bodies_at (log_in h bodies)
+bodies_log h bodies l b = ap all_of (views_of bodies.units.items) ∙ ap (λ (z : List UnitBodies). all_of (map unit_view z)) (sym (rebuilt_units h (units_of bodies) l b.count))
+
+-- and they fit the units
+pub fits_log : (h : History) (bodies : Bodies) → Legal h → AreBrought h bodies → BodiesFit (log_in h bodies)
+fits_log h bodies l b = (
+  (λ i. all_numbered (catalogue_log h (units_of bodies) l i) (map unit_view (rebuilt_units h (units_of bodies) l b.count i))) ∙ b.numbered,
+  (λ i. calls_fit (catalogue_log h (units_of bodies) l i) (sym (bodies_log h bodies l b) i)) ∙ b.fit,
+)
+
 -- what was lent are the bodies of the events
 lent_log : (h : History) (bodies : Bodies) (lent : Option Lent) → Legal h → AreBrought h bodies
     → IfSome lent (λ l. bodies_view (arc_value l.bodies) ≡ bodies_view bodies) → IsLent (log_in h bodies) (lent_view lent)
 lent_log h bodies None l b same = tt
 lent_log h bodies (Some lent) l b same = (
-  same ∙ (ap all_of (views_of bodies.units.items) ∙ ap (λ (z : List UnitBodies). all_of (map unit_view z)) (sym (rebuilt_units h (units_of bodies) l b.count))),
-  (λ i. calls_fit (catalogue_log h (units_of bodies) l i) (same i)) ∙ b.fit,
+  same ∙ bodies_log h bodies l b,
+  fits_log h bodies l b,
 )
 
 -- the bodies are given
 pub given : (h : History) (bodies : Bodies) (a : ℕ) (lent : Option Lent) → Legal h → AreBrought h bodies → IfSome lent (λ l. bodies_view (arc_value l.bodies) ≡ bodies_view bodies)
     → Does h.limits (log_in h bodies) a Wants.Bodies (Gives.Bodies lent) (log_in h bodies)
-given h bodies a lent l some kept = (legal_log h (units_of bodies) l, (lent_log h bodies lent l some kept, refl))
+given h bodies a lent l some kept = (legal_log h (units_of bodies) l, fits_log h bodies l some, (lent_log h bodies lent l some kept, refl))
 
 pub stepped : (h k : History) (bodies : Bodies) (a : ℕ) (q : Request) (r : Answer) (b : Begun) (lent : Option Lent) → Legal h → AreBrought h bodies → r ≡ out h a q → k ≡ legal.after h a q r
     → b ≡ begun_by k.shapes a q r → k.shapes ≡ h.shapes → IfSome lent (λ l. bodies_view (arc_value l.bodies) ≡ bodies_view bodies)
     → Does h.limits (log_in h bodies) a (Wants.Step q) (Gives.Answered r b lent) (log_in k bodies)
 stepped h k bodies a q r b lent l some is e begun same kept = let us = units_of bodies in (
   legal_log h us l,
+  fits_log h bodies l some,
   (
     (is ∙ ap (λ (z : History). out z a q) (sym (rebuilt h us l)), ap (λ (z : History). log_of z us) e ∙ entered_log (recorded r) h us a q),
     begun ∙ ap (λ (z : List Shape). begun_by z a q r) (same ∙ sym (catalogue_log h us l)),
@@ -211,20 +223,24 @@ none_fit all shapes bodies none = ap (λ (z : Code.UnitBodies). calls_fit all z)
   each (s ∷ ss) = joined_call (callee_fits all) (Code.without_bodies s) (all_of (map Code.without_bodies ss)) (alone_fits all s) (each ss)
 
 -- they were found to fit
-pub fits_found : (h : History) (bodies : Bodies) (units : List Shape) (shape : Shape) (unit : UnitBodies) (r : Bool) → Legal h → units ≡ h.shapes ++ shape ∷ [] → r ≡ calls_fit units (unit_view unit) → r ≡ true
+pub fits_found : (h : History) (bodies : Bodies) (shape : Shape) (unit : UnitBodies) (r : Bool) → Legal h → r ≡ are_of h.shapes shape (unit_view unit) → r ≡ true
     → fits_behind (log_in h bodies) shape unit ≡ true
-fits_found h bodies units shape unit r l more is e =
-    ap (λ (z : List Shape). calls_fit (z ++ shape ∷ []) (unit_view unit)) (catalogue_log h (units_of bodies) l)
-    ∙ (ap (λ (z : List Shape). calls_fit z (unit_view unit)) (sym more) ∙ (sym is ∙ e))
+fits_found h bodies shape unit r l is e = ap (λ (z : List Shape). are_of z shape (unit_view unit)) (catalogue_log h (units_of bodies) l) ∙ (sym is ∙ e)
 
-fits_more : (h k : History) (bodies more : Bodies) (shape : Shape) (unit : UnitBodies) (r : Answer) → Legal h → calls_fit h.shapes (bodies_view bodies) ≡ true → fits_behind (log_in h bodies) shape unit ≡ true → k ≡ after_load h shape r
+-- those of one more unit fit too
+pub one_more_fits : (shapes : List Shape) (shape : Shape) (us : List UnitBodies) (unit : UnitBodies) → calls_fit shapes (all_of (map unit_view us)) ≡ true → calls_fit (shapes ++ shape ∷ []) (unit_view unit) ≡ true
+    → calls_fit (shapes ++ shape ∷ []) (all_of (map unit_view (us ++ unit ∷ []))) ≡ true
+one_more_fits shapes shape us unit old new =
+    let all : List Shape = shapes ++ shape ∷ [] in
+    ap (λ (z : List Code.UnitBodies). calls_fit all (all_of z)) (views_more us unit)
+    ∙ units_call (callee_fits all) (map unit_view us) (unit_view unit ∷ []) (calls_keep shapes (shape ∷ []) (all_of (map unit_view us)) old) (one_calls (callee_fits all) (unit_view unit) new)
+
+fits_more : (h k : History) (bodies more : Bodies) (shape : Shape) (unit : UnitBodies) (r : Answer) → calls_fit h.shapes (bodies_view bodies) ≡ true → calls_fit (h.shapes ++ shape ∷ []) (unit_view unit) ≡ true → k ≡ after_load h shape r
     → is_some (recorded r) ≡ true → units_of more ≡ units_of bodies ++ unit ∷ [] → calls_fit k.shapes (bodies_view more) ≡ true
-fits_more h k bodies more shape unit r l old new e b is =
-    let shapes : List Shape = h.shapes ++ shape ∷ [] in
-    let these : calls_fit shapes (all_of (map unit_view (units_of bodies))) ≡ true = ap (λ (z : Code.UnitBodies). calls_fit shapes z) (sym (view_is bodies)) ∙ calls_keep h.shapes (shape ∷ []) (bodies_view bodies) old in
-    let this : calls_fit shapes (unit_view unit) ≡ true = ap (λ (z : List Shape). calls_fit (z ++ shape ∷ []) (unit_view unit)) (sym (catalogue_log h (units_of bodies) l)) ∙ new in
-    (λ i. calls_fit ((ap (λ (z : History). z.shapes) e ∙ shapes_more (is_some (recorded r)) h shape b) i) ((view_is more ∙ (ap (λ (z : List UnitBodies). all_of (map unit_view z)) is ∙ ap all_of (views_more (units_of bodies) unit))) i))
-    ∙ units_call (callee_fits shapes) (map unit_view (units_of bodies)) (unit_view unit ∷ []) these (one_calls (callee_fits shapes) (unit_view unit) this)
+fits_more h k bodies more shape unit r old new e b is =
+    let these : calls_fit h.shapes (all_of (map unit_view (units_of bodies))) ≡ true = ap (λ (z : Code.UnitBodies). calls_fit h.shapes z) (sym (view_is bodies)) ∙ old in
+    (λ i. calls_fit ((ap (λ (z : History). z.shapes) e ∙ shapes_more (is_some (recorded r)) h shape b) i) ((view_is more ∙ ap (λ (z : List UnitBodies). all_of (map unit_view z)) is) i))
+    ∙ one_more_fits h.shapes shape (units_of bodies) unit these new
 
 fits_same : (h k : History) (bodies : Bodies) (shape : Shape) (r : Answer) → calls_fit h.shapes (bodies_view bodies) ≡ true → k ≡ after_load h shape r → is_some (recorded r) ≡ false → calls_fit k.shapes (bodies_view bodies) ≡ true
 fits_same h k bodies shape r fit e b = ap (λ (z : List Shape). calls_fit z (bodies_view bodies)) (ap (λ (z : History). z.shapes) e ∙ shapes_same (is_some (recorded r)) h shape b) ∙ fit
@@ -274,20 +290,62 @@ fits_change : (h k : History) (bodies : Bodies) (change : Change) (r : Answer) �
 fits_change h k bodies change r fit e =
     ap (λ (z : List Shape). calls_fit z (bodies_view bodies)) (ap (λ (z : History). z.shapes) e ∙ listed_shapes (is_some (recorded r)) (changed (force h) change) h) ∙ fit
 
--- both, after what the host does
+-- Each unit's bodies are numbered as its shape is
+
+numbered_both : (shapes : List Shape) (shape : Shape) (us : List Code.UnitBodies) (u : Code.UnitBodies) → all_numbered shapes us ≡ true → numbered_as shape u ≡ true → all_numbered (shapes ++ shape ∷ []) (us ++ u ∷ []) ≡ true
+numbered_both [] shape [] u old new = both_hold (numbered_as shape u) true new refl
+numbered_both [] shape (v ∷ us) u old new = absurd (cc old)
+numbered_both (s ∷ ss) shape [] u old new = absurd (cc old)
+numbered_both (s ∷ ss) shape (v ∷ us) u old new =
+    both_hold (numbered_as s v) (all_numbered (ss ++ shape ∷ []) (us ++ u ∷ [])) (first_of_both (numbered_as s v) (all_numbered ss us) old)
+    (numbered_both ss shape us u (second_of_both (numbered_as s v) (all_numbered ss us) old) new)
+
+pub one_more_numbered : (shapes : List Shape) (shape : Shape) (us : List UnitBodies) (unit : UnitBodies) → all_numbered shapes (map unit_view us) ≡ true → numbered_as shape (unit_view unit) ≡ true
+    → all_numbered (shapes ++ shape ∷ []) (map unit_view (us ++ unit ∷ [])) ≡ true
+one_more_numbered shapes shape us unit old new =
+    ap (λ (z : List Code.UnitBodies). all_numbered (shapes ++ shape ∷ []) z) (views_more us unit) ∙ numbered_both shapes shape (map unit_view us) (unit_view unit) old new
+
+-- a shape alone is numbered as it is
+alone_numbered : (s : Shape) → numbered_as s (Code.without_bodies s) ≡ true
+alone_numbered s =
+    both_hold (eqb (length (Code.without_bodies s).objects) (length s.objects)) (eqb (length (Code.without_bodies s).tasks) (length s.tasks))
+    (eq-eqb (length (Code.without_bodies s).objects) (length s.objects) (length-replicate (length s.objects) []))
+    (eq-eqb (length (Code.without_bodies s).tasks) (length s.tasks) (length-replicate (length s.tasks) None))
+
+pub none_numbered : (shapes : List Shape) (bodies : Bodies) → map unit_view (units_of bodies) ≡ map Code.without_bodies shapes → all_numbered shapes (map unit_view (units_of bodies)) ≡ true
+none_numbered shapes bodies none = ap (λ (z : List Code.UnitBodies). all_numbered shapes z) none ∙ each shapes where
+  each : (ss : List Shape) → all_numbered ss (map Code.without_bodies ss) ≡ true
+  each [] = refl
+  each (s ∷ ss) = both_hold (numbered_as s (Code.without_bodies s)) (all_numbered ss (map Code.without_bodies ss)) (alone_numbered s) (each ss)
+
+numbered_more : (h k : History) (bodies more : Bodies) (shape : Shape) (unit : UnitBodies) (r : Answer) → all_numbered h.shapes (map unit_view (units_of bodies)) ≡ true → numbered_as shape (unit_view unit) ≡ true → k ≡ after_load h shape r
+    → is_some (recorded r) ≡ true → units_of more ≡ units_of bodies ++ unit ∷ [] → all_numbered k.shapes (map unit_view (units_of more)) ≡ true
+numbered_more h k bodies more shape unit r old new e b is =
+    (λ i. all_numbered ((ap (λ (z : History). z.shapes) e ∙ shapes_more (is_some (recorded r)) h shape b) i) (map unit_view (is i)))
+    ∙ one_more_numbered h.shapes shape (units_of bodies) unit old new
+
+numbered_same : (h k : History) (bodies : Bodies) → all_numbered h.shapes (map unit_view (units_of bodies)) ≡ true → k.shapes ≡ h.shapes → all_numbered k.shapes (map unit_view (units_of bodies)) ≡ true
+numbered_same h k bodies old e = ap (λ (z : List Shape). all_numbered z (map unit_view (units_of bodies))) e ∙ old
+
+-- all three, after what the host does
 pub brings_more : (h k : History) (bodies more : Bodies) (shape : Shape) (unit : UnitBodies) (r : Answer) → Legal h → AreBrought h bodies → fits_behind (log_in h bodies) shape unit ≡ true → k ≡ after_load h shape r
     → is_some (recorded r) ≡ true → units_of more ≡ units_of bodies ++ unit ∷ [] → AreBrought k more
 brings_more h k bodies more shape unit r l b new e kept is =
-    record { count = brought_more h k (units_of bodies) (units_of more) shape unit r b.count e kept is; fit = fits_more h k bodies more shape unit r l b.fit new e kept is }
+    let these : are_of h.shapes shape (unit_view unit) ≡ true = ap (λ (z : List Shape). are_of z shape (unit_view unit)) (sym (catalogue_log h (units_of bodies) l)) ∙ new in
+    record {
+      count = brought_more h k (units_of bodies) (units_of more) shape unit r b.count e kept is;
+      numbered = numbered_more h k bodies more shape unit r b.numbered (first_of_both (numbered_as shape (unit_view unit)) (calls_fit (h.shapes ++ shape ∷ []) (unit_view unit)) these) e kept is;
+      fit = fits_more h k bodies more shape unit r b.fit (second_of_both (numbered_as shape (unit_view unit)) (calls_fit (h.shapes ++ shape ∷ []) (unit_view unit)) these) e kept is;
+    }
 
 pub brings_same : (h k : History) (bodies : Bodies) (shape : Shape) (r : Answer) → AreBrought h bodies → k ≡ after_load h shape r → is_some (recorded r) ≡ false → AreBrought k bodies
-brings_same h k bodies shape r b e kept = record { count = brought_same h k (units_of bodies) shape r b.count e kept; fit = fits_same h k bodies shape r b.fit e kept }
+brings_same h k bodies shape r b e kept = record { count = brought_same h k (units_of bodies) shape r b.count e kept; numbered = numbered_same h k bodies b.numbered (ap (λ (z : History). z.shapes) e ∙ shapes_same (is_some (recorded r)) h shape kept); fit = fits_same h k bodies shape r b.fit e kept }
 
 pub brings_step : (h k : History) (bodies : Bodies) (a : ℕ) (q : Request) (r : Answer) → AreBrought h bodies → k ≡ legal.after h a q r → AreBrought k bodies
-brings_step h k bodies a q r b e = record { count = brought_step h k (units_of bodies) a q r b.count e; fit = fits_step h k bodies a q r b.fit e }
+brings_step h k bodies a q r b e = record { count = brought_step h k (units_of bodies) a q r b.count e; numbered = numbered_same h k bodies b.numbered (step_shapes h k a q r e); fit = fits_step h k bodies a q r b.fit e }
 
 pub brings_change : (h k : History) (bodies : Bodies) (change : Change) (r : Answer) → AreBrought h bodies → k ≡ after_change h change r → AreBrought k bodies
-brings_change h k bodies change r b e = record { count = brought_change h k (units_of bodies) change r b.count e; fit = fits_change h k bodies change r b.fit e }
+brings_change h k bodies change r b e = record { count = brought_change h k (units_of bodies) change r b.count e; numbered = numbered_same h k bodies b.numbered (ap (λ (z : History). z.shapes) e ∙ listed_shapes (is_some (recorded r)) (changed (force h) change) h); fit = fits_change h k bodies change r b.fit e }
 
 -- a load that is due to be recorded is due to be accepted
 gate_kept : (b c d : Bool) → is_some (recorded (gate b c (within d nothing_more))) ≡ true → gate b c (within d nothing_more) ≡ nothing_more
@@ -335,9 +393,9 @@ changed_is h k us change r l m e = let same : h ≡ history_at h.limits (log_of 
 )
 
 -- an ask of an actor
-pub does_ask : (h : History) (us : List UnitBodies) (a : ℕ) (ask wanted : Ask) (reply : Reply) (after : List Event) → ask ≡ wanted → Legal h → Due h.limits (log_of h us) a wanted reply after
-    → Does h.limits (log_of h us) a ask reply after
-does_ask h us a ask wanted reply after is l d = subst (λ (z : Ask). Does h.limits (log_of h us) a z reply after) (sym is) (legal_log h us l, d)
+pub does_ask : (h : History) (bodies : Bodies) (a : ℕ) (ask wanted : Ask) (reply : Reply) (after : List Event) → ask ≡ wanted → Legal h → AreBrought h bodies → Due h.limits (log_in h bodies) a wanted reply after
+    → Does h.limits (log_in h bodies) a ask reply after
+does_ask h bodies a ask wanted reply after is l b d = subst (λ (z : Ask). Does h.limits (log_in h bodies) a z reply after) (sym is) (legal_log h (units_of bodies) l, fits_log h bodies l b, d)
 
 -- what only the operator may ask
 misused : (b : Bool) (does : Type 0) (log : List Event) → b ≡ false → IfOperator b does Misuse log log
@@ -352,6 +410,6 @@ misused_due c log a (Wants.Load s unit) b t e = misused (eqb a 0) _ log e
 misused_due c log a (Wants.LoadWithoutMemory s) b t e = misused (eqb a 0) _ log e
 misused_due c log a (Wants.Change s) b t e = misused (eqb a 0) _ log e
 
-pub does_misuse : (h : History) (us : List UnitBodies) (a : ℕ) (ask : Ask) (b : Begun) → changes ask ≡ true → Legal h → (a ≡ 0 → ⊥)
-    → Does h.limits (log_of h us) a ask (Gives.Answered Misuse b None) (log_of h us)
-does_misuse h us a ask b t l n = (legal_log h us l, misused_due h.limits (log_of h us) a ask b t (ne_eqb a 0 n))
+pub does_misuse : (h : History) (bodies : Bodies) (a : ℕ) (ask : Ask) (b : Begun) → changes ask ≡ true → Legal h → AreBrought h bodies → (a ≡ 0 → ⊥)
+    → Does h.limits (log_in h bodies) a ask (Gives.Answered Misuse b None) (log_in h bodies)
+does_misuse h bodies a ask b t l kept n = (legal_log h (units_of bodies) l, fits_log h bodies l kept, misused_due h.limits (log_in h bodies) a ask b t (ne_eqb a 0 n))

@@ -1,2 +1,3 @@
 pub mod Zips
 pub mod Doing
+pub mod Fitting

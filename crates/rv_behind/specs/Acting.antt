@@ -1,5 +1,5 @@
 -- What an act of the host behind the turn may do. (own)
-use Rattle.std.specs.Prelude.{◌≡◌, ℕ, Bool, true, false, ◌==◌, if◌then◌else◌, List, [], ◌∷◌, ◌++◌, Option, Some, None, is_some, length}
+use Rattle.std.specs.Prelude.{◌≡◌, ℕ, Bool, true, false, ◌==◌, ◌&&◌, map, if◌then◌else◌, List, [], ◌∷◌, ◌++◌, Option, Some, None, is_some, length}
 use Rattle.std.proofs.Common.{inl, inr, refl, sym, eqb}
 use Rattle.std.proofs.lemmas.Bool.{eqb-true}
 use Rattle.rv_access.specs.Words.{Words}
@@ -22,10 +22,10 @@ use Rattle.std.specs.Arc.{arc_value}
 use Rattle.rv_code.specs.Bodies as Code
 use Rattle.rv_code.specs.BodyView.{unit_view}
 use Rattle.rv_code.specs.declared.body.UnitBodies.{UnitBodies}
-use Rattle.rv_fits.specs.Fits.{calls_fit}
+use Rattle.rv_fits.specs.Fits.{are_of, calls_fit, numbered_as}
 use Rattle.rv_exec.specs.Bodies.{bodies_view, held, units_of}
 use Rattle.rv_exec.specs.declared.bodies.Bodies.{Bodies}
-use Rattle.rv_behind.specs.Events.{by, history_at, catalogue_of, bodies_at, called, no_operation}
+use Rattle.rv_behind.specs.Events.{by, history_at, catalogue_of, bodies_at, units_at, called, no_operation}
 use Rattle.rv_behind.specs.declared.event.Lent.{Lent}
 use Rattle.rv_behind.specs.declared.event.Begun.{Begun}
 use Rattle.rv_behind.specs.declared.event.Event.{Event}
@@ -72,18 +72,25 @@ abbrev pub Unloaded : Limits → List Event → Shape → Answer → List Event 
 Unloaded c log shape r after =
     MayLackMemory (out_load (history_at c log) shape) r × (recorded r ≡ None) × (after ≡ log)
 
--- a load of a unit whose calls fit; one whose calls do not is answered as one that there is no memory for (own)
+-- a load of a unit whose bodies fit; one whose bodies do not is answered as one that there is no memory for (own)
 abbrev pub LoadedIf : Bool → Limits → List Event → Shape → UnitBodies → Answer → List Event → Type 0
 LoadedIf true c log shape unit r after = Loaded c log shape unit r after
 LoadedIf false c log shape unit r after = Unloaded c log shape r after
 
--- the calls of a unit's bodies fit the units of this history, with its own (own)
+-- a unit's bodies are numbered as its shape is, and their calls fit the units of this history, with its own (own)
 abbrev pub fits_behind : List Event → Shape → UnitBodies → Bool
-fits_behind log shape unit = calls_fit (catalogue_of log ++ shape ∷ []) (unit_view unit)
+fits_behind log shape unit = are_of (catalogue_of log) shape (unit_view unit)
 
--- Each unit of the host has bodies, and the calls of all bodies fit the units. (own)
+-- each unit has bodies, which are numbered as its shape is: by the catalogue's numbers each has its own (own)
+abbrev pub all_numbered : List Shape → List Code.UnitBodies → Bool
+all_numbered [] [] = true
+all_numbered (shape ∷ shapes) (unit ∷ units) = numbered_as shape unit && all_numbered shapes units
+all_numbered shapes units = false
+
+-- Each unit of the host has bodies of its own, and the calls of all bodies fit the units. (own)
 pub record AreBrought (h : History) (bodies : Bodies) : Type 0 where
   pub count : length (units_of bodies) ≡ length h.shapes
+  pub numbered : all_numbered h.shapes (map unit_view (units_of bodies)) ≡ true
   pub fit : calls_fit h.shapes (bodies_view bodies) ≡ true
 
 -- the answer to a list change (own)
@@ -104,11 +111,17 @@ abbrev pub IfOperator : Bool → Type 0 → Answer → List Event → List Event
 IfOperator true does r log after = does
 IfOperator false does r log after = (r ≡ Answers.Misuse) × (after ≡ log)
 
+-- in this history each unit has bodies of its own, and the calls of all bodies fit the units (own)
+abbrev pub BodiesFit : List Event → Type 0
+BodiesFit log =
+    (all_numbered (catalogue_of log) (map unit_view (units_at log)) ≡ true)
+    × (calls_fit (catalogue_of log) (bodies_at log) ≡ true)
+
 -- The bodies that a port is lent are those of all units loaded then, whose calls fit these units; none where there were too
 -- many holders of them. (own)
 abbrev pub IsLent : List Event → Option Code.UnitBodies → Type 0
 IsLent log None = Unit {0}
-IsLent log (Some bodies) = (bodies ≡ bodies_at log) × (calls_fit (catalogue_of log) bodies ≡ true)
+IsLent log (Some bodies) = (bodies ≡ bodies_at log) × BodiesFit log
 
 -- the bodies that an answer brings, if it does (own)
 abbrev pub lent_view : Option Lent → Option Code.UnitBodies
@@ -130,9 +143,15 @@ Due c log a (Wants.Read from) Gives.Unread after = after ≡ log
 Due c log a Wants.Bodies (Gives.Bodies lent) after = IsLent log (lent_view lent) × (after ≡ log)
 Due c log a ask reply after = ⊥
 
--- an act of the host behind the turn (own)
+-- an act of the host behind the turn, on a legal history, in which all bodies fit (own)
 abbrev pub Does : Limits → List Event → ℕ → Ask → Reply → List Event → Type 0
-Does limits log a ask reply after = Legal (history_at limits log) × Due limits log a ask reply after
+Does limits log a ask reply after = Legal (history_at limits log) × BodiesFit log × Due limits log a ask reply after
+
+-- behind it they fit still (own)
+abbrev pub BodiesStayFit : Type 0
+BodiesStayFit =
+    (limits : Limits) (log : List Event) (a : ℕ) (ask : Ask) (reply : Reply) (after : List Event)
+    → Does limits log a ask reply after → BodiesFit after
 
 -- The law: one event of the actor more, or none
 
@@ -200,4 +219,4 @@ due_adds c log a Wants.Bodies Gives.Unread after d = absurd d
 due_adds c log a Wants.Bodies (Gives.Bodies lent) after d = inl d.1
 
 pub adds : (limits : Limits) (log : List Event) (a : ℕ) (ask : Ask) (reply : Reply) (after : List Event) → Does limits log a ask reply after → Adds by log a after
-adds limits log a ask reply after d = due_adds limits log a ask reply after d.1
+adds limits log a ask reply after d = due_adds limits log a ask reply after d.2

@@ -3,3 +3,4 @@
 
 pub mod behind;
 pub mod event;
+pub mod laws;

@@ -1,10 +1,11 @@
 -- What the calls of a crew leave. (own)
-use Rattle.std.specs.Prelude.{◌≡◌, ℕ, ◌-◌, false, map, List, [], ◌∷◌, ◌++◌}
+use Rattle.std.specs.Prelude.{◌≡◌, ℕ, ◌-◌, Bool, false, ◌==◌, if◌then◌else◌, map, List, [], ◌∷◌, ◌++◌, Option, Some, None}
 use Rattle.rv_turn.specs.Histories.{Each}
 use Rattle.rv_turn.specs.Passes.{Noted}
+use Rattle.rv_history.specs.declared.limits.Limits.{Limits}
 use Rattle.rv_accounts.specs.Explained.{Explained}
 use Rattle.rv_port.specs.Controls.{IsPorts}
-use Rattle.rv_port.specs.Traces.{Passing, limits_in}
+use Rattle.rv_port.specs.Traces.{Passing}
 use Rattle.rv_port.specs.Ports.{Porting, pass_of, IsExplained}
 use Rattle.rv_port.specs.Closing.{IsClosed}
 use Rattle.rv_behind.specs.Events.{log_of}
@@ -70,10 +71,15 @@ Joins before running after = (back : List Porting) × (map told_of back ≡ runn
 abbrev pub Keeps : Porting → Type 0
 Keeps p = IsPorts (pass_of p) × IsExplained p
 
--- each end of the port's actor in a history that keeps what the port had seen is what its text means, unless bodies were refused
--- to the port (own)
-abbrev pub ExplainedIn : List Event → Porting → Type 0
-ExplainedIn log p = p.refused ≡ false → Explained (limits_in p.about) log p.actor
+-- each end of the port's actor in a history, of a host with these limits, is what its text means, unless bodies were refused to
+-- the port (own)
+abbrev pub ExplainedIn : Limits → List Event → Porting → Type 0
+ExplainedIn limits log p = p.refused ≡ false → Explained limits log p.actor
+
+-- whether bodies were refused to the port of this actor among these, if it has one (own)
+abbrev pub mark_of : ℕ → List Porting → Option Bool
+mark_of actor [] = None
+mark_of actor (p ∷ ports) = if p.actor == actor then Some p.refused else mark_of actor ports
 
 -- What a crew leaves: the host at the close of the control and of each port that came back, which keeps what the lost ports
 -- had seen; and who these and the lost are. In its journal the ends of each that came back are explained by their texts. (own)
@@ -81,4 +87,4 @@ pub record IsClosedBy (crew : Team) (control : Passing) (closed : Closed) : Type
   pub host : IsClosed control (map pass_of crew.joined) crew.noted closed.host
   pub finished : closed.finished.items ≡ map actor_of crew.joined
   pub lost : closed.lost.items ≡ crew.lost
-  pub explained : Each (ExplainedIn (log_of closed.host host.units)) crew.joined
+  pub explained : Each (ExplainedIn closed.host.limits (log_of closed.host host.units)) crew.joined

@@ -4,7 +4,7 @@ ghost use Rattle.std.specs.Prelude.{◌≡◌, ◌==◌, ◌+◌, ◌≤◌, [],
 ghost use Rattle.std.specs.Vec.{vec_capacity};
 ghost use Rattle.rv_crew.specs.Teams.{IsOfTurn, no_threads};
 ghost use Rattle.rv_turn.specs.Histories.{Each};
-ghost use Rattle.rv_crew.specs.Crews.{Keeps, Joins, IsStartFault, IsClosedBy, actor_of, with_started, given_up, with_joined, owed};
+ghost use Rattle.rv_crew.specs.Crews.{Keeps, Joins, IsStartFault, IsClosedBy, actor_of, mark_of, with_started, given_up, with_joined, owed};
 
 use crate::job::{Job, OfPort};
 use rv_exec::machine::STACK_BYTES;
@@ -142,6 +142,22 @@ fn actors_of(alloc: Global, ports: &[Finished]) -> Result<Vec<u64>, AllocError>
     Ok(actors)
 }
 
+// Whether bodies were refused to the port of this actor among these.
+fn mark_of(ports: &[Finished], actor: u64) -> Option<bool>
+    ensures { result ≡ mark_of actor ports.now }
+{
+    match ports.split_first() {
+        None => None,
+        Some((first, others)) => {
+            if first.actor() == actor {
+                Some(first.is_refused())
+            } else {
+                mark_of(others, actor)
+            }
+        }
+    }
+}
+
 // Does nothing. Its clause says what each of these ports keeps.
 fn keep_all(ports: &[Finished])
     ensures { Each (λ p. Keeps p) ports.now }
@@ -246,6 +262,14 @@ impl Crew {
         waiting.as_mut_slice().reverse();
         join_each(rt, waiting, &mut self.joined);
         Ok(())
+    }
+
+    /// Whether bodies were ever refused to the port of this actor, so that its ends aren't said to be
+    /// what their texts mean. None where no port of it came back.
+    pub fn is_refused(&self, actor: u64) -> Option<bool>
+        ensures { result ≡ mark_of actor self.now.joined }
+    {
+        mark_of(self.joined.as_slice(), actor)
     }
 
     /// The host, whose journal has all that the control and the ports of this crew did, and the

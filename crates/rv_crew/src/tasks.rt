@@ -39,7 +39,7 @@ fn make_calls<R: Wait>(rt: &R, port: &mut Port, object: usize, operation: usize,
 /// The job of a task with a text: it runs the text to its end (9.2, 9.3), with so many requests of
 /// its own, and finishes. What its actor asked is then what the text asks.
 pub fn text_task<R: Wait>(rt: &R, mut port: Port, budget: u32) -> Finished
-    ensures ran { (exit : Exit) × (done : Porting) × TextRan (pass_of port) port.refused budget exit (pass_of done) done.refused × LeavesText done.refused (pass_of done) (pass_of result) }
+    ensures ran { (exit : Exit) × (done : Porting) × TextRan (pass_of port) port.refused budget exit (pass_of done) done.refused × LeavesText done.refused (pass_of done) (pass_of result) × (result.refused ≡ done.refused) }
     ensures stays { Stays (pass_of port) (pass_of result) }
     ensures explained { IsExplained result }
     ensures followed { FollowsUnless result.refused budget (pass_of port) (pass_of result) }
@@ -58,7 +58,7 @@ pub fn device<R: Wait>(
     operation: usize,
     calls: u32,
 ) -> Finished
-    ensures calls { (done : Porting) × Calls object operation calls port done × Quits (pass_of done) (pass_of result) }
+    ensures calls { (done : Porting) × Calls object operation calls port done × Quits (pass_of done) (pass_of result) × (result.refused ≡ done.refused) }
     ensures stays { Stays (pass_of port) (pass_of result) }
     ensures explained { IsExplained result }
 {
@@ -79,7 +79,7 @@ fn fire_each<R: Wait>(rt: &R, port: &mut Port, receiver: &Receiver<u8>)
 /// The job of a line: an interrupt for each line number that is received, until the channel closes
 /// (C.3).
 pub fn line_task<R: Wait>(rt: &R, mut port: Port, receiver: Receiver<u8>) -> Finished
-    ensures fires { (count : ℕ) × (done : Porting) × Fires count port done × Quits (pass_of done) (pass_of result) }
+    ensures fires { (count : ℕ) × (done : Porting) × Fires count port done × Quits (pass_of done) (pass_of result) × (result.refused ≡ done.refused) }
     ensures stays { Stays (pass_of port) (pass_of result) }
     ensures explained { IsExplained result }
 {

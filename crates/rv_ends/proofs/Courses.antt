@@ -118,6 +118,6 @@ course_is bodies shapes body end is_function q exit left trace found texts code 
     by_found : (f : Course) → IsWeighed q (end_by is_function (exit, left)) end f → IsCourse bodies shapes body end f
     by_found course.Explained w = ((w.3, trace, by_recorded (begin_at shapes body) q trace plays w.0 w.1, ends w.2), has_text)
     by_found course.WithoutText w = absurd w
-    by_found (course.Gives request) w = (by_front w.0 w.1, λ r. not_so w.0 w.2 r)
+    by_found (course.Gives request) w = (by_front w.0 w.1, (λ r. not_so w.0 w.2 r), has_text)
     by_found (course.Stops other) w = (trace, by_stop (begin_at shapes body) q trace other refl plays w.0 w.1 w.2, ends w.3, by_other other w.0, has_text)
-    by_found (course.Asks request) w = by_other request w
+    by_found (course.Asks request) w = (by_other request w, has_text)

@@ -27,14 +27,14 @@ by_found_stop e actor ask end body meaning.Explained w is so stopped =
 by_found_stop e actor ask end body meaning.WithoutText w is so stopped = absurd stopped
 by_found_stop e actor ask end body (meaning.Gives request) w is so stopped = absurd stopped
 by_found_stop e actor ask end body (meaning.Asks request) w is so stopped =
-    (body, is, subst (λ (r : Request). AsksBehind (texts_of e) e.host.shapes body r) (sym stopped) so.3)
+    (body, is, subst (λ (r : Request). AsksBehind (texts_of e) e.host.shapes body r) (sym stopped) so.3, so.4)
 
 -- its text gives another end
 pub gives_other : (e : Ends) (actor : ℕ) (end given : Request) (body : Open) → innermost actor (afoot_of e).bodies ≡ Some body → IsCourse (texts_of e) e.host.shapes body end (course.Gives given)
     → IsMeaning (texts_of e) e.host (afoot_of e) actor end (meaning.Gives given)
-gives_other e actor end given body is so = (body, is, so.0, so.1)
+gives_other e actor end given body is so = (body, is, so.0, so.1, so.2)
 
 -- its text asks something else
 pub asks_other : (e : Ends) (actor : ℕ) (end ask : Request) (body : Open) → innermost actor (afoot_of e).bodies ≡ Some body → IsCourse (texts_of e) e.host.shapes body end (course.Asks ask)
     → IsMeaning (texts_of e) e.host (afoot_of e) actor end (meaning.Asks ask)
-asks_other e actor end ask body is so = (body, is, so)
+asks_other e actor end ask body is so = (body, is, so.0, so.1)

@@ -14,11 +14,12 @@ use Rattle.rv_ends.specs.declared.meaning.Course.TheVariants as course
 abbrev pub IsCourse : UnitBodies → List Shape → Open → Request → Course → Type 0
 IsCourse bodies shapes body end course.Explained = ByRecorded bodies shapes body end × (HasNoText bodies body → ⊥)
 IsCourse bodies shapes body end course.WithoutText = HasNoText bodies body
-IsCourse bodies shapes body end (course.Gives request) = EndsBy bodies shapes body request × (ByRecorded bodies shapes body end → ⊥)
+IsCourse bodies shapes body end (course.Gives request) =
+    EndsBy bodies shapes body request × (ByRecorded bodies shapes body end → ⊥) × (HasNoText bodies body → ⊥)
 IsCourse bodies shapes body end (course.Stops other) =
     (trace : Trace) × FollowsToStop shapes body.start.held body.asked other trace × Ends bodies body.start trace end
     × AsksBehind bodies shapes body other × (HasNoText bodies body → ⊥)
-IsCourse bodies shapes body end (course.Asks request) = AsksBehind bodies shapes body request
+IsCourse bodies shapes body end (course.Asks request) = AsksBehind bodies shapes body request × (HasNoText bodies body → ⊥)
 
 -- what is found where a run came to this place, and gave this end
 abbrev pub IsWeighed : Place → Request → Request → Course → Type 0

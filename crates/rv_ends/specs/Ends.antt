@@ -58,9 +58,11 @@ abbrev pub IsMeaning : UnitBodies → History → Afoot → ℕ → Request → 
 IsMeaning bodies h afoot actor end meaning.Explained = IsExplained bodies h actor end
 IsMeaning bodies h afoot actor end meaning.WithoutText = IsTextless bodies (innermost actor afoot.bodies)
 IsMeaning bodies h afoot actor end (meaning.Gives request) =
-    (body : Open) × (innermost actor afoot.bodies ≡ Some body) × EndsBy bodies h.shapes body request × (ByRecorded bodies h.shapes body end → ⊥)
+    (body : Open) × (innermost actor afoot.bodies ≡ Some body) × EndsBy bodies h.shapes body request
+    × (ByRecorded bodies h.shapes body end → ⊥) × (HasNoText bodies body → ⊥)
 IsMeaning bodies h afoot actor end (meaning.Asks request) =
     (body : Open) × (innermost actor afoot.bodies ≡ Some body) × AsksBehind bodies h.shapes body request
+    × (HasNoText bodies body → ⊥)
 
 -- an end by stopped is explained where this ask stopped its actor
 abbrev pub IsFoundStop : History → ℕ → Request → Meaning → Type 0

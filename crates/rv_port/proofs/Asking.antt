@@ -279,9 +279,9 @@ replied_step : (v w : Passing) (q : Request) (r : Answer) (b : Begun) (lent : Op
 unfolding asked_act
 replied_step v w q r b lent a = (
   record {
-    asked = asked_act v w q r a.at a.about a.about_is a.later a.owned a.answer.0 a.answer.1.0.0 a.answer.1.0.1 a.entry a.owns a.some_left a.same;
-    begun_is = a.answer.1.1;
-    lent_is = a.answer.1.2;
+    asked = asked_act v w q r a.at a.about a.about_is a.later a.owned a.answer.0 a.answer.2.0.0 a.answer.2.0.1 a.entry a.owns a.some_left a.same;
+    begun_is = a.answer.2.1;
+    lent_is = a.answer.2.2;
   },
   none_times v q,
 )

@@ -11,7 +11,7 @@ use Rattle.rv_port.specs.Later.{KeepsBodies}
 use Rattle.rv_behind.specs.declared.event.Event.{Event}
 use Rattle.rv_behind.specs.declared.event.Event.TheVariants.{Asks, Loads, Lists}
 
-units-append : (xs ys : List Event) → units_in (xs ++ ys) ≡ units_in ys ++ units_in xs
+pub units-append : (xs ys : List Event) → units_in (xs ++ ys) ≡ units_in ys ++ units_in xs
 units-append [] ys = sym (append-nil (units_in ys))
 units-append (Asks a q w ∷ xs) ys = units-append xs ys
 units-append (Loads s None ∷ xs) ys = units-append xs ys

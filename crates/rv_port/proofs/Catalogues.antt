@@ -19,7 +19,7 @@ use Rattle.rv_history.specs.History.{force}
 use Rattle.rv_history.specs.Lists.{changed}
 use Rattle.rv_code.specs.declared.body.UnitBodies.{UnitBodies}
 use Rattle.rv_behind.specs.Events.{by, log_of, history_at, shapes_of, with_shape, catalogue_of}
-use Rattle.rv_behind.specs.Acting.{entered, listed as listed_to, Due, Unloaded, Changed, IfOperator}
+use Rattle.rv_behind.specs.Acting.{BodiesFit, entered, listed as listed_to, Due, Unloaded, Changed, IfOperator}
 use Rattle.rv_port.specs.Controls.{IsControl}
 use Rattle.rv_behind.specs.declared.event.Ask.{Ask}
 use Rattle.rv_behind.specs.declared.event.Ask.TheVariants as Wants
@@ -54,8 +54,8 @@ pub same_catalogue : (one two : List Event) → mine by 0 one ≡ mine by 0 two 
 same_catalogue one two e = sym (catalogue_mine one) ∙ (ap catalogue_of e ∙ catalogue_mine two)
 
 -- a new control
-pub opened : (turn : TableId) (h : History) (us : List UnitBodies) → Legal h → IsControl turn (opening_of turn h.limits by (log_of h us)) [] h.shapes
-opened turn h us l = record {
+pub opened : (turn : TableId) (h : History) (us : List UnitBodies) → Legal h → BodiesFit (log_of h us) → IsControl turn (opening_of turn h.limits by (log_of h us)) [] h.shapes
+opened turn h us l fit = record {
   here = refl;
   first = refl;
   operator = refl;
@@ -63,6 +63,7 @@ opened turn h us l = record {
   owns = sym (append-nil (mine by 0 (log_of h us)));
   limited = refl;
   catalogue_is = sym (catalogue_log h us l);
+  fit = fit;
 }
 
 -- an ask that loads nothing leaves the catalogue

@@ -130,8 +130,8 @@ stood_before log control met later same stands = (
 
 pub closed : (control met : Passing) (finished passes : List Passing) (notes : List (Noted Event)) (h : History) (us : List UnitBodies) → Legal h → length us ≡ length h.shapes → passes ≡ reverse finished
     → Each (λ p. (p.first ≡ false) × (p.base ≡ [])) passes → HasMet control notes met → StandsIn by (log_of h us) met
-    → Each (StandsIn by (log_of h us)) passes → NoStrangers by (log_of h us) met.given → met.about ≡ Some h.limits → IsClosed control finished notes h
-closed control met finished passes notes h us l some is none meets own stand strangers about =
+    → Each (StandsIn by (log_of h us)) passes → NoStrangers by (log_of h us) met.given → met.about ≡ Some h.limits → Each (λ p. p.about ≡ Some h.limits) passes → IsClosed control finished notes h
+closed control met finished passes notes h us l some is none meets own stand strangers about limits =
     let stood : Each (StandsIn by (log_of h us)) finished = each_forth (StandsIn by (log_of h us)) finished passes is stand in
     let before : StandsIn by (log_of h us) control = stood_before (log_of h us) control met meets.later meets.same own in record {
       legal = l;
@@ -145,4 +145,5 @@ closed control met finished passes notes h us l some is none meets own stand str
       notes_stay = each_noted (log_of h us) met.seen notes own.0 meets.told;
       strangers = subst (λ (z : Passing). NoStrangers by (log_of h us) z.given) meets.same strangers;
       limits = subst (λ (z : Passing). z.about ≡ Some h.limits) meets.same about;
+      ports_limits = each_forth (λ p. p.about ≡ Some h.limits) finished passes is limits;
     }

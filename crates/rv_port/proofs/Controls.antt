@@ -13,11 +13,13 @@ use Rattle.rv_event.specs.Recorded.{recorded}
 use Rattle.rv_event.specs.declared.entry.Answer.{Answer}
 use Rattle.rv_code.specs.BodyView.{unit_view}
 use Rattle.rv_code.specs.declared.body.UnitBodies.{UnitBodies}
-use Rattle.rv_exec.specs.Bodies.{held}
+use Rattle.rv_exec.specs.Bodies.{held, units_of}
 use Rattle.rv_exec.specs.declared.bodies.SharedUnit.{SharedUnit}
 use Rattle.rv_exec.specs.declared.bodies.Bodies.{Bodies}
 use Rattle.rv_behind.specs.Events.{by, log_of, log_in, rest_of, catalogue_of}
-use Rattle.rv_behind.specs.Acting.{Does, Due, LoadedIf, fits_behind, IfOperator}
+use Rattle.rv_behind.specs.Acting.{AreBrought, BodiesFit, Does, Due, LoadedIf, fits_behind, IfOperator}
+use Rattle.rv_behind.proofs.Doing.{none_fit, none_numbered}
+use Rattle.rv_behind.proofs.Fitting.{stay_fit}
 use Rattle.rv_port.specs.Traces.{Passing}
 use Rattle.rv_fits.specs.Fits.{are_of}
 use Rattle.rv_port.specs.Controls.{IsControl, Told, LoadTold, BeginsWith, BringsIf, Brings, no_bodies_of, answer_in}
@@ -29,6 +31,7 @@ use Rattle.rv_behind.specs.declared.event.Event.{Event}
 use Rattle.rv_behind.specs.declared.event.Event.TheVariants.{Loads}
 use Rattle.rv_port.specs.Actors.{is_performer, HasHandler}
 use Rattle.rv_port.proofs.Actors.{performer_handles}
+use Rattle.rv_port.proofs.Fitting.{same_fit}
 use Rattle.rv_port.proofs.Catalogues.{same_catalogue, opened, LoadsNothing, with_event, due_catalogue}
 
 -- the catalogue of the history that an ask of the operator was answered on
@@ -38,8 +41,8 @@ at_catalogue turn v given catalogue log k owned =
 
 -- after an act
 acted_control : (turn : TableId) (v w : Passing) (given : List ℕ) (catalogue more : List Shape) → IsControl turn v given catalogue
-    → w ≡ record v { seen = w.seen; own = w.own; left = v.left - 1 } → mine by w.actor w.seen ≡ w.base ++ w.own → more ≡ catalogue_of w.seen → IsControl turn w given more
-acted_control turn v w given catalogue more k same owns is =
+    → w ≡ record v { seen = w.seen; own = w.own; left = v.left - 1 } → mine by w.actor w.seen ≡ w.base ++ w.own → more ≡ catalogue_of w.seen → BodiesFit w.seen → IsControl turn w given more
+acted_control turn v w given catalogue more k same owns is fit =
     let actor : w.actor ≡ 0 = ap (λ (z : Passing). z.actor) same ∙ k.operator in record {
       here = ap (λ (z : Passing). z.turn) same ∙ k.here;
       first = ap (λ (z : Passing). z.first) same ∙ k.first;
@@ -48,12 +51,14 @@ acted_control turn v w given catalogue more k same owns is =
       owns = subst (λ (n : ℕ). mine by n w.seen ≡ w.base ++ w.own) actor owns;
       limited = ap (λ (z : Passing). is_some z.about) same ∙ k.limited;
       catalogue_is = is;
+      fit = fit;
     }
 
 pub act_kept : (turn : TableId) (v w : Passing) (given : List ℕ) (catalogue : List Shape) (ask : Ask) (reply : Reply) → IsControl turn v given catalogue → LoadsNothing ask → Acted by Does v ask reply w → IsControl turn w given catalogue
 act_kept turn v w given catalogue ask reply k n a =
     acted_control turn v w given catalogue catalogue k a.same a.owns
-    (at_catalogue turn v given catalogue a.at k a.owned ∙ sym (due_catalogue a.about a.at v.actor ask reply w.seen n a.answer.1))
+    (at_catalogue turn v given catalogue a.at k a.owned ∙ sym (due_catalogue a.about a.at v.actor ask reply w.seen n a.answer.2))
+    (stay_fit a.about a.at v.actor ask reply w.seen a.answer)
 
 pub told_kept : (turn : TableId) (v w : Passing) (given : List ℕ) (catalogue : List Shape) (ask : Ask) (r : Answer) → IsControl turn v given catalogue → LoadsNothing ask → Told v ask r w → IsControl turn w given catalogue
 told_kept turn v w given catalogue ask r k n t = act_kept turn v w given catalogue ask t.0 k n t.2
@@ -91,7 +96,8 @@ pub load_told : (turn : TableId) (v w : Passing) (given : List ℕ) (catalogue :
 load_told turn v w given catalogue shape unit r k t = let a = t.2 in
     acted_control turn v w given catalogue (with_loaded (is_some (recorded r)) catalogue shape) k a.same a.owns
     ((λ i. with_loaded (is_some (recorded (t.1 i))) (at_catalogue turn v given catalogue a.at k a.owned i) shape)
-    ∙ sym (load_due a.about a.at v.actor shape unit t.0 w.seen k.operator a.answer.1))
+    ∙ sym (load_due a.about a.at v.actor shape unit t.0 w.seen k.operator a.answer.2))
+    (stay_fit a.about a.at v.actor (Wants.Load shape unit) t.0 w.seen a.answer)
 
 -- the bodies of a load, told otherwise
 pub load_such : (v w : Passing) (shape : Shape) (P Q : UnitBodies → Type 0) (r : Answer) → ((u : UnitBodies) → P u → Q u) → LoadTold v shape P r w → LoadTold v shape Q r w
@@ -129,6 +135,7 @@ port_kept turn v w p given catalogue actor acts k t =
       owns = owned ∙ sym (λ i. base i ++ own i);
       limited = ap (λ (z : Passing). is_some z.about) t.rest ∙ k.limited;
       catalogue_is = k.catalogue_is ∙ same_catalogue v.seen w.seen (k.owns ∙ sym owned);
+      fit = same_fit v.seen w.seen (k.owns ∙ sym owned) k.fit;
     }
 
 pub told_or_worn : (turn : TableId) (v w : Passing) (given : List ℕ) (catalogue : List Shape) (ask : Ask) (answer : Result Answer Worn) → IsControl turn v given catalogue → LoadsNothing ask
@@ -141,10 +148,10 @@ pub act_or_worn : (turn : TableId) (v w : Passing) (given : List ℕ) (catalogue
 act_or_worn turn v w given catalogue ask (Ok r) k n t = act_kept turn v w given catalogue ask r k n t
 act_or_worn turn v w given catalogue ask (Err e) k n t = worn_kept turn v w given catalogue k t
 
-pub opened_by : (turn : TableId) (pass : Passing) (given : List ℕ) (catalogue : List Shape) (h : History) (us : List UnitBodies) → Legal h → pass ≡ opening_of turn h.limits by (log_of h us) → given ≡ [] → catalogue ≡ h.shapes
+pub opened_by : (turn : TableId) (pass : Passing) (given : List ℕ) (catalogue : List Shape) (h : History) (us : List UnitBodies) → Legal h → BodiesFit (log_of h us) → pass ≡ opening_of turn h.limits by (log_of h us) → given ≡ [] → catalogue ≡ h.shapes
     → IsControl turn pass given catalogue
-opened_by turn pass given catalogue h us l is none same =
-    subst (λ (z : Passing × List ℕ × List Shape). IsControl turn z.0 z.1 z.2) (λ i. (sym is i, sym none i, sym same i)) (opened turn h us l)
+opened_by turn pass given catalogue h us l fit is none same =
+    subst (λ (z : Passing × List ℕ × List Shape). IsControl turn z.0 z.1 z.2) (λ i. (sym is i, sym none i, sym same i)) (opened turn h us l fit)
 
 -- the opening view of this host, behind whatever it stands
 pub opens_on : (turn : TableId) (pass : Passing) (h k : History) (b d : Bodies) → h ≡ k → b ≡ d → pass ≡ opening_of turn h.limits by (log_in h b) → pass ≡ opening_of turn k.limits by (log_in k d)
@@ -157,11 +164,14 @@ begins turn pass h us none is = let seen : pass.seen ≡ log_of h us = ap (λ (z
     ((us, none, seen), is ∙ (λ i. opening_of (sym here i) h.limits by (sym seen i)))
 
 -- as many bodies of units as shapes
-pub as_many : (us : List UnitBodies) (shapes : List Shape) → map unit_view us ≡ map no_bodies_of shapes → length us ≡ length shapes
+as_many : (us : List UnitBodies) (shapes : List Shape) → map unit_view us ≡ map no_bodies_of shapes → length us ≡ length shapes
 as_many [] [] e = refl
 as_many [] (s ∷ ss) e = absurd (omega (arith, ap length e))
 as_many (u ∷ us) [] e = absurd (omega (arith, ap length e))
 as_many (u ∷ us) (s ∷ ss) e = let more = as_many us ss (ap rest_of e) in omega (arith, more)
+
+pub none_brought : (h : History) (bodies : Bodies) → map unit_view (units_of bodies) ≡ map no_bodies_of h.shapes → AreBrought h bodies
+none_brought h bodies none = record { count = as_many (units_of bodies) h.shapes none; numbered = none_numbered h.shapes bodies none; fit = none_fit h.shapes h.shapes bodies none }
 
 pub load_more : (turn : TableId) (v w : Passing) (given : List ℕ) (catalogue more : List Shape) (shape : Shape) (unit : SharedUnit) (r : Answer) → IsControl turn v given catalogue → Told v (Wants.Load shape unit) r w
     → is_some (recorded r) ≡ true → more ≡ catalogue ++ shape ∷ [] → IsControl turn w given more
@@ -183,3 +193,8 @@ port_handles turn v w p given catalogue actor acts k t e =
 -- a port has the control's limits
 pub port_limited : (turn : TableId) (v w p : Passing) (given : List ℕ) (catalogue : List Shape) (actor acts : ℕ) → IsControl turn v given catalogue → Parted by v actor acts w p → is_some p.about ≡ true
 port_limited turn v w p given catalogue actor acts k t = ap (λ (z : Passing). is_some z.about) t.new_is ∙ k.limited
+
+-- and has seen what the control had
+pub port_fits : (turn : TableId) (v w p : Passing) (given : List ℕ) (catalogue : List Shape) (actor acts : ℕ) → IsControl turn v given catalogue → Parted by v actor acts w p → BodiesFit p.seen
+port_fits turn v w p given catalogue actor acts k t =
+    subst (λ (z : Passing). BodiesFit z.seen) (sym t.new_is) (port_kept turn v w p given catalogue actor acts k t).fit

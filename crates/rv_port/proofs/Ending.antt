@@ -19,6 +19,7 @@ use Rattle.rv_port.specs.declared.reached.Reached.{Reached}
 use Rattle.rv_port.specs.declared.reached.Reached.TheVariants as Reaches
 use Rattle.rv_fits.specs.Fits.{callee_fits}
 use Rattle.rv_behind.specs.Acting.{IsLent}
+use Rattle.rv_port.proofs.Fitting.{lent_calls}
 use Rattle.rv_behind.specs.Events.{catalogue_of, history_at}
 use Rattle.rv_port.specs.Traces.{Passing, limits_in, Trace, noted, WoreOut, Went, Asked}
 use Rattle.rv_port.specs.Reaching.{reached_by, end_of}
@@ -186,7 +187,7 @@ left_stops : (log : List Event) (u k : Passing) (bodies : Option UnitBodies) (b 
 left_stops log u k None b scalars arguments trace last lent later t p own owned n =
     unlike (held_by k) (held_by u) (held_went u k trace own owned p ∙ ap (λ (l : Trace). held_behind (held_by u) l) t.0) n
 left_stops log u k (Some bodies) b scalars arguments trace last lent later t p own owned n =
-    let nested = bodies_nest (callee_fits (catalogue_of log)) bodies (held_by u) b.object b.operation arguments scalars t.0 trace last.exit lent.1 t.1 in
+    let nested = bodies_nest (callee_fits (catalogue_of log)) bodies (held_by u) b.object b.operation arguments scalars t.0 trace last.exit (lent_calls log bodies lent) t.1 in
     is_by_stopped last.exit
     (⊎_elim (λ s. no_strays log u trace k later p.steps s)
     (λ h. ⊎_elim (λ w. unlike (held_by k) (held_by u) (held_went u k trace own owned p ∙ w.0 (held_by u)) n) (λ m. m.0) h) nested.course)

@@ -5,7 +5,7 @@ use Rattle.rv_event.specs.declared.entry.Exit.{Exit}
 use Rattle.rv_event.specs.declared.entry.Next.{Next}
 use Rattle.rv_event.specs.declared.entry.Recorded.TheVariants.{Done}
 use Rattle.rv_event.specs.declared.entry.Request.TheVariants.{Complete}
-use Rattle.rv_fits.specs.Fits.{calls_fit}
+use Rattle.rv_behind.specs.Acting.{BodiesFit}
 use Rattle.rv_exec.specs.Asking.{Trace, Along}
 use Rattle.rv_exec.specs.Blocks.{operation_run_at}
 use Rattle.rv_turn.specs.Histories.{StartsWith}
@@ -22,7 +22,7 @@ use Rattle.rv_port.specs.Traces.{Passing, limits_in, Went}
 pub record IsLentBy (v : Passing) (log : List Event) : Type 0 where
   pub owns : Owns v
   pub from : StartsWith v.seen log
-  pub fit : calls_fit (catalogue_of log) (bodies_at log) ≡ true
+  pub fit : BodiesFit log
 
 -- each end of the actor that came since in what was seen then is explained
 abbrev pub EndsSinceAreExplained : Passing → Passing → Type 0

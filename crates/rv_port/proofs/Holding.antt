@@ -145,7 +145,7 @@ none_more : (xs : List Event) (e : Event) → xs ≡ xs ++ e ∷ [] → ⊥
 none_more xs e h = let l : length xs ≡ length (xs ++ e ∷ []) = ap length h in let m : length (xs ++ e ∷ []) ≡ length xs + 1 = length-append xs (e ∷ []) in omega (arith, l, m)
 
 pub borrow_own : (v w : Passing) (reply : Reply) → Acted by Does v Wants.Bodies reply w → w.own ≡ v.own
-borrow_own v w reply x = ⊎_elim (λ y. y.1) (λ y. absurd (none_more x.at y.0 (sym (bodies_same x.about x.at v.actor reply w.seen x.answer.1) ∙ y.2))) x.entry
+borrow_own v w reply x = ⊎_elim (λ y. y.1) (λ y. absurd (none_more x.at y.0 (sym (bodies_same x.about x.at v.actor reply w.seen x.answer.2) ∙ y.2))) x.entry
 
 pub counts_borrowed : (v w : Passing) (reply : Reply) (held : ℕ) → Acted by Does v Wants.Bodies reply w → Owns v → held ≡ held_by v → held ≡ held_by w
 counts_borrowed v w reply held x owns counts =

@@ -11,8 +11,9 @@ pub mod Ending
 pub mod Tying
 pub mod Operators
 pub mod Catalogues
-pub mod Controls
 pub mod Bodies
+pub mod Fitting
+pub mod Controls
 pub mod Closings
 pub mod Texts
 pub mod Sends
@@ -28,4 +29,5 @@ pub mod Starts
 pub mod Asked
 pub mod Performances
 pub mod Following
+pub mod WornTexts
 pub mod TextEnds

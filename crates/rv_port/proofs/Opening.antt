@@ -17,7 +17,8 @@ use Rattle.rv_port.specs.Traces.{Passing, limits_in, Asked}
 use Rattle.rv_port.specs.Reaching.{waits_on}
 use Rattle.rv_port.specs.Calls.{Opens, IsNew, Stays}
 use Rattle.rv_port.proofs.Asking.{asked_later}
-use Rattle.rv_port.proofs.Later.{is_handed, HandOverIn, handed_in, waits_still, woken_handed}
+use Rattle.rv_accounts.proofs.HandedCalls.{is_handed, woken_handed}
+use Rattle.rv_port.proofs.Later.{HandOverIn, handed_in, waits_still}
 use Rattle.rv_port.proofs.Performing.{asked_actor, stays_both, asked_stays}
 use Rattle.rv_turn.specs.Histories.{StartsWith}
 

@@ -14,7 +14,6 @@ use Rattle.rv_event.specs.declared.entry.Next.{Next}
 use Rattle.rv_event.specs.declared.entry.Recorded.TheVariants as Words
 use Rattle.rv_event.specs.declared.entry.Request.{Request}
 use Rattle.rv_event.specs.declared.entry.Request.TheVariants.{Call, Complete, Resume, DelayUntil, Clock, Fire, Quit, Tick, Halt}
-use Rattle.rv_fits.specs.Fits.{calls_fit}
 use Rattle.rv_exec.specs.Asking.{Along}
 use Rattle.rv_exec.specs.Blocks.{operation_run_at}
 use Rattle.rv_event.specs.declared.entry.Recorded.{Recorded}
@@ -81,7 +80,7 @@ same_target log at o p w e =
 module _ (u w : Passing) (log : List Event) (bodies : UnitBodies) (b : Begun) (scalars arguments : List ℤ) (reached : Reached) (st : Start u log b arguments scalars) (owns : Owns u) (owned : Owns w)
     (lent : IsLent log (Some bodies)) (n : RanOn (Some bodies) u b scalars arguments reached w) (old : EndsExplained u) where
   k : IsLentBy u log
-  k = record { owns = owns; from = st.from; fit = subst (λ (z : UnitBodies). calls_fit (catalogue_of log) z ≡ true) lent.0 lent.1 }
+  k = record { owns = owns; from = st.from; fit = lent.1 }
 
   abbrev left : List ℤ
   left = n.runs.0

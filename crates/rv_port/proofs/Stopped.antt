@@ -42,6 +42,7 @@ use Rattle.rv_port.specs.Calls.{stops_within, StopsBody, StoppedAt}
 use Rattle.rv_port.specs.Texts.{TextRuns, TextStops}
 use Rattle.rv_port.specs.Composing.{went_none, went_both}
 use Rattle.rv_behind.specs.Acting.{IsLent}
+use Rattle.rv_port.proofs.Fitting.{lent_calls}
 use Rattle.rv_behind.specs.Events.{catalogue_of, history_at}
 use Rattle.rv_port.specs.Traces.{Passing, Trace, limits_in, told, asks_on, Asked, WoreOut, Tells, Steps, Went}
 use Rattle.rv_port.proofs.Actors.{catalogue-append}
@@ -345,7 +346,7 @@ pub runs_stop : (log : List Event) (bodies : Option UnitBodies) (held : ℕ) (b 
     → StopsIn (callee_fits (catalogue_of log)) trace
 runs_stop log None held b scalars arguments trace last lent t e = absurd (cc (sym e ∙ ap (λ (z : Ended). z.exit) t.1))
 runs_stop log (Some bodies) held b scalars arguments trace last lent t e =
-    bodies_stop_by (callee_fits (catalogue_of log)) bodies held b.object b.operation arguments scalars t.0 trace lent.1
+    bodies_stop_by (callee_fits (catalogue_of log)) bodies held b.object b.operation arguments scalars t.0 trace (lent_calls log bodies lent)
     (subst (λ (x : Exit). Along (operation_run_at bodies held b.object b.operation arguments scalars) trace (x, t.0)) e t.1)
 
 -- and so has a task's text
@@ -356,4 +357,4 @@ text_stops log u w (Some bodies) budget trace (Exits.Return values) lent later t
 text_stops log u w (Some bodies) budget trace (Exits.Raise exception) lent later t p = tt
 text_stops log u w (Some bodies) budget trace Exits.Overrun lent later t p = tt
 text_stops log u w (Some bodies) budget trace Exits.Stopped lent later t p =
-    stop_at log u trace w later (tasks_stop_by (callee_fits (catalogue_of log)) bodies u.actor budget trace lent.1 t) p.steps
+    stop_at log u trace w later (tasks_stop_by (callee_fits (catalogue_of log)) bodies u.actor budget trace (lent_calls log bodies lent) t) p.steps

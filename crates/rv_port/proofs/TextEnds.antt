@@ -3,7 +3,6 @@ use Rattle.std.proofs.Common.{◌≡◌, ⊎_elim, ℕ, zero, suc, ◌-◌, ◌<
 use Rattle.std.specs.Prelude.{is_some, nat_lt, slice_get, if◌then◌else◌}
 use Rattle.rv_code.specs.Bodies.{UnitBodies}
 use Rattle.rv_event.specs.declared.entry.Exit.{Exit}
-use Rattle.rv_fits.specs.Fits.{calls_fit}
 use Rattle.rv_exec.specs.Asking.{Along}
 use Rattle.rv_exec.specs.Bodies.{flat, task_of}
 use Rattle.rv_exec.specs.Tasks.{task_run}
@@ -11,7 +10,7 @@ use Rattle.rv_history.specs.declared.limits.Limits.{Limits}
 use Rattle.rv_turn.specs.Histories.{StartsWith}
 use Rattle.rv_turn.specs.Passes.{Acted}
 use Rattle.rv_turn.specs.Prefixes.{starts_self}
-use Rattle.rv_behind.specs.Acting.{Does, IsLent, lent_view}
+use Rattle.rv_behind.specs.Acting.{BodiesFit, Does, IsLent, lent_view}
 use Rattle.rv_behind.specs.Events.{by, bodies_at, catalogue_of}
 use Rattle.rv_behind.specs.declared.event.Ask.TheVariants as Wants
 use Rattle.rv_behind.specs.declared.event.Event.{Event}
@@ -34,6 +33,7 @@ use Rattle.rv_port.proofs.Ends.{IsLentBy}
 use Rattle.rv_port.proofs.Following.{texts_follow}
 use Rattle.rv_port.proofs.Holding.{borrow_own, counts_borrowed, counts_new}
 use Rattle.rv_port.proofs.Since.{texts_leave}
+use Rattle.rv_port.proofs.WornTexts.{worn_follows}
 
 -- A task's body stays when more units are loaded
 
@@ -62,13 +62,13 @@ module _ (v u w : Passing) (lent : Option Lent) (bodies : UnitBodies) (budget : 
   at = acted.at
 
   given : IsLent at (Some bodies)
-  given = subst (λ (z : Option UnitBodies). IsLent at z) (sym is) acted.answer.1.0
+  given = subst (λ (z : Option UnitBodies). IsLent at z) (sym is) acted.answer.2.0
 
   k : IsLentBy u at
   k = record {
     owns = acted.owns;
-    from = subst (λ (l : List Event). StartsWith l at) (sym acted.answer.1.1) (starts_self at);
-    fit = subst (λ (z : UnitBodies). calls_fit (catalogue_of at) z ≡ true) given.0 given.1;
+    from = subst (λ (l : List Event). StartsWith l at) (sym acted.answer.2.1) (starts_self at);
+    fit = given.1;
   }
 
   actor_is : u.actor ≡ v.actor
@@ -123,15 +123,15 @@ text_lent_follows v w mark after budget exit owns owned base has r none task is 
 none_left : (n : ℕ) → 0 < n → n ≡ 0 → ⊥
 none_left n few e = omega (arith, few, e)
 
-pub text_follows : (v w : Passing) (mark after : Bool) (budget : ℕ) (exit : Exit) → Owns v → Owns w → v.base ≡ [] → HasHandler (catalogue_of v.seen) v.actor → TextRan v mark budget exit w after → FollowsUnless after budget v w
-text_follows v w mark after budget exit owns owned base has t none some task is =
-    ⊎_elim (λ x. absurd (none_left v.left some x.0.0))
+pub text_follows : (v w : Passing) (mark after : Bool) (budget : ℕ) (exit : Exit) → Owns v → Owns w → v.base ≡ [] → HasHandler (catalogue_of v.seen) v.actor → BodiesFit v.seen → TextRan v mark budget exit w after → FollowsUnless after budget v w
+text_follows v w mark after budget exit owns owned base has fit t none task is =
+    ⊎_elim (λ x. worn_follows v w budget owns base fit x.0 none task)
     (λ y. ⊎_elim (λ x. absurd (none_left (held_by v) x.0 (sym (counts_new v owns base none)))) (λ r. text_lent_follows v w mark after budget exit owns owned base has r none task is) y) t
 
 -- what is followed stays so when the port is let go of
 pub left_follows : (mark after : Bool) (budget : ℕ) (v w z : Passing) → after ≡ mark → LeavesText mark w z → FollowsUnless mark budget v w → FollowsUnless after budget v z
-left_follows true after budget v w z is t f none some task e = absurd (cc (is, e))
-left_follows false after budget v w z is t f none some task e = subst (λ (k : Passing). TextFollowed (limits_in k.about) k.actor budget k.left v.seen k.seen) (sym t) (f none some task refl)
+left_follows true after budget v w z is t f none task e = absurd (cc (is, e))
+left_follows false after budget v w z is t f none task e = subst (λ (k : Passing). TextFollowed (limits_in k.about) k.actor budget k.left v.seen k.seen) (sym t) (f none task refl)
 
 pub leaves_marked : (mark : Bool) (v w : Passing) → mark ≡ true → Quits v w → LeavesText mark v w
 leaves_marked true v w is t = t

@@ -43,7 +43,7 @@ ran_lent v u w mark same after budget exit lent none a is t k = inr (inr record 
   runs = subst (λ (n : ℕ). TextRuns (lent_view lent) n budget t.0 exit) (ap (λ (z : Passing). z.actor) a.same) t.1;
   went = t.2;
   stops = text_stops u.seen u w (lent_view lent) budget t.0 exit
-      (subst (λ (l : List Event). IsLent l (lent_view lent)) (sym a.answer.1.1) a.answer.1.0) (starts_self u.seen)
+      (subst (λ (l : List Event). IsLent l (lent_view lent)) (sym a.answer.2.1) a.answer.2.0) (starts_self u.seen)
       t.1 t.2;
   marked_is = k ∙ ap (λ (b : Bool). marked b (lent_view lent)) is;
 })

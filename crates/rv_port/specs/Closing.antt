@@ -22,8 +22,8 @@ pub record HasMet (v : Passing) (notes : List (Noted Event)) (w : Passing) : Typ
 -- The host's journal is legal; it begins with all that the control and each port that came back had seen, and with all that
 -- is noted of the ports that were lost. Of each port that came back it has as its actor's entries the port's own, and no
 -- other; of the operator those that the control made, behind those that were there at first. Of a port that was lost it
--- keeps all entries that any of these had seen. An actor that was given no port has no entry. The journal has no bodies;
--- these were kept behind it, one of each unit. (own)
+-- keeps all entries that any of these had seen. An actor that was given no port has no entry. Control and ports had the
+-- host's limits. The journal has no bodies; these were kept behind it, one of each unit. (own)
 pub record IsClosed (control : Passing) (ports : List Passing) (notes : List (Noted Event)) (h : History) : Type 0 where
   pub legal : Legal h
   pub units : List UnitBodies
@@ -36,3 +36,4 @@ pub record IsClosed (control : Passing) (ports : List Passing) (notes : List (No
   pub notes_stay : Each (λ note. StartsWith (log_of h units) note.seen) notes
   pub strangers : NoStrangers by (log_of h units) control.given
   pub limits : control.about ≡ Some h.limits
+  pub ports_limits : Each (λ p. p.about ≡ Some h.limits) ports

@@ -17,7 +17,7 @@ use Rattle.rv_exec.specs.declared.bodies.SharedUnit.{SharedUnit}
 use Rattle.rv_history.specs.History.{History}
 use Rattle.rv_behind.specs.Events.{by, log_of, catalogue_of}
 use Rattle.rv_behind.specs.declared.event.Event.{Event}
-use Rattle.rv_behind.specs.Acting.{Does}
+use Rattle.rv_behind.specs.Acting.{BodiesFit, Does}
 use Rattle.rv_port.specs.Actors.{is_performer}
 use Rattle.rv_port.specs.Traces.{Passing}
 use Rattle.rv_port.specs.declared.fault.PortFault.{PortFault}
@@ -91,7 +91,8 @@ Brings shapes shape given unit = BringsIf (are_of shapes shape (unit_view given)
 abbrev pub BeginsWith : History → List Event → Type 0
 BeginsWith h log = (units : List UnitBodies) × (map unit_view units ≡ map no_bodies_of h.shapes) × (log ≡ log_of h units)
 
--- The pass of a control is the first of its turn; the control knows who was given a port, and the catalogue. (own)
+-- The pass of a control is the first of its turn; the control knows who was given a port, and the catalogue; the calls of all
+-- bodies fit the units. (own)
 pub record IsControl (turn : TableId) (pass : Passing) (given : List ℕ) (catalogue : List Shape) : Type 0 where
   pub here : pass.turn ≡ turn
   pub first : pass.first ≡ true
@@ -100,6 +101,7 @@ pub record IsControl (turn : TableId) (pass : Passing) (given : List ℕ) (catal
   pub owns : mine by 0 pass.seen ≡ pass.base ++ pass.own
   pub limited : is_some pass.about ≡ true
   pub catalogue_is : catalogue ≡ catalogue_of pass.seen
+  pub fit : BodiesFit pass.seen
 
 -- What every control keeps: it is the operator's, its limits are known, and its own events are the operator's in all that it has seen, behind those
 -- that the host had at first, which are the operator's too. (own)

@@ -6,6 +6,7 @@ ghost use Rattle.rv_turn.specs.Passes.{IsWorn};
 ghost use Rattle.rv_meant.specs.Asks.{held_after};
 ghost use Rattle.rv_port.specs.Actors.{HasHandler};
 ghost use Rattle.rv_port.specs.Held.{held_by};
+ghost use Rattle.rv_behind.specs.Acting.{BodiesFit};
 ghost use Rattle.rv_behind.specs.Events.{by, catalogue_of};
 ghost use Rattle.rv_port.specs.Traces.{RepliedOnce, Settled, WoreOut, Went, IsTold, told, asks_on};
 
@@ -32,6 +33,7 @@ pub(crate) struct Asker {
     pub(crate) ghost fresh: { pass.base ≡ [] },
     pub(crate) ghost limited: { is_some pass.about ≡ true },
     pub(crate) ghost handles: { HasHandler (catalogue_of pass.seen) pass.actor },
+    pub(crate) ghost fits: { BodiesFit pass.seen },
     pub(crate) ghost owns: { mine by pass.actor pass.seen ≡ pass.base ++ pass.own },
     pub(crate) ghost counts: { held ≡ held_by pass },
     pub(crate) ghost few: { held + pass.left < 2 ^ 63 },

@@ -21,4 +21,8 @@ impl Model for Note {
     ghost coded = { Prim.hlevel (codes, e.the_row.coded) };
 
     ghost view = { λ n. n.note };
+
+    ghost use Rattle.rv_behind.specs.Acting.{BodiesFit};
+
+    ghost invariant = { λ n. BodiesFit n.note.seen };
 }

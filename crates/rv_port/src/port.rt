@@ -7,6 +7,7 @@ ghost use Rattle.rv_turn.specs.Histories.{mine, StartsWith};
 ghost use Rattle.rv_turn.specs.Passes.{Meets};
 ghost use Rattle.rv_event.specs.declared.entry.Request.TheVariants as asks;
 ghost use Rattle.rv_port.specs.Actors.{HasHandler};
+ghost use Rattle.rv_behind.specs.Acting.{BodiesFit};
 ghost use Rattle.rv_behind.specs.Events.{by, catalogue_of};
 ghost use Rattle.rv_port.specs.Calls.{Stays, Tied};
 ghost use Rattle.rv_port.specs.Ports.{porting, pass_of, IsExplained, PerformedBy};
@@ -110,6 +111,7 @@ impl Port {
         requires none { pass.own ≡ [] }
         requires few { pass.left < 2 ^ 63 }
         requires handles { HasHandler (catalogue_of pass.seen) pass.actor }
+        requires fits { BodiesFit pass.seen }
         requires owns { mine by pass.actor pass.seen ≡ pass.base ++ pass.own }
         ensures { result ≡ porting pass false }
     {
@@ -139,11 +141,13 @@ impl Port {
     }
 
     /// Does nothing. Its clauses say what every port keeps: each end of its actor is what its text
-    /// means, unless bodies were refused to the port.
+    /// means, unless bodies were refused to the port; and the calls of the bodies that it has seen fit
+    /// the units.
     pub fn keeps(&self)
         ensures keeps { IsPorts (pass_of self.now) }
         ensures explained { IsExplained self.now }
         ensures handles { HasHandler (catalogue_of self.now.seen) self.now.actor }
+        ensures fits { BodiesFit self.now.seen }
     {
         let _ = &self.asker;
     }

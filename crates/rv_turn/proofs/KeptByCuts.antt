@@ -8,8 +8,9 @@ use Rattle.atomic_table.proofs.Lists.{at_set, set_again, set_else, at_snoc, at_l
 use Rattle.rv_turn.specs.declared.view.View.{View}
 use Rattle.rv_turn.specs.declared.view.Joined.{Joined}
 use Rattle.rv_turn.specs.Histories.{mine, Has, Each}
-use Rattle.rv_turn.specs.Views.{note_of, pass_of, gave, informed, took_in, looking}
-use Rattle.rv_turn.specs.Rules.{total, ticket_count, acts_left, waiting, Apart, Fits, Stands, learned}
+use Rattle.rv_turn.specs.Views.{note_of, pass_of, gave, informed, took_in, looking, heeding}
+use Rattle.rv_turn.specs.Rules.{total, ticket_count, acts_left, waiting, Apart, Fits, Stands, learned, heard}
+use Rattle.rv_turn.proofs.Longer.{longer_within}
 use Rattle.rv_turn.proofs.KeptBySteps.{each_map, acts-set, waiting-set, no_ticket, alone_of, each_after, apart_after, AllApart, starts_self, starts_none, there, goes, by_bool, off_before, not_strange, Rule, St}
 
 -- the total with one view more
@@ -67,11 +68,23 @@ module _ {C E A : Type 0} (history : C → List E) (about : C → A) (by : E →
         f.told,
         f.owns,
         (λ on. sym (f.turn on).0),
-        (λ first. subst (λ (l : List (Joined E)). Each (Stands by k.log) l) (sym (f.first first).3) (each_map k.kept (λ j g. g.0) k.gone)),
+        (λ first. (about made, f.about (f.first first).0, subst (λ (l : List (Joined E A)). Each (Stands by (about made) k.log) l) (sym (f.first first).3) (each_map k.kept (λ j g. g.0) k.gone))),
         λ first a some_actor unused. k.strangers a some_actor (λ h. unused (subst (Has a) (sym (f.first first).2) h)),
       ),
       ap (λ (ws : List ℕ). get_or ws 0 0) k.words,
     ),
+  )
+
+  pub heeds : (slots id : ℕ) (m : Me (Option C) (View E A)) → m.0.turn ≡ false → Allows R slots id m 0 (λ n. n) (heard history about by (step slots 0 0 0 none) m)
+  heeds slots id m off s k wide at small = let v : View E A = m.0 in let w : View E A = heeding v in let f = k.each id v at in let moved = acts-set s.views id v w at in let few = k.few in let tickets = k.tickets in let line = waiting-set s.views id v w at in (
+    w,
+    keeps,
+    tt,
+    goes history about by made s k id v w k.log k.next k.now (set s.words 0 (get_or s.words 0 0)) s.homes at (set-get_or s.words 0 0 ∙ k.words) k.one_slot k.fresh
+        (λ none_has. k.home (each_back s.views id v w at refl none_has))
+        record { seen = longer_within k.log v.seen v.told f.seen f.told; told = f.told; turn = λ on. absurd (cc (off, on)); ticket = f.ticket; owns = f.owns; about = f.about; actor = f.actor; first = f.first }
+        (λ j u other e g a b. (g, a, b)) (λ p. (p, refl)) (λ j z _. z) k.strangers (omega arith) (omega arith),
+    (k.log, refl, f.seen, f.told, f.owns),
   )
 
   pub notes : (id : ℕ) (v : View E A) → Splits R id v v (note_of v.seen)
@@ -197,13 +210,13 @@ module _ {C E A : Type 0} (history : C → List E) (about : C → A) (by : E →
   takes id v other p first passes no_first off idle s k at apart them = let w : View E A = took_in v p in let z : View E A = note_of [] in let vs : List (View E A) = set s.views id w in
       let f = k.each id v at in let mine_is = f.first first in let moved = acts-set s.views id v w at in let moved' = acts-set vs other p z them in let few = k.few in let tickets = k.tickets in let line = waiting-set s.views id v w at in let line' = waiting-set vs other p z them in let none = no_ticket p.ticket idle in
       let there_p : get_elem? s.views other ≡ some p = sym (set_else s.views id other w apart) ∙ them in let g = k.each other p there_p in let has = g.actor passes no_first in
-      let j : Joined E = record { actor = p.actor; own = p.base ++ p.own; seen = p.seen } in
+      let j : Joined E A = record { about = p.about; actor = p.actor; own = p.base ++ p.own; seen = p.seen } in
       let pick : (P : View E A → Type 0) → P w → ((i : ℕ) (u : View E A) → i ≢ id → i ≢ other → get_elem? s.views i ≡ some u → P u) → (i : ℕ) (u : View E A) → i ≢ other → get_elem? vs i ≡ some u → P u
       = λ P here others i u ne e. ⊎_elim (λ t. subst P t.1 here) (λ t. others i u t.0 ne t.1) (at_set s.views id i w u e) in
       let each : (i : ℕ) (u : View E A) → get_elem? (set vs other z) i ≡ some u → Fits by (about made) k.log k.next k.now k.given (j ∷ k.kept) u = each_after (Fits by (about made) k.log k.next k.now k.given (j ∷ k.kept)) vs other z
       record { seen = starts_none k.log; told = starts_none k.log; turn = λ e. absurd (cc e); ticket = λ l. absurd (omega arith); owns = λ e. absurd (cc e); about = λ e. absurd (cc e); actor = λ e _. absurd (cc e); first = λ e. absurd (cc e) }
       (pick (Fits by (about made) k.log k.next k.now k.given (j ∷ k.kept))
-      record { seen = f.seen; told = f.told; turn = f.turn; ticket = f.ticket; owns = f.owns; about = f.about; actor = f.actor; first = λ _. (mine_is.0, mine_is.1, mine_is.2, ap (λ (l : List (Joined E)). j ∷ l) mine_is.3) }
+      record { seen = f.seen; told = f.told; turn = f.turn; ticket = f.ticket; owns = f.owns; about = f.about; actor = f.actor; first = λ _. (mine_is.0, mine_is.1, mine_is.2, ap (λ (l : List (Joined E A)). j ∷ l) mine_is.3) }
       (λ i u ne _ e. let h = k.each i u e in
       record { seen = h.seen; told = h.told; turn = h.turn; ticket = h.ticket; owns = h.owns; about = h.about; actor = h.actor; first = λ too. absurd (cc (too, not_first s k id i v u at first ne e)) })) in
       let away : AllApart (set vs other z) = apart_after vs other z (apart_after s.views id w k.apart (λ i u ne e. (k.apart id i v u at e (λ q. ne (sym q)), k.apart i id u v e at ne)))
@@ -223,7 +236,7 @@ module _ {C E A : Type 0} (history : C → List E) (about : C → A) (by : E →
         apart = away;
         gone = (
           (
-            (g.seen, g.owns passes),
+            (g.seen, g.owns passes, g.about passes),
             (
               has.0,
               has.1,

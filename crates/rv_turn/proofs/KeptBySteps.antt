@@ -88,7 +88,7 @@ module _ {E A : Type 0} where
       (at_set vs id i w a ea)
 
   -- one view alone has the turn, since its ticket is the one served
-  pub alone_of : {by : E → ℕ} {limit : A} {log : List E} {next now : ℕ} {given : List ℕ} {kept : List (Joined E)} (vs : List (View E A)) → AllApart vs → ((j : ℕ) (u : View E A) → get_elem? vs j ≡ some u → Fits by limit log next now given kept u)
+  pub alone_of : {by : E → ℕ} {limit : A} {log : List E} {next now : ℕ} {given : List ℕ} {kept : List (Joined E A)} (vs : List (View E A)) → AllApart vs → ((j : ℕ) (u : View E A) → get_elem? vs j ≡ some u → Fits by limit log next now given kept u)
       → (i j : ℕ) (v w : View E A) → get_elem? vs i ≡ some v → get_elem? vs j ≡ some w → v.turn ≡ true → w.turn ≡ true → i ≡ j
   alone_of {now = now} vs apart each i j v w ei ej on too = dite (ℕ_discrete i j) (λ same. same)
       (λ other. let a : v.ticket ≡ now + 1 = ((each i v ei).turn on).1 in let b : w.ticket ≡ now + 1 = ((each j w ej).turn too).1 in absurd ((apart i j v w ei ej other).0 (omega arith) (a ∙ sym b)))
@@ -140,7 +140,7 @@ module _ {C E A : Type 0} (history : C → List E) (about : C → A) (by : E →
       → Fits by (about made) log next now k.given k.kept w
       → ((j : ℕ) (u : View E A) → j ≢ id → get_elem? s.views j ≡ some u → Fits by (about made) k.log k.next k.now k.given k.kept u → Apart v u → Apart u v → Fits by (about made) log next now k.given k.kept u × Apart w u × Apart u w)
       → (w.passes ≡ true → (v.passes ≡ true) × (w.actor ≡ v.actor))
-      → ((j : Joined E) → Stands by k.log j → (v.passes ≡ true → v.actor ≢ j.actor) → Stands by log j)
+      → ((j : Joined E A) → Stands by (about made) k.log j → (v.passes ≡ true → v.actor ≢ j.actor) → Stands by (about made) log j)
       → ((a : ℕ) → 0 < a → (Has a k.given → ⊥) → mine by a log ≡ [])
       → now + waiting (set s.views id w) ≡ next → next + acts_left (set s.views id w) ≤ 4611686018427387905
       → Rule record { words = ws; homes = hs; views = set s.views id w }
@@ -281,7 +281,7 @@ module _ {C E A : Type 0} (history : C → List E) (about : C → A) (by : E →
               a,
               b,
             ))
-            (λ p. (p, refl)) (λ j z gone. (starts_more k.log j.seen (e ∷ []) z.0, mine_same by j.actor k.log e (λ same. gone passes (sym mine_is ∙ same)) ∙ z.1))
+            (λ p. (p, refl)) (λ j z gone. (starts_more k.log j.seen (e ∷ []) z.0, mine_same by j.actor k.log e (λ same. gone passes (sym mine_is ∙ same)) ∙ z.1, z.2))
             (λ a some_actor strange. mine_same by a k.log e (λ same. not_strange s k id v a at passes some_actor strange (sym mine_is ∙ same)) ∙ k.strangers a some_actor strange)
             (omega arith) (omega arith),
         (is ∙ ap length (sym seen_is), (e, x, refl, more, mine_is, refl)),

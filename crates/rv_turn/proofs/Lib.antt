@@ -1,3 +1,5 @@
+mod Longer
+mod Meeting
 mod KeptBySteps
 mod KeptByCuts
 mod Acts

@@ -92,11 +92,12 @@ module _ {E A : Type 0} where
       pub acts_is : me.0.acts ≡ acts + spare me.0.first
       pub owns : mine by me.0.actor me.0.seen ≡ me.0.base ++ me.0.own
 
-    -- After a note was met: Seen begins with the pass's earlier Seen and with that of the note, and nothing else is
-    -- changed. (own)
+    -- After a note was met: Seen begins with the pass's earlier Seen and with that of the note, and is one of these, and nothing
+    -- else is changed. (own)
     pub record Meets (p : Known E A) (note : List E) (after : Known E A) : Type 0 where
       pub earlier : StartsWith after.seen p.seen
       pub told : StartsWith after.seen note
+      pub no_more : (after.seen ≡ p.seen) ⊎ (after.seen ≡ note)
       pub same : after ≡ record p { seen = after.seen }
       pub owns : mine by after.actor after.seen ≡ after.base ++ after.own
 
@@ -137,5 +138,5 @@ abbrev pub IsWorn : {E A : Type 0} → Known E A → Known E A → Type 0
 IsWorn before after = (before.left ≡ 0) × (after ≡ before)
 
 -- what is kept of a pass that was joined (own)
-abbrev pub kept_of : {E A : Type 0} → Known E A → Joined E
-kept_of p = record { actor = p.actor; own = p.base ++ p.own; seen = p.seen }
+abbrev pub kept_of : {E A : Type 0} → Known E A → Joined E A
+kept_of p = record { about = p.about; actor = p.actor; own = p.base ++ p.own; seen = p.seen }

@@ -4,7 +4,7 @@ use mathlib.Core.Option.{some}
 use lib.ListN.{get_elem?}
 use Rattle.atomic_table.specs.Table.{State, Me, Step}
 use Rattle.rv_turn.specs.Histories.{mine, StartsWith, Has, Each, NoStrangers}
-use Rattle.rv_turn.specs.Views.{queued, turned, grown, served, looking}
+use Rattle.rv_turn.specs.Views.{queued, turned, grown, served, looking, heeding}
 use Rattle.rv_turn.specs.declared.view.View.{View}
 use Rattle.rv_turn.specs.declared.view.Joined.{Joined}
 
@@ -18,9 +18,10 @@ abbrev pub ticket_count : ℕ → ℕ
 ticket_count zero = 0
 ticket_count (suc n) = 1
 
--- what the rule asks of a pass that was joined: its Seen is a prefix, and its actor's entries are its Own (own)
-abbrev pub Stands : {E : Type 0} → (E → ℕ) → List E → Joined E → Type 0
-Stands by log j = StartsWith log j.seen × (mine by j.actor log ≡ j.own)
+-- what the rule asks of a pass that was joined: its Seen is a prefix, its actor's entries are its Own, and it knew what no act
+-- changes (own)
+abbrev pub Stands : {E A : Type 0} → (E → ℕ) → A → List E → Joined E A → Type 0
+Stands by limit log j = StartsWith log j.seen × (mine by j.actor log ≡ j.own) × (j.about ≡ Some limit)
 
 module _ {E A : Type 0} where
   -- how many acts are left to all seats (own)
@@ -40,7 +41,7 @@ module _ {E A : Type 0} where
   NoneHas views = (j : ℕ) (v : View E A) → get_elem? views j ≡ some v → v.turn ≡ false
 
   -- What the rule asks of one view, where the history is log, and next, now, given and kept are as in the rule. (own)
-  pub record Fits (by : E → ℕ) (limit : A) (log : List E) (next now : ℕ) (given : List ℕ) (kept : List (Joined E))
+  pub record Fits (by : E → ℕ) (limit : A) (log : List E) (next now : ℕ) (given : List ℕ) (kept : List (Joined E A))
       (v : View E A) : Type 0 where
     -- Seen is a prefix of the history
     pub seen : StartsWith log v.seen
@@ -76,7 +77,7 @@ module _ {C E A : Type 0} (history : C → List E) (about : C → A) (by : E →
     -- the actors that were given a pass
     pub given : List ℕ
     -- the passes that were joined
-    pub kept : List (Joined E)
+    pub kept : List (Joined E A)
     -- word 0 is as long as the history, word 1 is the next ticket, word 2 the ticket served
     pub words : s.words ≡ length log ∷ next ∷ now ∷ []
     -- there is one slot
@@ -94,7 +95,7 @@ module _ {C E A : Type 0} (history : C → List E) (about : C → A) (by : E →
     -- no ticket and no actor is given twice
     pub apart : (i j : ℕ) (v w : View E A) → get_elem? s.views i ≡ some v → get_elem? s.views j ≡ some w → i ≢ j → Apart v w
     -- the passes that were joined stand in the history, and no pass for their actors is left
-    pub gone : Each (λ j. Stands by log j × Gone s.views given j.actor) kept
+    pub gone : Each (λ j. Stands by (about made) log j × Gone s.views given j.actor) kept
     -- an actor that was never given a pass has no entry
     pub strangers : NoStrangers by log given
     -- served plus the views with a ticket is the next ticket
@@ -112,8 +113,15 @@ module _ {C E A : Type 0} (history : C → List E) (about : C → A) (by : E →
   abbrev pub Met : Sat → Sat → Type 0
   Met m w = (log : List E) × (w ≡ (looking m.0 log, m.1)) × StartsWith log m.0.seen × StartsWith log m.0.told
       × (m.0.passes ≡ true → mine by m.0.actor log ≡ m.0.base ++ m.0.own)
-      × (m.0.turn ≡ true → log ≡ m.0.seen) × (m.0.first ≡ true → Each (Stands by log) m.0.kept)
+      × (m.0.turn ≡ true → log ≡ m.0.seen)
+      × (m.0.first ≡ true → (limit : A) × (m.0.about ≡ Some limit) × Each (Stands by limit log) m.0.kept)
       × (m.0.first ≡ true → NoStrangers by log m.0.given)
+
+  -- The seat took in what it was told. The history begins with all that was seen and told, and in it the seat's own entries are
+  -- its actor's. (own)
+  abbrev pub Heard : Sat → Sat → Type 0
+  Heard m w = (log : List E) × (w ≡ (heeding m.0, m.1)) × StartsWith log m.0.seen × StartsWith log m.0.told
+      × (m.0.passes ≡ true → mine by m.0.actor log ≡ m.0.base ++ m.0.own)
 
   -- the seat has the turn and the value, with the whole history (own)
   abbrev pub TookTurn : Sat → Sat → Type 0
@@ -146,3 +154,7 @@ module _ {C E A : Type 0} (history : C → List E) (about : C → A) (by : E →
   -- load of word 0: a look at the history, and its length (own)
   abbrev pub learned : Step (Option C) → Sat → ℕ → Sat → Type 0
   learned st m r w = Met m w × (r ≡ length w.0.seen)
+
+  -- load of word 0: what was told is taken in (own)
+  abbrev pub heard : Step (Option C) → Sat → ℕ → Sat → Type 0
+  heard st m r w = Heard m w

@@ -1,6 +1,6 @@
 -- What a seat knows, and how each kind of step changes it. (own)
 use Rattle.std.specs.Prelude.{◌≡◌, ℕ, ◌+◌, ◌-◌, Bool, true, false, List, [], ◌∷◌, ◌++◌, Some, None}
-use Rattle.rv_turn.specs.Histories.{mine}
+use Rattle.rv_turn.specs.Histories.{mine, longer}
 use Rattle.rv_turn.specs.declared.view.View.{View}
 use Rattle.rv_turn.specs.declared.view.Joined.{Joined}
 
@@ -48,6 +48,10 @@ module _ {E A : Type 0} where
   abbrev pub looking : View E A → List E → View E A
   looking v log = record v { seen = log }
 
+  -- the view after it took in what it was told (own)
+  abbrev pub heeding : View E A → View E A
+  heeding v = record v { seen = longer v.seen v.told }
+
   -- a note of what was seen (own)
   abbrev pub note_of : List E → View E A
   note_of seen = record {
@@ -93,15 +97,15 @@ module _ {E A : Type 0} where
   gave v a n = record v { acts = v.acts - n; given = a ∷ v.given }
 
   -- what is kept of a pass that was joined (own)
-  abbrev pub joined_of : View E A → Joined E
-  joined_of p = record { actor = p.actor; own = p.base ++ p.own; seen = p.seen }
+  abbrev pub joined_of : View E A → Joined E A
+  joined_of p = record { about = p.about; actor = p.actor; own = p.base ++ p.own; seen = p.seen }
 
   -- the first pass after a pass was joined to it (own)
   abbrev pub took_in : View E A → View E A → View E A
   took_in v p = record v { kept = joined_of p ∷ v.kept }
 
   -- the view that keeps these passes (own)
-  abbrev pub keeping : View E A → List (Joined E) → View E A
+  abbrev pub keeping : View E A → List (Joined E A) → View E A
   keeping v kept = record v { kept = kept }
 
   -- a pass between two acts: no ticket, and so no turn (own)

@@ -27,13 +27,13 @@
 //! - The entries of a pass's actor in its Seen are its Own, behind those that the actor had before.
 //!   Only actor 0 has any before: the value's history is the first pass's first Seen, and has
 //!   entries of actor 0 alone.
-//! - `meet`: Seen then begins with the pass's earlier Seen and with that of the note.
+//! - `meet`: Seen then begins with the pass's earlier Seen and with that of the note, and is one of these.
 //! - `split`: the new pass has Seen as the first pass then has it, no entry of its actor in it, and
 //!   the acts that were asked for, which the first pass has less. `TooFew` comes exactly where more
 //!   acts are asked for than are left.
 //! - `close`: the history of the value begins with the Seen of every pass that is given, has of the
 //!   actor of each of them its Own, behind what was there before, and no entry of an actor that was
-//!   given no pass. It asks nothing of a pass that was lost, with a ticket or without.
+//!   given no pass. Each knew what of the value no act changes. It asks nothing of a pass that was lost, with a ticket or without.
 //! - `make`: where there is no memory the very value comes back.
 //! - One recorded entry is one `fetch_add` by one on word 0 of the table, and the rule `Kept`
 //!   (`specs/Rules.antt`) holds between any two steps of any threads. Each kind of step is a

@@ -5,7 +5,7 @@ ghost use Rattle.rv_turn.specs.Passes.{Meets};
 use crate::counted::Counted;
 use crate::pass::Pass;
 use crate::rule::Place;
-use crate::steps::{cut_note, join_note, look};
+use crate::steps::{cut_note, heed, join_note};
 use std::marker::Model;
 
 /// What a pass had seen when it made the note. It has no bytes but its type's.
@@ -36,13 +36,13 @@ impl<C: Counted> Pass<C> {
         Note { place }
     }
 
-    /// From now on this pass has seen all that the note's pass had seen. The note is of this turn.
+    /// From now on this pass has seen all that the note's pass had seen, and no more. The note is of this turn.
     pub fn meet(&mut self, note: Note<C>)
         requires turn { note.turn ≡ self.old.turn }
         ensures meets { Meets C.actor_of self.old note.seen self.new }
     {
         let Note { place } = note;
         join_note::<C>(&self.hall.board, &mut self.place, place);
-        look::<C>(&self.hall.board, &mut self.place);
+        heed::<C>(&self.hall.board, &mut self.place);
     }
 }

@@ -88,6 +88,17 @@ impl<C: Counted> Play<Option<C>, View<C::Entry, C::About>> for Learns<C> {
     ghost then = { learned C.history C.about C.actor_of };
 }
 
+/// What was told is taken in.
+pub struct Heeds<C> {
+    of: PhantomData<C>,
+}
+
+impl<C: Counted> Play<Option<C>, View<C::Entry, C::About>> for Heeds<C> {
+    ghost use Rattle.rv_turn.specs.Rules.{heard};
+
+    ghost then = { heard C.history C.about C.actor_of };
+}
+
 /// A note is cut off a pass, and told to another.
 pub struct Notes;
 

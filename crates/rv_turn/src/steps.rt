@@ -5,11 +5,12 @@ ghost use Rattle.std.specs.Prelude.{true, false, length, Some, None};
 ghost use Rattle.rv_turn.specs.Histories.{Has};
 ghost use Rattle.rv_turn.specs.Views.{queued, grown, served, note_of};
 ghost use Rattle.rv_turn.specs.Views.{informed, gave, pass_of, took_in};
-ghost use Rattle.rv_turn.specs.Rules.{TookTurn, Met};
+ghost use Rattle.rv_turn.specs.Rules.{TookTurn, Met, Heard};
 
 use crate::counted::Counted;
 use crate::rule::{
-    Adds, Board, Called, Counts, Draws, Gives, Grant, Learns, Notes, PassesOn, Place, TakesIn,
+    Adds, Board, Called, Counts, Draws, Gives, Grant, Heeds, Learns, Notes, PassesOn, Place,
+    TakesIn,
 };
 
 /// Loads of words 1 and 2 by no seat, which change no view and tell nothing: whether each ticket
@@ -146,7 +147,7 @@ pub(crate) fn pass_on<C: Counted>(
     board.shared.fetch_add::<PassesOn<C>>(place, 2, 1);
 }
 
-/// Load of word 0 after a join or before a cut: the history so far. Event: none.
+/// Load of word 0 after a pass was taken in or before a cut: the history so far. Event: none.
 pub(crate) fn look<C: Counted>(
     board: &Board<C, C::Entry, C::About>,
     place: &mut Place<C, C::Entry, C::About>,
@@ -157,6 +158,20 @@ pub(crate) fn look<C: Counted>(
     ensures looked { Met C.history C.about C.actor_of place.old.me place.new.me }
 {
     board.shared.load::<Learns<C>>(place, 0);
+}
+
+/// Load of word 0 after a note was told: the seat has then seen the longer of what it had seen and what it was told. Event: none.
+pub(crate) fn heed<C: Counted>(
+    board: &Board<C, C::Entry, C::About>,
+    place: &mut Place<C, C::Entry, C::About>,
+)
+    requires words { board.now.shared.table_id.words ≡ 3 }
+    requires seated { place.old.table_id ≡ board.now.shared.table_id }
+    requires waits { place.old.me.0.turn ≡ false }
+    ensures same { place.new.table_id ≡ place.old.table_id }
+    ensures heard { Heard C.history C.about C.actor_of place.old.me place.new.me }
+{
+    board.shared.load::<Heeds<C>>(place, 0);
 }
 
 /// `split_seat`, a load of word 0 that makes a second view: a pass for another actor. Event: none.

@@ -80,6 +80,7 @@ impl<C: Counted> Turn<C> {
         requires others { Each (λ p. (p.first ≡ false) × (p.turn ≡ self)) others.items }
         ensures first { StandsIn C.actor_of (C.history result) first }
         ensures others { Each (StandsIn C.actor_of (C.history result)) others.items }
+        ensures limits { Each (λ p. p.about ≡ Some (C.about result)) others.items }
         ensures strangers { NoStrangers C.actor_of (C.history result) first.given }
         ensures about { first.about ≡ Some (C.about result) }
     {

@@ -1,9 +1,10 @@
 //! What a seat of the table knows. No value of these types is made: they stand in proofs alone.
 use std::collections::LinkedList;
 
-/// What is kept of a pass that was joined: its actor, the entries that it made, and the history
-/// that it had seen.
-pub struct Joined<E> {
+/// What is kept of a pass that was joined: its actor, the entries that it made, the history that it
+/// had seen, and what of the value no act changes.
+pub struct Joined<E, A> {
+    pub about: Option<A>,
     pub actor: u64,
     pub own: LinkedList<E>,
     pub seen: LinkedList<E>,
@@ -36,5 +37,5 @@ pub struct View<E, A> {
     /// Of the first pass: the actors that were given a pass.
     pub given: LinkedList<u64>,
     /// Of the first pass: the passes that were joined.
-    pub kept: LinkedList<Joined<E>>,
+    pub kept: LinkedList<Joined<E, A>>,
 }

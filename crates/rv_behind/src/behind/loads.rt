@@ -10,7 +10,7 @@ use super::Behind;
 use rv_code::UnitBodies;
 use rv_event::entry::Answer;
 use rv_exec::bodies::{Bodies, SharedUnit};
-use rv_fits::{calls_fit, with_unit};
+use rv_fits::may_load;
 use rv_shape::shape::UnitShape;
 use std::alloc::{AllocError, Global};
 use std::sync::Arc;
@@ -31,19 +31,19 @@ fn grown(
 }
 
 impl Behind {
-    // Whether the calls of a unit's bodies are found to fit the units that are loaded, with its own.
+    // Whether a unit's bodies are found to be numbered as its shape is, and their calls to fit the units that are loaded, with its own.
     fn are_fitting(&self, shape: &UnitShape, unit: &UnitBodies) -> bool
         ensures { result ≡ true → fits_behind (log_in self.now.host.value (arc_value self.now.bodies)) shape.now unit.now ≡ true }
     {
         let host = &*self.host;
         host.replays();
-        match with_unit(self.alloc, host.catalogue(), shape) {
-            Some(catalogue) => calls_fit(unit, &catalogue),
+        match may_load(self.alloc, host.catalogue(), shape, unit) {
+            Some(may) => may,
             None => false,
         }
     }
 
-    // The bodies with those of one more unit, whose calls fit. None where they don't, or memory is refused.
+    // The bodies with those of one more unit, which fit. None where they don't, or memory is refused.
     fn grown_by(&self, shape: &UnitShape, unit: SharedUnit) -> Option<Arc<Bodies, Global>>
         ensures units { IfSome result (λ b. units_of (arc_value b) ≡ units_of (arc_value self.now.bodies) ++ held unit ∷ []) }
         ensures fits { IfSome result (λ _. fits_behind (log_in self.now.host.value (arc_value self.now.bodies)) shape.now (held unit) ≡ true) }
@@ -57,7 +57,7 @@ impl Behind {
         }
     }
 
-    /// A load by the operator. The memory of its bodies is taken before its entry is added. A unit whose calls don't fit
+    /// A load by the operator. The memory of its bodies is taken before its entry is added. A unit whose bodies don't fit
     /// isn't accepted.
     pub(crate) fn load(&mut self, shape: &UnitShape, unit: SharedUnit) -> Answer
         ensures does { LoadedIf (fits_behind (log_in self.old.host.value (arc_value self.old.bodies)) shape.now (held unit)) self.old.host.value.limits (log_in self.old.host.value (arc_value self.old.bodies)) shape.now (held unit) result (log_in self.new.host.value (arc_value self.new.bodies)) }

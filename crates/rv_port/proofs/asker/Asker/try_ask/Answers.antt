@@ -1,6 +1,7 @@
 use Rattle.std.proofs.Common.{Ok}
 use Rattle.rv_behind.specs.declared.event.Ask.TheVariants as Wants
 use Rattle.rv_behind.specs.declared.event.Reply.TheVariants as Gives
+use Rattle.rv_port.proofs.Fitting.{act_fits}
 use Rattle.rv_port.proofs.Actors.{act_handles, act_owns}
 use Rattle.rv_port.proofs.Asking.{replied_act}
 use Rattle.rv_port.proofs.Holding.{counts_replied, few_replied}
@@ -8,6 +9,9 @@ use Rattle.rv_port.proofs.asker.Asker.try_ask.Goals as goal
 
 pub invariant_of-self-2-clause-handles : goal.invariant_of-self-2-clause-handles
 invariant_of-self-2-clause-handles g c = act_handles c.args.self.now.pass c.send.new.self (Wants.Step c.args.letter.now.request) (λ _. Gives.Answered c.send.new.letter.answer c.send.new.letter.begun c.send.new.letter.lent) c.send.result c.args.self.now.handles c.send.ensures.reply
+
+pub invariant_of-self-2-clause-fits : goal.invariant_of-self-2-clause-fits
+invariant_of-self-2-clause-fits g c = act_fits c.args.self.now.pass c.send.new.self (Wants.Step c.args.letter.now.request) (λ _. Gives.Answered c.send.new.letter.answer c.send.new.letter.begun c.send.new.letter.lent) c.send.result c.args.self.now.fits c.send.ensures.reply
 
 pub invariant_of-self-2-clause-owns : goal.invariant_of-self-2-clause-owns
 invariant_of-self-2-clause-owns g c = act_owns c.args.self.now.pass c.send.new.self (Wants.Step c.args.letter.now.request) (λ _. Gives.Answered c.send.new.letter.answer c.send.new.letter.begun c.send.new.letter.lent) c.send.result c.args.self.now.owns c.send.ensures.reply

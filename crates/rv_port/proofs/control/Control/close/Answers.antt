@@ -32,4 +32,4 @@ returns-clause-ok g c = let b = c.close-behind.result in let h = b.host.value in
     subst (λ (z : History). IsClosed c.args.self (map pass_of c.args.finished.items) c.args.notes.items z) (sym same)
     (closed c.args.self c.meet_all.new.pass (map pass_of c.args.finished.items) c.take_passes.new.passes.items c.args.notes.items h us (subst Legal same c.replays.ensures.legal) b.brought.count c.take_passes.ensures.passes
     c.take_passes.ensures.given (subst (λ (v : Passing). HasMet v c.args.notes.items c.meet_all.new.pass) c.self.view_is c.meet_all.ensures)
-    c.close-behind.ensures.first c.close-behind.ensures.others c.close-behind.ensures.strangers c.close-behind.ensures.about)
+    c.close-behind.ensures.first c.close-behind.ensures.others c.close-behind.ensures.strangers c.close-behind.ensures.about c.close-behind.ensures.limits)

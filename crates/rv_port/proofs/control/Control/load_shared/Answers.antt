@@ -4,7 +4,7 @@ use Rattle.rv_event.specs.Recorded.{recorded}
 use Rattle.rv_port.specs.Controls.{Told}
 use Rattle.rv_port.specs.Traces.{Passing}
 use Rattle.rv_behind.specs.declared.event.Ask.TheVariants as Wants
-use Rattle.rv_port.proofs.Controls.{load_more, load_same}
+use Rattle.rv_port.proofs.Controls.{load_more, load_same, worn_kept}
 use Rattle.rv_port.proofs.control.Control.load_shared.Goals as goal
 
 pub invariant_of-self-then-is_none : goal.invariant_of-self-then-is_none
@@ -22,3 +22,6 @@ invariant_of-self-2 g c = let is : is_some (recorded c.heard-answer.result) ≡ 
 pub returns : goal.returns
 returns g c =
     inl (c.args.unit, refl, subst (λ (v : Passing). Told v (Wants.Load c.args.shape c.args.unit) c.heard-answer.result c.act.new.self) c.self.view_is (c.in_ok-reply.reply, c.heard-answer.ensures, c.in_ok-reply.ensures))
+
+pub invariant_of-self : goal.invariant_of-self
+invariant_of-self g c = worn_kept _ _ _ _ _ c.self.invariant c.in_err-reply.ensures

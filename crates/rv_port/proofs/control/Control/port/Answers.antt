@@ -1,9 +1,10 @@
 use Rattle.std.proofs.Common.{◌≡◌, true, rules, tests, ap, sym, ◌∙◌, ℕ, List, ◌∷◌, subst}
 use Rattle.rv_port.specs.Actors.{is_performer}
 use Rattle.rv_port.specs.Controls.{listed, IsControl}
+use Rattle.rv_port.specs.Traces.{Passing}
 use Rattle.rv_port.proofs.Actors.{performer_some}
 use Rattle.rv_port.proofs.Operators.{not_given}
-use Rattle.rv_port.proofs.Controls.{port_kept, port_handles, port_limited}
+use Rattle.rv_port.proofs.Controls.{port_kept, port_handles, port_limited, port_fits}
 use Rattle.rv_port.proofs.control.Control.port.Goals as goal
 
 pub split-requires-clause-actor : goal.split-requires-clause-actor
@@ -21,3 +22,10 @@ invariant_of-self-in-Ok-split c =
 
 pub new-requires-clause-limited : goal.new-requires-clause-limited
 new-requires-clause-limited c = port_limited _ _ _ _ _ _ c.args.actor _ c.self.invariant c.in-Ok-split.ensures.ok
+
+pub new-requires-clause-fits : goal.new-requires-clause-fits
+new-requires-clause-fits c = port_fits _ _ _ _ _ _ c.args.actor _ c.self.invariant c.in-Ok-split.ensures.ok
+
+pub invariant_of-self-in-Err-NoMemory : goal.invariant_of-self-in-Err-NoMemory
+invariant_of-self-in-Err-NoMemory c =
+    subst (λ (z : Passing × List ℕ). IsControl c.self.inside.turn z.0 z.1 c.self.inside.catalogue) (λ i. (sym c.in-Err-NoMemory.ensures.err i, sym c.reserve.ensures.items i)) c.self.invariant

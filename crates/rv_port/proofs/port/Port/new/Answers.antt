@@ -8,6 +8,7 @@ invariant_of-result c = record {
   fresh = c.requires.fresh;
   limited = c.requires.limited;
   handles = c.requires.handles;
+  fits = c.requires.fits;
   owns = c.requires.owns;
   counts = counts_new c.args.pass c.requires.owns c.requires.fresh c.requires.none;
   few = few_new c.args.pass.left _ c.requires.few;

@@ -1,0 +1,303 @@
+-- What a queued call is given that was handed its object.
+use Rattle.std.proofs.Common.{◌≡◌, ℕ, ◌≤◌, ℤ, Bool, true, false, cond, eqb, eq-eqb, if◌then◌else◌, List, [], ◌∷◌, ◌++◌, append_assoc, append-nil, Option, Some, None, refl, sym, ap, ◌∙◌, subst, arith}
+use Rattle.std.specs.Prelude.{◌&&◌, ◌||◌, not, int_le, pos, slice_get}
+use Rattle.std.specs.List.{list_any}
+use Rattle.std.proofs.lemmas.Bool.{eqb-true}
+use Rattle.std.proofs.lemmas.Bool.Decides.{nat_tests}
+use Rattle.rv_access.specs.Words.{Words as Lines}
+use Rattle.rv_shape.specs.Catalogue.{first_of}
+use Rattle.rv_shape.specs.Shape.{Shape}
+use Rattle.rv_event.specs.Past.{clock, halted, if_named, is_own, last_queued, next_of, or_else, queued_by, released, scalars, stance, stance_of}
+use Rattle.rv_event.specs.Recorded.{recorded}
+use Rattle.rv_event.specs.declared.entry.Answer.{Answer}
+use Rattle.rv_event.specs.declared.entry.Answer.TheVariants as Answers
+use Rattle.rv_event.specs.declared.entry.Body.{Body}
+use Rattle.rv_event.specs.declared.entry.Entry.{Entry}
+use Rattle.rv_event.specs.declared.entry.Entry.TheVariants.{Asked, Load, ListChange}
+use Rattle.rv_event.specs.declared.entry.Next.{Next}
+use Rattle.rv_event.specs.declared.entry.Next.TheVariants.{Nothing, HandedTo, Dropped}
+use Rattle.rv_event.specs.declared.entry.Recorded.{Recorded}
+use Rattle.rv_event.specs.declared.entry.Recorded.TheVariants as Words
+use Rattle.rv_event.specs.declared.entry.Request.{Request}
+use Rattle.rv_event.specs.declared.entry.Request.TheVariants.{Call, Complete, Resume, DelayUntil, Clock, Fire, Quit, Tick, Halt}
+use Rattle.rv_event.specs.declared.entry.Stance.{Stance}
+use Rattle.rv_event.specs.declared.entry.Stance.TheVariants.{Free, InQueue, HandedOver, DroppedBy, WaitsOn, WaitsUntil, Gone}
+use Rattle.rv_exec.specs.Asking.{Trace}
+use Rattle.rv_history.specs.declared.limits.Limits.{Limits}
+use Rattle.rv_history.specs.Due.{out, due, table, gate, within, enough, goes_on, due_resume, or_waiting, scalars_held}
+use Rattle.rv_history.specs.Fitting.{fits}
+use Rattle.rv_history.specs.HandOver.{IsHanded, is_complete}
+use Rattle.rv_history.specs.History.{History}
+use Rattle.rv_history.specs.Journal.{shapes_before, lists_before}
+use Rattle.rv_history.specs.Legal.{Legal, IsLegal}
+use Rattle.rv_history.proofs.Closing.{legal_before, legal_split}
+use Rattle.rv_history.proofs.Growing.{front_is}
+use Rattle.rv_history.proofs.HandOver.{done_at_ends}
+use Rattle.rv_history.proofs.Handing.{handed_wakes}
+use Rattle.rv_history.proofs.Room.{legal_solvent}
+use Rattle.rv_history.proofs.Silent.{neither}
+use Rattle.rv_history.proofs.Stances.{other_queued, queued_actor}
+use Rattle.rv_meant.specs.Histories.{asked_in, history_of}
+use Rattle.rv_accounts.specs.Given.{HandsScalars, HandedCallsGiveScalars}
+use Rattle.rv_accounts.proofs.Giving.{resumes_give}
+
+-- Stances
+
+abbrev pub is_handed : Stance → Bool
+is_handed HandedOver = true
+is_handed other = false
+
+pub own_not_handed : (a : ℕ) (r : Request) (w : Recorded) → is_handed (stance_of (Asked a r w)) ≡ false
+own_not_handed a (Call o p vs) Words.Queued = refl
+own_not_handed a (Call o p vs) Words.Suspended = refl
+own_not_handed a (Call o p vs) w = refl
+own_not_handed a (DelayUntil t) Words.Delayed = refl
+own_not_handed a (DelayUntil t) w = refl
+own_not_handed a Quit (Words.Accepted v) = refl
+own_not_handed a Quit w = refl
+own_not_handed a (Complete vs x) w = refl
+own_not_handed a Resume w = refl
+own_not_handed a Clock w = refl
+own_not_handed a Fire w = refl
+own_not_handed a (Tick n) w = refl
+own_not_handed a Halt w = refl
+
+unless_own : (b : Bool) (t s : Stance) (X : Type 0) → is_handed t ≡ false → is_handed (or_else (if b then Some t else None) s) ≡ true → (is_handed s ≡ true → X) → X
+unless_own true t s X n h rest = absurd (cc (n, h))
+unless_own false t s X n h rest = rest h
+
+pub unless_named : (a : ℕ) (next : Next) (b : Bool) (t s : Stance) (X : Type 0) → is_handed t ≡ false → is_handed (or_else (first_of (if_named a next) (if b then Some t else None)) s) ≡ true
+    → (next ≡ HandedTo a → X) → (is_handed s ≡ true → X) → X
+unless_named a Nothing b t s X n h here rest = unless_own b t s X n h rest
+unless_named a (HandedTo m) b t s X n h here rest = by_test (eqb m a) refl h where
+  by_test : (c : Bool) → eqb m a ≡ c → is_handed (or_else (first_of (if c then Some HandedOver else None) (if b then Some t else None)) s) ≡ true → X
+  by_test true is k = here (ap HandedTo (eqb-true m a is))
+  by_test false is k = unless_own b t s X n k rest
+unless_named a (Dropped m line) b t s X n h here rest = by_test (eqb m a) h where
+  by_test : (c : Bool) → is_handed (or_else (first_of (if c then Some (DroppedBy line) else None) (if b then Some t else None)) s) ≡ true → X
+  by_test true k = absurd (cc k)
+  by_test false k = unless_own b t s X n k rest
+
+pub done_by : (a b : ℕ) (r : Request) (w : Recorded) → next_of (Asked b r w) ≡ HandedTo a → w ≡ Words.Done (HandedTo a)
+done_by a b r (Words.Done next) e = ap Words.Done e
+done_by a b r Words.Started e = absurd (cc e)
+done_by a b r Words.Queued e = absurd (cc e)
+done_by a b r (Words.Refused rule line version) e = absurd (cc e)
+done_by a b r Words.Suspended e = absurd (cc e)
+done_by a b r Words.Delayed e = absurd (cc e)
+done_by a b r Words.Woken e = absurd (cc e)
+done_by a b r (Words.Accepted value) e = absurd (cc e)
+
+pub itself : (a : ℕ) → eqb a a ≡ true
+itself a = grind (arith, nat_tests)
+
+own_first : (b : Bool) (t s : Stance) → b ≡ true → is_handed t ≡ false → is_handed (or_else (if b then Some t else None) s) ≡ false
+own_first true t s e n = n
+own_first false t s e n = absurd (cc e)
+
+-- one that was queued hasn't been handed the object yet
+pub still_waits : (a o p : ℕ) (vs : List ℤ) (past : List Entry) → is_handed (stance a (Asked a (Call o p vs) Words.Queued ∷ past)) ≡ false
+still_waits a o p vs past = own_first (eqb a a) _ (stance a past) (itself a) refl
+
+-- an end that hands over to this actor stands among these entries
+record HandOver (a : ℕ) (es : List Entry) : Type 0 where
+  newer : List Entry
+  older : List Entry
+  of : ℕ
+  request : Request
+  split : es ≡ newer ++ Asked of request (Words.Done (HandedTo a)) ∷ older
+
+one_more : (a : ℕ) (e : Entry) (es : List Entry) → HandOver a es → HandOver a (e ∷ es)
+one_more a e es t = record { newer = e ∷ t.newer; older = t.older; of = t.of; request = t.request; split = ap (λ (l : List Entry). e ∷ l) t.split }
+
+-- one that was handed the object, and hadn't been before these entries
+handed_among : (a : ℕ) (es olds : List Entry) → is_handed (stance a olds) ≡ false → is_handed (stance a (es ++ olds)) ≡ true → HandOver a es
+handed_among a [] olds n h = absurd (cc (n, h))
+handed_among a (Load ∷ es) olds n h = one_more a Load es (handed_among a es olds n h)
+handed_among a (ListChange ∷ es) olds n h = one_more a ListChange es (handed_among a es olds n h)
+handed_among a (Asked b r w ∷ es) olds n h =
+    unless_named a (next_of (Asked b r w)) (eqb b a) (stance_of (Asked b r w)) (stance a (es ++ olds)) (HandOver a (Asked b r w ∷ es)) (own_not_handed b r w) h
+    (λ is. record { newer = []; older = es; of = b; request = r; split = ap (λ (z : Recorded). Asked b r z ∷ es) (done_by a b r w is) })
+    (λ before. one_more a (Asked b r w) es (handed_among a es olds n before))
+
+-- What a resume is answered
+
+abbrev has_scalars : Answer → Bool
+has_scalars (Answers.Woken (Some scalars)) = true
+has_scalars answer = false
+
+waiting_none : (h : History) (ready : Bool) → has_scalars (or_waiting h ready) ≡ false
+waiting_none h true = refl
+waiting_none h false = by_halt (halted h.past) where
+  by_halt : (b : Bool) → has_scalars (if b then Answers.Halted else Answers.Waiting) ≡ false
+  by_halt true = refl
+  by_halt false = refl
+
+within_has : (room : Bool) (r : Answer) → has_scalars (within room r) ≡ true → has_scalars r ≡ true
+within_has true r e = e
+within_has false r e = absurd (cc e)
+
+gate_has : (fit shut : Bool) (r : Answer) → has_scalars (gate fit shut r) ≡ true → has_scalars r ≡ true
+gate_has true true r e = absurd (cc e)
+gate_has true false r e = e
+gate_has false shut r e = absurd (cc e)
+
+-- one that is woken with scalars was handed the object
+pub woken_handed : (h : History) (a : ℕ) (scalars : List ℤ) → out h a Resume ≡ Answers.Woken (Some scalars) → is_handed (stance a h.past) ≡ true
+woken_handed h a scalars e =
+    by_stance (stance a h.past) (gate_has (fits h a Resume) (halted h.past && not (goes_on Resume)) (table h a Resume)
+    (within_has (enough h a Resume (recorded (due h a Resume))) (due h a Resume) (ap has_scalars e))) where
+      by_stance : (s : Stance) → has_scalars (due_resume h a s) ≡ true → is_handed s ≡ true
+      by_stance HandedOver f = refl
+      by_stance (DroppedBy l) f = absurd (cc f)
+      by_stance Free f = absurd (cc f)
+      by_stance Gone f = absurd (cc f)
+      by_stance InQueue f = absurd (cc (waiting_none h false, f))
+      by_stance (WaitsOn object) f = absurd (cc (waiting_none h (released a object h.past), f))
+      by_stance (WaitsUntil time) f = absurd (cc (waiting_none h (int_le time (pos (clock h.past))), f))
+
+-- The last that an actor asked
+
+no_last : {X : Type 0} (xs : List X) (x : X) → [] ≡ xs ++ x ∷ [] → ⊥
+no_last [] x e = cc e
+no_last (y ∷ xs) x e = cc e
+
+head_or : {X : Type 0} → X → List X → X
+head_or x [] = x
+head_or x (y ∷ ys) = y
+
+tail_of : {X : Type 0} → List X → List X
+tail_of [] = []
+tail_of (y ∷ ys) = ys
+
+last_same : {X : Type 0} (xs ys : List X) (x y : X) → xs ++ x ∷ [] ≡ ys ++ y ∷ [] → x ≡ y
+unfolding head_or tail_of
+last_same [] [] x y e = ap (head_or x) e
+last_same [] (z ∷ ys) x y e = absurd (no_last ys y (ap tail_of e))
+last_same (z ∷ xs) [] x y e = absurd (no_last xs x (sym (ap tail_of e)))
+last_same (z ∷ xs) (w ∷ ys) x y e = last_same xs ys x y (ap tail_of e)
+
+-- its entry, the newest of its own
+record LastOwn (a : ℕ) (past : List Entry) (q : Request) (r : Answer) : Type 0 where
+  newer : List Entry
+  older : List Entry
+  word : Recorded
+  split : past ≡ newer ++ Asked a q word ∷ older
+  word_is : recorded r ≡ Some word
+  silent : list_any (is_own a) newer ≡ false
+
+others : (a : ℕ) (e : Entry) (past : List Entry) (q : Request) (r : Answer) → is_own a e ≡ false → LastOwn a past q r → LastOwn a (e ∷ past) q r
+others a e past q r other t = record {
+  newer = e ∷ t.newer;
+  older = t.older;
+  word = t.word;
+  split = ap (λ (l : List Entry). e ∷ l) t.split;
+  word_is = t.word_is;
+  silent = λ i. other i || t.silent i;
+}
+
+last_own : (limits : Limits) (a : ℕ) (past : List Entry) (shapes : List Shape) (lists : List (List Lines)) (before : Trace) (q : Request) (r : Answer) → IsLegal limits past shapes lists → asked_in limits a past shapes lists ≡ before ++ (q, r) ∷ [] → LastOwn a past q r
+last_own limits a [] shapes lists before q r l e = absurd (no_last before (q, r) e)
+last_own limits a (Asked b p word ∷ past) shapes lists before q r l e =
+    by_test (eqb b a) refl (λ f. last_own limits a past shapes lists before q r l.0 (sym (append-nil (asked_in limits a past shapes lists)) ∙ f)) e where
+      h : History
+      h = history_of limits past shapes lists
+
+      by_test : (k : Bool) → eqb b a ≡ k → (asked_in limits a past shapes lists ++ [] ≡ before ++ (q, r) ∷ [] → LastOwn a past q r) → asked_in limits a past shapes lists ++ cond k ((p, out h a p) ∷ []) [] ≡ before ++ (q, r) ∷ [] → LastOwn a (Asked b p word ∷ past) q r
+      by_test true is earlier f =
+          let same = last_same (asked_in limits a past shapes lists) before (p, out h a p) (q, r) f in
+          let here : b ≡ a = eqb-true b a is in
+          record {
+            newer = [];
+            older = past;
+            word = word;
+            split = λ i. Asked (here i) (ap (λ (z : Request × Answer). z.0) same i) word ∷ past;
+            word_is = ap (λ (z : Request × Answer). recorded z.1) (sym same) ∙ (ap (λ (n : ℕ). recorded (out h n p)) (sym here) ∙ l.1);
+            silent = refl;
+          }
+      by_test false is earlier f = others a (Asked b p word) past q r is (earlier f)
+last_own limits a (Load ∷ past) shapes lists before q r l e =
+    let earlier : shapes_before Load shapes ≡ l.0 = ap (λ (s : List Shape). shapes_before Load s) l.2 ∙ front_is l.0 l.1 in
+    others a Load past q r refl
+    (last_own limits a past l.0 lists before q r l.3
+    (ap (λ (s : List Shape). asked_in limits a past s lists) (sym earlier) ∙ (sym (append-nil (asked_in limits a past (shapes_before Load shapes) lists)) ∙ e)))
+last_own limits a (ListChange ∷ past) shapes lists before q r l e =
+    let earlier : lists_before ListChange lists ≡ l.0 = ap (λ (s : List (List Lines)). lists_before ListChange s) l.2 ∙ front_is l.0 l.1 in
+    others a ListChange past q r refl
+    (last_own limits a past shapes l.0 before q r l.3
+    (ap (λ (s : List (List Lines)). asked_in limits a past shapes s) (sym earlier) ∙ (sym (append-nil (asked_in limits a past shapes (lists_before ListChange lists))) ∙ e)))
+
+-- of an actor that asked nothing since, the last queued call is this
+last_is : (a o p : ℕ) (vs : List ℤ) (newer older : List Entry) → list_any (is_own a) newer ≡ false
+    → last_queued a (newer ++ Asked a (Call o p vs) Words.Queued ∷ older) ≡ Some (record { actor = a; object = o; operation = p })
+last_is a o p vs [] older quiet = λ i. first_of (if itself a i then Some (record { actor = a; object = o; operation = p }) else None) (last_queued a older)
+last_is a o p vs (Load ∷ newer) older quiet = last_is a o p vs newer older quiet
+last_is a o p vs (ListChange ∷ newer) older quiet = last_is a o p vs newer older quiet
+last_is a o p vs (Asked b r w ∷ newer) older quiet =
+    let parts = neither (eqb b a) (list_any (is_own a) newer) quiet in
+    other_queued (queued_by (Asked b r w)) b a (newer ++ Asked a (Call o p vs) Words.Queued ∷ older) (λ c e. queued_actor b r w c e) (λ same. cc (eq-eqb b a (sym same), parts.0))
+    ∙ last_is a o p vs newer older parts.1
+
+none_both : (p : Entry → Bool) (xs ys : List Entry) → list_any p (xs ++ ys) ≡ false → (list_any p xs ≡ false) × (list_any p ys ≡ false)
+none_both p [] ys e = (refl, e)
+none_both p (x ∷ xs) ys e =
+    let t = neither (p x) (list_any p (xs ++ ys)) e in
+    let rest = none_both p xs ys t.1 in ((λ i. t.0 i || rest.0 i), rest.1)
+
+-- What it is given
+
+abbrev scalars_in : Answer → List ℤ
+scalars_in (Answers.Woken (Some scalars)) = scalars
+scalars_in answer = []
+
+abbrev call_in : Option Body → Body → Body
+call_in None c = c
+call_in (Some b) c = b
+
+handed_by : (h : History) (a o p : ℕ) (vs s : List ℤ) → Legal h → 1 ≤ h.limits.capacity → out h a Resume ≡ Answers.Woken (Some s) → (later newer older : List Entry) (b : ℕ) (r : Request)
+    → h.past ≡ later ++ Asked b r (Words.Done (HandedTo a)) ∷ (newer ++ Asked a (Call o p vs) Words.Queued ∷ older) → list_any (is_own a) later ≡ false → list_any (is_own a) newer ≡ false → is_complete r ≡ true → HandsScalars h a o s
+handed_by h a o p vs s l room woken later newer older b (Complete values exit) split silent quiet e =
+    let past : List Entry = newer ++ Asked a (Call o p vs) Words.Queued ∷ older in
+    let k : IsHanded h past b values a = handed_wakes h later past b values exit a l (legal_solvent h room l) split silent in
+    let same : values ≡ s = ap scalars_in (sym k.wakes ∙ woken) in
+    let call : k.call ≡ record { actor = a; object = o; operation = p } = ap (λ (c : Option Body). call_in c k.call) (sym k.queued ∙ last_is a o p vs newer older quiet) in
+    let there : k.call.object ≡ o = ap (λ (c : Body). c.object) call in
+    record {
+      later = later;
+      past = past;
+      by = b;
+      exit = exit;
+      split = split ∙ ap (λ (z : List ℤ). later ++ Asked b (Complete z exit) (Words.Done (HandedTo a)) ∷ past) same;
+      silent = silent;
+      ended = k.body;
+      ending = k.ending;
+      there = sym k.there ∙ there;
+      still = resumes_give h a s woken ∙ (ap (λ (bs : List Body). scalars_held h (slice_get bs 0)) k.holds ∙ ap (λ (n : ℕ). scalars h.shapes n h.past) there);
+    }
+handed_by h a o p vs s l room woken later newer older b (Call o' p' vs') split silent quiet e = absurd (cc e)
+handed_by h a o p vs s l room woken later newer older b Resume split silent quiet e = absurd (cc e)
+handed_by h a o p vs s l room woken later newer older b (DelayUntil time) split silent quiet e = absurd (cc e)
+handed_by h a o p vs s l room woken later newer older b Clock split silent quiet e = absurd (cc e)
+handed_by h a o p vs s l room woken later newer older b Fire split silent quiet e = absurd (cc e)
+handed_by h a o p vs s l room woken later newer older b Quit split silent quiet e = absurd (cc e)
+handed_by h a o p vs s l room woken later newer older b (Tick n) split silent quiet e = absurd (cc e)
+handed_by h a o p vs s l room woken later newer older b Halt split silent quiet e = absurd (cc e)
+
+abbrev word_or : Option Recorded → Recorded → Recorded
+word_or None w = w
+word_or (Some v) w = v
+
+pub handed_give : HandedCallsGiveScalars
+handed_give h a o p vs s before room l e woken =
+    let q : Request = Call o p vs in
+    let t : LastOwn a h.past q Answers.Queued = last_own h.limits a h.past h.shapes h.lists before q Answers.Queued l e in
+    let queued : Words.Queued ≡ t.word = ap (λ (w : Option Recorded). word_or w t.word) t.word_is in
+    let split : h.past ≡ t.newer ++ Asked a q Words.Queued ∷ t.older = t.split ∙ ap (λ (w : Recorded). t.newer ++ Asked a q w ∷ t.older) (sym queued) in
+    let f : HandOver a t.newer = handed_among a t.newer (Asked a q Words.Queued ∷ t.older) (still_waits a o p vs t.older) (subst (λ (es : List Entry). is_handed (stance a es) ≡ true) split (woken_handed h a s woken)) in
+    let start : Entry = Asked f.of f.request (Words.Done (HandedTo a)) in
+    let whole : h.past ≡ f.newer ++ start ∷ (f.older ++ Asked a q Words.Queued ∷ t.older) =
+    split ∙ (ap (λ (es : List Entry). es ++ Asked a q Words.Queued ∷ t.older) f.split ∙ append_assoc f.newer (start ∷ f.older) (Asked a q Words.Queued ∷ t.older)) in
+    let quiet = none_both (is_own a) f.newer (start ∷ f.older) (subst (λ (es : List Entry). list_any (is_own a) es ≡ false) f.split t.silent) in
+    let w = legal_before h.limits f.newer (start ∷ (f.older ++ Asked a q Words.Queued ∷ t.older)) h.shapes h.lists (legal_split h f.newer (start ∷ (f.older ++ Asked a q Words.Queued ∷ t.older)) l whole) in
+    handed_by h a o p vs s l room woken f.newer f.older t.older f.of f.request whole quiet.0 (neither (is_own a start) (list_any (is_own a) f.older) quiet.1).1
+    (done_at_ends (record { limits = h.limits; past = f.older ++ Asked a q Words.Queued ∷ t.older; shapes = w.old; lists = w.lists }) f.of f.request (HandedTo a) w.legal.1)
