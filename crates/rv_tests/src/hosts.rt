@@ -117,9 +117,8 @@ fn kept(alloc: Global) -> Result<Vec<u8>, Fail> {
 #[test]
 fn keepers_write_each_line_once(rt: HostRuntime) -> Result<(), Fail> {
     let file = kept(rt.alloc())?;
-    assert!(rt;
-        file.as_slice()
-            == b"1 operator load Plant -> accepted 0\n2 operator list [allow * * *] -> accepted 0\n"
-    );
+    let lines =
+        "1 operator load Plant -> accepted 0\n2 operator list [allow * * *] -> accepted 0\n";
+    assert!(rt; file.as_slice() == lines.as_bytes());
     Ok(())
 }
