@@ -42,10 +42,11 @@ enum Taken {
     Table,
 }
 
-// A key, what its value is to be, and what is said of another.
+// A key, the table that has it, what its value is to be, and what is said of another.
 #[derive(Clone, Copy)]
 struct Key {
     name: &'static str,
+    table: Table,
     taken: Taken,
     said: &'static str,
 }
@@ -59,46 +60,55 @@ const TABLE: &str = "devices are tables of their own: write [[device]]";
 const KEYS: [Key; 9] = [
     Key {
         name: "capacity",
+        table: Table::Top,
         taken: Taken::Number(16, 1_048_576),
         said: "capacity is a whole number, 16 .. 1048576",
     },
     Key {
         name: "budget",
+        table: Table::Top,
         taken: Taken::Number(1, 1_000_000),
         said: CALLS,
     },
     Key {
         name: "calls",
+        table: Table::Device,
         taken: Taken::Number(1, 1_000_000),
         said: CALLS,
     },
     Key {
         name: "priority",
+        table: Table::Device,
         taken: Taken::Number(1, 40),
         said: "priority is a whole number, 1 .. 40",
     },
     Key {
         name: "unit",
+        table: Table::Device,
         taken: Taken::Name,
         said: NAME,
     },
     Key {
         name: "task",
+        table: Table::Device,
         taken: Taken::Name,
         said: NAME,
     },
     Key {
         name: "operation",
+        table: Table::Device,
         taken: Taken::Name,
         said: NAME,
     },
     Key {
         name: "object",
+        table: Table::Device,
         taken: Taken::Object,
         said: "object is Unit.Object in quotes",
     },
     Key {
         name: "device",
+        table: Table::Top,
         taken: Taken::Table,
         said: TABLE,
     },
@@ -163,38 +173,38 @@ pub fn entries_of<'a>(alloc: Global, text: &'a str) -> Result<Vec<Entry<'a>>, Al
     Ok(entries)
 }
 
-// Whether a word is one of a list, letter for letter.
-fn is_among(list: &[&str], word: &str) -> bool {
-    for one in list {
-        if *one == word {
-            return true;
+// The table whose key a word is, if it is one.
+fn table_of(word: &str) -> Option<Table> {
+    for key in &KEYS {
+        if key.name == word {
+            return Some(key.table);
         }
     }
-    false
+    None
 }
 
 impl<'a> Entry<'a> {
     // Whether its key is one of its table.
     fn is_key(&self) -> bool {
-        match self.table {
-            Table::Top => is_among(&TOP_KEYS, self.key),
-            Table::Device => is_among(&DEVICE_KEYS, self.key),
-            Table::Other => false,
+        match table_of(self.key) {
+            Some(table) => table == self.table,
+            None => false,
         }
     }
 
-    // What is said of its key, which its table doesn't have and none that is near to it.
+    // What is said of its key, which its table doesn't have.
     fn said_of_key(&self) -> &'static str {
-        if is_among(&TOP_KEYS, self.key) {
-            return "{0} stands in a device; put it above [[device]]";
+        match table_of(self.key) {
+            Some(Table::Top) => "{0} stands in a device; put it above [[device]]",
+            Some(_) => "{0} is a key of devices; put it below [[device]]",
+            None => {
+                if self.table == Table::Device {
+                    "unknown key {0}; a device has unit, task, object, operation, priority and calls"
+                } else {
+                    "unknown key {0}; the keys are capacity, budget and device"
+                }
+            }
         }
-        if is_among(&DEVICE_KEYS, self.key) {
-            return "{0} is a key of devices; put it below [[device]]";
-        }
-        if self.table == Table::Device {
-            return "unknown key {0}; a device has unit, task, object, operation, priority and calls";
-        }
-        "unknown key {0}; the keys are capacity, budget and device"
     }
 
     // What is said of its value, if that isn't as it is to be.
@@ -251,7 +261,7 @@ fn near_key(alloc: Global, word: &str) -> Result<Option<&'static str>, AllocErro
 // What is wrong with a key that its table doesn't have.
 fn unknown<'a>(alloc: Global, entry: &Entry<'a>) -> Result<Cause<'a>, AllocError> {
     let key = entry.key;
-    if !is_among(&TOP_KEYS, key) && !is_among(&DEVICE_KEYS, key) {
+    if table_of(key).is_none() {
         if let Some(near) = near_key(alloc, key)? {
             return Ok(Cause::new(entry.at, "unknown key {0}; {1}?", [key, near, ""]));
         }

@@ -2,17 +2,19 @@
 
 use crate::cause::Cause;
 use crate::known::Known;
-use crate::line::{Form, Line, is_listed, said_of};
+use crate::line::{Form, Line, is_listed, is_number, said_of};
 use rv_text::{is_identifier, is_same_name, next_line};
 use std::alloc::{AllocError, Global};
 
 const PARTS: [&str; 5] = ["scalar", "function", "procedure", "entry", "handler"];
 
+const MODES: [&str; 3] = ["in", "out", "inout"];
+
 const RESERVED: [&str; 5] = ["Ada", "System", "Standard", "Host", "Interrupts"];
 
 const FIRST: &str = "the first line of a shape is unit and its name";
 
-// What a line has to be, by its first word.
+// What a line has to be, by its first word: `{` is before words that stand any number of times.
 const FORMS: [Form; 8] = [
     Form {
         word: "task",
@@ -65,48 +67,41 @@ fn is_part(line: &Line<'_>) -> bool {
     is_listed(&PARTS, line.word(0))
 }
 
-// Whether numbers stand from a word on, up to another.
-fn are_numbers(line: &Line<'_>, from: usize, end: usize) -> bool {
-    for word in from..end {
-        if line.number(word).is_none() {
-            return false;
-        }
+// Whether a word is as a form has it: MODE, NAME, BARRIER, another word in capitals for a number, or the word itself.
+fn is_formed(word: &str, form: &str) -> bool {
+    match form {
+        "MODE" => is_listed(&MODES, word),
+        "in" => is_listed(&MODES, word) && word != "out" && word != "inout",
+        "NAME" => is_identifier(word),
+        "BARRIER" => !word.is_empty(),
+        "LOW" | "HIGH" | "HIGH}" | "START" | "PRIORITY" | "CEILING" | "K" => is_number(word),
+        _ => word == form,
     }
-    true
 }
 
-// Whether parameters stand from a word on.
-fn are_parameters(line: &Line<'_>, from: usize) -> bool {
-    for word in from..line.count() {
-        let is_mode = word.saturating_sub(from) % 3 == 0;
-        if is_mode && !is_listed(&["in", "out", "inout"], line.word(word)) {
+// Whether a line has the words of a form: those before `{` once, and the three behind it any number of times.
+fn fits(line: &Line<'_>, form: &str) -> bool {
+    let (form, _) = form.split_once(',').unwrap_or((form, ""));
+    let (words, repeated) = form.split_once(" {").unwrap_or((form, ""));
+    let mut count = 0usize;
+    for word in words.split(' ') {
+        if !is_formed(line.word(count), word) {
             return false;
         }
-        if !is_mode && line.number(word).is_none() {
+        count = count.saturating_add(1);
+    }
+    are_repeated(line, count, repeated)
+}
+
+// Whether the words of a line from one on are those three of a form any number of times; of no form there are none.
+fn are_repeated(line: &Line<'_>, from: usize, form: &str) -> bool {
+    for number in from..line.count() {
+        let place = number.saturating_sub(from) % 3;
+        if !is_formed(line.word(number), form.split(' ').nth(place).unwrap_or("")) {
             return false;
         }
     }
     line.count().saturating_sub(from) % 3 == 0
-}
-
-// Whether a parameter of a function is written.
-fn is_written(line: &Line<'_>) -> bool {
-    line.has(line.find(4, "out")) || line.has(line.find(4, "inout"))
-}
-
-// Whether a line has the words of its form.
-fn is_formed(line: &Line<'_>) -> bool {
-    if !line.is(0, "scalar") && !is_identifier(line.word(1)) {
-        return false;
-    }
-    match line.word(0) {
-        "scalar" => line.count() == 4 && are_numbers(line, 1, 4),
-        "suspension" => line.count() == 2,
-        "procedure" => are_parameters(line, 2),
-        "entry" => line.has(2) && are_parameters(line, 3),
-        "function" => are_numbers(line, 2, 4) && are_parameters(line, 4) && !is_written(line),
-        _ => line.count() == 3 && are_numbers(line, 2, 3),
-    }
 }
 
 // What stands against a line behind the first, where it stands in a protected object or not.
@@ -117,7 +112,7 @@ fn bad_line<'a>(line: &Line<'a>, is_inside: bool) -> Option<Cause<'a>> {
     if is_part(line) && !is_inside {
         return Some(line.cause(0, "{0} stands directly below a protected object only"));
     }
-    if is_formed(line) {
+    if fits(line, form) {
         return None;
     }
     Some(Cause::of(line.at(0), "this line has to be: {0}", form))
@@ -136,14 +131,6 @@ fn bad_barrier<'a>(lines: &[Line<'a>]) -> Cause<'a> {
     Cause::plain(0, "a line of a handler is one of 0 .. 9")
 }
 
-// What stands against the first line.
-fn bad_first<'a>(line: &Line<'a>) -> Option<Cause<'a>> {
-    if line.is(0, "unit") && line.count() == 2 && is_identifier(line.word(1)) {
-        return None;
-    }
-    Some(line.cause(0, FIRST))
-}
-
 /// Which line isn't one of a shape.
 pub fn bad_text<'a>(lines: &[Line<'a>]) -> Cause<'a> {
     let mut is_inside = false;
@@ -151,12 +138,11 @@ pub fn bad_text<'a>(lines: &[Line<'a>]) -> Cause<'a> {
         if line.count() == 0 || line.word(0).starts_with("#") {
             return line.cause(0, "a shape has no blank lines, and no comments");
         }
-        let found = if number == 0 {
-            bad_first(line)
-        } else {
-            bad_line(line, is_inside)
-        };
-        if let Some(cause) = found {
+        if number == 0 {
+            if !fits(line, "unit NAME") {
+                return line.cause(0, FIRST);
+            }
+        } else if let Some(cause) = bad_line(line, is_inside) {
             return cause;
         }
         is_inside = line.is(0, "protected") || is_inside && is_part(line);
