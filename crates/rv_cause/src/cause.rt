@@ -67,6 +67,11 @@ impl<'a> Cause<'a> {
         Cause::full(at, said, [word, "", "", "", "", ""])
     }
 
+    /// A sentence with two words.
+    pub fn pair(at: usize, said: &'static str, first: &'a str, second: &'a str) -> Cause<'a> {
+        Cause::full(at, said, [first, second, "", "", "", ""])
+    }
+
     /// A sentence without words.
     pub fn plain(at: usize, said: &'static str) -> Cause<'a> {
         Cause::of(at, said, "")

@@ -238,8 +238,8 @@ fn unexpected_word<'a>(words: &Words<'_, 'a>, around: &Around<'a>) -> Cause<'a> 
         return cause;
     }
     if is_behind_end(words, around) {
-        let missing = [missing_before(words), words.back(1), ""];
-        return Cause::new(words.place(0), "{0} is missing behind {1}", missing);
+        let said = "{0} is missing behind {1}";
+        return Cause::pair(words.place(0), said, missing_before(words), words.back(1));
     }
     match first_of(&OPERATORS, words, around) {
         Some(cause) => cause,

@@ -392,8 +392,8 @@ impl<'a> Known<'a> {
     }
 }
 
-/// Of names the one that is nearest to a word; empty where none is near.
-pub fn near_among<'a>(alloc: Global, word: &str, names: &[&'a str]) -> Result<&'a str, AllocError> {
+// Of names the one that is nearest to a word; empty where none is near.
+fn near_among<'a>(alloc: Global, word: &str, names: &[&'a str]) -> Result<&'a str, AllocError> {
     match nearest(alloc, word, names)? {
         Some(name) => Ok(name),
         None => Ok(""),

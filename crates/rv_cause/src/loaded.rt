@@ -2,8 +2,9 @@
 
 use crate::cause::Cause;
 use crate::declared::{Declared, Sort};
-use crate::known::{Group, Known, near_among};
+use crate::known::{Group, Known};
 use crate::line::Line;
+use rv_near::nearest;
 use rv_text::{dotted_parts, is_same_name, next_line};
 use std::alloc::{AllocError, Global};
 
@@ -71,6 +72,14 @@ pub fn add_shape<'a>(
     Ok(())
 }
 
+// The operation of a suspension object that is nearest to a word, or all, in words.
+fn near_signal(alloc: Global, word: &str) -> Result<&'static str, AllocError> {
+    match nearest(alloc, word, &SIGNALS)? {
+        Some(near) => Ok(near),
+        None => Ok("Set_True, Set_False, Current_State, Suspend_Until_True"),
+    }
+}
+
 // Of the operations of an object those that a word may be meant for, in words: the nearest, or all; and of which group they are.
 fn near_operation<'a>(
     alloc: Global,
@@ -82,13 +91,7 @@ fn near_operation<'a>(
     if !is_same_name(object.mark, SUSPENSION) {
         return Ok((known.near(alloc, word, group)?, group));
     }
-    match near_among(alloc, word, &SIGNALS)? {
-        "" => Ok((
-            "Set_True, Set_False, Current_State, Suspend_Until_True",
-            group,
-        )),
-        near => Ok((near, group)),
-    }
+    Ok((near_signal(alloc, word)?, group))
 }
 
 // Why a word names no task, or no object.

@@ -263,7 +263,7 @@ fn unknown<'a>(alloc: Global, entry: &Entry<'a>) -> Result<Cause<'a>, AllocError
     let key = entry.key;
     if table_of(key).is_none() {
         if let Some(near) = near_key(alloc, key)? {
-            return Ok(Cause::new(entry.at, "unknown key {0}; {1}?", [key, near, ""]));
+            return Ok(Cause::pair(entry.at, "unknown key {0}; {1}?", key, near));
         }
     }
     Ok(Cause::of(entry.at, entry.said_of_key(), key))
@@ -325,10 +325,10 @@ pub fn bad_value<'a>(entries: &[Entry<'a>]) -> Cause<'a> {
             return Cause::of(entry.at, said, entry.key);
         }
     }
-    match lacking(entries) {
-        Some(cause) => cause,
-        None => Cause::plain(0, "a value is of another type, or out of its range"),
+    if let Some(cause) = lacking(entries) {
+        return cause;
     }
+    Cause::plain(0, "a value is of another type, or out of its range")
 }
 
 /// Where settings are no TOML.

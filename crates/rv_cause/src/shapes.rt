@@ -12,6 +12,8 @@ const MODES: [&str; 3] = ["in", "out", "inout"];
 
 const RESERVED: [&str; 5] = ["Ada", "System", "Standard", "Host", "Interrupts"];
 
+const TAKEN: &str = "line {0} has a handler already (C.3.1)";
+
 const FIRST: &str = "the first line of a shape is unit and its name";
 
 // What a line has to be, by its first word: `{` is before words that stand any number of times.
@@ -304,18 +306,24 @@ fn is_taken(lines: &[Line<'_>], end: usize, interrupt: &str) -> bool {
     false
 }
 
-/// Which line of interrupts has a handler already.
-pub fn line_taken<'a>(lines: &[Line<'a>]) -> Cause<'a> {
-    let mut last = Cause::plain(0, "an interrupt line has a handler already (C.3.1)");
-    for (number, line) in lines.iter().enumerate() {
+// That the last handler has a line that is taken.
+fn last_taken<'a>(lines: &[Line<'a>]) -> Cause<'a> {
+    for line in lines.iter().rev() {
         if line.is(0, "handler") {
-            last = line.cause(2, "line {0} has a handler already (C.3.1)");
-            if is_taken(lines, number, line.word(2)) {
-                return last;
-            }
+            return line.cause(2, TAKEN);
         }
     }
-    last
+    Cause::plain(0, "an interrupt line has a handler already (C.3.1)")
+}
+
+/// Which line of interrupts has a handler already.
+pub fn line_taken<'a>(lines: &[Line<'a>]) -> Cause<'a> {
+    for (number, line) in lines.iter().enumerate() {
+        if line.is(0, "handler") && is_taken(lines, number, line.word(2)) {
+            return line.cause(2, TAKEN);
+        }
+    }
+    last_taken(lines)
 }
 
 // What the object that a line stands in has before it.
