@@ -39,15 +39,19 @@ fn list_line(fault: ListFault) -> usize {
 }
 
 // The cause of a fault of a line, whose first word of the list has a number.
-fn cause_of_list<'a>(words: &Line<'a>, first: usize, fault: ListFault) -> Cause<'a> {
+fn cause_of_list<'a>(
+    words: &Line<'a>,
+    first: usize,
+    fault: ListFault,
+) -> Result<Cause<'a>, AllocError> {
     match fault {
-        ListFault::BadWord(_) => lists::bad_word(words, first),
-        ListFault::BadName(_) => lists::bad_name(words, first),
-        ListFault::BadWindow(_) => lists::bad_window(words, first),
+        ListFault::BadWord(_) => Ok(lists::bad_word(words, first)),
+        ListFault::BadName(_) => Ok(lists::bad_name(words, first)),
+        ListFault::BadWindow(_) => Ok(lists::bad_window(words, first)),
         ListFault::TooMany(_) => {
-            words.cause(0, "this is the 513th line of the list; 512 are the most")
+            Ok(words.cause(0, "this is the 513th line of the list; 512 are the most"))
         }
-        ListFault::NoMemory => Cause::plain(0, "memory was refused"),
+        ListFault::NoMemory => Ok(Cause::plain(0, "memory was refused")),
     }
 }
 
@@ -80,7 +84,7 @@ fn of_list<'a>(
     };
     let words = Line::of(alloc, spot.line, 0)?;
     let first = if is_section { 0 } else { first_of_step(&words) };
-    let cause = cause_of_list(&words, first, fault);
+    let cause = cause_of_list(&words, first, fault)?;
     of_line(alloc, &spot, &cause, &Known::new(alloc))
 }
 

@@ -120,18 +120,18 @@ fn of_names<'a>(
 }
 
 // The cause of a fault of types.
-fn of_types<'a>(seen: &Seen<'_, 'a, '_>, fault: TypeFault) -> Cause<'a> {
+fn of_types<'a>(seen: &Seen<'_, 'a, '_>, fault: TypeFault) -> Result<Cause<'a>, AllocError> {
     let words = &seen.words;
     match fault {
-        TypeFault::Mismatch(_) => types::mismatch(words, &seen.around, seen.known),
-        TypeFault::NotStatic(_) => types::not_static(words),
+        TypeFault::Mismatch(_) => Ok(types::mismatch(words, &seen.around, seen.known)),
+        TypeFault::NotStatic(_) => Ok(types::not_static(words)),
         TypeFault::ConstantWritten(_) => {
-            types::constant_written(words, &seen.around, seen.known)
+            Ok(types::constant_written(words, &seen.around, seen.known))
         }
-        TypeFault::BadMode(_) => types::bad_mode(words, &seen.around, seen.known),
-        TypeFault::TooLarge(_) => types::too_large(words, &seen.around, seen.known),
-        TypeFault::BadChoice(_) => types::bad_choice(words),
-        TypeFault::NoMemory => Cause::plain(0, NO_MEMORY),
+        TypeFault::BadMode(_) => Ok(types::bad_mode(words, &seen.around, seen.known)),
+        TypeFault::TooLarge(_) => Ok(types::too_large(words, &seen.around, seen.known)),
+        TypeFault::BadChoice(_) => Ok(types::bad_choice(words)),
+        TypeFault::NoMemory => Ok(Cause::plain(0, NO_MEMORY)),
     }
 }
 
@@ -203,7 +203,7 @@ fn cause_of<'a>(
         UnitFault::Parse(fault) => Ok(of_grammar(text, tokens, fault)),
         UnitFault::Restriction(violation) => Ok(of_restriction(&seen, violation.restriction)),
         UnitFault::Names(fault) => of_names(alloc, &seen, fault),
-        UnitFault::Types(fault) => Ok(of_types(&seen, fault)),
+        UnitFault::Types(fault) => of_types(&seen, fault),
         UnitFault::Shape(fault) => Ok(of_shape(&seen, fault)),
         UnitFault::NoMemory => Ok(Cause::plain(0, NO_MEMORY)),
     }
