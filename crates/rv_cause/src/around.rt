@@ -28,21 +28,14 @@ pub struct Around<'a> {
     depth: usize,
     home_depth: usize,
     operation_depth: usize,
-    // Whether the words since the last `;` or `is` begin what may have an `is`.
-    is_heading: bool,
+    /// Whether the word stands in the head of a protected unit, a task or an operation: those since the last `;` or `is` begin
+    /// what may have an `is`.
+    pub is_in_head: bool,
 }
 
 // Whether the word begins a statement that ends with `end`.
 fn opens(word: &Words<'_, '_>) -> bool {
-    if word.was(1, "end") {
-        return false;
-    }
-    word.is(0, "if") || word.is(0, "case") || word.is(0, "loop") || word.is(0, "select")
-}
-
-// Whether the word begins an operation.
-fn begins_operation(word: &Words<'_, '_>) -> bool {
-    word.is(0, "function") || word.is(0, "procedure") || word.is(0, "entry")
+    !word.was(1, "end") && word.fit("^if|case|loop|select")
 }
 
 impl<'a> Around<'a> {
@@ -61,7 +54,7 @@ impl<'a> Around<'a> {
             depth: 0,
             home_depth: 0,
             operation_depth: 0,
-            is_heading: false,
+            is_in_head: false,
         }
     }
 
@@ -85,11 +78,6 @@ impl<'a> Around<'a> {
     /// Whether what is declared here is hidden from other units: behind `private`, or in the package's body.
     pub fn is_hidden(&self) -> bool {
         self.is_package_body || self.is_private && !self.home.is_empty()
-    }
-
-    /// Whether the word stands in the head of a protected unit, a task or an operation.
-    pub fn is_in_head(&self) -> bool {
-        self.is_heading
     }
 
     /// The name of the innermost operation, protected unit, task or package that isn't ended here.
@@ -117,7 +105,7 @@ impl<'a> Around<'a> {
         self.home = "";
         self.operation = "";
         self.is_package_body = is_body;
-        self.is_heading = true;
+        self.is_in_head = true;
         self.depth = 0;
     }
 
@@ -135,7 +123,7 @@ impl<'a> Around<'a> {
         self.is_task = word.is(0, "task");
         self.operation = "";
         self.home_depth = self.depth.saturating_add(1);
-        self.is_heading = true;
+        self.is_in_head = true;
     }
 
     // An operation begins.
@@ -143,29 +131,29 @@ impl<'a> Around<'a> {
         self.operation = word.word(1);
         self.is_function = word.is(0, "function");
         self.operation_depth = self.depth.saturating_add(1);
-        self.is_heading = true;
+        self.is_in_head = true;
+    }
+
+    // Leaves the operation and the protected unit or task whose parts have ended.
+    fn leave(&mut self) {
+        if self.depth < self.operation_depth {
+            self.operation = "";
+        }
+        if self.depth < self.home_depth {
+            self.home = "";
+        }
     }
 
     // A part ends.
     fn end(&mut self) {
         self.depth = self.depth.saturating_sub(1);
-        if self.depth < self.operation_depth {
-            self.operation = "";
-        }
-        if self.depth < self.home_depth {
-            self.home = "";
-        }
+        self.leave();
     }
 
     // A declaration without a part of its own ends.
     fn end_heading(&mut self) {
-        self.is_heading = false;
-        if self.depth < self.operation_depth {
-            self.operation = "";
-        }
-        if self.depth < self.home_depth {
-            self.home = "";
-        }
+        self.is_in_head = false;
+        self.leave();
     }
 
     // Signs.
@@ -174,16 +162,16 @@ impl<'a> Around<'a> {
             self.parentheses = self.parentheses.saturating_add(1);
         } else if word.is(0, ")") {
             self.parentheses = self.parentheses.saturating_sub(1);
-        } else if word.is(0, ";") && self.parentheses == 0 && self.is_heading {
+        } else if word.is(0, ";") && self.parentheses == 0 && self.is_in_head {
             self.end_heading();
         }
     }
 
     // Words within a part.
     fn pass_inner(&mut self, word: &Words<'_, 'a>) {
-        if word.is(0, "is") && self.is_heading {
+        if word.is(0, "is") && self.is_in_head {
             self.depth = self.depth.saturating_add(1);
-            self.is_heading = false;
+            self.is_in_head = false;
         } else if word.is(0, "end") {
             self.end();
         } else if opens(word) {
@@ -197,9 +185,9 @@ impl<'a> Around<'a> {
     pub fn pass(&mut self, word: &Words<'_, 'a>) {
         if word.is(0, "package") {
             self.begin_package(word);
-        } else if word.is(0, "protected") || word.is(0, "task") {
+        } else if word.fit("^protected|task") {
             self.begin_home(word);
-        } else if begins_operation(word) {
+        } else if word.fit("^function|procedure|entry") {
             self.begin_operation(word);
         } else if word.is(0, "private") && self.is_specification() {
             self.is_private = true;

@@ -1,77 +1,116 @@
 //! The one cause of a fault, in the words of the text.
 
-use std::fmt;
+use crate::known::{Group, Known};
+use std::alloc::{AllocError, Global};
 
 /// The one cause of a fault: a sentence, and the place of the word that it speaks of.
-#[derive(Drop)]
+#[derive(Clone, Copy)]
 pub struct Cause<'a> {
     /// The byte of the text, from 0, that the caret stands under.
     pub at: usize,
-    // The sentence, in pieces.
-    pieces: [&'a str; 6],
-    // Names that end it, with commas between them.
-    names: Option<Vec<&'a str>>,
+    // The sentence; `{0}` to `{5}` in it stand for the words.
+    said: &'static str,
+    words: [&'a str; 6],
+    // Names that end it, if there are any.
+    ending: Option<Ending<'a>>,
+}
+
+// The names that end a sentence.
+#[derive(Clone, Copy)]
+struct Ending<'a> {
+    // What stands before them.
+    before: &'static str,
+    // The only one; empty where all of the group are meant.
+    near: &'a str,
+    group: Group<'a>,
+}
+
+// The word that a hole of a sentence stands for.
+fn filling<'a>(words: &[&'a str; 6], hole: &str) -> &'a str {
+    match hole.as_bytes() {
+        [digit] => match words.get(usize::from(digit.wrapping_sub(b'0'))) {
+            Some(word) => *word,
+            None => "",
+        },
+        _ => "",
+    }
+}
+
+// Adds a part of a sentence: the first, or one that begins with a hole.
+fn put_part(text: &mut String, words: &[&str; 6], part: &str) -> Result<(), AllocError> {
+    let Some((hole, behind)) = part.split_once('}') else {
+        return text.push_str(part);
+    };
+    text.push_str(filling(words, hole))?;
+    text.push_str(behind)
 }
 
 impl<'a> Cause<'a> {
-    /// A sentence of pieces, of which some may be empty.
-    pub fn new(at: usize, pieces: [&'a str; 6]) -> Cause<'a> {
+    /// A sentence with words, of which some may be empty: `{0}` to `{5}` in it stand for them.
+    pub fn full(at: usize, said: &'static str, words: [&'a str; 6]) -> Cause<'a> {
         Cause {
             at,
-            pieces,
-            names: None,
+            said,
+            words,
+            ending: None,
         }
     }
 
-    /// A sentence of its own.
-    pub fn plain(at: usize, sentence: &'a str) -> Cause<'a> {
-        Cause::new(at, [sentence, "", "", "", "", ""])
+    /// A sentence with three words at most.
+    pub fn new(at: usize, said: &'static str, words: [&'a str; 3]) -> Cause<'a> {
+        let [first, second, third] = words;
+        Cause::full(at, said, [first, second, third, "", "", ""])
     }
 
-    /// A sentence that begins with a word of the text.
-    pub fn of(at: usize, word: &'a str, behind: &'static str) -> Cause<'a> {
-        Cause::new(at, [word, behind, "", "", "", ""])
+    /// A sentence with one word.
+    pub fn of(at: usize, said: &'static str, word: &'a str) -> Cause<'a> {
+        Cause::full(at, said, [word, "", "", "", "", ""])
     }
 
-    /// A sentence with a word of the text inside.
-    pub fn around(
-        at: usize,
-        before: &'static str,
-        word: &'a str,
-        behind: &'static str,
-    ) -> Cause<'a> {
-        Cause::new(at, [before, word, behind, "", "", ""])
+    /// A sentence with two words.
+    pub fn pair(at: usize, said: &'static str, first: &'a str, second: &'a str) -> Cause<'a> {
+        Cause::full(at, said, [first, second, "", "", "", ""])
     }
 
-    /// The same, which ends with names; where there are none it ends before these.
-    pub fn with_names(self, names: Vec<&'a str>) -> Cause<'a> {
-        let Cause {
-            at,
-            pieces,
-            names: _,
-        } = self;
+    /// A sentence without words.
+    pub fn plain(at: usize, said: &'static str) -> Cause<'a> {
+        Cause::of(at, said, "")
+    }
+
+    /// The same, which ends with a name that is near, or else with all of a group; where there are none it ends before these.
+    pub fn with_names(self, before: &'static str, near: &'a str, group: Group<'a>) -> Cause<'a> {
         Cause {
-            at,
-            pieces,
-            names: Some(names),
+            at: self.at,
+            said: self.said,
+            words: self.words,
+            ending: Some(Ending {
+                before,
+                near,
+                group,
+            }),
         }
+    }
+
+    /// The sentence, where this is known. Err where memory was refused.
+    pub fn sentence(&self, alloc: Global, known: &Known<'_>) -> Result<String, AllocError> {
+        let mut text = String::new(alloc);
+        for part in self.said.split('{') {
+            put_part(&mut text, &self.words, part)?;
+        }
+        if let Some(ending) = self.ending {
+            ending.put(&mut text, known)?;
+        }
+        Ok(text)
     }
 }
 
-impl fmt::Display for Cause<'_> {
-    fn fmt<W: fmt::Write>(&self, f: &mut fmt::Formatter<W>) -> fmt::Result {
-        for piece in &self.pieces {
-            f.write_str(piece)?;
+impl Ending<'_> {
+    // Adds it to a sentence.
+    fn put(&self, text: &mut String, known: &Known<'_>) -> Result<(), AllocError> {
+        if self.near.is_empty() {
+            return known.put_names(text, self.before, self.group);
         }
-        let Some(names) = &self.names else {
-            return Ok(());
-        };
-        let mut comma = "";
-        for name in names {
-            f.write_str(comma)?;
-            f.write_str(name)?;
-            comma = ", ";
-        }
-        Ok(())
+        text.push_str(self.before)?;
+        text.push_str(self.near)
     }
 }

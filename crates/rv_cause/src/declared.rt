@@ -100,13 +100,13 @@ impl<'a> Declared<'a> {
     }
 
     /// Whether it is a parameter of an operation, in the operation's declaration.
-    pub fn is_parameter_of(&self, operation: &Declared<'_>) -> bool {
+    pub fn is_parameter_of(&self, unit: &str, home: &str, operation: &str) -> bool {
         let is_parameter = self.sort == Sort::Given || self.sort == Sort::Parameter;
         is_parameter
             && self.is_declaration
-            && is_same_name(self.operation, operation.name)
-            && is_same_name(self.home, operation.home)
-            && is_same_name(self.unit, operation.unit)
+            && is_same_name(self.operation, operation)
+            && is_same_name(self.home, home)
+            && is_same_name(self.unit, unit)
     }
 
     /// Whether it is a component or an operation of this protected unit.
@@ -114,11 +114,16 @@ impl<'a> Declared<'a> {
         let is_part = self.sort == Sort::Component || self.sort.is_operation();
         is_part && is_same_name(self.home, home) && is_same_name(self.unit, unit)
     }
+
+    /// What is said of it where a word stands: `{0}` is its name, `{1}` its home, `{2}` its unit.
+    pub fn cause(&self, at: usize, said: &'static str) -> Cause<'a> {
+        Cause::new(at, said, [self.name, self.home, self.unit])
+    }
 }
 
 /// That a name is of a sort, and what follows from that.
 pub fn phrase<'a>(at: usize, name: &'a str, sort: &'a str, behind: &'a str) -> Cause<'a> {
-    Cause::new(at, [name, " is ", sort, behind, "", ""])
+    Cause::new(at, "{0} is {1}{2}", [name, sort, behind])
 }
 
 /// That something is what it is, and what follows from that.

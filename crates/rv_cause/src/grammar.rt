@@ -1,9 +1,10 @@
 //! Words behind which no text of the grammar goes on.
 
 use crate::around::Around;
+use crate::cases::{Case, Within, first_of, told};
 use crate::cause::Cause;
 use crate::line::is_listed;
-use crate::words::Words;
+use crate::words::{Words, is_literal};
 use rv_lex::token::Token;
 use rv_text::is_identifier;
 
@@ -35,20 +36,11 @@ const OTHER_WORDS: [&str; 24] = [
     "type",
 ];
 
-// Behind which a name stands.
-const BEFORE_NAMES: [&str; 9] = [
-    "protected",
-    "task",
-    "function",
-    "procedure",
-    "package",
-    "subtype",
-    "entry",
-    "for",
-    ".",
+// Others that can't end a statement or a declaration.
+const GOING_ON: [&str; 22] = [
+    "and", "or", "xor", "is", "then", "else", "do", "not", "abs", "mod", "rem", "in", "out",
+    "when", "until", "constant", "range", "reverse", "if", "with", "use", "begin",
 ];
-
-const LOGICAL: [&str; 3] = ["and", "or", "xor"];
 
 // What begins a statement or a declaration.
 const BEGINNINGS: [&str; 20] = [
@@ -74,135 +66,152 @@ const BEGINNINGS: [&str; 20] = [
     "package",
 ];
 
-// Whether a declaration could begin here.
-fn is_behind_declaration(words: &Words<'_, '_>) -> bool {
-    words.was(1, ";") || words.was(1, "is")
-}
+// What can't be declared here, and names that are none.
+const DECLARATIONS: [Case; 10] = [
+    Case {
+        within: Within::End,
+        words: "; ^_",
+        said: "{0} stands behind the end of the package's body",
+    },
+    Case {
+        within: Within::Package,
+        words: "^procedure|function",
+        said: "{0} can't stand in a package here; subprograms stand in protected units only",
+    },
+    Case {
+        within: Within::Anywhere,
+        words: "^type",
+        said: "types can't be declared here; subtypes and protected types can (3.2.1)",
+    },
+    Case {
+        within: Within::Anywhere,
+        words: ": ^exception",
+        said: "exceptions can't be declared; Constraint_Error, Program_Error and Host.Access_Denied are there (11.1)",
+    },
+    Case {
+        within: Within::Anywhere,
+        words: "^declare",
+        said: "there are no block statements here; declare before the body's begin (5.6)",
+    },
+    Case {
+        within: Within::Text,
+        words: ";|is ^use|with",
+        said: "{0} clauses stand before the package only (10.1.2)",
+    },
+    Case {
+        within: Within::Function,
+        words: "is ^(",
+        said: "there are no expression functions here; write begin return .. ; end (6.8)",
+    },
+    Case {
+        within: Within::Anywhere,
+        words: "protected|task|function|procedure|package ^NAME",
+        said: RESERVED,
+    },
+    Case {
+        within: Within::Anywhere,
+        words: "subtype|entry|for|. ^NAME",
+        said: RESERVED,
+    },
+    Case {
+        within: Within::OtherAda,
+        words: "^_",
+        said: "{0} isn't in the part of Ada that is taken here",
+    },
+];
 
-// What can't be declared here.
-fn declaration<'a>(words: &Words<'_, 'a>, around: &Around<'a>) -> Option<Cause<'a>> {
-    let at = words.place(0);
-    let word = words.word(0);
-    let is_subprogram = words.is(0, "procedure") || words.is(0, "function");
-    if is_subprogram && around.home.is_empty() {
-        return Some(Cause::of(
-            at,
-            word,
-            " can't stand in a package here; subprograms stand in protected units only",
-        ));
-    }
-    if words.is(0, "type") {
-        return Some(Cause::plain(
-            at,
-            "types can't be declared here; subtypes and protected types can (3.2.1)",
-        ));
-    }
-    if words.is(0, "exception") && words.was(1, ":") {
-        return Some(Cause::plain(
-            at,
-            "exceptions can't be declared; Constraint_Error, Program_Error and Host.Access_Denied are there (11.1)",
-        ));
-    }
-    if words.is(0, "declare") {
-        return Some(Cause::plain(
-            at,
-            "there are no block statements here; declare before the body's begin (5.6)",
-        ));
-    }
-    if (words.is(0, "use") || words.is(0, "with"))
-        && !around.unit.is_empty()
-        && is_behind_declaration(words)
-    {
-        return Some(Cause::of(at, word, " clauses stand before the package only (10.1.2)"));
-    }
-    if words.is(0, "(") && words.was(1, "is") && around.is_function {
-        return Some(Cause::plain(
-            at,
-            "there are no expression functions here; write begin return .. ; end (6.8)",
-        ));
-    }
-    None
-}
+const RESERVED: &str = "{0} is a reserved word, and no name (2.9)";
 
-// What is wrong with an assignment sign or a comparison.
-fn operator<'a>(words: &Words<'_, 'a>) -> Option<Cause<'a>> {
-    let at = words.place(0);
-    if words.is(0, "=") && words.was(1, "=") {
-        return Some(Cause::plain(at, "write one = to compare (4.5.2)"));
-    }
-    if words.is(0, "=") {
-        return Some(Cause::plain(at, "= compares; write := to assign (5.2)"));
-    }
-    if words.is(0, ":=") {
-        let is_declared = words.was(2, ":") || words.was(3, ":");
-        let said = if is_declared {
-            "no initial value stands here: parameters and objects of packages have none"
-        } else {
-            ":= assigns, in a statement of its own; write = to compare (4.5.2)"
-        };
-        return Some(Cause::plain(at, said));
-    }
-    if words.is(0, "=>") && is_identifier(words.back(1)) {
-        return Some(Cause::plain(at, "arguments have no names here; give them in order (6.4)"));
-    }
-    if is_listed(&LOGICAL, words.word(0)) && !is_listed(&LOGICAL, words.back(1)) {
-        return Some(Cause::of(
-            at,
-            words.word(0),
-            " can't follow another logical operator without parentheses (4.4)",
-        ));
-    }
-    None
+const BEHIND: &str = "{0} can't stand behind {3} here (docs/GRAMMAR.md)";
+
+const DEFAULT: &str = "no initial value stands here: parameters and objects of packages have none";
+
+// What is wrong with an assignment sign, a comparison or another word.
+const OPERATORS: [Case; 9] = [
+    Case {
+        within: Within::Anywhere,
+        words: "= ^=",
+        said: "write one = to compare (4.5.2)",
+    },
+    Case {
+        within: Within::Anywhere,
+        words: "^=",
+        said: "= compares; write := to assign (5.2)",
+    },
+    Case {
+        within: Within::Anywhere,
+        words: ": _ ^:=",
+        said: DEFAULT,
+    },
+    Case {
+        within: Within::Anywhere,
+        words: ": _ _ ^:=",
+        said: DEFAULT,
+    },
+    Case {
+        within: Within::Anywhere,
+        words: "^:=",
+        said: ":= assigns, in a statement of its own; write = to compare (4.5.2)",
+    },
+    Case {
+        within: Within::Anywhere,
+        words: "NAME ^=>",
+        said: "arguments have no names here; give them in order (6.4)",
+    },
+    Case {
+        within: Within::Anywhere,
+        words: "and|or|xor ^and|or|xor",
+        said: BEHIND,
+    },
+    Case {
+        within: Within::Anywhere,
+        words: "^and|or|xor",
+        said: "{0} can't follow another logical operator without parentheses (4.4)",
+    },
+    Case {
+        within: Within::Anywhere,
+        words: "^_",
+        said: BEHIND,
+    },
+];
+
+/// Whether a word is reserved in Ada, but in no production.
+pub(crate) fn is_other_ada(word: &str) -> bool {
+    is_listed(&OTHER_WORDS, word)
 }
 
 // What the text lacks where it ends too early, behind its last word.
-fn at_end<'a>(text_end: usize, last: &'a str, around: &Around<'a>) -> Cause<'a> {
+fn at_end<'a>(end: usize, last: &'a str, around: &Around<'a>) -> Cause<'a> {
     if around.unit.is_empty() {
-        return Cause::plain(
-            text_end,
-            "a unit text is a package and its body; there is none",
-        );
+        return Cause::plain(end, "a unit text is a package and its body; there is none");
     }
     if around.is_open() {
-        let name = around.innermost();
-        return Cause::new(
-            text_end,
-            [
-                "the text ends here, within ",
-                name,
-                ": write end ",
-                name,
-                ";",
-                "",
-            ],
-        );
+        let said = "the text ends here, within {0}: write end {0};";
+        return Cause::of(end, said, around.innermost());
     }
     if around.is_package_body {
-        return is_missing(text_end, "a ;", last);
+        return Cause::of(end, "a ; is missing behind {0}", last);
     }
-    Cause::around(
-        text_end,
-        "the text ends here, without the body of package ",
-        around.unit,
-        "",
-    )
+    let said = "the text ends here, without the body of package {0}";
+    Cause::of(end, said, around.unit)
 }
 
 // What is missing before a word that begins something new: `;`, or what opens a part.
 fn missing_before(words: &Words<'_, '_>) -> &'static str {
     for count in 1..64usize {
-        if words.was(count, "if") || words.was(count, "elsif") {
+        let word = words.back(count);
+        if is_listed(&["if", "elsif"], word) {
             return "then";
         }
-        if words.was(count, "while") || words.was(count, "for") {
+        if is_listed(&["while", "for"], word) {
             return "loop";
         }
-        if words.was(count, "case") {
+        if is_listed(&["case"], word) {
             return "is";
         }
         if is_listed(
             &[";", "then", "loop", "is", "=>", "begin", "else", "when"],
-            words.back(count),
+            word,
         ) {
             return "a ;";
         }
@@ -210,89 +219,32 @@ fn missing_before(words: &Words<'_, '_>) -> &'static str {
     "a ;"
 }
 
-// That a sign or a word is missing, where a word begins something new behind one that ends something.
-fn semicolon<'a>(words: &Words<'_, 'a>, around: &Around<'a>) -> Option<Cause<'a>> {
+// Whether something new begins at a word, behind one that ends something.
+fn is_behind_end(words: &Words<'_, '_>, around: &Around<'_>) -> bool {
     let before = words.back(1);
-    let is_new = is_new_name(words) && !around.is_in_head();
-    let begins = is_listed(&BEGINNINGS, words.word(0)) || is_new;
-    let ends = before == ")"
-        || is_identifier(before) && !is_reserved_start(before)
-        || is_literal(before);
-    if begins && ends {
-        return Some(is_missing(words.place(0), missing_before(words), before));
+    let is_new = !around.is_in_head && words.fit("^NAME :=|.|;|:|(");
+    if !is_new && !is_listed(&BEGINNINGS, words.word(0)) {
+        return false;
     }
-    None
-}
-
-// That something is missing behind a word.
-fn is_missing<'a>(at: usize, missing: &'a str, before: &'a str) -> Cause<'a> {
-    Cause::new(at, [missing, " is missing behind ", before, "", "", ""])
-}
-
-// Whether a word is digits.
-fn is_literal(word: &str) -> bool {
-    match word.as_bytes() {
-        [first, ..] => first.is_ascii_digit(),
-        [] => false,
+    if is_other_ada(before) || is_listed(&GOING_ON, before) {
+        return false;
     }
-}
-
-// Whether a name begins here that is assigned or called.
-fn is_new_name(words: &Words<'_, '_>) -> bool {
-    let is_used = words.is(1, ":=")
-        || words.is(1, ".")
-        || words.is(1, ";")
-        || words.is(1, ":")
-        || words.is(1, "(");
-    is_identifier(words.word(0)) && is_used
-}
-
-// Whether a word can't end a statement or a declaration.
-fn is_reserved_start(word: &str) -> bool {
-    is_listed(&OTHER_WORDS, word)
-        || is_listed(&LOGICAL, word)
-        || is_listed(
-            &[
-                "is", "then", "else", "do", "not", "abs", "mod", "rem", "in", "out", "when",
-                "until", "constant", "range", "reverse", "if", "with", "use", "of", "begin",
-            ],
-            word,
-        )
+    before == ")" || is_identifier(before) || is_literal(before)
 }
 
 // What stands against a word, from what it is and what stands before it.
 fn unexpected_word<'a>(words: &Words<'_, 'a>, around: &Around<'a>) -> Cause<'a> {
-    let at = words.place(0);
-    let word = words.word(0);
-    if around.is_package_body && !around.is_open() && words.was(1, ";") {
-        return Cause::of(at, word, " stands behind the end of the package's body");
-    }
-    if let Some(cause) = declaration(words, around) {
+    if let Some(cause) = first_of(&DECLARATIONS, words, around) {
         return cause;
     }
-    if is_listed(&BEFORE_NAMES, words.back(1)) && is_identifier(word) {
-        return Cause::of(at, word, " is a reserved word, and no name (2.9)");
+    if is_behind_end(words, around) {
+        let said = "{0} is missing behind {1}";
+        return Cause::pair(words.place(0), said, missing_before(words), words.back(1));
     }
-    if is_listed(&OTHER_WORDS, word) {
-        return Cause::of(at, word, " isn't in the part of Ada that is taken here");
+    match first_of(&OPERATORS, words, around) {
+        Some(cause) => cause,
+        None => told(words, around, BEHIND),
     }
-    if let Some(cause) = semicolon(words, around) {
-        return cause;
-    }
-    if let Some(cause) = operator(words) {
-        return cause;
-    }
-    Cause::new(
-        at,
-        [
-            word,
-            " can't stand behind ",
-            words.back(1),
-            " here (docs/GRAMMAR.md)",
-            "",
-            "",
-        ],
-    )
 }
 
 /// Why no text goes on with the word at a place, or ends there.
@@ -307,12 +259,10 @@ pub fn unexpected<'a>(text: &str, tokens: &[Token<'a>], place: usize) -> Cause<'
 
 /// Why a word nests too deep.
 pub fn too_deep<'a>(tokens: &[Token<'a>], place: usize) -> Cause<'a> {
-    let words = Words::at(tokens, place);
-    if words.is(0, "(") {
-        return Cause::plain(
-            place,
-            "this parenthesis is the 65th that is open; 64 may be",
-        );
-    }
-    Cause::plain(place, "this statement is the 65th that is open; 64 may be")
+    let said = if Words::at(tokens, place).is(0, "(") {
+        "this parenthesis is the 65th that is open; 64 may be"
+    } else {
+        "this statement is the 65th that is open; 64 may be"
+    };
+    Cause::plain(place, said)
 }

@@ -2,6 +2,7 @@
 
 use crate::around::Around;
 use crate::declared::{Declared, Sort};
+use crate::line::is_listed;
 use crate::words::Words;
 use rv_lex::token::Token;
 use rv_near::nearest;
@@ -14,32 +15,128 @@ pub struct Known<'a> {
     items: Vec<Declared<'a>>,
 }
 
-/// Names that somebody may have meant.
-pub type Names<'a> = Vec<&'a str>;
+/// Some of what is declared.
+#[derive(Clone, Copy)]
+pub enum Group<'a> {
+    Units,
+    /// What a package declares.
+    Package(&'a str),
+    /// The tasks of a unit.
+    Tasks(&'a str),
+    /// The objects of a unit.
+    Objects(&'a str),
+    /// The operations of a protected unit, behind its package.
+    Operations(&'a str, &'a str),
+    /// Its operations and components.
+    Members(&'a str, &'a str),
+    /// The parameters of an operation, behind its package and its protected unit.
+    Parameters(&'a str, &'a str, &'a str),
+    /// What is seen in a package, a protected unit or a task, and an operation.
+    Seen(&'a str, &'a str, &'a str),
+}
 
-// Whether a list of identifiers up to a colon begins here.
-fn is_declared_here(words: &Words<'_, '_>) -> bool {
+impl<'a> Group<'a> {
+    /// What is seen from a word.
+    pub fn seen(around: &Around<'a>) -> Group<'a> {
+        Group::Seen(around.unit, around.home, around.operation)
+    }
+
+    // Whether a declaration is one of it.
+    fn has(&self, item: &Declared<'_>) -> bool {
+        match self {
+            Group::Units => item.sort == Sort::Unit,
+            Group::Package(unit) => item.is_of_package(unit),
+            Group::Tasks(unit) => item.sort == Sort::Task && item.is_of_package(unit),
+            Group::Objects(unit) => item.is_object() && item.is_of_package(unit),
+            Group::Operations(unit, home) => {
+                item.sort != Sort::Component && item.is_member(unit, home)
+            }
+            Group::Members(unit, home) => item.is_member(unit, home),
+            Group::Parameters(unit, home, operation) => {
+                item.is_parameter_of(unit, home, operation)
+            }
+            Group::Seen(unit, home, operation) => rank(item, unit, home, operation) > 0,
+        }
+    }
+}
+
+// What a word declares that such words stand around.
+#[derive(Clone, Copy)]
+struct Declaring {
+    words: &'static str,
+    sort: Sort,
+}
+
+// What stands in a package.
+const OUTER: [Declaring; 4] = [
+    Declaring {
+        words: "package ^_",
+        sort: Sort::Unit,
+    },
+    Declaring {
+        words: "task ^_",
+        sort: Sort::Task,
+    },
+    Declaring {
+        words: "protected ^_",
+        sort: Sort::Protected,
+    },
+    Declaring {
+        words: "protected type ^_",
+        sort: Sort::Protected,
+    },
+];
+
+// What may stand anywhere.
+const INNER: [Declaring; 2] = [
+    Declaring {
+        words: "subtype ^_",
+        sort: Sort::Subtype,
+    },
+    Declaring {
+        words: "for ^_ in",
+        sort: Sort::LoopParameter,
+    },
+];
+
+// What stands in the declaration of a protected unit.
+const OPERATIONS: [Declaring; 3] = [
+    Declaring {
+        words: "function ^_",
+        sort: Sort::Function,
+    },
+    Declaring {
+        words: "procedure ^_",
+        sort: Sort::Procedure,
+    },
+    Declaring {
+        words: "entry ^_",
+        sort: Sort::Entry,
+    },
+];
+
+// What a word declares by the words around it.
+fn sort_among(declarings: &[Declaring], words: &Words<'_, '_>) -> Option<Sort> {
+    for declaring in declarings {
+        if words.fit(declaring.words) {
+            return Some(declaring.sort);
+        }
+    }
+    None
+}
+
+// How many words behind an identifier the colon stands of the list that it is in, if it is in one.
+fn colon_behind(words: &Words<'_, '_>) -> Option<usize> {
     for count in 0..64usize {
         let next = count.saturating_mul(2).saturating_add(1);
         if words.is(next, ":") {
-            return true;
+            return Some(next);
         }
         if !words.is(next, ",") {
-            return false;
+            return None;
         }
     }
-    false
-}
-
-// How many words behind an identifier the colon of its list stands.
-fn colon_behind(words: &Words<'_, '_>) -> usize {
-    for count in 0..64usize {
-        let next = count.saturating_mul(2).saturating_add(1);
-        if !words.is(next, ",") {
-            return next;
-        }
-    }
-    0
+    None
 }
 
 // What a list of identifiers declares, of which a colon stands so many words behind.
@@ -65,133 +162,91 @@ fn sort_of_list(words: &Words<'_, '_>, colon: usize, around: &Around<'_>) -> Sor
     Sort::Variable
 }
 
-// The last part of the name that stands so many words behind.
-fn last_part<'a>(words: &Words<'_, 'a>, behind: usize) -> &'a str {
-    if !words.is(behind.saturating_add(1), ".") {
-        return words.word(behind);
-    }
-    if !words.is(behind.saturating_add(3), ".") {
-        return words.word(behind.saturating_add(2));
-    }
-    words.word(behind.saturating_add(4))
-}
-
-// The subtype or type of a list whose colon stands so many words behind.
+// The subtype or type of a list whose colon stands so many words behind: the last part of its name.
 fn mark_of_list<'a>(words: &Words<'_, 'a>, colon: usize) -> &'a str {
     let mut behind = colon.saturating_add(1);
     for _ in 0..2 {
-        if words.is(behind, "constant") || words.is(behind, "in") || words.is(behind, "out") {
+        if is_listed(&["constant", "in", "out"], words.word(behind)) {
             behind = behind.saturating_add(1);
         }
     }
-    last_part(words, behind)
-}
-
-// What the word before an identifier says that it declares.
-fn sort_behind(words: &Words<'_, '_>, around: &Around<'_>) -> Option<Sort> {
-    if words.was(1, "subtype") {
-        return Some(Sort::Subtype);
+    for _ in 0..2 {
+        if words.is(behind.saturating_add(1), ".") {
+            behind = behind.saturating_add(2);
+        }
     }
-    if words.was(1, "for") && words.is(1, "in") {
-        return Some(Sort::LoopParameter);
-    }
-    if around.is_body {
-        return None;
-    }
-    if words.was(1, "function") {
-        return Some(Sort::Function);
-    }
-    if words.was(1, "procedure") {
-        return Some(Sort::Procedure);
-    }
-    if words.was(1, "entry") {
-        return Some(Sort::Entry);
-    }
-    None
-}
-
-// The same of packages, protected units and tasks.
-fn outer_sort(words: &Words<'_, '_>) -> Option<Sort> {
-    if words.was(1, "package") {
-        return Some(Sort::Unit);
-    }
-    if words.was(1, "task") {
-        return Some(Sort::Task);
-    }
-    if words.was(1, "protected") || words.was(1, "type") && words.was(2, "protected") {
-        return Some(Sort::Protected);
-    }
-    None
+    words.word(behind)
 }
 
 // What a word declares as part of what is around it, with its mark.
 fn declared_as<'a>(words: &Words<'_, 'a>, around: &Around<'a>) -> Option<(Sort, &'a str)> {
-    if let Some(sort) = sort_behind(words, around) {
+    if let Some(sort) = sort_among(&INNER, words) {
         return Some((sort, ""));
     }
-    if !is_declared_here(words) {
-        return None;
+    if !around.is_body {
+        if let Some(sort) = sort_among(&OPERATIONS, words) {
+            return Some((sort, ""));
+        }
     }
-    let colon = colon_behind(words);
+    let colon = colon_behind(words)?;
     Some((
         sort_of_list(words, colon, around),
         mark_of_list(words, colon),
     ))
 }
 
+// What a word declares in a package, with its mark.
+fn outer<'a>(words: &Words<'_, 'a>) -> Option<(Sort, &'a str)> {
+    let sort = sort_among(&OUTER, words)?;
+    Some((sort, if words.was(1, "type") { "type" } else { "" }))
+}
+
 // What a word declares.
 fn declaration<'a>(words: &Words<'_, 'a>, around: &Around<'a>) -> Option<Declared<'a>> {
     let name = words.word(0);
-    if !is_identifier(name) || words.is(0, "body") || words.is(0, "type") {
+    if !is_identifier(name) || is_listed(&["body", "type"], name) {
         return None;
     }
-    if let Some(sort) = outer_sort(words) {
-        return Some(Declared {
-            unit: around.unit,
-            home: "",
-            operation: "",
-            name,
-            sort,
-            mark: if words.was(1, "type") { "type" } else { "" },
-            at: words.place(0),
-            is_hidden: around.is_hidden(),
-            is_declaration: true,
-        });
-    }
-    let (sort, mark) = declared_as(words, around)?;
+    let outer = outer(words);
+    let is_outer = outer.is_some();
+    let (sort, mark) = match outer {
+        Some(declared) => declared,
+        None => declared_as(words, around)?,
+    };
+    let is_in_operation = !is_outer && !sort.is_operation();
     Some(Declared {
         unit: around.unit,
-        home: around.home,
-        operation: if sort.is_operation() {
-            ""
-        } else {
+        home: if is_outer { "" } else { around.home },
+        operation: if is_in_operation {
             around.operation
+        } else {
+            ""
         },
         name,
         sort,
         mark,
         at: words.place(0),
         is_hidden: around.is_hidden(),
-        is_declaration: !around.is_body,
+        is_declaration: is_outer || !around.is_body,
     })
 }
 
-// How near a declaration stands to what is around a word, if it is seen there: 4 for what the operation declares, 3 for a
-// member of the protected unit, 2 for what the package declares, 1 for another unit.
-fn rank(item: &Declared<'_>, around: &Around<'_>) -> usize {
-    if !is_same_name(item.unit, around.unit) {
-        return if item.sort == Sort::Unit { 1 } else { 0 };
+// How near a declaration stands to a place in a package, a protected unit or a task, and an operation, if it is seen there: 4 for
+// what the operation declares, 3 for a member of the protected unit, 2 for what the package declares, 1 for another unit.
+fn rank(item: &Declared<'_>, unit: &str, home: &str, operation: &str) -> usize {
+    if !is_same_name(item.unit, unit) {
+        return usize::from(item.sort == Sort::Unit);
     }
     if item.home.is_empty() {
         return 2;
     }
-    if !is_same_name(item.home, around.home) {
+    if !is_same_name(item.home, home) {
         return 0;
     }
     if item.operation.is_empty() {
         return 3;
     }
-    if is_same_name(item.operation, around.operation) {
+    if is_same_name(item.operation, operation) {
         4
     } else {
         0
@@ -226,168 +281,121 @@ impl<'a> Known<'a> {
     }
 
     /// What a simple name means to a word: of what has the name and is seen there, the nearest.
-    pub fn meaning(&self, name: &str, around: &Around<'_>) -> Option<Declared<'a>> {
+    pub fn meaning(&self, name: &str, around: &Around<'_>) -> Option<&Declared<'a>> {
         let mut found = None;
         let mut best = 0;
         for item in self.items.as_slice() {
-            let near = rank(item, around);
+            let near = rank(item, around.unit, around.home, around.operation);
             if near > best && item.is_named(name) {
                 best = near;
-                found = Some(*item);
+                found = Some(item);
             }
         }
         found
     }
 
-    /// What the package of this name declares under another.
-    pub fn of_package(&self, unit: &str, name: &str) -> Option<Declared<'a>> {
+    /// The first of a group that has a name.
+    pub fn find(&self, group: Group<'_>, name: &str) -> Option<&Declared<'a>> {
         for item in self.items.as_slice() {
-            if item.is_of_package(unit) && item.is_named(name) {
-                return Some(*item);
+            if item.is_named(name) && group.has(item) {
+                return Some(item);
             }
         }
         None
     }
 
-    /// A component or an operation of a protected unit.
-    pub fn member(&self, unit: &str, home: &str, name: &str) -> Option<Declared<'a>> {
-        for item in self.items.as_slice() {
-            if item.is_member(unit, home) && item.is_named(name) {
-                return Some(*item);
-            }
-        }
-        None
+    /// Whether a unit has this name.
+    pub fn has_unit(&self, name: &str) -> bool {
+        self.find(Group::Units, name).is_some()
+    }
+
+    // A component or an operation of a protected unit or an object whose name stands so many words behind.
+    fn member(
+        &self,
+        whole: &Declared<'_>,
+        words: &Words<'_, '_>,
+        behind: usize,
+    ) -> Option<(&Declared<'a>, usize)> {
+        let members = Group::Members(whole.unit, whole.operations_home());
+        Some((self.find(members, words.word(behind))?, behind))
     }
 
     /// What the name that stands at a word denotes, as far as it is seen there, and how many words behind its last part stands.
     pub fn denoted(
         &self,
-        words: &Words<'_, 'a>,
-        around: &Around<'a>,
-    ) -> Option<(Declared<'a>, usize)> {
+        words: &Words<'_, '_>,
+        around: &Around<'_>,
+    ) -> Option<(&Declared<'a>, usize)> {
         let first = words.word(0);
-        let is_dotted = words.is(1, ".");
-        if !is_dotted {
+        if !words.is(1, ".") {
             return Some((self.meaning(first, around)?, 0));
         }
         if !self.has_unit(first) {
-            let item = self.meaning(first, around)?;
-            let part = self.member(item.unit, item.operations_home(), words.word(2))?;
-            return Some((part, 2));
+            return self.member(self.meaning(first, around)?, words, 2);
         }
-        let item = self.of_package(first, words.word(2))?;
+        let item = self.find(Group::Package(first), words.word(2))?;
         let is_shown = !item.is_hidden || is_same_name(first, around.unit);
-        if !is_shown || !words.is(3, ".") {
-            return Some((item, 2));
+        if is_shown && words.is(3, ".") {
+            return self.member(item, words, 4);
         }
-        let part = self.member(first, item.operations_home(), words.word(4))?;
-        Some((part, 4))
+        Some((item, 2))
     }
 
     /// What a text declares at a place.
-    pub fn declared_at(&self, unit: &str, place: usize) -> Option<Declared<'a>> {
+    pub fn declared_at(&self, unit: &str, place: usize) -> Option<&Declared<'a>> {
         for item in self.items.as_slice() {
             if item.at == place && is_same_name(item.unit, unit) {
-                return Some(*item);
+                return Some(item);
             }
         }
         None
     }
 
-    /// The names of the parameters of an operation.
-    pub fn parameters(
+    /// How many there are of a group.
+    pub fn count(&self, group: Group<'_>) -> usize {
+        let mut count = 0usize;
+        for item in self.items.as_slice() {
+            if group.has(item) {
+                count = count.saturating_add(1);
+            }
+        }
+        count
+    }
+
+    /// Of the names of a group the one that is nearest to a word; empty where none is near.
+    pub fn near(&self, alloc: Global, word: &str, group: Group<'_>) -> Result<&'a str, AllocError> {
+        let mut names = Vec::new(alloc);
+        for item in self.items.as_slice() {
+            if group.has(item) {
+                names.push(item.name)?;
+            }
+        }
+        near_among(alloc, word, names.as_slice())
+    }
+
+    /// Adds the names of a group to a text, with commas between them, behind what stands before them; of none nothing.
+    pub(crate) fn put_names(
         &self,
-        alloc: Global,
-        operation: &Declared<'_>,
-    ) -> Result<Names<'a>, AllocError> {
-        let mut names = Vec::new(alloc);
+        text: &mut String,
+        before: &str,
+        group: Group<'_>,
+    ) -> Result<(), AllocError> {
+        let mut between = before;
         for item in self.items.as_slice() {
-            if item.is_parameter_of(operation) {
-                names.push(item.name)?;
+            if group.has(item) {
+                text.push_str(between)?;
+                text.push_str(item.name)?;
+                between = ", ";
             }
         }
-        Ok(names)
-    }
-
-    /// Whether a unit has this name.
-    pub fn has_unit(&self, name: &str) -> bool {
-        for item in self.items.as_slice() {
-            if item.sort == Sort::Unit && item.is_named(name) {
-                return true;
-            }
-        }
-        false
-    }
-
-    /// The names of the units.
-    pub fn units(&self, alloc: Global) -> Result<Names<'a>, AllocError> {
-        let mut names = Vec::new(alloc);
-        for item in self.items.as_slice() {
-            if item.sort == Sort::Unit {
-                names.push(item.name)?;
-            }
-        }
-        Ok(names)
-    }
-
-    /// The names of the tasks of a unit, or of its objects.
-    pub fn parts(
-        &self,
-        alloc: Global,
-        unit: &str,
-        are_tasks: bool,
-    ) -> Result<Names<'a>, AllocError> {
-        let mut names = Vec::new(alloc);
-        for item in self.items.as_slice() {
-            let is_task = item.sort == Sort::Task;
-            let is_wanted = is_task && are_tasks || item.is_object() && !are_tasks;
-            if is_wanted && item.is_of_package(unit) {
-                names.push(item.name)?;
-            }
-        }
-        Ok(names)
-    }
-
-    /// The names of the operations of a protected unit, and of its components where these are wanted too.
-    pub fn members(
-        &self,
-        alloc: Global,
-        unit: &str,
-        home: &str,
-        with_components: bool,
-    ) -> Result<Names<'a>, AllocError> {
-        let mut names = Vec::new(alloc);
-        for item in self.items.as_slice() {
-            let is_wanted = with_components || item.sort != Sort::Component;
-            if is_wanted && item.is_member(unit, home) {
-                names.push(item.name)?;
-            }
-        }
-        Ok(names)
-    }
-
-    /// The names that are seen from a word.
-    pub fn seen(&self, alloc: Global, around: &Around<'_>) -> Result<Names<'a>, AllocError> {
-        let mut names = Vec::new(alloc);
-        for item in self.items.as_slice() {
-            if rank(item, around) > 0 {
-                names.push(item.name)?;
-            }
-        }
-        Ok(names)
+        Ok(())
     }
 }
 
-/// Of names the one that is nearest to a word, else all.
-pub fn near_or_all<'a>(
-    alloc: Global,
-    word: &str,
-    names: Names<'a>,
-) -> Result<Names<'a>, AllocError> {
-    let Some(name) = nearest(alloc, word, names.as_slice())? else {
-        return Ok(names);
-    };
-    let mut one = Vec::new(alloc);
-    one.push(name)?;
-    Ok(one)
+// Of names the one that is nearest to a word; empty where none is near.
+fn near_among<'a>(alloc: Global, word: &str, names: &[&'a str]) -> Result<&'a str, AllocError> {
+    match nearest(alloc, word, names)? {
+        Some(name) => Ok(name),
+        None => Ok(""),
+    }
 }

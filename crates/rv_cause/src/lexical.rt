@@ -1,9 +1,40 @@
 //! Characters of a unit text that make no word.
 
 use crate::cause::Cause;
+use crate::line::Form;
+
+// What is said of a character, by what stands there.
+const CHARACTERS: [Form; 5] = [
+    Form {
+        word: "\"",
+        said: "there are no strings here, nor characters in quotes (2.6)",
+    },
+    Form {
+        word: "**",
+        said: "** is no operator here; multiply instead (4.5.6)",
+    },
+    Form {
+        word: "&",
+        said: "& joins no values here; write and for Boolean ones (4.5)",
+    },
+    Form {
+        word: "!=",
+        said: "write /= for not equal (4.5.2)",
+    },
+    Form {
+        word: "_",
+        said: "a name begins with a letter, and no underscore (2.3)",
+    },
+];
+
+// What stands from a byte of a text on.
+fn rest_from(text: &str, at: usize) -> &str {
+    text.get(at..).unwrap_or("")
+}
+
 // What stands from a byte of a text on, up to a blank or a sign.
 fn run_from(text: &str, at: usize) -> &str {
-    let rest = text.get(at..).unwrap_or("");
+    let rest = rest_from(text, at);
     for (place, byte) in rest.as_bytes().iter().enumerate() {
         let is_part = byte.is_ascii_alphanumeric()
             || *byte == b'_'
@@ -24,35 +55,13 @@ fn before_point(word: &str) -> &str {
     }
 }
 
-// What stands from a byte of a text on, so many bytes.
-fn cut(text: &str, at: usize, count: usize) -> &str {
-    text.get(at..at.saturating_add(count)).unwrap_or("")
-}
-
 /// Why a character begins no word.
 pub fn bad_character<'a>(text: &'a str, at: usize) -> Cause<'a> {
-    let two = cut(text, at, 2);
-    let one = cut(text, at, 1);
-    if one == "\"" {
-        return Cause::plain(
-            at,
-            "there are no strings here, nor characters in quotes (2.6)",
-        );
-    }
-    if two == "**" {
-        return Cause::plain(at, "** is no operator here; multiply instead (4.5.6)");
-    }
-    if one == "&" {
-        return Cause::plain(
-            at,
-            "& joins no values here; write and for Boolean ones (4.5)",
-        );
-    }
-    if two == "!=" {
-        return Cause::plain(at, "write /= for not equal (4.5.2)");
-    }
-    if one == "_" {
-        return Cause::plain(at, "a name begins with a letter, and no underscore (2.3)");
+    let rest = rest_from(text, at);
+    for form in &CHARACTERS {
+        if rest.starts_with(form.word) {
+            return Cause::plain(at, form.said);
+        }
     }
     Cause::plain(at, "no word begins with this character (2.2)")
 }
@@ -80,61 +89,37 @@ fn first_letter(word: &str) -> u8 {
     0
 }
 
+// What is said of digits that are no number.
+fn said_of_literal(word: &str) -> &'static str {
+    if word.contains("#") {
+        return "{0} is no based number: a base of 2 .. 16, and digits below it between two # (2.4.2)";
+    }
+    if has_fraction(word) {
+        return "{0} has a fraction; numbers are whole here (2.4.1)";
+    }
+    if has_stray_underscore(word) {
+        return "{0} has an underscore that isn't between two digits (2.4.1)";
+    }
+    match first_letter(word) {
+        0 => "{0} is above the greatest number, 2147483647",
+        b'e' | b'E' => "{0} has an exponent; write the number out (2.4.1)",
+        _ => "a letter stands directly behind the digits of {0} (2.4)",
+    }
+}
+
 /// Why digits are no number.
 pub fn bad_literal<'a>(text: &'a str, at: usize) -> Cause<'a> {
     let word = run_from(text, at);
-    if word.contains("#") {
-        return Cause::of(
-            at,
-            word,
-            " is no based number: a base of 2 .. 16, and digits below it between two # (2.4.2)",
-        );
-    }
-    if has_fraction(word) {
-        return Cause::of(at, word, " has a fraction; numbers are whole here (2.4.1)");
-    }
-    if has_stray_underscore(word) {
-        return Cause::of(
-            at,
-            word,
-            " has an underscore that isn't between two digits (2.4.1)",
-        );
-    }
-    let letter = first_letter(word);
-    if letter == 0 {
-        return Cause::of(at, word, " is above the greatest number, 2147483647");
-    }
-    if letter == b'e' || letter == b'E' {
-        return Cause::of(at, word, " has an exponent; write the number out (2.4.1)");
-    }
-    Cause::around(
-        at,
-        "a letter stands directly behind the digits of ",
-        word,
-        " (2.4)",
-    )
+    Cause::of(at, said_of_literal(word), word)
 }
 
 /// Why a word that begins with a letter is no identifier.
 pub fn bad_identifier<'a>(text: &'a str, at: usize) -> Cause<'a> {
     let word = before_point(run_from(text, at));
-    if has_stray_underscore(word) {
-        return Cause::of(
-            at,
-            word,
-            " has an underscore that isn't between two letters or digits (2.3)",
-        );
-    }
-    Cause::plain(
-        at,
-        "this name has over 64 characters, which is the most here (2.3)",
-    )
-}
-
-/// Why a character past ASCII can't stand there.
-pub fn not_ascii<'a>(at: usize) -> Cause<'a> {
-    Cause::plain(
-        at,
-        "characters that aren't ASCII stand in comments only (2.1)",
-    )
+    let said = if has_stray_underscore(word) {
+        "{0} has an underscore that isn't between two letters or digits (2.3)"
+    } else {
+        "this name has over 64 characters, which is the most here (2.3)"
+    };
+    Cause::of(at, said, word)
 }

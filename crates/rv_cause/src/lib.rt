@@ -3,6 +3,7 @@
 #![tactic(auto)]
 
 pub mod around;
+pub mod cases;
 pub mod cause;
 pub mod commands;
 pub mod declared;

@@ -1,29 +1,10 @@
 //! What the predefined library packages declare.
 
-use crate::line::is_listed;
+use crate::line::Form;
+use crate::words::is_among;
 
-const TIMES: [&str; 4] = ["Time", "Time_Span", "Clock", "Milliseconds"];
-
-const SUSPENSION: [&str; 5] = [
-    "Suspension_Object",
-    "Set_True",
-    "Set_False",
-    "Current_State",
-    "Suspend_Until_True",
-];
-
-const LINES: [&str; 10] = [
-    "Int_0", "Int_1", "Int_2", "Int_3", "Int_4", "Int_5", "Int_6", "Int_7", "Int_8", "Int_9",
-];
-
-const SYSTEM: [&str; 4] = [
-    "Priority",
-    "Interrupt_Priority",
-    "Any_Priority",
-    "Default_Priority",
-];
-
-const STANDARD: [&str; 8] = [
+/// The predefined names that are near to a word's spelling, to look among.
+pub const NAMES: [&str; 17] = [
     "Integer",
     "Natural",
     "Positive",
@@ -32,90 +13,114 @@ const STANDARD: [&str; 8] = [
     "False",
     "Constraint_Error",
     "Program_Error",
+    "Time",
+    "Time_Span",
+    "Clock",
+    "Milliseconds",
+    "Suspension_Object",
+    "Set_True",
+    "Set_False",
+    "Current_State",
+    "Suspend_Until_True",
 ];
 
-/// The library package that declares a name, if one does that needs a `with`.
-pub fn home_of<'w>(name: &str) -> Option<&'w str> {
-    if is_listed(&TIMES, name) {
-        return Some("Ada.Real_Time");
-    }
-    if is_listed(&SUSPENSION, name) {
-        return Some("Ada.Synchronous_Task_Control");
-    }
-    if is_listed(&LINES, name) {
-        return Some("Ada.Interrupts.Names");
-    }
-    if is_listed(&SYSTEM, name) {
-        return Some("System");
-    }
-    if is_listed(&["Access_Denied"], name) {
-        return Some("Host");
+// The names that library packages declare which need a `with`.
+const HOMES: [Form; 5] = [
+    Form {
+        word: "Time|Time_Span|Clock|Milliseconds",
+        said: "Ada.Real_Time",
+    },
+    Form {
+        word: "Suspension_Object|Set_True|Set_False|Current_State|Suspend_Until_True",
+        said: "Ada.Synchronous_Task_Control",
+    },
+    Form {
+        word: "Int_0|Int_1|Int_2|Int_3|Int_4|Int_5|Int_6|Int_7|Int_8|Int_9",
+        said: "Ada.Interrupts.Names",
+    },
+    Form {
+        word: "Priority|Interrupt_Priority|Any_Priority|Default_Priority",
+        said: "System",
+    },
+    Form {
+        word: "Access_Denied",
+        said: "Host",
+    },
+];
+
+// The words that names of library packages end with.
+const ENDS: [Form; 5] = [
+    Form {
+        word: "Real_Time",
+        said: "Ada.Real_Time",
+    },
+    Form {
+        word: "Synchronous_Task_Control",
+        said: "Ada.Synchronous_Task_Control",
+    },
+    Form {
+        word: "Interrupts|Names",
+        said: "Ada.Interrupts.Names",
+    },
+    Form {
+        word: "System",
+        said: "System",
+    },
+    Form {
+        word: "Host",
+        said: "Host",
+    },
+];
+
+// What predefined names of the language denote.
+const SORTS: [Form; 6] = [
+    Form {
+        word: "Constraint_Error|Program_Error|Access_Denied",
+        said: "an exception",
+    },
+    Form {
+        word: "True|False|Default_Priority",
+        said: "a constant",
+    },
+    Form {
+        word: "Int_0|Int_1|Int_2|Int_3|Int_4|Int_5|Int_6|Int_7|Int_8|Int_9",
+        said: "a constant",
+    },
+    Form {
+        word: "Clock|Milliseconds|Current_State",
+        said: "a function",
+    },
+    Form {
+        word: "Set_True|Set_False|Suspend_Until_True",
+        said: "a procedure",
+    },
+    Form {
+        word: "Integer|Natural|Positive|Boolean|Time|Time_Span|Priority|Interrupt_Priority|Any_Priority",
+        said: "a subtype",
+    },
+];
+
+// What is said of a name, case ignored.
+fn said_of_name(forms: &[Form], name: &str) -> Option<&'static str> {
+    for form in forms {
+        if is_among(name, form.word) {
+            return Some(form.said);
+        }
     }
     None
+}
+
+/// The library package that declares a name, if one does that needs a `with`.
+pub fn home_of(name: &str) -> Option<&'static str> {
+    said_of_name(&HOMES, name)
 }
 
 /// The library package whose name ends with a word, as `Real_Time`.
-pub fn ends_with<'w>(word: &str) -> Option<&'w str> {
-    if is_listed(&["Real_Time"], word) {
-        return Some("Ada.Real_Time");
-    }
-    if is_listed(&["Synchronous_Task_Control"], word) {
-        return Some("Ada.Synchronous_Task_Control");
-    }
-    if is_listed(&["Interrupts", "Names"], word) {
-        return Some("Ada.Interrupts.Names");
-    }
-    if is_listed(&["System"], word) {
-        return Some("System");
-    }
-    if is_listed(&["Host"], word) {
-        return Some("Host");
-    }
-    None
+pub fn ends_with(word: &str) -> Option<&'static str> {
+    said_of_name(&ENDS, word)
 }
 
 /// What a predefined name of the language denotes, in words.
-pub fn words_of<'w>(name: &str) -> Option<&'w str> {
-    if is_listed(
-        &["Constraint_Error", "Program_Error", "Access_Denied"],
-        name,
-    ) {
-        return Some("an exception");
-    }
-    if is_listed(&["True", "False", "Default_Priority"], name) || is_listed(&LINES, name) {
-        return Some("a constant");
-    }
-    if is_listed(&["Clock", "Milliseconds", "Current_State"], name) {
-        return Some("a function");
-    }
-    if is_listed(&["Set_True", "Set_False", "Suspend_Until_True"], name) {
-        return Some("a procedure");
-    }
-    if is_listed(&STANDARD, name) || is_listed(&TIMES, name) || is_listed(&SYSTEM, name) {
-        return Some("a subtype");
-    }
-    None
-}
-
-/// The predefined names that are near to a word's spelling, to look among.
-pub fn all() -> [&'static str; 17] {
-    [
-        "Integer",
-        "Natural",
-        "Positive",
-        "Boolean",
-        "True",
-        "False",
-        "Constraint_Error",
-        "Program_Error",
-        "Time",
-        "Time_Span",
-        "Clock",
-        "Milliseconds",
-        "Suspension_Object",
-        "Set_True",
-        "Set_False",
-        "Current_State",
-        "Suspend_Until_True",
-    ]
+pub fn words_of(name: &str) -> Option<&'static str> {
+    said_of_name(&SORTS, name)
 }

@@ -1,6 +1,7 @@
 //! The words of a line of a script, each with its place.
 
-use rv_text::is_same_name;
+use crate::cause::Cause;
+use rv_text::{integer_of, is_same_name};
 use std::alloc::{AllocError, Global};
 
 /// A word of a line.
@@ -14,44 +15,70 @@ struct Part<'a> {
 #[derive(Drop)]
 pub struct Line<'a> {
     parts: Vec<Part<'a>>,
-    len: usize,
+    // Where it ends.
+    end: usize,
 }
 
-// What stands between two bytes of a line, as a word.
-fn part_of(line: &str, at: usize, end: usize) -> Part<'_> {
+/// What is said of a line by its first word.
+#[derive(Clone, Copy)]
+pub struct Form {
+    /// The word, or several with `|` between them.
+    pub word: &'static str,
+    pub said: &'static str,
+}
+
+/// What the first form says that has this word, letter for letter.
+pub fn said_of(forms: &[Form], word: &str) -> Option<&'static str> {
+    for form in forms {
+        for one in form.word.split('|') {
+            if one == word {
+                return Some(form.said);
+            }
+        }
+    }
+    None
+}
+
+/// Whether a word is a number.
+pub fn is_number(word: &str) -> bool {
+    integer_of(word).is_some()
+}
+
+// What stands between two bytes of a line that begins at a byte of the text, as a word.
+fn part_of(line: &str, start: usize, at: usize, end: usize) -> Part<'_> {
     Part {
-        at,
+        at: start.saturating_add(at),
         word: line.get(at..end).unwrap_or(""),
     }
 }
 
 impl<'a> Line<'a> {
-    /// The words of a line, between spaces and tabs.
-    pub fn of(alloc: Global, line: &'a str) -> Result<Line<'a>, AllocError> {
+    /// The words of a line, between spaces and tabs; the line begins at a byte of the text.
+    pub fn of(alloc: Global, line: &'a str, start: usize) -> Result<Line<'a>, AllocError> {
         let mut parts = Vec::new(alloc);
-        let mut start = None;
+        let mut first = None;
         for (place, byte) in line.as_bytes().iter().enumerate() {
             let is_blank = *byte == b' ' || *byte == b'\t';
-            match start {
+            match first {
                 Some(at) => {
                     if is_blank {
-                        parts.push(part_of(line, at, place))?;
-                        start = None;
+                        parts.push(part_of(line, start, at, place))?;
+                        first = None;
                     }
                 }
                 None => {
                     if !is_blank {
-                        start = Some(place);
+                        first = Some(place);
                     }
                 }
             }
         }
-        if let Some(at) = start {
-            parts.push(part_of(line, at, line.len()))?;
+        if let Some(at) = first {
+            parts.push(part_of(line, start, at, line.len()))?;
         }
         Ok(Line {
             parts,
-            len: line.len(),
+            end: start.saturating_add(line.len()),
         })
     }
 
@@ -68,11 +95,11 @@ impl<'a> Line<'a> {
         }
     }
 
-    /// The byte, from 0, where the word of a number stands; the line's end where there is none.
+    /// The byte of the text where the word of a number stands; the line's end where there is none.
     pub fn at(&self, number: usize) -> usize {
         match self.parts.get(number) {
             Some(part) => part.at,
-            None => self.len,
+            None => self.end,
         }
     }
 
@@ -86,6 +113,11 @@ impl<'a> Line<'a> {
         self.word(number) == word
     }
 
+    /// The number that a word is, if it is one.
+    pub fn number(&self, number: usize) -> Option<i64> {
+        integer_of(self.word(number))
+    }
+
     /// The number of the first word from one on that is this one; how many words there are where none is.
     pub fn find(&self, from: usize, word: &str) -> usize {
         for number in from..self.parts.len() {
@@ -94,6 +126,11 @@ impl<'a> Line<'a> {
             }
         }
         self.parts.len()
+    }
+
+    /// What is said of the word of a number, which is `{0}`.
+    pub fn cause(&self, number: usize, said: &'static str) -> Cause<'a> {
+        Cause::of(self.at(number), said, self.word(number))
     }
 }
 

@@ -2,36 +2,34 @@
 
 use crate::cause::Cause;
 use crate::declared::{Declared, Sort};
-use crate::known::{Known, Names, near_or_all};
+use crate::known::{Group, Known};
 use crate::line::Line;
 use rv_near::nearest;
 use rv_text::{dotted_parts, is_same_name, next_line};
 use std::alloc::{AllocError, Global};
 
+const SUSPENSION: &str = "Suspension_Object";
+
+// The operations of a suspension object (D.10).
+const SIGNALS: [&str; 4] = [
+    "Set_True",
+    "Set_False",
+    "Current_State",
+    "Suspend_Until_True",
+];
+
 // What the first word of a shape's line declares.
 fn sort_of(word: &str) -> Option<Sort> {
-    if word == "unit" {
-        return Some(Sort::Unit);
+    match word {
+        "unit" => Some(Sort::Unit),
+        "task" => Some(Sort::Task),
+        "protected" => Some(Sort::Protected),
+        "suspension" => Some(Sort::Object),
+        "function" => Some(Sort::Function),
+        "entry" => Some(Sort::Entry),
+        "procedure" | "handler" => Some(Sort::Procedure),
+        _ => None,
     }
-    if word == "task" {
-        return Some(Sort::Task);
-    }
-    if word == "protected" {
-        return Some(Sort::Protected);
-    }
-    if word == "suspension" {
-        return Some(Sort::Object);
-    }
-    if word == "function" {
-        return Some(Sort::Function);
-    }
-    if word == "entry" {
-        return Some(Sort::Entry);
-    }
-    if word == "procedure" || word == "handler" {
-        return Some(Sort::Procedure);
-    }
-    None
 }
 
 // What a line of a shape declares, in a unit and a protected object.
@@ -44,11 +42,7 @@ fn declared<'a>(words: &Line<'a>, unit: &'a str, object: &'a str) -> Option<Decl
         operation: "",
         name,
         sort,
-        mark: if sort == Sort::Object {
-            "Suspension_Object"
-        } else {
-            ""
-        },
+        mark: if sort == Sort::Object { SUSPENSION } else { "" },
         at: 0,
         is_hidden: false,
         is_declaration: true,
@@ -65,7 +59,7 @@ pub fn add_shape<'a>(
     let mut object = "";
     let mut rest = text;
     'each: while let Some((line, behind)) = next_line(rest) {
-        let words = Line::of(alloc, line)?;
+        let words = Line::of(alloc, line, 0)?;
         if let Some(item) = declared(&words, unit, object) {
             unit = item.unit;
             if item.sort == Sort::Protected {
@@ -78,37 +72,26 @@ pub fn add_shape<'a>(
     Ok(())
 }
 
-// That something isn't there, with what there is.
-fn none_named<'a>(
-    alloc: Global,
-    at: usize,
-    before: &'static str,
-    word: &'a str,
-    home: &'a str,
-    names: Names<'a>,
-) -> Result<Cause<'a>, AllocError> {
-    if names.is_empty() {
-        return Ok(Cause::new(at, [before, word, " in ", home, "", ""]));
+// The operation of a suspension object that is nearest to a word, or all, in words.
+fn near_signal(alloc: Global, word: &str) -> Result<&'static str, AllocError> {
+    match nearest(alloc, word, &SIGNALS)? {
+        Some(near) => Ok(near),
+        None => Ok("Set_True, Set_False, Current_State, Suspend_Until_True"),
     }
-    let there = near_or_all(alloc, word, names)?;
-    Ok(Cause::new(at, [before, word, " in ", home, "; it has ", ""]).with_names(there))
 }
 
-// The operations of an object.
-fn operations<'a>(
+// Of the operations of an object those that a word may be meant for, in words: the nearest, or all; and of which group they are.
+fn near_operation<'a>(
     alloc: Global,
-    known: &Known<'a>,
+    word: &str,
     object: &Declared<'a>,
-) -> Result<Names<'a>, AllocError> {
-    if !is_same_name(object.mark, "Suspension_Object") {
-        return known.members(alloc, object.unit, object.operations_home(), false);
+    known: &Known<'a>,
+) -> Result<(&'a str, Group<'a>), AllocError> {
+    let group = Group::Operations(object.unit, object.operations_home());
+    if !is_same_name(object.mark, SUSPENSION) {
+        return Ok((known.near(alloc, word, group)?, group));
     }
-    let mut names = Vec::new(alloc);
-    names.push("Set_True")?;
-    names.push("Set_False")?;
-    names.push("Current_State")?;
-    names.push("Suspend_Until_True")?;
-    Ok(names)
+    Ok((near_signal(alloc, word)?, group))
 }
 
 // Why a word names no task, or no object.
@@ -125,17 +108,25 @@ fn bad_part<'a>(
     if !known.has_unit(unit) {
         return Ok(Some(bad_unit(alloc, at, unit, known)?));
     }
-    let is_there = match known.of_package(unit, name) {
-        Some(item) => (item.sort == Sort::Task) == is_task,
-        None => false,
-    };
-    if is_there {
+    if is_there(unit, name, is_task, known) {
         return Ok(None);
     }
-    let names = known.parts(alloc, unit, is_task)?;
+    let (said, group) = if is_task {
+        ("no task {0} in {1}", Group::Tasks(unit))
+    } else {
+        ("no object {0} in {1}", Group::Objects(unit))
+    };
+    let near = known.near(alloc, name, group)?;
     let behind = at.saturating_add(unit.len()).saturating_add(1);
-    let before = if is_task { "no task " } else { "no object " };
-    Ok(Some(none_named(alloc, behind, before, name, unit, names)?))
+    Ok(Some(Cause::new(behind, said, [name, unit, ""]).with_names("; it has ", near, group)))
+}
+
+// Whether a unit has a task, or an object, of a name.
+fn is_there(unit: &str, name: &str, is_task: bool, known: &Known<'_>) -> bool {
+    match known.find(Group::Package(unit), name) {
+        Some(item) => (item.sort == Sort::Task) == is_task,
+        None => false,
+    }
 }
 
 // That no unit of a name is loaded.
@@ -145,10 +136,9 @@ fn bad_unit<'a>(
     unit: &'a str,
     known: &Known<'a>,
 ) -> Result<Cause<'a>, AllocError> {
-    let names = known.units(alloc)?;
-    match nearest(alloc, unit, names.as_slice())? {
-        Some(near) => Ok(Cause::new(at, ["no unit ", unit, " is loaded here; ", near, " is", ""])),
-        None => Ok(Cause::around(at, "no unit ", unit, " is loaded here")),
+    match known.near(alloc, unit, Group::Units)? {
+        "" => Ok(Cause::of(at, "no unit {0} is loaded here", unit)),
+        near => Ok(Cause::new(at, "no unit {0} is loaded here; {1} is", [unit, near, ""])),
     }
 }
 
@@ -161,18 +151,29 @@ fn bad_operation<'a>(
     let Some((unit, name)) = dotted_parts(line.word(2)) else {
         return Ok(None);
     };
-    let Some(object) = known.of_package(unit, name) else {
+    let Some(object) = known.find(Group::Package(unit), name) else {
         return Ok(None);
     };
-    let names = operations(alloc, known, &object)?;
-    Ok(Some(none_named(
-        alloc,
+    let word = line.word(3);
+    let (near, group) = near_operation(alloc, word, object, known)?;
+    let cause = Cause::new(
         line.at(3),
-        "no operation ",
-        line.word(3),
-        line.word(2),
-        names,
-    )?))
+        "no operation {0} in {1}",
+        [word, line.word(2), ""],
+    );
+    Ok(Some(cause.with_names("; it has ", near, group)))
+}
+
+// Which name of a call isn't loaded.
+fn bad_call<'a>(
+    alloc: Global,
+    line: &Line<'a>,
+    known: &Known<'a>,
+) -> Result<Option<Cause<'a>>, AllocError> {
+    match bad_part(alloc, line.at(2), line.word(2), false, known)? {
+        Some(cause) => Ok(Some(cause)),
+        None => bad_operation(alloc, line, known),
+    }
 }
 
 /// Which name of a step isn't loaded.
@@ -181,16 +182,12 @@ pub fn unknown_name<'a>(
     line: &Line<'a>,
     known: &Known<'a>,
 ) -> Result<Cause<'a>, AllocError> {
-    if let Some(cause) = bad_part(alloc, line.at(0), line.word(0), true, known)? {
-        return Ok(cause);
+    let mut found = bad_part(alloc, line.at(0), line.word(0), true, known)?;
+    if found.is_none() && line.is(1, "call") {
+        found = bad_call(alloc, line, known)?;
     }
-    if line.is(1, "call") {
-        if let Some(cause) = bad_part(alloc, line.at(2), line.word(2), false, known)? {
-            return Ok(cause);
-        }
-        if let Some(cause) = bad_operation(alloc, line, known)? {
-            return Ok(cause);
-        }
+    match found {
+        Some(cause) => Ok(cause),
+        None => Ok(line.cause(0, "this names what isn't loaded here")),
     }
-    Ok(Cause::plain(line.at(0), "this names what isn't loaded here"))
 }

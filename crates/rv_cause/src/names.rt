@@ -1,14 +1,98 @@
 //! Names that aren't seen where they stand, or denote what can't stand there.
 
 use crate::around::Around;
+use crate::cases::{Case, Within, first_of, told};
 use crate::cause::Cause;
 use crate::declared::{Declared, Sort, is_a, phrase};
-use crate::known::Known;
+use crate::known::{Group, Known};
 use crate::library;
-use crate::unknown::is_operation_body;
 use crate::words::Words;
 use rv_lex::token::Token;
 use rv_text::is_same_name;
+
+// What has no body, and what can't stand where it does.
+const WRONG_KINDS: [Case; 9] = [
+    Case {
+        within: Within::Anywhere,
+        words: "^exit",
+        said: "exit stands in loops only (5.7)",
+    },
+    Case {
+        within: Within::Anywhere,
+        words: "^raise",
+        said: "raise without a name stands in handlers only (11.3)",
+    },
+    Case {
+        within: Within::Anywhere,
+        words: "^task|protected type",
+        said: "{2} has no body; the package's body has to have it (3.11.1)",
+    },
+    Case {
+        within: Within::Anywhere,
+        words: "^task|protected",
+        said: "{1} has no body; the package's body has to have it (3.11.1)",
+    },
+    Case {
+        within: Within::Anywhere,
+        words: "^function|procedure|entry",
+        said: "{1} has no body; the body of {5} has to have it (9.4)",
+    },
+    Case {
+        within: Within::Specification,
+        words: "pragma ^Attach_Handler",
+        said: "the pragma Attach_Handler takes the name of a procedure and a line (J.15.7)",
+    },
+    Case {
+        within: Within::Anywhere,
+        words: "pragma ^Attach_Handler",
+        said: "the pragma Attach_Handler stands in the declaration of a protected unit only (J.15.7)",
+    },
+    Case {
+        within: Within::Anywhere,
+        words: "pragma ^_",
+        said: "the pragma {0} stands in the declaration of a protected unit or a task only (J.15.11)",
+    },
+    Case {
+        within: Within::Anywhere,
+        words: "^Attach_Handler",
+        said: "a procedure that is attached to a line has no parameters (C.3.1)",
+    },
+];
+
+const SECOND_BODY: &str = "{0} has a body already (3.11.1)";
+
+const SECOND_PRIORITY: &str = "a priority is given already (D.1)";
+
+const TWICE: &str = "{0} is declared here already; give one of them another name (8.3)";
+
+// What is there twice.
+const DUPLICATES: [Case; 5] = [
+    Case {
+        within: Within::Anywhere,
+        words: "body ^_",
+        said: SECOND_BODY,
+    },
+    Case {
+        within: Within::Body,
+        words: "function|procedure|entry ^_",
+        said: SECOND_BODY,
+    },
+    Case {
+        within: Within::Anywhere,
+        words: "pragma ^_",
+        said: SECOND_PRIORITY,
+    },
+    Case {
+        within: Within::Anywhere,
+        words: "^Priority|Interrupt_Priority",
+        said: SECOND_PRIORITY,
+    },
+    Case {
+        within: Within::Anywhere,
+        words: "^Attach_Handler",
+        said: "a line is given already (C.3.1)",
+    },
+];
 
 // Whether a context clause of a text names a word.
 fn is_in_context(tokens: &[Token<'_>], word: &str) -> bool {
@@ -29,83 +113,38 @@ fn needs_library<'a>(
     at: usize,
     word: &'a str,
     library: &'a str,
-    is_simple: bool,
 ) -> Cause<'a> {
     let last = match library.rsplit_once('.') {
         Some((_, last)) => last,
         None => library,
     };
-    if !is_simple {
-        return Cause::new(
-            at,
-            [library, " needs: with ", library, "; (10.1.2)", "", ""],
-        );
-    }
-    if is_in_context(tokens, last) {
-        return Cause::new(at, [word, " needs: use ", library, "; (8.4)", "", ""]);
-    }
-    Cause::new(
-        at,
-        [word, " needs: with ", library, "; use ", library, "; (8.4)"],
-    )
+    let said = if library::home_of(word).is_none() {
+        "{1} needs: with {1}; (10.1.2)"
+    } else if is_in_context(tokens, last) {
+        "{0} needs: use {1}; (8.4)"
+    } else {
+        "{0} needs: with {1}; use {1}; (8.4)"
+    };
+    Cause::new(at, said, [word, library, ""])
 }
 
-// Why a declaration of the text isn't seen.
-fn unseen<'a>(words: &Words<'_, 'a>, item: &Declared<'a>) -> Cause<'a> {
-    let at = words.place(0);
+// What is said of a declaration that isn't seen from a place of its text.
+fn unseen(item: &Declared<'_>, at: usize) -> &'static str {
     if item.at < at {
-        return Cause::of(
-            at,
-            item.name,
-            " denotes nothing within its own declaration (8.3)",
-        );
+        return "{0} denotes nothing within its own declaration (8.3)";
     }
-    Cause::of(
-        at,
-        item.name,
-        " is declared further down; put that before this (8.3)",
-    )
+    "{0} is declared further down; put that before this (8.3)"
 }
 
-// Why the part of a name behind a point isn't seen.
-fn unseen_part<'a>(
-    words: &Words<'_, 'a>,
-    around: &Around<'a>,
-    item: &Declared<'a>,
-    behind: usize,
-) -> Cause<'a> {
-    let at = words.place(behind);
+// What is said of the part of a name behind a point that isn't seen.
+fn unseen_part(item: &Declared<'_>, around: &Around<'_>) -> &'static str {
     if item.is_hidden && !item.home.is_empty() && !is_same_name(item.home, around.home) {
-        return Cause::new(
-            at,
-            [
-                item.name,
-                " stands behind private in ",
-                item.home,
-                ", and is seen in its bodies only (9.4)",
-                "",
-                "",
-            ],
-        );
+        return "{0} stands behind private in {1}, and is seen in its bodies only (9.4)";
     }
     if !is_same_name(item.unit, around.unit) {
-        return Cause::new(
-            at,
-            [
-                item.name,
-                " is declared in the body of ",
-                item.unit,
-                ", and is seen there only (7.2)",
-                "",
-                "",
-            ],
-        );
+        return "{0} is declared in the body of {2}, and is seen there only (7.2)";
     }
-    Cause::of(
-        at,
-        item.name,
-        " isn't declared yet; put its declaration before this (8.3)",
-    )
+    "{0} isn't declared yet; put its declaration before this (8.3)"
 }
 
 // The library package that a name would be of.
@@ -127,135 +166,80 @@ pub fn not_visible<'a>(
     known: &Known<'a>,
 ) -> Cause<'a> {
     let word = words.word(0);
-    let at = words.place(0);
     if words.was(1, "body") {
-        return Cause::around(
-            at,
-            "the body of ",
-            word,
-            " stands before its declaration (3.11.1)",
-        );
+        return words.cause(0, "the body of {0} stands before its declaration (3.11.1)");
     }
     if known.has_unit(word) && !is_same_name(word, around.unit) && !is_in_context(tokens, word) {
-        return Cause::new(at, [word, " needs: with ", word, "; (10.1.2)", "", ""]);
+        return words.cause(0, "{0} needs: with {0}; (10.1.2)");
     }
     if let Some((item, behind)) = known.denoted(words, around) {
-        if behind > 0 {
-            return unseen_part(words, around, &item, behind);
-        }
-        return unseen(words, &item);
-    }
-    let Some(library) = library_of(words) else {
-        return Cause::of(
-            at,
-            word,
-            " isn't seen here; its declaration stands elsewhere (8.3)",
-        );
-    };
-    let is_simple = library::home_of(word).is_some();
-    needs_library(tokens, at, word, library, is_simple)
-}
-
-// That a declaration has no body.
-fn missing_body<'a>(words: &Words<'_, 'a>, around: &Around<'a>) -> Option<Cause<'a>> {
-    let at = words.place(0);
-    if words.is(0, "task") || words.is(0, "protected") {
-        let name = if words.is(1, "type") {
-            words.word(2)
+        let at = words.place(behind);
+        let said = if behind > 0 {
+            unseen_part(item, around)
         } else {
-            words.word(1)
+            unseen(item, at)
         };
-        return Some(Cause::of(
-            at,
-            name,
-            " has no body; the package's body has to have it (3.11.1)",
-        ));
+        return item.cause(at, said);
     }
-    if words.is(0, "function") || words.is(0, "procedure") || words.is(0, "entry") {
-        return Some(Cause::new(
-            at,
-            [
-                words.word(1),
-                " has no body; the body of ",
-                around.home,
-                " has to have it (9.4)",
-                "",
-                "",
-            ],
-        ));
-    }
-    None
-}
-
-// What is wrong with a body whose declaration is there.
-fn bad_body<'a>(words: &Words<'_, 'a>, around: &Around<'a>, known: &Known<'a>) -> Cause<'a> {
-    let at = words.place(0);
-    let word = words.word(0);
-    let declared = known.member(around.unit, around.home, word);
-    if let Some(item) = declared {
-        let is_same = words.was(1, "function") && item.sort == Sort::Function
-            || words.was(1, "procedure") && item.sort == Sort::Procedure
-            || words.was(1, "entry") && item.sort == Sort::Entry;
-        if is_same {
-            return Cause::around(
-                at,
-                "the parameters or the result of ",
-                word,
-                " aren't as in its declaration (6.3.1)",
-            );
-        }
-        return other_kind(at, &item);
-    }
-    match known.of_package(around.unit, word) {
-        Some(item) => other_kind(at, &item),
-        None => Cause::of(
-            at,
-            word,
-            " isn't declared as what this is the body of (3.11.1)",
+    match library_of(words) {
+        Some(library) => needs_library(tokens, words.place(0), word, library),
+        None => words.cause(
+            0,
+            "{0} isn't seen here; its declaration stands elsewhere (8.3)",
         ),
     }
 }
 
-// That this is the body of something of another kind.
-fn other_kind<'a>(at: usize, item: &Declared<'a>) -> Cause<'a> {
-    is_a(at, item, "; this is a body of another kind (3.11.1)")
+// Whether the body of an operation is one of this sort.
+fn is_body_of(words: &Words<'_, '_>, sort: Sort) -> bool {
+    match sort {
+        Sort::Function => words.was(1, "function"),
+        Sort::Procedure => words.was(1, "procedure"),
+        Sort::Entry => words.was(1, "entry"),
+        _ => false,
+    }
 }
 
-// Whether a statement begins at a word.
-fn begins_statement(words: &Words<'_, '_>) -> bool {
-    words.was(1, ";")
-        || words.was(1, "begin")
-        || words.was(1, "then")
-        || words.was(1, "else")
-        || words.was(1, "loop")
-        || words.was(1, "=>")
-}
-
-// Whether a subtype stands at a word.
-fn is_mark(words: &Words<'_, '_>) -> bool {
-    words.was(1, ":")
-        || words.was(1, "constant")
-        || words.was(1, "in")
-        || words.was(1, "out")
-        || words.was(1, "is")
+// What is wrong with a body whose declaration is there.
+fn bad_body<'a>(words: &Words<'_, 'a>, around: &Around<'a>, known: &Known<'a>) -> Cause<'a> {
+    let word = words.word(0);
+    let members = Group::Members(around.unit, around.home);
+    let found = match known.find(members, word) {
+        Some(item) if is_body_of(words, item.sort) => {
+            return words.cause(
+                0,
+                "the parameters or the result of {0} aren't as in its declaration (6.3.1)",
+            );
+        }
+        Some(item) => Some(item),
+        None => known.find(Group::Package(around.unit), word),
+    };
+    match found {
+        Some(item) => is_a(
+            words.place(0),
+            item,
+            "; this is a body of another kind (3.11.1)",
+        ),
+        None => words.cause(0, "{0} isn't declared as what this is the body of (3.11.1)"),
+    }
 }
 
 // What would have to stand where a name stands whose last part is so many words behind.
-fn wanted<'a>(words: &Words<'_, 'a>, behind: usize) -> &'a str {
-    let next = behind.saturating_add(1);
-    if is_mark(words) {
+fn wanted<'w>(words: &Words<'_, '_>, behind: usize) -> &'w str {
+    let next = words.word(behind.saturating_add(1));
+    if words.fit(":|constant|in|out|is ^_") {
         return "; a subtype has to stand here (3.2.2)";
     }
-    if words.is(next, ":=") {
+    if next == ":=" {
         return "; what is assigned is a variable or a component (5.2)";
     }
     if words.was(1, "raise") {
         return "; what is raised is an exception (11.3)";
     }
-    if begins_statement(words) {
+    if words.fit(";|begin|then|else|loop|=> ^_") {
         return "; a statement calls a procedure or an entry (6.4)";
     }
-    if words.is(next, "(") {
+    if next == "(" {
         return "; an expression calls a function (6.4)";
     }
     "; a value has to stand here (4.4)"
@@ -263,107 +247,50 @@ fn wanted<'a>(words: &Words<'_, 'a>, behind: usize) -> &'a str {
 
 // That what a name denotes can't stand here.
 fn bad_sort<'a>(words: &Words<'_, 'a>, around: &Around<'a>, known: &Known<'a>) -> Cause<'a> {
-    let at = words.place(0);
     if let Some((item, behind)) = known.denoted(words, around) {
-        return is_a(words.place(behind), &item, wanted(words, behind));
+        return is_a(words.place(behind), item, wanted(words, behind));
     }
     let word = words.word(0);
-    let Some(sort) = library::words_of(word) else {
-        return Cause::of(at, word, " denotes nothing that can stand here (8.6)");
-    };
-    phrase(at, word, sort, wanted(words, 0))
+    match library::words_of(word) {
+        Some(sort) => phrase(words.place(0), word, sort, wanted(words, 0)),
+        None => words.cause(0, "{0} denotes nothing that can stand here (8.6)"),
+    }
 }
 
-// What is wrong with a pragma that matters.
-fn bad_pragma<'a>(words: &Words<'_, 'a>, around: &Around<'a>) -> Cause<'a> {
-    let at = words.place(0);
-    if !words.is(0, "Attach_Handler") {
-        return Cause::around(
-            at,
-            "the pragma ",
-            words.word(0),
-            " stands in the declaration of a protected unit or a task only (J.15.11)",
-        );
-    }
-    if around.is_specification() {
-        return Cause::plain(
-            at,
-            "the pragma Attach_Handler takes the name of a procedure and a line (J.15.7)",
-        );
-    }
-    Cause::plain(
-        at,
-        "the pragma Attach_Handler stands in the declaration of a protected unit only (J.15.7)",
-    )
+// Whether the name of a body stands here, or that of an operation in one.
+pub(crate) fn is_body(words: &Words<'_, '_>, around: &Around<'_>) -> bool {
+    words.was(1, "body") || around.is_body && words.fit("function|procedure|entry ^_")
 }
 
 /// Why what stands at a word can't stand there.
 pub fn wrong_kind<'a>(words: &Words<'_, 'a>, around: &Around<'a>, known: &Known<'a>) -> Cause<'a> {
-    let at = words.place(0);
-    let word = words.word(0);
-    if words.is(0, "exit") {
-        return Cause::plain(at, "exit stands in loops only (5.7)");
-    }
-    if words.is(0, "raise") {
-        return Cause::plain(at, "raise without a name stands in handlers only (11.3)");
-    }
-    if let Some(cause) = missing_body(words, around) {
+    if let Some(cause) = first_of(&WRONG_KINDS, words, around) {
         return cause;
     }
-    if words.was(1, "pragma") {
-        return bad_pragma(words, around);
-    }
-    if words.is(0, "Attach_Handler") {
-        return Cause::plain(
-            at,
-            "a procedure that is attached to a line has no parameters (C.3.1)",
-        );
-    }
-    if words.was(1, "body") || is_operation_body(words, around) {
+    if is_body(words, around) {
         return bad_body(words, around, known);
     }
     if around.unit.is_empty() {
-        return Cause::new(
-            at,
-            [
-                word,
-                " is a unit; use takes library packages only: write ",
-                word,
-                ". before its names",
-                "",
-                "",
-            ],
-        );
+        let said = "{0} is a unit; use takes library packages only: write {0}. before its names";
+        return words.cause(0, said);
     }
     bad_sort(words, around, known)
 }
 
 /// What is there twice.
 pub fn duplicate<'a>(words: &Words<'_, 'a>, around: &Around<'a>) -> Cause<'a> {
-    let at = words.place(0);
-    let word = words.word(0);
-    if words.was(1, "body") || is_operation_body(words, around) {
-        return Cause::of(at, word, " has a body already (3.11.1)");
+    match first_of(&DUPLICATES, words, around) {
+        Some(cause) => cause,
+        None => told(words, around, TWICE),
     }
-    if words.was(1, "pragma") || words.is(0, "Priority") || words.is(0, "Interrupt_Priority") {
-        return Cause::plain(at, "a priority is given already (D.1)");
-    }
-    if words.is(0, "Attach_Handler") {
-        return Cause::plain(at, "a line is given already (C.3.1)");
-    }
-    Cause::of(
-        at,
-        word,
-        " is declared here already; give one of them another name (8.3)",
-    )
 }
 
 /// What a name behind `end` has to be.
 pub fn end_name<'a>(tokens: &[Token<'a>], words: &Words<'_, 'a>) -> Cause<'a> {
-    let around = Around::of(tokens, words.place_back(1));
-    let name = around.innermost();
-    Cause::new(
+    let around = Around::of(tokens, words.place_before());
+    Cause::of(
         words.place(0),
-        ["what ends here is ", name, ": write end ", name, ";", ""],
+        "what ends here is {0}: write end {0};",
+        around.innermost(),
     )
 }

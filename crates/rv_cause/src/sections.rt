@@ -16,65 +16,42 @@ const OPENINGS: [&str; 7] = [
     "@run",
 ];
 
-// A line that opens something elsewhere.
-fn elsewhere(opening: Opening, word: &str) -> Cause<'_> {
+// What is said of a line that opens something elsewhere.
+fn elsewhere(opening: Opening) -> &'static str {
     match opening {
-        Opening::Settings => Cause::of(0, word, " may only stand first"),
-        Opening::Steps => {
-            Cause::plain(
-                0,
-                "only play takes steps; check looks at them with --script",
-            )
-        }
-        Opening::Run => Cause::plain(
-            0,
-            "only run takes commands; check looks at them with --script",
-        ),
-        Opening::Journal => {
-            Cause::plain(
-                0,
-                "only audit takes a journal; check looks at it with --script",
-            )
-        }
-        _ => Cause::of(0, word, " has no place in this command"),
+        Opening::Settings => "{0} may only stand first",
+        Opening::Steps => "only play takes steps; check looks at them with --script",
+        Opening::Run => "only run takes commands; check looks at them with --script",
+        Opening::Journal => "only audit takes a journal; check looks at it with --script",
+        _ => "{0} has no place in this command",
     }
 }
 
-// That a word may be meant for an opening that is near to it.
-fn misspelt<'a>(word: &'a str, near: &'a str) -> Cause<'a> {
-    Cause::new(0, ["no section ", word, "; ", near, "?", ""])
-}
-
-// The opening that is nearest to a word, if one is near.
-fn near_opening(alloc: Global, word: &str) -> Result<Option<&'static str>, AllocError> {
-    nearest(alloc, word, &OPENINGS)
+// What is said of a word that opens no section, and may be meant for an opening that is near to it.
+fn unknown<'a>(alloc: Global, word: &'a str) -> Result<Cause<'a>, AllocError> {
+    match nearest(alloc, word, &OPENINGS)? {
+        Some(near) => Ok(Cause::new(0, "no section {0}; {1}?", [word, near, ""])),
+        None => Ok(Cause::of(
+            0,
+            "no section {0}; there are @host.toml, @unit, @shape, @list, @steps, @journal and @run",
+            word,
+        )),
+    }
 }
 
 /// Why a line opens no section.
 pub fn bad_section<'a>(alloc: Global, line: &'a str) -> Result<Cause<'a>, AllocError> {
-    let words = Line::of(alloc, line)?;
+    let words = Line::of(alloc, line, 0)?;
     let word = words.word(0);
     if !line.starts_with("@") {
-        return Ok(Cause::of(words.at(0), word, " stands before the first section"));
+        return Ok(words.cause(0, "{0} stands before the first section"));
     }
     if let Some(opening) = opening_of(line) {
-        return Ok(elsewhere(opening, word));
+        return Ok(Cause::of(0, elsewhere(opening), word));
     }
     if opening_of(word).is_some() {
-        return Ok(Cause::around(
-            word.len(),
-            "nothing may stand behind ",
-            word,
-            ", not even a blank",
-        ));
+        let said = "nothing may stand behind {0}, not even a blank";
+        return Ok(Cause::of(word.len(), said, word));
     }
-    match near_opening(alloc, word)? {
-        Some(near) => Ok(misspelt(word, near)),
-        None => Ok(Cause::around(
-            0,
-            "no section ",
-            word,
-            "; there are @host.toml, @unit, @shape, @list, @steps, @journal and @run",
-        )),
-    }
+    unknown(alloc, word)
 }

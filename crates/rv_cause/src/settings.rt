@@ -1,9 +1,8 @@
 //! What stands against settings, by the lines of their text.
 
 use crate::cause::Cause;
-use crate::line::is_listed;
 use rv_near::nearest;
-use rv_text::{dotted_parts, integer_of, is_identifier, next_line, next_word};
+use rv_text::{dotted_parts, integer_of, is_identifier, is_same_name, next_line, next_word};
 use std::alloc::{AllocError, Global};
 
 const TOP_KEYS: [&str; 3] = ["capacity", "budget", "device"];
@@ -18,9 +17,9 @@ enum Table {
     Other,
 }
 
-// A line of settings: a key with its value, or the opening of a table.
+/// A line of settings: a key with its value, or the opening of a table.
 #[derive(Clone, Copy)]
-struct Entry<'a> {
+pub struct Entry<'a> {
     table: Table,
     // The key; empty where the line opens a table.
     key: &'a str,
@@ -28,6 +27,98 @@ struct Entry<'a> {
     value: &'a str,
     // The byte of the text where the line begins.
     at: usize,
+}
+
+// What the value of a key is to be.
+#[derive(Clone, Copy)]
+enum Taken {
+    // A number within limits.
+    Number(i64, i64),
+    // A name in quotes.
+    Name,
+    // The name of an object in quotes.
+    Object,
+    // A table of its own.
+    Table,
+}
+
+// A key, the table that has it, what its value is to be, and what is said of another.
+#[derive(Clone, Copy)]
+struct Key {
+    name: &'static str,
+    table: Table,
+    taken: Taken,
+    said: &'static str,
+}
+
+const NAME: &str = "{0} is a name in quotes, as \"Get\"";
+
+const CALLS: &str = "{0} is a whole number, 1 .. 1000000";
+
+const TABLE: &str = "devices are tables of their own: write [[device]]";
+
+const KEYS: [Key; 9] = [
+    Key {
+        name: "capacity",
+        table: Table::Top,
+        taken: Taken::Number(16, 1_048_576),
+        said: "capacity is a whole number, 16 .. 1048576",
+    },
+    Key {
+        name: "budget",
+        table: Table::Top,
+        taken: Taken::Number(1, 1_000_000),
+        said: CALLS,
+    },
+    Key {
+        name: "calls",
+        table: Table::Device,
+        taken: Taken::Number(1, 1_000_000),
+        said: CALLS,
+    },
+    Key {
+        name: "priority",
+        table: Table::Device,
+        taken: Taken::Number(1, 40),
+        said: "priority is a whole number, 1 .. 40",
+    },
+    Key {
+        name: "unit",
+        table: Table::Device,
+        taken: Taken::Name,
+        said: NAME,
+    },
+    Key {
+        name: "task",
+        table: Table::Device,
+        taken: Taken::Name,
+        said: NAME,
+    },
+    Key {
+        name: "operation",
+        table: Table::Device,
+        taken: Taken::Name,
+        said: NAME,
+    },
+    Key {
+        name: "object",
+        table: Table::Device,
+        taken: Taken::Object,
+        said: "object is Unit.Object in quotes",
+    },
+    Key {
+        name: "device",
+        table: Table::Top,
+        taken: Taken::Table,
+        said: TABLE,
+    },
+];
+
+impl Key {
+    // Whether a word is this key: one of a name in any case.
+    fn is(&self, word: &str) -> bool {
+        self.name == word || self.said == NAME && is_same_name(self.name, word)
+    }
 }
 
 // The table that a line opens, if it does.
@@ -66,8 +157,8 @@ fn entry_of<'a>(table: Table, line: &'a str, at: usize) -> Option<Entry<'a>> {
     })
 }
 
-// The lines of settings, comments and blank ones left out.
-fn entries_of<'a>(alloc: Global, text: &'a str) -> Result<Vec<Entry<'a>>, AllocError> {
+/// The lines of settings, comments and blank ones left out. Err where memory was refused.
+pub fn entries_of<'a>(alloc: Global, text: &'a str) -> Result<Vec<Entry<'a>>, AllocError> {
     let mut entries = Vec::new(alloc);
     let mut table = Table::Top;
     let mut rest = text;
@@ -82,82 +173,52 @@ fn entries_of<'a>(alloc: Global, text: &'a str) -> Result<Vec<Entry<'a>>, AllocE
     Ok(entries)
 }
 
-// Whether a key is one of its table.
-fn is_key(entry: &Entry<'_>) -> bool {
-    match entry.table {
-        Table::Top => is_among(&TOP_KEYS, entry.key),
-        Table::Device => is_among(&DEVICE_KEYS, entry.key),
-        Table::Other => false,
-    }
-}
-
-// Whether a word is one of a list, letter for letter.
-fn is_among(list: &[&str], word: &str) -> bool {
-    for one in list {
-        if *one == word {
-            return true;
+// The table whose key a word is, if it is one.
+fn table_of(word: &str) -> Option<Table> {
+    for key in &KEYS {
+        if key.name == word {
+            return Some(key.table);
         }
     }
-    false
+    None
 }
 
-// The key of any table that is nearest to a word, if one is near.
-fn near_key(alloc: Global, word: &str) -> Result<Option<&'static str>, AllocError> {
-    if let Some(key) = nearest(alloc, word, &TOP_KEYS)? {
-        return Ok(Some(key));
-    }
-    nearest(alloc, word, &DEVICE_KEYS)
-}
-
-// That a word may be meant for a key that is near to it.
-fn misspelt<'a>(at: usize, key: &'a str, near: &'a str) -> Cause<'a> {
-    Cause::new(at, ["unknown key ", key, "; ", near, "?", ""])
-}
-
-// What is wrong with a key that its table doesn't have.
-fn unknown<'a>(alloc: Global, entry: &Entry<'a>) -> Result<Cause<'a>, AllocError> {
-    let key = entry.key;
-    if is_among(&TOP_KEYS, key) {
-        return Ok(Cause::of(
-            entry.at,
-            key,
-            " stands in a device; put it above [[device]]",
-        ));
-    }
-    if is_among(&DEVICE_KEYS, key) {
-        return Ok(Cause::of(
-            entry.at,
-            key,
-            " is a key of devices; put it below [[device]]",
-        ));
-    }
-    if let Some(near) = near_key(alloc, key)? {
-        return Ok(misspelt(entry.at, key, near));
-    }
-    let behind = match entry.table {
-        Table::Device => "; a device has unit, task, object, operation, priority and calls",
-        _ => "; the keys are capacity, budget and device",
-    };
-    Ok(Cause::around(entry.at, "unknown key ", key, behind))
-}
-
-/// Which key settings don't have.
-pub fn unknown_key<'a>(alloc: Global, text: &'a str) -> Result<Cause<'a>, AllocError> {
-    let entries = entries_of(alloc, text)?;
-    for entry in entries.as_slice() {
-        if !entry.key.is_empty() && !is_key(entry) {
-            return unknown(alloc, entry);
-        }
-        if entry.key.is_empty() && entry.table == Table::Other && entry.value != "[device]" {
-            return Ok(Cause::around(
-                entry.at,
-                "unknown table ",
-                entry.value,
-                "; devices are [[device]]",
-            ));
+impl<'a> Entry<'a> {
+    // Whether its key is one of its table.
+    fn is_key(&self) -> bool {
+        match table_of(self.key) {
+            Some(table) => table == self.table,
+            None => false,
         }
     }
-    Ok(Cause::plain(0, "the keys are capacity, budget and device"))
+
+    // What is said of its key, which its table doesn't have.
+    fn said_of_key(&self) -> &'static str {
+        match table_of(self.key) {
+            Some(Table::Top) => "{0} stands in a device; put it above [[device]]",
+            Some(_) => "{0} is a key of devices; put it below [[device]]",
+            None => {
+                if self.table == Table::Device {
+                    "unknown key {0}; a device has unit, task, object, operation, priority and calls"
+                } else {
+                    "unknown key {0}; the keys are capacity, budget and device"
+                }
+            }
+        }
+    }
+
+    // What is said of its value, if that isn't as it is to be.
+    fn said_of_value(&self) -> Option<&'static str> {
+        for key in &KEYS {
+            if key.is(self.key) && !is_taken(key.taken, self.value) {
+                return Some(key.said);
+            }
+        }
+        if self.value == "[device]" {
+            return Some(TABLE);
+        }
+        None
+    }
 }
 
 // Whether a value is a number within limits. Of a number with a sign or an underscore it isn't known, and taken so.
@@ -175,56 +236,56 @@ fn quoted(value: &str) -> Option<&str> {
     Some(text)
 }
 
-// Whether a value is a name in quotes.
-fn is_name(value: &str) -> bool {
-    match quoted(value) {
-        Some(text) => is_identifier(text),
-        None => value.starts_with("'"),
+// Whether a value is as it is to be; of one in single quotes it isn't known, and taken so.
+fn is_taken(taken: Taken, value: &str) -> bool {
+    let text = match taken {
+        Taken::Number(least, most) => return is_within(value, least, most),
+        Taken::Table => return false,
+        _ => quoted(value),
+    };
+    match (text, taken) {
+        (Some(text), Taken::Name) => is_identifier(text),
+        (Some(text), _) => dotted_parts(text).is_some(),
+        _ => value.starts_with("'"),
     }
 }
 
-// Whether a value is the name of an object in quotes.
-fn is_object(value: &str) -> bool {
-    match quoted(value) {
-        Some(text) => dotted_parts(text).is_some(),
-        None => value.starts_with("'"),
+// The key of any table that is nearest to a word, if one is near.
+fn near_key(alloc: Global, word: &str) -> Result<Option<&'static str>, AllocError> {
+    match nearest(alloc, word, &TOP_KEYS)? {
+        Some(key) => Ok(Some(key)),
+        None => nearest(alloc, word, &DEVICE_KEYS),
     }
 }
 
-// What is wrong with the value of a key.
-fn value_cause<'a>(entry: &Entry<'a>) -> Option<Cause<'a>> {
+// What is wrong with a key that its table doesn't have.
+fn unknown<'a>(alloc: Global, entry: &Entry<'a>) -> Result<Cause<'a>, AllocError> {
     let key = entry.key;
-    let value = entry.value;
-    if key == "capacity" && !is_within(value, 16, 1_048_576) {
-        return Some(Cause::plain(entry.at, "capacity is a whole number, 16 .. 1048576"));
+    if table_of(key).is_none() {
+        if let Some(near) = near_key(alloc, key)? {
+            return Ok(Cause::pair(entry.at, "unknown key {0}; {1}?", key, near));
+        }
     }
-    if (key == "budget" || key == "calls") && !is_within(value, 1, 1_000_000) {
-        return Some(Cause::of(entry.at, key, " is a whole number, 1 .. 1000000"));
+    Ok(Cause::of(entry.at, entry.said_of_key(), key))
+}
+
+/// Which key settings don't have. Err where memory was refused.
+pub fn unknown_key<'a>(alloc: Global, entries: &[Entry<'a>]) -> Result<Cause<'a>, AllocError> {
+    for entry in entries {
+        if !entry.key.is_empty() && !entry.is_key() {
+            return unknown(alloc, entry);
+        }
+        if entry.key.is_empty() && entry.table == Table::Other && entry.value != "[device]" {
+            let said = "unknown table {0}; devices are [[device]]";
+            return Ok(Cause::of(entry.at, said, entry.value));
+        }
     }
-    if key == "priority" && !is_within(value, 1, 40) {
-        return Some(Cause::plain(entry.at, "priority is a whole number, 1 .. 40"));
-    }
-    if is_listed(&["unit", "task", "operation"], key) && !is_name(value) {
-        return Some(Cause::of(entry.at, key, " is a name in quotes, as \"Get\""));
-    }
-    if key == "object" && !is_object(value) {
-        return Some(Cause::plain(entry.at, "object is Unit.Object in quotes"));
-    }
-    if value == "[device]" || key == "device" {
-        return Some(Cause::plain(
-            entry.at,
-            "devices are tables of their own: write [[device]]",
-        ));
-    }
-    None
+    Ok(Cause::plain(0, "the keys are capacity, budget and device"))
 }
 
 // Whether a key of a device stands among its lines, which begin with this one.
 fn has_key(entries: &[Entry<'_>], from: usize, key: &str) -> bool {
-    for index in from..entries.len() {
-        let Some(entry) = entries.get(index) else {
-            return false;
-        };
+    for entry in entries.iter().skip(from) {
         if entry.key.is_empty() {
             return false;
         }
@@ -245,30 +306,29 @@ fn missing_key(entries: &[Entry<'_>], from: usize) -> Option<&'static str> {
     None
 }
 
-// The key that a device lacks, whose opening is the line of this number.
-fn lacking<'a>(entries: &[Entry<'a>], opening: usize) -> Option<Cause<'a>> {
-    let entry = entries.get(opening)?;
-    if !entry.key.is_empty() || entry.table != Table::Device {
-        return None;
+// The key that the first device lacks that lacks one.
+fn lacking<'a>(entries: &[Entry<'a>]) -> Option<Cause<'a>> {
+    for (opening, entry) in entries.iter().enumerate() {
+        if entry.key.is_empty() && entry.table == Table::Device {
+            if let Some(key) = missing_key(entries, opening.saturating_add(1)) {
+                return Some(Cause::of(entry.at, "this device lacks the key {0}", key));
+            }
+        }
     }
-    let key = missing_key(entries, opening.saturating_add(1))?;
-    Some(Cause::around(entry.at, "this device lacks the key ", key, ""))
+    None
 }
 
 /// Which value isn't as it should be, or which key a device lacks.
-pub fn bad_value<'a>(alloc: Global, text: &'a str) -> Result<Cause<'a>, AllocError> {
-    let entries = entries_of(alloc, text)?;
-    for entry in entries.as_slice() {
-        if let Some(cause) = value_cause(entry) {
-            return Ok(cause);
+pub fn bad_value<'a>(entries: &[Entry<'a>]) -> Cause<'a> {
+    for entry in entries {
+        if let Some(said) = entry.said_of_value() {
+            return Cause::of(entry.at, said, entry.key);
         }
     }
-    for opening in 0..entries.len() {
-        if let Some(cause) = lacking(entries.as_slice(), opening) {
-            return Ok(cause);
-        }
+    if let Some(cause) = lacking(entries) {
+        return cause;
     }
-    Ok(Cause::plain(0, "a value is of another type, or out of its range"))
+    Cause::plain(0, "a value is of another type, or out of its range")
 }
 
 /// Where settings are no TOML.

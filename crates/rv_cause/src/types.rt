@@ -1,50 +1,84 @@
 //! Types, modes and static values that don't fit.
 
 use crate::around::Around;
+use crate::cases::{Case, Within, first_of, told};
 use crate::cause::Cause;
 use crate::declared::{Declared, Sort, is_a};
-use crate::known::Known;
-use crate::library;
-use crate::words::Words;
+use crate::known::{Group, Known};
+use crate::words::{Words, is_literal};
 use std::alloc::{AllocError, Global};
 
-// Why a declaration can't be written.
-fn unwritable<'a>(at: usize, item: &Declared<'a>) -> Cause<'a> {
-    let name = item.name;
-    match item.sort {
-        Sort::Component => Cause::new(
-            at,
-            [
-                name,
-                " is a component of ",
-                item.home,
-                "; a function may not write it (9.5.1); a procedure may",
-                "",
-                "",
-            ],
-        ),
-        Sort::Procedure => Cause::new(
-            at,
-            [
-                name,
-                " is a procedure of ",
-                item.home,
-                "; a function may not call it (9.5.1); a procedure may",
-                "",
-                "",
-            ],
-        ),
-        Sort::Given => Cause::of(
-            at,
-            name,
-            " is an in parameter, which isn't written (6.1); one that is in out may be",
-        ),
-        Sort::LoopParameter => Cause::of(
-            at,
-            name,
-            " is a loop parameter, which isn't written (5.5)",
-        ),
-        _ => is_a(at, item, ", which isn't written (3.3)"),
+const CONDITION: &str = "a condition is Boolean; what begins with {0} isn't (5.3)";
+
+// What is wrong from what stands before an expression.
+const BEFORE: [Case; 6] = [
+    Case {
+        within: Within::Anywhere,
+        words: "exit when ^_",
+        said: CONDITION,
+    },
+    Case {
+        within: Within::Head,
+        words: "when ^_",
+        said: CONDITION,
+    },
+    Case {
+        within: Within::Anywhere,
+        words: "if|elsif|while ^_",
+        said: CONDITION,
+    },
+    Case {
+        within: Within::Anywhere,
+        words: "until ^_",
+        said: "delay until takes a Time, which this isn't (9.6)",
+    },
+    Case {
+        within: Within::NoFunction,
+        words: "return ^_",
+        said: "only a function returns a value (6.5)",
+    },
+    Case {
+        within: Within::Anywhere,
+        words: "^return",
+        said: "a function returns a value: write it behind return (6.5)",
+    },
+];
+
+const OTHER_TYPE: &str = "what begins with {0} isn't of the type that is wanted here (8.6)";
+
+// Of what type an expression is that doesn't fit.
+const OTHER_TYPES: [Case; 3] = [
+    Case {
+        within: Within::Anywhere,
+        words: "^NUMBER",
+        said: "{0} is an Integer, which doesn't fit here (8.6)",
+    },
+    Case {
+        within: Within::Anywhere,
+        words: "^True|False",
+        said: "{0} is Boolean, which doesn't fit here (8.6)",
+    },
+    Case {
+        within: Within::Library,
+        words: "^_",
+        said: "{0} isn't of the type, or hasn't the arguments, that are wanted (8.6)",
+    },
+];
+
+// What is said of a declaration that isn't written: `{0}` is its name, `{1}` its home and `{2}` its sort.
+fn said_of_unwritable(sort: Sort) -> &'static str {
+    match sort {
+        Sort::Component => {
+            "{0} is a component of {1}; a function may not write it (9.5.1); a procedure may"
+        }
+        Sort::Procedure => {
+            "{0} is a procedure of {1}; a function may not call it (9.5.1); a procedure may"
+        }
+        Sort::Given => {
+            "{0} is an in parameter, which isn't written (6.1); one that is in out may be"
+        }
+        Sort::LoopParameter => "{0} is a loop parameter, which isn't written (5.5)",
+        _ => "{0} is {2}, which isn't written (3.3)",
     }
 }
 
@@ -55,128 +89,84 @@ pub fn constant_written<'a>(
     known: &Known<'a>,
 ) -> Cause<'a> {
     match known.denoted(words, around) {
-        Some((item, behind)) => unwritable(words.place(behind), &item),
-        None => Cause::of(
-            words.place(0),
-            words.word(0),
-            " is a constant, which isn't written (3.3)",
+        Some((item, behind)) => Cause::new(
+            words.place(behind),
+            said_of_unwritable(item.sort),
+            [item.name, item.home, item.sort.words()],
         ),
+        None => words.cause(0, "{0} is a constant, which isn't written (3.3)"),
     }
 }
 
 /// Why a mode doesn't fit at a word.
 pub fn bad_mode<'a>(words: &Words<'_, 'a>, around: &Around<'a>, known: &Known<'a>) -> Cause<'a> {
-    let at = words.place(0);
-    if around.is_in_head() {
-        return Cause::of(
-            at,
-            words.word(0),
-            " is a parameter of a function, and so has to be in (6.1)",
+    if around.is_in_head {
+        return words.cause(
+            0,
+            "{0} is a parameter of a function, and so has to be in (6.1)",
         );
     }
     if let Some((item, behind)) = known.denoted(words, around) {
         let next = words.word(behind.saturating_add(1));
         if next == "," || next == ")" {
-            let at = words.place(behind);
-            return is_a(
-                at,
-                &item,
-                "; a parameter that is out takes a variable (6.4.1)",
-            );
+            let said = "; a parameter that is out takes a variable (6.4.1)";
+            return is_a(words.place(behind), item, said);
         }
     }
-    Cause::plain(
-        at,
+    words.cause(
+        0,
         "this is an expression; a parameter that is out takes a variable (6.4.1)",
     )
 }
 
 /// Why a value has to be known from the text.
 pub fn not_static<'a>(words: &Words<'_, 'a>) -> Cause<'a> {
-    let part = words.last_part();
-    Cause::of(
-        words.place(part),
-        words.word(part),
-        " isn't known from the text alone, as it has to be here (4.9)",
+    words.cause(
+        words.last_part(),
+        "{0} isn't known from the text alone, as it has to be here (4.9)",
     )
 }
 
 // Whether the expression that begins at a word has the divisor 0; it is sought up to the next semicolon.
 fn divides_by_zero(words: &Words<'_, '_>) -> bool {
-    for behind in 0..256usize {
-        let is_divided = words.is(behind, "/")
-            || words.is(behind, "mod")
-            || words.is(behind, "rem");
-        if is_divided && words.is(behind.saturating_add(1), "0") {
+    let mut is_divided = false;
+    for behind in 0..257usize {
+        let word = words.word(behind);
+        if is_divided && word == "0" {
             return true;
         }
-        if words.is(behind, ";") {
+        if word == ";" {
             return false;
         }
+        is_divided = word == "/" || words.is(behind, "mod") || words.is(behind, "rem");
     }
     false
 }
 
-// Whether a word is digits.
-fn is_literal(word: &str) -> bool {
-    match word.as_bytes() {
-        [first, ..] => first.is_ascii_digit(),
-        [] => false,
-    }
-}
-
 /// What is too large, or one too many.
 pub fn too_large<'a>(words: &Words<'_, 'a>, around: &Around<'a>, known: &Known<'a>) -> Cause<'a> {
-    let at = words.place(0);
-    let word = words.word(0);
-    if known.declared_at(around.unit, at).is_some() {
-        return Cause::of(
-            at,
-            word,
-            " is one too many: 64 may be open in a body, constants counted apart",
-        );
-    }
-    if divides_by_zero(words) {
-        return Cause::plain(at, "the divisor is 0 here (4.5.5)");
-    }
-    if is_literal(word) {
-        return Cause::of(
-            at,
-            word,
-            " leads to a value outside the range that is wanted here (3.5)",
-        );
-    }
-    Cause::around(
-        at,
-        "the value that begins with ",
-        word,
-        " is outside the range that is wanted here (3.5)",
-    )
+    let said = if known.declared_at(around.unit, words.place(0)).is_some() {
+        "{0} is one too many: 64 may be open in a body, constants counted apart"
+    } else if divides_by_zero(words) {
+        "the divisor is 0 here (4.5.5)"
+    } else if is_literal(words.word(0)) {
+        "{0} leads to a value outside the range that is wanted here (3.5)"
+    } else {
+        "the value that begins with {0} is outside the range that is wanted here (3.5)"
+    };
+    words.cause(0, said)
 }
 
 /// What is wrong with the choices of a case statement.
 pub fn bad_choice<'a>(words: &Words<'_, 'a>) -> Cause<'a> {
-    let at = words.place(0);
-    let word = words.word(0);
-    if words.is(0, "others") {
-        return Cause::plain(
-            at,
-            "others stands alone, once, in the last alternative (5.4)",
-        );
-    }
-    if words.was(1, "case") {
-        return Cause::around(
-            at,
-            "a value of ",
-            word,
-            " stands in no choice: write when others => (5.4)",
-        );
-    }
-    Cause::of(
-        at,
-        word,
-        " stands in a choice before this one already (5.4)",
-    )
+    let said = if words.is(0, "others") {
+        "others stands alone, once, in the last alternative (5.4)"
+    } else if words.was(1, "case") {
+        "a value of {0} stands in no choice: write when others => (5.4)"
+    } else {
+        "{0} stands in a choice before this one already (5.4)"
+    };
+    words.cause(0, said)
 }
 
 // How many arguments stand behind a name whose last part is so many words behind.
@@ -188,15 +178,20 @@ fn arguments(words: &Words<'_, '_>, behind: usize) -> usize {
     let mut depth = 0usize;
     let mut count = 1usize;
     for number in open..open.saturating_add(512) {
-        if words.is(number, "(") {
-            depth = depth.saturating_add(1);
-        } else if words.is(number, ")") {
-            depth = depth.saturating_sub(1);
-            if depth == 0 {
-                return count;
+        match words.word(number) {
+            "(" => depth = depth.saturating_add(1),
+            ")" => {
+                depth = depth.saturating_sub(1);
+                if depth == 0 {
+                    return count;
+                }
             }
-        } else if words.is(number, ",") && depth == 1 {
-            count = count.saturating_add(1);
+            "," => {
+                if depth == 1 {
+                    count = count.saturating_add(1);
+                }
+            }
+            _ => {}
         }
     }
     count
@@ -204,124 +199,73 @@ fn arguments(words: &Words<'_, '_>, behind: usize) -> usize {
 
 // That a call has other arguments than there are parameters, if it has.
 fn bad_count<'a>(
-    alloc: Global,
     words: &Words<'_, 'a>,
     item: &Declared<'a>,
     behind: usize,
     known: &Known<'a>,
-) -> Result<Option<Cause<'a>>, AllocError> {
-    if !item.sort.is_operation() {
-        return Ok(None);
-    }
-    let names = known.parameters(alloc, item)?;
-    if names.len() == arguments(words, behind) {
-        return Ok(None);
+) -> Option<Cause<'a>> {
+    let parameters = Group::Parameters(item.unit, item.home, item.name);
+    let count = known.count(parameters);
+    if !item.sort.is_operation() || count == arguments(words, behind) {
+        return None;
     }
     let at = words.place(behind);
-    if names.is_empty() {
-        return Ok(Some(Cause::of(at, item.name, " takes no arguments (6.4)")));
+    if count == 0 {
+        return Some(item.cause(at, "{0} takes no arguments (6.4)"));
     }
-    Ok(Some(Cause::of(
+    let cause = item.cause(
         at,
-        item.name,
-        " takes one argument for each of its parameters (6.4): ",
-    )
-    .with_names(names)))
-}
-
-// What is wrong from what stands before an expression.
-fn before<'a>(words: &Words<'_, 'a>, around: &Around<'a>) -> Option<Cause<'a>> {
-    let at = words.place(0);
-    let word = words.word(0);
-    let is_when = words.was(1, "when") && (words.was(2, "exit") || around.is_in_head());
-    if is_when || words.was(1, "if") || words.was(1, "elsif") || words.was(1, "while") {
-        return Some(Cause::around(
-            at,
-            "a condition is Boolean; what begins with ",
-            word,
-            " isn't (5.3)",
-        ));
-    }
-    if words.was(1, "until") {
-        return Some(Cause::plain(at, "delay until takes a Time, which this isn't (9.6)"));
-    }
-    if words.was(1, "return") && !around.is_function {
-        return Some(Cause::plain(at, "only a function returns a value (6.5)"));
-    }
-    if words.is(0, "return") {
-        return Some(Cause::plain(
-            at,
-            "a function returns a value: write it behind return (6.5)",
-        ));
-    }
-    None
+        "{0} takes one argument for each of its parameters (6.4)",
+    );
+    Some(cause.with_names(": ", "", parameters))
 }
 
 // That a name or a literal is of a type that doesn't fit.
-fn bad_type<'a>(words: &Words<'_, 'a>, found: Option<(Declared<'a>, usize)>) -> Cause<'a> {
-    let at = words.place(0);
-    let word = words.word(0);
+fn bad_type<'a>(
+    words: &Words<'_, 'a>,
+    around: &Around<'a>,
+    found: Option<(&Declared<'a>, usize)>,
+) -> Cause<'a> {
     if let Some((item, behind)) = found {
         if !item.mark.is_empty() {
-            return Cause::new(
-                words.place(behind),
-                [
-                    item.name,
-                    " is of the subtype ",
-                    item.mark,
-                    ", which doesn't fit here (8.6)",
-                    "",
-                    "",
-                ],
-            );
+            let said = "{0} is of the subtype {1}, which doesn't fit here (8.6)";
+            return Cause::new(words.place(behind), said, [item.name, item.mark, ""]);
         }
     }
-    if is_literal(word) {
-        return Cause::of(at, word, " is an Integer, which doesn't fit here (8.6)");
+    match first_of(&OTHER_TYPES, words, around) {
+        Some(cause) => cause,
+        None => told(words, around, OTHER_TYPE),
     }
-    if words.is(0, "True") || words.is(0, "False") {
-        return Cause::of(at, word, " is Boolean, which doesn't fit here (8.6)");
+}
+
+// The constant that a text declares at a word, if it does.
+fn constant_at<'k, 'a>(
+    words: &Words<'_, 'a>,
+    around: &Around<'a>,
+    known: &'k Known<'a>,
+) -> Option<&'k Declared<'a>> {
+    match known.declared_at(around.unit, words.place(0)) {
+        Some(item) if item.sort == Sort::Constant => Some(item),
+        _ => None,
     }
-    if library::home_of(word).is_some() {
-        return Cause::of(
-            at,
-            word,
-            " isn't of the type, or hasn't the arguments, that are wanted (8.6)",
-        );
-    }
-    Cause::around(
-        at,
-        "what begins with ",
-        word,
-        " isn't of the type that is wanted here (8.6)",
-    )
 }
 
 /// Why a type, or a number of arguments, doesn't fit at a word.
-pub fn mismatch<'a>(
-    alloc: Global,
-    words: &Words<'_, 'a>,
-    around: &Around<'a>,
-    known: &Known<'a>,
-) -> Result<Cause<'a>, AllocError> {
-    if let Some(item) = known.declared_at(around.unit, words.place(0)) {
-        if item.sort == Sort::Constant {
-            return Ok(Cause::around(
-                words.place(0),
-                "the constant ",
-                item.name,
-                " needs a value, behind := (3.3.1)",
-            ));
-        }
+pub fn mismatch<'a>(words: &Words<'_, 'a>, around: &Around<'a>, known: &Known<'a>) -> Cause<'a> {
+    if let Some(item) = constant_at(words, around, known) {
+        return item.cause(
+            words.place(0),
+            "the constant {0} needs a value, behind := (3.3.1)",
+        );
     }
     let found = known.denoted(words, around);
-    if let Some((item, behind)) = &found {
-        if let Some(cause) = bad_count(alloc, words, item, *behind, known)? {
-            return Ok(cause);
+    if let Some((item, behind)) = found {
+        if let Some(cause) = bad_count(words, item, behind, known) {
+            return cause;
         }
     }
-    if let Some(cause) = before(words, around) {
-        return Ok(cause);
+    match first_of(&BEFORE, words, around) {
+        Some(cause) => cause,
+        None => bad_type(words, around, found),
     }
-    Ok(bad_type(words, found))
 }

@@ -1,42 +1,85 @@
 //! Names that nothing is declared by.
 
 use crate::around::Around;
+use crate::cases::{Case, Within, first_of};
 use crate::cause::Cause;
-use crate::known::{Known, Names, near_or_all};
+use crate::known::{Group, Known};
 use crate::library;
+use crate::names::is_body;
 use crate::words::Words;
 use rv_near::nearest;
 use std::alloc::{AllocError, Global};
 
+// What is said of an attribute, and of a body that has no declaration.
+const CASES: [Case; 3] = [
+    Case {
+        within: Within::Anywhere,
+        words: "' ^_",
+        said: "{0} is no attribute here; First and Last are (3.5)",
+    },
+    Case {
+        within: Within::Anywhere,
+        words: "package body ^_",
+        said: "this is the body of {0}; the package is {4}",
+    },
+    Case {
+        within: Within::Anywhere,
+        words: "body ^_",
+        said: "nothing named {0} is declared that this is the body of (3.11.1)",
+    },
+];
+
+// A part of a name that isn't there: how many words behind it stands, what it would be a part of, and which parts there are.
+#[derive(Clone, Copy)]
+struct Part<'a> {
+    behind: usize,
+    whole: &'a str,
+    group: Group<'a>,
+}
+
 // That a part isn't there, with what there is.
 fn no_part<'a>(
     alloc: Global,
-    at: usize,
-    prefix: &'a str,
-    part: &'a str,
-    names: Names<'a>,
-) -> Result<Cause<'a>, AllocError> {
-    if names.is_empty() {
-        return Ok(Cause::new(at, [prefix, " has no ", part, "", "", ""]));
-    }
-    let there = near_or_all(alloc, part, names)?;
-    Ok(Cause::new(at, [prefix, " has no ", part, "; it has ", "", ""]).with_names(there))
-}
-
-// Which part of a name behind a unit isn't there.
-fn of_unit<'a>(
-    alloc: Global,
     words: &Words<'_, 'a>,
+    part: Part<'a>,
     known: &Known<'a>,
 ) -> Result<Cause<'a>, AllocError> {
-    let unit = words.word(0);
+    let word = words.word(part.behind);
+    let near = known.near(alloc, word, part.group)?;
+    let place = words.place(part.behind);
+    let cause = Cause::new(place, "{0} has no {1}", [part.whole, word, ""]);
+    Ok(cause.with_names("; it has ", near, part.group))
+}
+
+// Which part of a name with points isn't there, where its first word is known.
+fn part_of<'a>(words: &Words<'_, 'a>, around: &Around<'a>, known: &Known<'a>) -> Option<Part<'a>> {
+    let first = words.word(0);
+    let item = known.meaning(first, around)?;
+    if !known.has_unit(first) {
+        return Some(Part {
+            behind: 2,
+            whole: first,
+            group: Group::Members(item.unit, item.operations_home()),
+        });
+    }
     let part = words.word(2);
-    let Some(object) = known.of_package(unit, part) else {
-        let names = known.parts(alloc, unit, false)?;
-        return no_part(alloc, words.place(2), unit, part, names);
-    };
-    let names = known.members(alloc, unit, object.operations_home(), false)?;
-    no_part(alloc, words.place(4), part, words.word(4), names)
+    match known.find(Group::Package(first), part) {
+        Some(object) => Some(Part {
+            behind: 4,
+            whole: part,
+            group: Group::Operations(first, object.operations_home()),
+        }),
+        None => Some(Part {
+            behind: 2,
+            whole: first,
+            group: Group::Objects(first),
+        }),
+    }
+}
+
+// Whether a library package, or the beginning of its name, stands here.
+fn is_library(words: &Words<'_, '_>) -> bool {
+    words.fit("^Ada|Standard") || library::ends_with(words.word(0)).is_some()
 }
 
 // Which part of a name with points isn't there.
@@ -46,40 +89,35 @@ fn dotted<'a>(
     around: &Around<'a>,
     known: &Known<'a>,
 ) -> Result<Cause<'a>, AllocError> {
-    let first = words.word(0);
-    let part = words.word(2);
-    if let Some(item) = known.meaning(first, around) {
-        if !known.has_unit(first) {
-            let names = known.members(alloc, item.unit, item.operations_home(), true)?;
-            return no_part(alloc, words.place(2), first, part, names);
-        }
-        return of_unit(alloc, words, known);
+    if let Some(part) = part_of(words, around, known) {
+        return no_part(alloc, words, part, known);
     }
-    if library::ends_with(first).is_some() || words.is(0, "Ada") || words.is(0, "Standard") {
-        return Ok(Cause::new(
-            words.place(2),
-            [first, " has no ", part, " that is known here", "", ""],
-        ));
+    if is_library(words) {
+        let said = "{0} has no {1} that is known here";
+        return Ok(Cause::new(words.place(2), said, [words.word(0), words.word(2), ""]));
     }
     simple(alloc, words, around, known)
 }
 
-// The name of a list or a predefined one that is nearest to a word.
-fn near_name<'a>(
-    alloc: Global,
-    word: &str,
-    names: &Names<'a>,
-) -> Result<Option<&'a str>, AllocError> {
-    match nearest(alloc, word, names.as_slice())? {
-        Some(name) => Ok(Some(name)),
-        None => near_predefined(alloc, word),
+// The predefined name that is nearest to a word; empty where none is near.
+fn near_predefined(alloc: Global, word: &str) -> Result<&'static str, AllocError> {
+    match nearest(alloc, word, &library::NAMES)? {
+        Some(near) => Ok(near),
+        None => Ok(""),
     }
 }
 
-// The predefined name that is nearest to a word.
-fn near_predefined(alloc: Global, word: &str) -> Result<Option<&'static str>, AllocError> {
-    let names = library::all();
-    nearest(alloc, word, &names)
+// The name that is seen, or the predefined one, that is nearest to a word; empty where none is near.
+fn near_name<'a>(
+    alloc: Global,
+    word: &str,
+    around: &Around<'a>,
+    known: &Known<'a>,
+) -> Result<&'a str, AllocError> {
+    match known.near(alloc, word, Group::seen(around))? {
+        "" => near_predefined(alloc, word),
+        near => Ok(near),
+    }
 }
 
 // That nothing of a simple name is declared.
@@ -90,20 +128,14 @@ fn simple<'a>(
     known: &Known<'a>,
 ) -> Result<Cause<'a>, AllocError> {
     let word = words.word(0);
-    let names = known.seen(alloc, around)?;
-    let at = words.place(0);
-    match near_name(alloc, word, &names)? {
-        Some(near) => Ok(misspelt(at, word, near)),
-        None => Ok(Cause::around(at, "nothing named ", word, " is declared (8.3)")),
+    match near_name(alloc, word, around, known)? {
+        "" => Ok(words.cause(0, "nothing named {0} is declared (8.3)")),
+        near => Ok(Cause::new(
+            words.place(0),
+            "nothing named {0} is declared; {1} is",
+            [word, near, ""],
+        )),
     }
-}
-
-// That a word may be meant for a name that is near to it.
-fn misspelt<'a>(at: usize, word: &'a str, near: &'a str) -> Cause<'a> {
-    Cause::new(
-        at,
-        ["nothing named ", word, " is declared; ", near, " is", ""],
-    )
 }
 
 // That a context clause names no library unit.
@@ -115,90 +147,38 @@ fn in_context<'a>(
     let word = words.word(0);
     let at = words.place(0);
     if words.is(1, ".") {
-        return Ok(Cause::new(
-            at,
-            [
-                "this host has no library package ",
-                word,
-                ".",
-                words.word(2),
-                " (10.1.2)",
-                "",
-            ],
-        ));
+        let said = "this host has no library package {0}.{1} (10.1.2)";
+        return Ok(Cause::new(at, said, [word, words.word(2), ""]));
     }
-    let names = known.units(alloc)?;
-    match nearest(alloc, word, names.as_slice())? {
-        Some(near) => Ok(unloaded(at, word, near)),
-        None => Ok(Cause::around(at, "no unit ", word, " is loaded before this one (10.1.2)")),
+    match known.near(alloc, word, Group::Units)? {
+        "" => Ok(words.cause(0, "no unit {0} is loaded before this one (10.1.2)")),
+        near => Ok(Cause::new(at, "no unit {0} is loaded here; {1} is", [word, near, ""])),
     }
 }
 
-// That a unit isn't loaded, but one whose name is near.
-fn unloaded<'a>(at: usize, word: &'a str, near: &'a str) -> Cause<'a> {
-    Cause::new(at, ["no unit ", word, " is loaded here; ", near, " is", ""])
-}
-
-// That a body has no declaration.
-fn of_body<'a>(
-    alloc: Global,
-    words: &Words<'_, 'a>,
-    around: &Around<'a>,
-    known: &Known<'a>,
-) -> Result<Cause<'a>, AllocError> {
-    let word = words.word(0);
-    let at = words.place(0);
-    if words.was(2, "package") {
-        return Ok(Cause::new(
-            at,
-            [
-                "this is the body of ",
-                word,
-                "; the package is ",
-                around.unit,
-                "",
-                "",
-            ],
-        ));
-    }
-    if words.was(1, "body") {
-        return Ok(Cause::around(
-            at,
-            "nothing named ",
-            word,
-            " is declared that this is the body of (3.11.1)",
-        ));
-    }
-    let names = known.members(alloc, around.unit, around.home, false)?;
-    no_part(alloc, at, around.home, word, names)
-}
-
-// Whether the name of an operation's body stands here.
-pub(crate) fn is_operation_body(words: &Words<'_, '_>, around: &Around<'_>) -> bool {
-    let is_behind = words.was(1, "function") || words.was(1, "procedure") || words.was(1, "entry");
-    is_behind && around.is_body
-}
-
-/// Why a name denotes nothing at all.
+/// Why a name denotes nothing at all. Err where memory was refused.
 pub fn unknown<'a>(
     alloc: Global,
     words: &Words<'_, 'a>,
     around: &Around<'a>,
     known: &Known<'a>,
 ) -> Result<Cause<'a>, AllocError> {
-    let word = words.word(0);
-    let at = words.place(0);
-    if words.was(1, "'") {
-        return Ok(Cause::of(at, word, " is no attribute here; First and Last are (3.5)"));
+    if let Some(cause) = first_of(&CASES, words, around) {
+        return Ok(cause);
     }
-    if words.was(1, "body") || is_operation_body(words, around) {
-        return of_body(alloc, words, around, known);
+    if is_body(words, around) {
+        let operations = Part {
+            behind: 0,
+            whole: around.home,
+            group: Group::Operations(around.unit, around.home),
+        };
+        return no_part(alloc, words, operations, known);
     }
     if around.unit.is_empty() {
         return in_context(alloc, words, known);
     }
-    if around.is_in_head() && (words.was(1, "with") || words.was(1, ",")) {
-        return Ok(Cause::around(at, "the aspect ", word, " has no effect here (13.1.1)"));
+    if around.is_in_head && words.fit("with|, ^_") {
+        return Ok(words.cause(0, "the aspect {0} has no effect here (13.1.1)"));
     }
     if words.is(1, ".") {
         return dotted(alloc, words, around, known);

@@ -1,7 +1,8 @@
 //! The words of a unit text around a place.
 
+use crate::cause::Cause;
 use rv_lex::token::Token;
-use rv_text::is_same_name;
+use rv_text::{is_identifier, is_same_name};
 
 /// The words of a unit text, seen from one of them.
 #[derive(Clone, Copy)]
@@ -19,6 +20,30 @@ fn index_from(tokens: &[Token<'_>], place: usize) -> usize {
         }
     }
     tokens.len()
+}
+
+/// Whether a word is digits, plain or based.
+pub fn is_literal(word: &str) -> bool {
+    match word.as_bytes() {
+        [first, ..] => first.is_ascii_digit(),
+        [] => false,
+    }
+}
+
+/// Whether a word is one of a pattern's, between which `|` stands.
+pub fn is_among(word: &str, pattern: &str) -> bool {
+    for one in pattern.split('|') {
+        let fits = match one {
+            "_" => true,
+            "NAME" => is_identifier(word),
+            "NUMBER" => is_literal(word),
+            _ => is_same_name(one, word),
+        };
+        if fits {
+            return true;
+        }
+    }
+    false
 }
 
 impl<'t, 'a> Words<'t, 'a> {
@@ -45,12 +70,9 @@ impl<'t, 'a> Words<'t, 'a> {
 
     /// The word that stands so many before, from 1; empty where the text begins behind that.
     pub fn back(&self, count: usize) -> &'a str {
-        let Some(index) = self.here.checked_sub(count) else {
-            return "";
-        };
-        match self.tokens.get(index) {
-            Some(token) => token.text,
-            None => "",
+        match self.tokens.get(self.here.wrapping_sub(count)) {
+            Some(token) if count <= self.here => token.text,
+            _ => "",
         }
     }
 
@@ -65,12 +87,9 @@ impl<'t, 'a> Words<'t, 'a> {
         }
     }
 
-    /// The place of the word that stands so many before, from 1; 0 where the text begins behind that.
-    pub fn place_back(&self, count: usize) -> usize {
-        let Some(index) = self.here.checked_sub(count) else {
-            return 0;
-        };
-        match self.tokens.get(index) {
+    /// The place of the word that stands before; 0 where the text begins here.
+    pub fn place_before(&self) -> usize {
+        match self.tokens.get(self.here.wrapping_sub(1)) {
             Some(token) => token.place,
             None => 0,
         }
@@ -95,5 +114,29 @@ impl<'t, 'a> Words<'t, 'a> {
     /// Whether so many words before, from 1, stands this one.
     pub fn was(&self, count: usize, word: &str) -> bool {
         is_same_name(self.back(count), word)
+    }
+
+    /// Whether the words around are those of a pattern, with blanks between them, in which `^` stands before this word. Its
+    /// words are as `is|begin`, either of these, `NAME`, an identifier, `NUMBER`, digits, and `_`, any or none.
+    pub fn fit(&self, pattern: &str) -> bool {
+        let Some((before, behind)) = pattern.split_once('^') else {
+            return false;
+        };
+        for (count, word) in behind.split(' ').enumerate() {
+            if !is_among(self.word(count), word) {
+                return false;
+            }
+        }
+        for (count, word) in before.rsplit(' ').enumerate() {
+            if count > 0 && !is_among(self.back(count), word) {
+                return false;
+            }
+        }
+        true
+    }
+
+    /// What is said of the word that stands so many behind, from 0.
+    pub fn cause(&self, count: usize, said: &'static str) -> Cause<'a> {
+        Cause::of(self.place(count), said, self.word(count))
     }
 }

@@ -5,6 +5,7 @@ ghost use Rattle.std.specs.Prelude.{◌+◌, ◌≤◌, ◌^◌, length};
 use crate::excerpt::Excerpt;
 use crate::spot::{Spot, spot_of};
 use rv_cause::cause::Cause;
+use rv_cause::known::Known;
 use rv_text::Section;
 use std::alloc::{AllocError, Global};
 use std::fmt;
@@ -17,21 +18,32 @@ pub struct Explanation<'a> {
     sentence: String,
 }
 
-/// What is said of a cause, whose place counts in a line.
+// What is said of a cause at a place, where this is known.
+fn at_spot<'a>(
+    alloc: Global,
+    spot: Spot<'a>,
+    cause: &Cause<'_>,
+    known: &Known<'_>,
+) -> Result<Explanation<'a>, AllocError> {
+    Ok(Explanation {
+        excerpt: Some(Excerpt::new(spot)),
+        sentence: cause.sentence(alloc, known)?,
+    })
+}
+
+/// What is said of a cause, whose place counts in a line, where this is known.
 pub(crate) fn of_line<'a>(
     alloc: Global,
     spot: &Spot<'a>,
     cause: &Cause<'_>,
+    known: &Known<'_>,
 ) -> Result<Explanation<'a>, AllocError> {
     let spot = Spot {
         number: spot.number,
         line: spot.line,
         offset: cause.at,
     };
-    Ok(Explanation {
-        excerpt: Some(Excerpt::new(spot)),
-        sentence: cause.to_string(alloc)?,
-    })
+    at_spot(alloc, spot, cause, known)
 }
 
 /// The same of one whose place counts in a section's text, without carriage returns before line feeds.
@@ -39,13 +51,11 @@ pub(crate) fn of_section<'a>(
     alloc: Global,
     section: &Section<'a>,
     cause: &Cause<'_>,
+    known: &Known<'_>,
 ) -> Result<Explanation<'a>, AllocError>
     requires { section.now.line + length section.now.text.now ≤ 2 ^ 63 }
 {
-    Ok(Explanation {
-        excerpt: Some(Excerpt::new(spot_of(section, cause.at))),
-        sentence: cause.to_string(alloc)?,
-    })
+    at_spot(alloc, spot_of(section, cause.at), cause, known)
 }
 
 /// The same of one without a place.

@@ -8,6 +8,7 @@ use crate::spot::{Spot, line_spot};
 use crate::units::of_unit;
 use rv_access::ListFault;
 use rv_cause::cause::Cause;
+use rv_cause::known::Known;
 use rv_cause::line::Line;
 use rv_cause::{commands, lists, loaded, sections, settings, shapes, steps};
 use rv_fault::{ScriptFault, What};
@@ -17,6 +18,14 @@ use rv_settings::SettingsFault;
 use rv_shape::fault::ShapeFault;
 use rv_text::Section;
 use std::alloc::{AllocError, Global};
+
+const TOO_LONG: &str = "a unit text has at most 262144 bytes; this one has more";
+
+const UNKNOWN_IN_A_DEVICE: &str =
+    "a device names what isn't loaded, or an operation that has parameters";
+
+const NO_ROOM_FOR_A_DEVICE: &str =
+    "the unit of a device doesn't fit: its name is taken, or there are too many";
 
 // The number of the line at fault among those of a list, from 1, if it has one.
 fn list_line(fault: ListFault) -> usize {
@@ -30,18 +39,19 @@ fn list_line(fault: ListFault) -> usize {
 }
 
 // The cause of a fault of a line, whose first word of the list has a number.
-fn cause_of_list<'a>(words: &Line<'a>, first: usize, fault: ListFault) -> Cause<'a> {
+fn cause_of_list<'a>(
+    words: &Line<'a>,
+    first: usize,
+    fault: ListFault,
+) -> Result<Cause<'a>, AllocError> {
     match fault {
-        ListFault::BadWord(_) => lists::bad_word(words, first),
-        ListFault::BadName(_) => lists::bad_name(words, first),
-        ListFault::BadWindow(_) => lists::bad_window(words, first),
+        ListFault::BadWord(_) => Ok(lists::bad_word(words, first)),
+        ListFault::BadName(_) => Ok(lists::bad_name(words, first)),
+        ListFault::BadWindow(_) => Ok(lists::bad_window(words, first)),
         ListFault::TooMany(_) => {
-            Cause::plain(
-                words.at(0),
-                "this is the 513th line of the list; 512 are the most",
-            )
+            Ok(words.cause(0, "this is the 513th line of the list; 512 are the most"))
         }
-        ListFault::NoMemory => Cause::plain(0, "memory was refused"),
+        ListFault::NoMemory => Ok(Cause::plain(0, "memory was refused")),
     }
 }
 
@@ -72,39 +82,53 @@ fn of_list<'a>(
     let Some(spot) = line_spot(script, number) else {
         return of_script(alloc, "this is no list");
     };
-    let words = Line::of(alloc, spot.line)?;
+    let words = Line::of(alloc, spot.line, 0)?;
     let first = if is_section { 0 } else { first_of_step(&words) };
-    of_line(alloc, &spot, &cause_of_list(&words, first, fault))
+    let cause = cause_of_list(&words, first, fault)?;
+    of_line(alloc, &spot, &cause, &Known::new(alloc))
 }
 
-// What is said of a step that names what isn't loaded, or of settings whose device does.
+// What is said of a step that names what isn't loaded.
 fn of_unknown<'a>(
     alloc: Global,
     script: &'a str,
     line: usize,
     spot: &Spot<'a>,
 ) -> Result<Explanation<'a>, AllocError> {
-    if opening_of(spot.line).is_some() {
-        let said = "a device names what isn't loaded, or an operation that has parameters";
-        return of_line(alloc, spot, &Cause::plain(0, said));
-    }
-    let words = Line::of(alloc, spot.line)?;
+    let words = Line::of(alloc, spot.line, 0)?;
     let texts = texts_before(alloc, script, line)?;
     let known = known_before(alloc, script, line, texts.as_slice())?;
-    of_line(alloc, spot, &loaded::unknown_name(alloc, &words, &known)?)
+    let cause = loaded::unknown_name(alloc, &words, &known)?;
+    of_line(alloc, spot, &cause, &known)
 }
 
-// What is said of a line that is no step or no command.
-fn of_step<'a>(
+// The cause of a line that is no step or no command.
+fn cause_of_step<'a>(
     alloc: Global,
-    script: &'a str,
+    script: &str,
     line: usize,
-    spot: &Spot<'a>,
-) -> Result<Explanation<'a>, AllocError> {
-    let words = Line::of(alloc, spot.line)?;
+    text: &'a str,
+) -> Result<Cause<'a>, AllocError> {
+    let words = Line::of(alloc, text, 0)?;
     match opening_before(script, line) {
-        Some(Opening::Run) => of_line(alloc, spot, &commands::bad_command(&words)),
-        _ => of_line(alloc, spot, &steps::bad_step(&words)),
+        Some(Opening::Run) => Ok(commands::bad_command(&words)),
+        _ => Ok(steps::bad_step(&words)),
+    }
+}
+
+// The cause of a fault of a line of this text.
+fn cause_of_line<'a>(
+    alloc: Global,
+    script: &str,
+    line: usize,
+    text: &'a str,
+    what: What,
+) -> Result<Cause<'a>, AllocError> {
+    match what {
+        What::BadSection => sections::bad_section(alloc, text),
+        What::UnknownName => Ok(Cause::plain(0, UNKNOWN_IN_A_DEVICE)),
+        What::TooLong => Ok(Cause::plain(0, TOO_LONG)),
+        _ => cause_of_step(alloc, script, line, text),
     }
 }
 
@@ -118,16 +142,11 @@ fn of_spot<'a>(
     let Some(spot) = line_spot(script, line) else {
         return of_script(alloc, "the script has no such line");
     };
-    match what {
-        What::BadSection => of_line(alloc, &spot, &sections::bad_section(alloc, spot.line)?),
-        What::UnknownName => of_unknown(alloc, script, line, &spot),
-        What::TooLong => of_line(
-            alloc,
-            &spot,
-            &Cause::plain(0, "a unit text has at most 262144 bytes; this one has more"),
-        ),
-        _ => of_step(alloc, script, line, &spot),
+    if what == What::UnknownName && opening_of(spot.line).is_none() {
+        return of_unknown(alloc, script, line, &spot);
     }
+    let cause = cause_of_line(alloc, script, line, spot.line, what)?;
+    of_line(alloc, &spot, &cause, &Known::new(alloc))
 }
 
 // The cause of a fault of settings.
@@ -138,8 +157,12 @@ fn cause_of_settings<'a>(
 ) -> Result<Cause<'a>, AllocError> {
     match fault {
         SettingsFault::NotToml => Ok(settings::not_toml(alloc, text)),
-        SettingsFault::UnknownKey => settings::unknown_key(alloc, text),
-        SettingsFault::BadValue => settings::bad_value(alloc, text),
+        SettingsFault::UnknownKey => {
+            settings::unknown_key(alloc, settings::entries_of(alloc, text)?.as_slice())
+        }
+        SettingsFault::BadValue => {
+            Ok(settings::bad_value(settings::entries_of(alloc, text)?.as_slice()))
+        }
         SettingsFault::NoMemory => Ok(Cause::plain(0, "memory was refused")),
     }
 }
@@ -154,28 +177,36 @@ fn of_settings<'a>(
 {
     let text = unit_text(alloc, section.text)?;
     let cause = cause_of_settings(alloc, text.as_str(), fault)?;
-    of_section(alloc, section, &cause)
+    of_section(alloc, section, &cause, &Known::new(alloc))
 }
 
-// The cause of a fault of the text of a shape, in a script.
+// Which name of a shape in a script is taken.
+fn name_taken<'a>(
+    alloc: Global,
+    script: &str,
+    line: usize,
+    lines: &[Line<'a>],
+) -> Result<Cause<'a>, AllocError> {
+    let texts = texts_before(alloc, script, line)?;
+    let known = known_before(alloc, script, line, texts.as_slice())?;
+    Ok(shapes::name_taken(lines, &known))
+}
+
+// The cause of a fault of a shape of these lines, in a script.
 fn cause_of_shape<'a>(
     alloc: Global,
     script: &str,
-    section: &Section<'_>,
-    text: &'a str,
+    line: usize,
+    lines: &[Line<'a>],
     fault: ShapeFault,
 ) -> Result<Cause<'a>, AllocError> {
     match fault {
-        ShapeFault::BadText => shapes::bad_text(alloc, text),
-        ShapeFault::NameTaken => {
-            let texts = texts_before(alloc, script, section.line)?;
-            let known = known_before(alloc, script, section.line, texts.as_slice())?;
-            shapes::name_taken(alloc, text, &known)
-        }
-        ShapeFault::TooMany => shapes::too_many(alloc, text),
-        ShapeFault::LineTaken => shapes::line_taken(alloc, text),
-        ShapeFault::CeilingTooLow => shapes::ceiling_too_low(alloc, text),
-        ShapeFault::BadRange => shapes::bad_range(alloc, text),
+        ShapeFault::BadText => Ok(shapes::bad_text(lines)),
+        ShapeFault::NameTaken => name_taken(alloc, script, line, lines),
+        ShapeFault::TooMany => Ok(shapes::too_many(lines)),
+        ShapeFault::LineTaken => Ok(shapes::line_taken(lines)),
+        ShapeFault::CeilingTooLow => Ok(shapes::ceiling_too_low(lines)),
+        ShapeFault::BadRange => Ok(shapes::bad_range(lines)),
         ShapeFault::NoMemory => Ok(Cause::plain(0, "memory was refused")),
     }
 }
@@ -189,19 +220,19 @@ fn of_shape<'a>(
 ) -> Result<Explanation<'a>, AllocError>
     requires { section.now.line + length section.now.text.now ≤ 2 ^ 63 }
 {
+    let known = Known::new(alloc);
     if opening_of(section.opening) == Some(Opening::Settings) {
         return of_section(
             alloc,
             section,
-            &Cause::plain(
-                0,
-                "the unit of a device doesn't fit: its name is taken, or there are too many",
-            ),
+            &Cause::plain(0, NO_ROOM_FOR_A_DEVICE),
+            &known,
         );
     }
     let text = unit_text(alloc, section.text)?;
-    let cause = cause_of_shape(alloc, script, section, text.as_str(), fault)?;
-    of_section(alloc, section, &cause)
+    let lines = shapes::lines_of(alloc, text.as_str())?;
+    let cause = cause_of_shape(alloc, script, section.line, lines.as_slice(), fault)?;
+    of_section(alloc, section, &cause, &known)
 }
 
 // What is said of a fault of a section's text.

@@ -6,6 +6,7 @@ use crate::explanation::{Explanation, of_section};
 use crate::places::place_of;
 use crate::sections::{known_before, texts_before};
 use rv_cause::around::Around;
+use rv_cause::cases::told;
 use rv_cause::cause::Cause;
 use rv_cause::known::Known;
 use rv_cause::words::Words;
@@ -34,13 +35,15 @@ struct Seen<'t, 'a, 'k> {
 
 const NO_MEMORY: &str = "memory was refused";
 
+const NOT_ASCII: &str = "characters that aren't ASCII stand in comments only (2.1)";
+
 // The cause of a fault of words.
 fn of_words(text: &str, fault: LexFault) -> Cause<'_> {
     match fault {
         LexFault::BadCharacter(at) => lexical::bad_character(text, at),
         LexFault::BadLiteral(at) => lexical::bad_literal(text, at),
         LexFault::BadIdentifier(at) => lexical::bad_identifier(text, at),
-        LexFault::NotAscii(at) => lexical::not_ascii(at),
+        LexFault::NotAscii(at) => Cause::plain(at, NOT_ASCII),
         LexFault::NoMemory => Cause::plain(0, NO_MEMORY),
     }
 }
@@ -55,45 +58,45 @@ fn of_grammar<'a>(text: &'a str, tokens: &[Token<'a>], fault: ParseFault) -> Cau
     }
 }
 
-// The cause of a broken restriction.
-fn of_restriction<'a>(seen: &Seen<'_, 'a, '_>, restriction: Restriction) -> Cause<'a> {
-    let words = &seen.words;
-    let at = words.place(0);
+// What is said of a word that breaks a restriction.
+fn said_of_restriction(restriction: Restriction) -> &'static str {
     match restriction {
         Restriction::NoAbortStatements => {
-            Cause::plain(
-                at,
-                "there is no abort statement in the profile Ravenscar (D.7)",
-            )
+            "there is no abort statement in the profile Ravenscar (D.7)"
         }
         Restriction::NoRequeueStatements => {
-            Cause::plain(
-                at,
-                "there is no requeue statement in the profile Ravenscar (D.7)",
-            )
+            "there is no requeue statement in the profile Ravenscar (D.7)"
         }
         Restriction::NoSelectStatements => {
-            Cause::plain(
-                at,
-                "there is no select statement in the profile Ravenscar (D.7)",
-            )
+            "there is no select statement in the profile Ravenscar (D.7)"
         }
-        Restriction::NoRelativeDelay => {
-            Cause::plain(at, "a task delays until a time: write delay until (D.7)")
+        Restriction::NoRelativeDelay => "a task delays until a time: write delay until (D.7)",
+        Restriction::NoLocalProtectedObjects => {
+            "protected objects are declared in the package or its body, not in a block (D.7)"
         }
-        Restriction::NoLocalProtectedObjects => Cause::plain(
-            at,
-            "protected objects are declared in the package or its body, not in a block (D.7)",
-        ),
-        Restriction::NoTaskHierarchy => Cause::plain(
-            at,
-            "tasks are declared in the package or its body, not in a block (D.7)",
-        ),
-        Restriction::MaxProtectedEntries => restrictions::second_entry(words),
-        Restriction::MaxTaskEntries => restrictions::task_entry(words),
-        Restriction::SimpleBarriers => restrictions::barrier(words, &seen.around, seen.known),
-        Restriction::NoDynamicPriorities => restrictions::dynamic_priority(words),
-        Restriction::NoDependence => restrictions::library_unit(words),
+        Restriction::NoTaskHierarchy => {
+            "tasks are declared in the package or its body, not in a block (D.7)"
+        }
+        Restriction::MaxProtectedEntries => {
+            "{1} is a second entry of its protected unit; one is the most (D.7)"
+        }
+        Restriction::MaxTaskEntries => "{1} is an entry of a task; tasks have none (D.7)",
+        Restriction::SimpleBarriers => restrictions::BARRIER,
+        Restriction::NoDynamicPriorities => restrictions::PRIORITY,
+        Restriction::NoDependence => restrictions::LIBRARY_UNIT,
+    }
+}
+
+// The cause of a broken restriction.
+fn of_restriction<'a>(seen: &Seen<'_, 'a, '_>, restriction: Restriction) -> Cause<'a> {
+    match restriction {
+        Restriction::SimpleBarriers => {
+            restrictions::barrier(&seen.words, &seen.around, seen.known)
+        }
+        Restriction::NoDynamicPriorities => {
+            restrictions::dynamic_priority(&seen.words, &seen.around)
+        }
+        _ => told(&seen.words, &seen.around, said_of_restriction(restriction)),
     }
 }
 
@@ -117,14 +120,10 @@ fn of_names<'a>(
 }
 
 // The cause of a fault of types.
-fn of_types<'a>(
-    alloc: Global,
-    seen: &Seen<'_, 'a, '_>,
-    fault: TypeFault,
-) -> Result<Cause<'a>, AllocError> {
+fn of_types<'a>(seen: &Seen<'_, 'a, '_>, fault: TypeFault) -> Result<Cause<'a>, AllocError> {
     let words = &seen.words;
     match fault {
-        TypeFault::Mismatch(_) => types::mismatch(alloc, words, &seen.around, seen.known),
+        TypeFault::Mismatch(_) => Ok(types::mismatch(words, &seen.around, seen.known)),
         TypeFault::NotStatic(_) => Ok(types::not_static(words)),
         TypeFault::ConstantWritten(_) => {
             Ok(types::constant_written(words, &seen.around, seen.known))
@@ -136,36 +135,33 @@ fn of_types<'a>(
     }
 }
 
+// What is said of a fault of a unit text's shape.
+fn said_of_shape(fault: ShapeFault) -> &'static str {
+    match fault {
+        ShapeFault::NameTaken => "{0} stands twice",
+        ShapeFault::TooMany => {
+            "with this unit there would be more units, tasks, objects or parts than fit"
+        }
+        ShapeFault::LineTaken => "an interrupt line of this unit has a handler already (C.3.1)",
+        ShapeFault::CeilingTooLow => {
+            "a protected unit with a handler has a priority of 31 .. 40 (C.3.1)"
+        }
+        ShapeFault::BadRange => "a priority of this unit is outside 1 .. 40 (D.1)",
+        ShapeFault::BadText => "this unit has no shape",
+        ShapeFault::NoMemory => NO_MEMORY,
+    }
+}
+
 // The cause of a fault of a unit text's shape, seen from its package; known is what stands before.
 fn of_shape<'a>(seen: &Seen<'_, 'a, '_>, fault: ShapeFault) -> Cause<'a> {
-    let words = &seen.words;
-    let at = words.place(1);
-    match fault {
-        ShapeFault::NameTaken => match shapes::unit_name(at, words.word(1), seen.known) {
-            Some(cause) => cause,
-            None => Cause::of(at, words.word(1), " stands twice"),
-        },
-        ShapeFault::TooMany => Cause::plain(
-            at,
-            "with this unit there would be more units, tasks, objects or parts than fit",
-        ),
-        ShapeFault::LineTaken => {
-            Cause::plain(
-                at,
-                "an interrupt line of this unit has a handler already (C.3.1)",
-            )
+    let at = seen.words.place(1);
+    let name = seen.words.word(1);
+    if fault == ShapeFault::NameTaken {
+        if let Some(cause) = shapes::unit_name(at, name, seen.known) {
+            return cause;
         }
-        ShapeFault::CeilingTooLow => Cause::plain(
-            at,
-            "a protected unit with a handler has a priority of 31 .. 40 (C.3.1)",
-        ),
-        ShapeFault::BadRange => Cause::plain(
-            at,
-            "a priority of this unit is outside 1 .. 40 (D.1)",
-        ),
-        ShapeFault::BadText => Cause::plain(at, "this unit has no shape"),
-        ShapeFault::NoMemory => Cause::plain(at, NO_MEMORY),
     }
+    Cause::of(at, said_of_shape(fault), name)
 }
 
 // A unit text seen from a place.
@@ -207,7 +203,7 @@ fn cause_of<'a>(
         UnitFault::Parse(fault) => Ok(of_grammar(text, tokens, fault)),
         UnitFault::Restriction(violation) => Ok(of_restriction(&seen, violation.restriction)),
         UnitFault::Names(fault) => of_names(alloc, &seen, fault),
-        UnitFault::Types(fault) => of_types(alloc, &seen, fault),
+        UnitFault::Types(fault) => of_types(&seen, fault),
         UnitFault::Shape(fault) => Ok(of_shape(&seen, fault)),
         UnitFault::NoMemory => Ok(Cause::plain(0, NO_MEMORY)),
     }
@@ -219,25 +215,6 @@ fn knows_itself(fault: UnitFault) -> bool {
         UnitFault::Shape(_) => false,
         _ => true,
     }
-}
-
-// The cause of a fault of the unit text of a section that opens at a line of a script.
-fn cause_in<'a>(
-    alloc: Global,
-    script: &'a str,
-    line: usize,
-    text: &'a str,
-    fault: UnitFault,
-) -> Result<Cause<'a>, AllocError> {
-    let Ok(own) = tokens(alloc, text) else {
-        return Ok(without_words(text, fault));
-    };
-    let texts = texts_before(alloc, script, line)?;
-    let mut known = known_before(alloc, script, line, texts.as_slice())?;
-    if knows_itself(fault) {
-        known.add_text(own.as_slice())?;
-    }
-    cause_of(alloc, text, own.as_slice(), &known, fault)
 }
 
 // The cause of a fault of a text that has no words.
@@ -258,6 +235,15 @@ pub(crate) fn of_unit<'a>(
     requires { section.now.line + length section.now.text.now ≤ 2 ^ 63 }
 {
     let text = unit_text(alloc, section.text)?;
-    let cause = cause_in(alloc, script, section.line, text.as_str(), fault)?;
-    of_section(alloc, section, &cause)
+    let Ok(own) = tokens(alloc, text.as_str()) else {
+        let cause = without_words(text.as_str(), fault);
+        return of_section(alloc, section, &cause, &Known::new(alloc));
+    };
+    let texts = texts_before(alloc, script, section.line)?;
+    let mut known = known_before(alloc, script, section.line, texts.as_slice())?;
+    if knows_itself(fault) {
+        known.add_text(own.as_slice())?;
+    }
+    let cause = cause_of(alloc, text.as_str(), own.as_slice(), &known, fault)?;
+    of_section(alloc, section, &cause, &known)
 }

@@ -1,7 +1,7 @@
 use Rattle.std.proofs.Common.{length}
 use denote.Text.{Utf8}
 use denote.Shadow.{shadow}
-use Rattle.rv_cause.proofs.shapes.rows_of.Given as goal
+use Rattle.rv_cause.proofs.shapes.lines_of.Given as goal
 
 abbrev pub invariant-each : goal.invariant-each
 invariant-each l = shadow (Utf8 l.rest)
