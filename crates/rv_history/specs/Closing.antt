@@ -4,7 +4,7 @@ use Rattle.rv_event.specs.declared.entry.Entry.{Entry}
 use Rattle.rv_event.specs.declared.entry.Entry.TheVariants.{Asked, Load, ListChange}
 use Rattle.rv_history.specs.Due.{goes_on}
 
--- the end of a body, a resume or a quit
+-- the end of a body, a settle, a resume or a quit
 abbrev pub closes : Entry → Bool
 closes (Asked actor request word) = goes_on request
 closes Load = false

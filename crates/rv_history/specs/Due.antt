@@ -4,7 +4,7 @@ use Rattle.std.specs.Prelude.{ℤ, pos, int_le}
 use Rattle.rv_event.specs.Recorded.{recorded}
 use Rattle.rv_shape.specs.Catalogue.{OperationNumber, Target, Nowhere, OnProtected, OnSuspension, target, place}
 use Rattle.rv_shape.specs.Catalogue.{handler, is_function}
-use Rattle.rv_event.specs.Past.{innermost, queue, scalars, state, clock, halted, stance, until_then, released}
+use Rattle.rv_event.specs.Past.{innermost, queue, to_settle, scalars, state, clock, halted, stance, until_then, released}
 use Rattle.rv_event.specs.declared.entry.Stance.{Stance}
 use Rattle.rv_event.specs.declared.entry.Stance.TheVariants.{Free, InQueue, HandedOver, DroppedBy, WaitsOn}
 use Rattle.rv_event.specs.declared.entry.Stance.TheVariants.{WaitsUntil, Gone}
@@ -14,7 +14,7 @@ use Rattle.rv_shape.specs.declared.suspension.SuspensionOperation.TheVariants.{S
 use Rattle.rv_shape.specs.declared.suspension.SuspensionOperation.TheVariants.{SuspendUntilTrue}
 use Rattle.rv_event.specs.declared.entry.Entry.TheVariants.{Asked}
 use Rattle.rv_event.specs.declared.entry.Request.{Request}
-use Rattle.rv_event.specs.declared.entry.Request.TheVariants.{Call, Complete, Resume, DelayUntil, Clock, Fire, Quit}
+use Rattle.rv_event.specs.declared.entry.Request.TheVariants.{Call, Complete, Settle, Resume, DelayUntil, Clock, Fire, Quit}
 use Rattle.rv_event.specs.declared.entry.Request.TheVariants.{Tick, Halt}
 use Rattle.rv_event.specs.declared.entry.Rule.TheVariants as Rules
 use Rattle.rv_event.specs.declared.entry.Next.{Next}
@@ -99,7 +99,8 @@ next_of_queue h (call ∷ calls) =
     judged_head (granted h (subject h call.actor) (target h.shapes call.object call.operation))
     (decided h (subject h call.actor) (target h.shapes call.object call.operation)) call.actor
 
--- what becomes of the queue at the end of an exclusive body that leaves these scalars
+-- what becomes of the queue at the end of an exclusive body that leaves these scalars, or where the object that has
+-- them is settled
 abbrev pub after_end : History → ℕ → List ℤ → Next
 after_end h object values =
     if halted h.past then Nothing
@@ -116,6 +117,11 @@ end_of h values object (OnSuspension unit name wanted) = Misuse
 abbrev pub due_end : History → List ℤ → Option Body → Answer
 due_end h values None = Misuse
 due_end h values (Some b) = end_of h values b.object (target h.shapes b.object b.operation)
+
+-- the answer to a settle of the object that the end of this body left unsettled: one more caller is served (own)
+abbrev pub due_settle : History → Option Body → Answer
+due_settle h None = Misuse
+due_settle h (Some b) = Done (after_end h b.object (scalars h.shapes b.object h.past))
 
 -- an actor that waits: woken, with no scalars, where it is ready; on a halted host it can be no more
 abbrev pub or_waiting : History → Bool → Answer
@@ -146,6 +152,7 @@ abbrev pub table : History → ℕ → Request → Answer
 table h actor (Call object operation values) =
     due_call h actor (Call object operation values) object (target h.shapes object operation)
 table h actor (Complete values exit) = due_end h values (innermost h.shapes actor h.past)
+table h actor Settle = due_settle h (to_settle h.shapes actor h.past)
 table h actor Resume = due_resume h actor (stance actor h.past)
 table h actor (DelayUntil time) = due_delay h (holds_any h actor) (int_le time (pos (clock h.past)))
 table h actor Clock = Accepted (pos (clock h.past))
@@ -158,6 +165,7 @@ table h actor Halt = nothing_more
 abbrev pub goes_on : Request → Bool
 goes_on (Call object operation values) = false
 goes_on (Complete values exit) = true
+goes_on Settle = true
 goes_on Resume = true
 goes_on (DelayUntil time) = false
 goes_on Clock = false

@@ -1,10 +1,10 @@
 -- Who keeps whom out of an object (9.5.1), its barrier (9.5.2, 9.5.3) and its queue (D.7).
-use Rattle.std.specs.Prelude.{ℕ, Bool, true, false, ◌==◌, nat_lt, ◌&&◌, not, List, length, Some, None, Option, ℤ, pos}
+use Rattle.std.specs.Prelude.{ℕ, Bool, true, false, ◌==◌, nat_lt, ◌&&◌, ◌||◌, not, List, length, Some, None, Option, ℤ, pos}
 use Rattle.std.specs.Prelude.{int_le}
 use Rattle.std.specs.List.{list_any}
 use Rattle.rv_shape.specs.Shape.{Shape}
 use Rattle.rv_shape.specs.Catalogue.{UnitObject, place, target, shares, is_entry, numbered, barrier, operations_of}
-use Rattle.rv_event.specs.Past.{under_way, queue, scalars}
+use Rattle.rv_event.specs.Past.{under_way, queue, scalars, is_unsettled}
 use Rattle.rv_event.specs.declared.entry.Body.{Body}
 use Rattle.rv_shape.specs.declared.kind.Barrier.{Barrier}
 use Rattle.rv_shape.specs.declared.kind.Barrier.TheVariants.{AlwaysOpen, AlwaysClosed, Component}
@@ -16,9 +16,10 @@ abbrev pub conflicts : List Shape → ℕ → Bool → Body → Bool
 conflicts shapes object function body =
     (body.object == object) && not (function && shares (target shapes body.object body.operation))
 
--- somebody holds the object, and one of the two operations isn't a function (9.5.1)
+-- somebody holds the object, and one of the two operations isn't a function (9.5.1); or it is unsettled (own)
 abbrev pub excluded : History → ℕ → Bool → Bool
-excluded h object function = list_any (conflicts h.shapes object function) (under_way h.shapes h.past)
+excluded h object function =
+    list_any (conflicts h.shapes object function) (under_way h.shapes h.past) || is_unsettled h.shapes object h.past
 
 -- a component is True: its value is 1
 abbrev pub is_one : Option ℤ → Bool

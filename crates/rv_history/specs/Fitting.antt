@@ -13,7 +13,7 @@ use Rattle.rv_shape.specs.declared.kind.Kind.{Kind}
 use Rattle.rv_shape.specs.declared.kind.Kind.TheVariants.{Function, Procedure, Entry as EntryKind, Handler}
 use Rattle.rv_event.specs.declared.entry.Body.{Body}
 use Rattle.rv_event.specs.declared.entry.Request.{Request}
-use Rattle.rv_event.specs.declared.entry.Request.TheVariants.{Call, Complete, Resume, DelayUntil, Clock, Fire, Quit}
+use Rattle.rv_event.specs.declared.entry.Request.TheVariants.{Call, Complete, Settle, Resume, DelayUntil, Clock, Fire, Quit}
 use Rattle.rv_event.specs.declared.entry.Request.TheVariants.{Tick, Halt}
 use Rattle.rv_event.specs.declared.entry.Exit.{Exit}
 use Rattle.rv_event.specs.declared.entry.Exit.TheVariants.{Return}
@@ -79,12 +79,18 @@ in_body mode = false
 abbrev pub awaits : Mode → Bool
 awaits Modes.Idle = false
 awaits Modes.InBody = false
+awaits Modes.Settling = false
 awaits Modes.Queued = true
 awaits Modes.Handed = true
 awaits Modes.Dropped = true
 awaits Modes.Suspended = true
 awaits Modes.Delayed = true
 awaits Modes.Ended = false
+
+-- the actor has an object to settle
+abbrev pub is_settling : Mode → Bool
+is_settling Modes.Settling = true
+is_settling mode = false
 
 -- the actor is the operator
 abbrev pub is_operator : Who → Bool
@@ -145,6 +151,7 @@ fits_actor h actor (Call object operation values) =
     && call_fits (length (held h.shapes actor h.past)) values (target h.shapes object operation)
 fits_actor h actor (Complete values exit) =
     in_body (mode h.shapes actor h.past) && end_fits h.shapes values exit (innermost h.shapes actor h.past)
+fits_actor h actor Settle = is_settling (mode h.shapes actor h.past)
 fits_actor h actor Resume = awaits (mode h.shapes actor h.past)
 fits_actor h actor (DelayUntil time) = may_call (who h.shapes actor) (mode h.shapes actor h.past) && is_time time
 fits_actor h actor Clock = may_call (who h.shapes actor) (mode h.shapes actor h.past)

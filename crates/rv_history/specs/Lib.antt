@@ -13,6 +13,7 @@ pub mod Spelled
 pub mod Headline
 pub mod HandOver
 pub mod Orderly
+pub mod Settling
 pub mod Frame
 pub mod Suspension
 pub mod Closing

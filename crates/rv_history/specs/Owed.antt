@@ -2,13 +2,13 @@
 use Rattle.std.specs.Prelude.{ℕ, zero, suc, ◌+◌, ◌-◌, ◌≤◌, Bool, true, false, nat_lt, nat_le, if◌then◌else◌, List, length}
 use Rattle.rv_shape.specs.Shape.{Shape}
 use Rattle.rv_shape.specs.Catalogue.{all_tasks, first_task}
-use Rattle.rv_event.specs.Past.{stance, under_way, halted}
+use Rattle.rv_event.specs.Past.{stance, under_way, unsettled, halted}
 use Rattle.rv_event.specs.declared.entry.Stance.{Stance}
 use Rattle.rv_event.specs.declared.entry.Stance.TheVariants.{Free, InQueue, HandedOver, DroppedBy, WaitsOn}
 use Rattle.rv_event.specs.declared.entry.Stance.TheVariants.{WaitsUntil, Gone}
 use Rattle.rv_event.specs.declared.entry.Entry.{Entry}
 use Rattle.rv_event.specs.declared.entry.Request.{Request}
-use Rattle.rv_event.specs.declared.entry.Request.TheVariants.{Call, Complete, Resume, DelayUntil, Clock, Fire, Quit}
+use Rattle.rv_event.specs.declared.entry.Request.TheVariants.{Call, Complete, Settle, Resume, DelayUntil, Clock, Fire, Quit}
 use Rattle.rv_event.specs.declared.entry.Request.TheVariants.{Tick, Halt}
 use Rattle.rv_history.specs.History.{History}
 
@@ -46,10 +46,11 @@ abbrev pub halt_due : Bool → ℕ
 halt_due true = 0
 halt_due false = 1
 
--- all that is owed: open starts, what actors owe beside them, and the halt
+-- all that is owed: open starts, unsettled objects, what actors owe beside them, and the halt
 abbrev pub owed : List Shape → List Entry → ℕ
 owed shapes past =
-    length (under_way shapes past) + each (actors shapes) (dues past) + halt_due (halted past)
+    length (under_way shapes past) + length (unsettled shapes past) + each (actors shapes) (dues past)
+    + halt_due (halted past)
 
 -- the room for the entries, with what is then owed
 abbrev pub has_room : ℕ → List Shape → List Entry → Bool
@@ -63,10 +64,11 @@ room h = h.limits.capacity - (length h.past + owed h.shapes h.past)
 abbrev pub IsSolvent : History → Type 0
 IsSolvent h = length h.past + owed h.shapes h.past ≤ h.limits.capacity
 
--- the requests that pay for themselves: an end, a resume, a quit and the halt
+-- the requests that pay for themselves: an end, a settle, a resume, a quit and the halt
 abbrev pub is_paid : Request → Bool
 is_paid (Call object operation values) = false
 is_paid (Complete values exit) = true
+is_paid Settle = true
 is_paid Resume = true
 is_paid (DelayUntil time) = false
 is_paid Clock = false

@@ -9,14 +9,14 @@ use Rattle.rv_shape.specs.declared.kind.Parameter.{Parameter}
 use Rattle.rv_shape.specs.declared.kind.Barrier.TheVariants as Barriers
 use Rattle.rv_shape.specs.declared.kind.Kind.{Kind}
 use Rattle.rv_shape.specs.declared.kind.Kind.TheVariants.{Function, Procedure, Entry as EntryKind, Handler}
-use Rattle.rv_event.specs.declared.entry.Request.TheVariants.{Call, Complete, Resume, DelayUntil, Clock, Fire, Tick, Halt}
+use Rattle.rv_event.specs.declared.entry.Request.TheVariants.{Call, Complete, Settle, Resume, DelayUntil, Clock, Fire, Tick, Halt}
 use Rattle.rv_event.specs.declared.entry.Exit.TheVariants.{Return}
 use Rattle.rv_event.specs.declared.entry.Rule.TheVariants as Rules
 use Rattle.rv_event.specs.declared.entry.Next.TheVariants.{Nothing, HandedTo, Dropped}
 use Rattle.rv_event.specs.declared.entry.Answer.{Answer}
 use Rattle.rv_event.specs.declared.entry.Answer.TheVariants.{Started, Queued, Refused, Done, Suspended, Delayed}
-use Rattle.rv_event.specs.declared.entry.Answer.TheVariants.{Woken, Accepted, Halted, Full, Busy, Waiting, Unattached}
-use Rattle.rv_event.specs.declared.entry.Answer.TheVariants.{BadLine}
+use Rattle.rv_event.specs.declared.entry.Answer.TheVariants.{Woken, Accepted, Misuse, Halted, Full, Busy, Waiting}
+use Rattle.rv_event.specs.declared.entry.Answer.TheVariants.{Unattached, BadLine}
 use Rattle.rv_shape.specs.declared.object.Object.{Object}
 use Rattle.rv_shape.specs.declared.object.Object.TheVariants.{Protected, Suspension}
 use Rattle.rv_shape.specs.Objects.{OperationShape, TaskShape}
@@ -24,7 +24,7 @@ use Rattle.rv_shape.specs.Shape.{Shape}
 use Rattle.rv_history.specs.declared.command.Command.{Command}
 use Rattle.rv_history.specs.declared.command.Command.TheVariants.{Ask, Load, Change}
 use Rattle.rv_access.specs.declared.change.Change.TheVariants.{Whole, Append, Remove, Replace}
-use Rattle.rv_history.specs.Limits.{limits_of}
+use Rattle.rv_history.specs.Limits.{limits_of, limits_with}
 use Rattle.rv_history.specs.History.{History}
 use Rattle.rv_history.specs.Legal.{empty}
 use Rattle.rv_history.specs.Steps.{answers_to, history_after}
@@ -249,3 +249,27 @@ Delay = Gives (allow_all ∷ [])
     (Ask pilot (DelayUntil (pos 5)) ∷ resume pilot ∷ Ask operator (Tick (pos 5)) ∷ resume pilot
     ∷ Ask pilot (DelayUntil (pos 5)) ∷ Ask pilot Clock ∷ [])
     (Delayed ∷ Waiting ∷ ok ∷ Woken None ∷ ok ∷ Accepted (pos 5) ∷ [])
+
+abbrev pub settle : ℕ → Command
+settle actor = Ask actor Settle
+
+-- the commands, on a host whose queues have room for two, get these answers
+abbrev pub GivesWithTwo : List Command → List Answer → Type 0
+GivesWithTwo commands wanted =
+    answers_to (history_after (empty (limits_with 4096 2)) (loads ++ Change (Whole (allow_all ∷ [])) ∷ [])) commands ≡ wanted
+
+abbrev pub FirstDroppedSecondHandedOver : Type 0
+FirstDroppedSecondHandedOver = GivesWithTwo
+    (wait pilot ∷ wait low_task ∷ wait aux ∷ set aux (pos 1) ∷ Change (Append deny_wait)
+    ∷ ends aux (pos 1 ∷ pos 1 ∷ []) [] ∷ get aux ∷ resume pilot ∷ get pilot ∷ Change (Remove 2) ∷ settle aux
+    ∷ resume low_task ∷ ends low_task (pos 0 ∷ pos 1 ∷ []) [] ∷ [])
+    (Queued ∷ Queued ∷ Refused Rules.Queue 0 1 ∷ Started (pos 0 ∷ pos 0 ∷ []) ∷ ok ∷ Done (Dropped pilot 2) ∷ Misuse
+    ∷ Refused Rules.Grant 2 2 ∷ Busy ∷ ok ∷ Done (HandedTo low_task) ∷ Woken (Some (pos 1 ∷ pos 1 ∷ [])) ∷ Done Nothing
+    ∷ [])
+
+abbrev pub SettledAfterTheHalt : Type 0
+SettledAfterTheHalt = GivesWithTwo
+    (wait pilot ∷ wait low_task ∷ set aux (pos 1) ∷ Change (Append deny_wait) ∷ ends aux (pos 1 ∷ pos 1 ∷ []) []
+    ∷ Ask operator Halt ∷ settle aux ∷ settle aux ∷ resume low_task ∷ [])
+    (Queued ∷ Queued ∷ Started (pos 0 ∷ pos 0 ∷ []) ∷ ok ∷ Done (Dropped pilot 2) ∷ ok ∷ Done Nothing ∷ Misuse ∷ Halted
+    ∷ [])

@@ -1,12 +1,12 @@
 -- The six rules that a call may violate, and the first of them that it does (own; 9.5.1, D.3, D.7, D.10, H.5).
-use Rattle.std.specs.Prelude.{ℕ, ◌-◌, Bool, true, false, ◌==◌, nat_lt, ◌&&◌, not, if◌then◌else◌, List, [], ◌∷◌}
+use Rattle.std.specs.Prelude.{ℕ, ◌-◌, Bool, true, false, ◌==◌, nat_lt, ◌&&◌, ◌||◌, not, if◌then◌else◌, List, [], ◌∷◌}
 use Rattle.std.specs.Prelude.{length, Some, None, Option, is_some}
 use Rattle.std.specs.List.{list_any}
 use Rattle.rv_access.specs.Lines.{decides, grants}
 use Rattle.rv_shape.specs.Shape.{Shape}
 use Rattle.rv_shape.specs.Catalogue.{OperationNumber, Target, Nowhere, OnProtected, OnSuspension, target, handler}
 use Rattle.rv_shape.specs.Catalogue.{is_entry, dotted, suspension_operation_name}
-use Rattle.rv_event.specs.Past.{under_way, held, waiter, clock}
+use Rattle.rv_event.specs.Past.{under_way, held, is_unsettled, waiter, clock}
 use Rattle.rv_shape.specs.declared.suspension.SuspensionOperation.{SuspensionOperation}
 use Rattle.rv_shape.specs.declared.suspension.SuspensionOperation.TheVariants.{SetTrue, SetFalse, CurrentState}
 use Rattle.rv_shape.specs.declared.suspension.SuspensionOperation.TheVariants.{SuspendUntilTrue}
@@ -89,9 +89,10 @@ above h actor Nowhere = false
 above h actor (OnProtected site) = nat_lt site.object.ceiling (active h actor)
 above h actor (OnSuspension unit name wanted) = false
 
--- somebody holds the object
-abbrev pub is_held : History → ℕ → Bool
-is_held h object = list_any (λ b. b.object == object) (under_way h.shapes h.past)
+-- somebody holds the object, or it is unsettled
+abbrev pub is_taken : History → ℕ → Bool
+is_taken h object =
+    list_any (λ b. b.object == object) (under_way h.shapes h.past) || is_unsettled h.shapes object h.past
 
 -- whether the barrier keeps the call waiting
 abbrev pub is_barred_at : History → ℕ → Target → Bool
@@ -112,7 +113,7 @@ breaks h Blocking actor request object target = holds_any h actor && may_block r
 breaks h Reentry actor request object target = (is_call request && is_protected target) && holds h actor object
 breaks h Ceiling actor request object target = above h actor target
 breaks h Queue actor request object target =
-    ((is_call request && is_barred_at h object target) && not (is_held h object)) && full_queue h object
+    ((is_call request && is_barred_at h object target) && not (is_taken h object)) && full_queue h object
 breaks h Waiter actor request object target =
     (is_call request && suspends target) && is_some (waiter object h.past)
 

@@ -9,6 +9,7 @@ pub mod orderly;
 pub mod queues;
 pub mod refusals;
 pub mod room;
+pub mod settling;
 pub mod starts;
 pub mod steps;
 pub mod suspension;
@@ -34,4 +35,6 @@ pub fn worked_rows()
     ensures suspension { rows.SuspendedAndReleased }
     ensures list_edits { rows.ListEdits }
     ensures delay { rows.Delay }
+    ensures first_dropped_second_handed_over { rows.FirstDroppedSecondHandedOver }
+    ensures settled_after_the_halt { rows.SettledAfterTheHalt }
 {}

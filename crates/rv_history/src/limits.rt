@@ -1,18 +1,18 @@
 //! What bounds a host.
 
 ghost use Rattle.std.specs.Prelude.{◌≡◌};
-ghost use Rattle.rv_history.specs.Limits.{limits_of};
+ghost use Rattle.rv_history.specs.Limits.{limits_of, limits_with};
 
 /// What bounds a host, and no act changes.
 #[derive(Clone, Copy, Drop)]
 pub struct Limits {
     /// How many entries there may be, 16 .. 1,048,576.
     pub capacity: usize,
-    /// How many callers may wait in a queue (D.7): 1.
+    /// How many callers may wait in a queue, 1 .. 8 (D.7); above 1 it leaves the profile.
     pub queue: usize,
 }
 
-/// How many callers may wait in a queue (D.7).
+/// How many callers may wait in a queue under the profile (D.7, D.13).
 const QUEUE_LIMIT: usize = 1;
 
 impl Limits {
@@ -24,5 +24,12 @@ impl Limits {
             capacity,
             queue: QUEUE_LIMIT,
         }
+    }
+
+    /// Those of one whose queues have room for that many callers, 1 .. 8.
+    pub fn with(capacity: usize, queue: usize) -> Limits
+        ensures { result ≡ limits_with capacity queue }
+    {
+        Limits { capacity, queue }
     }
 }
