@@ -4,7 +4,7 @@ use Rattle.std.specs.Prelude.{slice_get, not, ◌||◌, ◌&&◌, ◌==◌, if�
 use Rattle.std.specs.List.{filter, list_any}
 use Rattle.rv_shape.specs.Shape.{Shape}
 use Rattle.rv_shape.specs.Catalogue.{target, shares}
-use Rattle.rv_event.specs.Past.{without, left}
+use Rattle.rv_event.specs.Past.{begun, without, left}
 use Rattle.rv_event.specs.declared.entry.Body.{Body}
 use Rattle.rv_event.proofs.Matching.{by}
 use Rattle.rv_history.specs.Exclusion.{conflicts}
@@ -25,7 +25,7 @@ none_on p (b ∷ bs) e =
     let both = or_none (p b) (list_any p bs) e in
     ap (λ t. length (cond t (b ∷ filter p bs) (filter p bs))) both.0 ∙ none_on p bs both.1
 
-any_less : (p : Body → Bool) (a : ℕ) (bs : List Body) → list_any p bs ≡ false → list_any p (without a bs) ≡ false
+pub any_less : (p : Body → Bool) (a : ℕ) (bs : List Body) → list_any p bs ≡ false → list_any p (without a bs) ≡ false
 any_less p a [] e = refl
 any_less p a (b ∷ bs) e =
     let both = or_none (p b) (list_any p bs) e in
@@ -72,7 +72,7 @@ any_same : (p q : Body → Bool) (bs : List Body) → ((b : Body) → p b ≡ q 
 any_same p q [] same = refl
 any_same p q (b ∷ bs) same = λ i. same b i || any_same p q bs same i
 
-at_most_one : (p : Body → Bool) (b : Body) (bs : List Body) → length (filter p bs) ≡ 0 → length (filter p (b ∷ bs)) ≤ 1
+pub at_most_one : (p : Body → Bool) (b : Body) (bs : List Body) → length (filter p bs) ≡ 0 → length (filter p (b ∷ bs)) ≤ 1
 at_most_one p b bs e = grind arith
 
 pub filter_append : (p : Body → Bool) (xs ys : List Body) → filter p (xs ++ ys) ≡ filter p xs ++ filter p ys
@@ -97,7 +97,7 @@ filter_first p (x ∷ xs) c cs e = by_test (p x) refl e (filter_first p xs c cs)
     by_test true is f rest = ap p (sym (ap (head x) f)) ∙ is
     by_test false is f rest = rest f
 
-filter_swap : (p q : Body → Bool) (xs : List Body) → filter p (filter q xs) ≡ filter q (filter p xs)
+pub filter_swap : (p q : Body → Bool) (xs : List Body) → filter p (filter q xs) ≡ filter q (filter p xs)
 filter_swap p q [] = refl
 filter_swap p q (x ∷ xs) = by_tests (p x) (q x) refl refl (filter_swap p q xs)
   where
@@ -106,6 +106,10 @@ filter_swap p q (x ∷ xs) = by_tests (p x) (q x) refl refl (filter_swap p q xs)
     by_tests true false a b h = h ∙ ap (λ t. cond t (x ∷ filter q (filter p xs)) (filter q (filter p xs))) (sym b)
     by_tests false true a b h = ap (λ t. cond t (x ∷ filter p (filter q xs)) (filter p (filter q xs))) a ∙ h
     by_tests false false a b h = h
+
+pub count_filter : (p q : Body → Bool) (xs : List Body) → length (filter p (filter q xs)) ≤ length (filter p xs)
+count_filter p q [] = omega arith
+count_filter p q (x ∷ xs) = grind (arith, count_filter p q xs)
 
 -- the only one that passes is gone
 pub filter_gone : (p : Body → Bool) (c : Body) (xs : List Body) → filter p xs ≡ c ∷ [] → filter p (filter (λ d. not (d.actor == c.actor)) xs) ≡ []
@@ -219,6 +223,31 @@ each_append P (x ∷ bs) b k one = (k.0, each_append P bs b k.1 one)
 pub each_map : (P Q : Body → Type 0) (bs : List Body) → ((b : Body) → P b → Q b) → Each P bs → Each Q bs
 each_map P Q [] f k = tt
 each_map P Q (b ∷ bs) f k = (f b k.0, each_map P Q bs f k.1)
+
+pub each_both : (P Q R : Body → Type 0) (bs : List Body) → ((b : Body) → P b → Q b → R b) → Each P bs → Each Q bs → Each R bs
+each_both P Q R [] f k m = tt
+each_both P Q R (b ∷ bs) f k m = (f b k.0 m.0, each_both P Q R bs f k.1 m.1)
+
+pub each_begun : (P : Body → Type 0) (q : Option Body) (bs : List Body) → ((b : Body) → q ≡ Some b → P b) → Each P bs → Each P (begun q bs)
+each_begun P None bs f k = k
+each_begun P (Some b) bs f k = (f b refl, k)
+
+pub each_first : (P : Body → Type 0) (a : ℕ) (b : Body) (bs : List Body) → Each P bs → slice_get (filter (by a) bs) 0 ≡ Some b → P b
+each_first P a b [] k e = absurd (cc)
+each_first P a b (x ∷ bs) k e = by_actor (x.actor == a) e (each_first P a b bs k.1)
+  where
+    by_actor : (t : Bool) → slice_get (cond t (x ∷ filter (by a) bs) (filter (by a) bs)) 0 ≡ Some b → (slice_get (filter (by a) bs) 0 ≡ Some b → P b) → P b
+    by_actor true f rest = subst P (some_is x b f) k.0
+    by_actor false f rest = rest f
+
+pub each_other : (a : ℕ) (bs : List Body) → slice_get (filter (by a) bs) 0 ≡ None → Each (λ b. (b.actor == a) ≡ false) bs
+each_other a [] e = tt
+each_other a (x ∷ bs) e = by_actor (x.actor == a) refl e (each_other a bs)
+  where
+    by_actor : (t : Bool) → (x.actor == a) ≡ t → slice_get (cond t (x ∷ filter (by a) bs) (filter (by a) bs)) 0 ≡ None → (slice_get (filter (by a) bs) 0 ≡ None → Each (λ b. (b.actor == a) ≡ false) bs) →
+        ((x.actor == a) ≡ false) × Each (λ b. (b.actor == a) ≡ false) bs
+    by_actor true is f rest = absurd (cc)
+    by_actor false is f rest = (is, rest f)
 
 -- A load
 

@@ -9,7 +9,7 @@ use Rattle.rv_event.specs.Past.{halted, stance, under_way}
 use Rattle.rv_event.specs.declared.entry.Answer.TheVariants.{Full}
 use Rattle.rv_event.specs.declared.entry.Entry.TheVariants.{Load, ListChange}
 use Rattle.rv_event.specs.declared.entry.Request.{Request}
-use Rattle.rv_event.specs.declared.entry.Request.TheVariants.{Call, Complete, Resume, DelayUntil, Clock, Fire, Quit, Tick, Halt}
+use Rattle.rv_event.specs.declared.entry.Request.TheVariants.{Call, Complete, Settle, Resume, DelayUntil, Clock, Fire, Quit, Tick, Halt}
 use Rattle.rv_event.specs.declared.entry.Stance.TheVariants.{Free}
 use Rattle.rv_history.specs.Due.{due, nothing_more, out}
 use Rattle.rv_history.specs.Fitting.{is_operator}

@@ -8,7 +8,7 @@ use Rattle.rv_event.specs.Past.{under_way, started, ended, closed, begun, withou
 use Rattle.rv_event.specs.declared.entry.Body.{Body}
 use Rattle.rv_event.specs.declared.entry.Entry.{Entry}
 use Rattle.rv_event.specs.declared.entry.Entry.TheVariants.{Asked, Load, ListChange}
-use Rattle.rv_event.specs.declared.entry.Request.TheVariants.{Call, Complete, Resume, DelayUntil, Clock, Fire, Quit, Tick, Halt}
+use Rattle.rv_event.specs.declared.entry.Request.TheVariants.{Call, Complete, Settle, Resume, DelayUntil, Clock, Fire, Quit, Tick, Halt}
 use Rattle.rv_event.proofs.Matching.{by}
 use Rattle.rv_history.specs.declared.limits.Limits.{Limits}
 use Rattle.rv_history.specs.History.{History}
@@ -16,7 +16,7 @@ use Rattle.rv_history.specs.Legal.{Legal}
 use Rattle.rv_history.specs.Orderly.{is_on, is_exclusive_on, IsShared, IsOrderly}
 use Rattle.rv_history.specs.Unended.{IsUnended}
 use Rattle.rv_history.proofs.Answered.{off}
-use Rattle.rv_history.proofs.Stances.{itself, same_number, some_is}
+use Rattle.rv_history.proofs.Stances.{first_actor, itself, same_number, some_is}
 use Rattle.rv_history.proofs.Bodies.{one_less}
 use Rattle.rv_history.proofs.Orderly.{legal_orderly, orderly_suffix}
 
@@ -70,15 +70,6 @@ only_one p a b c (x ∷ bs) h e one = by_tests (x.actor == a) (p x) refl h one (
         let some : length (filter p (without a bs)) + 1 ≡ length (filter p bs) = one_less p a c bs g e in
         absurd (omega (arith, none, some))
     by_tests false false is g f rest = rest g e f
-
--- the innermost body of an actor is its own
-first_actor : (a : ℕ) (c : Body) (bs : List Body) → slice_get (filter (by a) bs) 0 ≡ Some c → c.actor ≡ a
-first_actor a c [] h = absurd (cc)
-first_actor a c (x ∷ bs) h = by_actor (x.actor == a) refl h (first_actor a c bs)
-  where
-    by_actor : (t : Bool) → (x.actor == a) ≡ t → slice_get (cond t (x ∷ filter (by a) bs) (filter (by a) bs)) 0 ≡ Some c → (slice_get (filter (by a) bs) 0 ≡ Some c → c.actor ≡ a) → c.actor ≡ a
-    by_actor true is g rest = sym (ap (λ (d : Body). d.actor) (some_is x c g)) ∙ same_number x.actor a is
-    by_actor false is g rest = rest g
 
 -- an exclusive body on its object is alone
 exclusive_few : (shapes : List Shape) (b : Body) (bs : List Body) → shares (target shapes b.object b.operation) ≡ false → IsShared shapes (b ∷ bs) b.object → filter (is_on b.object) bs ≡ []
@@ -147,6 +138,7 @@ stays shapes o b (Asked a (Complete vs x) w) past one apart =
     let t = end_stays shapes o b past a (innermost shapes a past) refl one (λ same. apart (ap (λ n. Some n) same)) in
     record { bodies = t.0; values = ap (λ u. if u then vs else scalars shapes o past) t.1 }
 stays shapes o b (Asked a (Call m p vs) w) past one apart = record { bodies = one; values = refl }
+stays shapes o b (Asked a Settle w) past one apart = record { bodies = one; values = refl }
 stays shapes o b (Asked a Resume w) past one apart = record { bodies = one; values = refl }
 stays shapes o b (Asked a (DelayUntil t) w) past one apart = record { bodies = one; values = refl }
 stays shapes o b (Asked a Clock w) past one apart = record { bodies = one; values = refl }

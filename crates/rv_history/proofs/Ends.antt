@@ -1,94 +1,106 @@
--- The end of a body pays for itself.
+-- The end of a body and a settle pay for themselves.
 use Rattle.std.proofs.Common.{◌≡◌, ◌≢◌, ℕ, ◌+◌, ◌<◌, ◌≤◌, List, [], ◌∷◌, length, Some, None, Option, Bool, true, false, arith, ap, subst, sym, ◌∙◌, refl}
-use Rattle.std.specs.Prelude.{ℤ, nat_lt, ◌==◌, if◌then◌else◌, slice_get}
+use Rattle.std.specs.Prelude.{ℤ, nat_lt, not, ◌==◌, if◌then◌else◌, slice_get}
 use Rattle.std.specs.List.{filter}
-use Rattle.std.proofs.lemmas.Bool.Decides.{nat_tests}
 use Rattle.rv_shape.specs.Catalogue.{first_of, target, Target, Nowhere, OnProtected, OnSuspension, is_function}
-use Rattle.rv_event.specs.Past.{under_way, innermost, without, begun, or_else, stance, held, mode, mode_by, waiting, last_queued, named_in}
+use Rattle.rv_event.specs.Past.{under_way, unsettled, innermost, to_settle, handed, left_by, without, begun, or_else, stance, stance_of, scalars, halted, held, mode, mode_by, waiting, named_in}
 use Rattle.rv_event.specs.declared.entry.Stance.{Stance}
-use Rattle.rv_event.specs.declared.entry.Stance.TheVariants.{Free, InQueue, HandedOver, DroppedBy, WaitsOn, WaitsUntil, Gone}
+use Rattle.rv_event.specs.declared.entry.Stance.TheVariants.{Free, InQueue, HandedOver, DroppedBy}
 use Rattle.rv_event.specs.declared.entry.Body.{Body}
 use Rattle.rv_event.specs.declared.entry.Exit.{Exit}
 use Rattle.rv_event.specs.declared.entry.Next.{Next}
 use Rattle.rv_event.specs.declared.entry.Next.TheVariants.{Nothing, HandedTo, Dropped}
-use Rattle.rv_event.specs.declared.entry.Entry.{Entry}
 use Rattle.rv_event.specs.declared.entry.Entry.TheVariants.{Asked}
-use Rattle.rv_event.specs.declared.entry.Request.TheVariants.{Complete}
+use Rattle.rv_event.specs.declared.entry.Request.{Request}
+use Rattle.rv_event.specs.declared.entry.Request.TheVariants.{Complete, Settle}
 use Rattle.rv_event.specs.declared.entry.Recorded.TheVariants.{Done}
 use Rattle.rv_event.specs.declared.entry.Answer.TheVariants as Answers
+use Rattle.rv_event.proofs.Matching.{by}
 use Rattle.rv_history.specs.History.{History}
-use Rattle.rv_history.specs.Owed.{dues, actors, IsSolvent}
+use Rattle.rv_history.specs.Owed.{dues, each, actors, halt_due, IsSolvent}
 use Rattle.rv_history.specs.Fitting.{in_body, end_fits}
-use Rattle.rv_history.specs.Due.{out, due, due_end, end_of, after_end}
+use Rattle.rv_history.specs.Due.{out, due, due_end, due_settle, end_of, after_end}
 use Rattle.rv_history.specs.Legal.{Legal}
-use Rattle.rv_history.proofs.Answered.{off, both}
-use Rattle.rv_history.proofs.Stances.{itself, another}
-use Rattle.rv_history.proofs.Sums.{each_change}
-use Rattle.rv_history.proofs.Waits.{AllWait, legal_waits}
+use Rattle.rv_history.proofs.Answered.{both}
+use Rattle.rv_history.proofs.Modes.{ends_at, free_in}
+use Rattle.rv_history.proofs.Stances.{itself, another, is_other, same_number}
+use Rattle.rv_history.proofs.Sums.{each_change, each_same}
+use Rattle.rv_history.proofs.Waits.{AllWait}
 use Rattle.rv_history.proofs.Ending.{head_waits, serves_named}
-use Rattle.rv_history.proofs.Pays.{dues_by, Pays, with_entry, each_own, unrecorded, paid_as, out_due, fit_parts}
+use Rattle.rv_history.proofs.Serving.{count_begun, names_one}
+use Rattle.rv_history.proofs.Standing.{Standing, legal_standing, legal_waits, settler_at, stance_unnamed}
+use Rattle.rv_history.proofs.Pays.{dues_by, Pays, with_entry, unrecorded, paid_as, out_due, fit_parts}
 
--- the innermost body is gone
-one_gone : (a : ℕ) (b : Body) (bs : List Body) → slice_get (filter (λ c. c.actor == a) bs) 0 ≡ Some b → length (without a bs) + 1 ≡ length bs
-one_gone a b [] h = absurd (cc)
-one_gone a b (x ∷ bs) h = grind (arith, one_gone a b bs)
-
-one_begun : (b : Option Body) (bs : List Body) → length (begun b bs) ≤ length bs + 1
-one_begun None bs = omega arith
-one_begun (Some b) bs = grind arith
-
-free_in : (bs : List Body) (s : Stance) → in_body (mode_by bs s) ≡ true → s ≡ Free
-free_in bs Free e = refl
-free_in bs InQueue e = absurd (off e)
-free_in bs HandedOver e = absurd (off e)
-free_in bs (DroppedBy line) e = absurd (off e)
-free_in bs (WaitsOn object) e = absurd (off e)
-free_in bs (WaitsUntil time) e = absurd (off e)
-free_in bs Gone e = absurd (off e)
-
--- whom an end names is in a queue
+-- whom an answer names is in a queue
 pub record Queues (h : History) (next : Next) : Type 0 where
   pub named : (n : ℕ) → named_in next ≡ Some n → (stance n h.past ≡ InQueue) × (n < actors h.shapes)
 
--- whom the end doesn't name is at what it was at
-others : (a n j : ℕ) (s t : Stance) → j ≢ n → (j ≡ a → t ≡ Free) → or_else (first_of (if n == j then Some s else None) (if a == j then Some Free else None)) t ≡ t
-others a n j s t h free =
-    let apart : (n == j) ≡ false = another n j h in
-    (λ i. or_else (first_of (if apart i then Some s else None) (if a == j then Some Free else None)) t) ∙ by_test (a == j) refl
-  where
-    by_test : (b : Bool) → (a == j) ≡ b → or_else (if b then Some Free else None) t ≡ t
-    by_test true e =
-        let same : j ≡ a = grind (arith, nat_tests) in
-        sym (free same)
-    by_test false e = refl
+-- one body fewer, in all, than with whom it names, and all else as it was
+record Counted (h : History) (a : ℕ) (r : Request) (next : Next) : Type 0 where
+  bodies : length (under_way h.shapes (Asked a r (Done next) ∷ h.past)) + length (unsettled h.shapes (Asked a r (Done next) ∷ h.past)) + 1
+      ≤ length (under_way h.shapes h.past) + length (unsettled h.shapes h.past) + names_one next
+  own : stance_of (Asked a r (Done next)) ≡ Free
+  going : halted (Asked a r (Done next) ∷ h.past) ≡ halted h.past
 
-paid_done : (h : History) (a : ℕ) (vs : List ℤ) (x : Exit) (b : Body) (next : Next) → stance a h.past ≡ Free → a < actors h.shapes → innermost h.shapes a h.past ≡ Some b → Queues h next → IsSolvent h →
-    IsSolvent (with_entry h a (Complete vs x) (Done next))
-paid_done h a vs x b Nothing free some is q solvent =
-    let same : dues_by (stance a h.past) (nat_lt a 11) ≡ dues_by Free (nat_lt a 11) = ap (λ s. dues_by s (nat_lt a 11)) free in
-    omega (arith, solvent, one_gone a b (under_way h.shapes h.past) is, same, each_own (actors h.shapes) a (Complete vs x) (Done Nothing) h.past refl some)
-paid_done h a vs x b (HandedTo n) free some is q solvent =
-    let e : Entry = Asked a (Complete vs x) (Done (HandedTo n)) in
-    let was : dues h.past n ≡ dues_by InQueue (nat_lt n 11) = ap (λ s. dues_by s (nat_lt n 11)) (q.named n refl).0 in
-    let now : dues (e ∷ h.past) n ≡ dues_by HandedOver (nat_lt n 11) = λ i. dues_by (or_else (first_of (if itself n i then Some HandedOver else None) (if a == n then Some Free else None)) (stance n h.past)) (nat_lt n 11) in
-    let rest = each_change (actors h.shapes) n (dues (e ∷ h.past)) (dues h.past) (q.named n refl).1 (λ j k. ap (λ s. dues_by s (nat_lt j 11)) (others a n j HandedOver (stance j h.past) k (λ m. ap (λ i. stance i h.past) m ∙ free))) in
-    let less : dues_by HandedOver (nat_lt n 11) + 1 ≡ dues_by InQueue (nat_lt n 11) = by_low (nat_lt n 11) in
-    omega (arith, solvent, one_gone a b (under_way h.shapes h.past) is, one_begun (last_queued n h.past) (without a (under_way h.shapes h.past)), was, now, rest, less)
+-- the first body of an actor is gone
+one_gone : (a : ℕ) (b : Body) (bs : List Body) → slice_get (filter (by a) bs) 0 ≡ Some b → length (without a bs) + 1 ≡ length bs
+one_gone a b [] h = absurd (cc)
+one_gone a b (x ∷ bs) h = grind (arith, one_gone a b bs)
+
+end_counted : (h : History) (a : ℕ) (vs : List ℤ) (x : Exit) (b : Body) (next : Next) → innermost h.shapes a h.past ≡ Some b → Counted h a (Complete vs x) next
+end_counted h a vs x b next is =
+    let few : length (begun (handed h.past next) (without a (under_way h.shapes h.past))) + length (begun (left_by (Asked a (Complete vs x) (Done next) ∷ h.past) next (innermost h.shapes a h.past)) (unsettled h.shapes h.past))
+        ≤ length (without a (under_way h.shapes h.past)) + length (unsettled h.shapes h.past) + names_one next =
+    count_begun h.past (Asked a (Complete vs x) (Done next) ∷ h.past) next (innermost h.shapes a h.past) (without a (under_way h.shapes h.past)) (unsettled h.shapes h.past) in
+    record { bodies = omega (arith, few, one_gone a b (under_way h.shapes h.past) is); own = refl; going = refl }
+
+settle_counted : (h : History) (a : ℕ) (b : Body) (next : Next) → to_settle h.shapes a h.past ≡ Some b → Counted h a Settle next
+settle_counted h a b next is =
+    let few : length (begun (handed h.past next) (under_way h.shapes h.past)) + length (begun (left_by (Asked a Settle (Done next) ∷ h.past) next (to_settle h.shapes a h.past)) (without a (unsettled h.shapes h.past)))
+        ≤ length (under_way h.shapes h.past) + length (without a (unsettled h.shapes h.past)) + names_one next =
+    count_begun h.past (Asked a Settle (Done next) ∷ h.past) next (to_settle h.shapes a h.past) (under_way h.shapes h.past) (without a (unsettled h.shapes h.past)) in
+    record { bodies = omega (arith, few, one_gone a b (unsettled h.shapes h.past) is); own = refl; going = refl }
+
+-- whoever isn't named owes what it owed
+same_dues : (h : History) (a : ℕ) (r : Request) (next : Next) (j : ℕ) → is_other (named_in next) j ≡ true → stance_of (Asked a r (Done next)) ≡ Free → stance a h.past ≡ Free → dues (Asked a r (Done next) ∷ h.past) j ≡ dues h.past j
+same_dues h a r next j other own free =
+    ap (λ s. dues_by s (nat_lt j 11)) (stance_unnamed next j a (stance_of (Asked a r (Done next))) (stance j h.past) other ∙ by_test (a == j) refl)
+  where
+    by_test : (b : Bool) → (a == j) ≡ b → (if b then stance_of (Asked a r (Done next)) else stance j h.past) ≡ stance j h.past
+    by_test false is = refl
+    by_test true is = own ∙ sym free ∙ ap (λ n. stance n h.past) (same_number a j is)
+
+-- whom it names owes one less
+named_less : (h : History) (a : ℕ) (r : Request) (next : Next) (n : ℕ) (s : Stance) → named_in next ≡ Some n → stance n (Asked a r (Done next) ∷ h.past) ≡ s → ((low : Bool) → dues_by s low + 1 ≡ dues_by InQueue low) →
+    stance_of (Asked a r (Done next)) ≡ Free → stance a h.past ≡ Free → Queues h next → each (actors h.shapes) (dues (Asked a r (Done next) ∷ h.past)) + 1 ≡ each (actors h.shapes) (dues h.past)
+named_less h a r next n s is at less own free q =
+    let queued = q.named n is in
+    let was : dues h.past n ≡ dues_by InQueue (nat_lt n 11) = ap (λ t. dues_by t (nat_lt n 11)) queued.0 in
+    let now : dues (Asked a r (Done next) ∷ h.past) n ≡ dues_by s (nat_lt n 11) = ap (λ t. dues_by t (nat_lt n 11)) at in
+    let rest = each_change (actors h.shapes) n (dues (Asked a r (Done next) ∷ h.past)) (dues h.past) queued.1 (λ j k. same_dues h a r next j (ap (λ o. is_other o j) is ∙ ap not (another n j k)) own free) in
+    omega (arith, was, now, rest, less (nat_lt n 11))
+
+dues_fall : (h : History) (a : ℕ) (r : Request) (next : Next) → stance_of (Asked a r (Done next)) ≡ Free → stance a h.past ≡ Free → Queues h next →
+    each (actors h.shapes) (dues (Asked a r (Done next) ∷ h.past)) + names_one next ≡ each (actors h.shapes) (dues h.past)
+dues_fall h a r Nothing own free q =
+    let same : each (actors h.shapes) (dues (Asked a r (Done Nothing) ∷ h.past)) ≡ each (actors h.shapes) (dues h.past) = each_same (actors h.shapes) _ _ (λ j less. same_dues h a r Nothing j refl own free) in
+    omega (arith, same)
+dues_fall h a r (HandedTo n) own free q = named_less h a r (HandedTo n) n HandedOver refl (λ i. or_else (first_of (if itself n i then Some HandedOver else None) (if a == n then Some (stance_of (Asked a r (Done (HandedTo n)))) else None)) (stance n h.past)) by_low own free q
   where
     by_low : (low : Bool) → dues_by HandedOver low + 1 ≡ dues_by InQueue low
     by_low true = refl
     by_low false = refl
-paid_done h a vs x b (Dropped n line) free some is q solvent =
-    let e : Entry = Asked a (Complete vs x) (Done (Dropped n line)) in
-    let was : dues h.past n ≡ dues_by InQueue (nat_lt n 11) = ap (λ s. dues_by s (nat_lt n 11)) (q.named n refl).0 in
-    let now : dues (e ∷ h.past) n ≡ dues_by (DroppedBy line) (nat_lt n 11) = λ i. dues_by (or_else (first_of (if itself n i then Some (DroppedBy line) else None) (if a == n then Some Free else None)) (stance n h.past)) (nat_lt n 11) in
-    let rest = each_change (actors h.shapes) n (dues (e ∷ h.past)) (dues h.past) (q.named n refl).1 (λ j k. ap (λ s. dues_by s (nat_lt j 11)) (others a n j (DroppedBy line) (stance j h.past) k (λ m. ap (λ i. stance i h.past) m ∙ free))) in
-    let less : dues_by (DroppedBy line) (nat_lt n 11) + 1 ≡ dues_by InQueue (nat_lt n 11) = by_low (nat_lt n 11) in
-    omega (arith, solvent, one_gone a b (under_way h.shapes h.past) is, was, now, rest, less)
+dues_fall h a r (Dropped n line) own free q = named_less h a r (Dropped n line) n (DroppedBy line) refl (λ i. or_else (first_of (if itself n i then Some (DroppedBy line) else None) (if a == n then Some (stance_of (Asked a r (Done (Dropped n line)))) else None)) (stance n h.past)) by_low own free q
   where
     by_low : (low : Bool) → dues_by (DroppedBy line) low + 1 ≡ dues_by InQueue low
     by_low true = refl
     by_low false = refl
+
+paid_done : (h : History) (a : ℕ) (r : Request) (next : Next) → Counted h a r next → stance a h.past ≡ Free → Queues h next → IsSolvent h → IsSolvent (with_entry h a r (Done next))
+paid_done h a r next t free q solvent =
+    let going : halt_due (halted (Asked a r (Done next) ∷ h.past)) ≡ halt_due (halted h.past) = ap halt_due t.going in
+    let bodies = t.bodies in
+    omega (arith, solvent, going, bodies, dues_fall h a r next t.own free q)
 
 none_queues : (h : History) → Queues h Nothing
 none_queues h = record { named = λ n e. absurd (cc) }
@@ -102,10 +114,10 @@ after_queues h o vs all = record { named = λ n e. by_head n e }
         let v = head_waits h.shapes h.past o q.call q.rest all q.queued in
         subst (λ m. (stance m h.past ≡ InQueue) × (m < actors h.shapes)) q.is_its (v.at, v.known)
 
-pays_end : (h : History) (a : ℕ) (vs : List ℤ) (x : Exit) (b : Option Body) → innermost h.shapes a h.past ≡ b → stance a h.past ≡ Free → a < actors h.shapes → AllWait h.shapes h.past (waiting h.past) → IsSolvent h →
+pays_end : (h : History) (a : ℕ) (vs : List ℤ) (x : Exit) (b : Option Body) → innermost h.shapes a h.past ≡ b → stance a h.past ≡ Free → AllWait h.shapes h.past (waiting h.past) → IsSolvent h →
     Pays h a (Complete vs x) (due_end h vs b)
-pays_end h a vs x None is free some all solvent = unrecorded h a (Complete vs x) Answers.Misuse refl
-pays_end h a vs x (Some b) is free some all solvent = by_target (target h.shapes b.object b.operation)
+pays_end h a vs x None is free all solvent = unrecorded h a (Complete vs x) Answers.Misuse refl
+pays_end h a vs x (Some b) is free all solvent = by_target (target h.shapes b.object b.operation)
   where
     by_kind : (f : Bool) → Queues h (if f then Nothing else after_end h b.object vs)
     by_kind true = none_queues h
@@ -115,12 +127,22 @@ pays_end h a vs x (Some b) is free some all solvent = by_target (target h.shapes
     by_target Nowhere = unrecorded h a (Complete vs x) Answers.Misuse refl
     by_target (OnSuspension unit name wanted) = unrecorded h a (Complete vs x) Answers.Misuse refl
     by_target (OnProtected s) =
-        paid_as h a (Complete vs x) _ (Done (if is_function s.operation.kind then Nothing else after_end h b.object vs)) refl
-        (paid_done h a vs x b _ free some is (by_kind (is_function s.operation.kind)) solvent)
+        let next : Next = if is_function s.operation.kind then Nothing else after_end h b.object vs in
+        paid_as h a (Complete vs x) _ (Done next) refl (paid_done h a (Complete vs x) next (end_counted h a vs x b next is) free (by_kind (is_function s.operation.kind)) solvent)
 
 pub end_never_full : (h : History) (a : ℕ) (vs : List ℤ) (x : Exit) → Legal h → IsSolvent h → out h a (Complete vs x) ≡ due h a (Complete vs x)
 end_never_full h a vs x legal solvent = out_due h a (Complete vs x) (λ f c.
     let t = fit_parts h a (Complete vs x) f in
     let m = both (in_body (mode h.shapes a h.past)) (end_fits h.shapes vs x (innermost h.shapes a h.past)) t.1 in
-    pays_end h a vs x (innermost h.shapes a h.past) refl (free_in (held h.shapes a h.past) (stance a h.past) m.0) t.0
-    (legal_waits h.limits h.past h.shapes h.lists legal) solvent)
+    let ends = ends_at (to_settle h.shapes a h.past) (mode_by (held h.shapes a h.past) (stance a h.past)) m.0 in
+    pays_end h a vs x (innermost h.shapes a h.past) refl (free_in (held h.shapes a h.past) (stance a h.past) ends) (legal_waits h.limits h.past h.shapes h.lists legal) solvent)
+
+pays_settle : (h : History) (a : ℕ) (b : Option Body) → to_settle h.shapes a h.past ≡ b → Standing h.shapes h.past → IsSolvent h → Pays h a Settle (due_settle h b)
+pays_settle h a None is k solvent = unrecorded h a Settle Answers.Misuse refl
+pays_settle h a (Some b) is k solvent =
+    let next : Next = after_end h b.object (scalars h.shapes b.object h.past) in
+    paid_as h a Settle _ (Done next) refl (paid_done h a Settle next (settle_counted h a b next is) (settler_at h a b k is) (after_queues h b.object (scalars h.shapes b.object h.past) k.wait) solvent)
+
+pub settle_never_full : (h : History) (a : ℕ) → Legal h → IsSolvent h → out h a Settle ≡ due h a Settle
+settle_never_full h a legal solvent =
+    out_due h a Settle (λ f c. pays_settle h a (to_settle h.shapes a h.past) refl (legal_standing h.limits h.past h.shapes h.lists legal) solvent)

@@ -3,7 +3,7 @@ use Rattle.std.proofs.Common.{◌≡◌, ℕ, ◌-◌, List, ◌∷◌, Some, No
 use Rattle.std.specs.Prelude.{ℤ, not, ◌&&◌, if◌then◌else◌, ◌↔◌, is_some}
 use Rattle.rv_event.specs.Recorded.{recorded}
 use Rattle.rv_shape.specs.Catalogue.{OperationNumber, Site, Target, Nowhere, OnProtected, OnSuspension, target, handler, is_function}
-use Rattle.rv_event.specs.Past.{halted, scalars, stance, innermost, waiter}
+use Rattle.rv_event.specs.Past.{halted, scalars, stance, innermost, to_settle, waiter}
 use Rattle.rv_event.specs.declared.entry.Stance.{Stance}
 use Rattle.rv_event.specs.declared.entry.Stance.TheVariants.{Free, InQueue, HandedOver, DroppedBy, WaitsOn, WaitsUntil, Gone}
 use Rattle.rv_event.specs.declared.entry.Body.{Body}
@@ -11,7 +11,7 @@ use Rattle.rv_shape.specs.declared.suspension.SuspensionOperation.{SuspensionOpe
 use Rattle.rv_shape.specs.declared.suspension.SuspensionOperation.TheVariants.{SetTrue, SetFalse, CurrentState, SuspendUntilTrue}
 use Rattle.rv_event.specs.declared.entry.Entry.TheVariants.{Asked}
 use Rattle.rv_event.specs.declared.entry.Request.{Request}
-use Rattle.rv_event.specs.declared.entry.Request.TheVariants.{Call, Complete, Resume, DelayUntil, Clock, Fire, Quit, Tick, Halt}
+use Rattle.rv_event.specs.declared.entry.Request.TheVariants.{Call, Complete, Settle, Resume, DelayUntil, Clock, Fire, Quit, Tick, Halt}
 use Rattle.rv_event.specs.declared.entry.Rule.{Rule}
 use Rattle.rv_event.specs.declared.entry.Rule.TheVariants.{Grant, Blocking, Reentry, Ceiling, Queue, Waiter}
 use Rattle.rv_event.specs.declared.entry.Recorded.TheVariants.{Started}
@@ -20,9 +20,9 @@ use Rattle.rv_event.specs.declared.entry.Answer.TheVariants as Answers
 use Rattle.rv_history.specs.History.{History, version}
 use Rattle.rv_history.specs.Exclusion.{excluded, is_barred, full_queue}
 use Rattle.rv_history.specs.Owed.{has_room}
-use Rattle.rv_history.specs.Rules.{Aim, aim, aim_at, is_protected, breaks, is_call, is_held}
+use Rattle.rv_history.specs.Rules.{Aim, aim, aim_at, is_protected, breaks, is_call, is_taken}
 use Rattle.rv_history.specs.Fitting.{fits}
-use Rattle.rv_history.specs.Due.{out, due, within, enough, gate, table, goes_on, judged, performed, due_call, due_fire, due_end, end_of, due_resume, due_delay, or_waiting}
+use Rattle.rv_history.specs.Due.{out, due, within, enough, gate, table, goes_on, judged, performed, due_call, due_fire, due_end, due_settle, end_of, due_resume, due_delay, or_waiting}
 use Rattle.rv_history.specs.Headline.{IsAllowed}
 use Rattle.rv_history.proofs.Answered.{off, and_none, and_false, Answered, answered}
 
@@ -71,7 +71,7 @@ no_rule h a r o s t Blocking = t.calm
 no_rule h a r o s t Reentry = t.new
 no_rule h a r o s t Ceiling = t.low
 no_rule h a r o s t Queue =
-    and_none _ (full_queue h o) (and_none _ (not (is_held h o)) (ap (λ t. is_call r && t) t.opened ∙ and_false (is_call r)))
+    and_none _ (full_queue h o) (and_none _ (not (is_taken h o)) (ap (λ t. is_call r && t) t.opened ∙ and_false (is_call r)))
 no_rule h a r o s t Waiter = and_none _ (is_some (waiter o h.past)) (and_false (is_call r))
 
 abbrev pub Aimed : History → ℕ → Request → ℕ → Target → Type 0
@@ -108,6 +108,10 @@ ended_not h values (Some b) e = by_target (target h.shapes b.object b.operation)
     by_target (OnProtected s) e = cc
     by_target (OnSuspension unit name wanted) e = cc
 
+settled_not : (h : History) (b : Option Body) → recorded (due_settle h b) ≡ Some Started → ⊥
+settled_not h None e = cc
+settled_not h (Some b) e = cc
+
 waiting_not : (h : History) (ready : Bool) → recorded (or_waiting h ready) ≡ Some Started → ⊥
 waiting_not h true e = cc
 waiting_not h false e = by_halt (halted h.past) e
@@ -138,6 +142,7 @@ from_due h a Fire g = by_handler (handler h.shapes (a - 1)) refl g.said
     by_handler None is e = absurd (cc)
     by_handler (Some s) is e = allowed_at h a Fire s.object (target h.shapes s.object s.operation) (ap (aim_at h.shapes) is) refl g.fitting g.unshut e
 from_due h a (Complete vs x) g = absurd (ended_not h vs (innermost h.shapes a h.past) g.said)
+from_due h a Settle g = absurd (settled_not h (to_settle h.shapes a h.past) g.said)
 from_due h a Resume g = absurd (resumed_not h a (stance a h.past) g.said)
 from_due h a (DelayUntil t) g = absurd (delayed_not h _ _ g.said)
 from_due h a Clock g = let e = g.said in absurd (cc)
@@ -167,6 +172,7 @@ due_allowed h a Fire w = by_handler (handler h.shapes (a - 1)) refl
     by_handler None is = absurd (nowhere_else w.object w.site (sym (ap (aim_at h.shapes) is) ∙ w.wanted))
     by_handler (Some s) is = sym (ap (λ (v : ℕ × Target). due_call h a Fire v.0 v.1) (ap (aim_at h.shapes) is)) ∙ allowed_call h a Fire w
 due_allowed h a (Complete vs x) w = absurd (nowhere_else w.object w.site w.wanted)
+due_allowed h a Settle w = absurd (nowhere_else w.object w.site w.wanted)
 due_allowed h a Resume w = absurd (nowhere_else w.object w.site w.wanted)
 due_allowed h a (DelayUntil t) w = absurd (nowhere_else w.object w.site w.wanted)
 due_allowed h a Clock w = absurd (nowhere_else w.object w.site w.wanted)

@@ -4,14 +4,14 @@ use Rattle.std.specs.Prelude.{ℤ, ◌==◌, not, ◌&&◌, ◌||◌, if◌then�
 use Rattle.std.specs.List.{list_any}
 use Rattle.rv_event.specs.Recorded.{recorded}
 use Rattle.rv_shape.specs.Catalogue.{OperationNumber, Site, Target, Nowhere, OnProtected, OnSuspension, target, handler, handles, is_function, is_entry}
-use Rattle.rv_event.specs.Past.{under_way, clock, state, scalars}
+use Rattle.rv_event.specs.Past.{under_way, is_unsettled, clock, state, scalars}
 use Rattle.rv_shape.specs.declared.kind.Kind.{Kind}
 use Rattle.rv_shape.specs.declared.kind.Kind.TheVariants.{Function, Procedure, Entry as EntryKind, Handler}
 use Rattle.rv_event.specs.declared.entry.Body.{Body}
 use Rattle.rv_shape.specs.declared.suspension.SuspensionOperation.{SuspensionOperation}
 use Rattle.rv_shape.specs.declared.suspension.SuspensionOperation.TheVariants.{SetTrue, SetFalse, CurrentState, SuspendUntilTrue}
 use Rattle.rv_event.specs.declared.entry.Request.{Request}
-use Rattle.rv_event.specs.declared.entry.Request.TheVariants.{Call, Complete, Resume, DelayUntil, Clock, Fire, Quit, Tick, Halt}
+use Rattle.rv_event.specs.declared.entry.Request.TheVariants.{Call, Complete, Settle, Resume, DelayUntil, Clock, Fire, Quit, Tick, Halt}
 use Rattle.rv_event.specs.declared.entry.Rule.{Rule}
 use Rattle.rv_event.specs.declared.entry.Rule.TheVariants.{Grant, Blocking, Reentry, Ceiling, Queue, Waiter}
 use Rattle.rv_event.specs.declared.entry.Recorded.{Recorded}
@@ -20,10 +20,11 @@ use Rattle.rv_event.specs.declared.entry.Answer.TheVariants as Answers
 use Rattle.rv_history.specs.History.{History, version}
 use Rattle.rv_history.specs.Subject.{subject}
 use Rattle.rv_history.specs.Exclusion.{excluded, is_barred, full_queue, conflicts, is_open}
-use Rattle.rv_history.specs.Rules.{Aim, aim, aim_at, breaks, decided, first, is_held, holds_any}
+use Rattle.rv_history.specs.Rules.{Aim, aim, aim_at, breaks, decided, first, is_taken, holds_any}
 use Rattle.rv_history.specs.Due.{judged, suspended, performed, out, table, due_call, due_fire, due_delay, goes_on}
 use Rattle.rv_history.specs.Refusal.{is_grant, IsRefusal}
 use Rattle.rv_history.proofs.Answered.{off, and_none, and_true, answered, word_is}
+use Rattle.rv_history.proofs.Bodies.{or_none}
 use Rattle.rv_history.proofs.Handled.{handler_is}
 
 -- the parts of a refusal
@@ -77,17 +78,17 @@ none_held h o (b ∷ bs) e = by_test (b.object == o) e (none_held h o bs)
     by_test true e rest = absurd (off (sym e))
     by_test false e rest = rest e
 
-queue_test : (h : History) (o : ℕ) (shut : Bool) (full : Bool) → list_any (conflicts h.shapes o false) (under_way h.shapes h.past) ≡ false →
-    ((shut && not (list_any (λ b. b.object == o) (under_way h.shapes h.past))) && full) ≡ (shut && full)
+queue_test : (h : History) (o : ℕ) (shut : Bool) (full : Bool) → excluded h o false ≡ false → ((shut && not (is_taken h o)) && full) ≡ (shut && full)
 queue_test h o shut full e =
-    (λ i. (shut && not (none_held h o (under_way h.shapes h.past) e i)) && full) ∙ by_test shut
+    let parts = or_none (list_any (conflicts h.shapes o false) (under_way h.shapes h.past)) (is_unsettled h.shapes o h.past) e in
+    (λ i. (shut && not (none_held h o (under_way h.shapes h.past) parts.0 i || parts.1 i)) && full) ∙ by_test shut
   where
     by_test : (t : Bool) → ((t && true) && full) ≡ (t && full)
     by_test true = refl
     by_test false = refl
 
 queue_rule : (h : History) (o : ℕ) (kind : Kind) → excluded h o (is_function kind) ≡ false →
-    ((is_barred h o kind && not (is_held h o)) && full_queue h o) ≡ (is_barred h o kind && full_queue h o)
+    ((is_barred h o kind && not (is_taken h o)) && full_queue h o) ≡ (is_barred h o kind && full_queue h o)
 queue_rule h o (Function range) free = refl
 queue_rule h o Procedure free = refl
 queue_rule h o (EntryKind barrier) free = queue_test h o (is_barred h o (EntryKind barrier)) (full_queue h o) free
@@ -190,6 +191,7 @@ names_first h a r rule line number calls e = by_request r calls (answered h a r 
     by_request Fire calls f = fire_first h a rule line number (handler h.shapes (a - 1)) refl f
     by_request (DelayUntil time) calls f = delay_first h a time rule line number (holds_any h a) (int_le time (pos (clock h.past))) refl f
     by_request (Complete vs x) calls f = absurd (off (sym calls))
+    by_request Settle calls f = absurd (off (sym calls))
     by_request Resume calls f = absurd (off (sym calls))
     by_request Quit calls f = absurd (off (sym calls))
     by_request Clock calls f = absurd (cc)

@@ -4,7 +4,7 @@ use Rattle.std.specs.Prelude.{◌==◌, ◌&&◌, not, if◌then◌else◌, slic
 use Rattle.std.specs.List.{list_all}
 use Rattle.rv_shape.specs.Shape.{Shape}
 use Rattle.rv_shape.specs.Catalogue.{first_of}
-use Rattle.rv_event.specs.Past.{held, if_named, is_named, is_own, mode_by, named_in, names, next_of, or_else, said, stance, stance_of}
+use Rattle.rv_event.specs.Past.{held, if_named, is_named, is_own, mode, named_in, names, next_of, or_else, said, stance, stance_of}
 use Rattle.rv_event.specs.declared.entry.Entry.{Entry}
 use Rattle.rv_event.specs.declared.entry.Entry.TheVariants.{Asked, Load, ListChange}
 use Rattle.rv_event.specs.declared.entry.Next.{Next}
@@ -12,7 +12,7 @@ use Rattle.rv_event.specs.declared.entry.Next.TheVariants.{Nothing, HandedTo, Dr
 use Rattle.rv_event.specs.declared.entry.Stance.TheVariants.{DroppedBy, HandedOver}
 use Rattle.rv_history.specs.Frame.{Unmoved, is_apart}
 use Rattle.rv_history.proofs.Answered.{off, both}
-use Rattle.rv_history.proofs.Stances.{held_other, is_other, itself}
+use Rattle.rv_history.proofs.Stances.{held_other, is_other, itself, mode_other}
 
 pub not_true : (b : Bool) → not b ≡ true → b ≡ false
 not_true true e = absurd (off e)
@@ -54,6 +54,12 @@ held_apart shapes j (Asked a r w) past apart =
 held_apart shapes j Load past apart = refl
 held_apart shapes j ListChange past apart = refl
 
+pub mode_apart : (shapes : List Shape) (j : ℕ) (e : Entry) (past : List Entry) → is_apart j e ≡ true → mode shapes j (e ∷ past) ≡ mode shapes j past
+mode_apart shapes j (Asked a r w) past apart =
+    mode_other shapes past a r w j (other_actor a j (not_own j (Asked a r w) apart)) (other_named (named_in (next_of (Asked a r w))) j (not_named j (Asked a r w) apart))
+mode_apart shapes j Load past apart = refl
+mode_apart shapes j ListChange past apart = refl
+
 -- over several entries
 
 pub all_parts : (p : Entry → Bool) (e : Entry) (es : List Entry) → list_all p (e ∷ es) ≡ true → (p e ≡ true) × (list_all p es ≡ true)
@@ -74,12 +80,17 @@ stance_stays j (e ∷ later) past apart =
     let parts = all_parts (is_apart j) e later apart in
     ap (λ s. or_else s (stance j (later ++ past))) (unsaid j e parts.0) ∙ stance_stays j later past parts.1
 
+pub mode_stays : (shapes : List Shape) (j : ℕ) (later past : List Entry) → list_all (is_apart j) later ≡ true → mode shapes j (later ++ past) ≡ mode shapes j past
+mode_stays shapes j [] past apart = refl
+mode_stays shapes j (e ∷ later) past apart =
+    let parts = all_parts (is_apart j) e later apart in
+    mode_apart shapes j e (later ++ past) parts.0 ∙ mode_stays shapes j later past parts.1
+
 pub unmoved : (shapes : List Shape) (j : ℕ) (later past : List Entry) → list_all (is_apart j) later ≡ true → Unmoved shapes j (later ++ past) past
 unmoved shapes j later past apart =
     let holds = held_stays shapes j later past apart in
-    let at = stance_stays j later past apart in
     record {
       held_stays = holds;
       innermost_stays = ap (λ bs. slice_get bs 0) holds;
-      mode_stays = λ i. mode_by (holds i) (at i);
+      mode_stays = mode_stays shapes j later past apart;
     }

@@ -1,11 +1,11 @@
 -- A queued caller is handed over, or dropped, exactly where the definition says so.
-use Rattle.std.proofs.Common.{◌≡◌, ℕ, ◌-◌, ◌≤◌, List, [], ◌∷◌, length, Some, None, Option, Bool, true, false, cond, arith, ap, subst, sym, ◌∙◌, refl}
-use Rattle.std.specs.Prelude.{ℤ, ◌==◌, not, if◌then◌else◌, ◌↔◌, int_le, pos}
-use Rattle.std.specs.List.{filter}
+use Rattle.std.proofs.Common.{◌≡◌, ◌≢◌, ℕ, List, [], ◌∷◌, Some, None, Option, Bool, true, false, cond, ap, sym, ◌∙◌, refl}
+use Rattle.std.specs.Prelude.{ℤ, ◌==◌, ◌||◌, not, if◌then◌else◌, ◌↔◌}
+use Rattle.std.specs.List.{filter, list_any}
 use Rattle.rv_shape.specs.Shape.{Shape}
 use Rattle.rv_event.specs.Recorded.{recorded}
-use Rattle.rv_shape.specs.Catalogue.{OperationNumber, Target, Nowhere, OnProtected, OnSuspension, first_of, target, handler, is_function}
-use Rattle.rv_event.specs.Past.{clock, scalars, halted, held, queue, waiting, last_queued, stance, mode_by, or_else}
+use Rattle.rv_shape.specs.Catalogue.{Target, Nowhere, OnProtected, OnSuspension, place, target, shares}
+use Rattle.rv_event.specs.Past.{scalars, halted, held, queue, waiting, last_queued, left, joined, queued_by, begun, first_by, innermost, mode, mode_by, or_settling, stance, stance_of, under_way, unsettled}
 use Rattle.rv_event.specs.declared.entry.Body.{Body}
 use Rattle.rv_event.specs.declared.entry.Entry.{Entry}
 use Rattle.rv_event.specs.declared.entry.Entry.TheVariants.{Asked}
@@ -13,51 +13,75 @@ use Rattle.rv_event.specs.declared.entry.Exit.{Exit}
 use Rattle.rv_event.specs.declared.entry.Next.{Next}
 use Rattle.rv_event.specs.declared.entry.Next.TheVariants.{Nothing, HandedTo, Dropped}
 use Rattle.rv_event.specs.declared.entry.Request.{Request}
-use Rattle.rv_event.specs.declared.entry.Request.TheVariants.{Call, Complete, Resume, DelayUntil, Clock, Fire, Quit, Tick, Halt}
-use Rattle.rv_event.specs.declared.entry.Rule.TheVariants as Rules
-use Rattle.rv_event.specs.declared.entry.Stance.{Stance}
-use Rattle.rv_event.specs.declared.entry.Stance.TheVariants.{Free, InQueue, HandedOver, DroppedBy, WaitsOn, WaitsUntil, Gone}
-use Rattle.rv_shape.specs.declared.suspension.SuspensionOperation.{SuspensionOperation}
-use Rattle.rv_shape.specs.declared.suspension.SuspensionOperation.TheVariants.{SetTrue, SetFalse, CurrentState, SuspendUntilTrue}
+use Rattle.rv_event.specs.declared.entry.Request.TheVariants.{Call, Complete, Settle, Resume, DelayUntil, Clock, Fire, Quit, Tick, Halt}
+use Rattle.rv_event.specs.declared.entry.Stance.TheVariants.{Free}
 use Rattle.rv_event.specs.declared.entry.Recorded.TheVariants as Words
-use Rattle.rv_event.specs.declared.entry.Answer.{Answer}
 use Rattle.rv_event.specs.declared.entry.Answer.TheVariants as Answers
-use Rattle.rv_history.specs.History.{History, version}
+use Rattle.rv_history.specs.History.{History}
 use Rattle.rv_history.specs.Subject.{subject}
-use Rattle.rv_history.specs.Exclusion.{excluded, is_barred, full_queue}
-use Rattle.rv_history.specs.Owed.{IsSolvent}
-use Rattle.rv_history.specs.Rules.{granted, decided, breaks, holds_any}
-use Rattle.rv_history.specs.Fitting.{fits}
-use Rattle.rv_history.specs.Due.{out, due_call, due_fire, due_end, due_resume, due_delay, end_of, after_end, next_of_queue, judged, judged_head, performed, or_waiting, gate, table}
+use Rattle.rv_history.specs.Exclusion.{barrier_at, conflicts, opens_on}
+use Rattle.rv_history.specs.Owed.{IsSolvent, actors}
+use Rattle.rv_history.specs.Rules.{granted, decided}
+use Rattle.rv_history.specs.Fitting.{end_at, end_fits, fits, fits_actor, in_body}
+use Rattle.rv_history.specs.Due.{out, due_end, due_settle, end_of, after_end, next_of_queue, judged_head, gate}
 use Rattle.rv_history.specs.Legal.{Legal, after}
 use Rattle.rv_history.specs.Orderly.{is_on}
-use Rattle.rv_history.specs.HandOver.{Reaches, IsHandedOver, IsDropped, IsOnlyDropped, is_complete}
-use Rattle.rv_history.proofs.Answered.{off, and_false, answered}
-use Rattle.rv_history.proofs.Stances.{another, same_number, some_is}
-use Rattle.rv_history.proofs.Waits.{Waits, AllWait, legal_waits}
-use Rattle.rv_history.proofs.Bodies.{filter_gone}
+use Rattle.rv_history.specs.HandOver.{Reaches, IsHandedOver, IsDropped, IsOnlyDropped, serves, served, settling_behind}
+use Rattle.rv_event.proofs.Matching.{by}
+use Rattle.rv_history.proofs.Answered.{off, and_false, answered, both}
+use Rattle.rv_history.proofs.Stances.{another, is_waiting, itself, mode_other, own_stance, same_number, some_is}
+use Rattle.rv_history.proofs.Waits.{Waits, AllWait}
+use Rattle.rv_history.proofs.Done.{done_serves}
 use Rattle.rv_history.proofs.Ending.{Names, names_at, head_waits, head_on}
-use Rattle.rv_history.proofs.Orderly.{legal_orderly_at, legal_queue}
-use Rattle.rv_history.proofs.Ends.{end_never_full}
+use Rattle.rv_history.proofs.Serving.{drop_settles, left_elsewhere, left_nothing, left_then, other_left, served_actor}
+use Rattle.rv_history.proofs.Standing.{Standing, ender_free, legal_standing, names_other, queue_served, settler_at, stance_unnamed}
+use Rattle.rv_history.proofs.Ends.{end_never_full, settle_never_full}
+use Rattle.rv_history.proofs.Frame.{not_true}
 
--- what is answered where the end comes to a queued call
-reached_answer : (h : History) (a : ℕ) (vs : List ℤ) (x : Exit) (c : Body) → Legal h → IsSolvent h → Reaches h a vs x c →
+-- what is answered where the end or the settle comes to a queued call
+
+end_reached : (h : History) (a : ℕ) (vs : List ℤ) (x : Exit) (c : Body) → Legal h → IsSolvent h → Reaches h a (Complete vs x) c →
     out h a (Complete vs x) ≡ Answers.Done (judged_head (granted h (subject h c.actor) (target h.shapes c.object c.operation)) (decided h (subject h c.actor) (target h.shapes c.object c.operation)) c.actor)
-reached_answer h a vs x c l solvent r =
+end_reached h a vs x c l solvent r =
     end_never_full h a vs x l solvent
-    ∙ (λ i. gate (r.fitting i) (and_false (halted h.past) i) (due_end h vs (r.ending i)))
-    ∙ ap (end_of h vs r.body.object) r.of
-    ∙ ap (λ f. Answers.Done (if f then Nothing else after_end h r.body.object vs)) r.exclusive
+    ∙ (λ i. gate (r.fitting i) (and_false (halted h.past) i) (due_end h vs (r.serving i)))
+    ∙ by_target (target h.shapes r.body.object r.body.operation) r.exclusive (sym (ap (end_fits h.shapes vs x) r.serving) ∙ fit)
+    ∙ (λ i. Answers.Done (if r.going i then Nothing else (if r.open_to i then next_of_queue h (r.first i) else Nothing)))
+  where
+    fit : end_fits h.shapes vs x (innermost h.shapes a h.past) ≡ true
+    fit = (both (in_body (mode h.shapes a h.past)) (end_fits h.shapes vs x (innermost h.shapes a h.past)) (both _ (fits_actor h a (Complete vs x)) r.fitting).1).1
+
+    by_target : (t : Target) → shares t ≡ false → end_at vs x t ≡ true → end_of h vs r.body.object t ≡ Answers.Done (after_end h r.body.object vs)
+    by_target Nowhere f e = absurd (off e)
+    by_target (OnSuspension unit name wanted) f e = absurd (off e)
+    by_target (OnProtected s) f e = ap (λ b. Answers.Done (if b then Nothing else after_end h r.body.object vs)) f
+
+settle_reached : (h : History) (a : ℕ) (c : Body) → Legal h → IsSolvent h → Reaches h a Settle c →
+    out h a Settle ≡ Answers.Done (judged_head (granted h (subject h c.actor) (target h.shapes c.object c.operation)) (decided h (subject h c.actor) (target h.shapes c.object c.operation)) c.actor)
+settle_reached h a c l solvent r =
+    settle_never_full h a l solvent
+    ∙ (λ i. gate (r.fitting i) (and_false (halted h.past) i) (due_settle h (r.serving i)))
     ∙ (λ i. Answers.Done (if r.going i then Nothing else (if r.open_to i then next_of_queue h (r.first i) else Nothing)))
 
+pub reached_answer : (h : History) (a : ℕ) (r : Request) (c : Body) → Legal h → IsSolvent h → Reaches h a r c →
+    out h a r ≡ Answers.Done (judged_head (granted h (subject h c.actor) (target h.shapes c.object c.operation)) (decided h (subject h c.actor) (target h.shapes c.object c.operation)) c.actor)
+reached_answer h a (Complete vs x) c l solvent t = end_reached h a vs x c l solvent t
+reached_answer h a Settle c l solvent t = settle_reached h a c l solvent t
+reached_answer h a (Call o p vs) c l solvent t = let none = t.serving in absurd (cc)
+reached_answer h a Resume c l solvent t = let none = t.serving in absurd (cc)
+reached_answer h a (DelayUntil time) c l solvent t = let none = t.serving in absurd (cc)
+reached_answer h a Clock c l solvent t = let none = t.serving in absurd (cc)
+reached_answer h a Fire c l solvent t = let none = t.serving in absurd (cc)
+reached_answer h a Quit c l solvent t = let none = t.serving in absurd (cc)
+reached_answer h a (Tick n) c l solvent t = let none = t.serving in absurd (cc)
+reached_answer h a Halt c l solvent t = let none = t.serving in absurd (cc)
+
 -- and only there is one named
-reaches : (h : History) (a : ℕ) (vs : List ℤ) (x : Exit) (next : Next) (n : ℕ) → fits h a (Complete vs x) ≡ true → (m : Names h a vs next n) → Reaches h a vs x m.served_by.call
-reaches h a vs x next n fit m = record {
+reaches : (h : History) (a : ℕ) (r : Request) (next : Next) (n : ℕ) → fits h a r ≡ true → (m : Names h a r next n) → Reaches h a r m.served_by.call
+reaches h a r next n fit m = record {
   fitting = fit;
   body = m.body;
-  site = m.site;
-  ending = m.inner;
-  of = m.at;
+  serving = m.serving;
   exclusive = m.exclusive;
   going = m.served_by.going;
   open_to = m.served_by.opened;
@@ -85,113 +109,36 @@ unfolding is_hand_over line_in
 dropped_denied true k m n line e = absurd (off (ap is_hand_over e))
 dropped_denied false k m n line e = (refl, ap line_in e)
 
-pub handed_exactly : (h : History) (a : ℕ) (vs : List ℤ) (x : Exit) (n : ℕ) → Legal h → IsSolvent h →
-    (out h a (Complete vs x) ≡ Answers.Done (HandedTo n)) ↔ IsHandedOver h a vs x n
-handed_exactly h a vs x n l solvent = (to, from)
+pub handed_exactly : (h : History) (a : ℕ) (r : Request) (n : ℕ) → Legal h → IsSolvent h → (out h a r ≡ Answers.Done (HandedTo n)) ↔ IsHandedOver h a r n
+handed_exactly h a r n l solvent = (to, from)
   where
-    to : out h a (Complete vs x) ≡ Answers.Done (HandedTo n) → IsHandedOver h a vs x n
+    to : out h a r ≡ Answers.Done (HandedTo n) → IsHandedOver h a r n
     to e =
-        let g = answered h a (Complete vs x) (Words.Done (HandedTo n)) (ap recorded e) in
-        let m = names_at h a vs x (HandedTo n) n (ap recorded e) refl in
-        record { call = m.served_by.call; reached = reaches h a vs x (HandedTo n) n g.fitting m; its = m.served_by.is_its; grant = handed_granted _ _ _ n m.served_by.head }
+        let g = answered h a r (Words.Done (HandedTo n)) (ap recorded e) in
+        let m = names_at h a r (HandedTo n) n (ap recorded e) refl in
+        record { call = m.served_by.call; reached = reaches h a r (HandedTo n) n g.fitting m; its = m.served_by.is_its; grant = handed_granted _ _ _ n m.served_by.head }
 
-    from : IsHandedOver h a vs x n → out h a (Complete vs x) ≡ Answers.Done (HandedTo n)
+    from : IsHandedOver h a r n → out h a r ≡ Answers.Done (HandedTo n)
     from w =
-        reached_answer h a vs x w.call l solvent w.reached
+        reached_answer h a r w.call l solvent w.reached
         ∙ ap (λ b. Answers.Done (judged_head b (decided h (subject h w.call.actor) (target h.shapes w.call.object w.call.operation)) w.call.actor)) w.grant
         ∙ ap (λ m. Answers.Done (HandedTo m)) w.its
 
-pub dropped_exactly : (h : History) (a : ℕ) (vs : List ℤ) (x : Exit) (n line : ℕ) → Legal h → IsSolvent h →
-    (out h a (Complete vs x) ≡ Answers.Done (Dropped n line)) ↔ IsDropped h a vs x n line
-dropped_exactly h a vs x n line l solvent = (to, from)
+pub dropped_exactly : (h : History) (a : ℕ) (r : Request) (n line : ℕ) → Legal h → IsSolvent h → (out h a r ≡ Answers.Done (Dropped n line)) ↔ IsDropped h a r n line
+dropped_exactly h a r n line l solvent = (to, from)
   where
-    to : out h a (Complete vs x) ≡ Answers.Done (Dropped n line) → IsDropped h a vs x n line
+    to : out h a r ≡ Answers.Done (Dropped n line) → IsDropped h a r n line
     to e =
-        let g = answered h a (Complete vs x) (Words.Done (Dropped n line)) (ap recorded e) in
-        let m = names_at h a vs x (Dropped n line) n (ap recorded e) refl in
+        let g = answered h a r (Words.Done (Dropped n line)) (ap recorded e) in
+        let m = names_at h a r (Dropped n line) n (ap recorded e) refl in
         let d = dropped_denied _ _ _ n line m.served_by.head in
-        record { call = m.served_by.call; reached = reaches h a vs x (Dropped n line) n g.fitting m; its = m.served_by.is_its; denial = d.0; line_is = d.1 }
+        record { call = m.served_by.call; reached = reaches h a r (Dropped n line) n g.fitting m; its = m.served_by.is_its; denial = d.0; line_is = d.1 }
 
-    from : IsDropped h a vs x n line → out h a (Complete vs x) ≡ Answers.Done (Dropped n line)
+    from : IsDropped h a r n line → out h a r ≡ Answers.Done (Dropped n line)
     from w =
-        reached_answer h a vs x w.call l solvent w.reached
+        reached_answer h a r w.call l solvent w.reached
         ∙ ap (λ b. Answers.Done (judged_head b (decided h (subject h w.call.actor) (target h.shapes w.call.object w.call.operation)) w.call.actor)) w.denial
         ∙ (λ i. Answers.Done (Dropped (w.its i) (sym w.line_is i)))
-
--- Nothing but an end is answered Done.
-
-judged_not : (v l : ℕ) (vs : List ℤ) (d b r a y c f : Bool) (next : Next) → recorded (judged v l vs d b r a y c f) ≡ Some (Words.Done next) → ⊥
-judged_not v l vs true b r a y c f next e = cc
-judged_not v l vs false true r a y c f next e = cc
-judged_not v l vs false false true a y c f next e = cc
-judged_not v l vs false false false true y c f next e = cc
-judged_not v l vs false false false false true c f next e = cc
-judged_not v l vs false false false false false true true next e = cc
-judged_not v l vs false false false false false true false next e = cc
-judged_not v l vs false false false false false false f next e = cc
-
-performed_not : (v : ℕ) (b w s : Bool) (d : SuspensionOperation) (next : Next) → recorded (performed v b w s d) ≡ Some (Words.Done next) → ⊥
-performed_not v b w s SetTrue next e = cc
-performed_not v b w s SetFalse next e = cc
-performed_not v b w s CurrentState next e = cc
-performed_not v true w s SuspendUntilTrue next e = cc
-performed_not v false true s SuspendUntilTrue next e = cc
-performed_not v false false true SuspendUntilTrue next e = cc
-performed_not v false false false SuspendUntilTrue next e = cc
-
-denied_or : (b : Bool) (line v : ℕ) (x : Answer) (next : Next) → (recorded x ≡ Some (Words.Done next) → ⊥) → recorded (if b then Answers.Refused Rules.Grant line v else x) ≡ Some (Words.Done next) → ⊥
-denied_or true line v x next h e = cc
-denied_or false line v x next h e = h e
-
-call_not : (h : History) (a : ℕ) (r : Request) (o : ℕ) (t : Target) (next : Next) → recorded (due_call h a r o t) ≡ Some (Words.Done next) → ⊥
-call_not h a r o Nowhere next e = cc
-call_not h a r o (OnProtected s) next e =
-    judged_not (version h) (decided h (subject h a) (OnProtected s)) (scalars h.shapes o h.past) (breaks h Rules.Grant a r o (OnProtected s)) (breaks h Rules.Blocking a r o (OnProtected s)) (breaks h Rules.Reentry a r o (OnProtected s))
-    (breaks h Rules.Ceiling a r o (OnProtected s)) (excluded h o (is_function s.operation.kind)) (is_barred h o s.operation.kind) (full_queue h o) next e
-call_not h a r o (OnSuspension unit name wanted) next e = denied_or _ _ (version h) _ next (performed_not (version h) _ _ _ wanted next) e
-
-fire_not : (h : History) (a : ℕ) (n : Option OperationNumber) (next : Next) → recorded (due_fire h a n) ≡ Some (Words.Done next) → ⊥
-fire_not h a None next e = cc
-fire_not h a (Some n) next e = call_not h a Fire n.object (target h.shapes n.object n.operation) next e
-
-waiting_not : (h : History) (ready : Bool) (next : Next) → recorded (or_waiting h ready) ≡ Some (Words.Done next) → ⊥
-waiting_not h true next e = cc
-waiting_not h false next e = by_halt (halted h.past) e
-  where
-    by_halt : (b : Bool) → recorded (if b then Answers.Halted else Answers.Waiting) ≡ Some (Words.Done next) → ⊥
-    by_halt true e = cc
-    by_halt false e = cc
-
-resume_not : (h : History) (a : ℕ) (s : Stance) (next : Next) → recorded (due_resume h a s) ≡ Some (Words.Done next) → ⊥
-resume_not h a Free next e = cc
-resume_not h a InQueue next e = waiting_not h false next e
-resume_not h a HandedOver next e = cc
-resume_not h a (DroppedBy line) next e = cc
-resume_not h a (WaitsOn object) next e = waiting_not h _ next e
-resume_not h a (WaitsUntil time) next e = waiting_not h _ next e
-resume_not h a Gone next e = cc
-
-delay_not : (h : History) (b c : Bool) (next : Next) → recorded (due_delay h b c) ≡ Some (Words.Done next) → ⊥
-delay_not h true c next e = cc
-delay_not h false true next e = cc
-delay_not h false false next e = cc
-
-pub done_at_ends : (h : History) (a : ℕ) (r : Request) (next : Next) → recorded (out h a r) ≡ Some (Words.Done next) → is_complete r ≡ true
-done_at_ends h a r next e = by_request r (answered h a r (Words.Done next) e).said
-  where
-    by_request : (r : Request) → recorded (table h a r) ≡ Some (Words.Done next) → is_complete r ≡ true
-    by_request (Call o p vs) f = absurd (call_not h a (Call o p vs) o (target h.shapes o p) next f)
-    by_request (Complete vs x) f = refl
-    by_request Resume f = absurd (resume_not h a (stance a h.past) next f)
-    by_request (DelayUntil t) f = absurd (delay_not h (holds_any h a) (int_le t (pos (clock h.past))) next f)
-    by_request Clock f = absurd (cc)
-    by_request Fire f = absurd (fire_not h a (handler h.shapes (a - 1)) next f)
-    by_request Quit f = absurd (cc)
-    by_request (Tick n) f = absurd (cc)
-    by_request Halt f = absurd (cc)
-
-pub only_ends : (h : History) (a : ℕ) (r : Request) (next : Next) → out h a r ≡ Answers.Done next → is_complete r ≡ true
-only_ends h a r next e = done_at_ends h a r next (ap recorded e)
 
 -- What a denial changes.
 
@@ -208,31 +155,127 @@ others_kept shapes past n o c (d ∷ calls) all last off_it = by_test (d.actor =
         let away : (d.object == o) ≡ false = ap (λ (b : Body). b.object == o) (sym same) ∙ off_it in
         rest ∙ ap (λ t. cond t (d ∷ filter (is_on o) calls) (filter (is_on o) calls)) (sym away)
 
-pub one_only : (c : Body) (cs : List Body) → length (c ∷ cs) ≤ 1 → cs ≡ []
-one_only c [] e = refl
-one_only c (d ∷ cs) e = absurd (omega (arith, e))
+-- the queues then
+pub record Leaves (h : History) (n : ℕ) (call : Body) (behind : List Body) : Type 0 where
+  pub was : queue call.object h.past ≡ call ∷ behind
+  pub gone : filter (is_on call.object) (left (Some n) (waiting h.past)) ≡ behind
+  pub others : (o : ℕ) → o ≢ call.object → filter (is_on o) (left (Some n) (waiting h.past)) ≡ queue o h.past
 
-pub only_dropped : (h : History) (a : ℕ) (vs : List ℤ) (x : Exit) (n line : ℕ) → Legal h → out h a (Complete vs x) ≡ Answers.Done (Dropped n line) →
-    IsOnlyDropped h (after h a (Complete vs x) (Answers.Done (Dropped n line))) (after h a (Complete vs x) (Answers.Done Nothing)) n
-only_dropped h a vs x n line l e =
-    let m = names_at h a vs x (Dropped n line) n (ap recorded e) refl in
+pub leaves : (h : History) (a : ℕ) (r : Request) (next : Next) (n : ℕ) → Standing h.shapes h.past → (m : Names h a r next n) → Leaves h n m.served_by.call m.served_by.rest
+leaves h a r next n k m =
     let q = m.served_by in
-    let all : AllWait h.shapes h.past (waiting h.past) = legal_waits h.limits h.past h.shapes h.lists l in
-    let v : Waits h.shapes h.past q.call = head_waits h.shapes h.past m.body.object q.call q.rest all q.queued in
+    let v : Waits h.shapes h.past q.call = head_waits h.shapes h.past m.body.object q.call q.rest k.wait q.queued in
     let there : q.call.object ≡ m.body.object = same_number q.call.object m.body.object (head_on h.past m.body.object q.call q.rest q.queued) in
-    let limit : h.limits.queue ≡ 1 = legal_queue h.limits h.past h.shapes h.lists l in
-    let few : length (queue m.body.object h.past) ≤ 1 = subst (λ k. length (queue m.body.object h.past) ≤ k) limit ((legal_orderly_at h l).queues m.body.object) in
-    let none : q.rest ≡ [] = one_only q.call q.rest (subst (λ cs. length cs ≤ 1) q.queued few) in
-    let one : queue q.call.object h.past ≡ q.call ∷ [] = ap (λ o. queue o h.past) there ∙ q.queued ∙ ap (λ cs. q.call ∷ cs) none in
+    let was : queue q.call.object h.past ≡ q.call ∷ q.rest = ap (λ o. queue o h.past) there ∙ q.queued in
     let last : last_queued n h.past ≡ Some q.call = ap (λ j. last_queued j h.past) (sym q.is_its) ∙ v.last in
     record {
-      call = q.call;
-      its = q.is_its;
-      was = one;
-      left = ap (λ j. filter (is_on q.call.object) (filter (λ d. not (d.actor == j)) (waiting h.past))) (sym q.is_its) ∙ filter_gone (is_on q.call.object) q.call (waiting h.past) one;
-      queues_stay = λ o other. others_kept h.shapes h.past n o q.call (waiting h.past) all last (another q.call.object o other);
-      scalars_stay = λ o. refl;
-      barriers_stay = λ o. refl;
-      held_stays = λ j. refl;
-      modes_stay = λ j other. λ i. mode_by (held h.shapes j (Asked a (Complete vs x) (Words.Done Nothing) ∷ h.past)) (or_else (first_of (if another n j other i then Some (DroppedBy line) else None) (if a == j then Some Free else None)) (stance j h.past));
+      was = was;
+      gone = ap (λ j. filter (is_on q.call.object) (left (Some j) (waiting h.past))) (sym q.is_its) ∙ queue_served h.shapes h.past q.call.object q.call q.rest k was;
+      others = λ o other. others_kept h.shapes h.past n o q.call (waiting h.past) k.wait last (another q.call.object o other);
     }
+
+-- the mode of the actor then, and whom it keeps out
+record Settles (h : History) (a : ℕ) (r : Request) (n line : ℕ) (call : Body) (behind : List Body) : Type 0 where
+  own : mode h.shapes a (Asked a r (Words.Done (Dropped n line)) ∷ h.past) ≡ settling_behind behind (mode h.shapes a (Asked a r (Words.Done Nothing) ∷ h.past))
+  others : (o : ℕ) → o ≢ call.object →
+      list_any (is_on o) (unsettled h.shapes (Asked a r (Words.Done (Dropped n line)) ∷ h.past)) ≡ list_any (is_on o) (unsettled h.shapes (Asked a r (Words.Done Nothing) ∷ h.past))
+
+drop_serves : (h : History) (a : ℕ) (r : Request) (n line : ℕ) (m : Names h a r (Dropped n line) n) → Leaves h n m.served_by.call m.served_by.rest → queued_by (Asked a r (Words.Done (Dropped n line))) ≡ None →
+    queue m.body.object (Asked a r (Words.Done (Dropped n line)) ∷ h.past) ≡ m.served_by.rest
+drop_serves h a r n line m k none =
+    let q = m.served_by in
+    let there : m.body.object ≡ q.call.object = sym (same_number q.call.object m.body.object (head_on h.past m.body.object q.call q.rest q.queued)) in
+    (λ i. filter (is_on (there i)) (joined (none i) (left (Some n) (waiting h.past)))) ∙ k.gone
+
+-- away from the object that is served
+off_served : (past : List Entry) (o other : ℕ) (c : Body) (cs : List Body) → queue o past ≡ c ∷ cs → other ≢ c.object → (o == other) ≡ false
+off_served past o other c cs is away = another o other (λ same. away (same ∙ sym (same_number c.object o (head_on past o c cs is))))
+
+-- what is known of the entry in either case
+record Frees (h : History) (a : ℕ) (r : Request) (n line : ℕ) : Type 0 where
+  unqueued : queued_by (Asked a r (Words.Done (Dropped n line))) ≡ None
+  frees : (next : Next) → stance_of (Asked a r (Words.Done next)) ≡ Free
+  holds : held h.shapes a (Asked a r (Words.Done (Dropped n line)) ∷ h.past) ≡ held h.shapes a (Asked a r (Words.Done Nothing) ∷ h.past)
+
+settles : (h : History) (a : ℕ) (r : Request) (n line : ℕ) (m : Names h a r (Dropped n line) n) → Leaves h n m.served_by.call m.served_by.rest → Frees h a r n line → (n == a) ≡ false →
+    Settles h a r n line m.served_by.call m.served_by.rest
+settles h a r n line m k f other = record {
+  own = (λ i. or_settling (first_by a (left_then h.shapes a h.past r (Dropped n line) i)) (mode_by (f.holds i) (at_drop i)))
+      ∙ drop_settles dropped n line serving m.body m.served_by.rest a lefts (mode_by holds Free) m.serving (served_actor h.shapes a h.past r m.body m.serving) (drop_serves h a r n line m k f.unqueued)
+      ∙ ap (λ p. settling_behind m.served_by.rest (or_settling (first_by a (begun p lefts)) (mode_by holds Free))) (sym (left_nothing ended serving))
+      ∙ (λ i. settling_behind m.served_by.rest (or_settling (first_by a (sym (left_then h.shapes a h.past r Nothing) i)) (mode_by holds (sym at_end i))));
+  others = λ o away. ap (list_any (is_on o)) (left_then h.shapes a h.past r (Dropped n line))
+      ∙ left_elsewhere dropped (Dropped n line) serving m.body o lefts m.serving (off_served h.past m.body.object o m.served_by.call m.served_by.rest m.served_by.queued away)
+      ∙ ap (λ p. list_any (is_on o) (begun p lefts)) (sym (left_nothing ended serving))
+      ∙ ap (list_any (is_on o)) (sym (left_then h.shapes a h.past r Nothing));
+}
+  where
+    dropped : List Entry
+    dropped = Asked a r (Words.Done (Dropped n line)) ∷ h.past
+
+    ended : List Entry
+    ended = Asked a r (Words.Done Nothing) ∷ h.past
+
+    serving : Option Body
+    serving = served h.shapes a h.past r
+
+    lefts : List Body
+    lefts = other_left h.shapes a h.past r
+
+    holds : List Body
+    holds = held h.shapes a ended
+
+    at_drop : stance a dropped ≡ Free
+    at_drop = stance_unnamed (Dropped n line) a a (stance_of (Asked a r (Words.Done (Dropped n line)))) (stance a h.past) (ap not other)
+        ∙ ap (λ b. if b then stance_of (Asked a r (Words.Done (Dropped n line))) else stance a h.past) (itself a) ∙ f.frees (Dropped n line)
+
+    at_end : stance a ended ≡ Free
+    at_end = own_stance a r (Words.Done Nothing) h.past refl ∙ f.frees Nothing
+
+-- all that a denial does
+dropped_by : (h : History) (a : ℕ) (r : Request) (n line : ℕ) → Legal h → out h a r ≡ Answers.Done (Dropped n line) → is_waiting (stance a h.past) ≡ false → Frees h a r n line →
+    ((o : ℕ) → scalars h.shapes o (Asked a r (Words.Done (Dropped n line)) ∷ h.past) ≡ scalars h.shapes o (Asked a r (Words.Done Nothing) ∷ h.past)) →
+    under_way h.shapes (Asked a r (Words.Done (Dropped n line)) ∷ h.past) ≡ under_way h.shapes (Asked a r (Words.Done Nothing) ∷ h.past) →
+    IsOnlyDropped h (after h a r (Answers.Done (Dropped n line))) (after h a r (Answers.Done Nothing)) a n
+dropped_by h a r n line l e calm f values ways =
+    let k : Standing h.shapes h.past = legal_standing h.limits h.past h.shapes h.lists l in
+    let m = names_at h a r (Dropped n line) n (ap recorded e) refl in
+    let q = leaves h a r (Dropped n line) n k m in
+    let other : (n == a) ≡ false = not_true (n == a) (names_other h a r (Words.Done (Dropped n line)) a k.wait (ap recorded e) calm) in
+    let t = settles h a r n line m q f other in
+    record {
+      call = m.served_by.call;
+      its = m.served_by.is_its;
+      behind = m.served_by.rest;
+      was = q.was;
+      left = ap (λ c. filter (is_on m.served_by.call.object) (joined c (left (Some n) (waiting h.past)))) f.unqueued ∙ q.gone;
+      queues_stay = λ o away. ap (λ c. filter (is_on o) (joined c (left (Some n) (waiting h.past)))) f.unqueued ∙ q.others o away;
+      scalars_stay = values;
+      barriers_stay = λ o. ap (opens_on (barrier_at (place h.shapes o))) (values o);
+      held_stays = λ j. ap (filter (by j)) ways;
+      exclusion_stays = λ o away f. (λ i. list_any (conflicts h.shapes o f) (ways i) || t.others o away i);
+      own_mode = t.own;
+      modes_stay = λ j not_caller not_actor.
+          mode_other h.shapes h.past a r (Words.Done (Dropped n line)) j not_actor (ap not (another n j not_caller)) ∙ sym (mode_other h.shapes h.past a r (Words.Done Nothing) j not_actor refl);
+    }
+
+pub only_dropped : (h : History) (a : ℕ) (r : Request) (n line : ℕ) → Legal h → out h a r ≡ Answers.Done (Dropped n line) →
+    IsOnlyDropped h (after h a r (Answers.Done (Dropped n line))) (after h a r (Answers.Done Nothing)) a n
+only_dropped h a r n line l e = by_request r (done_serves h a r (Dropped n line) (ap recorded e)) e
+  where
+    by_request : (r : Request) → serves r ≡ true → out h a r ≡ Answers.Done (Dropped n line) → IsOnlyDropped h (after h a r (Answers.Done (Dropped n line))) (after h a r (Answers.Done Nothing)) a n
+    by_request (Complete vs x) is e =
+        let g = answered h a (Complete vs x) (Words.Done (Dropped n line)) (ap recorded e) in
+        dropped_by h a (Complete vs x) n line l e (ap is_waiting (ender_free h a vs x (Words.Done (Dropped n line)) g)) (record { unqueued = refl; frees = λ next. refl; holds = refl }) (λ o. refl) refl
+    by_request Settle is e =
+        let m = names_at h a Settle (Dropped n line) n (ap recorded e) refl in
+        let free = settler_at h a m.body (legal_standing h.limits h.past h.shapes h.lists l) m.serving in
+        dropped_by h a Settle n line l e (ap is_waiting free) (record { unqueued = refl; frees = λ next. refl; holds = refl }) (λ o. refl) refl
+    by_request (Call o p vs) is e = absurd (off is)
+    by_request Resume is e = absurd (off is)
+    by_request (DelayUntil t) is e = absurd (off is)
+    by_request Clock is e = absurd (off is)
+    by_request Fire is e = absurd (off is)
+    by_request Quit is e = absurd (off is)
+    by_request (Tick m) is e = absurd (off is)
+    by_request Halt is e = absurd (off is)

@@ -4,6 +4,7 @@ pub mod Stances
 pub mod Bodies
 pub mod Handled
 pub mod Sums
+pub mod Modes
 -- Starts and refusals
 pub mod Exactly
 pub mod Fires
@@ -13,13 +14,17 @@ pub mod Refused
 pub mod Loaded
 pub mod Versions
 pub mod Unrecorded
--- Queues, ends and hand-overs
+-- Queues, ends, settles and hand-overs
 pub mod Waits
+pub mod Done
 pub mod Ending
+pub mod Serving
+pub mod Standing
 pub mod HandOver
 pub mod Silent
 pub mod Handing
 -- Order, exclusion and scalars
+pub mod Apart
 pub mod Orderly
 pub mod Alone
 pub mod Settled

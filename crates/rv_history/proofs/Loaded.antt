@@ -7,15 +7,15 @@ use Rattle.rv_access.specs.Words.{Words}
 use Rattle.rv_shape.specs.Shape.{Shape}
 use Rattle.rv_event.specs.Recorded.{recorded}
 use Rattle.rv_shape.specs.Catalogue.{OperationNumber, UnitObject, Site, Nowhere, OnProtected, place, target, at_unit_object, starts_at, shares, handler}
-use Rattle.rv_event.specs.Past.{started, ended, closed, begun, fired, under_way, innermost, writes, scalars, scalars_after}
+use Rattle.rv_event.specs.Past.{started, ended, closed, without, begun, fired, under_way, innermost, first_by, left_by, unsettled, writes, scalars, scalars_after}
 use Rattle.rv_shape.proofs.Stay.{handler_stays, object_stays, target_stays}
 use Rattle.rv_event.specs.declared.entry.Entry.{Entry}
 use Rattle.rv_event.specs.declared.entry.Entry.TheVariants.{Asked, Load, ListChange}
 use Rattle.rv_event.specs.declared.entry.Body.{Body}
 use Rattle.rv_event.specs.declared.entry.Request.{Request}
-use Rattle.rv_event.specs.declared.entry.Request.TheVariants.{Call, Complete, Resume, DelayUntil, Clock, Fire, Quit, Tick, Halt}
+use Rattle.rv_event.specs.declared.entry.Request.TheVariants.{Call, Complete, Settle, Resume, DelayUntil, Clock, Fire, Quit, Tick, Halt}
 use Rattle.rv_event.specs.declared.entry.Recorded.{Recorded}
-use Rattle.rv_event.specs.declared.entry.Recorded.TheVariants.{Started}
+use Rattle.rv_event.specs.declared.entry.Recorded.TheVariants.{Started, Done}
 use Rattle.rv_history.specs.declared.limits.Limits.{Limits}
 use Rattle.rv_history.specs.History.{History}
 use Rattle.rv_history.specs.Rules.{aim_at, is_protected}
@@ -36,6 +36,7 @@ start_stays h more a Fire Started e = by_handler (handler h.shapes (a - 1)) refl
     by_handler (Some s) is = ap (fired a) (handler_stays h.shapes more (a - 1) s is ∙ sym is)
 start_stays h more a Fire w e = refl
 start_stays h more a (Complete vs y) w e = refl
+start_stays h more a Settle w e = refl
 start_stays h more a Resume w e = refl
 start_stays h more a (DelayUntil t) w e = refl
 start_stays h more a Clock w e = refl
@@ -60,6 +61,36 @@ way_stays c (ListChange ∷ past) shapes more lists l = way_stays c past shapes 
 
 pub under_way_stays : (h : History) (more : List Shape) → Legal h → under_way (h.shapes ++ more) h.past ≡ under_way h.shapes h.past
 under_way_stays h more l = way_stays h.limits h.past h.shapes more h.lists l
+
+-- so do the bodies whose ends left their objects unsettled
+same_unsettled : (one two : List Shape) (past : List Entry) (a : ℕ) (r : Request) (w : Recorded) → under_way one past ≡ under_way two past → unsettled one past ≡ unsettled two past →
+    unsettled one (Asked a r w ∷ past) ≡ unsettled two (Asked a r w ∷ past)
+same_unsettled one two past a (Complete vs x) (Done next) bodies before =
+    λ i. begun (left_by (Asked a (Complete vs x) (Done next) ∷ past) next (first_by a (bodies i))) (before i)
+same_unsettled one two past a (Complete vs x) w bodies before = before
+same_unsettled one two past a Settle (Done next) bodies before =
+    λ i. begun (left_by (Asked a Settle (Done next) ∷ past) next (first_by a (before i))) (without a (before i))
+same_unsettled one two past a Settle w bodies before = ap (without a) before
+same_unsettled one two past a (Call o p vs) w bodies before = before
+same_unsettled one two past a Resume w bodies before = before
+same_unsettled one two past a (DelayUntil t) w bodies before = before
+same_unsettled one two past a Clock w bodies before = before
+same_unsettled one two past a Fire w bodies before = before
+same_unsettled one two past a Quit w bodies before = before
+same_unsettled one two past a (Tick n) w bodies before = before
+same_unsettled one two past a Halt w bodies before = before
+
+pub left_stays : (c : Limits) (past : List Entry) (shapes more : List Shape) (lists : List (List Words)) → IsLegal c past shapes lists → unsettled (shapes ++ more) past ≡ unsettled shapes past
+left_stays c [] shapes more lists l = refl
+left_stays c (Asked a r w ∷ past) shapes more lists l =
+    same_unsettled (shapes ++ more) shapes past a r w (way_stays c past shapes more lists l.0) (left_stays c past shapes more lists l.0)
+left_stays c (Load ∷ past) shapes more lists l =
+    ap (λ (ss : List Shape). unsettled (ss ++ more) past) l.2
+    ∙ ap (λ (ss : List Shape). unsettled ss past) (append_assoc l.0 (l.1 ∷ []) more)
+    ∙ left_stays c past l.0 (l.1 ∷ more) lists l.3
+    ∙ sym (left_stays c past l.0 (l.1 ∷ []) lists l.3)
+    ∙ ap (λ (ss : List Shape). unsettled ss past) (sym l.2)
+left_stays c (ListChange ∷ past) shapes more lists l = left_stays c past shapes more l.0 l.3
 
 -- an operation of a protected object keeps its numbers
 pub protected_stays : (old more : List Shape) (o n : ℕ) (s : Site) → target old o n ≡ OnProtected s → target (old ++ more) o n ≡ OnProtected s
@@ -101,6 +132,7 @@ same_after one two o past a (Complete vs x) w at bodies before =
     let test : writes one o (innermost one a past) ≡ writes two o (innermost two a past) = same_writes one two o (innermost one a past) at ∙ ap (writes two o) inner in
     λ i. if test i then vs else before i
 same_after one two o past a (Call p q vs) w at bodies before = before
+same_after one two o past a Settle w at bodies before = before
 same_after one two o past a Resume w at bodies before = before
 same_after one two o past a (DelayUntil t) w at bodies before = before
 same_after one two o past a Clock w at bodies before = before

@@ -5,7 +5,7 @@ use Rattle.std.proofs.lemmas.Bool.Decides.{nat_tests}
 use Rattle.rv_shape.specs.Shape.{Shape}
 use Rattle.rv_event.specs.Recorded.{recorded}
 use Rattle.rv_shape.specs.Catalogue.{Who, Operator, Line, Task, Nobody, who, task_of, all_tasks}
-use Rattle.rv_event.specs.Past.{held, innermost, next_of, stance, stance_of, halted, mode, mode_by, clock, released, until_then}
+use Rattle.rv_event.specs.Past.{held, innermost, to_settle, next_of, stance, stance_of, halted, mode, mode_by, clock, released, until_then}
 use Rattle.rv_event.specs.declared.entry.Stance.{Stance}
 use Rattle.rv_event.specs.declared.entry.Stance.TheVariants.{Free, InQueue, HandedOver, DroppedBy, WaitsOn, WaitsUntil, Gone}
 use Rattle.rv_event.specs.declared.entry.Body.{Body}
@@ -25,6 +25,7 @@ use Rattle.rv_history.specs.Owed.{surcharge, unfinished, dues, each, actors, hal
 use Rattle.rv_history.specs.Fitting.{fits, fits_actor, idle_task}
 use Rattle.rv_history.specs.Due.{due, out, gate, within, enough, table, due_resume, or_waiting, scalars_held, nothing_more, goes_on}
 use Rattle.rv_history.proofs.Answered.{off, both, and_true, word_is}
+use Rattle.rv_history.proofs.Modes.{quits_at}
 use Rattle.rv_history.proofs.Stances.{below, own_stance, other_stance}
 use Rattle.rv_history.proofs.Sums.{each_change, each_less}
 use Rattle.rv_history.proofs.Room.{to_room}
@@ -117,7 +118,8 @@ idle_high shapes a m e = by_tests (a == 0) (nat_lt a 11) (task_of (slice_get (al
 
 pays_quit : (h : History) (a : ℕ) → idle_task (who h.shapes a) (mode h.shapes a h.past) ≡ true → a < actors h.shapes → IsSolvent h → Pays h a Quit nothing_more
 pays_quit h a idle some solvent =
-    let free = idle_free (who h.shapes a) (held h.shapes a h.past) (stance a h.past) idle in
+    let rests = quits_at (who h.shapes a) (to_settle h.shapes a h.past) (mode_by (held h.shapes a h.past) (stance a h.past)) idle in
+    let free = idle_free (who h.shapes a) (held h.shapes a h.past) (stance a h.past) rests in
     let high = idle_high h.shapes a (mode h.shapes a h.past) idle in
     let before : dues_by (stance a h.past) (nat_lt a 11) ≡ 1 = λ i. dues_by (free i) (high i) in
     let now : dues_by Gone (nat_lt a 11) ≡ 0 = λ i. dues_by Gone (high i) in

@@ -17,15 +17,6 @@ use Rattle.rv_history.proofs.Answered.{off, and_false}
 use Rattle.rv_history.proofs.Pays.{resume_never_full}
 use Rattle.rv_history.proofs.Silent.{known_actor}
 
-abbrev pub is_waiting : Stance → Bool
-is_waiting Free = false
-is_waiting InQueue = true
-is_waiting HandedOver = true
-is_waiting (DroppedBy line) = true
-is_waiting (WaitsOn object) = true
-is_waiting (WaitsUntil time) = true
-is_waiting Gone = false
-
 awaits_at : (bodies : List Body) (s : Stance) → is_waiting s ≡ true → awaits (mode_by bodies s) ≡ true
 awaits_at bodies Free e = absurd (off e)
 awaits_at bodies InQueue e = refl

@@ -28,7 +28,7 @@ use Rattle.rv_event.specs.declared.entry.Exit.{Exit}
 use Rattle.rv_event.specs.declared.entry.Exit.TheVariants.{Return, Raise, Overrun, Stopped}
 use Rattle.rv_event.specs.declared.entry.Recorded.{Recorded}
 use Rattle.rv_event.specs.declared.entry.Request.{Request}
-use Rattle.rv_event.specs.declared.entry.Request.TheVariants.{Call, Complete, Resume, DelayUntil, Clock, Fire, Quit, Tick, Halt}
+use Rattle.rv_event.specs.declared.entry.Request.TheVariants.{Call, Complete, Settle, Resume, DelayUntil, Clock, Fire, Quit, Tick, Halt}
 use Rattle.rv_event.proofs.ReadingBack.{request_back}
 use Rattle.rv_history.specs.Due.{out}
 use Rattle.rv_history.specs.Fitting.{all_fit, call_fits, end_at, end_fits, exit_fits, fits_actor, in_body, is_operator, is_tick, is_time, may_call, no_values, ranges_in, ranges_out, results}

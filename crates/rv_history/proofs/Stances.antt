@@ -1,13 +1,13 @@
 -- What an entry says of its own actor and of others.
 use Rattle.std.proofs.Common.{◌≡◌, ◌≢◌, ℕ, ◌-◌, ◌<◌, List, [], ◌∷◌, Some, None, Option, Bool, true, false, arith, ap, sym, ◌∙◌, refl}
-use Rattle.std.specs.Prelude.{nat_lt, ◌==◌, not, if◌then◌else◌}
+use Rattle.std.specs.Prelude.{nat_lt, ◌==◌, not, if◌then◌else◌, cond, slice_get}
 use Rattle.std.specs.List.{filter}
 use Rattle.std.proofs.lemmas.Bool.Decides.{nat_tests}
 use Rattle.rv_shape.specs.Shape.{Shape}
 use Rattle.rv_shape.specs.Catalogue.{OperationNumber, first_of, handler}
-use Rattle.rv_event.specs.Past.{if_named, next_of, named_in, or_else, stance, stance_of, if_of, queued_by, last_queued, under_way, held, begun, fired, without}
+use Rattle.rv_event.specs.Past.{if_named, next_of, named_in, or_else, stance, stance_of, if_of, queued_by, last_queued, under_way, held, begun, fired, without, innermost, left_by, leaves_some, mode, mode_by, or_settling, queue, to_settle, unsettled}
 use Rattle.rv_event.specs.declared.entry.Stance.{Stance}
-use Rattle.rv_event.specs.declared.entry.Stance.TheVariants.{HandedOver, DroppedBy}
+use Rattle.rv_event.specs.declared.entry.Stance.TheVariants.{Free, InQueue, HandedOver, DroppedBy, WaitsOn, WaitsUntil, Gone}
 use Rattle.rv_event.proofs.Matching.{by, filter_others}
 use Rattle.rv_event.specs.declared.entry.Body.{Body}
 use Rattle.rv_event.specs.declared.entry.Entry.{Entry}
@@ -15,7 +15,7 @@ use Rattle.rv_event.specs.declared.entry.Entry.TheVariants.{Asked}
 use Rattle.rv_event.specs.declared.entry.Next.{Next}
 use Rattle.rv_event.specs.declared.entry.Next.TheVariants.{Nothing, HandedTo, Dropped}
 use Rattle.rv_event.specs.declared.entry.Request.{Request}
-use Rattle.rv_event.specs.declared.entry.Request.TheVariants.{Call, Complete, Resume, DelayUntil, Clock, Fire, Quit, Tick, Halt}
+use Rattle.rv_event.specs.declared.entry.Request.TheVariants.{Call, Complete, Settle, Resume, DelayUntil, Clock, Fire, Quit, Tick, Halt}
 use Rattle.rv_event.specs.declared.entry.Recorded.{Recorded}
 use Rattle.rv_event.specs.declared.entry.Recorded.TheVariants.{Started, Queued, Done}
 use Rattle.rv_history.proofs.Answered.{off}
@@ -115,9 +115,73 @@ held_other shapes past a (Complete vs x) (Done (HandedTo n)) j h e =
     ∙ filter_others j a (under_way shapes past) (λ is. h (sym is))
 held_other shapes past a (Complete vs x) (Done (Dropped n line)) j h e = filter_others j a (under_way shapes past) (λ is. h (sym is))
 held_other shapes past a (Complete vs x) w j h e = filter_others j a (under_way shapes past) (λ is. h (sym is))
+held_other shapes past a Settle (Done Nothing) j h e = refl
+held_other shapes past a Settle (Done (HandedTo n)) j h e =
+    skip_begun j (last_queued n past) (under_way shapes past) (λ b is same. off (sym (ap (λ m. not (m == j)) (sym (last_actor n past b is) ∙ same) ∙ ap not (itself j)) ∙ e))
+held_other shapes past a Settle (Done (Dropped n line)) j h e = refl
+held_other shapes past a Settle w j h e = refl
 held_other shapes past a Resume w j h e = refl
 held_other shapes past a (DelayUntil t) w j h e = refl
 held_other shapes past a Clock w j h e = refl
 held_other shapes past a Quit w j h e = refl
 held_other shapes past a (Tick n) w j h e = refl
 held_other shapes past a Halt w j h e = refl
+
+-- the first body of an actor is its own
+pub first_actor : (a : ℕ) (c : Body) (bs : List Body) → slice_get (filter (by a) bs) 0 ≡ Some c → c.actor ≡ a
+first_actor a c [] h = absurd (cc)
+first_actor a c (x ∷ bs) h = by_actor (x.actor == a) refl h (first_actor a c bs)
+  where
+    by_actor : (t : Bool) → (x.actor == a) ≡ t → slice_get (cond t (x ∷ filter (by a) bs) (filter (by a) bs)) 0 ≡ Some c → (slice_get (filter (by a) bs) 0 ≡ Some c → c.actor ≡ a) → c.actor ≡ a
+    by_actor true is g rest = sym (ap (λ (d : Body). d.actor) (some_is x c g)) ∙ same_number x.actor a is
+    by_actor false is g rest = rest g
+
+-- what is left unsettled is what was served
+pub left_is : (past : List Entry) (next : Next) (q : Option Body) (b : Body) → left_by past next q ≡ Some b → q ≡ Some b
+left_is past next None b e = absurd (cc)
+left_is past next (Some c) b e = by_test (leaves_some next (queue c.object past)) e
+  where
+    by_test : (t : Bool) → (if t then Some c else None) ≡ Some b → Some c ≡ Some b
+    by_test true f = f
+    by_test false f = absurd (cc)
+
+-- what another has to settle
+others_left : (past : List Entry) (next : Next) (q : Option Body) (a j : ℕ) (bs : List Body) → ((b : Body) → q ≡ Some b → b.actor ≡ a) → j ≢ a → filter (by j) (begun (left_by past next q) bs) ≡ filter (by j) bs
+others_left past next q a j bs its h =
+    skip_begun j (left_by past next q) bs (λ b is same. h (sym same ∙ its b (left_is past next q b is)))
+
+left_other : (shapes : List Shape) (past : List Entry) (a : ℕ) (r : Request) (w : Recorded) (j : ℕ) → j ≢ a → filter (by j) (unsettled shapes (Asked a r w ∷ past)) ≡ filter (by j) (unsettled shapes past)
+left_other shapes past a (Complete vs x) (Done next) j h =
+    others_left (Asked a (Complete vs x) (Done next) ∷ past) next (innermost shapes a past) a j (unsettled shapes past) (λ b is. first_actor a b (under_way shapes past) is) h
+left_other shapes past a (Complete vs x) w j h = refl
+left_other shapes past a Settle (Done next) j h =
+    others_left (Asked a Settle (Done next) ∷ past) next (to_settle shapes a past) a j (without a (unsettled shapes past)) (λ b is. first_actor a b (unsettled shapes past) is) h
+    ∙ filter_others j a (unsettled shapes past) (λ is. h (sym is))
+left_other shapes past a Settle w j h = filter_others j a (unsettled shapes past) (λ is. h (sym is))
+left_other shapes past a (Call o p vs) w j h = refl
+left_other shapes past a Resume w j h = refl
+left_other shapes past a (DelayUntil t) w j h = refl
+left_other shapes past a Clock w j h = refl
+left_other shapes past a Fire w j h = refl
+left_other shapes past a Quit w j h = refl
+left_other shapes past a (Tick n) w j h = refl
+left_other shapes past a Halt w j h = refl
+
+pub to_settle_other : (shapes : List Shape) (past : List Entry) (a : ℕ) (r : Request) (w : Recorded) (j : ℕ) → j ≢ a → to_settle shapes j (Asked a r w ∷ past) ≡ to_settle shapes j past
+to_settle_other shapes past a r w j h = ap (λ bs. slice_get bs 0) (left_other shapes past a r w j h)
+
+-- an entry of another actor that doesn't name it leaves its mode as it was
+pub mode_other : (shapes : List Shape) (past : List Entry) (a : ℕ) (r : Request) (w : Recorded) (j : ℕ) → j ≢ a → is_other (named_in (next_of (Asked a r w))) j ≡ true → mode shapes j (Asked a r w ∷ past) ≡ mode shapes j past
+mode_other shapes past a r w j h e =
+    λ i. or_settling (to_settle_other shapes past a r w j h i)
+    (mode_by (held_other shapes past a r w j h e i) (unnamed_stance (next_of (Asked a r w)) j a (stance_of (Asked a r w)) (stance j past) e h i))
+
+-- one that waits
+abbrev pub is_waiting : Stance → Bool
+is_waiting Free = false
+is_waiting InQueue = true
+is_waiting HandedOver = true
+is_waiting (DroppedBy line) = true
+is_waiting (WaitsOn object) = true
+is_waiting (WaitsUntil time) = true
+is_waiting Gone = false

@@ -1,13 +1,12 @@
--- On a legal history each queued actor is a task at that call, which holds nothing and asks nothing more.
+-- Each queued actor is a task at that call, which holds nothing and asks nothing more.
 use Rattle.std.proofs.Common.{◌≡◌, ◌≢◌, ℕ, suc, ◌-◌, ◌<◌, ◌≤◌, List, [], ◌∷◌, ◌++◌, length, Some, None, Option, Bool, true, false, arith, ap, subst, sym, ◌∙◌, refl, length-append, cond}
 use Rattle.std.specs.Prelude.{ℤ, nat_lt, ◌==◌, ◌&&◌, not, if◌then◌else◌, slice_get}
 use Rattle.std.specs.List.{filter}
 use Rattle.std.proofs.lemmas.Bool.Decides.{nat_tests}
-use Rattle.rv_access.specs.Words.{Words}
 use Rattle.rv_shape.specs.Shape.{Shape}
 use Rattle.rv_event.specs.Recorded.{recorded}
 use Rattle.rv_shape.specs.Catalogue.{UnitTask, Who, Operator, Line, Task, Nobody, Site, who, task_of, all_tasks, tasks_of, first_of, Target, Nowhere, OnProtected, OnSuspension, target, is_entry, is_function}
-use Rattle.rv_event.specs.Past.{held, under_way, next_of, named_in, stance, halted, mode, mode_by, last_queued, waiting, queued_by, joined, left}
+use Rattle.rv_event.specs.Past.{held, under_way, innermost, to_settle, next_of, named_in, stance, halted, mode, mode_by, last_queued, waiting, queued_by, joined, left}
 use Rattle.rv_event.specs.declared.entry.Stance.{Stance}
 use Rattle.rv_event.specs.declared.entry.Stance.TheVariants.{Free, InQueue, HandedOver, DroppedBy, WaitsOn, WaitsUntil, Gone}
 use Rattle.rv_event.specs.declared.entry.Body.{Body}
@@ -18,22 +17,20 @@ use Rattle.rv_event.specs.declared.entry.Rule.TheVariants as Rules
 use Rattle.rv_event.specs.declared.entry.Entry.{Entry}
 use Rattle.rv_event.specs.declared.entry.Entry.TheVariants.{Asked, Load, ListChange}
 use Rattle.rv_event.specs.declared.entry.Request.{Request}
-use Rattle.rv_event.specs.declared.entry.Request.TheVariants.{Call, Complete, Resume, DelayUntil, Clock, Fire, Quit, Tick, Halt}
+use Rattle.rv_event.specs.declared.entry.Request.TheVariants.{Call, Complete, Settle, Resume, DelayUntil, Clock, Fire, Quit, Tick, Halt}
 use Rattle.rv_event.specs.declared.entry.Recorded.{Recorded}
 use Rattle.rv_event.specs.declared.entry.Recorded.TheVariants.{Queued}
 use Rattle.rv_event.specs.declared.entry.Answer.{Answer}
 use Rattle.rv_event.specs.declared.entry.Answer.TheVariants as Answers
-use Rattle.rv_history.specs.declared.limits.Limits.{Limits}
 use Rattle.rv_history.specs.History.{History, version}
 use Rattle.rv_history.specs.Exclusion.{excluded, is_barred, full_queue, is_open}
 use Rattle.rv_history.specs.Owed.{actors}
 use Rattle.rv_history.specs.Rules.{holds_any, breaks}
-use Rattle.rv_history.specs.Fitting.{may_call, in_body, idle_line, idle_task, is_operator, is_time, is_tick, call_fits}
+use Rattle.rv_history.specs.Fitting.{may_call, in_body, end_fits, idle_line, idle_task, is_operator, is_time, is_tick, call_fits}
 use Rattle.rv_history.specs.Due.{out, due_resume, judged, performed, due_call}
-use Rattle.rv_history.specs.Legal.{IsLegal}
 use Rattle.rv_history.proofs.Answered.{off, both, and_none, and_true, Answered, answered}
 use Rattle.rv_history.proofs.Exactly.{not_halted}
-use Rattle.rv_history.proofs.Loaded.{way_stays}
+use Rattle.rv_history.proofs.Modes.{calls_at, ends_at, fires_at, quits_at, settles_at}
 use Rattle.rv_history.proofs.Stances.{itself, below, own_stance, is_other, unnamed_stance, other_queued, queued_actor, some_is, held_other}
 
 -- One that is queued gets no recorded answer.
@@ -66,7 +63,7 @@ no_operator shapes a e =
     task_is None = refl
     task_is (Some task) = refl
 
-calls_not : (h : History) (a : ℕ) → stance a h.past ≡ InQueue → may_call (who h.shapes a) (mode h.shapes a h.past) ≡ false
+calls_not : (h : History) (a : ℕ) → stance a h.past ≡ InQueue → may_call (who h.shapes a) (mode_by (held h.shapes a h.past) (stance a h.past)) ≡ false
 calls_not h a at = ap (λ s. may_call (who h.shapes a) (mode_by (held h.shapes a h.past) s)) at ∙ queued_calls_none (who h.shapes a)
 
 waits_on : (h : History) (b : Bool) (w : Recorded) → recorded (if b then Answers.Halted else Answers.Waiting) ≡ Some w → ⊥
@@ -77,19 +74,30 @@ waits_on h false w e = cc
 pub unfit : (b : Bool) → b ≡ false → b ≡ true → ⊥
 unfit b e f = off (sym e ∙ f)
 
-silent_at : (h : History) (a : ℕ) (r : Request) (w : Recorded) → stance a h.past ≡ InQueue → nat_lt a 11 ≡ false → Answered h a r w → ⊥
-silent_at h a (Call o p vs) w at task g = unfit _ (and_none _ (call_fits (length (held h.shapes a h.past)) vs (target h.shapes o p)) (calls_not h a at)) g.fits_in
-silent_at h a (Complete vs x) w at task g = unfit _ (and_none _ _ (ap (λ s. in_body (mode_by (held h.shapes a h.past) s)) at)) g.fits_in
-silent_at h a Resume w at task g = waits_on h (halted h.past) w (sym (ap (λ s. recorded (due_resume h a s)) at) ∙ g.said)
-silent_at h a (DelayUntil t) w at task g = unfit _ (and_none _ (is_time t) (calls_not h a at)) g.fits_in
-silent_at h a Clock w at task g = unfit _ (calls_not h a at) g.fits_in
-silent_at h a Fire w at task g = unfit _ (ap (λ s. idle_line (who h.shapes a) (mode_by (held h.shapes a h.past) s)) at ∙ queued_fires_none (who h.shapes a)) g.fits_in
-silent_at h a Quit w at task g = unfit _ (ap (λ s. idle_task (who h.shapes a) (mode_by (held h.shapes a h.past) s)) at ∙ queued_quits_none (who h.shapes a)) g.fits_in
-silent_at h a (Tick n) w at task g = unfit _ (and_none _ (is_tick n) (no_operator h.shapes a task)) g.fits_in
-silent_at h a Halt w at task g = unfit _ (no_operator h.shapes a task) g.fits_in
+silent_at : (h : History) (a : ℕ) (r : Request) (w : Recorded) → stance a h.past ≡ InQueue → nat_lt a 11 ≡ false → to_settle h.shapes a h.past ≡ None → Answered h a r w → ⊥
+silent_at h a (Call o p vs) w at task settled g =
+    let calls = (both (may_call (who h.shapes a) (mode h.shapes a h.past)) (call_fits (length (held h.shapes a h.past)) vs (target h.shapes o p)) g.fits_in).0 in
+    unfit _ (calls_not h a at) (calls_at (who h.shapes a) (to_settle h.shapes a h.past) _ calls)
+silent_at h a (Complete vs x) w at task settled g =
+    let ends = (both (in_body (mode h.shapes a h.past)) (end_fits h.shapes vs x (innermost h.shapes a h.past)) g.fits_in).0 in
+    unfit _ (ap (λ s. in_body (mode_by (held h.shapes a h.past) s)) at) (ends_at (to_settle h.shapes a h.past) _ ends)
+silent_at h a Settle w at task settled g =
+    let has = settles_at (to_settle h.shapes a h.past) (held h.shapes a h.past) (stance a h.past) g.fits_in in
+    let none : None ≡ Some has.0 = sym settled ∙ has.1 in
+    cc
+silent_at h a Resume w at task settled g = waits_on h (halted h.past) w (sym (ap (λ s. recorded (due_resume h a s)) at) ∙ g.said)
+silent_at h a (DelayUntil t) w at task settled g =
+    unfit _ (calls_not h a at) (calls_at (who h.shapes a) (to_settle h.shapes a h.past) _ (both (may_call (who h.shapes a) (mode h.shapes a h.past)) (is_time t) g.fits_in).0)
+silent_at h a Clock w at task settled g = unfit _ (calls_not h a at) (calls_at (who h.shapes a) (to_settle h.shapes a h.past) _ g.fits_in)
+silent_at h a Fire w at task settled g =
+    unfit _ (ap (λ s. idle_line (who h.shapes a) (mode_by (held h.shapes a h.past) s)) at ∙ queued_fires_none (who h.shapes a)) (fires_at (who h.shapes a) (to_settle h.shapes a h.past) _ g.fits_in)
+silent_at h a Quit w at task settled g =
+    unfit _ (ap (λ s. idle_task (who h.shapes a) (mode_by (held h.shapes a h.past) s)) at ∙ queued_quits_none (who h.shapes a)) (quits_at (who h.shapes a) (to_settle h.shapes a h.past) _ g.fits_in)
+silent_at h a (Tick n) w at task settled g = unfit _ (and_none _ (is_tick n) (no_operator h.shapes a task)) g.fits_in
+silent_at h a Halt w at task settled g = unfit _ (no_operator h.shapes a task) g.fits_in
 
-pub silent : (h : History) (a : ℕ) (r : Request) (w : Recorded) → stance a h.past ≡ InQueue → nat_lt a 11 ≡ false → recorded (out h a r) ≡ Some w → ⊥
-silent h a r w at task e = silent_at h a r w at task (answered h a r w e)
+pub silent : (h : History) (a : ℕ) (r : Request) (w : Recorded) → stance a h.past ≡ InQueue → nat_lt a 11 ≡ false → to_settle h.shapes a h.past ≡ None → recorded (out h a r) ≡ Some w → ⊥
+silent h a r w at task settled e = silent_at h a r w at task settled (answered h a r w e)
 
 -- What joined a queue.
 
@@ -181,7 +189,8 @@ joins_at h a o p vs (OnProtected s) is g e =
     let kind = both (is_entry s.operation.kind) (not (is_open h o)) t.shut in
     let calm : holds_any h a ≡ false = sym (and_true (holds_any h a)) ∙ ap (λ b. holds_any h a && b) (sym kind.0) ∙ t.calm in
     let none : held h.shapes a h.past ≡ [] = nothing_held (held h.shapes a h.past) calm in
-    let calls = (both (may_call (who h.shapes a) (mode h.shapes a h.past)) (call_fits (length (held h.shapes a h.past)) vs (target h.shapes o p)) g.fits_in).0 in
+    let fit = (both (may_call (who h.shapes a) (mode h.shapes a h.past)) (call_fits (length (held h.shapes a h.past)) vs (target h.shapes o p)) g.fits_in).0 in
+    let calls = calls_at (who h.shapes a) (to_settle h.shapes a h.past) (mode_by (held h.shapes a h.past) (stance a h.past)) fit in
     record {
       site = s;
       at = is;
@@ -242,13 +251,13 @@ one_named shapes past a r w n (c ∷ cs) is apart all = by_test (c.actor == n) r
         let turned : (n == c.actor) ≡ false = grind (arith, nat_tests) in
         (one_stays shapes past a r w c (apart c all.0) (ap (λ m. is_other m c.actor) is ∙ ap not turned) all.0, rest)
 
-others_stay : (shapes : List Shape) (past : List Entry) (a : ℕ) (r : Request) (w : Recorded) (calls : List Body) (n : Option ℕ) → named_in (next_of (Asked a r w)) ≡ n →
+pub others_stay : (shapes : List Shape) (past : List Entry) (a : ℕ) (r : Request) (w : Recorded) (calls : List Body) (n : Option ℕ) → named_in (next_of (Asked a r w)) ≡ n →
     ((c : Body) → Waits shapes past c → c.actor ≢ a) → AllWait shapes past calls → AllWait shapes (Asked a r w ∷ past) (left n calls)
 others_stay shapes past a r w calls None is apart all = none_named shapes past a r w calls is apart all
 others_stay shapes past a r w calls (Some n) is apart all = one_named shapes past a r w n calls is apart all
 
 -- what joined
-new_wait : (h : History) (a : ℕ) (r : Request) (w : Recorded) (q : Option Body) → queued_by (Asked a r w) ≡ q → recorded (out h a r) ≡ Some w → (calls : List Body) →
+pub new_wait : (h : History) (a : ℕ) (r : Request) (w : Recorded) (q : Option Body) → queued_by (Asked a r w) ≡ q → recorded (out h a r) ≡ Some w → (calls : List Body) →
     AllWait h.shapes (Asked a r w ∷ h.past) calls → AllWait h.shapes (Asked a r w ∷ h.past) (joined q calls)
 new_wait h a r w None is due calls all = all
 new_wait h a (Call o p vs) Queued (Some b) is due calls all =
@@ -266,7 +275,7 @@ new_wait h a (Call o p vs) w (Some b) is due calls all = absurd (cc)
 new_wait h a r w (Some b) is due calls all = absurd (cc)
 
 -- a load
-more_wait : (old more : List Shape) (past : List Entry) (e : Entry) (calls : List Body) → ((c : Body) → Waits old past c → Waits more (e ∷ past) c) → AllWait old past calls → AllWait more (e ∷ past) calls
+pub more_wait : (old more : List Shape) (past : List Entry) (e : Entry) (calls : List Body) → ((c : Body) → Waits old past c → Waits more (e ∷ past) c) → AllWait old past calls → AllWait more (e ∷ past) calls
 more_wait old more past e [] stays all = tt
 more_wait old more past e (c ∷ cs) stays all = (stays c all.0, more_wait old more past e cs stays all.1)
 
@@ -274,22 +283,3 @@ pub more_tasks : (old : List Shape) (s : Shape) → actors old ≤ actors (old +
 more_tasks [] s = omega arith
 more_tasks (x ∷ old) s =
     omega (arith, more_tasks old s, length-append (tasks_of x) (all_tasks old), length-append (tasks_of x) (all_tasks (old ++ s ∷ [])))
-
-pub legal_waits : (c : Limits) (past : List Entry) (shapes : List Shape) (lists : List (List Words)) → IsLegal c past shapes lists → AllWait shapes past (waiting past)
-legal_waits c [] shapes lists l = tt
-legal_waits c (Asked a r w ∷ past) shapes lists l =
-    let h : History = record { limits = c; past = past; shapes = shapes; lists = lists } in
-    let before = legal_waits c past shapes lists l.0 in
-    new_wait h a r w (queued_by (Asked a r w)) refl l.1 _
-    (others_stay shapes past a r w (waiting past) (named_in (next_of (Asked a r w))) refl
-    (λ b v is. silent h a r w (ap (λ n. stance n past) (sym is) ∙ v.at) (ap (λ n. nat_lt n 11) (sym is) ∙ v.task) l.1)
-    before)
-legal_waits c (Load ∷ past) shapes lists l =
-    let before = legal_waits c past l.0 lists l.3 in
-    let ways : under_way (l.0 ++ l.1 ∷ []) past ≡ under_way l.0 past = way_stays c past l.0 (l.1 ∷ []) lists l.3 in
-    subst (λ (ss : List Shape). AllWait ss (Load ∷ past) (waiting past)) (sym l.2)
-    (more_wait l.0 (l.0 ++ l.1 ∷ []) past Load (waiting past)
-    (λ b v. record { at = v.at; task = v.task; known = omega (arith, v.known, more_tasks l.0 l.1); last = v.last; none = ap (λ bs. filter (λ c. c.actor == b.actor) bs) ways ∙ v.none }) before)
-legal_waits c (ListChange ∷ past) shapes lists l =
-    let before = legal_waits c past shapes l.0 l.3 in
-    more_wait shapes shapes past ListChange (waiting past) (λ b v. record { at = v.at; task = v.task; known = v.known; last = v.last; none = v.none }) before

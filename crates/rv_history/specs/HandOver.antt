@@ -12,7 +12,7 @@ use Rattle.rv_event.specs.declared.entry.Request.{Request}
 use Rattle.rv_event.specs.declared.entry.Request.TheVariants.{Complete, Settle, Resume}
 use Rattle.rv_history.specs.History.{History}
 use Rattle.rv_history.specs.Subject.{subject}
-use Rattle.rv_history.specs.Exclusion.{barrier_at, opens_on, is_open}
+use Rattle.rv_history.specs.Exclusion.{barrier_at, excluded, opens_on, is_open}
 use Rattle.rv_history.specs.Rules.{decided, granted}
 use Rattle.rv_history.specs.Fitting.{fits}
 use Rattle.rv_history.specs.Due.{out}
@@ -103,6 +103,8 @@ pub record IsOnlyDropped (h dropped ended : History) (actor caller : ℕ) : Type
   pub scalars_stay : (object : ℕ) → scalars dropped.shapes object dropped.past ≡ scalars ended.shapes object ended.past
   pub barriers_stay : (object : ℕ) → is_open dropped object ≡ is_open ended object
   pub held_stays : (other : ℕ) → held dropped.shapes other dropped.past ≡ held ended.shapes other ended.past
+  pub exclusion_stays : (object : ℕ) → object ≢ call.object → (function : Bool) →
+      excluded dropped object function ≡ excluded ended object function
   pub own_mode : mode dropped.shapes actor dropped.past ≡ settling_behind behind (mode ended.shapes actor ended.past)
   pub modes_stay : (other : ℕ) → other ≢ caller → other ≢ actor →
       mode dropped.shapes other dropped.past ≡ mode ended.shapes other ended.past

@@ -1,0 +1,115 @@
+-- What an end and a settle have in common: both serve the queue of an object, and may leave it unsettled.
+use Rattle.std.proofs.Common.{◌≡◌, ℕ, ◌+◌, ◌≤◌, List, [], ◌∷◌, length, Some, None, Option, Bool, true, false, cond, arith, ap, sym, ◌∙◌, refl}
+use Rattle.std.specs.Prelude.{slice_get, ◌==◌, ◌||◌, if◌then◌else◌}
+use Rattle.std.specs.List.{filter, list_any}
+use Rattle.rv_shape.specs.Shape.{Shape}
+use Rattle.rv_event.specs.Past.{begun, first_by, handed, last_queued, leaves_some, left_by, or_settling, queue, under_way, unsettled, without}
+use Rattle.rv_event.specs.declared.entry.Body.{Body}
+use Rattle.rv_event.specs.declared.entry.Entry.{Entry}
+use Rattle.rv_event.specs.declared.entry.Entry.TheVariants.{Asked}
+use Rattle.rv_event.specs.declared.entry.Mode.{Mode}
+use Rattle.rv_event.specs.declared.entry.Next.{Next}
+use Rattle.rv_event.specs.declared.entry.Next.TheVariants.{Nothing, HandedTo, Dropped}
+use Rattle.rv_event.specs.declared.entry.Recorded.TheVariants.{Done}
+use Rattle.rv_event.specs.declared.entry.Request.{Request}
+use Rattle.rv_event.specs.declared.entry.Request.TheVariants.{Call, Complete, Settle, Resume, DelayUntil, Clock, Fire, Quit, Tick, Halt}
+use Rattle.rv_event.proofs.Matching.{by}
+use Rattle.rv_history.specs.HandOver.{served, settling_behind}
+use Rattle.rv_history.specs.Orderly.{is_on}
+use Rattle.rv_history.proofs.Bodies.{any_kept}
+use Rattle.rv_history.proofs.Stances.{first_actor, itself}
+
+-- the bodies that left their objects unsettled, without the one whose object is settled
+abbrev pub other_left : List Shape → ℕ → List Entry → Request → List Body
+other_left shapes a past Settle = without a (unsettled shapes past)
+other_left shapes a past r = unsettled shapes past
+
+pub left_then : (shapes : List Shape) (a : ℕ) (past : List Entry) (r : Request) (next : Next) →
+    unsettled shapes (Asked a r (Done next) ∷ past) ≡ begun (left_by (Asked a r (Done next) ∷ past) next (served shapes a past r)) (other_left shapes a past r)
+left_then shapes a past (Complete vs x) next = refl
+left_then shapes a past Settle next = refl
+left_then shapes a past (Call o p vs) next = refl
+left_then shapes a past Resume next = refl
+left_then shapes a past (DelayUntil t) next = refl
+left_then shapes a past Clock next = refl
+left_then shapes a past Fire next = refl
+left_then shapes a past Quit next = refl
+left_then shapes a past (Tick n) next = refl
+left_then shapes a past Halt next = refl
+
+-- the actor's own body is served
+pub served_actor : (shapes : List Shape) (a : ℕ) (past : List Entry) (r : Request) (b : Body) → served shapes a past r ≡ Some b → b.actor ≡ a
+served_actor shapes a past (Complete vs x) b e = first_actor a b (under_way shapes past) e
+served_actor shapes a past Settle b e = first_actor a b (unsettled shapes past) e
+served_actor shapes a past (Call o p vs) b e = absurd (cc)
+served_actor shapes a past Resume b e = absurd (cc)
+served_actor shapes a past (DelayUntil t) b e = absurd (cc)
+served_actor shapes a past Clock b e = absurd (cc)
+served_actor shapes a past Fire b e = absurd (cc)
+served_actor shapes a past Quit b e = absurd (cc)
+served_actor shapes a past (Tick n) b e = absurd (cc)
+served_actor shapes a past Halt b e = absurd (cc)
+
+-- only a drop leaves an object unsettled
+pub left_nothing : (past : List Entry) (q : Option Body) → left_by past Nothing q ≡ None
+left_nothing past None = refl
+left_nothing past (Some b) = refl
+
+pub left_handed : (past : List Entry) (n : ℕ) (q : Option Body) → left_by past (HandedTo n) q ≡ None
+left_handed past n None = refl
+left_handed past n (Some b) = refl
+
+-- and it leaves no other one so
+pub left_elsewhere : (past : List Entry) (next : Next) (q : Option Body) (b : Body) (o : ℕ) (bs : List Body) → q ≡ Some b → (b.object == o) ≡ false → list_any (is_on o) (begun (left_by past next q) bs) ≡ list_any (is_on o) bs
+left_elsewhere past next q b o bs is away = ap (λ p. list_any (is_on o) (begun (left_by past next p) bs)) is ∙ by_test (leaves_some next (queue b.object past))
+  where
+    by_test : (t : Bool) → list_any (is_on o) (begun (if t then Some b else None) bs) ≡ list_any (is_on o) bs
+    by_test true = ap (λ t. t || list_any (is_on o) bs) away
+    by_test false = refl
+
+-- whether others are behind
+abbrev pub is_some_behind : List Body → Bool
+is_some_behind [] = false
+is_some_behind (c ∷ cs) = true
+
+pub drop_leaves : (past : List Entry) (n line : ℕ) (q : Option Body) (b : Body) (behind : List Body) → q ≡ Some b → queue b.object past ≡ behind → left_by past (Dropped n line) q ≡ (if is_some_behind behind then Some b else None)
+drop_leaves past n line q b behind is wait =
+    ap (left_by past (Dropped n line)) is ∙ ap (λ calls. if leaves_some (Dropped n line) calls then Some b else None) wait ∙ by_behind behind
+  where
+    by_behind : (calls : List Body) → (if leaves_some (Dropped n line) calls then Some b else None) ≡ (if is_some_behind calls then Some b else None)
+    by_behind [] = refl
+    by_behind (c ∷ cs) = refl
+
+-- so its own actor has to settle where others are behind
+pub drop_settles : (past : List Entry) (n line : ℕ) (q : Option Body) (b : Body) (behind : List Body) (a : ℕ) (bs : List Body) (m : Mode) → q ≡ Some b → b.actor ≡ a → queue b.object past ≡ behind →
+    or_settling (first_by a (begun (left_by past (Dropped n line) q) bs)) m ≡ settling_behind behind (or_settling (first_by a bs) m)
+drop_settles past n line q b behind a bs m is its wait =
+    ap (λ p. or_settling (first_by a (begun p bs)) m) (drop_leaves past n line q b behind is wait) ∙ by_behind behind
+  where
+    own : (b.actor == a) ≡ true
+    own = ap (λ k. k == a) its ∙ itself a
+
+    by_behind : (calls : List Body) → or_settling (first_by a (begun (if is_some_behind calls then Some b else None) bs)) m ≡ settling_behind calls (or_settling (first_by a bs) m)
+    by_behind [] = refl
+    by_behind (c ∷ cs) = ap (λ t. or_settling (slice_get (cond t (b ∷ filter (by a) bs) (filter (by a) bs)) 0) m) own
+
+-- How many bodies there are then
+
+one_begun : (b : Option Body) (bs : List Body) → length (begun b bs) ≤ length bs + 1
+one_begun None bs = omega arith
+one_begun (Some b) bs = grind arith
+
+abbrev pub names_one : Next → ℕ
+names_one Nothing = 0
+names_one (HandedTo n) = 1
+names_one (Dropped n line) = 1
+
+pub count_begun : (past then_past : List Entry) (next : Next) (q : Option Body) (ways left : List Body) →
+    length (begun (handed past next) ways) + length (begun (left_by then_past next q) left) ≤ length ways + length left + names_one next
+count_begun past then_past Nothing q ways left =
+    let none : length (begun (left_by then_past Nothing q) left) ≡ length left = ap (λ p. length (begun p left)) (left_nothing then_past q) in
+    omega (arith, none)
+count_begun past then_past (HandedTo n) q ways left =
+    let none : length (begun (left_by then_past (HandedTo n) q) left) ≡ length left = ap (λ p. length (begun p left)) (left_handed then_past n q) in
+    omega (arith, none, one_begun (last_queued n past) ways)
+count_begun past then_past (Dropped n line) q ways left = omega (arith, one_begun (left_by then_past (Dropped n line) q) left)
