@@ -5,7 +5,7 @@ use Rattle.std.proofs.lemmas.Bool.Decides.{nat_tests}
 use Rattle.std.proofs.lemmas.List.{length-map}
 use Rattle.rv_shape.specs.Shape.{Shape}
 use Rattle.rv_shape.specs.Catalogue.{UnitTask, Operator, Line, all_tasks, task_of, tasks_of, who}
-use Rattle.rv_event.specs.Past.{halted, stance, under_way}
+use Rattle.rv_event.specs.Past.{halted, stance, under_way, unsettled}
 use Rattle.rv_event.specs.declared.entry.Answer.TheVariants.{Full}
 use Rattle.rv_event.specs.declared.entry.Entry.TheVariants.{Load, ListChange}
 use Rattle.rv_event.specs.declared.entry.Request.{Request}
@@ -17,8 +17,8 @@ use Rattle.rv_history.specs.History.{History}
 use Rattle.rv_history.specs.Legal.{Legal}
 use Rattle.rv_history.specs.Owed.{IsSolvent, actors, dues, each, halt_due, has_room, is_paid, owed, room, surcharge, unfinished}
 use Rattle.rv_history.proofs.Answered.{off, and_true}
-use Rattle.rv_history.proofs.Ends.{end_never_full}
-use Rattle.rv_history.proofs.Loaded.{way_stays}
+use Rattle.rv_history.proofs.Ends.{end_never_full, settle_never_full}
+use Rattle.rv_history.proofs.Loaded.{left_stays, way_stays}
 use Rattle.rv_history.proofs.Naming.{tasks_append}
 use Rattle.rv_history.proofs.NeverFull.{never_due}
 use Rattle.rv_history.proofs.Pays.{Pays, fit_parts, out_due, pays_halt, quit_never_full, resume_never_full}
@@ -55,10 +55,11 @@ more_actors shapes s =
 load_owed : (h : History) (s : Shape) → Legal h → owed (h.shapes ++ s ∷ []) (Load ∷ h.past) ≡ owed h.shapes h.past + length s.tasks
 load_owed h s l =
     let ways : length (under_way (h.shapes ++ s ∷ []) h.past) ≡ length (under_way h.shapes h.past) = ap length (way_stays h.limits h.past h.shapes (s ∷ []) h.lists l) in
+    let lefts : length (unsettled (h.shapes ++ s ∷ []) h.past) ≡ length (unsettled h.shapes h.past) = ap length (left_stays h.limits h.past h.shapes (s ∷ []) h.lists l) in
     let tasks : each (actors (h.shapes ++ s ∷ [])) (dues h.past) ≡ each (actors h.shapes) (dues h.past) + length s.tasks =
     ap (λ n. each n (dues h.past)) (more_actors h.shapes s) ∙ each_ones (actors h.shapes) (length s.tasks) (dues h.past) (λ j beyond. new_due h j l beyond) in
-    let now : owed (h.shapes ++ s ∷ []) (Load ∷ h.past) ≡ length (under_way (h.shapes ++ s ∷ []) h.past) + each (actors (h.shapes ++ s ∷ [])) (dues h.past) + halt_due (halted h.past) = refl in
-    omega (arith, ways, tasks, now)
+    let now : owed (h.shapes ++ s ∷ []) (Load ∷ h.past) ≡ length (under_way (h.shapes ++ s ∷ []) h.past) + length (unsettled (h.shapes ++ s ∷ []) h.past) + each (actors (h.shapes ++ s ∷ [])) (dues h.past) + halt_due (halted h.past) = refl in
+    omega (arith, ways, lefts, tasks, now)
 
 pub load_costs : (h : History) (s : Shape) → Legal h → IsSolvent h → (has_room h.limits.capacity (h.shapes ++ s ∷ []) (Load ∷ h.past) ≡ true) ↔ (1 + length s.tasks ≤ room h)
 load_costs h s l solvent =
@@ -92,6 +93,7 @@ halt_paid h a solvent = out_due h a Halt (λ f c.
 
 paid : (h : History) (a : ℕ) (r : Request) → Legal h → IsSolvent h → is_paid r ≡ true → out h a r ≡ due h a r
 paid h a (Complete vs x) l solvent e = end_never_full h a vs x l solvent
+paid h a Settle l solvent e = settle_never_full h a l solvent
 paid h a Resume l solvent e = resume_never_full h a solvent
 paid h a Quit l solvent e = quit_never_full h a solvent
 paid h a Halt l solvent e = halt_paid h a solvent

@@ -38,7 +38,7 @@ filter_kept p a c (x ∷ bs) h e = by_actor (x.actor == a) h (filter_kept p a c 
     by_actor false g rest = ap (λ ys. cond (p x) (x ∷ ys) ys) (rest g e)
 
 -- an end of one who holds nothing
-none_ends : (a : ℕ) (bs : List Body) → slice_get (filter (by a) bs) 0 ≡ None → without a bs ≡ bs
+pub none_ends : (a : ℕ) (bs : List Body) → slice_get (filter (by a) bs) 0 ≡ None → without a bs ≡ bs
 none_ends a [] h = refl
 none_ends a (x ∷ bs) h = by_actor (x.actor == a) h (none_ends a bs)
   where

@@ -7,7 +7,7 @@ use Rattle.rv_shape.specs.Shape.{Shape}
 use Rattle.rv_shape.specs.Catalogue.{OperationNumber, UnitTask, Target, Nowhere, OnSuspension, Who, Operator, Line, Task, Nobody, OnProtected, all_tasks, ceiling, handler, handles, is_function, target, task_of, who}
 use Rattle.rv_shape.specs.declared.kind.Kind.{Kind}
 use Rattle.rv_shape.specs.declared.kind.Kind.TheVariants.{Function, Procedure, Entry as EntryKind, Handler}
-use Rattle.rv_event.specs.Past.{held, mode, mode_by, stance}
+use Rattle.rv_event.specs.Past.{held, mode, mode_by, stance, to_settle}
 use Rattle.rv_event.specs.Recorded.{recorded}
 use Rattle.rv_event.specs.declared.entry.Entry.TheVariants.{Asked}
 use Rattle.rv_event.specs.declared.entry.Mode.{Mode}
@@ -28,6 +28,7 @@ use Rattle.rv_history.proofs.Answered.{off, both, and_false}
 use Rattle.rv_history.proofs.Exactly.{exactly, nowhere_else}
 use Rattle.rv_history.proofs.First.{handler_enters}
 use Rattle.rv_history.proofs.Handled.{handler_is}
+use Rattle.rv_history.proofs.Modes.{fires_at}
 use Rattle.rv_history.proofs.Orderly.{idle_none}
 
 -- The actor of a line
@@ -54,6 +55,7 @@ known_line shapes a e = grind (arith, nat_tests)
 idle_is : (w : Who) (m : Mode) → idle_line w m ≡ true → m ≡ Modes.Idle
 idle_is (Line line) Modes.Idle e = refl
 idle_is (Line line) Modes.InBody e = absurd (off e)
+idle_is (Line line) Modes.Settling e = absurd (off e)
 idle_is (Line line) Modes.Queued e = absurd (off e)
 idle_is (Line line) Modes.Handed e = absurd (off e)
 idle_is (Line line) Modes.Dropped e = absurd (off e)
@@ -73,7 +75,8 @@ record Judged (h : History) (a line : ℕ) : Type 0 where
 
 judged_as : (h : History) (a line : ℕ) → who h.shapes a ≡ Line line → mode h.shapes a h.past ≡ Modes.Idle → Judged h a line
 judged_as h a line is idle =
-    let fit : idle_line (who h.shapes a) (mode_by (held h.shapes a h.past) (stance a h.past)) ≡ true = λ i. idle_line (is i) (idle i) in
+    let idles : idle_line (who h.shapes a) (mode h.shapes a h.past) ≡ true = λ i. idle_line (is i) (idle i) in
+    let fit = fires_at (who h.shapes a) (to_settle h.shapes a h.past) (mode_by (held h.shapes a h.past) (stance a h.past)) idles in
     let none : held h.shapes a h.past ≡ [] = idle_none (who h.shapes a) (held h.shapes a h.past) (stance a h.past) fit in
     record {
       none = none;

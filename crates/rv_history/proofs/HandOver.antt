@@ -180,7 +180,7 @@ record Settles (h : History) (a : ℕ) (r : Request) (n line : ℕ) (call : Body
   others : (o : ℕ) → o ≢ call.object →
       list_any (is_on o) (unsettled h.shapes (Asked a r (Words.Done (Dropped n line)) ∷ h.past)) ≡ list_any (is_on o) (unsettled h.shapes (Asked a r (Words.Done Nothing) ∷ h.past))
 
-drop_serves : (h : History) (a : ℕ) (r : Request) (n line : ℕ) (m : Names h a r (Dropped n line) n) → Leaves h n m.served_by.call m.served_by.rest → queued_by (Asked a r (Words.Done (Dropped n line))) ≡ None →
+pub drop_serves : (h : History) (a : ℕ) (r : Request) (n line : ℕ) (m : Names h a r (Dropped n line) n) → Leaves h n m.served_by.call m.served_by.rest → queued_by (Asked a r (Words.Done (Dropped n line))) ≡ None →
     queue m.body.object (Asked a r (Words.Done (Dropped n line)) ∷ h.past) ≡ m.served_by.rest
 drop_serves h a r n line m k none =
     let q = m.served_by in

@@ -28,6 +28,8 @@ pub mod Apart
 pub mod Orderly
 pub mod Alone
 pub mod Settled
+pub mod Unsettled
+pub mod Settling
 pub mod During
 pub mod Frame
 -- Room

@@ -2,7 +2,7 @@
 use Rattle.std.proofs.Common.{◌≡◌, ℕ, ◌-◌, List, Some, None, Option, Bool, true, false, ap, sym, ◌∙◌, refl}
 use Rattle.std.specs.Prelude.{ℤ, ◌&&◌, not, if◌then◌else◌, int_le, pos}
 use Rattle.rv_shape.specs.Catalogue.{OperationNumber, Target, Nowhere, OnProtected, OnSuspension, target, handler, is_function}
-use Rattle.rv_event.specs.Past.{clock, halted, innermost, released, scalars, stance, state}
+use Rattle.rv_event.specs.Past.{clock, halted, innermost, released, scalars, stance, state, to_settle}
 use Rattle.rv_event.specs.declared.entry.Body.{Body}
 use Rattle.rv_event.specs.declared.entry.Request.{Request}
 use Rattle.rv_event.specs.declared.entry.Request.TheVariants.{Call, Complete, Settle, Resume, DelayUntil, Clock, Fire, Quit, Tick, Halt}
@@ -18,7 +18,7 @@ use Rattle.rv_history.specs.Subject.{subject}
 use Rattle.rv_history.specs.Exclusion.{excluded, is_barred, full_queue}
 use Rattle.rv_history.specs.Rules.{decided, breaks, holds_any}
 use Rattle.rv_history.specs.Fitting.{fits}
-use Rattle.rv_history.specs.Due.{due, due_call, due_fire, due_end, due_resume, due_delay, end_of, judged, performed, or_waiting, gate, table, goes_on}
+use Rattle.rv_history.specs.Due.{due, due_call, due_fire, due_end, due_settle, due_resume, due_delay, end_of, judged, performed, or_waiting, gate, table, goes_on}
 use Rattle.rv_history.proofs.Answered.{off}
 
 -- whether it is Full
@@ -77,6 +77,11 @@ end_room h vs (Some b) = by_target (target h.shapes b.object b.operation)
     by_target (OnProtected s) = refl
     by_target (OnSuspension unit name wanted) = refl
 
+settle_room : (h : History) (b : Option Body) → is_full (due_settle h b) ≡ false
+unfolding is_full
+settle_room h None = refl
+settle_room h (Some b) = refl
+
 waiting_room : (h : History) (ready : Bool) → is_full (or_waiting h ready) ≡ false
 unfolding is_full
 waiting_room h true = refl
@@ -106,6 +111,7 @@ table_room : (h : History) (a : ℕ) (r : Request) → is_full (table h a r) ≡
 unfolding is_full
 table_room h a (Call o p vs) = call_room h a (Call o p vs) o (target h.shapes o p)
 table_room h a (Complete vs x) = end_room h vs (innermost h.shapes a h.past)
+table_room h a Settle = settle_room h (to_settle h.shapes a h.past)
 table_room h a Resume = resume_room h a (stance a h.past)
 table_room h a (DelayUntil t) = delay_room h (holds_any h a) (int_le t (pos (clock h.past)))
 table_room h a Clock = refl

@@ -1,5 +1,5 @@
 -- On a legal history the bodies on an object all share it, or there is one; stacks and queues keep their limits.
-use Rattle.std.proofs.Common.{◌≡◌, inl, ℕ, ◌-◌, ◌<◌, ◌≤◌, List, [], ◌∷◌, ◌++◌, length, Some, None, Option, true, false, arith, ap, subst, sym, ◌∙◌, refl, append_assoc}
+use Rattle.std.proofs.Common.{◌≡◌, inl, ℕ, ◌-◌, ◌<◌, ◌≤◌, List, [], ◌∷◌, ◌++◌, length, Some, None, Option, Bool, true, false, arith, ap, subst, sym, ◌∙◌, refl, append_assoc}
 use Rattle.std.specs.Prelude.{ℤ, nat_lt, not, ◌==◌}
 use Rattle.std.specs.List.{filter, list_any}
 use Rattle.std.proofs.lemmas.Bool.Decides.{nat_tests}
@@ -67,6 +67,13 @@ bodies_start shapes b bs s at free few k = record {
 abbrev pub AllApart : List Shape → List Entry → Type 0
 AllApart shapes past = (object : ℕ) → IsApart (under_way shapes past) (unsettled shapes past) object
 
+-- whom nobody keeps out finds no body in conflict, and the object settled
+no_conflict : (h : History) (o : ℕ) (f : Bool) → excluded h o f ≡ false → list_any (conflicts h.shapes o f) (under_way h.shapes h.past) ≡ false
+no_conflict h o f e = (or_none (list_any (conflicts h.shapes o f) (under_way h.shapes h.past)) (is_unsettled h.shapes o h.past) e).0
+
+pub not_excluded : (h : History) (o : ℕ) (f : Bool) → excluded h o f ≡ false → is_unsettled h.shapes o h.past ≡ false
+not_excluded h o f e = (or_none (list_any (conflicts h.shapes o f) (under_way h.shapes h.past)) (is_unsettled h.shapes o h.past) e).1
+
 -- a call that starts
 call_starts : (h : History) (a o p : ℕ) (vs : List ℤ) → recorded (out h a (Call o p vs)) ≡ Some Started → Bodies h.shapes (under_way h.shapes h.past) →
     Bodies h.shapes (record { actor = a; object = o; operation = p } ∷ under_way h.shapes h.past)
@@ -78,7 +85,7 @@ call_starts h a o p vs e k =
     let free : excluded h o (is_function w.site.operation.kind) ≡ false = ap (λ m. excluded h m (is_function w.site.operation.kind)) there ∙ w.free in
     let fit = (both (may_call (who h.shapes a) (mode h.shapes a h.past)) (call_fits (length (held h.shapes a h.past)) vs (target h.shapes o p)) g.fits_in).1 in
     let few = (both _ (nat_lt (length (held h.shapes a h.past)) held_limit) (sym (ap (call_fits (length (held h.shapes a h.past)) vs) at) ∙ fit)).1 in
-    bodies_start h.shapes (record { actor = a; object = o; operation = p }) (under_way h.shapes h.past) w.site at free (below _ held_limit few) k
+    bodies_start h.shapes (record { actor = a; object = o; operation = p }) (under_way h.shapes h.past) w.site at (no_conflict h o (is_function w.site.operation.kind) free) (below _ held_limit few) k
 
 -- a line that is idle holds nothing
 pub idle_none : (w : Who) (bs : List Body) (s : Stance) → idle_line w (mode_by bs s) ≡ true → bs ≡ []
@@ -111,7 +118,7 @@ fire_starts h a e k = by_handler (handler h.shapes (a - 1)) refl
         let idle = fires_at (who h.shapes a) (to_settle h.shapes a h.past) (mode_by (held h.shapes a h.past) (stance a h.past)) g.fits_in in
         let none : held h.shapes a h.past ≡ [] = idle_none (who h.shapes a) (held h.shapes a h.past) (stance a h.past) idle in
         let zero : length (held h.shapes a h.past) ≡ 0 = ap length none in
-        bodies_start h.shapes (record { actor = a; object = n.object; operation = n.operation }) (under_way h.shapes h.past) w.site at free (omega (arith, zero)) k
+        bodies_start h.shapes (record { actor = a; object = n.object; operation = n.operation }) (under_way h.shapes h.past) w.site at (no_conflict h n.object (is_function w.site.operation.kind) free) (omega (arith, zero)) k
 
 -- a queued call that is handed over, of an object
 pub record Handed (h : History) (n o : ℕ) : Type 0 where
@@ -194,10 +201,6 @@ bodies_step h a (Tick n) w e all calls apart k = k
 bodies_step h a Halt w e all calls apart k = k
 
 -- Bodies that left their objects unsettled
-
--- whom an excluded test lets in finds the object settled
-not_excluded : (h : History) (o : ℕ) (f : Bool) → excluded h o f ≡ false → is_unsettled h.shapes o h.past ≡ false
-not_excluded h o f e = (or_none (list_any (conflicts h.shapes o f) (under_way h.shapes h.past)) (is_unsettled h.shapes o h.past) e).1
 
 call_apart : (h : History) (a o p : ℕ) (vs : List ℤ) → recorded (out h a (Call o p vs)) ≡ Some Started → is_unsettled h.shapes o h.past ≡ false
 call_apart h a o p vs e =

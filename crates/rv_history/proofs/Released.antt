@@ -117,6 +117,7 @@ call_waits h b p vs q o w a e there = by_test (q == o) refl
 touches : (h : History) (b : ℕ) (r : Request) (o : ℕ) (w : Recorded) (a : ℕ) → recorded (out h b r) ≡ Some w → waiter o h.past ≡ Some a → waits (touch o (Asked b r w)) ≡ false
 touches h b (Call q p vs) o w a e there = call_waits h b p vs q o w a e there
 touches h b (Complete vs x) o w a e there = refl
+touches h b Settle o w a e there = refl
 touches h b Resume o w a e there = refl
 touches h b (DelayUntil t) o w a e there = refl
 touches h b Clock o w a e there = refl
@@ -167,6 +168,7 @@ suspends_by b (Call q p vs) Suspended o e =
     record { operation = p; values = vs; call = ap (λ m. Call m p vs) same; word = refl }
 suspends_by b (Call q p vs) w o e = absurd (cc)
 suspends_by b (Complete vs x) w o e = absurd (cc)
+suspends_by b Settle w o e = absurd (cc)
 suspends_by b Resume w o e = absurd (cc)
 suspends_by b (DelayUntil t) Delayed o e = absurd (cc)
 suspends_by b (DelayUntil t) w o e = absurd (cc)

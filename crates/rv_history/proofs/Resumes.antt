@@ -2,7 +2,7 @@
 use Rattle.std.proofs.Common.{◌≡◌, ℕ, ◌<◌, List, Bool, true, false, arith, ap, sym, ◌∙◌, refl}
 use Rattle.std.specs.Prelude.{nat_lt, ◌&&◌, ◌↔◌, int_le, pos, ℤ, None, if◌then◌else◌}
 use Rattle.std.proofs.lemmas.Bool.Decides.{nat_tests}
-use Rattle.rv_event.specs.Past.{clock, halted, held, mode_by, stance}
+use Rattle.rv_event.specs.Past.{clock, halted, held, mode, mode_by, or_settling, stance, to_settle}
 use Rattle.rv_event.specs.declared.entry.Answer.TheVariants as Answers
 use Rattle.rv_event.specs.declared.entry.Body.{Body}
 use Rattle.rv_event.specs.declared.entry.Request.TheVariants.{Resume}
@@ -16,6 +16,8 @@ use Rattle.rv_history.specs.Owed.{IsSolvent, actors}
 use Rattle.rv_history.proofs.Answered.{off, and_false}
 use Rattle.rv_history.proofs.Pays.{resume_never_full}
 use Rattle.rv_history.proofs.Silent.{known_actor}
+use Rattle.rv_history.proofs.Standing.{legal_standing, none_left}
+use Rattle.rv_history.proofs.Stances.{is_waiting}
 
 awaits_at : (bodies : List Body) (s : Stance) → is_waiting s ≡ true → awaits (mode_by bodies s) ≡ true
 awaits_at bodies Free e = absurd (off e)
@@ -33,7 +35,9 @@ pub resume_due : (h : History) (a : ℕ) (s : Stance) → Legal h → IsSolvent 
 resume_due h a s l solvent at waiting =
     let busy : stance a h.past ≡ Free → ⊥ = λ free. off (ap is_waiting (sym free ∙ at) ∙ waiting) in
     let known : nat_lt a (actors h.shapes) ≡ true = to_test a (actors h.shapes) (known_actor h a l busy) in
-    let ready : awaits (mode_by (held h.shapes a h.past) (stance a h.past)) ≡ true = ap (λ t. awaits (mode_by (held h.shapes a h.past) t)) at ∙ awaits_at (held h.shapes a h.past) s waiting in
+    let settled : to_settle h.shapes a h.past ≡ None = none_left h.shapes h.past a (legal_standing h.limits h.past h.shapes h.lists l).left busy in
+    let ready : awaits (mode h.shapes a h.past) ≡ true =
+    (λ i. awaits (or_settling (settled i) (mode_by (held h.shapes a h.past) (at i)))) ∙ awaits_at (held h.shapes a h.past) s waiting in
     let fit : fits h a Resume ≡ true = λ i. known i && ready i in
     resume_never_full h a solvent ∙ (λ i. gate (fit i) (and_false (halted h.past) i) (due_resume h a (at i)))
 

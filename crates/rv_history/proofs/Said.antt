@@ -223,6 +223,7 @@ tick_short (negsuc n) e = absurd (off e)
 pub is_said : (h : History) (a : ℕ) (r : Request) → Legal h → fits_actor h a r ≡ true → IsSaid h.shapes r
 is_said h a (Call o p vs) l e = said_call h a o p vs l (both (may_call (who h.shapes a) (mode h.shapes a h.past)) _ e).1
 is_said h a (Complete vs x) l e = said_end h vs x (innermost h.shapes a h.past) l (both (in_body (mode h.shapes a h.past)) _ e).1
+is_said h a Settle l e = tt
 is_said h a Resume l e = tt
 is_said h a (DelayUntil t) l e =
     let time = (both (may_call (who h.shapes a) (mode h.shapes a h.past)) (is_time t) e).1 in

@@ -16,8 +16,9 @@ use Rattle.rv_event.specs.declared.entry.Request.TheVariants.{Call, Complete, Se
 use Rattle.rv_event.proofs.Matching.{by}
 use Rattle.rv_history.specs.HandOver.{served, settling_behind}
 use Rattle.rv_history.specs.Orderly.{is_on}
+use Rattle.rv_history.specs.Settling.{is_any}
 use Rattle.rv_history.proofs.Bodies.{any_kept}
-use Rattle.rv_history.proofs.Stances.{first_actor, itself}
+use Rattle.rv_history.proofs.Stances.{first_actor, itself, some_is}
 
 -- the bodies that left their objects unsettled, without the one whose object is settled
 abbrev pub other_left : List Shape → ℕ → List Entry → Request → List Body
@@ -67,18 +68,30 @@ left_elsewhere past next q b o bs is away = ap (λ p. list_any (is_on o) (begun 
     by_test true = ap (λ t. t || list_any (is_on o) bs) away
     by_test false = refl
 
--- whether others are behind
-abbrev pub is_some_behind : List Body → Bool
-is_some_behind [] = false
-is_some_behind (c ∷ cs) = true
-
-pub drop_leaves : (past : List Entry) (n line : ℕ) (q : Option Body) (b : Body) (behind : List Body) → q ≡ Some b → queue b.object past ≡ behind → left_by past (Dropped n line) q ≡ (if is_some_behind behind then Some b else None)
+-- where others are behind
+pub drop_leaves : (past : List Entry) (n line : ℕ) (q : Option Body) (b : Body) (behind : List Body) → q ≡ Some b → queue b.object past ≡ behind → left_by past (Dropped n line) q ≡ (if is_any behind then Some b else None)
 drop_leaves past n line q b behind is wait =
     ap (left_by past (Dropped n line)) is ∙ ap (λ calls. if leaves_some (Dropped n line) calls then Some b else None) wait ∙ by_behind behind
   where
-    by_behind : (calls : List Body) → (if leaves_some (Dropped n line) calls then Some b else None) ≡ (if is_some_behind calls then Some b else None)
+    by_behind : (calls : List Body) → (if leaves_some (Dropped n line) calls then Some b else None) ≡ (if is_any calls then Some b else None)
     by_behind [] = refl
     by_behind (c ∷ cs) = refl
+
+pub left_waits : (past : List Entry) (next : Next) (q : Option Body) (b : Body) → left_by past next q ≡ Some b → is_any (queue b.object past) ≡ true
+left_waits past next None b e = absurd (cc)
+left_waits past next (Some c) b e = by_next next (queue c.object past) refl e
+  where
+    by_test : (next : Next) (calls : List Body) → queue c.object past ≡ calls → (t : Bool) → is_any calls ≡ true → (if t then Some c else None) ≡ Some b → is_any (queue b.object past) ≡ true
+    by_test next calls is true some f =
+        let same : c ≡ b = some_is c b f in
+        ap (λ (d : Body). is_any (queue d.object past)) (sym same) ∙ ap is_any is ∙ some
+    by_test next calls is false some f = absurd (cc)
+
+    by_next : (next : Next) (calls : List Body) → queue c.object past ≡ calls → (if leaves_some next calls then Some c else None) ≡ Some b → is_any (queue b.object past) ≡ true
+    by_next Nothing calls is f = absurd (cc)
+    by_next (HandedTo n) calls is f = absurd (cc)
+    by_next (Dropped n line) [] is f = absurd (cc)
+    by_next (Dropped n line) (d ∷ ds) is f = by_test (Dropped n line) (d ∷ ds) is true refl f
 
 -- so its own actor has to settle where others are behind
 pub drop_settles : (past : List Entry) (n line : ℕ) (q : Option Body) (b : Body) (behind : List Body) (a : ℕ) (bs : List Body) (m : Mode) → q ≡ Some b → b.actor ≡ a → queue b.object past ≡ behind →
@@ -89,7 +102,7 @@ drop_settles past n line q b behind a bs m is its wait =
     own : (b.actor == a) ≡ true
     own = ap (λ k. k == a) its ∙ itself a
 
-    by_behind : (calls : List Body) → or_settling (first_by a (begun (if is_some_behind calls then Some b else None) bs)) m ≡ settling_behind calls (or_settling (first_by a bs) m)
+    by_behind : (calls : List Body) → or_settling (first_by a (begun (if is_any calls then Some b else None) bs)) m ≡ settling_behind calls (or_settling (first_by a bs) m)
     by_behind [] = refl
     by_behind (c ∷ cs) = ap (λ t. or_settling (slice_get (cond t (b ∷ filter (by a) bs) (filter (by a) bs)) 0) m) own
 

@@ -1,4 +1,4 @@
--- Whom an end names waits in a queue, so whoever doesn't is named by nobody; one that has quit asks nothing that is
+-- Whom an end or a settle names waits in a queue, so whoever doesn't is named by nobody; one that has quit asks nothing that is
 -- recorded, and there is nobody beyond the actors.
 use Rattle.std.proofs.Common.{◌≡◌, ℕ, ◌<◌, ◌≤◌, List, [], ◌∷◌, ◌++◌, length, Some, None, Option, Bool, true, false, arith, ap, sym, ◌∙◌, refl}
 use Rattle.std.specs.Prelude.{nat_lt, ◌==◌, ◌||◌}
@@ -7,11 +7,12 @@ use Rattle.std.proofs.lemmas.Bool.Decides.{nat_tests}
 use Rattle.rv_access.specs.Words.{Words}
 use Rattle.rv_shape.specs.Shape.{Shape}
 use Rattle.rv_shape.specs.Catalogue.{Who, Operator, Line, Task, Nobody, target, who}
-use Rattle.rv_event.specs.Past.{held, is_named, is_own, mode, mode_by, named_in, names, or_else, stance}
+use Rattle.rv_event.specs.Past.{held, is_named, is_own, mode, mode_by, named_in, names, or_else, stance, to_settle}
 use Rattle.rv_event.specs.Recorded.{recorded}
 use Rattle.rv_event.specs.declared.entry.Body.{Body}
 use Rattle.rv_event.specs.declared.entry.Entry.{Entry}
 use Rattle.rv_event.specs.declared.entry.Entry.TheVariants.{Asked, Load, ListChange}
+use Rattle.rv_event.specs.declared.entry.Mode.{Mode}
 use Rattle.rv_event.specs.declared.entry.Mode.TheVariants as Modes
 use Rattle.rv_event.specs.declared.entry.Next.{Next}
 use Rattle.rv_event.specs.declared.entry.Recorded.{Recorded}
@@ -24,18 +25,18 @@ use Rattle.rv_history.specs.declared.limits.Limits.{Limits}
 use Rattle.rv_history.specs.Due.{out}
 use Rattle.rv_history.specs.Fitting.{awaits, call_fits, fits_actor, idle_line, idle_task, in_body, is_tick, is_time, may_call}
 use Rattle.rv_history.specs.Frame.{is_apart}
-use Rattle.rv_history.specs.HandOver.{is_complete}
 use Rattle.rv_history.specs.History.{History}
 use Rattle.rv_history.specs.Legal.{IsLegal, Legal}
 use Rattle.rv_history.specs.Owed.{actors}
-use Rattle.rv_history.proofs.Answered.{off, and_none, Answered, answered}
+use Rattle.rv_history.proofs.Answered.{off, and_none, both, Answered, answered}
 use Rattle.rv_history.proofs.Ending.{head_waits, names_at}
 use Rattle.rv_history.proofs.Frame.{all_more, apart_of, stance_stays, unsaid}
-use Rattle.rv_history.proofs.HandOver.{done_at_ends}
+use Rattle.rv_history.proofs.Modes.{calls_at, ends_at, fires_at, quits_at, settles_at, waits_at}
+use Rattle.rv_history.proofs.Standing.{legal_standing, legal_waits, none_left}
 use Rattle.rv_history.proofs.Stances.{below, same_number}
-use Rattle.rv_history.proofs.Waits.{Waits, legal_waits, more_tasks, no_operator, unfit}
+use Rattle.rv_history.proofs.Waits.{Waits, more_tasks, no_operator, unfit}
 
--- Whom an end names
+-- Whom one names
 
 pub record IsQueued (h : History) (n : ℕ) : Type 0 where
   pub call : Body
@@ -43,20 +44,9 @@ pub record IsQueued (h : History) (n : ℕ) : Type 0 where
   pub waits : Waits h.shapes h.past call
 
 named_next : (h : History) (a : ℕ) (r : Request) (next : Next) (n : ℕ) → Legal h → recorded (out h a r) ≡ Some (Done next) → named_in next ≡ Some n → IsQueued h n
-named_next h a r next n l e f = by_request r (done_at_ends h a r next e) e
-  where
-    by_request : (r : Request) → is_complete r ≡ true → recorded (out h a r) ≡ Some (Done next) → IsQueued h n
-    by_request (Complete vs x) is e =
-        let q = (names_at h a vs x next n e f).served_by in
-        record { call = q.call; its = q.is_its; waits = head_waits h.shapes h.past _ q.call q.rest (legal_waits h.limits h.past h.shapes h.lists l) q.queued }
-    by_request (Call o p vs) is e = absurd (off is)
-    by_request Resume is e = absurd (off is)
-    by_request (DelayUntil t) is e = absurd (off is)
-    by_request Clock is e = absurd (off is)
-    by_request Fire is e = absurd (off is)
-    by_request Quit is e = absurd (off is)
-    by_request (Tick m) is e = absurd (off is)
-    by_request Halt is e = absurd (off is)
+named_next h a r next n l e f =
+    let q = (names_at h a r next n e f).served_by in
+    record { call = q.call; its = q.is_its; waits = head_waits h.shapes h.past _ q.call q.rest (legal_waits h.limits h.past h.shapes h.lists l) q.queued }
 
 the_named : (o : Option ℕ) (n : ℕ) → is_named n o ≡ true → o ≡ Some n
 the_named None n e = absurd (off e)
@@ -110,6 +100,15 @@ apart_while c (ListChange ∷ later) past shapes lists n l calm none = apart_whi
 
 -- One that has quit
 
+is_gone : Stance → Bool
+is_gone Free = false
+is_gone InQueue = false
+is_gone HandedOver = false
+is_gone (DroppedBy line) = false
+is_gone (WaitsOn object) = false
+is_gone (WaitsUntil time) = false
+is_gone Gone = true
+
 calls_none : (w : Who) → may_call w Modes.Ended ≡ false
 calls_none Operator = refl
 calls_none (Line line) = refl
@@ -128,33 +127,47 @@ quits_none (Line line) = refl
 quits_none (Task task) = refl
 quits_none Nobody = refl
 
-gone_at : (h : History) (a : ℕ) (r : Request) (w : Recorded) → stance a h.past ≡ Gone → nat_lt a 11 ≡ false → Answered h a r w → ⊥
-gone_at h a r w at task g = by_request r g.fits_in
+gone_at : (h : History) (a : ℕ) (r : Request) (w : Recorded) → Legal h → stance a h.past ≡ Gone → nat_lt a 11 ≡ false → Answered h a r w → ⊥
+unfolding is_gone
+gone_at h a r w l at task g = by_request r g.fits_in
   where
-    ended : mode h.shapes a h.past ≡ Modes.Ended
+    by : Mode
+    by = mode_by (held h.shapes a h.past) (stance a h.past)
+
+    left : Option Body
+    left = to_settle h.shapes a h.past
+
+    ended : by ≡ Modes.Ended
     ended = ap (mode_by (held h.shapes a h.past)) at
 
-    calls : may_call (who h.shapes a) (mode h.shapes a h.past) ≡ false
+    calls : may_call (who h.shapes a) by ≡ false
     calls = ap (may_call (who h.shapes a)) ended ∙ calls_none (who h.shapes a)
 
+    settled : left ≡ None
+    settled = none_left h.shapes h.past a (legal_standing h.limits h.past h.shapes h.lists l).left (λ free. off (ap is_gone (sym free ∙ at)))
+
     by_request : (r : Request) → fits_actor h a r ≡ true → ⊥
-    by_request (Call o p vs) f = unfit _ (and_none _ (call_fits (length (held h.shapes a h.past)) vs (target h.shapes o p)) calls) f
-    by_request (Complete vs x) f = unfit _ (and_none _ _ (ap in_body ended)) f
-    by_request Resume f = unfit _ (ap awaits ended) f
-    by_request (DelayUntil t) f = unfit _ (and_none _ (is_time t) calls) f
-    by_request Clock f = unfit _ calls f
-    by_request Fire f = unfit _ (ap (idle_line (who h.shapes a)) ended ∙ fires_none (who h.shapes a)) f
-    by_request Quit f = unfit _ (ap (idle_task (who h.shapes a)) ended ∙ quits_none (who h.shapes a)) f
+    by_request (Call o p vs) f = unfit _ calls (calls_at (who h.shapes a) left by (both _ (call_fits (length (held h.shapes a h.past)) vs (target h.shapes o p)) f).0)
+    by_request (Complete vs x) f = unfit _ (ap in_body ended) (ends_at left by (both (in_body (mode h.shapes a h.past)) _ f).0)
+    by_request Settle f =
+        let has = settles_at left (held h.shapes a h.past) (stance a h.past) f in
+        let none : None ≡ Some has.0 = sym settled ∙ has.1 in
+        cc
+    by_request Resume f = unfit _ (ap awaits ended) (waits_at left by f)
+    by_request (DelayUntil t) f = unfit _ calls (calls_at (who h.shapes a) left by (both _ (is_time t) f).0)
+    by_request Clock f = unfit _ calls (calls_at (who h.shapes a) left by f)
+    by_request Fire f = unfit _ (ap (idle_line (who h.shapes a)) ended ∙ fires_none (who h.shapes a)) (fires_at (who h.shapes a) left by f)
+    by_request Quit f = unfit _ (ap (idle_task (who h.shapes a)) ended ∙ quits_none (who h.shapes a)) (quits_at (who h.shapes a) left by f)
     by_request (Tick n) f = unfit _ (and_none _ (is_tick n) (no_operator h.shapes a task)) f
     by_request Halt f = unfit _ (no_operator h.shapes a task) f
 
-gone_other : (h : History) (a : ℕ) (r : Request) (w : Recorded) (n : ℕ) → recorded (out h a r) ≡ Some w → stance n h.past ≡ Gone → nat_lt n 11 ≡ false → (a == n) ≡ false
-gone_other h a r w n e gone task = by_test (a == n) refl
+gone_other : (h : History) (a : ℕ) (r : Request) (w : Recorded) (n : ℕ) → Legal h → recorded (out h a r) ≡ Some w → stance n h.past ≡ Gone → nat_lt n 11 ≡ false → (a == n) ≡ false
+gone_other h a r w n l e gone task = by_test (a == n) refl
   where
     by_test : (b : Bool) → (a == n) ≡ b → b ≡ false
     by_test true is =
         let same : a ≡ n = same_number a n is in
-        absurd (gone_at h a r w (ap (λ m. stance m h.past) same ∙ gone) (ap (λ m. nat_lt m 11) same ∙ task) (answered h a r w e))
+        absurd (gone_at h a r w l (ap (λ m. stance m h.past) same ∙ gone) (ap (λ m. nat_lt m 11) same ∙ task) (answered h a r w e))
     by_test false is = refl
 
 -- adds no entry, and none names it
@@ -165,7 +178,7 @@ gone_apart c (Asked a r w ∷ later) past shapes lists n l gone task =
     let h : History = record { limits = c; past = later ++ past; shapes = shapes; lists = lists } in
     let rest = gone_apart c later past shapes lists n l.0 gone task in
     let still : stance n (later ++ past) ≡ Gone = stance_stays n later past rest ∙ gone in
-    all_more (is_apart n) (Asked a r w) later (apart_of n (Asked a r w) (gone_other h a r w n l.1 still task) (unnamed h a r w n l.0 l.1 (ap is_queued still))) rest
+    all_more (is_apart n) (Asked a r w) later (apart_of n (Asked a r w) (gone_other h a r w n l.0 l.1 still task) (unnamed h a r w n l.0 l.1 (ap is_queued still))) rest
 gone_apart c (Load ∷ later) past shapes lists n l gone task = gone_apart c later past l.0 lists n l.3 gone task
 gone_apart c (ListChange ∷ later) past shapes lists n l gone task = gone_apart c later past shapes l.0 n l.3 gone task
 

@@ -46,8 +46,8 @@ pub record Standing (shapes : List Shape) (past : List Entry) : Type 0 where
   pub once : (n : ℕ) → length (filter (by n) (waiting past)) ≤ 1
   pub left : Each (HasLeft shapes past) (unsettled shapes past)
 
--- one that waits has nothing to settle
-pub none_left : (shapes : List Shape) (past : List Entry) (a : ℕ) → Each (HasLeft shapes past) (unsettled shapes past) → is_waiting (stance a past) ≡ true → to_settle shapes a past ≡ None
+-- one that isn't free has nothing to settle
+pub none_left : (shapes : List Shape) (past : List Entry) (a : ℕ) → Each (HasLeft shapes past) (unsettled shapes past) → (stance a past ≡ Free → ⊥) → to_settle shapes a past ≡ None
 none_left shapes past a k busy = by_left (to_settle shapes a past) refl
   where
     by_left : (o : Option Body) → to_settle shapes a past ≡ o → to_settle shapes a past ≡ None
@@ -55,7 +55,7 @@ none_left shapes past a k busy = by_left (to_settle shapes a past) refl
     by_left (Some b) is =
         let free : stance b.actor past ≡ Free = (each_first (HasLeft shapes past) a b (unsettled shapes past) k is).at in
         let its : b.actor ≡ a = first_actor a b (unsettled shapes past) is in
-        absurd (off (sym (ap is_waiting free) ∙ ap (λ n. is_waiting (stance n past)) its ∙ busy))
+        absurd (busy (ap (λ n. stance n past) (sym its) ∙ free))
 
 -- one that has an object to settle is free
 pub settler_at : (h : History) (a : ℕ) (b : Body) → Standing h.shapes h.past → to_settle h.shapes a h.past ≡ Some b → stance a h.past ≡ Free
@@ -188,7 +188,7 @@ left_step h a Halt w k e = still_left h a Halt w k e
 pub waiter_silent : (h : History) (a : ℕ) (r : Request) (w : Recorded) (b : Body) → Each (HasLeft h.shapes h.past) (unsettled h.shapes h.past) → recorded (out h a r) ≡ Some w → Waits h.shapes h.past b → b.actor ≢ a
 waiter_silent h a r w b left e v is =
     let at : stance a h.past ≡ InQueue = ap (λ n. stance n h.past) (sym is) ∙ v.at in
-    silent h a r w at (ap (λ n. nat_lt n 11) (sym is) ∙ v.task) (none_left h.shapes h.past a left (ap is_waiting at)) e
+    silent h a r w at (ap (λ n. nat_lt n 11) (sym is) ∙ v.task) (none_left h.shapes h.past a left (λ free. off (ap is_waiting (sym free ∙ at)))) e
 
 none_by : (shapes : List Shape) (past : List Entry) (a : ℕ) (calls : List Body) → ((b : Body) → Waits shapes past b → b.actor ≢ a) → AllWait shapes past calls → length (filter (by a) calls) ≡ 0
 none_by shapes past a [] apart all = refl
