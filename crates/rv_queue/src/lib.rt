@@ -1,17 +1,21 @@
 //! The entry queue of a protected object (ISO/IEC 8652:2012, 9.5.3).
 #![tactic(auto)]
 
-ghost use Rattle.std.specs.Prelude.{◌≡◌, ◌<◌, ◌≤◌, [], ◌∷◌, ◌++◌, drop, length, slice_get, IsTrue, ◌↔◌};
+ghost use Rattle.std.specs.List.{list_any};
+ghost use Rattle.std.specs.Prelude.{◌≡◌, ◌==◌, ◌<◌, ◌≤◌, [], ◌∷◌, ◌++◌, drop, length, not, slice_get, IsTrue, ◌↔◌};
 
 use arrayvec::ArrayVec;
 use std::marker::Model;
 
-/// How many callers may wait in an entry queue: Max_Entry_Queue_Length of the Ravenscar profile
+/// How many callers may wait in an entry queue under the Ravenscar profile: Max_Entry_Queue_Length
 /// (ISO/IEC 8652:2012, D.7 and D.13).
 pub const MAX_ENTRY_QUEUE_LENGTH: usize = 1;
 
-/// The queue of a protected object's entry under the Ravenscar profile.
-pub type EntryQueue = Queue<MAX_ENTRY_QUEUE_LENGTH>;
+/// How many may wait in one where a host leaves the profile, at most (own).
+pub const LONGEST_QUEUE: usize = 8;
+
+/// The queue of a protected object's entry. The limit of its host, 1 .. 8, is kept by who lets callers join.
+pub type EntryQueue = Queue<LONGEST_QUEUE>;
 
 /// At most `LIMIT` callers that wait on an entry, by their actors' numbers, first in, first out.
 ///
@@ -71,6 +75,13 @@ impl<const LIMIT: usize> Queue<LIMIT> {
         self.callers.first().copied()
     }
 
+    /// Whether anybody but this actor waits.
+    pub fn has_other(&self, actor: usize) -> bool
+        ensures { result ≡ list_any (λ caller. not (caller == actor)) self.now }
+    {
+        is_other_among(self.callers.as_slice(), actor)
+    }
+
     /// Takes the caller at the front, or gives `None` where nobody waits.
     pub fn leave(&mut self) -> Option<usize>
         ensures caller { result ≡ slice_get self.old 0 }
@@ -78,4 +89,11 @@ impl<const LIMIT: usize> Queue<LIMIT> {
     {
         self.callers.pop_at(0)
     }
+}
+
+// Whether one of these callers isn't the actor.
+fn is_other_among(callers: &[usize], actor: usize) -> bool
+    ensures { result ≡ list_any (λ caller. not (caller == actor)) callers.now }
+{
+    callers.iter().any(|caller| *caller != actor)
 }
