@@ -81,6 +81,7 @@ replace_of [] = None
 abbrev pub alone : List ℕ → Option Asked
 alone word =
     if bytes_eq word (codes "resume") then Some Asks.Resume
+    else if bytes_eq word (codes "settle") then Some Asks.Settle
     else if bytes_eq word (codes "clock") then Some Asks.Clock
     else if bytes_eq word (codes "fire") then Some Asks.Fire
     else if bytes_eq word (codes "finish") then Some Asks.Quit

@@ -73,6 +73,7 @@ pub fn request_of(
             }
         }
         Asked::Complete(scalars, exit) => Ok(Some(Request::Complete(*scalars, *exit))),
+        Asked::Settle => Ok(Some(Request::Settle)),
         Asked::Resume => Ok(Some(Request::Resume)),
         Asked::DelayUntil(time) => Ok(Some(Request::DelayUntil(*time))),
         Asked::Clock => Ok(Some(Request::Clock)),

@@ -96,6 +96,8 @@ pub enum Asked {
     Call(DottedName, Name, Args),
     /// The end of a body with the object's scalars.
     Complete(Scalars, Exit),
+    /// The object whose queue the actor's last end left some callers in is served on.
+    Settle,
     Resume,
     DelayUntil(i64),
     Clock,
