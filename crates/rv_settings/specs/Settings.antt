@@ -18,10 +18,11 @@ pub record DeviceText : Type 0 where
   pub operation : List ℕ
   pub calls : ℕ
 
--- the greatest number of entries, the requests of a task's own body, and the devices
+-- the greatest number of entries, the requests of a task's own body, the callers in a queue at most, and the devices
 pub record SettingsText : Type 0 where
   pub capacity : ℕ
   pub budget : ℕ
+  pub queue_limit : ℕ
   pub devices : List DeviceText
 
 -- where nothing else is set
@@ -31,8 +32,17 @@ default_capacity = 4096
 abbrev pub default_budget : ℕ
 default_budget = 1000
 
+-- as under the profile (D.7, D.13)
+abbrev pub default_queue_limit : ℕ
+default_queue_limit = 1
+
 abbrev pub default_settings : SettingsText
-default_settings = record { capacity = default_capacity; budget = default_budget; devices = [] }
+default_settings = record {
+  capacity = default_capacity;
+  budget = default_budget;
+  queue_limit = default_queue_limit;
+  devices = [];
+}
 
 -- What stands at a key
 
@@ -64,7 +74,9 @@ is_key_of_device key =
 
 -- the keys of settings
 abbrev pub is_key : List ℕ → Bool
-is_key key = bytes_eq key (codes "budget") || bytes_eq key (codes "capacity") || bytes_eq key (codes "device")
+is_key key =
+    bytes_eq key (codes "budget") || bytes_eq key (codes "capacity") || bytes_eq key (codes "device")
+    || bytes_eq key (codes "queue_limit")
 
 -- each key of a table is one of these
 abbrev pub OnlyKeys : (List ℕ → Bool) → Members → Type 0
@@ -126,6 +138,9 @@ pub record AreSettings (table : Members) (settings : SettingsText) : Type 0 wher
   pub budget : number_at (codes "budget") (pos default_budget) table ≡ Some (pos settings.budget)
   pub fewest : 1 ≤ settings.budget
   pub greatest : settings.budget ≤ 1000000
+  pub queue_limit : number_at (codes "queue_limit") (pos default_queue_limit) table ≡ Some (pos settings.queue_limit)
+  pub shortest : 1 ≤ settings.queue_limit
+  pub longest : settings.queue_limit ≤ 8
   pub devices : AreDevicesAt (get_member (codes "device") table) settings.devices
 
 -- settings are those of a table that was read

@@ -116,6 +116,9 @@ fn key_fault(key: &str, value: &Value) -> Option<SettingsFault>
     if key == "device" {
         return devices_fault(value);
     }
+    if key == "queue_limit" {
+        return unless(is_number(value, 1, 8));
+    }
     Some(SettingsFault::UnknownKey)
 }
 

@@ -162,10 +162,12 @@ fn settings_of(alloc: Global, table: &Table) -> Result<Settings, SettingsFault>
     }
     let capacity = within(number_at(table, "capacity", 4096), 16, 1_048_576)?;
     let budget = within(number_at(table, "budget", 1000), 1, 1_000_000)?;
+    let queue_limit = within(number_at(table, "queue_limit", 1), 1, 8)?;
     let devices = devices_of(alloc, table)?;
     Ok(Settings {
         capacity: capacity as usize,
         budget: budget as u32,
+        queue_limit: queue_limit as usize,
         devices,
     })
 }

@@ -10,11 +10,15 @@ pub const DEFAULT_CAPACITY: usize = 4096;
 /// How many requests a task's own body may make where nothing else is set.
 pub const DEFAULT_BUDGET: u32 = 1000;
 
+/// How many callers may wait in an entry's queue where nothing else is set: as under the profile (D.7, D.13).
+pub const DEFAULT_QUEUE_LIMIT: usize = 1;
+
 /// The settings of a host.
 #[derive(Drop)]
 pub struct Settings {
     pub(crate) capacity: usize,
     pub(crate) budget: u32,
+    pub(crate) queue_limit: usize,
     pub(crate) devices: Vec<Device>,
 }
 
@@ -24,7 +28,12 @@ impl Model for Settings {
 
     ghost Value = { SettingsText };
 
-    ghost view = { λ s. record { capacity = s.capacity; budget = s.budget; devices = s.devices.items } };
+    ghost view = { λ s. record {
+      capacity = s.capacity;
+      budget = s.budget;
+      queue_limit = s.queue_limit;
+      devices = s.devices.items;
+    } };
 }
 
 impl Settings {
@@ -38,6 +47,7 @@ impl Settings {
         Settings {
             capacity: DEFAULT_CAPACITY,
             budget: DEFAULT_BUDGET,
+            queue_limit: DEFAULT_QUEUE_LIMIT,
             devices: Vec::new(alloc),
         }
     }
@@ -54,6 +64,13 @@ impl Settings {
         ensures { result ≡ self.now.budget }
     {
         self.budget
+    }
+
+    /// How many callers may wait in an entry's queue, 1 .. 8; above 1 the host leaves the profile.
+    pub fn queue_limit(&self) -> usize
+        ensures { result ≡ self.now.queue_limit }
+    {
+        self.queue_limit
     }
 
     /// Its devices, in order.
