@@ -238,28 +238,28 @@ halted_settles h a b l solvent halt is =
 -- Nobody else gets in
 
 away_of : (h : History) (a : ℕ) (r : Request) (o : ℕ) → Legal h → is_unsettled h.shapes o h.past ≡ true → IsNoSettleOf h a r o → IsAway h a r o
-away_of h a (Complete vs x) o l still no b is = ends_away h a o b (legal_apart h l) still is
-away_of h a Settle o l still no b is = by_test (b.object == o) refl
+away_of h a (Complete vs x) o l still apart b is = ends_away h a o b (legal_apart h l) still is
+away_of h a Settle o l still apart b is = by_test (b.object == o) refl
   where
     by_test : (t : Bool) → (b.object == o) ≡ t → t ≡ false
     by_test false e = refl
-    by_test true e = absurd (no refl b is (same_number b.object o e))
-away_of h a (Call p q vs) o l still no b is = absurd (cc)
-away_of h a Resume o l still no b is = absurd (cc)
-away_of h a (DelayUntil t) o l still no b is = absurd (cc)
-away_of h a Clock o l still no b is = absurd (cc)
-away_of h a Fire o l still no b is = absurd (cc)
-away_of h a Quit o l still no b is = absurd (cc)
-away_of h a (Tick n) o l still no b is = absurd (cc)
-away_of h a Halt o l still no b is = absurd (cc)
+    by_test true e = absurd (apart refl b is (same_number b.object o e))
+away_of h a (Call p q vs) o l still apart b is = absurd (cc)
+away_of h a Resume o l still apart b is = absurd (cc)
+away_of h a (DelayUntil t) o l still apart b is = absurd (cc)
+away_of h a Clock o l still apart b is = absurd (cc)
+away_of h a Fire o l still apart b is = absurd (cc)
+away_of h a Quit o l still apart b is = absurd (cc)
+away_of h a (Tick n) o l still apart b is = absurd (cc)
+away_of h a Halt o l still apart b is = absurd (cc)
 
 pub nobody_enters : (h : History) (a : ℕ) (r : Request) (o : ℕ) → Legal h → is_unsettled h.shapes o h.past ≡ true → IsNoSettleOf h a r o → StaysUnsettled h (after h a r (out h a r)) o
-nobody_enters h a r o l still no = by_word (recorded (out h a r)) refl
+nobody_enters h a r o l still apart = by_word (recorded (out h a r)) refl
   where
     by_word : (w : Option Recorded) → recorded (out h a r) ≡ w → StaysUnsettled h (entered h a r w) o
     by_word None e = record { still = still; wait = refl; free = left_free h o (legal_apart h l) still }
     by_word (Some w) e =
-        let away = away_of h a r o l still no in
+        let away = away_of h a r o l still apart in
         let then_still = stays_left h a r w o e still away in
         let k : History = record h { past = Asked a r w ∷ h.past } in
         record { still = then_still; wait = queue_kept h a r w o l e still away; free = left_free k o (legal_apart k (l, e)) then_still }

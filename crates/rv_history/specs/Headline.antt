@@ -23,7 +23,8 @@ pub record IsAllowed (h : History) (actor : ℕ) (request : Request) : Type 0 wh
   pub open_to : (is_entry site.operation.kind && not (is_open h object)) ≡ false
 
 -- For a fired line, in its own terms: it is idle and has a handler, the host isn't halted, the list in force grants the
--- handler to `Interrupts`, the line's priority, 31 and its number, isn't above the ceiling, and nobody holds the object.
+-- handler to `Interrupts`, the line's priority, 31 and its number, isn't above the ceiling, nobody holds the object and
+-- it is settled.
 pub record MayFire (h : History) (actor line : ℕ) : Type 0 where
   pub idle : mode h.shapes actor h.past ≡ Idle
   pub going : halted h.past ≡ false

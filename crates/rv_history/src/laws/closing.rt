@@ -12,7 +12,7 @@ ghost use Rattle.rv_history.specs.Frame.{is_apart};
 ghost use Rattle.rv_history.specs.History.{History};
 ghost use Rattle.rv_history.specs.Legal.{Legal};
 
-/// After an accepted halt only ends, resumes and quits add entries.
+/// After an accepted halt only ends, settles, resumes and quits add entries.
 #[tactic(auto, using(crate::proofs::Closing::halted_closes))]
 pub fn halted_hosts_only_close()
     ensures { (h : History) (later past : List Entry) → Legal h → h.past ≡ later ++ past →

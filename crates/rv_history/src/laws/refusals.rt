@@ -11,7 +11,7 @@ ghost use Rattle.rv_history.specs.Refusal.{IsRefusal};
 ghost use Rattle.rv_history.specs.Untouched.{Untouched};
 
 /// A refused request names the first rule that it violates, with the deciding line and the version
-/// of the list (an end or a quit is never refused, and a resume tells of a refusal that was).
+/// of the list (an end, a settle or a quit is never refused, and a resume tells of a refusal that was).
 pub fn refusals_name_the_first_rule()
     ensures { (h : History) (actor : ℕ) (request : Request) (rule : Rule) (line version : ℕ) →
         goes_on request ≡ false → out h actor request ≡ Refused rule line version →

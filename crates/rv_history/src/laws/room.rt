@@ -6,7 +6,7 @@ ghost use Rattle.rv_event.specs.declared.entry.Answer.TheVariants.{Full};
 ghost use Rattle.rv_event.specs.declared.entry.Entry.TheVariants.{ListChange, Load};
 ghost use Rattle.rv_event.specs.declared.entry.Entry.{Entry};
 ghost use Rattle.rv_event.specs.declared.entry.Exit.{Exit};
-ghost use Rattle.rv_event.specs.declared.entry.Request.TheVariants.{Complete, Halt, Quit, Resume};
+ghost use Rattle.rv_event.specs.declared.entry.Request.TheVariants.{Complete, Halt, Quit, Resume, Settle};
 ghost use Rattle.rv_event.specs.declared.entry.Request.{Request};
 ghost use Rattle.rv_history.specs.Due.{due, out};
 ghost use Rattle.rv_history.specs.History.{History};
@@ -58,6 +58,13 @@ pub fn end_has_room()
         out h actor (Complete values exit) ≡ due h actor (Complete values exit) }
 {}
 
+/// So is a settle.
+#[tactic(auto, using(crate::proofs::Ends::settle_never_full))]
+pub fn settle_has_room()
+    ensures { (h : History) (actor : ℕ) → Legal h → IsSolvent h →
+        out h actor Settle ≡ due h actor Settle }
+{}
+
 /// So is a resume.
 #[tactic(auto, using(crate::proofs::Pays::resume_never_full))]
 pub fn resume_has_room()
@@ -78,7 +85,7 @@ pub fn halt_has_room()
     ensures { (h : History) (actor : ℕ) → IsSolvent h → out h actor Halt ≡ due h actor Halt }
 {}
 
-/// None of the four is ever answered Full.
+/// None of the five is ever answered Full.
 #[tactic(auto, using(crate::proofs::Costs::paid_never_full))]
 pub fn paid_requests_are_never_full()
     ensures { (h : History) (actor : ℕ) (request : Request) → Legal h → IsSolvent h →

@@ -16,6 +16,7 @@ ghost use Rattle.rv_history.specs.Settling.{settled};
 
 /// An actor with an object to settle may settle it and do nothing else; nobody holds the object, and
 /// somebody waits there.
+#[tactic(auto, using(crate::proofs::Settling::has_to_settle))]
 pub fn unsettled_objects_wait_for_their_actor()
     ensures { (h : History) (actor : ℕ) (body : Body) → Legal h →
         to_settle h.shapes actor h.past ≡ Some body →
@@ -31,6 +32,7 @@ pub fn settles_serve_the_first()
 {}
 
 /// So an object is settled after at most as many settles as callers wait there.
+#[tactic(auto, using(crate::proofs::Settling::settled_in_time))]
 pub fn objects_are_settled_in_time()
     ensures { (h : History) (actor : ℕ) (body : Body) →
         Legal h → IsSolvent h → halted h.past ≡ false → to_settle h.shapes actor h.past ≡ Some body →
@@ -54,6 +56,7 @@ pub fn nobody_enters_an_unsettled_object()
 {}
 
 /// With queues of one caller no object is ever unsettled.
+#[tactic(auto, using(crate::proofs::Settling::nothing_unsettled))]
 pub fn queues_of_one_leave_nothing_unsettled()
     ensures { (h : History) → Legal h → h.limits.queue ≡ 1 → unsettled h.shapes h.past ≡ [] }
 {}

@@ -33,7 +33,7 @@ pub fn start_gives_the_scalars()
 
 /// Where there is room for it, a fired line starts its handler exactly when it is idle and
 /// attached, the host isn't halted, the list grants the handler to `Interrupts`, the line's
-/// priority isn't above the ceiling, and nobody holds the object.
+/// priority isn't above the ceiling, nobody holds the object and it is settled.
 pub fn fired_lines_start_exactly_when_they_may()
     ensures { (h : History) (actor line : ℕ) → who h.shapes actor ≡ Line line →
         has_room h.limits.capacity h.shapes (Asked actor Fire Started ∷ h.past) ≡ true →
