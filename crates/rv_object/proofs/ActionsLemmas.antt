@@ -6,7 +6,7 @@ use Rattle.std.proofs.lemmas.List.{length-replicate}
 use Rattle.rv_object.specs.declared.action.Action.{Action}
 use Rattle.rv_object.specs.declared.action.Action.TheVariants.{Shared, Exclusive}
 use Rattle.rv_object.specs.declared.action.State.{State}
-use Rattle.rv_object.specs.declared.action.State.TheVariants.{Free, Readers, Writer}
+use Rattle.rv_object.specs.declared.action.State.TheVariants.{Free, Readers, Writer, Settling}
 use Rattle.rv_object.specs.Actions.{IsCounted, actions_of, excludes, is_under_way, same_action}
 
 pub excludes-shared : (n : ℕ) → excludes (replicate n Shared) Shared ≡ false
@@ -23,6 +23,7 @@ actions_of-free Free actor counted free = refl
 actions_of-free (Readers zero) actor counted free = refl
 actions_of-free (Readers (suc n)) actor counted free = absurd (cc)
 actions_of-free (Writer other) actor counted free = absurd (cc)
+actions_of-free Settling actor counted free = refl
 
 same_action-is : (a b : Action) → same_action a b ≡ true → a ≡ b
 same_action-is Shared Shared same = refl
@@ -49,6 +50,7 @@ actions_of-alike (Readers zero) (Exclusive actor) some = refl
 actions_of-alike (Readers (suc n)) (Exclusive actor) some = absurd (never actor n some)
 actions_of-alike (Writer other) Shared some = absurd (cc)
 actions_of-alike (Writer other) (Exclusive actor) some = ap (λ a. a ∷ []) (sym (only_one (Exclusive actor) (Exclusive other) some))
+actions_of-alike Settling action some = refl
 
 -- and the newest is such an action
 pub actions_of-newest : (state : State) (action : Action) → is_under_way action (actions_of state) ≡ true → actions_of state ≡ action ∷ drop 1 (actions_of state)
@@ -57,3 +59,4 @@ actions_of-newest (Readers zero) action some = absurd (cc)
 actions_of-newest (Readers (suc n)) Shared some = refl
 actions_of-newest (Readers (suc n)) (Exclusive actor) some = absurd (never actor n some)
 actions_of-newest (Writer other) action some = ap (λ a. a ∷ []) (sym (only_one action (Exclusive other) some))
+actions_of-newest Settling action some = absurd (cc)

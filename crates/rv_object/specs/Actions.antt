@@ -4,11 +4,13 @@ use Rattle.std.specs.List.{list_any}
 use Rattle.rv_object.specs.declared.action.Action.{Action}
 use Rattle.rv_object.specs.declared.action.Action.TheVariants.{Shared, Exclusive}
 use Rattle.rv_object.specs.declared.action.State.{State}
-use Rattle.rv_object.specs.declared.action.State.TheVariants.{Free, Readers, Writer}
+use Rattle.rv_object.specs.declared.action.State.TheVariants.{Free, Readers, Writer, Settling}
 
--- an object: the actions under way, the newest first, and the values of its components (9.4)
+-- an object: the actions under way, the newest first, whether its queue has to be served on before another (own), and the
+-- values of its components (9.4)
 pub record ObjectView : Type 0 where
   pub actions : List Action
+  pub unsettled : Bool
   pub scalars : List ℤ
 
 -- a function's action (9.5.1)
@@ -36,12 +38,19 @@ abbrev pub actions_of : State → List Action
 actions_of Free = []
 actions_of (Readers count) = replicate count Shared
 actions_of (Writer actor) = Exclusive actor ∷ []
+actions_of Settling = []
+
+-- the state keeps everybody out until the queue has been served on (own)
+abbrev pub is_unsettled : State → Bool
+is_unsettled Settling = true
+is_unsettled state = false
 
 -- readers are at least one (own)
 abbrev pub IsCounted : State → Type 0
 IsCounted Free = Unit {0}
 IsCounted (Readers count) = 0 < count
 IsCounted (Writer actor) = Unit {0}
+IsCounted Settling = Unit {0}
 
 -- the values after an action: those given by an exclusive one, else those before (9.5.1)
 abbrev pub scalars_after : Action → List ℤ → List ℤ → List ℤ

@@ -1,7 +1,7 @@
 //! Protected actions, and what they make of an object.
 
-ghost use Rattle.std.specs.Prelude.{◌≡◌, ◌<◌, ◌∷◌, drop, false, length, not};
-ghost use Rattle.rv_object.specs.Actions.{IsCounted, actions_of, excludes};
+ghost use Rattle.std.specs.Prelude.{◌≡◌, ◌<◌, ◌∷◌, ◌||◌, drop, false, length, not};
+ghost use Rattle.rv_object.specs.Actions.{IsCounted, actions_of, excludes, is_unsettled};
 
 /// A protected action, under way or asked for (ISO/IEC 8652:2012, 9.5.1).
 ///
@@ -23,13 +23,15 @@ pub enum State {
     Readers(usize),
     /// This actor alone, in a procedure, an entry body or a handler.
     Writer(usize),
+    /// Nobody, and nobody may be before its queue has been served on (own).
+    Settling,
 }
 
 impl State {
     /// Whether an action may start. A state of readers must count at least one.
     pub(crate) fn admits(self, action: Action) -> bool
         requires { IsCounted self }
-        ensures { result ≡ not (excludes (actions_of self) action) }
+        ensures { result ≡ not (excludes (actions_of self) action || is_unsettled self) }
     {
         match (self, action) {
             (State::Free, _) => true,
@@ -45,6 +47,7 @@ impl State {
         requires free { excludes (actions_of self) action ≡ false }
         requires countable { length (actions_of self) < usize.MAX }
         ensures actions { actions_of result ≡ action ∷ actions_of self }
+        ensures settled { is_unsettled result ≡ false }
         ensures counted { IsCounted result }
     {
         match (action, self) {
@@ -57,11 +60,25 @@ impl State {
     /// The state once an action has finished; a free one stays free.
     pub(crate) fn finished(self) -> State
         ensures actions { actions_of result ≡ drop 1 (actions_of self) }
+        ensures settled { is_unsettled result ≡ false }
         ensures counted { IsCounted result }
     {
         match self {
             State::Readers(count) if 1 < count => State::Readers(count - 1),
             _ => State::Free,
+        }
+    }
+
+    /// The state once the queue has been served on.
+    pub(crate) fn settled(self) -> State
+        requires { IsCounted self }
+        ensures actions { actions_of result ≡ actions_of self }
+        ensures settled { is_unsettled result ≡ false }
+        ensures counted { IsCounted result }
+    {
+        match self {
+            State::Settling => State::Free,
+            _ => self,
         }
     }
 }
