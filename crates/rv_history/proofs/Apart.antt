@@ -1,5 +1,5 @@
 -- Bodies that are under way, and those that left their objects unsettled.
-use Rattle.std.proofs.Common.{◌≡◌, ◌⊎◌, inl, inr, ℕ, ◌+◌, ◌≤◌, List, [], ◌∷◌, length, Some, None, Option, Bool, true, false, cond, arith, ap, subst, sym, ◌∙◌, refl}
+use Rattle.std.proofs.Common.{◌≡◌, ◌⊎◌, inl, inr, ℕ, ◌≤◌, List, [], ◌∷◌, length, Some, None, Option, Bool, true, false, cond, arith, ap, subst, sym, ◌∙◌, refl}
 use Rattle.std.specs.Prelude.{slice_get, ◌||◌, ◌==◌}
 use Rattle.std.specs.List.{filter, list_any}
 use Rattle.rv_event.specs.Past.{begun, without}

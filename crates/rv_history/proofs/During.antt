@@ -16,7 +16,7 @@ use Rattle.rv_history.specs.Legal.{Legal}
 use Rattle.rv_history.specs.Orderly.{is_on, is_exclusive_on, IsShared, IsOrderly}
 use Rattle.rv_history.specs.Unended.{IsUnended}
 use Rattle.rv_history.proofs.Answered.{off}
-use Rattle.rv_history.proofs.Stances.{first_actor, itself, same_number, some_is}
+use Rattle.rv_history.proofs.Stances.{first_actor, itself, some_is}
 use Rattle.rv_history.proofs.Bodies.{one_less}
 use Rattle.rv_history.proofs.Orderly.{legal_orderly, orderly_suffix}
 

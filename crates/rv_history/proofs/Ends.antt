@@ -1,5 +1,5 @@
 -- The end of a body and a settle pay for themselves.
-use Rattle.std.proofs.Common.{◌≡◌, ◌≢◌, ℕ, ◌+◌, ◌<◌, ◌≤◌, List, [], ◌∷◌, length, Some, None, Option, Bool, true, false, arith, ap, subst, sym, ◌∙◌, refl}
+use Rattle.std.proofs.Common.{◌≡◌, ℕ, ◌+◌, ◌<◌, ◌≤◌, List, [], ◌∷◌, length, Some, None, Option, Bool, true, false, arith, ap, subst, sym, ◌∙◌, refl}
 use Rattle.std.specs.Prelude.{ℤ, nat_lt, not, ◌==◌, if◌then◌else◌, slice_get}
 use Rattle.std.specs.List.{filter}
 use Rattle.rv_shape.specs.Catalogue.{first_of, target, Target, Nowhere, OnProtected, OnSuspension, is_function}
@@ -50,14 +50,14 @@ one_gone a b (x ∷ bs) h = grind (arith, one_gone a b bs)
 end_counted : (h : History) (a : ℕ) (vs : List ℤ) (x : Exit) (b : Body) (next : Next) → innermost h.shapes a h.past ≡ Some b → Counted h a (Complete vs x) next
 end_counted h a vs x b next is =
     let few : length (begun (handed h.past next) (without a (under_way h.shapes h.past))) + length (begun (left_by (Asked a (Complete vs x) (Done next) ∷ h.past) next (innermost h.shapes a h.past)) (unsettled h.shapes h.past))
-        ≤ length (without a (under_way h.shapes h.past)) + length (unsettled h.shapes h.past) + names_one next =
+    ≤ length (without a (under_way h.shapes h.past)) + length (unsettled h.shapes h.past) + names_one next =
     count_begun h.past (Asked a (Complete vs x) (Done next) ∷ h.past) next (innermost h.shapes a h.past) (without a (under_way h.shapes h.past)) (unsettled h.shapes h.past) in
     record { bodies = omega (arith, few, one_gone a b (under_way h.shapes h.past) is); own = refl; going = refl }
 
 settle_counted : (h : History) (a : ℕ) (b : Body) (next : Next) → to_settle h.shapes a h.past ≡ Some b → Counted h a Settle next
 settle_counted h a b next is =
     let few : length (begun (handed h.past next) (under_way h.shapes h.past)) + length (begun (left_by (Asked a Settle (Done next) ∷ h.past) next (to_settle h.shapes a h.past)) (without a (unsettled h.shapes h.past)))
-        ≤ length (under_way h.shapes h.past) + length (without a (unsettled h.shapes h.past)) + names_one next =
+    ≤ length (under_way h.shapes h.past) + length (without a (unsettled h.shapes h.past)) + names_one next =
     count_begun h.past (Asked a Settle (Done next) ∷ h.past) next (to_settle h.shapes a h.past) (under_way h.shapes h.past) (without a (unsettled h.shapes h.past)) in
     record { bodies = omega (arith, few, one_gone a b (unsettled h.shapes h.past) is); own = refl; going = refl }
 

@@ -20,7 +20,7 @@ use Rattle.rv_event.specs.declared.entry.Answer.TheVariants as Answers
 use Rattle.rv_history.specs.History.{History}
 use Rattle.rv_history.specs.Subject.{subject}
 use Rattle.rv_history.specs.Exclusion.{barrier_at, conflicts, opens_on}
-use Rattle.rv_history.specs.Owed.{IsSolvent, actors}
+use Rattle.rv_history.specs.Owed.{IsSolvent}
 use Rattle.rv_history.specs.Rules.{granted, decided}
 use Rattle.rv_history.specs.Fitting.{end_at, end_fits, fits, fits_actor, in_body}
 use Rattle.rv_history.specs.Due.{out, due_end, due_settle, end_of, after_end, next_of_queue, judged_head, gate}

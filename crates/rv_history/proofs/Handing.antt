@@ -38,7 +38,7 @@ use Rattle.rv_history.proofs.Orderly.{handed_call, legal_orderly_at}
 use Rattle.rv_history.proofs.Resumes.{resume_due}
 use Rattle.rv_history.proofs.Settled.{entry_excludes, no_length, own_writes}
 use Rattle.rv_history.proofs.Silent.{apart_while, is_queued, neither}
-use Rattle.rv_history.proofs.Stances.{is_waiting, itself, same_number}
+use Rattle.rv_history.proofs.Stances.{is_waiting, itself}
 use Rattle.rv_history.proofs.Standing.{legal_standing, legal_waits, none_left}
 
 -- At the end or settle itself, over the shapes of later

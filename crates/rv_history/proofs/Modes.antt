@@ -1,6 +1,6 @@
 -- One that has an object to settle is at nothing else: only a settle fits it.
-use Rattle.std.proofs.Common.{◌≡◌, ℕ, List, [], ◌∷◌, Some, None, Option, Bool, true, false, ap, sym, ◌∙◌, refl}
-use Rattle.std.specs.Prelude.{◌&&◌, length}
+use Rattle.std.proofs.Common.{◌≡◌, ℕ, List, [], ◌∷◌, Some, None, Option, true, false, ap, sym, ◌∙◌, refl}
+use Rattle.std.specs.Prelude.{length}
 use Rattle.rv_shape.specs.Catalogue.{Who, Operator, Line, Task, Nobody, target, who}
 use Rattle.rv_event.specs.Past.{mode_by, or_settling, stance_of, to_settle, held, stance}
 use Rattle.rv_event.specs.declared.entry.Body.{Body}

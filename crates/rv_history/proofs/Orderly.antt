@@ -32,7 +32,7 @@ use Rattle.rv_history.specs.Orderly.{is_on, IsShared, IsProtected, IsOfEntry, Ea
 use Rattle.rv_history.proofs.Answered.{off, both, answered}
 use Rattle.rv_history.proofs.Exactly.{started_allowed}
 use Rattle.rv_history.proofs.Loaded.{way_stays, left_stays, protected_stays, append_none}
-use Rattle.rv_history.proofs.Modes.{calls_at, fires_at}
+use Rattle.rv_history.proofs.Modes.{fires_at}
 use Rattle.rv_history.proofs.Stances.{same_number, below, left_is, some_is}
 use Rattle.rv_history.proofs.Waits.{joins, Waits, AllWait}
 use Rattle.rv_history.proofs.Serving.{left_handed, left_nothing}

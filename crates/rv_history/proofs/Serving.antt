@@ -17,7 +17,6 @@ use Rattle.rv_event.proofs.Matching.{by}
 use Rattle.rv_history.specs.HandOver.{served, settling_behind}
 use Rattle.rv_history.specs.Orderly.{is_on}
 use Rattle.rv_history.specs.Settling.{is_any}
-use Rattle.rv_history.proofs.Bodies.{any_kept}
 use Rattle.rv_history.proofs.Stances.{first_actor, itself, some_is}
 
 -- the bodies that left their objects unsettled, without the one whose object is settled

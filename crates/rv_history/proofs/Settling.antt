@@ -1,5 +1,5 @@
 -- An unsettled object is settled by its actor alone, one caller after another.
-use Rattle.std.proofs.Common.{◌≡◌, ◌≢◌, ◌⊎◌, inl, inr, ℕ, zero, suc, ◌+◌, ◌<◌, ◌≤◌, List, [], ◌∷◌, length, Some, None, Option, Bool, true, false, cond, arith, ap, subst, sym, ◌∙◌, refl}
+use Rattle.std.proofs.Common.{◌≡◌, ◌⊎◌, inl, inr, ℕ, zero, suc, ◌<◌, ◌≤◌, List, [], ◌∷◌, length, Some, None, Option, Bool, true, false, cond, arith, ap, subst, sym, ◌∙◌, refl}
 use Rattle.std.proofs.lemmas.Bool.Decides.{nat_tests}
 use Rattle.std.specs.Prelude.{nat_lt, ◌==◌, ◌&&◌, ◌||◌, if◌then◌else◌, slice_get}
 use Rattle.std.specs.List.{filter, list_any}
@@ -67,12 +67,16 @@ has_to_settle h a b l is = by_queue (queue b.object h.past) refl (ready_is h a b
   where
     by_queue : (q : List Body) → queue b.object h.past ≡ q → is_any q ≡ true → (first : Body) × (behind : List Body) × HasToSettle h a b first behind
     by_queue [] wait some = absurd (off some)
-    by_queue (c ∷ cs) wait some = (c, cs, record {
-      left = is;
-      settling = ap (λ o. or_settling o (mode_by (held h.shapes a h.past) (stance a h.past))) is;
-      free = (left_alone a b (under_way h.shapes h.past) (unsettled h.shapes h.past) is (legal_apart h l b.object)).0;
-      wait = wait;
-    })
+    by_queue (c ∷ cs) wait some = (
+      c,
+      cs,
+      record {
+        left = is;
+        settling = ap (λ o. or_settling o (mode_by (held h.shapes a h.past) (stance a h.past))) is;
+        free = (left_alone a b (under_way h.shapes h.past) (unsettled h.shapes h.past) is (legal_apart h l b.object)).0;
+        wait = wait;
+      },
+    )
 
 -- What its settle is answered
 

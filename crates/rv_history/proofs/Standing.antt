@@ -1,7 +1,7 @@
 -- On a legal history each queued actor waits at one call and asks nothing more, and one that has an object to settle is
 -- free.
 use Rattle.std.proofs.Common.{◌≡◌, ◌≢◌, ℕ, ◌+◌, ◌<◌, ◌≤◌, List, [], ◌∷◌, ◌++◌, length, Some, None, Option, Bool, true, false, cond, arith, ap, subst, sym, ◌∙◌, refl, length-append}
-use Rattle.std.specs.Prelude.{ℤ, nat_lt, ◌==◌, ◌&&◌, not, if◌then◌else◌}
+use Rattle.std.specs.Prelude.{ℤ, nat_lt, ◌==◌, not, if◌then◌else◌}
 use Rattle.std.specs.List.{filter}
 use Rattle.rv_access.specs.Words.{Words}
 use Rattle.rv_shape.specs.Shape.{Shape}
@@ -19,7 +19,7 @@ use Rattle.rv_event.specs.declared.entry.Request.TheVariants.{Call, Complete, Se
 use Rattle.rv_event.specs.declared.entry.Recorded.{Recorded}
 use Rattle.rv_event.specs.declared.entry.Recorded.TheVariants.{Started, Queued, Refused, Done, Suspended, Delayed, Woken, Accepted}
 use Rattle.rv_event.specs.declared.entry.Stance.{Stance}
-use Rattle.rv_event.specs.declared.entry.Stance.TheVariants.{Free, InQueue, HandedOver, DroppedBy, WaitsOn, WaitsUntil, Gone}
+use Rattle.rv_event.specs.declared.entry.Stance.TheVariants.{Free, InQueue, HandedOver, DroppedBy}
 use Rattle.rv_event.proofs.Matching.{by}
 use Rattle.rv_history.specs.declared.limits.Limits.{Limits}
 use Rattle.rv_history.specs.Due.{out}

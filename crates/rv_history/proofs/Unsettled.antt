@@ -4,7 +4,7 @@ use Rattle.std.specs.Prelude.{ℤ, ◌==◌, ◌||◌, if◌then◌else◌}
 use Rattle.std.specs.List.{filter, list_any}
 use Rattle.rv_access.specs.Words.{Words}
 use Rattle.rv_shape.specs.Shape.{Shape}
-use Rattle.rv_shape.specs.Catalogue.{place, shares, target, is_function}
+use Rattle.rv_shape.specs.Catalogue.{place, is_function}
 use Rattle.rv_event.specs.Recorded.{recorded}
 use Rattle.rv_event.specs.Past.{begun, halted, halts, innermost, is_unsettled, joined, left, left_by, named_in, next_of, queue, queued_by, scalars, to_settle, under_way, unsettled, waiting, without}
 use Rattle.rv_event.specs.declared.entry.Body.{Body}

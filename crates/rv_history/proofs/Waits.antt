@@ -6,7 +6,7 @@ use Rattle.std.proofs.lemmas.Bool.Decides.{nat_tests}
 use Rattle.rv_shape.specs.Shape.{Shape}
 use Rattle.rv_event.specs.Recorded.{recorded}
 use Rattle.rv_shape.specs.Catalogue.{UnitTask, Who, Operator, Line, Task, Nobody, Site, who, task_of, all_tasks, tasks_of, first_of, Target, Nowhere, OnProtected, OnSuspension, target, is_entry, is_function}
-use Rattle.rv_event.specs.Past.{held, under_way, innermost, to_settle, next_of, named_in, stance, halted, mode, mode_by, last_queued, waiting, queued_by, joined, left}
+use Rattle.rv_event.specs.Past.{held, innermost, to_settle, next_of, named_in, stance, halted, mode, mode_by, last_queued, queued_by, joined, left}
 use Rattle.rv_event.specs.declared.entry.Stance.{Stance}
 use Rattle.rv_event.specs.declared.entry.Stance.TheVariants.{Free, InQueue, HandedOver, DroppedBy, WaitsOn, WaitsUntil, Gone}
 use Rattle.rv_event.specs.declared.entry.Body.{Body}
@@ -15,7 +15,7 @@ use Rattle.rv_shape.specs.declared.suspension.SuspensionOperation.TheVariants.{S
 use Rattle.rv_event.specs.declared.entry.Mode.TheVariants as Modes
 use Rattle.rv_event.specs.declared.entry.Rule.TheVariants as Rules
 use Rattle.rv_event.specs.declared.entry.Entry.{Entry}
-use Rattle.rv_event.specs.declared.entry.Entry.TheVariants.{Asked, Load, ListChange}
+use Rattle.rv_event.specs.declared.entry.Entry.TheVariants.{Asked}
 use Rattle.rv_event.specs.declared.entry.Request.{Request}
 use Rattle.rv_event.specs.declared.entry.Request.TheVariants.{Call, Complete, Settle, Resume, DelayUntil, Clock, Fire, Quit, Tick, Halt}
 use Rattle.rv_event.specs.declared.entry.Recorded.{Recorded}
