@@ -111,11 +111,6 @@ pub count_filter : (p q : Body → Bool) (xs : List Body) → length (filter p (
 count_filter p q [] = omega arith
 count_filter p q (x ∷ xs) = grind (arith, count_filter p q xs)
 
--- the only one that passes is gone
-pub filter_gone : (p : Body → Bool) (c : Body) (xs : List Body) → filter p xs ≡ c ∷ [] → filter p (filter (λ d. not (d.actor == c.actor)) xs) ≡ []
-filter_gone p c xs e =
-    filter_swap p (λ d. not (d.actor == c.actor)) xs ∙ ap (filter (λ d. not (d.actor == c.actor))) e ∙ ap (λ t. cond (not t) (c ∷ []) []) (itself c.actor)
-
 -- Sharing
 
 pub shared_end : (shapes : List Shape) (a : ℕ) (bs : List Body) (o : ℕ) → IsShared shapes bs o → IsShared shapes (without a bs) o

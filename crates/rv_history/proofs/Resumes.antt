@@ -28,7 +28,7 @@ awaits_at bodies (WaitsOn object) e = refl
 awaits_at bodies (WaitsUntil time) e = refl
 awaits_at bodies Gone e = absurd (off e)
 
-to_test : (n m : ℕ) → n < m → nat_lt n m ≡ true
+pub to_test : (n m : ℕ) → n < m → nat_lt n m ≡ true
 to_test n m less = grind (arith, nat_tests)
 
 pub resume_due : (h : History) (a : ℕ) (s : Stance) → Legal h → IsSolvent h → stance a h.past ≡ s → is_waiting s ≡ true → out h a Resume ≡ due_resume h a s

@@ -49,7 +49,7 @@ exclusive_at shapes o past = list_any (is_exclusive_on shapes o) (under_way shap
 abbrev pub Settled : List Shape → List Entry → ℕ → Type 0
 Settled shapes past o = (halted past ≡ true) ⊎ ((exclusive_at shapes o past ≡ true) ⊎ ((is_unsettled shapes o past ≡ true) ⊎ ((open_at shapes o past ≡ false) ⊎ (queue o past ≡ []))))
 
-or_right : (a b : Bool) → b ≡ true → (a || b) ≡ true
+pub or_right : (a b : Bool) → b ≡ true → (a || b) ≡ true
 or_right true b e = refl
 or_right false b e = e
 

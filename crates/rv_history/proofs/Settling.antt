@@ -1,6 +1,5 @@
 -- An unsettled object is settled by its actor alone, one caller after another.
 use Rattle.std.proofs.Common.{◌≡◌, ◌⊎◌, inl, inr, ℕ, zero, suc, ◌<◌, ◌≤◌, List, [], ◌∷◌, length, Some, None, Option, Bool, true, false, cond, arith, ap, subst, sym, ◌∙◌, refl}
-use Rattle.std.proofs.lemmas.Bool.Decides.{nat_tests}
 use Rattle.std.specs.Prelude.{nat_lt, ◌==◌, ◌&&◌, ◌||◌, if◌then◌else◌, slice_get}
 use Rattle.std.specs.List.{filter, list_any}
 use Rattle.rv_access.specs.Words.{Words}
@@ -39,6 +38,7 @@ use Rattle.rv_history.proofs.Ends.{settle_never_full}
 use Rattle.rv_history.proofs.HandOver.{drop_serves, leaves, reached_answer}
 use Rattle.rv_history.proofs.Loaded.{left_stays}
 use Rattle.rv_history.proofs.Orderly.{legal_apart, legal_orderly_at}
+use Rattle.rv_history.proofs.Resumes.{to_test}
 use Rattle.rv_history.proofs.Room.{from_room}
 use Rattle.rv_history.proofs.Serving.{drop_leaves, left_handed, left_nothing}
 use Rattle.rv_history.proofs.Settled.{open_at}
@@ -79,9 +79,6 @@ has_to_settle h a b l is = by_queue (queue b.object h.past) refl (ready_is h a b
     )
 
 -- What its settle is answered
-
-to_test : (n m : ℕ) → n < m → nat_lt n m ≡ true
-to_test n m less = grind (arith, nat_tests)
 
 settle_fits : (h : History) (a : ℕ) (b : Body) → Legal h → to_settle h.shapes a h.past ≡ Some b → fits h a Settle ≡ true
 settle_fits h a b l is =

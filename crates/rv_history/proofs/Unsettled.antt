@@ -29,12 +29,13 @@ use Rattle.rv_history.proofs.Answered.{off}
 use Rattle.rv_history.proofs.Apart.{IsApart, held_settled, left_alone}
 use Rattle.rv_history.proofs.Bodies.{any_kept, any_less, filter_append}
 use Rattle.rv_history.proofs.Ending.{ends, head_on, names_at, settling}
+use Rattle.rv_history.proofs.Frame.{other_actor}
 use Rattle.rv_history.proofs.HandOver.{leaves}
 use Rattle.rv_history.proofs.During.{none_ends}
 use Rattle.rv_history.proofs.Loaded.{left_stays}
 use Rattle.rv_history.proofs.Orderly.{AllApart, legal_apart, not_excluded}
 use Rattle.rv_history.proofs.Serving.{left_handed, left_nothing, left_then, left_waits, other_left}
-use Rattle.rv_history.proofs.Settled.{begun_stays, open_at, open_stays, other_writes, own_writes}
+use Rattle.rv_history.proofs.Settled.{begun_stays, open_at, open_stays, or_right, other_writes, own_writes}
 use Rattle.rv_history.proofs.Standing.{legal_standing}
 use Rattle.rv_history.proofs.Stances.{itself, left_is, same_number, some_is}
 use Rattle.rv_history.proofs.Waits.{joins}
@@ -49,16 +50,13 @@ append_nil : (xs : List Body) → xs ++ [] ≡ xs
 append_nil [] = refl
 append_nil (x ∷ xs) = ap (λ ys. x ∷ ys) (append_nil xs)
 
-other_number : (m n : ℕ) → (m == n) ≡ false → n ≢ m
-other_number m n e same = off (sym (sym (itself m) ∙ ap (λ k. m == k) (sym same) ∙ e))
-
 left_kept : (h : History) (a : ℕ) (r : Request) (next : Next) (o : ℕ) (n : Option ℕ) → Legal h → recorded (out h a r) ≡ Some (Done next) → named_in next ≡ n → IsAway h a r o → filter (is_on o) (left n (waiting h.past)) ≡ queue o h.past
 left_kept h a r next o None l e is away = refl
 left_kept h a r next o (Some n) l e is away =
     let m = names_at h a r next n e is in
     let q = m.served_by in
     let there : q.call.object ≡ m.body.object = same_number q.call.object m.body.object (head_on h.past m.body.object q.call q.rest q.queued) in
-    (leaves h a r next n (legal_standing h.limits h.past h.shapes h.lists l) m).others o (λ same. other_number m.body.object o (away m.body m.serving) (same ∙ there))
+    (leaves h a r next n (legal_standing h.limits h.past h.shapes h.lists l) m).others o (λ same. other_actor m.body.object o (away m.body m.serving) (same ∙ there))
 
 all_kept : (h : History) (a : ℕ) (r : Request) (w : Recorded) (o : ℕ) → Legal h → recorded (out h a r) ≡ Some w → IsAway h a r o → filter (is_on o) (left (named_in (next_of (Asked a r w))) (waiting h.past)) ≡ queue o h.past
 all_kept h a r (Done next) o l e away = left_kept h a r next o (named_in next) l e refl away
@@ -166,10 +164,6 @@ pub record Ready (shapes : List Shape) (past : List Entry) (o : ℕ) : Type 0 wh
 abbrev pub IsReady : List Shape → List Entry → ℕ → Type 0
 IsReady shapes past o = (is_unsettled shapes o past ≡ false) ⊎ Ready shapes past o
 
-or_halted : (a b : Bool) → b ≡ true → (a || b) ≡ true
-or_halted true b e = refl
-or_halted false b e = e
-
 -- one that stays so
 ready_stays : (h : History) (a : ℕ) (r : Request) (w : Recorded) (o : ℕ) → Legal h → recorded (out h a r) ≡ Some w → is_unsettled h.shapes o h.past ≡ true → IsAway h a r o → scalars h.shapes o (Asked a r w ∷ h.past) ≡ scalars h.shapes o h.past →
     IsReady h.shapes h.past o → IsReady h.shapes (Asked a r w ∷ h.past) o
@@ -180,7 +174,7 @@ ready_stays h a r w o l e still away same (inr k) = inr (record {
 })
   where
     by_case : (halted h.past ≡ true) ⊎ (open_at h.shapes o h.past ≡ true) → (halted (Asked a r w ∷ h.past) ≡ true) ⊎ (open_at h.shapes o (Asked a r w ∷ h.past) ≡ true)
-    by_case (inl x) = inl (or_halted (halts (Asked a r w)) (halted h.past) x)
+    by_case (inl x) = inl (or_right (halts (Asked a r w)) (halted h.past) x)
     by_case (inr x) = inr (ap (opens_on (barrier_at (place h.shapes o))) same ∙ x)
 
 -- one that an end or a settle leaves so

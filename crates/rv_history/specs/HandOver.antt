@@ -17,10 +17,6 @@ use Rattle.rv_history.specs.Rules.{decided, granted}
 use Rattle.rv_history.specs.Fitting.{fits}
 use Rattle.rv_history.specs.Due.{out}
 
-abbrev pub is_complete : Request → Bool
-is_complete (Complete values exit) = true
-is_complete request = false
-
 -- the requests that serve a queue: an end or a settle
 abbrev pub serves : Request → Bool
 serves (Complete values exit) = true
