@@ -13,6 +13,7 @@ use Rattle.rv_event.specs.declared.entry.Entry.TheVariants.{Asked, Load, ListCha
 use Rattle.rv_history.specs.declared.limits.Limits.{Limits}
 use Rattle.rv_history.specs.Due.{gate, nothing_more, within}
 use Rattle.rv_history.specs.History.{History}
+use Rattle.rv_history.specs.Limits.{is_queue_limit}
 use Rattle.rv_history.specs.Legal.{IsLegal, Legal}
 use Rattle.rv_history.specs.Owed.{has_room}
 
@@ -35,3 +36,10 @@ legal_within c (ListChange ∷ past) shapes lists l = legal_within c past shapes
 -- with one more entry
 pub entry_within : (h : History) (e : Entry) → Legal (record h { past = e ∷ h.past }) → IsWithin h.shapes
 entry_within h e l = legal_within h.limits (e ∷ h.past) h.shapes h.lists l
+
+-- queues are as long as a host may have them
+pub legal_limit : (c : Limits) (past : List Entry) (shapes : List Shape) (lists : List (List Words)) → IsLegal c past shapes lists → is_queue_limit c.queue ≡ true
+legal_limit c [] shapes lists l = l.2
+legal_limit c (Asked a r w ∷ past) shapes lists l = legal_limit c past shapes lists l.0
+legal_limit c (Load ∷ past) shapes lists l = legal_limit c past l.0 lists l.3
+legal_limit c (ListChange ∷ past) shapes lists l = legal_limit c past shapes l.0 l.3

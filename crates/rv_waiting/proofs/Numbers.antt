@@ -7,7 +7,7 @@ use Rattle.rv_shape.specs.Fits.{IsWithin}
 use Rattle.rv_event.specs.Past.{held, mode, named_in, next_of}
 use Rattle.rv_event.specs.declared.entry.Entry.{Entry}
 use Rattle.rv_event.specs.declared.entry.Entry.TheVariants.{Asked, Load, ListChange}
-use Rattle.rv_event.specs.declared.entry.Request.TheVariants.{Call, Complete, Resume, DelayUntil, Clock, Fire, Quit, Tick, Halt}
+use Rattle.rv_event.specs.declared.entry.Request.TheVariants.{Call, Complete, Settle, Resume, DelayUntil, Clock, Fire, Quit, Tick, Halt}
 use Rattle.rv_history.specs.Fitting.{call_fits, may_call}
 use Rattle.rv_history.specs.History.{History}
 use Rattle.rv_history.specs.Legal.{Legal}
@@ -37,6 +37,7 @@ called_known h (Asked a (Call q p vs) w) o l is =
     let known : q < most_places = there h.shapes q p (length (held h.shapes a h.past)) vs (entry_within h (Asked a (Call q p vs) w) l) fit in
     omega (arith, known, some_number q o is)
 called_known h (Asked a (Complete vs x) w) o l is = absurd (cc)
+called_known h (Asked a Settle w) o l is = absurd (cc)
 called_known h (Asked a Resume w) o l is = absurd (cc)
 called_known h (Asked a (DelayUntil t) w) o l is = absurd (cc)
 called_known h (Asked a Clock w) o l is = absurd (cc)

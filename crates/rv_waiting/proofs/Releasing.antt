@@ -10,7 +10,7 @@ use Rattle.rv_event.specs.declared.entry.Entry.{Entry}
 use Rattle.rv_event.specs.declared.entry.Entry.TheVariants.{Asked, Load, ListChange}
 use Rattle.rv_event.specs.declared.entry.Recorded.{Recorded}
 use Rattle.rv_event.specs.declared.entry.Recorded.TheVariants.{Started, Queued, Refused, Done, Suspended, Delayed, Woken, Accepted}
-use Rattle.rv_event.specs.declared.entry.Request.TheVariants.{Call, Complete, Resume, DelayUntil, Clock, Fire, Quit, Tick, Halt}
+use Rattle.rv_event.specs.declared.entry.Request.TheVariants.{Call, Complete, Settle, Resume, DelayUntil, Clock, Fire, Quit, Tick, Halt}
 use Rattle.rv_event.specs.declared.entry.Stance.TheVariants.{WaitsOn}
 use Rattle.rv_history.specs.Frame.{is_apart}
 use Rattle.rv_history.specs.History.{History}
@@ -40,6 +40,7 @@ waits_itself : (a o : ℕ) (e : Entry) (w : Option ℕ) → is_own a e ≡ false
 waits_itself a o Load w other none = none
 waits_itself a o ListChange w other none = none
 waits_itself a o (Asked b (Complete vs x) v) w other none = none
+waits_itself a o (Asked b Settle v) w other none = none
 waits_itself a o (Asked b Resume v) w other none = none
 waits_itself a o (Asked b (DelayUntil t) v) w other none = none
 waits_itself a o (Asked b Clock v) w other none = none

@@ -5,7 +5,7 @@ use Rattle.std.proofs.lemmas.List.{length-replicate}
 use Rattle.rv_event.specs.Past.{Untouched, is_call_on, touch_of}
 use Rattle.rv_event.specs.declared.entry.Entry.{Entry}
 use Rattle.rv_event.specs.declared.entry.Entry.TheVariants.{Asked, Load, ListChange}
-use Rattle.rv_event.specs.declared.entry.Request.TheVariants.{Call, Complete, Resume, DelayUntil, Clock, Fire, Quit, Tick, Halt}
+use Rattle.rv_event.specs.declared.entry.Request.TheVariants.{Call, Complete, Settle, Resume, DelayUntil, Clock, Fire, Quit, Tick, Halt}
 use Rattle.rv_suspend.specs.Suspension.{Suspension, initially}
 use Rattle.rv_waiting.specs.Limits.{most_places}
 use Rattle.rv_waiting.specs.Suspensions.{AreCollected, AreSuspensions, called, suspension_after, suspension_at}
@@ -31,6 +31,7 @@ is_at object (Some on) = on == object
 call_at : (o : ℕ) (e : Entry) → is_call_on o e ≡ is_at o (called e)
 call_at o (Asked a (Call p n vs) w) = refl
 call_at o (Asked a (Complete given x) w) = refl
+call_at o (Asked a Settle w) = refl
 call_at o (Asked a Resume w) = refl
 call_at o (Asked a (DelayUntil t) w) = refl
 call_at o (Asked a Clock w) = refl

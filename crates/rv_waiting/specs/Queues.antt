@@ -3,7 +3,7 @@ use Rattle.std.specs.Prelude.{◌≡◌, ◌<◌, ℕ, List, [], ◌∷◌, ◌+
 use Rattle.rv_event.specs.Past.{last_queued, named_in, next_of, queue}
 use Rattle.rv_event.specs.declared.entry.Body.{Body}
 use Rattle.rv_event.specs.declared.entry.Entry.{Entry}
-use Rattle.rv_history.specs.Limits.{queue_limit}
+use Rattle.rv_history.specs.Limits.{most_queued}
 use Rattle.rv_history.specs.History.{History}
 use Rattle.rv_history.specs.Legal.{Legal}
 use Rattle.rv_waiting.specs.Limits.{most_places}
@@ -35,9 +35,9 @@ abbrev pub joined_by : Option Body → List (List ℕ) → List (List ℕ)
 joined_by None queues = queues
 joined_by (Some call) queues = slice_set queues call.object (slice_index_or queues call.object [] ++ call.actor ∷ [])
 
--- the call's object has a queue, with room for one caller more
+-- the call's object has a queue, with a place for one caller more
 abbrev pub CanJoin : Body → List (List ℕ) → Type 0
-CanJoin call queues = (call.object < most_places) × (length (slice_index_or queues call.object []) < queue_limit)
+CanJoin call queues = (call.object < most_places) × (length (slice_index_or queues call.object []) < most_queued)
 
 -- after a history for which these queues stand, the entry comes next, and this is the queued call of whom it names
 pub record Moves (h : History) (entry : Entry) (named : Option Body) (queues : List (List ℕ)) : Type 0 where

@@ -1,11 +1,13 @@
 //! The queues of the objects' entries, each as the entries so far leave it (9.5.3, D.7).
 
-ghost use Rattle.std.specs.Prelude.{◌≡◌, ◌<◌, [], ◌∷◌, ℕ, List, Some, length, replicate, slice_get};
+ghost use Rattle.std.specs.List.{list_any};
+ghost use Rattle.std.specs.Prelude.{◌≡◌, ◌==◌, ◌<◌, [], ◌∷◌, ℕ, List, Some, length, not, replicate, slice_get};
 ghost use Rattle.std.specs.Prelude.{slice_index_or, IfOk};
 ghost use Rattle.rv_event.specs.Lent.{whole};
 ghost use Rattle.rv_event.specs.Past as past;
 ghost use Rattle.rv_event.specs.declared.entry.Body.{Body as Call};
 ghost use Rattle.rv_event.specs.declared.entry.Entry.{Entry};
+ghost use Rattle.rv_event.specs.declared.entry.Next.{Next};
 ghost use Rattle.rv_history.specs.Exclusion.{full_queue};
 ghost use Rattle.rv_history.specs.History.{History};
 ghost use Rattle.rv_waiting.specs.Limits.{most_places};
@@ -64,6 +66,25 @@ impl Queues {
             result ≡ slice_get (callers object history) 0 }
     {
         self.items.get(object)?.head()
+    }
+
+    // Whether anybody but this actor waits on the object.
+    fn has_other(&self, object: usize, actor: usize) -> bool
+        ensures { result ≡ list_any (λ caller. not (caller == actor)) (slice_index_or self.now object []) }
+    {
+        match self.items.get(object) {
+            Some(queue) => queue.has_other(actor),
+            None => false,
+        }
+    }
+
+    /// Whether others wait on the object once an entry drops this caller.
+    pub fn waits_behind(&self, object: usize, caller: usize) -> bool
+        ensures { (history : List Entry) (entry : Entry) (line : ℕ) → AreQueues history self.now →
+            past.next_of entry ≡ Next.Dropped caller line →
+            result ≡ past.leaves_some (past.next_of entry) (past.queue object (entry ∷ history)) }
+    {
+        self.has_other(object, caller)
     }
 
     // How many callers wait on the object.

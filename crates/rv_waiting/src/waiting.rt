@@ -1,9 +1,10 @@
 //! All that is kept of those that wait.
 
-ghost use Rattle.std.specs.Prelude.{◌≡◌, [], ◌∷◌, List, slice_get, IfOk};
+ghost use Rattle.std.specs.Prelude.{◌≡◌, [], ◌∷◌, ℕ, List, slice_get, IfOk};
 ghost use Rattle.rv_event.specs.Lent.{whole};
 ghost use Rattle.rv_event.specs.Past as past;
 ghost use Rattle.rv_event.specs.declared.entry.Entry.{Entry};
+ghost use Rattle.rv_event.specs.declared.entry.Next.{Next};
 ghost use Rattle.rv_event.specs.declared.entry.Stance.{Stance};
 ghost use Rattle.rv_history.specs.Exclusion.{full_queue};
 ghost use Rattle.rv_history.specs.History.{History};
@@ -74,6 +75,15 @@ impl Waiting {
             result ≡ full_queue h object }
     {
         self.queues.is_full(object, limit)
+    }
+
+    /// Whether others wait in the queue of the object once an entry drops this caller from it (own).
+    pub fn waits_behind(&self, object: usize, caller: usize) -> bool
+        ensures { (history : List Entry) (entry : Entry) (line : ℕ) → IsWaiting history self.now →
+            past.next_of entry ≡ Next.Dropped caller line →
+            result ≡ past.leaves_some (past.next_of entry) (past.queue object (entry ∷ history)) }
+    {
+        self.queues.waits_behind(object, caller)
     }
 
     /// Whether the suspension object is True (Current_State, D.10).
