@@ -77,7 +77,7 @@ list_costs h solvent =
 
 -- What is owed has its room
 
-operator_is : (shapes : List Shape) (a : ℕ) → is_operator (who shapes a) ≡ true → a ≡ 0
+pub operator_is : (shapes : List Shape) (a : ℕ) → is_operator (who shapes a) ≡ true → a ≡ 0
 operator_is shapes a e = by_tests (a == 0) (nat_lt a 11) refl (slice_get (all_tasks shapes) (a - 11)) e
   where
     by_tests : (b c : Bool) → (a == 0) ≡ b → (t : Option UnitTask) → is_operator (if b then Operator else (if c then Line (a - 1) else task_of t)) ≡ true → a ≡ 0

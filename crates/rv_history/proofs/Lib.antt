@@ -20,6 +20,7 @@ pub mod Done
 pub mod Ending
 pub mod Serving
 pub mod Standing
+pub mod Callers
 pub mod HandOver
 pub mod Silent
 pub mod Handing

@@ -1,8 +1,8 @@
 -- One that has an object to settle is at nothing else: only a settle fits it.
-use Rattle.std.proofs.Common.{◌≡◌, ℕ, List, [], ◌∷◌, Some, None, Option, true, false, ap, sym, ◌∙◌, refl}
+use Rattle.std.proofs.Common.{◌≡◌, ℕ, List, [], ◌∷◌, Some, None, Option, Bool, true, false, ap, sym, ◌∙◌, refl}
 use Rattle.std.specs.Prelude.{length}
 use Rattle.rv_shape.specs.Catalogue.{Who, Operator, Line, Task, Nobody, target, who}
-use Rattle.rv_event.specs.Past.{mode_by, or_settling, stance_of, to_settle, held, stance}
+use Rattle.rv_event.specs.Past.{mode, mode_by, or_settling, stance_of, to_settle, held, stance}
 use Rattle.rv_event.specs.declared.entry.Body.{Body}
 use Rattle.rv_event.specs.declared.entry.Entry.TheVariants.{Asked}
 use Rattle.rv_event.specs.declared.entry.Mode.{Mode}
@@ -12,7 +12,7 @@ use Rattle.rv_event.specs.declared.entry.Request.{Request}
 use Rattle.rv_event.specs.declared.entry.Request.TheVariants.{Call, Complete, Settle, Resume, DelayUntil, Clock, Fire, Quit, Tick, Halt}
 use Rattle.rv_event.specs.declared.entry.Stance.{Stance}
 use Rattle.rv_event.specs.declared.entry.Stance.TheVariants.{Free, InQueue, HandedOver, DroppedBy, WaitsOn, WaitsUntil, Gone}
-use Rattle.rv_history.specs.Fitting.{awaits, call_fits, idle_line, idle_task, in_body, is_settling, is_time, may_call}
+use Rattle.rv_history.specs.Fitting.{awaits, call_fits, fits_actor, idle_line, idle_task, in_body, is_operator, is_settling, is_tick, is_time, may_call}
 use Rattle.rv_history.specs.History.{History}
 use Rattle.rv_history.proofs.Answered.{off, both, Answered}
 
@@ -81,27 +81,40 @@ pub settles_at : (o : Option Body) (bs : List Body) (s : Stance) → is_settling
 settles_at None bs s e = absurd (off (sym (never_settling bs s) ∙ e))
 settles_at (Some b) bs s e = (b, refl)
 
--- What one that has an object to settle asks leaves it free.
+-- What one asks that has an object to settle.
+
+settler_mode : (h : History) (a : ℕ) (b : Body) (p : Mode → Bool) → to_settle h.shapes a h.past ≡ Some b → p Modes.Settling ≡ false → p (mode h.shapes a h.past) ≡ true → ⊥
+settler_mode h a b p has none e =
+    off (sym none ∙ sym (ap (λ o. p (or_settling o (mode_by (held h.shapes a h.past) (stance a h.past)))) has) ∙ e)
+
+settler_calls : (h : History) (a : ℕ) (b : Body) → to_settle h.shapes a h.past ≡ Some b → may_call (who h.shapes a) (mode h.shapes a h.past) ≡ true → ⊥
+settler_calls h a b has e = settler_mode h a b (may_call (who h.shapes a)) has (settling_calls_none (who h.shapes a)) e
+
+settler_quits : (h : History) (a : ℕ) (b : Body) → to_settle h.shapes a h.past ≡ Some b → idle_task (who h.shapes a) (mode h.shapes a h.past) ≡ true → ⊥
+settler_quits h a b has e = settler_mode h a b (idle_task (who h.shapes a)) has (settling_quits_none (who h.shapes a)) e
+
+-- it leaves it free
 pub settler_free : (h : History) (a : ℕ) (r : Request) (w : Recorded) (b : Body) → to_settle h.shapes a h.past ≡ Some b → Answered h a r w → stance_of (Asked a r w) ≡ Free
-settler_free h a r w b has g = by_request r g
-  where
-    by : Mode
-    by = mode_by (held h.shapes a h.past) (stance a h.past)
+settler_free h a (Call o p vs) w b has g = absurd (settler_calls h a b has (both _ (call_fits (length (held h.shapes a h.past)) vs (target h.shapes o p)) g.fits_in).0)
+settler_free h a (DelayUntil t) w b has g = absurd (settler_calls h a b has (both _ (is_time t) g.fits_in).0)
+settler_free h a Quit w b has g = absurd (settler_quits h a b has g.fits_in)
+settler_free h a (Complete vs x) w b has g = refl
+settler_free h a Settle w b has g = refl
+settler_free h a Resume w b has g = refl
+settler_free h a Clock w b has g = refl
+settler_free h a Fire w b has g = refl
+settler_free h a (Tick n) w b has g = refl
+settler_free h a Halt w b has g = refl
 
-    calls_none : may_call (who h.shapes a) (or_settling (to_settle h.shapes a h.past) by) ≡ true → ⊥
-    calls_none e = off (sym (settling_calls_none (who h.shapes a)) ∙ sym (ap (λ o. may_call (who h.shapes a) (or_settling o by)) has) ∙ e)
-
-    quits_none : idle_task (who h.shapes a) (or_settling (to_settle h.shapes a h.past) by) ≡ true → ⊥
-    quits_none e = off (sym (settling_quits_none (who h.shapes a)) ∙ sym (ap (λ o. idle_task (who h.shapes a) (or_settling o by)) has) ∙ e)
-
-    by_request : (r : Request) → Answered h a r w → stance_of (Asked a r w) ≡ Free
-    by_request (Call o p vs) g = absurd (calls_none (both _ (call_fits (length (held h.shapes a h.past)) vs (target h.shapes o p)) g.fits_in).0)
-    by_request (DelayUntil t) g = absurd (calls_none (both _ (is_time t) g.fits_in).0)
-    by_request Quit g = absurd (quits_none g.fits_in)
-    by_request (Complete vs x) g = refl
-    by_request Settle g = refl
-    by_request Resume g = refl
-    by_request Clock g = refl
-    by_request Fire g = refl
-    by_request (Tick n) g = refl
-    by_request Halt g = refl
+-- it is a settle, where it isn't the operator
+pub settler_settles : (h : History) (a : ℕ) (r : Request) (b : Body) → to_settle h.shapes a h.past ≡ Some b → (is_operator (who h.shapes a) ≡ true → ⊥) → fits_actor h a r ≡ true → r ≡ Settle
+settler_settles h a (Call o p vs) b has other f = absurd (settler_calls h a b has (both _ (call_fits (length (held h.shapes a h.past)) vs (target h.shapes o p)) f).0)
+settler_settles h a (DelayUntil t) b has other f = absurd (settler_calls h a b has (both _ (is_time t) f).0)
+settler_settles h a Quit b has other f = absurd (settler_quits h a b has f)
+settler_settles h a (Complete vs x) b has other f = absurd (settler_mode h a b in_body has refl (both (in_body (mode h.shapes a h.past)) _ f).0)
+settler_settles h a Settle b has other f = refl
+settler_settles h a Resume b has other f = absurd (settler_mode h a b awaits has refl f)
+settler_settles h a Clock b has other f = absurd (settler_calls h a b has f)
+settler_settles h a Fire b has other f = absurd (settler_mode h a b (idle_line (who h.shapes a)) has (settling_fires_none (who h.shapes a)) f)
+settler_settles h a (Tick n) b has other f = absurd (other (both (is_operator (who h.shapes a)) (is_tick n) f).0)
+settler_settles h a Halt b has other f = absurd (other f)

@@ -4,7 +4,7 @@ use Rattle.std.specs.Prelude.{nat_lt, ◌==◌, ◌&&◌, ◌||◌, if◌then◌
 use Rattle.std.specs.List.{filter, list_any}
 use Rattle.rv_access.specs.Words.{Words}
 use Rattle.rv_shape.specs.Shape.{Shape}
-use Rattle.rv_shape.specs.Catalogue.{place, target}
+use Rattle.rv_shape.specs.Catalogue.{place, target, who}
 use Rattle.rv_event.specs.Recorded.{recorded}
 use Rattle.rv_event.specs.Past.{begun, first_by, halted, held, is_unsettled, left_by, mode_by, or_settling, queue, queued_by, scalars, stance, to_settle, under_way, unsettled, without}
 use Rattle.rv_event.specs.declared.entry.Body.{Body}
@@ -21,7 +21,7 @@ use Rattle.rv_event.proofs.Matching.{by}
 use Rattle.rv_history.specs.declared.limits.Limits.{Limits}
 use Rattle.rv_history.specs.Due.{due_settle, gate, judged_head, next_of_queue, out}
 use Rattle.rv_history.specs.Exclusion.{barrier_at, opens_on}
-use Rattle.rv_history.specs.Fitting.{fits, is_settling}
+use Rattle.rv_history.specs.Fitting.{fits, fits_actor, is_operator, is_settling}
 use Rattle.rv_history.specs.HandOver.{Reaches, served}
 use Rattle.rv_history.specs.History.{History}
 use Rattle.rv_history.specs.Legal.{IsLegal, Legal, after, entered}
@@ -30,13 +30,16 @@ use Rattle.rv_history.specs.Owed.{IsSolvent, actors}
 use Rattle.rv_history.specs.Rules.{decided, granted}
 use Rattle.rv_history.specs.Settling.{HasToSettle, IsNoSettleOf, IsSettledWithin, Serves, ServesFirst, StaysUnsettled, is_any, settled}
 use Rattle.rv_history.specs.Subject.{subject}
-use Rattle.rv_history.proofs.Answered.{off, and_false, answered}
+use Rattle.rv_history.proofs.Answered.{off, and_false, answered, both}
 use Rattle.rv_history.proofs.Apart.{left_alone}
 use Rattle.rv_history.proofs.Bodies.{each_first, none_on, one_less}
+use Rattle.rv_history.proofs.Callers.{IsManned, legal_manned}
+use Rattle.rv_history.proofs.Costs.{operator_is}
 use Rattle.rv_history.proofs.Ending.{names_at}
 use Rattle.rv_history.proofs.Ends.{settle_never_full}
 use Rattle.rv_history.proofs.HandOver.{drop_serves, leaves, reached_answer}
 use Rattle.rv_history.proofs.Loaded.{left_stays}
+use Rattle.rv_history.proofs.Modes.{settler_settles}
 use Rattle.rv_history.proofs.Orderly.{legal_apart, legal_orderly_at}
 use Rattle.rv_history.proofs.Resumes.{to_test}
 use Rattle.rv_history.proofs.Room.{from_room}
@@ -62,6 +65,17 @@ ready_is h a b l is = by_case (legal_ready h.limits h.past h.shapes h.lists b.ob
     by_case (inl none) = absurd (off (sym none ∙ any_first a b (unsettled h.shapes h.past) is))
     by_case (inr k) = k
 
+-- it is no operator, so nothing but a settle fits it
+only_settles : (h : History) (a : ℕ) (r : Request) (b : Body) → Legal h → to_settle h.shapes a h.past ≡ Some b → fits h a r ≡ true → r ≡ Settle
+only_settles h a r b l is f =
+    settler_settles h a r b is operator (both (nat_lt a (actors h.shapes)) (fits_actor h a r) f).1
+  where
+    manned : (b.actor == 0) ≡ false
+    manned = each_first IsManned a b (unsettled h.shapes h.past) (legal_manned h.limits h.past h.shapes h.lists l).left is
+
+    operator : is_operator (who h.shapes a) ≡ true → ⊥
+    operator e = off (sym manned ∙ ap (λ n. n == 0) (first_actor a b (unsettled h.shapes h.past) is ∙ operator_is h.shapes a e) ∙ itself 0)
+
 pub has_to_settle : (h : History) (a : ℕ) (b : Body) → Legal h → to_settle h.shapes a h.past ≡ Some b → (first : Body) × (behind : List Body) × HasToSettle h a b first behind
 has_to_settle h a b l is = by_queue (queue b.object h.past) refl (ready_is h a b l is).wait
   where
@@ -72,6 +86,7 @@ has_to_settle h a b l is = by_queue (queue b.object h.past) refl (ready_is h a b
       cs,
       record {
         left = is;
+        only = λ r f. only_settles h a r b l is f;
         settling = ap (λ o. or_settling o (mode_by (held h.shapes a h.past) (stance a h.past))) is;
         free = (left_alone a b (under_way h.shapes h.past) (unsettled h.shapes h.past) is (legal_apart h l b.object)).0;
         wait = wait;

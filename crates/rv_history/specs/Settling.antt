@@ -9,15 +9,17 @@ use Rattle.rv_event.specs.declared.entry.Next.TheVariants.{HandedTo, Dropped}
 use Rattle.rv_event.specs.declared.entry.Request.{Request}
 use Rattle.rv_event.specs.declared.entry.Request.TheVariants.{Settle}
 use Rattle.rv_history.specs.History.{History}
+use Rattle.rv_history.specs.Fitting.{fits}
 use Rattle.rv_history.specs.Legal.{after}
 use Rattle.rv_history.specs.Orderly.{is_on}
 use Rattle.rv_history.specs.Due.{out}
 
--- An actor whose end left the object of this body unsettled may settle it, and nothing else; nobody holds the object, and
--- this call is the first of those that wait there.
+-- An actor whose end left the object of this body unsettled may settle it, and nothing else fits; nobody holds the
+-- object, and this call is the first of those that wait there.
 pub record HasToSettle (h : History) (actor : ℕ) (body first : Body) (behind : List Body) : Type 0 where
   pub left : to_settle h.shapes actor h.past ≡ Some body
   pub settling : mode h.shapes actor h.past ≡ Settling
+  pub only : (request : Request) → fits h actor request ≡ true → request ≡ Settle
   pub free : list_any (is_on body.object) (under_way h.shapes h.past) ≡ false
   pub wait : queue body.object h.past ≡ first ∷ behind
 
