@@ -92,6 +92,9 @@ left_stays c (Load ∷ past) shapes more lists l =
     ∙ ap (λ (ss : List Shape). unsettled ss past) (sym l.2)
 left_stays c (ListChange ∷ past) shapes more lists l = left_stays c past shapes more l.0 l.3
 
+pub unsettled_stays : (h : History) (more : List Shape) → Legal h → unsettled (h.shapes ++ more) h.past ≡ unsettled h.shapes h.past
+unsettled_stays h more l = left_stays h.limits h.past h.shapes more h.lists l
+
 -- an operation of a protected object keeps its numbers
 pub protected_stays : (old more : List Shape) (o n : ℕ) (s : Site) → target old o n ≡ OnProtected s → target (old ++ more) o n ≡ OnProtected s
 protected_stays old more o n s e = by_place (place old o) refl

@@ -2,7 +2,7 @@
 
 ghost use Rattle.std.specs.Prelude.{◌≡◌, ◌++◌, ℕ, List, Some, length};
 ghost use Rattle.rv_shape.specs.Catalogue.{OnProtected, Site, UnitObject, place, target};
-ghost use Rattle.rv_event.specs.Past.{scalars, under_way};
+ghost use Rattle.rv_event.specs.Past.{scalars, under_way, unsettled};
 ghost use Rattle.rv_shape.specs.Shape.{Shape};
 ghost use Rattle.rv_history.specs.History.{History, loads};
 ghost use Rattle.rv_history.specs.Legal.{Legal};
@@ -18,6 +18,13 @@ pub fn shapes_are_as_many_as_loads()
 pub fn bodies_stay()
     ensures { (h : History) (more : List Shape) → Legal h →
         under_way (h.shapes ++ more) h.past ≡ under_way h.shapes h.past }
+{}
+
+/// So do the bodies whose ends left their objects unsettled.
+#[tactic(auto, using(crate::proofs::Loaded::unsettled_stays))]
+pub fn unsettled_objects_stay()
+    ensures { (h : History) (more : List Shape) → Legal h →
+        unsettled (h.shapes ++ more) h.past ≡ unsettled h.shapes h.past }
 {}
 
 /// So do the scalars of each object that there is.
