@@ -10,12 +10,12 @@ use Rattle.rv_object.specs.declared.action.Action.TheVariants.{Shared, Exclusive
 use Rattle.rv_shape.specs.Shape.{Shape}
 use Rattle.rv_shape.specs.Catalogue.{UnitObject, all_objects, ceiling_at, initial, place, shares, starts_at, target}
 use Rattle.rv_shape.proofs.Stay.{object_stays, objects_append}
-use Rattle.rv_event.specs.Past.{innermost, scalars, scalars_after, under_way, writes}
+use Rattle.rv_event.specs.Past.{innermost, scalars, scalars_after, under_way, unsettled, writes}
 use Rattle.rv_event.specs.declared.entry.Body.{Body}
 use Rattle.rv_event.specs.declared.entry.Entry.{Entry}
 use Rattle.rv_event.specs.declared.entry.Entry.TheVariants.{Asked, Load, ListChange}
 use Rattle.rv_event.specs.declared.entry.Request.{Request}
-use Rattle.rv_event.specs.declared.entry.Request.TheVariants.{Call, Complete, Resume, DelayUntil, Clock, Fire, Quit, Tick, Halt}
+use Rattle.rv_event.specs.declared.entry.Request.TheVariants.{Call, Complete, Settle, Resume, DelayUntil, Clock, Fire, Quit, Tick, Halt}
 use Rattle.rv_event.specs.declared.entry.Recorded.{Recorded}
 use Rattle.rv_event.proofs.Matching.{by}
 use Rattle.rv_history.specs.declared.limits.Limits.{Limits}
@@ -23,7 +23,7 @@ use Rattle.rv_history.specs.History.{History}
 use Rattle.rv_history.specs.Legal.{IsLegal, Legal}
 use Rattle.rv_history.specs.Orderly.{Each, IsProtected, is_on}
 use Rattle.rv_history.proofs.Bodies.{each_filter}
-use Rattle.rv_history.proofs.Loaded.{append_none, protected_place, protected_stays, scalars_stay, under_way_stays}
+use Rattle.rv_history.proofs.Loaded.{append_none, left_stays, protected_place, protected_stays, scalars_stay, under_way_stays}
 use Rattle.rv_history.proofs.Orderly.{legal_orderly_at}
 use Rattle.rv_history.proofs.Stances.{same_number}
 use Rattle.rv_event.specs.declared.entry.Stance.TheVariants.{Free}
@@ -32,6 +32,7 @@ use Rattle.rv_present.specs.Counts.{AreCounts}
 use Rattle.rv_present.specs.Holdings.{action_of, actions_on, held_of, idle}
 use Rattle.rv_present.specs.Present.{AreScalars, IsPresent}
 use Rattle.rv_present.specs.Loads.{AreRenewed, HasGrown}
+use Rattle.rv_present.specs.Unsettled.{AreUnsettled, IsPlaced, Leavers, counted}
 use Rattle.rv_present.specs.declared.present.Present.{Present}
 use Rattle.rv_present.proofs.UnderWay.{each_inner}
 
@@ -79,6 +80,7 @@ fresh_after h more o a (Complete vs x) w l none =
     ap (writes (h.shapes ++ more) o) ways ∙ unwritten h.shapes more o a (under_way h.shapes h.past) (legal_orderly_at h l).bodies none in
     ap (λ t. if t then vs else scalars (h.shapes ++ more) o h.past) test
 fresh_after h more o a (Call p q vs) w l none = refl
+fresh_after h more o a Settle w l none = refl
 fresh_after h more o a Resume w l none = refl
 fresh_after h more o a (DelayUntil t) w l none = refl
 fresh_after h more o a Clock w l none = refl
@@ -203,6 +205,45 @@ grown_actions old more bs objects new all are k o = by_known (nat_lt (length (al
         let less : o ≤ length (all_objects old) = grind (arith, nat_tests, is) in
         ap (λ (x : ObjectView). x.actions) (k.kept o less) ∙ are o ∙ sym same
 
+-- no body that left its object unsettled is on a new one
+none_past : (o n : ℕ) (bs : List Body) → Each (λ b. b.object ≤ n) bs → n < o → length (filter (is_on o) bs) ≡ 0
+none_past o n [] all past = refl
+none_past o n (b ∷ bs) all past =
+    let other : (b.object == o) ≡ false = grind (arith, nat_tests, all.0, past) in
+    ap (λ t. length (cond t (b ∷ filter (is_on o) bs) (filter (is_on o) bs))) other ∙ none_past o n bs all.1 past
+
+placed_more : (old more : List Shape) (bs : List Body) → Each (IsPlaced old) bs → Each (IsPlaced (old ++ more)) bs
+placed_more old more [] all = tt
+placed_more old more (b ∷ bs) all =
+    let split : length (all_objects (old ++ more)) ≡ length (all_objects old ++ all_objects more) = ap (λ ps. length ps) (objects_append old more) in
+    (omega (arith, all.0, split, length-append (all_objects old) (all_objects more)), placed_more old more bs all.1)
+
+grown_unsettled : (old more : List Shape) (left : List Body) (u : Leavers) (objects new : List ObjectView) → Each (IsPlaced old) left → AreUnsettled left u objects →
+    AreRenewed (old ++ more) (length (all_objects old)) (length (all_objects (old ++ more))) objects new → AreUnsettled left u new
+grown_unsettled old more left u objects new placed are k = record {
+  own = are.own;
+  on = on_each;
+  known = subst (λ n. Each (IsKnown (length u.bodies) n) left) (sym k.long) are.known;
+  count = are.count;
+}
+  where
+    by_last : (o : ℕ) (t : Bool) → nat_lt (length (all_objects (old ++ more))) o ≡ t → length (all_objects old) < o → length (filter (is_on o) left) ≡ counted (get_or new o idle).unsettled
+    by_last o true is some =
+        let past : length (all_objects (old ++ more)) < o = grind (arith, nat_tests, is) in
+        are.on o ∙ sym (ap (λ (x : ObjectView). counted x.unsettled) (k.past o past))
+    by_last o false is some =
+        let within : o ≤ length (all_objects (old ++ more)) = grind (arith, nat_tests, is) in
+        none_past o (length (all_objects old)) left placed some ∙ sym (ap (λ (x : ObjectView). counted x.unsettled) (k.fresh o some within))
+
+    by_known : (o : ℕ) (t : Bool) → nat_lt (length (all_objects old)) o ≡ t → length (filter (is_on o) left) ≡ counted (get_or new o idle).unsettled
+    by_known o true is = by_last o (nat_lt (length (all_objects (old ++ more))) o) refl (grind (arith, nat_tests, is))
+    by_known o false is =
+        let less : o ≤ length (all_objects old) = grind (arith, nat_tests, is) in
+        are.on o ∙ sym (ap (λ (x : ObjectView). counted x.unsettled) (k.kept o less))
+
+    on_each : (o : ℕ) → length (filter (is_on o) left) ≡ counted (get_or new o idle).unsettled
+    on_each o = by_known o (nat_lt (length (all_objects old)) o) refl
+
 -- the present with a unit more
 grown : (h : History) (more : List Shape) (p q : Present) → Legal h → IsPresent h.shapes h.past p → HasGrown (h.shapes ++ more) p q → IsPresent (h.shapes ++ more) h.past q
 grown h more p q l k g =
@@ -218,6 +259,10 @@ grown h more p q l k g =
         known = subst (λ n. Each (IsKnown n (length q.bodies.objects)) bs) (ap (λ ss. length ss) (sym g.stacks_are)) (subst (λ n. Each (IsKnown (length p.bodies.stacks) n) bs) (sym renewed.long) k.bodies_are.known);
         count = g.number_is ∙ k.bodies_are.count;
       });
+      unsettled_are = subst (λ ls. AreUnsettled ls q.unsettled q.bodies.objects) (sym (left_stays h.limits h.past h.shapes more h.lists l))
+          (subst (λ (u : Leavers). AreUnsettled (unsettled h.shapes h.past) u q.bodies.objects) (sym g.unsettled_is)
+          (grown_unsettled h.shapes more (unsettled h.shapes h.past) p.unsettled p.bodies.objects q.bodies.objects k.leavers_placed k.unsettled_are renewed));
+      leavers_placed = subst (Each (IsPlaced shapes)) (sym (left_stays h.limits h.past h.shapes more h.lists l)) (placed_more h.shapes more (unsettled h.shapes h.past) k.leavers_placed);
       scalars_are = grown_scalars h more p.bodies.objects q.bodies.objects l k.scalars_are renewed;
       stances_are = λ a. ap (λ ss. get_or ss a Free) g.stances_are ∙ k.stances_are a;
       calls_are = λ a. ap (λ cs. get_or cs a None) g.calls_are ∙ k.calls_are a;
@@ -228,6 +273,7 @@ grown h more p q l k g =
       few_objects = g.few_objects;
       stacks_long = ap (λ ss. length ss) g.stacks_are ∙ k.stacks_long;
       objects_long = renewed.long ∙ k.objects_long;
+      leavers_long = ap (λ (u : Leavers). length u.bodies) g.unsettled_is ∙ k.leavers_long;
       stances_long = ap (λ ss. length ss) g.stances_are ∙ k.stances_long;
       calls_long = ap (λ cs. length cs) g.calls_are ∙ k.calls_long;
     }

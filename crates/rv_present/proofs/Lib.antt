@@ -6,6 +6,8 @@ pub mod Acting
 pub mod UnderWay
 pub mod Starting
 pub mod Written
+-- Unsettled objects
+pub mod Leaving
 -- Stances and what is owed, queued calls
 pub mod Owing
 pub mod Noting
@@ -15,6 +17,7 @@ pub mod Empty
 -- The next entry of a legal history
 pub mod Ready
 pub mod Ticks
+pub mod Settling
 -- Loads
 pub mod Growing
 pub mod Renewing

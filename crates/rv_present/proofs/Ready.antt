@@ -1,6 +1,6 @@
 -- The next entry of a legal history speaks of actors that there are, and what it starts may start.
-use Rattle.std.proofs.Common.{◌≡◌, ℕ, ◌+◌, ◌-◌, ◌^◌, ◌<◌, ◌≤◌, List, [], ◌∷◌, length, Some, None, Option, Bool, true, false, cond, arith, ap, subst, sym, refl}
-use Rattle.std.specs.Prelude.{ℤ, nat_lt, if◌then◌else◌, slice_get}
+use Rattle.std.proofs.Common.{◌≡◌, ℕ, ◌+◌, ◌-◌, ◌^◌, ◌<◌, ◌≤◌, List, [], ◌∷◌, length, Some, None, Option, Bool, true, false, cond, arith, ap, subst, sym, ◌∙◌, refl}
+use Rattle.std.specs.Prelude.{nat_lt, if◌then◌else◌, slice_get}
 use Rattle.std.specs.List.{filter}
 use Rattle.std.proofs.lemmas.Bool.Decides.{nat_tests}
 use Rattle.std.proofs.lemmas.Option.{slice_get_within}
@@ -8,15 +8,14 @@ use Rattle.rv_access.specs.Words.{Words}
 use Rattle.rv_shape.specs.Shape.{Shape}
 use Rattle.rv_shape.specs.Catalogue.{OperationNumber, UnitObject, all_objects, place, handler}
 use Rattle.rv_event.specs.Recorded.{recorded}
-use Rattle.rv_event.specs.Past.{begun, closed, ended, fired, named_in, next_of, started, under_way}
+use Rattle.rv_event.specs.Past.{begun, closed, ended, fired, named_in, next_of, started, under_way, unsettled}
 use Rattle.rv_event.specs.declared.entry.Body.{Body}
-use Rattle.rv_event.specs.declared.entry.Exit.{Exit}
 use Rattle.rv_event.specs.declared.entry.Next.{Next}
 use Rattle.rv_event.specs.declared.entry.Next.TheVariants.{Nothing, HandedTo, Dropped}
 use Rattle.rv_event.specs.declared.entry.Entry.{Entry}
 use Rattle.rv_event.specs.declared.entry.Entry.TheVariants.{Asked, Load, ListChange}
 use Rattle.rv_event.specs.declared.entry.Request.{Request}
-use Rattle.rv_event.specs.declared.entry.Request.TheVariants.{Call, Complete, Fire}
+use Rattle.rv_event.specs.declared.entry.Request.TheVariants.{Call, Complete, Settle, Fire}
 use Rattle.rv_event.specs.declared.entry.Recorded.{Recorded}
 use Rattle.rv_event.specs.declared.entry.Recorded.TheVariants.{Started, Queued, Refused, Done, Suspended, Delayed, Woken, Accepted}
 use Rattle.rv_event.proofs.Matching.{by}
@@ -26,14 +25,13 @@ use Rattle.rv_history.specs.Owed.{actors}
 use Rattle.rv_history.specs.Due.{out}
 use Rattle.rv_history.specs.Legal.{IsLegal, Legal}
 use Rattle.rv_history.specs.Orderly.{Orderly, Each, IsProtected, IsShared}
-use Rattle.rv_history.proofs.Answered.{off, answered}
+use Rattle.rv_history.proofs.Answered.{answered}
 use Rattle.rv_history.proofs.Ending.{names_at, head_waits}
-use Rattle.rv_history.proofs.HandOver.{done_at_ends}
-use Rattle.rv_history.proofs.Loaded.{protected_place}
+use Rattle.rv_history.proofs.Loaded.{left_stays, protected_place}
 use Rattle.rv_history.proofs.Orderly.{legal_orderly_at}
 use Rattle.rv_history.proofs.Room.{legal_solvent}
 use Rattle.rv_history.proofs.Stances.{below, itself, last_actor, some_is}
-use Rattle.rv_history.proofs.Waits.{legal_waits}
+use Rattle.rv_history.proofs.Standing.{legal_waits}
 use Rattle.rv_present.specs.Bodies.{CanStart}
 use Rattle.rv_present.specs.Known.{AreBelow, IsNamedBelow}
 use Rattle.rv_present.specs.Present.{IsNext}
@@ -41,18 +39,17 @@ use Rattle.rv_present.specs.declared.present.Change.{Change}
 use Rattle.rv_present.specs.declared.present.Present.{Present}
 use Rattle.rv_present.proofs.Starting.{starts_free}
 
--- whom an end names
-named_known : (h : History) (a : ℕ) (vs : List ℤ) (x : Exit) (next : Next) (n : ℕ) → Legal h → recorded (out h a (Complete vs x)) ≡ Some (Done next) → named_in next ≡ Some n → n < actors h.shapes
-named_known h a vs x next n l e is =
-    let m = names_at h a vs x next n e is in
+-- whom an end or a settle names
+named_known : (h : History) (a : ℕ) (r : Request) (next : Next) (n : ℕ) → Legal h → recorded (out h a r) ≡ Some (Done next) → named_in next ≡ Some n → n < actors h.shapes
+named_known h a r next n l e is =
+    let m = names_at h a r next n e is in
     let v = head_waits h.shapes h.past m.body.object m.served_by.call m.served_by.rest (legal_waits h.limits h.past h.shapes h.lists l) m.served_by.queued in
     subst (λ k. k < actors h.shapes) m.served_by.is_its v.known
 
 done_known : (h : History) (a : ℕ) (r : Request) (next : Next) → Legal h → recorded (out h a r) ≡ Some (Done next) → IsNamedBelow (actors h.shapes) next
 done_known h a r Nothing l e = tt
-done_known h a (Complete vs x) (HandedTo n) l e = named_known h a vs x (HandedTo n) n l e refl
-done_known h a (Complete vs x) (Dropped n line) l e = named_known h a vs x (Dropped n line) n l e refl
-done_known h a r next l e = absurd (off (done_at_ends h a r next e))
+done_known h a r (HandedTo n) l e = named_known h a r (HandedTo n) n l e refl
+done_known h a r (Dropped n line) l e = named_known h a r (Dropped n line) n l e refl
 
 step_known : (h : History) (a : ℕ) (r : Request) (w : Recorded) → Legal h → recorded (out h a r) ≡ Some w → AreBelow (actors h.shapes) (Asked a r w)
 step_known h a r w l e = (below a (actors h.shapes) (answered h a r w e).known, by_word w e)
@@ -96,6 +93,7 @@ starter_known shapes past (Asked a Fire Started) b n e k = by_handler (handler s
     by_handler None f = absurd (cc)
     by_handler (Some s) f = subst (λ m. m < n) (ap (λ (c : Body). c.actor) (some_is (record { actor = a; object = s.object; operation = s.operation }) b f)) k.0
 starter_known shapes past (Asked a (Complete vs x) (Done (HandedTo m))) b n e k = subst (λ i. i < n) (sym (last_actor m past b e)) k.1
+starter_known shapes past (Asked a Settle (Done (HandedTo m))) b n e k = subst (λ i. i < n) (sym (last_actor m past b e)) k.1
 starter_known shapes past e b n is k = absurd (cc)
 
 -- where an object stands
@@ -140,7 +138,7 @@ next_may_start c past shapes lists e b l some few actors_few objects_few is =
     (starter_known shapes past e b 75 is (known_below c past shapes lists e 75 l actors_few)) (omega (arith, placed, objects_few)) (omega (arith, room, few))
 
 -- how much there is: bodies, entries, list changes
-pub few_bodies : (c : Limits) (past : List Entry) (shapes : List Shape) (lists : List (List Words)) → IsLegal c past shapes lists → 1 ≤ c.capacity → length past + length (under_way shapes past) ≤ c.capacity
+pub few_bodies : (c : Limits) (past : List Entry) (shapes : List Shape) (lists : List (List Words)) → IsLegal c past shapes lists → 1 ≤ c.capacity → length past + length (under_way shapes past) + length (unsettled shapes past) ≤ c.capacity
 few_bodies c past shapes lists l some =
     let room = legal_solvent (record { limits = c; past = past; shapes = shapes; lists = lists }) some l in
     omega (arith, room)
@@ -158,6 +156,15 @@ next_known {shapes} {e} k = known_below k.limits k.past shapes k.lists e 75 k.le
 pub next_few : {shapes : List Shape} {e : Entry} {x : Change} {p : Present} (k : IsNext shapes e x p) → length k.past ≤ 1048575
 next_few {shapes} {e} k = omega (arith, few_bodies k.limits (e ∷ k.past) shapes k.lists k.legal k.least, k.most)
 
+pub next_few_left : {shapes : List Shape} {e : Entry} {x : Change} {p : Present} (k : IsNext shapes e x p) → length (unsettled shapes k.past) ≤ 1048576
+next_few_left {shapes} {e = Asked a r w} k = omega (arith, few_bodies k.limits k.past shapes k.lists k.legal.0 k.least, k.most)
+next_few_left {shapes} {e = Load} k =
+    let few = few_bodies k.limits k.past k.legal.0 k.lists k.legal.3 k.least in
+    let same : length (unsettled shapes k.past) ≡ length (unsettled k.legal.0 k.past) =
+    ap (λ ss. length (unsettled ss k.past)) k.legal.2 ∙ ap (λ bs. length bs) (left_stays k.limits k.past k.legal.0 (k.legal.1 ∷ []) k.lists k.legal.3) in
+    omega (arith, few, same, k.most)
+next_few_left {shapes} {e = ListChange} k = omega (arith, few_bodies k.limits k.past shapes k.legal.0 k.legal.3 k.least, k.most)
+
 -- entries and all that is owed
-pub little_sum : (n d m r k : ℕ) → r ≤ n + 1 → n ≤ 1048576 → d ≤ 225 → m ≤ 1 → k ≤ 1048576 → k + 1 + (r + d + m) < 4294967296
-little_sum n d m r k some few less one used = omega (arith, some, few, less, one, used)
+pub little_sum : (n d m r k i j : ℕ) → r ≤ n + 1 → n ≤ 1048576 → d ≤ 225 → m ≤ 1 → k ≤ 1048576 → i ≤ j + 1 → j ≤ 1048576 → k + 1 + (r + i + d + m) < 4294967296
+little_sum n d m r k i j some few less one used left few_left = omega (arith, some, few, less, one, used, left, few_left)

@@ -18,9 +18,9 @@ pub renewed_upto : (shapes : List Shape) (from upto last : ℕ) (old new : List 
 renewed_upto shapes from upto last old new is k = subst (λ n. AreRenewed shapes from n old new) is k
 
 pub renewed_more : (shapes : List Shape) (from n i m : ℕ) (old new : List ObjectView) (starts : List ℤ) → i ≡ n + 1 → m ≡ i → from ≤ n → i < length old → starts ≡ initial shapes i → AreRenewed shapes from n old new →
-    AreRenewed shapes from m old (set new i (record { actions = []; scalars = starts }))
+    AreRenewed shapes from m old (set new i (record { actions = []; unsettled = false; scalars = starts }))
 renewed_more shapes from n i m old new starts next last behind inside are k =
-    let x : ObjectView = record { actions = []; scalars = starts } in
+    let x : ObjectView = record { actions = []; unsettled = false; scalars = starts } in
     let there : i < length new = omega (arith, inside, k.long) in
     record {
       long = length-set new i x ∙ k.long;
@@ -29,10 +29,10 @@ renewed_more shapes from n i m old new starts next last behind inside are k =
       fresh = λ o some less. by_place o some less there (o == i) refl;
     }
   where
-    by_place : (o : ℕ) → from < o → o ≤ m → i < length new → (t : Bool) → (o == i) ≡ t → get_or (set new i (record { actions = []; scalars = starts })) o idle ≡ record { actions = []; scalars = initial shapes o }
+    by_place : (o : ℕ) → from < o → o ≤ m → i < length new → (t : Bool) → (o == i) ≡ t → get_or (set new i (record { actions = []; unsettled = false; scalars = starts })) o idle ≡ record { actions = []; unsettled = false; scalars = initial shapes o }
     by_place o some less there true e =
         let same : o ≡ i = same_number o i e in
-        get_or-set_at new i o (record { actions = []; scalars = starts }) idle same there ∙ (λ j. record { actions = []; scalars = (are ∙ ap (initial shapes) (sym same)) j })
+        get_or-set_at new i o (record { actions = []; unsettled = false; scalars = starts }) idle same there ∙ (λ j. record { actions = []; unsettled = false; scalars = (are ∙ ap (initial shapes) (sym same)) j })
     by_place o some less there false e =
         let other : o ≢ i = grind (arith, nat_tests) in
-        get_or-set_other new i o (record { actions = []; scalars = starts }) idle other ∙ k.fresh o some (omega (arith, less, last, next, other))
+        get_or-set_other new i o (record { actions = []; unsettled = false; scalars = starts }) idle other ∙ k.fresh o some (omega (arith, less, last, next, other))

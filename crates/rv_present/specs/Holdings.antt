@@ -1,5 +1,5 @@
 -- The bodies under way, as the stack of their actor and the object that they are on see them (own).
-use Rattle.std.specs.Prelude.{ℕ, ◌==◌, if◌then◌else◌, List, [], map}
+use Rattle.std.specs.Prelude.{ℕ, ◌==◌, if◌then◌else◌, false, List, [], map}
 use Rattle.std.specs.List.{filter}
 use Rattle.rv_prio.specs.declared.held.Held.{Held}
 use Rattle.rv_object.specs.Actions.{ObjectView}
@@ -25,6 +25,6 @@ held_of shapes body = record { object = body.object; operation = body.operation;
 abbrev pub holdings : List Shape → ℕ → List Body → List Held
 holdings shapes actor bodies = map (held_of shapes) (filter (λ body. body.actor == actor) bodies)
 
--- an object with nobody in it, and without scalars
+-- a settled object with nobody in it, and without scalars
 abbrev pub idle : ObjectView
-idle = record { actions = []; scalars = [] }
+idle = record { actions = []; unsettled = false; scalars = [] }

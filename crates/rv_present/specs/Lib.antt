@@ -2,6 +2,7 @@ pub mod Limits
 pub mod Holdings
 pub mod Ends
 pub mod Bodies
+pub mod Unsettled
 pub mod Known
 pub mod Stances
 pub mod Calls

@@ -4,12 +4,13 @@ use Rattle.rv_access.specs.Words.{Words}
 use Rattle.rv_object.specs.Actions.{ObjectView}
 use Rattle.rv_shape.specs.Catalogue.{all_objects}
 use Rattle.rv_shape.specs.Shape.{Shape}
-use Rattle.rv_event.specs.Past.{started, under_way, scalars}
+use Rattle.rv_event.specs.Past.{started, under_way, unsettled, scalars}
 use Rattle.rv_event.specs.declared.entry.Entry.{Entry}
 use Rattle.rv_event.specs.declared.entry.Entry.TheVariants.{Load}
 use Rattle.rv_history.specs.declared.limits.Limits.{Limits}
 use Rattle.rv_history.specs.History.{History}
 use Rattle.rv_history.specs.Legal.{IsLegal}
+use Rattle.rv_history.specs.Orderly.{Each}
 use Rattle.rv_history.specs.Owed.{actors, dues, each}
 use Rattle.rv_present.specs.declared.present.Change.{Change}
 use Rattle.rv_present.specs.declared.present.Present.{Present}
@@ -19,6 +20,7 @@ use Rattle.rv_present.specs.Counts.{AreCounts}
 use Rattle.rv_present.specs.Holdings.{idle}
 use Rattle.rv_present.specs.Limits.{most_actors, most_places}
 use Rattle.rv_present.specs.Stances.{AreStances}
+use Rattle.rv_present.specs.Unsettled.{AreUnsettled, IsPlaced, leaver}
 
 -- each object has its scalars (9.4)
 abbrev pub AreScalars : List Shape → List Entry → List ObjectView → Type 0
@@ -28,6 +30,8 @@ AreScalars shapes past objects =
 -- the fields are what is so after these entries, with these units loaded
 pub record IsPresent (shapes : List Shape) (past : List Entry) (present : Present) : Type 0 where
   pub bodies_are : IsBodies shapes (under_way shapes past) present.bodies
+  pub unsettled_are : AreUnsettled (unsettled shapes past) present.unsettled present.bodies.objects
+  pub leavers_placed : Each (IsPlaced shapes) (unsettled shapes past)
   pub scalars_are : AreScalars shapes past present.bodies.objects
   pub stances_are : AreStances past present.stances.stances
   pub calls_are : AreCalls past present.calls
@@ -38,6 +42,7 @@ pub record IsPresent (shapes : List Shape) (past : List Entry) (present : Presen
   pub few_objects : length (all_objects shapes) < most_places
   pub stacks_long : length present.bodies.stacks ≡ most_actors
   pub objects_long : length present.bodies.objects ≡ most_places
+  pub leavers_long : length present.unsettled.bodies ≡ most_actors
   pub stances_long : length present.stances.stances ≡ most_actors
   pub calls_long : length present.calls ≡ most_actors
 
@@ -55,9 +60,11 @@ pub record Stands (shapes : List Shape) (present : Present) : Type 0 where
   pub most : limits.capacity ≤ 2 ^ 20
   pub is_present : IsPresent shapes past present
 
--- what an entry changes after these: the body that it starts, and what all owe once it stands, beside their open starts
+-- what an entry changes after these: the body that it starts, the one whose object it leaves unsettled, and what all owe
+-- once it stands, beside their open starts
 pub record IsChange (shapes : List Shape) (past : List Entry) (entry : Entry) (change : Change) : Type 0 where
   pub start_is : change.start ≡ started shapes past entry
+  pub leaver_is : change.leaver ≡ leaver shapes past entry
   pub dues_are : change.dues ≡ each (actors shapes) (dues (entry ∷ past))
 
 -- and the entry, which changes this, is the next of a legal history

@@ -89,7 +89,9 @@ impl Bodies {
     /// What an entry ends and starts.
     #[inline(always)]
     pub fn note(&mut self, catalogue: &Catalogue, entry: &EntryRef, start: Option<Body>)
-        requires { (bodies : List Body) × IsReady catalogue.now bodies self.old (whole entry.now) start }
+        requires ready { (bodies : List Body) × IsReady catalogue.now bodies self.old (whole entry.now) start }
+        requires settled { (body : Body) → start ≡ Some body →
+            (slice_index_or self.old.objects body.object idle).unsettled ≡ false }
         ensures same { (length self.new.stacks ≡ length self.old.stacks) ×
             (length self.new.objects ≡ length self.old.objects) }
         ensures kept { (bodies : List Body) → IsBodies catalogue.now bodies self.old →
@@ -97,6 +99,8 @@ impl Bodies {
         ensures scalars { (bodies : List Body) → IsBodies catalogue.now bodies self.old → (o : ℕ) →
             (slice_index_or self.new.objects o idle).scalars
             ≡ left_after catalogue.now o bodies (whole entry.now) (slice_index_or self.old.objects o idle).scalars }
+        ensures unsettled { (o : ℕ) → (slice_index_or self.new.objects o idle).unsettled
+            ≡ (slice_index_or self.old.objects o idle).unsettled }
     {
         self.end_if(catalogue, entry);
         if let Some(body) = start {
@@ -158,6 +162,8 @@ impl Bodies {
         ensures scalars { (bodies : List Body) → IsBodies catalogue.now bodies self.old → (o : ℕ) →
             (slice_index_or self.new.objects o idle).scalars
             ≡ left_after catalogue.now o bodies (whole entry.now) (slice_index_or self.old.objects o idle).scalars }
+        ensures unsettled { (o : ℕ) → (slice_index_or self.new.objects o idle).unsettled
+            ≡ (slice_index_or self.old.objects o idle).unsettled }
     {
         match entry {
             EntryRef::Asked(actor, Request::Complete(given, _), _) => {
@@ -174,6 +180,7 @@ impl Bodies {
         requires room { length (slice_index_or self.old.stacks body.actor []) < 16 }
         requires free { excludes (slice_index_or self.old.objects body.object idle).actions
             (action_of catalogue.now body) ≡ false }
+        requires settled { (slice_index_or self.old.objects body.object idle).unsettled ≡ false }
         requires few { self.old.number < 2 ^ 32 }
         requires sound { (bodies : List Body) × IsBodies catalogue.now bodies self.old }
         ensures kept { (bodies : List Body) → IsBodies catalogue.now bodies self.old →
@@ -183,6 +190,8 @@ impl Bodies {
         ensures scalars { (o : ℕ) →
             (slice_index_or self.new.objects o idle).scalars
             ≡ (slice_index_or self.old.objects o idle).scalars }
+        ensures unsettled { (o : ℕ) → (slice_index_or self.new.objects o idle).unsettled
+            ≡ (slice_index_or self.old.objects o idle).unsettled }
     {
         let action = action_by(catalogue, body.actor, body.object, body.operation);
         let ceiling = ceiling_of(catalogue, body.object);
@@ -208,6 +217,8 @@ impl Bodies {
         ensures scalars { (bodies : List Body) → IsBodies catalogue.now bodies self.old → (o : ℕ) →
             (slice_index_or self.new.objects o idle).scalars
             ≡ left_by catalogue.now o bodies actor given.now (slice_index_or self.old.objects o idle).scalars }
+        ensures unsettled { (o : ℕ) → (slice_index_or self.new.objects o idle).unsettled
+            ≡ (slice_index_or self.old.objects o idle).unsettled }
     {
         let Some(held) = self.stacks.of(actor).innermost() else {
             return;

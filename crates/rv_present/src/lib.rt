@@ -1,5 +1,5 @@
 //! What is so after the entries of a history, kept in fields: who holds what, the scalars, the
-//! stances, what is owed, the clock. An entry more changes them in place, whatever came before it;
+//! stances, the unsettled objects, what is owed, the clock. An entry more changes them in place, whatever came before it;
 //! each stands for its definition in rv_event or rv_history.
 #![tactic(auto)]
 
@@ -11,5 +11,6 @@ mod objects;
 mod present;
 mod stacks;
 mod stances;
+mod unsettled;
 
 pub use present::{Change, Present};

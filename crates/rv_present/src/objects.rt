@@ -1,4 +1,4 @@
-//! Who is in each object, and its scalars.
+//! Who is in each object, whether it is unsettled, and its scalars.
 
 ghost use Rattle.std.specs.Prelude.{◌≡◌, ◌<◌, ◌^◌, [], ◌∷◌, length, drop, false, true, slice_index_or, slice_set, replicate, IfOk};
 ghost use Rattle.rv_object.specs.Actions.{excludes, is_under_way, scalars_after};
@@ -72,6 +72,7 @@ impl Objects {
     pub fn begin(&mut self, object: usize, action: Action)
         requires known { object < length self.old }
         requires free { excludes (slice_index_or self.old object idle).actions action ≡ false }
+        requires settled { (slice_index_or self.old object idle).unsettled ≡ false }
         requires countable { length (slice_index_or self.old object idle).actions < 2 ^ 32 }
         ensures { self.new
             ≡ slice_set self.old object (record (slice_index_or self.old object idle) {
@@ -93,6 +94,7 @@ impl Objects {
         ensures new { self.new
             ≡ slice_set self.old object (record {
               actions = drop 1 (slice_index_or self.old object idle).actions;
+              unsettled = (slice_index_or self.old object idle).unsettled;
               scalars = scalars_after action (slice_index_or self.old object idle).scalars scalars.now;
             }) }
     {
@@ -103,8 +105,27 @@ impl Objects {
     pub fn put(&mut self, object: usize, scalars: Scalars)
         requires { object < length self.old }
         ensures { self.new
-            ≡ slice_set self.old object (record { actions = []; scalars = scalars }) }
+            ≡ slice_set self.old object (record { actions = []; unsettled = false; scalars = scalars }) }
     {
         self.items[object] = Object::new(scalars);
+    }
+
+    /// An end leaves an object unsettled, which nobody is in.
+    pub fn unsettle(&mut self, object: usize)
+        requires known { object < length self.old }
+        requires free { (slice_index_or self.old object idle).actions ≡ [] }
+        ensures { self.new
+            ≡ slice_set self.old object (record (slice_index_or self.old object idle) { unsettled = true }) }
+    {
+        self.items[object].unsettle();
+    }
+
+    /// An object is settled.
+    pub fn settle(&mut self, object: usize)
+        requires { object < length self.old }
+        ensures { self.new
+            ≡ slice_set self.old object (record (slice_index_or self.old object idle) { unsettled = false }) }
+    {
+        self.items[object].settle();
     }
 }

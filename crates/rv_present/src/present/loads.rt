@@ -30,7 +30,8 @@ impl Present {
         let actors = self.stances.actors() + shape.tasks().len();
         let dues = self.stances.dues_of(actors);
         let halt = self.counts.halt_due_with(&EntryRef::Load);
-        self.counts.entries + 1 + (self.bodies.number + dues + halt)
+        let unsettled = self.unsettled.number();
+        self.counts.entries + 1 + (self.bodies.number + unsettled + dues + halt)
     }
 
     // The new objects get their initial scalars, and the new actors are among those that owe.
@@ -52,7 +53,7 @@ impl Present {
             IsPresent catalogue.now (Entry.Load ∷ before) self.new }
     {
         self.grow(catalogue);
-        let change = self.change_of(catalogue, &EntryRef::Load);
+        let change = self.change_of(catalogue, &EntryRef::Load, None);
         self.note(catalogue, &EntryRef::Load, &change);
     }
 }

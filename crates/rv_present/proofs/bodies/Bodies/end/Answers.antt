@@ -66,7 +66,7 @@ returns-clause-kept c = λ bs k.
     let a = c.args.actor in
     let b : Body = body_of a c.in-Some.held in
     let was : ObjectView = get_or f.objects b.object idle in
-    let x : ObjectView = record { actions = drop 1 was.actions; scalars = scalars_after c.action_by-action.result was.scalars c.args.given.now } in
+    let x : ObjectView = record { actions = drop 1 was.actions; unsettled = was.unsettled; scalars = scalars_after c.action_by-action.result was.scalars c.args.given.now } in
     let in_it : slice_get (filter (by a) bs) 0 ≡ Some b =
     inner_body shapes a bs c.in-Some.held (ap (λ (hs : List Held). slice_get hs 0) (sym (c.of.ensures ∙ k.stacks a)) ∙ sym c.innermost.ensures ∙ c.in-Some.is) in
     let there = each_inner (IsKnown (length f.stacks) (length f.objects)) a b bs in_it k.known in
@@ -83,7 +83,7 @@ returns-clause-scalars c = λ bs k o.
     let a = c.args.actor in
     let b : Body = body_of a c.in-Some.held in
     let was : ObjectView = get_or f.objects b.object idle in
-    let x : ObjectView = record { actions = drop 1 was.actions; scalars = scalars_after c.action_by-action.result was.scalars c.args.given.now } in
+    let x : ObjectView = record { actions = drop 1 was.actions; unsettled = was.unsettled; scalars = scalars_after c.action_by-action.result was.scalars c.args.given.now } in
     let in_it : slice_get (filter (by a) bs) 0 ≡ Some b =
     inner_body shapes a bs c.in-Some.held (ap (λ (hs : List Held). slice_get hs 0) (sym (c.of.ensures ∙ k.stacks a)) ∙ sym c.innermost.ensures ∙ c.in-Some.is) in
     let some : b.object < length f.objects = (each_inner (IsKnown (length f.stacks) (length f.objects)) a b bs in_it k.known).1 in

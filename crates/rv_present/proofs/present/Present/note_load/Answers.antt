@@ -1,3 +1,4 @@
+use Rattle.std.proofs.Common.{refl}
 use Rattle.rv_present.proofs.Growing.{load_grown}
 use Rattle.rv_present.proofs.present.Present.note_load.Goals as goal
 
@@ -13,10 +14,10 @@ note-requires c =
       least = k.least;
       most = k.most;
       is_present = grown;
-      is_change = c.change_of-change.ensures k.past grown;
+      is_change = c.change_of-change.ensures k.past grown refl;
     }
 
 pub returns : goal.returns
 returns c = λ limits past lists legal was.
     let grown = load_grown limits past c.args.catalogue.now lists c.args.self.now c.grow.new.self legal was c.grow.ensures in
-    c.note.ensures past grown (c.change_of-change.ensures past grown)
+    c.note.ensures past grown (c.change_of-change.ensures past grown refl)

@@ -5,15 +5,15 @@ use Rattle.rv_present.proofs.Owing.{dues_are, few_dues}
 use Rattle.rv_present.proofs.Ready.{few_bodies, little_sum}
 use Rattle.rv_present.proofs.present.Present.taken.Goals as goal
 
-all_little : (c : goal.After-halt_due-halt) → c.args.self.now.counts.entries + 1 + (c.args.self.now.bodies.number + c.dues-dues.result + c.halt_due-halt.result) < 4294967296
+all_little : (c : goal.After-number-unsettled) → c.args.self.now.counts.entries + 1 + (c.args.self.now.bodies.number + c.number-unsettled.result + c.dues-dues.result + c.halt_due-halt.result) < 4294967296
 all_little c =
     let k = c.requires.1 in
     let few = few_bodies k.limits k.past c.requires.0 k.lists k.legal k.least in
     let ss = c.args.self.now.stances in
-    little_sum c.args.self.now.bodies.number c.dues-dues.result c.halt_due-halt.result c.args.self.now.bodies.number c.args.self.now.counts.entries (omega arith)
+    little_sum c.args.self.now.bodies.number c.dues-dues.result c.halt_due-halt.result c.args.self.now.bodies.number c.args.self.now.counts.entries c.number-unsettled.result c.args.self.now.unsettled.number (omega arith)
     (omega (arith, k.is_present.bodies_are.count, few, k.most))
     (omega (arith, c.dues-dues.ensures, few_dues ss.stances ss.actors, k.is_present.actors_are, k.is_present.few_actors)) c.halt_due-halt.ensures.within
-    (omega (arith, k.is_present.counts_are.entries_are, few, k.most))
+    (omega (arith, k.is_present.counts_are.entries_are, few, k.most)) (omega (arith, c.number-unsettled.ensures)) (omega (arith, k.is_present.unsettled_are.count, few, k.most))
 
 pub overflow_add-result : goal.overflow_add-result
 overflow_add-result c = omega (arith, all_little c)
@@ -24,9 +24,12 @@ overflow_add-result-2 c = omega (arith, all_little c)
 pub overflow_add-result-3 : goal.overflow_add-result-3
 overflow_add-result-3 c = omega (arith, all_little c)
 
+pub overflow_add-result-4 : goal.overflow_add-result-4
+overflow_add-result-4 c = omega (arith, all_little c)
+
 pub returns : goal.returns
 returns c = λ h was.
     let ss = c.args.self.now.stances in
     let due : c.dues-dues.result ≡ each (actors h.shapes) (dues h.past) = c.dues-dues.ensures ∙ dues_are h.past ss.stances ss.actors was.stances_are ∙ ap (λ n. each n (dues h.past)) was.actors_are in
     let halt : c.halt_due-halt.result ≡ halt_due (halted h.past) = c.halt_due-halt.ensures.value ∙ ap halt_due was.counts_are.halted_is in
-    omega (arith, due, halt, was.counts_are.entries_are, was.bodies_are.count)
+    omega (arith, due, halt, was.counts_are.entries_are, was.bodies_are.count, c.number-unsettled.ensures, was.unsettled_are.count)

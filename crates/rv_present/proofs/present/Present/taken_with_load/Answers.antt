@@ -8,14 +8,14 @@ use Rattle.rv_present.proofs.Owing.{dues_are}
 use Rattle.rv_present.proofs.Ready.{few_bodies, little_sum}
 use Rattle.rv_present.proofs.present.Present.taken_with_load.Goals as goal
 
-all_little : (c : goal.After-halt_due_with-halt) → c.args.self.now.counts.entries + 1 + (c.args.self.now.bodies.number + c.dues_of-dues.result + c.halt_due_with-halt.result) < 4294967296
+all_little : (c : goal.After-number-unsettled) → c.args.self.now.counts.entries + 1 + (c.args.self.now.bodies.number + c.number-unsettled.result + c.dues_of-dues.result + c.halt_due_with-halt.result) < 4294967296
 all_little c =
     let k = c.requires.stands in
     let few = few_bodies k.limits k.past c.args.catalogue.now k.lists k.legal k.least in
-    little_sum c.args.self.now.bodies.number c.dues_of-dues.result c.halt_due_with-halt.result c.args.self.now.bodies.number c.args.self.now.counts.entries (omega arith)
+    little_sum c.args.self.now.bodies.number c.dues_of-dues.result c.halt_due_with-halt.result c.args.self.now.bodies.number c.args.self.now.counts.entries c.number-unsettled.result c.args.self.now.unsettled.number (omega arith)
     (omega (arith, k.is_present.bodies_are.count, few, k.most))
     (omega (arith, c.dues_of-dues.ensures.within, c.actors.ensures.value, ap (λ ts. length ts) c.tasks.ensures, c.requires.few, k.is_present.actors_are)) c.halt_due_with-halt.ensures.within
-    (omega (arith, k.is_present.counts_are.entries_are, few, k.most))
+    (omega (arith, k.is_present.counts_are.entries_are, few, k.most)) (omega (arith, c.number-unsettled.ensures)) (omega (arith, k.is_present.unsettled_are.count, few, k.most))
 
 pub overflow_add-result : goal.overflow_add-result
 overflow_add-result c = omega (arith, all_little c)
@@ -29,6 +29,9 @@ overflow_add-result-3 c = omega (arith, all_little c)
 pub overflow_add-result-4 : goal.overflow_add-result-4
 overflow_add-result-4 c = omega (arith, all_little c)
 
+pub overflow_add-result-5 : goal.overflow_add-result-5
+overflow_add-result-5 c = omega (arith, all_little c)
+
 pub returns : goal.returns
 returns c = λ limits past lists legal was.
     let shapes = c.args.catalogue.now in
@@ -39,4 +42,4 @@ returns c = λ limits past lists legal was.
     let due : c.dues_of-dues.result ≡ each (actors shapes + length c.args.shape.now.tasks) (dues (Load ∷ past)) =
     c.dues_of-dues.ensures.value ∙ dues_are (Load ∷ past) ss.stances (c.actors.result + length c.tasks.result.now) was.stances_are ∙ ap (λ m. each m (dues (Load ∷ past))) n in
     let halt : c.halt_due_with-halt.result ≡ halt_due (halted (Load ∷ past)) = c.halt_due_with-halt.ensures.value past was.counts_are.halted_is in
-    omega (arith, owed_loaded h c.args.shape.now legal, was.bodies_are.count, due, halt, was.counts_are.entries_are)
+    omega (arith, owed_loaded h c.args.shape.now legal, was.bodies_are.count, c.number-unsettled.ensures, was.unsettled_are.count, due, halt, was.counts_are.entries_are)
