@@ -1,6 +1,5 @@
-use Rattle.std.proofs.Common.{◌∙◌, sym}
+use Rattle.std.proofs.Common.{sym}
 use Rattle.rv_event.specs.Past.{unsettled}
-use Rattle.std.proofs.Common.{refl}
 use Rattle.rv_present.proofs.Leaving.{own_first}
 use Rattle.rv_present.proofs.present.Present.to_settle.Goals as goal
 
