@@ -4,7 +4,7 @@ use Rattle.std.specs.Prelude.{ℤ}
 use Rattle.rv_event.specs.declared.entry.Entry.TheVariants.{Asked}
 use Rattle.rv_event.specs.declared.entry.Recorded.{Recorded}
 use Rattle.rv_event.specs.declared.entry.Request.{Request}
-use Rattle.rv_event.specs.declared.entry.Request.TheVariants.{Call, Complete, Resume, DelayUntil, Clock, Fire, Quit, Tick, Halt}
+use Rattle.rv_event.specs.declared.entry.Request.TheVariants.{Call, Complete, Settle, Resume, DelayUntil, Clock, Fire, Quit, Tick, Halt}
 use Rattle.rv_history.specs.History.{History}
 use Rattle.rv_host.specs.Decisions.{answer_with, or_none, scalars_for}
 use Rattle.rv_host.specs.declared.decision.Decision.{Decision}
@@ -14,6 +14,7 @@ pub scalars_stay : (h : History) (actor : ℕ) (request : Request) (word : Recor
     scalars_for (record h { past = Asked actor request word ∷ h.past }) actor request ≡ scalars_for h actor request
 scalars_stay h actor (Call object operation values) word = refl
 scalars_stay h actor (Complete values exit) word = refl
+scalars_stay h actor Settle word = refl
 scalars_stay h actor Resume word = refl
 scalars_stay h actor (DelayUntil time) word = refl
 scalars_stay h actor Clock word = refl

@@ -13,10 +13,10 @@ ghost use Rattle.rv_shape.specs.Catalogue as catalogues;
 
 use crate::decision::Decision;
 use crate::due::calls::{due_call, due_fire};
-use crate::due::ends::due_end;
+use crate::due::ends::{due_end, due_settle};
 use crate::due::waits::{delay_facts, is_halted, resume_facts, time};
 use crate::rules::exclusion::scalars_of;
-use crate::rules::fitting::{innermost, is_fitting};
+use crate::rules::fitting::{innermost, is_fitting, to_settle};
 use crate::seen::Seen;
 use rv_event::entry::{Body, Request};
 use rv_value::Scalars;
@@ -31,6 +31,7 @@ fn decide_fitting(seen: &Seen, actor: usize, request: &Request) -> Decision
     match request {
         Request::Call(object, operation, _) => due_call(seen, actor, request, *object, *operation),
         Request::Complete(scalars, _) => due_end(seen, innermost(seen, actor), scalars),
+        Request::Settle => due_settle(seen, to_settle(seen, actor)),
         Request::Resume => resume_facts(seen, actor).decision(),
         Request::DelayUntil(until) => delay_facts(seen, actor, *until).decision(),
         Request::Clock => Decision::Accepted(time(seen)),
@@ -47,6 +48,7 @@ fn goes_on(request: &Request) -> bool
 {
     match request {
         Request::Complete(_, _) => true,
+        Request::Settle => true,
         Request::Resume => true,
         Request::Quit => true,
         Request::Call(_, _, _) | Request::DelayUntil(_) | Request::Clock => false,

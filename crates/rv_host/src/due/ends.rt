@@ -1,4 +1,4 @@
-//! What is decided of ends of bodies.
+//! What is decided of ends of bodies, and where an object is settled.
 
 ghost use Rattle.std.specs.Prelude.{◌≡◌, slice_get, List, ℤ, Option};
 ghost use Rattle.rv_event.specs.declared.entry.Body.{Body};
@@ -8,7 +8,7 @@ ghost use Rattle.rv_host.specs.Seen.{IsSeen, history_of};
 
 use crate::decision::Decision;
 use crate::due::waits::is_halted;
-use crate::rules::exclusion::opens_at;
+use crate::rules::exclusion::{opens_at, scalars_of};
 use crate::rules::grant::decide_call;
 use crate::rules::queue::head_call;
 use crate::seen::Seen;
@@ -34,7 +34,7 @@ fn serve(seen: &Seen, head: Option<Body>) -> Next
 }
 
 // What becomes of the queue of an object at the end of an exclusive body that leaves these
-// scalars.
+// scalars, or where the object, which has them, is settled.
 fn after_end(seen: &Seen, object: usize, scalars: &Scalars) -> Next
     requires { IsSeen seen.now }
     ensures { result ≡ due.after_end (history_of seen.now) object scalars.now }
@@ -66,4 +66,16 @@ pub fn due_end(seen: &Seen, body: Option<Body>, scalars: &Scalars) -> Decision
         Callee::Nowhere => Decision::Misuse,
         Callee::Suspension(_, _, _) => Decision::Misuse,
     }
+}
+
+/// What is decided of a settle of the object that the end of this body left unsettled (own).
+pub fn due_settle(seen: &Seen, body: Option<Body>) -> Decision
+    requires { IsSeen seen.now }
+    ensures { (given : Option (List ℤ)) → answer_with given result ≡ due.due_settle (history_of seen.now) body }
+{
+    let Some(body) = body else {
+        return Decision::Misuse;
+    };
+    let next = after_end(seen, body.object, scalars_of(seen, body.object));
+    Decision::Done(next)
 }

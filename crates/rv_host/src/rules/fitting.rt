@@ -24,6 +24,14 @@ pub fn innermost(seen: &Seen, actor: usize) -> Option<Body>
     seen.present.innermost(actor)
 }
 
+/// The body whose object the actor has to settle (own).
+pub fn to_settle(seen: &Seen, actor: usize) -> Option<Body>
+    requires { IsSeen seen.now }
+    ensures { result ≡ past.to_settle (history_of seen.now).shapes actor (history_of seen.now).past }
+{
+    seen.present.to_settle(actor)
+}
+
 // The actor's mode.
 fn mode_of(seen: &Seen, actor: usize) -> Mode
     requires { IsSeen seen.now }
@@ -103,8 +111,18 @@ fn awaits(mode: Mode) -> bool
     ensures { result ≡ fitting.awaits mode }
 {
     match mode {
-        Mode::Idle | Mode::InBody | Mode::Ended => false,
+        Mode::Idle | Mode::InBody | Mode::Settling | Mode::Ended => false,
         Mode::Queued | Mode::Handed | Mode::Dropped | Mode::Suspended | Mode::Delayed => true,
+    }
+}
+
+// Whether an actor in this mode has an object to settle.
+fn is_settling(mode: Mode) -> bool
+    ensures { result ≡ fitting.is_settling mode }
+{
+    match mode {
+        Mode::Settling => true,
+        _ => false,
     }
 }
 
@@ -182,6 +200,7 @@ fn fits_mode(seen: &Seen, actor: usize, request: &Request, mode: Mode) -> bool
             let body = innermost(seen, actor);
             is_in_body(mode) && fits_end(seen.catalogue, body, scalars.as_slice(), exit)
         }
+        Request::Settle => is_settling(mode),
         Request::Resume => awaits(mode),
         Request::DelayUntil(time) => may_call(seen.catalogue, actor, mode) && is_time(*time),
         Request::Clock => may_call(seen.catalogue, actor, mode),
