@@ -8,7 +8,9 @@ pub mod Smaller
 pub mod BodyForms
 pub mod Steps
 pub mod Replays
+pub mod Keeping
+pub mod KeptValues
+pub mod KeptStatements
+pub mod KeptBodies
 pub mod Stopping
-pub mod StoppedValues
-pub mod StoppedStatements
 pub mod StoppedBodies

@@ -25,9 +25,9 @@ use Rattle.rv_exec.specs.Tasks.{task_setting, quits, over, task_meaning}
 use Rattle.rv_exec.proofs.Stopping.{stopped_result}
 use Rattle.rv_meant.specs.Asks.{held_after, held_behind, IsWhole, HoldsMore, AreRecorded, is_stopped_end, IsCutOff, IsCourse}
 use Rattle.rv_meant.specs.Nested.{Strays, by_stopped, ClosesBody, EndsClose, IsNested, BodiesNest, TaskNests, TasksNest}
-use Rattle.rv_meant.proofs.Keeping.{How, ongoing, stuck, how_result, how_got, how_run, Sound, split, ends_at_once, ends_with}
-use Rattle.rv_meant.proofs.KeptValues.{SoundWorld}
-use Rattle.rv_meant.proofs.KeptBodies.{block_sound, inner_sound, outcome_stops, task_found}
+use Rattle.rv_exec.proofs.Keeping.{How, ongoing, stuck, how_result, how_got, how_run, Sound, split, ends_at_once, ends_with}
+use Rattle.rv_exec.proofs.KeptValues.{SoundWorld}
+use Rattle.rv_exec.proofs.KeptBodies.{block_sound, inner_sound, outcome_stops, task_found}
 use Rattle.rv_meant.proofs.Nesting.{first_same, rest_same, place_of, none_there, strays_before, strays_behind, held_both, recorded_both, ends_both, course_both, later_end, Kind, NestedSo, nesting, nested_by}
 use Rattle.rv_meant.proofs.Answered.{begins, NoEnds, CameTo, asks_come, asks_no_end, asks_protected}
 

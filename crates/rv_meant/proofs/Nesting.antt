@@ -13,7 +13,7 @@ use Rattle.rv_exec.specs.Blocks.{operation_run_at}
 use Rattle.rv_exec.specs.Calls.{Outcome, exit_of}
 use Rattle.rv_meant.specs.Asks.{held_after, held_behind, IsWhole, HoldsMore, AreRecorded, AreStoppedEnds, IsCutOff, IsCourse}
 use Rattle.rv_meant.specs.Nested.{StraysWaiting, Strays, by_stopped, ClosesBody, EndsClose, IsLeftInside, IsNested}
-use Rattle.rv_meant.proofs.Keeping.{How, ongoing, halted, stuck, how_result, Kept}
+use Rattle.rv_exec.proofs.Keeping.{How, ongoing, halted, stuck, how_result, Kept}
 
 -- Lists
 

@@ -1,6 +1,7 @@
 -- What is kept of expressions.
 use Rattle.std.proofs.Common.{◌≡◌, ℕ, ℤ, List, [], Bool, true, false, cond, refl, Option, Some, None, Result, Ok, Err, int_le, ◌&&◌}
 use Rattle.rv_value.specs.declared.arithmetic.Arith.{Arith}
+use Rattle.rv_shape.specs.declared.kind.Range.{Range}
 use Rattle.rv_event.specs.declared.entry.Exception.TheVariants.{ConstraintError}
 use Rattle.rv_code.specs.declared.expression.Callee.{Callee}
 use Rattle.rv_code.specs.declared.expression.Operator.{Operator}
@@ -22,29 +23,30 @@ use Rattle.rv_exec.specs.Activations.{joined, spent}
 use Rattle.rv_exec.specs.Calls.{Outcome, internal}
 use Rattle.rv_exec.specs.Expressions.{on_value, fails, returned, answered, asked_by, called_by, called, passing, given, value, linked, arguments}
 use Rattle.rv_exec.specs.World.{World, GotAll}
-use Rattle.rv_exec.proofs.Stopping.{stopped_result}
-use Rattle.rv_exec.proofs.StoppedValues.{within_goes}
-use Rattle.rv_meant.proofs.Keeping.{how_by, how_result, how_got, ongoing_result, Kept, Sound, Follows, sound_end, follows_end, follows_value, sound_where, sound_if, sound_then, sound_value}
+use Rattle.rv_exec.proofs.Keeping.{how_by, how_result, how_got, ongoing, Kept, Sound, Follows, sound_end, follows_end, follows_value, sound_where, sound_if, sound_then, sound_value}
 
 -- Operators never stop
 
-checked_goes : (r : Result ℤ Arith) → stopped_result (checked r) ≡ false
+checked_goes : (r : Result ℤ Arith) → how_result (checked r) ≡ ongoing
 checked_goes (Ok v) = refl
 checked_goes (Err why) = refl
 
-bound_goes : (k : Bool) (v : ℤ) → stopped_result (cond k (Ok v) (Err (cause.Raised ConstraintError))) ≡ false
+bound_goes : (k : Bool) (v : ℤ) → how_result (cond k (Ok v) (Err (cause.Raised ConstraintError))) ≡ ongoing
 bound_goes true v = refl
 bound_goes false v = refl
 
-prefix_goes : (op : Prefix) (v : ℤ) → stopped_result (prefix_of op v) ≡ false
+pub within_goes : (range : Range) (v : ℤ) → how_result (within range v) ≡ ongoing
+within_goes range v = bound_goes (int_le range.low v && int_le v range.high) v
+
+prefix_goes : (op : Prefix) (v : ℤ) → how_result (prefix_of op v) ≡ ongoing
 prefix_goes prefix.Negate v = checked_goes (whole (neg_ℤ v))
 prefix_goes prefix.Absolute v = checked_goes (whole (pos (unsigned_abs v)))
 prefix_goes prefix.Not v = refl
 
-bounds_go : (low high v : ℤ) → stopped_result (in_bounds low high v) ≡ false
+bounds_go : (low high v : ℤ) → how_result (in_bounds low high v) ≡ ongoing
 bounds_go low high v = bound_goes (int_le low v && int_le v high) v
 
-result_goes : (op : Operator) (v u : ℤ) → stopped_result (result_of op v u) ≡ false
+result_goes : (op : Operator) (v u : ℤ) → how_result (result_of op v u) ≡ ongoing
 result_goes operator.Add v u = checked_goes (whole (v +ℤ u))
 result_goes operator.Subtract v u = checked_goes (whole (v -ℤ u))
 result_goes operator.Multiply v u = checked_goes (whole (v *ℤ u))
@@ -102,11 +104,11 @@ module _ (kept : Kept) (w : World) (k : SoundWorld kept w) where
     value_sound (literal n) a m = sound_end kept how_got _ refl
     value_sound (variable slot) a m = sound_end kept how_got _ refl
     value_sound (component index) a m = sound_end kept how_got _ refl
-    value_sound (prefixed op e) a m = sound_value kept (value w e a) _ (value_sound e a m) (λ v b. sound_end kept how_got (prefix_of op v, b) (ongoing_result (prefix_of op v) (prefix_goes op v)))
+    value_sound (prefixed op e) a m = sound_value kept (value w e a) _ (value_sound e a m) (λ v b. sound_end kept how_got (prefix_of op v, b) (prefix_goes op v))
     value_sound (chain e links) a m =
         sound_value kept (value w e a) (linked w links) (value_sound e a (first_of_both (expression_calls kept.such e) (links_call kept.such links) m))
         (λ v b. linked_sound links v b (second_of_both (expression_calls kept.such e) (links_call kept.such links) m))
-    value_sound (code.within range e) a m = sound_value kept (value w e a) _ (value_sound e a m) (λ v b. sound_end kept how_got (within range v, b) (ongoing_result (within range v) (within_goes range v)))
+    value_sound (code.within range e) a m = sound_value kept (value w e a) _ (value_sound e a m) (λ v b. sound_end kept how_got (within range v, b) (within_goes range v))
     value_sound (call c es) a m =
         sound_then kept how_got how_got (passing w c (arguments w es [] a)) given
         (passing_sound c (arguments w es [] a) (first_of_both (kept.such c) (expressions_call kept.such es) m) (arguments_sound es [] a (second_of_both (kept.such c) (expressions_call kept.such es) m))) (follows_given kept)
@@ -119,7 +121,7 @@ module _ (kept : Kept) (w : World) (k : SoundWorld kept w) where
         sound_if kept (decides op v) how_got (linked w more v a) (and_then (value w e a) (on_value fails (λ u b. on_value fails (linked w more) (result_of op v u, b))))
         (linked_sound more v a there)
         (sound_value kept (value w e a) (λ u b. on_value fails (linked w more) (result_of op v u, b)) (value_sound e a here)
-        (λ u b. sound_where kept (how_result (result_of op v u)) how_got (on_value fails (linked w more) (result_of op v u, b)) (ongoing_result (result_of op v u) (result_goes op v u))
+        (λ u b. sound_where kept (how_result (result_of op v u)) how_got (on_value fails (linked w more) (result_of op v u, b)) (result_goes op v u)
         (follows_value kept (linked w more) (λ x c. linked_sound more x c there) (result_of op v u, b))))
 
     pub arguments_sound : (es : Expressions) (values : List ℤ) (a : Activation) → expressions_call kept.such es ≡ true → Sound kept how_got (arguments w es values a)

@@ -1,5 +1,5 @@
 -- What is kept of statements.
-use Rattle.std.proofs.Common.{◌≡◌, ℕ, zero, suc, ℤ, pos, List, [], ◌∷◌, Bool, true, false, cond, refl, Option, Some, None}
+use Rattle.std.proofs.Common.{◌≡◌, ℕ, zero, suc, ℤ, pos, List, [], ◌∷◌, Bool, true, false, cond, refl, Option, Some, None, Result, Ok, Err}
 use Rattle.std.specs.Prelude.{◌&&◌, int_lt, slice_index_or}
 use Rattle.rv_event.specs.declared.entry.Exception.{Exception}
 use Rattle.rv_event.specs.declared.entry.Exception.TheVariants.{ConstraintError}
@@ -9,39 +9,45 @@ use Rattle.rv_fits.proofs.Both.{first_of_both, second_of_both}
 use Rattle.rv_fits.specs.Calls.{expression_calls, expressions_call, statement_calls, statements_call, branches_call, alternatives_call}
 use Rattle.rv_code.specs.Statements.{Statement, null_statement, assign, choice, selection, while_loop, for_loop, exit_when, returns, returns_value, raises, reraises, calls, Statements, no_statements, and_statement, Branches, no_branches, and_branch, Alternatives, no_alternatives, and_alternative}
 use Rattle.rv_exec.specs.declared.activation.Activation.{Activation}
+use Rattle.rv_exec.specs.declared.end.Cause.{Cause}
 use Rattle.rv_exec.specs.declared.end.Cause.TheVariants as cause
 use Rattle.rv_exec.specs.declared.end.End.{End}
 use Rattle.rv_exec.specs.declared.end.End.TheVariants as end
 use Rattle.rv_exec.specs.Asking.{Asking, ended, and_then}
-use Rattle.rv_exec.specs.Operators.{is_true}
-use Rattle.rv_exec.specs.Activations.{assigned, stepped, put_slot, steps_left, copied_next, copied_back, fits, span, value_before}
+use Rattle.rv_exec.specs.Operators.{is_true, within}
+use Rattle.rv_exec.specs.Activations.{settled, assigned, stepped, put_slot, steps_left, copied_next, copied_back, fits, span, value_before}
 use Rattle.rv_exec.specs.Choices.{covered}
 use Rattle.rv_exec.specs.Expressions.{on_value, value, arguments, passing}
 use Rattle.rv_exec.specs.Statements.{abandons, on_step, step, go_on, again, turns, values_over, for_each, exit_where, raised_again, meaning, meanings, first_true, selected}
 use Rattle.rv_exec.specs.World.{World, Run, Got}
-use Rattle.rv_exec.proofs.Stopping.{stopped_end, stopped_run}
-use Rattle.rv_exec.proofs.StoppedStatements.{assigned_goes}
-use Rattle.rv_meant.proofs.Keeping.{how_got, how_run, ongoing_run, Kept, Sound, sound_end, sound_if, sound_in_run, sound_run, sound_turn}
-use Rattle.rv_meant.proofs.KeptValues.{SoundWorld, value_sound, arguments_sound, passing_sound}
+use Rattle.rv_exec.proofs.Keeping.{ongoing, how_result, how_got, how_end, how_run, Kept, Sound, sound_end, sound_if, sound_in_run, sound_run, sound_turn}
+use Rattle.rv_exec.proofs.KeptValues.{within_goes, SoundWorld, value_sound, arguments_sound, passing_sound}
 
 -- Ends that never stop
 
-next_goes : (more : Activation → End × Activation) (ran : End × Activation) → ((a : Activation) → stopped_run (more a) ≡ false) → stopped_run ran ≡ false → stopped_run (copied_next more ran) ≡ false
+settled_goes : (target : Target) (a : Activation) (r : Result ℤ Cause) → how_result r ≡ ongoing → how_run (settled target a r) ≡ ongoing
+settled_goes target a (Ok v) e = refl
+settled_goes target a (Err why) e = e
+
+pub assigned_goes : (target : Target) (v : ℤ) (a : Activation) → how_run (assigned target v a) ≡ ongoing
+assigned_goes target v a = settled_goes target a (within target.range v) (within_goes target.range v)
+
+next_goes : (more : Activation → End × Activation) (ran : End × Activation) → ((a : Activation) → how_run (more a) ≡ ongoing) → how_run ran ≡ ongoing → how_run (copied_next more ran) ≡ ongoing
 next_goes more (end.Next, a) f e = f a
 next_goes more (end.Exit, a) f e = refl
 next_goes more (end.Return v, a) f e = refl
 next_goes more (end.Abandoned why, a) f e = e
 
-copied_goes : (targets : List Target) (index : ℕ) (values : List ℤ) (a : Activation) → stopped_run (copied_back targets index values a) ≡ false
+copied_goes : (targets : List Target) (index : ℕ) (values : List ℤ) (a : Activation) → how_run (copied_back targets index values a) ≡ ongoing
 copied_goes [] index values a = refl
 copied_goes (target ∷ more) index values a =
     next_goes (copied_back more (suc index) values) (assigned target (slice_index_or values index (pos 0)) a) (λ b. copied_goes more (suc index) values b) (assigned_goes target (slice_index_or values index (pos 0)) a)
 
-exit_goes : (k : Bool) → stopped_end (cond k end.Exit end.Next) ≡ false
+exit_goes : (k : Bool) → how_end (cond k end.Exit end.Next) ≡ ongoing
 exit_goes true = refl
 exit_goes false = refl
 
-again_goes : (handling : Option Exception) → stopped_end (end.Abandoned (raised_again handling)) ≡ false
+again_goes : (handling : Option Exception) → how_end (end.Abandoned (raised_again handling)) ≡ ongoing
 again_goes None = refl
 again_goes (Some exception) = refl
 
@@ -86,7 +92,7 @@ module _ (kept : Kept) (w : World) (k : SoundWorld kept w) where
 
     statement_sound : (s : Statement) (a : Activation) → statement_calls kept.such s ≡ true → Sound kept how_run (meaning w s a)
     statement_sound null_statement a m = sound_end kept how_run (end.Next, a) refl
-    statement_sound (assign target e) a m = sound_in_run kept (value w e a) (λ v b. ended (assigned target v b)) (value_sound kept w k e a m) (λ v b. sound_end kept how_run (assigned target v b) (ongoing_run (assigned target v b) (assigned_goes target v b)))
+    statement_sound (assign target e) a m = sound_in_run kept (value w e a) (λ v b. ended (assigned target v b)) (value_sound kept w k e a m) (λ v b. sound_end kept how_run (assigned target v b) (assigned_goes target v b))
     statement_sound (choice branches otherwise) a m =
         branches_sound branches (meanings w otherwise) a (first_of_both (branches_call kept.such branches) (statements_call kept.such otherwise) m)
         (λ b. statements_sound otherwise b (second_of_both (branches_call kept.such branches) (statements_call kept.such otherwise) m))
@@ -102,15 +108,15 @@ module _ (kept : Kept) (w : World) (k : SoundWorld kept w) where
         (value_sound kept w k low a (first_of_both (expression_calls kept.such low) (expression_calls kept.such high) bounds))
         (λ v b. sound_in_run kept (value w high b) (for_each is_reverse range slot (meanings w ss) v) (value_sound kept w k high b (second_of_both (expression_calls kept.such low) (expression_calls kept.such high) bounds))
         (λ u c. each_sound kept is_reverse range slot (meanings w ss) v u c (λ d. statements_sound ss d (second_of_both (expression_calls kept.such low && expression_calls kept.such high) (statements_call kept.such ss) m))))
-    statement_sound (exit_when e) a m = sound_in_run kept (value w e a) (λ v b. ended (exit_where v, b)) (value_sound kept w k e a m) (λ v b. sound_end kept how_run (exit_where v, b) (ongoing_run (exit_where v, b) (exit_goes (is_true v))))
+    statement_sound (exit_when e) a m = sound_in_run kept (value w e a) (λ v b. ended (exit_where v, b)) (value_sound kept w k e a m) (λ v b. sound_end kept how_run (exit_where v, b) (exit_goes (is_true v)))
     statement_sound returns a m = sound_end kept how_run (end.Return None, a) refl
     statement_sound (returns_value e) a m = sound_in_run kept (value w e a) (λ v b. ended (end.Return (Some v), b)) (value_sound kept w k e a m) (λ v b. sound_end kept how_run (end.Return (Some v), b) refl)
     statement_sound (raises exception) a m = sound_end kept how_run (end.Abandoned (cause.Raised exception), a) refl
-    statement_sound reraises a m = sound_end kept how_run (end.Abandoned (raised_again w.handling), a) (ongoing_run (end.Abandoned (raised_again w.handling), a) (again_goes w.handling))
+    statement_sound reraises a m = sound_end kept how_run (end.Abandoned (raised_again w.handling), a) (again_goes w.handling)
     statement_sound (calls c es targets) a m =
         sound_in_run kept (passing w c (arguments w es [] a)) (λ given b. ended (copied_back targets 0 given b))
         (passing_sound kept w k c (arguments w es [] a) (first_of_both (kept.such c) (expressions_call kept.such es) m) (arguments_sound kept w k es [] a (second_of_both (kept.such c) (expressions_call kept.such es) m)))
-        (λ given b. sound_end kept how_run (copied_back targets 0 given b) (ongoing_run (copied_back targets 0 given b) (copied_goes targets 0 given b)))
+        (λ given b. sound_end kept how_run (copied_back targets 0 given b) (copied_goes targets 0 given b))
 
     pub statements_sound : (ss : Statements) (a : Activation) → statements_call kept.such ss ≡ true → Sound kept how_run (meanings w ss a)
     statements_sound no_statements a m = sound_end kept how_run (end.Next, a) refl

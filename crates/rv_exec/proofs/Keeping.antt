@@ -1,6 +1,6 @@
 -- What holds of all traces of a run: it holds of none and of two one after another, so it holds of what statements ask, where it
 -- holds of what they ask outside.
-use Rattle.std.proofs.Common.{◌≡◌, [], ◌∷◌, ◌++◌, Bool, true, false, cond, refl, sym, ap, ◌∙◌, subst, append-nil, Result, Ok, Err}
+use Rattle.std.proofs.Common.{◌≡◌, [], ◌∷◌, ◌++◌, Bool, true, false, cond, refl, sym, ap, ◌∙◌, subst, Result, Ok, Err}
 use Rattle.rv_code.specs.declared.expression.Callee.{Callee}
 use Rattle.rv_exec.specs.declared.activation.Activation.{Activation}
 use Rattle.rv_exec.specs.declared.end.Cause.{Cause}
@@ -11,7 +11,6 @@ use Rattle.rv_exec.specs.Asking.{Trace, Asking, ended, asking, and_then, Along}
 use Rattle.rv_exec.specs.Expressions.{on_value, fails}
 use Rattle.rv_exec.specs.Statements.{abandons, go_on, again}
 use Rattle.rv_exec.specs.World.{Run}
-use Rattle.rv_exec.proofs.Stopping.{stopped_result, stopped_run}
 
 -- how what is asked ends: it goes on; it stops; or it stops and leaves its actor waiting, or in a body
 pub data How : Type 0 where
@@ -47,40 +46,29 @@ how_end (end.Abandoned why) = how_by why
 abbrev pub how_run : End × Activation → How
 how_run ran = how_end ran.0
 
-pub ongoing_result : {A : Type 0} (r : Result A Cause) → stopped_result r ≡ false → how_result r ≡ ongoing
-ongoing_result (Ok v) e = refl
-ongoing_result (Err (cause.Raised exception)) e = refl
-ongoing_result (Err cause.Overrun) e = refl
-ongoing_result (Err (cause.Stopped is_idle)) e = absurd (cc e)
-
-pub ongoing_run : (ran : End × Activation) → stopped_run ran ≡ false → how_run ran ≡ ongoing
-ongoing_run (end.Next, a) e = refl
-ongoing_run (end.Exit, a) e = refl
-ongoing_run (end.Return v, a) e = refl
-ongoing_run (end.Abandoned (cause.Raised exception), a) e = refl
-ongoing_run (end.Abandoned cause.Overrun, a) e = refl
-ongoing_run (end.Abandoned (cause.Stopped is_idle), a) e = absurd (cc e)
-
--- what is kept of a trace, and of how its run ends; all that is called is such
+-- what is kept of a trace, and of how its run ends, with what may stand behind a stop; all that is called is such
 pub record Kept : Type 1 where
   pub such : Callee → Bool
   pub holds : Trace → How → Type 0
+  pub behind : How → Trace → How → Type 0
   pub nothing : holds [] ongoing
   pub both : (first second : Trace) (how : How) → holds first ongoing → holds second how → holds (first ++ second) how
+  pub stays : (k : How) (first second : Trace) (how : How) → is_stop k ≡ true → holds first k → behind k second how → holds (first ++ second) how
+  pub at_once : (k : How) → behind k [] k
 
 -- it holds of all that is asked
 abbrev pub Sound : {A : Type 0} → Kept → (A → How) → Asking A → Type 0
 Sound {A = A} kept how what = (trace : Trace) (a : A) → Along what trace a → kept.holds trace (how a)
 
--- nothing is asked, and it ends so
-abbrev pub Silent : {A : Type 0} → How → (A → How) → Asking A → Type 0
-Silent {A = A} k how what = (trace : Trace) (a : A) → Along what trace a → (trace ≡ []) × (how a ≡ k)
+-- it asks no more than may stand behind a stop
+abbrev pub Silent : {A : Type 0} → Kept → How → (A → How) → Asking A → Type 0
+Silent {A = A} kept k how what = (trace : Trace) (a : A) → Along what trace a → kept.behind k trace (how a)
 
--- what follows an end: behind a stop nothing
+-- what follows an end: behind a stop no more than that
 abbrev pub Follows : {A : Type 0} → Kept → How → (A → How) → Asking A → Type 0
 Follows kept ongoing how what = Sound kept how what
-Follows kept halted how what = Silent halted how what
-Follows kept stuck how what = Silent stuck how what
+Follows kept halted how what = Silent kept halted how what
+Follows kept stuck how what = Silent kept stuck how what
 
 -- Traces
 
@@ -115,14 +103,14 @@ pub sound_end : (kept : Kept) {A : Type 0} (how : A → How) (a : A) → how a �
 sound_end kept how a e [] b h = subst (λ (k : How). kept.holds [] k) (sym e ∙ ap how h) kept.nothing
 sound_end kept how a e (pair ∷ more) b h = absurd h
 
-pub silent_end : {A : Type 0} (k : How) (how : A → How) (a : A) → how a ≡ k → Silent k how (ended a)
-silent_end k how a e [] b h = (refl, sym (ap how h) ∙ e)
-silent_end k how a e (pair ∷ more) b h = absurd h
+pub silent_end : (kept : Kept) {A : Type 0} (k : How) (how : A → How) (a : A) → how a ≡ k → Silent kept k how (ended a)
+silent_end kept k how a e [] b h = subst (λ (x : How). kept.behind k [] x) (sym e ∙ ap how h) (kept.at_once k)
+silent_end kept k how a e (pair ∷ more) b h = absurd h
 
 pub follows_end : (kept : Kept) {A : Type 0} (k : How) (how : A → How) (a : A) → how a ≡ k → Follows kept k how (ended a)
 follows_end kept ongoing how a e = sound_end kept how a e
-follows_end kept halted how a e = silent_end halted how a e
-follows_end kept stuck how a e = silent_end stuck how a e
+follows_end kept halted how a e = silent_end kept halted how a e
+follows_end kept stuck how a e = silent_end kept stuck how a e
 
 -- an end that is no stop, and what follows it
 pub sound_where : (kept : Kept) {A : Type 0} (k : How) (how : A → How) (what : Asking A) → k ≡ ongoing → Follows kept k how what → Sound kept how what
@@ -136,16 +124,15 @@ sound_if kept false how one other f g = g
 
 -- One run and then another
 
-both_silent : (kept : Kept) {A B : Type 0} (k : How) (one : A → How) (two : B → How) (first second : Trace) (what : Asking A) (next : Asking B) (a : A) (b : B) → one a ≡ k → Sound kept one what → Silent k two next → Along what first a → Along next second b → kept.holds (first ++ second) (two b)
-both_silent kept k one two first second what next a b e f g h i =
-    let quiet = g second b i in
-    subst (λ (x : Trace × How). kept.holds x.0 x.1) (λ j. (sym (ap (λ (l : Trace). first ++ l) quiet.0 ∙ append-nil first) j, (e ∙ sym quiet.1) j)) (f first a h)
+both_silent : (kept : Kept) {A B : Type 0} (k : How) (one : A → How) (two : B → How) (first second : Trace) (what : Asking A) (next : Asking B) (a : A) (b : B) → is_stop k ≡ true → one a ≡ k → Sound kept one what → Silent kept k two next → Along what first a → Along next second b → kept.holds (first ++ second) (two b)
+both_silent kept k one two first second what next a b s e f g h i =
+    kept.stays k first second (two b) s (subst (λ (x : How). kept.holds first x) e (f first a h)) (g second b i)
 
 both_if : (kept : Kept) {A B : Type 0} (k : How) (one : A → How) (two : B → How) (first second : Trace) (what : Asking A) (next : Asking B) (a : A) (b : B) → one a ≡ k → Sound kept one what → Follows kept k two next → Along what first a → Along next second b → kept.holds (first ++ second) (two b)
 both_if kept ongoing one two first second what next a b e f g h i =
     kept.both first second (two b) (subst (λ (k : How). kept.holds first k) e (f first a h)) (g second b i)
-both_if kept halted one two first second what next a b e f g h i = both_silent kept halted one two first second what next a b e f g h i
-both_if kept stuck one two first second what next a b e f g h i = both_silent kept stuck one two first second what next a b e f g h i
+both_if kept halted one two first second what next a b e f g h i = both_silent kept halted one two first second what next a b refl e f g h i
+both_if kept stuck one two first second what next a b e f g h i = both_silent kept stuck one two first second what next a b refl e f g h i
 
 pub sound_then : (kept : Kept) {A B : Type 0} (one : A → How) (two : B → How) (what : Asking A) (go : A → Asking B) → Sound kept one what → ((a : A) → Follows kept (one a) two (go a)) → Sound kept two (and_then what go)
 sound_then kept one two what go f g trace b h =

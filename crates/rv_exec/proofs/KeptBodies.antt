@@ -22,10 +22,9 @@ use Rattle.rv_exec.specs.Choices.{named, handler_of}
 use Rattle.rv_exec.specs.Expressions.{value}
 use Rattle.rv_exec.specs.Statements.{go_on, meanings}
 use Rattle.rv_exec.specs.World.{World}
-use Rattle.rv_exec.proofs.StoppedStatements.{assigned_goes}
-use Rattle.rv_meant.proofs.Keeping.{ongoing, how_by, how_result, how_got, how_end, how_run, ongoing_run, Kept, Sound, Follows, sound_end, follows_end, sound_where, sound_then, sound_in_run, sound_run, follows_run}
-use Rattle.rv_meant.proofs.KeptValues.{SoundWorld, value_sound}
-use Rattle.rv_meant.proofs.KeptStatements.{statements_sound}
+use Rattle.rv_exec.proofs.Keeping.{ongoing, how_by, how_result, how_got, how_end, how_run, Kept, Sound, Follows, sound_end, follows_end, sound_where, sound_then, sound_in_run, sound_run, follows_run}
+use Rattle.rv_exec.proofs.KeptValues.{SoundWorld, value_sound}
+use Rattle.rv_exec.proofs.KeptStatements.{assigned_goes, statements_sound}
 
 -- What is found in bodies calls as they all do
 
@@ -94,7 +93,7 @@ module _ (kept : Kept) (w : World) (k : SoundWorld kept w) where
   elaborated_sound [] a m = sound_end kept how_run (end.Next, a) refl
   elaborated_sound (d ∷ more) a m =
       sound_in_run kept (value w d.initial a) (λ v b. go_on (elaborated w more) (assigned d.target v b)) (value_sound kept w k d.initial a (first_of_both (declaration_calls kept.such d) (list_all (declaration_calls kept.such) more) m))
-      (λ v b. sound_where kept (how_run (assigned d.target v b)) how_run (go_on (elaborated w more) (assigned d.target v b)) (ongoing_run (assigned d.target v b) (assigned_goes d.target v b))
+      (λ v b. sound_where kept (how_run (assigned d.target v b)) how_run (go_on (elaborated w more) (assigned d.target v b)) (assigned_goes d.target v b)
       (follows_run kept (elaborated w more) (λ c. elaborated_sound more c (second_of_both (declaration_calls kept.such d) (list_all (declaration_calls kept.such) more) m)) (assigned d.target v b)))
 
   -- a handler's statements run in a world of the same calls
