@@ -5,9 +5,9 @@ use Rattle.rv_event.specs.declared.entry.Answer.{Answer}
 use Rattle.rv_event.specs.declared.entry.Request.{Request}
 use Rattle.rv_exec.specs.declared.end.Cause.{Cause}
 use Rattle.rv_exec.specs.declared.end.Cause.TheVariants as cause
-use Rattle.rv_exec.specs.Asking.{Trace, Asking, ended, Along}
+use Rattle.rv_exec.specs.Asking.{Trace, ended}
 use Rattle.rv_exec.specs.Stops.{StopsWaiting, StopsIn, Unwinds}
-use Rattle.rv_exec.proofs.Keeping.{How, ongoing, is_stop, Kept, Silent}
+use Rattle.rv_exec.proofs.Keeping.{How, is_stop, Kept, Silent}
 
 -- Which ends are stops
 
@@ -30,13 +30,13 @@ waits_before : (such : Callee → Bool) (first : Request × Answer) (p q : Trace
 waits_before such first [] q s u = absurd s
 waits_before such first (pair ∷ p) q s u = (s.0, unwinds_both p q s.1 u)
 
-stops_before : (such : Callee → Bool) (p q : Trace) → StopsIn such p → Unwinds q → StopsIn such (p ++ q)
+pub stops_before : (such : Callee → Bool) (p q : Trace) → StopsIn such p → Unwinds q → StopsIn such (p ++ q)
 stops_before such [] q s u = absurd s
 stops_before such (pair ∷ p) q (inl s) u = inl (s.0, unwinds_both p q s.1 u)
 stops_before such (pair ∷ p) q (inr (inl s)) u = inr (inl (waits_before such pair p q s u))
 stops_before such (pair ∷ p) q (inr (inr s)) u = inr (inr (stops_before such p q s u))
 
-stops_behind : (such : Callee → Bool) (p q : Trace) → StopsIn such q → StopsIn such (p ++ q)
+pub stops_behind : (such : Callee → Bool) (p q : Trace) → StopsIn such q → StopsIn such (p ++ q)
 stops_behind such [] q s = s
 stops_behind such (pair ∷ p) q s = inr (inr (stops_behind such p q s))
 
