@@ -1,5 +1,5 @@
 -- What asks leave held, and which have entries, one after another.
-use Rattle.std.proofs.Common.{◌≡◌, ◌⊎◌, inl, inr, ⊎_elim, ℕ, ◌<◌, ℤ, List, [], ◌∷◌, ◌++◌, Bool, true, false, refl, sym, ap, ◌∙◌, subst, append_assoc, Ok, Err}
+use Rattle.std.proofs.Common.{◌≡◌, ◌⊎◌, inl, inr, ⊎_elim, ℕ, ◌<◌, ℤ, List, [], ◌∷◌, ◌++◌, Bool, true, false, refl, sym, ap, ◌∙◌, subst, append_assoc, append-nil, Ok, Err}
 use Rattle.rv_event.specs.declared.entry.Answer.{Answer}
 use Rattle.rv_event.specs.declared.entry.Answer.TheVariants as answer
 use Rattle.rv_event.specs.declared.entry.Exit.{Exit}
@@ -187,7 +187,11 @@ nesting such bodies held = record {
   such = such;
   holds = λ trace how. NestedSo such bodies held trace how;
   nothing = nested_nothing such bodies held;
+  behind = λ k trace how. (trace ≡ []) × (how ≡ k);
   both = nested_both such bodies held;
+  stays = λ k first second how e f g.
+      subst (λ (x : Trace × How). NestedSo such bodies held x.0 x.1) (λ j. (sym (ap (λ (l : Trace). first ++ l) g.0 ∙ append-nil first) j, sym g.1 j)) f;
+  at_once = λ k. (refl, refl);
 }
 
 -- the same by the exit
