@@ -1,25 +1,13 @@
 //! Unit texts without carriage returns at the ends of their lines.
 
 ghost use Rattle.std.specs.Prelude.{◌≡◌, IfOk, string_bytes};
-ghost use Rattle.std.specs.Str.Lines.{strip_carriage_return};
 ghost use Rattle.rv_script.specs.UnitTexts.{without_returns};
 
+use rv_text::without_return;
 use std::alloc::{AllocError, Global};
 
 /// The greatest length of a unit text, in bytes.
 pub const MOST_UNIT_BYTES: usize = 262_144;
-
-// A line without the carriage return at its end.
-fn stripped(line: &str) -> &str
-    ensures { result.now ≡ strip_carriage_return line.now }
-{
-    let len = line.len();
-    if len > 0 && line.as_bytes()[len - 1] == b'\r' {
-        let (front, _) = line.split_at(len - 1);
-        return front;
-    }
-    line
-}
 
 /// A unit text without each carriage return that stands before a line feed: places and the length of a
 /// unit text count without them.
@@ -29,7 +17,7 @@ pub fn unit_text(alloc: Global, text: &str) -> Result<String, AllocError>
     let mut kept = String::new(alloc);
     let mut rest = text;
     while let Some((line, after)) = rest.split_once('\n') {
-        kept.push_str(stripped(line))?;
+        kept.push_str(without_return(line))?;
         kept.push_str("\n")?;
         rest = after;
     }

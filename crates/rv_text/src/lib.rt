@@ -8,7 +8,7 @@ mod numbers;
 mod sections;
 mod words;
 
-pub use lines::next_line;
+pub use lines::{next_line, without_return};
 pub use names::{MOST_CHARACTERS, dotted_parts, is_dotted_name, is_identifier, is_same_name};
 pub use numbers::{MOST_DIGITS, integer_of, natural_of, natural_part};
 pub use sections::{Section, Sections, open_script};

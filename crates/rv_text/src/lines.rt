@@ -5,8 +5,8 @@ ghost use Rattle.std.specs.List.{after_first};
 ghost use Rattle.std.specs.Str.Lines.{lines, strip_carriage_return};
 ghost use Rattle.rv_text.specs.Sections.{is_line_feed};
 
-// A line without the carriage return at its end.
-fn stripped(line: &str) -> &str
+/// A line without the carriage return at its end, if it has one.
+pub fn without_return(line: &str) -> &str
     ensures { result.now ≡ strip_carriage_return line.now }
 {
     let len = line.len();
@@ -29,7 +29,7 @@ pub fn next_line(text: &str) -> Option<(&str, &str)>
         return None;
     }
     match text.split_once('\n') {
-        Some((line, rest)) => Some((stripped(line), rest)),
+        Some((line, rest)) => Some((without_return(line), rest)),
         None => Some((text, "")),
     }
 }
