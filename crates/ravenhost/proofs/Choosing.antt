@@ -11,16 +11,6 @@ use Rattle.ravenhost.specs.declared.chosen.Notes.TheVariants.{Auto}
 use Rattle.ravenhost.specs.declared.chosen.Sync.TheVariants.{Second}
 use Rattle.ravenhost.specs.Choices.{HasNoFile, HasNoWord, IsFlag, IsJournal, IsKeeping, IsNoted, LacksFile, Names, NamesNone, audit_of, line_of, notes_of, program, sync_of}
 
--- The subcommand that was found, from its name and its rows.
-
-pub found_is : {X : Type 0} (q : Option X) (n : X → Text) (r : X → List Row) (name : Text) (rows : List Row) → Some name ≡ option_map n q → Some rows ≡ option_map (λ (p : Text × List Row). p.1) (option_map {U = Text × List Row} (λ x. (n x, r x)) q) →
-    option_map {U = Text × List Row} (λ x. (n x, r x)) q ≡ Some (name, rows)
-found_is None n r name rows e f = absurd (cc)
-found_is (Some x) n r name rows e f =
-    let one : name ≡ n x = ap (λ (o : Option Text). unwrap_or o name) e in
-    let two : rows ≡ r x = ap (λ (o : Option (List Row)). unwrap_or o rows) f in
-    λ i. Some (sym one i, sym two i)
-
 -- The plain lines.
 
 pub simple : is_simple program ≡ true
@@ -285,28 +275,6 @@ pub flag_alone : {X : Type 0} (found : Text × List Row) (file : Option X) (n : 
 flag_alone found None n true is flag e = (flag, e)
 flag_alone found None n false is flag e = absurd cc
 flag_alone found (Some f) n torn is flag e = absurd cc
-
--- What a wrong word, or a file that is missing, comes to.
-
--- the other subcommand has the same name and rows
-same_found : (m : Option (Text × List Row)) (found other : Text × List Row) → m ≡ Some found → m ≡ Some other → found ≡ other
-same_found m found other is f = ap (λ (o : Option (Text × List Row)). unwrap_or o found) (sym is ∙ f)
-
-pub play_wrong : (m : Option (Text × List Row)) (found : Text × List Row) → m ≡ Some found → found.0 ≡ codes "play" → HasNoWord found.1 → (other : Text × List Row) → m ≡ Some other → NamesNone other
-play_wrong m found is w none other f =
-    subst NamesNone (same_found m found other is f) (λ _. none, λ p. absurd (no_check (sym w ∙ p)), λ p. absurd (no_run (sym w ∙ p)), λ p. absurd (no_audit (sym w ∙ p)))
-
-pub check_wrong : (m : Option (Text × List Row)) (found : Text × List Row) → m ≡ Some found → found.0 ≡ codes "check" → HasNoWord found.1 → (other : Text × List Row) → m ≡ Some other → NamesNone other
-check_wrong m found is w none other f =
-    subst NamesNone (same_found m found other is f) (λ p. absurd (no_check (sym p ∙ w)), λ _. none, λ p. absurd (check_no_run (sym w ∙ p)), λ p. absurd (check_no_audit (sym w ∙ p)))
-
-pub run_wrong : (m : Option (Text × List Row)) (found : Text × List Row) → m ≡ Some found → found.0 ≡ codes "run" → HasNoWord found.1 ⊎ HasNoFile found.1 → (other : Text × List Row) → m ≡ Some other → NamesNone other
-run_wrong m found is w none other f =
-    subst NamesNone (same_found m found other is f) (λ p. absurd (no_run (sym p ∙ w)), λ p. absurd (check_no_run (sym p ∙ w)), λ _. none, λ p. absurd (run_no_audit (sym w ∙ p)))
-
-pub audit_wrong : (m : Option (Text × List Row)) (found : Text × List Row) → m ≡ Some found → found.0 ≡ codes "audit" → LacksFile found.1 → (other : Text × List Row) → m ≡ Some other → NamesNone other
-audit_wrong m found is w none other f =
-    subst NamesNone (same_found m found other is f) (λ p. absurd (no_audit (sym p ∙ w)), λ p. absurd (check_no_audit (sym p ∙ w)), λ p. absurd (run_no_audit (sym p ∙ w)), λ _. none)
 
 -- what `audit` chooses looks at no lists
 pub unnoted : (found : Text × List Row) (choice : Choice) (notes : Notes) (errors : Bool) → found.0 ≡ codes "audit" → Names found choice → errors ≡ false → IsNoted found choice notes errors

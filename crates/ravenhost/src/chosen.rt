@@ -162,7 +162,8 @@ fn noted<'a>(alloc: Global, command: Command<'a>) -> Result<Command<'a>, AllocEr
 }
 
 // What is explained of a refused script.
-const FAULT_HELP: &str = "Below a fault, show the line with its place, and say what the fault means";
+const FAULT_HELP: &str =
+    "Below a fault, show the line with its place, and say what the fault means";
 
 // The subcommand `play`, which may print more, and explain a fault.
 fn play_subcommand<'a>(alloc: Global) -> Result<Command<'a>, AllocError>

@@ -31,4 +31,4 @@ returns-in_err-choice-clause-none c =
     let none = flag_alone (codes "audit", rows_of given) c.get_str-journal.result (λ s. s.now) torn is
     (λ e. c.get_flag.ensures.value (one_text-rows given (codes "torn") ∙ e), λ e. c.get_flag.ensures.other (one_text-rows given (codes "torn") ∙ e))
     (sym (c.get_str-journal.ensures ∙ first_value-rows given (codes "journal"))) in
-    rw c.from_residual-in_err-choice.ensures none
+    rw c.from_residual.ensures none
