@@ -1,5 +1,5 @@
 -- Entry by entry, what an actor's asks leave held.
-use Rattle.std.proofs.Common.{◌≡◌, ◌≢◌, ℕ, suc, ◌+◌, ◌-◌, ◌<◌, ℤ, List, [], ◌∷◌, ◌++◌, length, drop, Bool, true, false, cond, refl, sym, ap, ◌∙◌, subst, arith, append-nil, Option, Some, None}
+use Rattle.std.proofs.Common.{◌≡◌, ◌≢◌, ℕ, suc, ◌+◌, ◌-◌, ◌<◌, ◌≤◌, ℤ, List, [], ◌∷◌, ◌++◌, length, drop, Bool, true, false, cond, refl, sym, ap, ◌∙◌, subst, arith, append-nil, Option, Some, None}
 use Rattle.std.specs.Prelude.{◌==◌, not, nat_lt, if◌then◌else◌, slice_get, int_le, pos}
 use Rattle.std.specs.List.{filter}
 use Rattle.std.proofs.lemmas.Bool.Decides.{nat_tests}
@@ -401,7 +401,7 @@ module _ (h : History) (a n : ℕ) (k : length (held h.shapes a h.past) ≡ n + 
       (may_call_free (who h.shapes a) (held h.shapes a h.past) (stance a h.past) (calls (both (may_call (who h.shapes a) (mode h.shapes a h.past)) (is_time t) (answered h a (DelayUntil t) w e).fits_in).0))
   own_counts l some Clock w e = own_calm Clock w e refl refl refl (may_call_free (who h.shapes a) (held h.shapes a h.past) (stance a h.past) (calls (answered h a Clock w e).fits_in))
   own_counts l some Fire w e = own_fire w e
-  own_counts l some Quit w e = own_calm Quit w e refl refl refl 
+  own_counts l some Quit w e = own_calm Quit w e refl refl refl
       (idle_task_free (who h.shapes a) (held h.shapes a h.past) (stance a h.past) (quits_at (who h.shapes a) (to_settle h.shapes a h.past) (mode_by (held h.shapes a h.past) (stance a h.past)) (answered h a Quit w e).fits_in))
   own_counts l some (Tick m) w e = absurd (off (sym (not_operator h.shapes a some) ∙ (both _ (is_tick m) (answered h a (Tick m) w e).fits_in).0))
   own_counts l some Halt w e = absurd (off (sym (not_operator h.shapes a some) ∙ (answered h a Halt w e).fits_in))
