@@ -124,7 +124,12 @@ fn request<'a>(line: &Line<'a>) -> Cause<'a> {
     if word == "end" {
         return end(line);
     }
-    if line.has(2) && is_listed(&["settle", "resume", "clock", "fire", "finish", "halt"], word) {
+    if line.has(2)
+        && is_listed(
+            &["settle", "resume", "clock", "fire", "finish", "halt"],
+            word,
+        )
+    {
         let said = "nothing may stand behind {0}; {1} does";
         return Cause::new(line.at(2), said, [word, line.word(2), ""]);
     }

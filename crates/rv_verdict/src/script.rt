@@ -9,8 +9,8 @@ ghost use Rattle.rv_verdict.specs.Brought.{GivesScript};
 use crate::given::{Given, given_by};
 use rv_audit::audit::Audit;
 use rv_fault::{Failure, What, refused, settings_of};
-use rv_script::open;
 use rv_history::limits::Limits;
+use rv_script::open;
 use rv_settings::Settings;
 use std::alloc::Global;
 

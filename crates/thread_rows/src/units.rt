@@ -18,12 +18,7 @@ pub fn load_text<R: Wait>(rt: &R, alloc: Global, control: &mut Control, text: &s
 }
 
 /// Loads a shape.
-pub fn load_shape<R: Wait>(
-    rt: &R,
-    alloc: Global,
-    control: &mut Control,
-    text: &str,
-) -> Option<()> {
+pub fn load_shape<R: Wait>(rt: &R, alloc: Global, control: &mut Control, text: &str) -> Option<()> {
     let shape = read_shape(alloc, text).ok()?;
     let _ = control.load_shape(rt, shape);
     Some(())

@@ -15,7 +15,9 @@ fn script_of(
     units: &[UnitSection],
     journal: &str,
 ) -> Result<String, AllocError> {
-    let mut script = format!(in alloc; "@host.toml\ncapacity = {CAPACITY}\nqueue_limit = {queue}\n")?;
+    let mut script = format!(in alloc;
+        "@host.toml\ncapacity = {CAPACITY}\nqueue_limit = {queue}\n"
+    )?;
     for (opening, text) in units {
         write!(script, "{opening}\n{text}")?;
     }

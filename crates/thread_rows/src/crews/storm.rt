@@ -156,5 +156,7 @@ pub fn seen(alloc: Global, storm: &Storm) -> Option<String> {
     let legal = explained_ends(alloc, &EIGHT_TASKS, host).is_some();
     let there = are_there(&journal, &storm.replies);
     let back = storm.closed.finished.len();
-    format!(in alloc; "{back} ports came back; legal and explained: {legal}; their replies in it: {there}").ok()
+    format!(in alloc;
+        "{back} ports came back; legal and explained: {legal}; their replies in it: {there}"
+    ).ok()
 }

@@ -80,12 +80,7 @@ pub fn begin_text(hands: &Hands, control: &mut Control, crew: &mut Crew, number:
 }
 
 // Runs one task of a scene, and the next if there are two, each on a thread of its own.
-fn begin_tasks(
-    hands: &Hands,
-    control: &mut Control,
-    crew: &mut Crew,
-    are_two: bool,
-) -> Option<()>
+fn begin_tasks(hands: &Hands, control: &mut Control, crew: &mut Crew, are_two: bool) -> Option<()>
     requires { IsOfTurn control.old.turn crew.old }
     ensures { IsOfTurn control.new.turn crew.new }
 {

@@ -1,6 +1,6 @@
 //! What all games of ports are played on.
 
-use crate::units::{load_section, UnitSection, set_list};
+use crate::units::{UnitSection, load_section, set_list};
 use rv_access::{AccessList, Change, read_list};
 use rv_fault::unit_of;
 use rv_history::command::Command;
@@ -76,5 +76,10 @@ pub fn loads(alloc: Global) -> Option<Vec<Command>> {
     let plant = unit_of(alloc, &Catalogue::new(alloc), 1, PLANT).ok()?;
     let device = read_shape(alloc, DEVICE).ok()?;
     let list = Change::Whole(list(alloc)?);
-    vec![in alloc; Command::Load(plant.shape), Command::Load(device), Command::Change(list)].ok()
+    vec![in alloc;
+        Command::Load(plant.shape),
+        Command::Load(device),
+        Command::Change(list),
+    ]
+    .ok()
 }
