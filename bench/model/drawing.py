@@ -122,11 +122,12 @@ class SectionDrawer:
         return [["protected", name, self.number(ceiling)]] + members
 
     def settings(self) -> None:
-        """A capacity that lets the journal fill, most often."""
+        """A capacity that lets the journal fill, most often, and a limit of queues."""
         dice = self.dice
         capacity = dice.choice((dice.randint(16, 64), dice.randint(16, 64), dice.randint(30, 200)))
         more = dice.choice(("", "", f"budget = {dice.randint(1, 1_000_000)}", "# settings", "device = []"))
         lines = [f"capacity = {capacity}"] * chance(dice, .97) + ([more] if more else [])
+        lines += [f"queue_limit = {dice.randint(1, 8)}"] * chance(dice, .7)
         dice.shuffle(lines)
         self.section("@host.toml", lines)
 

@@ -48,6 +48,8 @@ def settings_lines(dice: random.Random) -> list[str]:
         lines.append(f"capacity = {dice.randint(16, 64) if chance(dice, .7) else dice.choice(NUMBERS)}")
     if chance(dice, .4):
         lines.append(f"budget = {dice.randint(1, 1000) if chance(dice, .7) else dice.choice(NUMBERS)}")
+    if chance(dice, .4):
+        lines.append(f"queue_limit = {dice.randint(1, 8) if chance(dice, .7) else dice.choice(NUMBERS + ['8', '9'])}")
     if chance(dice, .1):
         inline = [f"{{{', '.join(device_pairs(dice))}}}" for _ in range(dice.randint(1, 2))]
         lines.append(f"device = [{', '.join(inline + ['1'] * chance(dice, .1))}]")

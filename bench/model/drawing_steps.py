@@ -5,13 +5,14 @@ from collections.abc import Callable
 from drawing import SectionDrawer, cased, chance, within
 from host import scalars_after, values_in, values_out
 from lists import decide
+from play import Fault
 from shapes import Actor, Operation, Range, SharedObject
 
 ENDINGS = ["return"] * 6 + ["raise Constraint_Error", "raise Program_Error", "raise Host.Access_Denied"] \
     + ["overrun", "stopped"]
 ODD_TIMES = (10**15, 10**15 + 1, -10**15, -10**15 - 1, 10**18 - 1, 1 - 10**18, 0, -1)
 ODD_TICKS = (1_000_000, 1_000_001, 0, -1, 10**18 - 1)
-PLAIN = ("resume", "clock", "fire", "finish", "resume", "clock", "fire", "finish", "halt")
+PLAIN = ("resume", "clock", "fire", "finish", "resume", "clock", "fire", "finish", "halt", "settle", "settle")
 
 
 def spoiled(dice: random.Random, values: list[int], ranges: list[Range], most: int) -> list[int]:
@@ -64,7 +65,7 @@ class Drawer(SectionDrawer):
         scalars = [within(dice, found) for found in ranges]
         for entry in target.operations:
             if isinstance(entry.barrier, int) and scalars and chance(dice, .6):
-                scalars[entry.barrier - 1] = int(target.waiting is not None or chance(dice, .35))
+                scalars[entry.barrier - 1] = int(bool(target.waiting) and (self.host.queue_limit == 1 or chance(dice, .7)) or chance(dice, .35))
         results = values_out(operation) if ending == "return" else []
         values = [within(dice, found) for found in results]
         if chance(dice, .05):
@@ -86,6 +87,9 @@ class Drawer(SectionDrawer):
         asked = [actor for actor in actors if actor.held[-1].target.waiting]
         return self.end(self.dice.choice(asked if asked and chance(self.dice, .6) else actors)) if actors else []
 
+    def draw_settle(self) -> list[str]:
+        return self.named(self.actors("settling"), self.dice.choice(("settle", "settle", "settle", "go")))
+
     def draw_call(self) -> list[str]:
         """A call, most often one that passes the ceiling, outside of actions also of an entry."""
         dice, callers = self.dice, self.callers()
@@ -95,7 +99,7 @@ class Drawer(SectionDrawer):
         held = [body.target for body in caller.held]
         passable = [target for target in self.targets() if target not in held and caller.active_priority() <= target.ceiling]
         target = dice.choice(passable if passable and chance(dice, .85) else self.targets())
-        is_entry = not held and not target.waiting and chance(dice, .5)
+        is_entry = not held and len(target.waiting) < self.host.queue_limit and chance(dice, .8 if target.waiting else .5)
         asked = [operation for operation in target.operations if (operation.kind == "entry") == is_entry]
         operation = dice.choice(asked if asked and chance(dice, .8) else target.operations)
         return self.call(caller.full_name(), target, operation)
@@ -160,12 +164,12 @@ class Drawer(SectionDrawer):
         return [cased(dice, "operator")] + change + ([] if change[0] == "remove" else self.list_words())
 
     def draw_revocation(self) -> list[str]:
-        """A list line on a call that waits."""
+        """A list line on a call that waits, in a long queue most often on the first."""
         dice, waiting = self.dice, [target for target in self.targets() if target.waiting]
         if not waiting:
             return []
         target = dice.choice(waiting)
-        caller, operation = target.waiting
+        caller, operation = target.waiting[0] if chance(dice, .7) else dice.choice(target.waiting)
         unit = dice.choice(("*", caller.unit, "Nowhere"))
         return ["operator", "append", dice.choice(("deny", "deny", "allow")), unit,
                 dice.choice(("*", target.full_name())), dice.choice(("*", operation.name))]
@@ -185,8 +189,8 @@ class Drawer(SectionDrawer):
         return [] if found[1] == "halt" and not self.may_halt else found
 
     def weights(self) -> dict[Callable[[], list[str]], float]:
-        return {self.draw_resume: 15, self.draw_end: 20, self.draw_call: 30, self.draw_service: 30, self.draw_suspension: 14, self.draw_delay: 6,
-                self.draw_tick: 6, self.draw_clock: 2, self.draw_fire: 12, self.draw_finish: 6 if self.host.is_halted else 1,
+        return {self.draw_resume: 15, self.draw_settle: 20, self.draw_end: 20, self.draw_call: 30, self.draw_service: 30,
+                self.draw_suspension: 14, self.draw_delay: 6, self.draw_tick: 6, self.draw_clock: 2, self.draw_fire: 12, self.draw_finish: 6 if self.host.is_halted else 1,
                 self.draw_halt: 3, self.draw_change: 6, self.draw_revocation: 10, self.draw_stray: 8}
 
     def step_words(self) -> list[str]:
@@ -211,7 +215,14 @@ class Drawer(SectionDrawer):
         self.put_step(self.joined(self.step_words()))
 
     def draw(self, steps: int, has_settings: bool | None = None) -> "Drawer":
-        """A whole script of about that many steps."""
+        """A whole script of about that many steps, or up to the first fault, which a bad window is."""
+        try:
+            self.draw_all(steps, has_settings)
+        except Fault:
+            pass
+        return self
+
+    def draw_all(self, steps: int, has_settings: bool | None) -> None:
         dice = self.dice
         halt_from = dice.randint(0, steps) if chance(dice, .4) else steps
         if chance(dice, .45) if has_settings is None else has_settings:
@@ -234,7 +245,6 @@ class Drawer(SectionDrawer):
                 self.shape(dice.randint(0, 2))
             else:
                 self.step()
-        return self
 
     def text(self) -> str:
         dice = self.dice

@@ -9,6 +9,7 @@ from drawing_steps import Drawer
 from drawing_toml import draw_toml
 from drawing_units import draw_units
 from edges import parts
+from host import Host
 from play import Player
 from words import words_of
 
@@ -54,7 +55,7 @@ def draw_full(seed: int) -> bytes:
     drawer = Drawer(f"full {seed}", plain=True)
     dice, is_stepped = drawer.dice, seed % 4 > 0
     if seed % 10:
-        drawer.section("@host.toml", [f"capacity = {dice.randint(24, 120)}"])
+        drawer.section("@host.toml", [f"capacity = {dice.randint(24, 120)}", f"queue_limit = {dice.randint(1, 8)}"])
     drawer.section("@shape", QUEUING_UNIT)
     drawer.free_lines.remove(9)
     drawer.draw(15 if seed % 10 else 150, has_settings=False)
@@ -206,7 +207,8 @@ def draw_crossed(seed: int) -> bytes:
     """Steps of several tasks on a few objects, whatever the state."""
     dice = random.Random(f"crossed {seed}")
     tasks, objects = dice.randint(2, 5), dice.randint(1, 3)
-    lines = ["@shape", "unit P"]
+    lines = ["@host.toml", f"queue_limit = {dice.randint(1, 8)}"] if chance(dice, .5) else []
+    lines += ["@shape", "unit P"]
     for place in range(objects):
         barrier = dice.choice(("1", "1", "1", "open", "closed"))
         lines += [f"protected O{place} {dice.choice((5, 10, 20))}", f"scalar 0 1 {dice.randint(0, 1)}"]
@@ -236,7 +238,8 @@ def draw_waits(seed: int) -> bytes:
     tasks = dice.randint(2, 4)
     capacity = dice.choice((4096, dice.randint(20, 64)))
     levels = [dice.choice((1, 10, 35, 36, 40)) for _ in range(tasks)]
-    sections = {"@host.toml": [f"capacity = {capacity}"], "@shape": WAITING_UNITS, "@list": dice.choice(WAITING_LISTS).split("|")}
+    settings = [f"capacity = {capacity}"] + [f"queue_limit = {dice.randint(1, 8)}"] * chance(dice, .5)
+    sections = {"@host.toml": settings, "@shape": WAITING_UNITS, "@list": dice.choice(WAITING_LISTS).split("|")}
     tasks_unit = ["unit T"] + [f"task T{place} {level}" for place, level in enumerate(levels)]
     lines = []
     for opening, section in [*sections.items(), ("@shape", tasks_unit)]:
@@ -263,9 +266,57 @@ def draw_waits(seed: int) -> bytes:
     return encoded(lines)
 
 
+QUEUES_UNIT = parts("unit P | protected O 35 | scalar 0 1 0 | procedure R | function F 0 1 | entry E 1 | handler H 4 | protected Q 40 | procedure W")
+# Changes of the list, with a unit, two times and the number of the last line.
+SHUT = ("append deny {0} P.O E", "append deny {0} * *", "append deny {0} P.O E from {1} until {2}", "append deny * * E from {1} until {2}")
+OPENED = ("append allow * * *", "append allow * * *", "append allow {0} P.O E", "remove {3}")
+
+
+def queue_steps(dice: random.Random, host: Host) -> dict[str, float]:
+    """Steps with their weights: whoever is idle queues up, an end serves the queue, and before that the list denies some who wait."""
+    tasks, target = list(host.catalogue.tasks.values()), host.catalogue.objects["p.o"]
+    waiting, free = len(target.waiting), not target.holders and not target.is_unsettled
+    shut = host.list[-1][0] == "deny" if host.list else False
+    anyone = dice.choice(tasks).full_name()
+    unit = target.waiting[0][0].unit if waiting and chance(dice, .7) else f"T{dice.randrange(3)}"
+    words = (unit, host.clock, host.clock + dice.randint(1, 3), len(host.list))
+    found = {f"{anyone} call P.O E": 2, f"{anyone} resume": 2, f"{anyone} settle": 1, f"{anyone} finish": .2, f"operator tick {dice.randint(1, 2)}": 2,
+             "Int_4 fire": 5 if waiting and free else .5, f"operator {dice.choice(SHUT).format(*words)}": 25 if waiting > 1 and not shut else 1,
+             f"operator {dice.choice(OPENED).format(*words)}": 4 if waiting else 12 * (len(host.list) > 1)}
+    served = ": return 1" if chance(dice, .05) else f"{int(waiting > 0 and chance(dice, .8))} : {dice.choice(('return', 'return', 'overrun'))}"
+    acts = {"idle": {"call P.O E": 40 if free and waiting < host.queue_limit else 4, "call P.O R": 12 if waiting and free else 2, "call P.O F": 1,
+                     "call P.Q W": 1},
+            "in body": {f"end {served}": 22}, "settling": {"settle": 20, "go": 4, "call P.O E": 2, "call P.Q W": 1},
+            "dropped": {"resume": 12}, "handed": {"resume": 14}}
+    for mode, steps in acts.items():
+        actors = [actor.full_name() for actor in tasks + host.interrupts if actor.mode == mode and (mode != "idle" or actor.kind == "task")]
+        found |= {f"{dice.choice(actors)} {step}": weight for step, weight in steps.items()} if actors else {}
+    return found
+
+
+def draw_queues(seed: int) -> bytes:
+    """Tasks of three units that wait in one queue of 1 to 8 callers, ends that serve it, and lists that deny some of them meanwhile."""
+    dice, player = random.Random(f"queues {seed}"), Player(b"", True, b"")
+    settings = [f"capacity = {dice.choice((4096, 4096, dice.randint(60, 150)))}", f"queue_limit = {seed % 8 + 1}"]
+    units = [[f"unit T{unit}"] + [f"task A{place} {dice.choice((1, 9, 30))}" for place in range(dice.randint(2, 5))] for unit in range(3)]
+    lines = []
+    for opening, section in [("@host.toml", settings), ("@shape", QUEUES_UNIT), *(("@shape", unit) for unit in units), ("@list", ["allow * * *"])]:
+        lines += [opening] + section
+        player.section_alone(opening, section)
+    lines.append("@steps")
+    halt_from = dice.randint(40, 200) if chance(dice, .4) else 300
+    for place in range(dice.choice((100, 200, 300))):
+        drawn = queue_steps(dice, player.host) | ({"operator halt": 1} if place >= halt_from else {})
+        lines.append(dice.choices(list(drawn), list(drawn.values()))[0])
+        player.step(lines[-1], 0)
+        if (player.host.room() <= 0 or player.host.is_halted) and chance(dice, .05):
+            break
+    return encoded(lines)
+
+
 # A kind with the number N is drawn once where the kind `random` is drawn N times.
 KINDS: dict[str, tuple[Callable[[int], bytes], int]] = {
     "random": (draw_random, 1), "damaged": (draw_damaged, 1), "lists": (draw_lists, 2), "shapes": (draw_shapes, 1),
     "deep": (draw_deep, 2), "crossed": (draw_crossed, 1), "wide": (draw_wide, 4), "long": (draw_long, 20),
-    "full": (draw_full, 5), "waits": (draw_waits, 1), "settings": (draw_settings, 1), "toml": (draw_toml, 1), "units": (draw_units, 1),
+    "full": (draw_full, 5), "waits": (draw_waits, 1), "queues": (draw_queues, 1), "settings": (draw_settings, 1), "toml": (draw_toml, 1), "units": (draw_units, 1),
 }

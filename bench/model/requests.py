@@ -13,9 +13,10 @@ from generators import KINDS
 from play import play
 
 # Kinds whose scripts are steps and changes of the list for the most part, in the order in which they are drawn.
-DRAWN = ("random", "crossed", "waits", "lists", "deep", "wide", "full", "long")
+DRAWN = ("random", "crossed", "waits", "queues", "lists", "deep", "wide", "full", "long")
 CHANGES = re.compile(rb"^(?:\d+|-) operator (?:list|append|remove|replace)\b")
 LOADS = re.compile(rb"^(?:\d+|-) operator load\b")
+SETTLES = re.compile(rb"^\d+ \S+ settle -> ")
 
 
 class Tally:
@@ -33,6 +34,7 @@ class Tally:
             self.counts["requests"] += 1
             self.counts["changes of the list"] += bool(CHANGES.match(line))
             self.counts["loads"] += bool(LOADS.match(line))
+            self.counts["settles"] += bool(SETTLES.match(line))
             self.counts["alike"] += told == due
             self.first = self.first or (b"" if told == due else script)
         if theirs != ours:
@@ -62,7 +64,7 @@ def main() -> int:
         place += 1
     told = tally.counts
     print(f"{told['alike']} of {told['requests']} requests answered alike, in {told['scripts']} scripts of seeds {arguments.seed} to "
-          f"{place - 1}; among them {told['loads']} loads and {told['changes of the list']} changes of the list; "
+          f"{place - 1}; among them {told['loads']} loads, {told['changes of the list']} changes of the list and {told['settles']} settles; "
           f"{told['scripts that differ']} scripts differ in answers, faults or status")
     if tally.first:
         sys.stdout.flush()

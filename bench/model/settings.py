@@ -5,6 +5,7 @@ import tomllib
 from words import is_dotted, is_identifier
 
 CAPACITY = 4096  # where it isn't set
+QUEUE_LIMIT = 1  # likewise
 Check = tuple[type, object]  # a type of value, and what is asked of the value: a range or a form
 
 
@@ -13,7 +14,7 @@ class SettingsFault(Exception):
         super().__init__(f"settings {fault}")
 
 
-HOST_KEYS = {"capacity": (int, range(16, 1_048_576 + 1)), "budget": (int, range(1, 1_000_000 + 1))}
+HOST_KEYS = {"capacity": (int, range(16, 1_048_576 + 1)), "queue_limit": (int, range(1, 8 + 1)), "budget": (int, range(1, 1_000_000 + 1))}
 DEVICE_KEYS = {"unit": (str, is_identifier), "task": (str, is_identifier), "object": (str, is_dotted), "operation": (str, is_identifier),
                "priority": (int, range(1, 40 + 1)), "calls": (int, range(1, 1_000_000 + 1))}
 
@@ -77,8 +78,8 @@ def read_toml(text: str) -> dict[str, object]:
     return table
 
 
-def read_settings(text: str) -> int:
-    """The capacity that a section's text sets, of which the carriage return before a line feed is no part."""
+def read_settings(text: str) -> tuple[int, int]:
+    """The capacity and the limit of queues that a section's text sets, of which the carriage return before a line feed is no part."""
     table = read_toml(text)
     devices = []
     for key, value in in_order(table):
@@ -93,4 +94,4 @@ def read_settings(text: str) -> int:
             raise SettingsFault("UnknownKey")
     if any(len(device) < len(DEVICE_KEYS) for device in devices):
         raise SettingsFault("BadValue")
-    return table.get("capacity", CAPACITY)
+    return table.get("capacity", CAPACITY), table.get("queue_limit", QUEUE_LIMIT)

@@ -54,7 +54,8 @@ class SharedObject:
     unit: str = ""
     values: list[int] = field(default_factory=list)
     holders: list[tuple["Actor", Operation]] = field(default_factory=list)
-    waiting: tuple["Actor", Operation] | None = None  # the call in the entry's queue
+    waiting: list[tuple["Actor", Operation]] = field(default_factory=list)  # the calls in the entry's queue, the oldest first
+    is_unsettled: bool = False  # whether an end dropped a call and left others
     is_true: bool = False  # of a suspension object
     sleeper: "Actor | None" = None  # who waits on a suspension object
 
@@ -69,9 +70,9 @@ class SharedObject:
         return values[entry.barrier - 1] == 1 if isinstance(entry.barrier, int) else entry.barrier == "open"
 
     def keeps_out(self, operation: Operation) -> bool:
-        """Functions share their object; whatever else runs there has it alone (9.5.1)."""
+        """Functions share their object; whatever else runs there has it alone (9.5.1). Nobody gets into an unsettled one."""
         kinds = {held.kind for _, held in self.holders}
-        return bool(kinds) and (kinds | {operation.kind}) != {"function"}
+        return self.is_unsettled or bool(kinds) and (kinds | {operation.kind}) != {"function"}
 
 
 class Body(NamedTuple):
@@ -86,10 +87,11 @@ class Actor:
     kind: str  # operator, line, task
     unit: str = ""  # of a task; for a line, the name for which its calls are judged
     priority: int = 0
-    mode: str = "idle"  # idle, in body, queued, handed, dropped, suspended, released, delayed, ended
+    mode: str = "idle"  # idle, in body, settling, queued, handed, dropped, suspended, released, delayed, ended
     held: list[Body] = field(default_factory=list)
     denial: tuple[int, int] = (0, 0)  # line and version of its last drop
     until: int = 0  # the time that its last delay names
+    unsettled: SharedObject | None = None  # what it has to settle
 
     def full_name(self) -> str:
         return f"{self.unit}.{self.name}" if self.kind == "task" else self.name

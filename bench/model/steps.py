@@ -6,7 +6,7 @@ from lists import Line, read_list
 from words import ensure, folded, identifier, is_dotted, number, numbers
 
 EXCEPTIONS = ("Constraint_Error", "Program_Error", "Host.Access_Denied")
-PLAIN_REQUESTS = ("resume", "clock", "fire", "finish", "halt")  # a word alone
+PLAIN_REQUESTS = ("settle", "resume", "clock", "fire", "finish", "halt")  # a word alone
 
 
 class Call(NamedTuple):

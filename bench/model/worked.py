@@ -86,7 +86,20 @@ SETTINGS = {  # a text and its fault
 }
 WAITING_UNITS = "protected O 35/scalar 0 1 0/procedure R/entry E 1/handler H 4/handler K 5/protected Q 40/procedure W/suspension S"
 TASKS = "task A 10/task B 20/task C 40/task D 1"
-WORKED = (  # the list, the capacity or none, and the steps with their answers
+WORKED = (  # the list, the capacity, other settings or none, and the steps with their answers
+    # queues of more than one
+    ("allow * * *", "queue_limit = 2", """T.A call P.O E -> queued/T.D call P.O E -> queued/T.B call P.O E -> refused 5 line 0 version 1
+/T.B call P.O R -> started/operator append deny T P.O E = [allow * * *; deny T P.O E]/T.D settle -> misuse
+/T.B end 1 : return -> done dropped T.A line 2/T.B call P.Q W -> misuse/T.B clock -> misuse/T.B resume -> misuse/T.B finish -> misuse
+/T.B end 1 : return -> misuse/T.A resume -> refused 1 line 2 version 2/T.A call P.O R -> busy/T.A call P.O E -> refused 1 line 2 version 2
+/Int_4 fire -> busy/T.A settle -> misuse/operator remove 2 = [allow * * *]/T.A call P.O E -> busy/T.B settle -> done handed T.D
+/T.B settle -> misuse/T.D resume -> woken/T.D end 1 : return -> done"""),
+    ("allow * * *", "queue_limit = 3", """T.A call P.O E -> queued/T.D call P.O E -> queued/T.B call P.O E -> queued/Int_4 fire -> started
+/operator append deny T * E = [allow * * *; deny T * E]/Int_4 end 1 : overrun -> done dropped T.A line 2/Int_4 fire -> misuse
+/Int_4 settle -> done dropped T.D line 2/Int_4 settle -> done dropped T.B line 2/Int_4 settle -> misuse/Int_4 fire -> started"""),
+    ("allow * * *", "queue_limit = 8", """T.A call P.O E -> queued/T.D call P.O E -> queued/T.B call P.O R -> started
+/operator append deny T * E = [allow * * *; deny T * E]/T.B end 1 : return -> done dropped T.A line 2/operator halt -> accepted 0
+/T.B finish -> misuse/T.B settle -> done/T.B settle -> misuse/T.D resume -> halted/T.B finish -> accepted 0/T.A resume -> refused 1 line 2 version 2"""),
     # suspension objects
     ("allow * * *", None, """T.A call P.S Current_State -> accepted 0/T.A call P.S Set_True -> accepted 0
 /T.A call P.S Current_State -> accepted 1
@@ -184,9 +197,10 @@ def example(lines: str | None, steps: str) -> Script:
     return answered(script, journal, steps)
 
 
-def waiting_example(lines: str, capacity: int | None, steps: str) -> Script:
-    """Two units with a suspension object and handlers, a list, and steps with their answers."""
-    settings = rows(f"@host.toml/capacity = {capacity}") if capacity else ""
+def waiting_example(lines: str, settings: int | str | None, steps: str) -> Script:
+    """Two units with a suspension object and handlers, a capacity or other settings, a list, and steps with their answers."""
+    settings = f"capacity = {settings}" if isinstance(settings, int) else settings
+    settings = rows(f"@host.toml/{settings}") if settings else ""
     script = settings + rows(f"@shape/unit P/{WAITING_UNITS}/@shape/unit T/{TASKS}/@list/{lines}")
     listed = f"3 operator list [{lines.replace('/', '; ')}] -> accepted 0"
     return answered(script, ["1 operator load P -> accepted 0", "2 operator load T -> accepted 0", listed], steps)

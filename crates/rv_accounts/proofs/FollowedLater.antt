@@ -12,7 +12,7 @@ use Rattle.rv_behind.specs.declared.event.Event.{Event}
 use Rattle.rv_behind.specs.declared.event.Event.TheVariants.{Asks}
 use Rattle.rv_accounts.specs.Followed.{IsAccounted, FollowedStays}
 use Rattle.rv_accounts.specs.Seen.{OwnAreDue}
-use Rattle.rv_accounts.proofs.Growing.{asks_stay}
+use Rattle.rv_accounts.proofs.Growing.{others_stay}
 use Rattle.rv_accounts.proofs.Staying.{none_behind}
 
 accounted : (limits : Limits) (actor acts fewer : ℕ) (began seen later : List Event) (before : Trace) (request : Request) (answer : Answer) (behind : Trace) → (acts ≡ 0 → fewer ≡ 0) → StartsWith later seen
@@ -39,7 +39,7 @@ stays limits actor budget acts fewer since seen later few w same f = record {
   trace = f.trace;
   exit = f.exit;
   along = f.along;
-  entries = asks_stay limits actor seen later w same ∙ f.entries;
+  entries = others_stay limits actor seen later w same ∙ f.entries;
   due = due_stays limits actor seen later w same f.due;
   each = λ before request answer behind e. accounted limits actor acts fewer f.began seen later before request answer behind few w (f.each before request answer behind e);
 }

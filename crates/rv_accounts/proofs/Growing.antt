@@ -1,5 +1,5 @@
 -- What an actor asked, event by event.
-use Rattle.std.proofs.Common.{◌≡◌, ℕ, List, [], ◌∷◌, ◌++◌, Bool, true, false, cond, eqb, refl, sym, ap, ◌∙◌, append_assoc, append-nil, length, length-append, arith, reverse}
+use Rattle.std.proofs.Common.{◌≡◌, ◌⊎◌, inl, inr, ⊎_elim, ℕ, List, [], ◌∷◌, ◌++◌, Bool, true, false, cond, eqb, refl, sym, ap, ◌∙◌, append_assoc, append-nil, length, length-append, arith, reverse}
 use Rattle.std.proofs.lemmas.List.{reverse-append}
 use Rattle.rv_exec.specs.Asking.{Trace}
 use Rattle.rv_history.specs.declared.limits.Limits.{Limits}
@@ -9,20 +9,22 @@ use Rattle.rv_history.specs.Journal.{shapes_before, lists_before}
 use Rattle.rv_history.proofs.Growing.{front_is}
 use Rattle.rv_turn.specs.Histories.{StartsWith, mine}
 use Rattle.rv_turn.specs.Prefixes.{mine-append}
-use Rattle.rv_meant.specs.Histories.{own_ask, history_of, asks_of, without_last}
+use Rattle.rv_meant.specs.Histories.{ask_of, own_ask, history_of, asks_of, without_last}
+use Rattle.rv_meant.proofs.Settles.{none_asked}
 use Rattle.rv_behind.specs.Events.{by, mark, marks, shapes_of, lists_of, history_back, history_at}
 use Rattle.rv_behind.specs.declared.event.Event.{Event}
 use Rattle.rv_behind.specs.declared.event.Event.TheVariants.{Asks, Loads, Lists}
-use Rattle.rv_accounts.specs.Seen.{asked_at, own_event, AsksGrow, AsksStay}
+use Rattle.rv_accounts.specs.WithoutSettles.{but_settles-append}
+use Rattle.rv_accounts.specs.Seen.{asked_at, but_settles, own_event, settles, AsksGrow, AsksStay}
 
 -- Without the newest event
 
-shapes_less : (e : Event) (es : List Event) → shapes_before (mark e) (shapes_of (e ∷ es)) ≡ shapes_of es
+pub shapes_less : (e : Event) (es : List Event) → shapes_before (mark e) (shapes_of (e ∷ es)) ≡ shapes_of es
 shapes_less (Asks a q w) es = refl
 shapes_less (Loads s u) es = front_is (shapes_of es) s
 shapes_less (Lists l) es = refl
 
-lists_less : (e : Event) (es : List Event) → lists_before (mark e) (lists_of (e ∷ es)) ≡ lists_of es
+pub lists_less : (e : Event) (es : List Event) → lists_before (mark e) (lists_of (e ∷ es)) ≡ lists_of es
 lists_less (Asks a q w) es = refl
 lists_less (Loads s u) es = refl
 lists_less (Lists l) es = front_is (lists_of es) l
@@ -55,24 +57,38 @@ asks_grow limits actor log e =
 
 -- Several
 
-mine_none_first : (actor : ℕ) (e : Event) (es : List Event) → mine by actor (e ∷ es) ≡ [] → (eqb (by e) actor ≡ false) × (mine by actor es ≡ [])
-mine_none_first actor e es n = by_test (eqb (by e) actor) refl n where
-  by_test : (k : Bool) → eqb (by e) actor ≡ k → cond k (e ∷ mine by actor es) (mine by actor es) ≡ [] → (eqb (by e) actor ≡ false) × (mine by actor es ≡ [])
-  by_test true is m = absurd (cc m)
-  by_test false is m = (is, m)
+-- of an actor's events, one that is another's is none, and so is a settle
+abbrev Adds : ℕ → Event → List Event → Type 0
+Adds actor e es = (((eqb (by e) actor ≡ false) × (but_settles (mine by actor es) ≡ [])) ⊎ ((settles e ≡ true) × (but_settles (mine by actor es) ≡ [])))
+
+none_first : (actor : ℕ) (e : Event) (es : List Event) → but_settles (mine by actor (e ∷ es)) ≡ [] → Adds actor e es
+none_first actor e es n = by_test (eqb (by e) actor) refl (settles e) refl n where
+  by_test : (k : Bool) → eqb (by e) actor ≡ k → (s : Bool) → settles e ≡ s → but_settles (cond k (e ∷ mine by actor es) (mine by actor es)) ≡ [] → Adds actor e es
+  by_test false is s settled m = inl (is, m)
+  by_test true is true settled m = inr (settled, ap (λ (b : Bool). cond b (but_settles (mine by actor es)) (e ∷ but_settles (mine by actor es))) (sym settled) ∙ m)
+  by_test true is false settled m = absurd (cc (ap (λ (b : Bool). cond b (but_settles (mine by actor es)) (e ∷ but_settles (mine by actor es))) (sym settled) ∙ m))
 
 others_own : (limits : Limits) (actor : ℕ) (log : List Event) (e : Event) → eqb (by e) actor ≡ false → own_event limits actor log e ≡ []
-others_own limits actor log (Asks a q w) n = ap (λ (k : Bool). cond k ((q, out (history_at limits log) actor q) ∷ []) []) n
+others_own limits actor log (Asks a q w) n = ap (λ (k : Bool). cond k (ask_of q (out (history_at limits log) actor q)) []) n
 others_own limits actor log (Loads s u) n = refl
 others_own limits actor log (Lists l) n = refl
 
-others_add : (limits : Limits) (actor : ℕ) (log rest : List Event) → mine by actor rest ≡ [] → asked_at limits actor (log ++ rest) ≡ asked_at limits actor log
+settle_own : (limits : Limits) (actor : ℕ) (log : List Event) (e : Event) → settles e ≡ true → own_event limits actor log e ≡ []
+settle_own limits actor log (Asks a q w) n = by_test (eqb a actor) where
+  by_test : (k : Bool) → cond k (ask_of q (out (history_at limits log) actor q)) [] ≡ []
+  by_test true = none_asked q (out (history_at limits log) actor q) n
+  by_test false = refl
+settle_own limits actor log (Loads s u) n = refl
+settle_own limits actor log (Lists l) n = refl
+
+others_add : (limits : Limits) (actor : ℕ) (log rest : List Event) → but_settles (mine by actor rest) ≡ [] → asked_at limits actor (log ++ rest) ≡ asked_at limits actor log
 others_add limits actor log [] n = ap (λ (l : List Event). asked_at limits actor l) (append-nil log)
-others_add limits actor log (e ∷ rest) n =
-    let m = mine_none_first actor e rest n in
-    ap (λ (l : List Event). asked_at limits actor l) (sym (append_assoc log (e ∷ []) rest))
-    ∙ (others_add limits actor (log ++ e ∷ []) rest m.1
-    ∙ (asks_grow limits actor log e ∙ (ap (λ (t : Trace). asked_at limits actor log ++ t) (others_own limits actor log e m.0) ∙ append-nil (asked_at limits actor log))))
+others_add limits actor log (e ∷ rest) n = ⊎_elim (λ m. one_more (others_own limits actor log e m.0) m.1) (λ m. one_more (settle_own limits actor log e m.0) m.1) (none_first actor e rest n) where
+  one_more : own_event limits actor log e ≡ [] → but_settles (mine by actor rest) ≡ [] → asked_at limits actor (log ++ e ∷ rest) ≡ asked_at limits actor log
+  one_more own m =
+      ap (λ (l : List Event). asked_at limits actor l) (sym (append_assoc log (e ∷ []) rest))
+      ∙ (others_add limits actor (log ++ e ∷ []) rest m
+      ∙ (asks_grow limits actor log e ∙ (ap (λ (t : Trace). asked_at limits actor log ++ t) own ∙ append-nil (asked_at limits actor log))))
 
 none_more : {A : Type 0} (xs ys : List A) → xs ++ ys ≡ xs → ys ≡ []
 none_more xs [] e = refl
@@ -82,4 +98,11 @@ pub mine_rest : (actor : ℕ) (log later : List Event) (w : StartsWith later log
 mine_rest actor log later w e = none_more (mine by actor log) (mine by actor w.0) (sym (ap (λ (l : List Event). mine by actor l) w.1 ∙ mine-append by actor log w.0) ∙ e)
 
 pub asks_stay : AsksStay
-asks_stay limits actor log later w e = ap (λ (l : List Event). asked_at limits actor l) w.1 ∙ others_add limits actor log w.0 (mine_rest actor log later w e)
+asks_stay limits actor log later w e =
+    let both : but_settles (mine by actor later) ≡ but_settles (mine by actor log) ++ but_settles (mine by actor w.0) =
+    ap (λ (l : List Event). but_settles (mine by actor l)) w.1 ∙ (ap but_settles (mine-append by actor log w.0) ∙ but_settles-append (mine by actor log) (mine by actor w.0)) in
+    ap (λ (l : List Event). asked_at limits actor l) w.1 ∙ others_add limits actor log w.0 (none_more (but_settles (mine by actor log)) (but_settles (mine by actor w.0)) (sym both ∙ e))
+
+-- what others add is none
+pub others_stay : (limits : Limits) (actor : ℕ) (log later : List Event) → StartsWith later log → mine by actor later ≡ mine by actor log → asked_at limits actor later ≡ asked_at limits actor log
+others_stay limits actor log later w e = asks_stay limits actor log later w (ap but_settles e)

@@ -19,27 +19,28 @@ use Rattle.rv_event.specs.declared.entry.Next.TheVariants.{Nothing, HandedTo, Dr
 use Rattle.rv_event.specs.declared.entry.Recorded.{Recorded}
 use Rattle.rv_event.specs.declared.entry.Recorded.TheVariants as Words
 use Rattle.rv_event.specs.declared.entry.Request.{Request}
-use Rattle.rv_event.specs.declared.entry.Request.TheVariants.{Call, Complete, Resume, DelayUntil, Clock, Fire, Quit, Tick, Halt}
+use Rattle.rv_event.specs.declared.entry.Request.TheVariants.{Call, Complete, Settle, Resume, DelayUntil, Clock, Fire, Quit, Tick, Halt}
 use Rattle.rv_event.specs.declared.entry.Stance.{Stance}
 use Rattle.rv_event.specs.declared.entry.Stance.TheVariants.{Free, InQueue, HandedOver, DroppedBy, WaitsOn, WaitsUntil, Gone}
 use Rattle.rv_exec.specs.Asking.{Trace}
 use Rattle.rv_history.specs.declared.limits.Limits.{Limits}
 use Rattle.rv_history.specs.Due.{out, due, table, gate, within, enough, goes_on, due_resume, or_waiting, scalars_held}
 use Rattle.rv_history.specs.Fitting.{fits}
-use Rattle.rv_history.specs.HandOver.{IsHanded, is_complete}
+use Rattle.rv_history.specs.HandOver.{IsHanded, served_with}
 use Rattle.rv_history.specs.History.{History}
 use Rattle.rv_history.specs.Journal.{shapes_before, lists_before}
 use Rattle.rv_history.specs.Legal.{Legal, IsLegal}
-use Rattle.rv_history.proofs.Closing.{legal_before, legal_split}
 use Rattle.rv_history.proofs.Growing.{front_is}
-use Rattle.rv_history.proofs.HandOver.{done_at_ends}
 use Rattle.rv_history.proofs.Handing.{handed_wakes}
 use Rattle.rv_history.proofs.Room.{legal_solvent}
 use Rattle.rv_history.proofs.Silent.{neither}
 use Rattle.rv_history.proofs.Stances.{other_queued, queued_actor}
-use Rattle.rv_meant.specs.Histories.{asked_in, history_of}
+use Rattle.rv_meant.specs.Histories.{ask_of, asked_in, history_of}
 use Rattle.rv_accounts.specs.Given.{HandsScalars, HandedCallsGiveScalars}
+use Rattle.rv_meant.specs.Settles.{is_settle}
+use Rattle.rv_meant.proofs.Settles.{ask_is, none_asked}
 use Rattle.rv_accounts.proofs.Giving.{resumes_give}
+use Rattle.rv_accounts.proofs.Queued.{own_asks, quiet}
 
 -- Stances
 
@@ -56,6 +57,7 @@ own_not_handed a (DelayUntil t) w = refl
 own_not_handed a Quit (Words.Accepted v) = refl
 own_not_handed a Quit w = refl
 own_not_handed a (Complete vs x) w = refl
+own_not_handed a Settle w = refl
 own_not_handed a Resume w = refl
 own_not_handed a Clock w = refl
 own_not_handed a Fire w = refl
@@ -99,7 +101,7 @@ own_first false t s e n = absurd (cc e)
 pub still_waits : (a o p : ℕ) (vs : List ℤ) (past : List Entry) → is_handed (stance a (Asked a (Call o p vs) Words.Queued ∷ past)) ≡ false
 still_waits a o p vs past = own_first (eqb a a) _ (stance a past) (itself a) refl
 
--- an end that hands over to this actor stands among these entries
+-- an end or a settle that hands over to this actor stands among these entries
 record HandOver (a : ℕ) (es : List Entry) : Type 0 where
   newer : List Entry
   older : List Entry
@@ -177,16 +179,16 @@ last_same [] (z ∷ ys) x y e = absurd (no_last ys y (ap tail_of e))
 last_same (z ∷ xs) [] x y e = absurd (no_last xs x (sym (ap tail_of e)))
 last_same (z ∷ xs) (w ∷ ys) x y e = last_same xs ys x y (ap tail_of e)
 
--- its entry, the newest of its own
+-- its entry, the newest of its own that is no settle
 record LastOwn (a : ℕ) (past : List Entry) (q : Request) (r : Answer) : Type 0 where
   newer : List Entry
   older : List Entry
   word : Recorded
   split : past ≡ newer ++ Asked a q word ∷ older
   word_is : recorded r ≡ Some word
-  silent : list_any (is_own a) newer ≡ false
+  silent : list_any (own_asks a) newer ≡ false
 
-others : (a : ℕ) (e : Entry) (past : List Entry) (q : Request) (r : Answer) → is_own a e ≡ false → LastOwn a past q r → LastOwn a (e ∷ past) q r
+others : (a : ℕ) (e : Entry) (past : List Entry) (q : Request) (r : Answer) → own_asks a e ≡ false → LastOwn a past q r → LastOwn a (e ∷ past) q r
 others a e past q r other t = record {
   newer = e ∷ t.newer;
   older = t.older;
@@ -203,19 +205,26 @@ last_own limits a (Asked b p word ∷ past) shapes lists before q r l e =
       h : History
       h = history_of limits past shapes lists
 
-      by_test : (k : Bool) → eqb b a ≡ k → (asked_in limits a past shapes lists ++ [] ≡ before ++ (q, r) ∷ [] → LastOwn a past q r) → asked_in limits a past shapes lists ++ cond k ((p, out h a p) ∷ []) [] ≡ before ++ (q, r) ∷ [] → LastOwn a (Asked b p word ∷ past) q r
-      by_test true is earlier f =
-          let same = last_same (asked_in limits a past shapes lists) before (p, out h a p) (q, r) f in
-          let here : b ≡ a = eqb-true b a is in
-          record {
-            newer = [];
-            older = past;
-            word = word;
-            split = λ i. Asked (here i) (ap (λ (z : Request × Answer). z.0) same i) word ∷ past;
-            word_is = ap (λ (z : Request × Answer). recorded z.1) (sym same) ∙ (ap (λ (n : ℕ). recorded (out h n p)) (sym here) ∙ l.1);
-            silent = refl;
-          }
-      by_test false is earlier f = others a (Asked b p word) past q r is (earlier f)
+      none : eqb b a ≡ false → own_asks a (Asked b p word) ≡ false
+      none is = ap (λ (k : Bool). cond k (not (is_settle p)) false) is
+
+      by_test : (k : Bool) → eqb b a ≡ k → (asked_in limits a past shapes lists ++ [] ≡ before ++ (q, r) ∷ [] → LastOwn a past q r) → asked_in limits a past shapes lists ++ cond k (ask_of p (out h a p)) [] ≡ before ++ (q, r) ∷ [] → LastOwn a (Asked b p word ∷ past) q r
+      by_test true is earlier f = by_settle (is_settle p) refl where
+        by_settle : (s : Bool) → is_settle p ≡ s → LastOwn a (Asked b p word ∷ past) q r
+        by_settle true settles =
+            others a (Asked b p word) past q r (λ i. cond (is i) (not (settles i)) false) (earlier (ap (λ (t : Trace). asked_in limits a past shapes lists ++ t) (sym (none_asked p (out h a p) settles)) ∙ f))
+        by_settle false settles =
+            let same = last_same (asked_in limits a past shapes lists) before (p, out h a p) (q, r) (ap (λ (t : Trace). asked_in limits a past shapes lists ++ t) (sym (ask_is p (out h a p) settles)) ∙ f) in
+            let here : b ≡ a = eqb-true b a is in
+            record {
+              newer = [];
+              older = past;
+              word = word;
+              split = λ i. Asked (here i) (ap (λ (z : Request × Answer). z.0) same i) word ∷ past;
+              word_is = ap (λ (z : Request × Answer). recorded z.1) (sym same) ∙ (ap (λ (n : ℕ). recorded (out h n p)) (sym here) ∙ l.1);
+              silent = refl;
+            }
+      by_test false is earlier f = others a (Asked b p word) past q r (none is) (earlier f)
 last_own limits a (Load ∷ past) shapes lists before q r l e =
     let earlier : shapes_before Load shapes ≡ l.0 = ap (λ (s : List Shape). shapes_before Load s) l.2 ∙ front_is l.0 l.1 in
     others a Load past q r refl
@@ -255,33 +264,26 @@ call_in None c = c
 call_in (Some b) c = b
 
 handed_by : (h : History) (a o p : ℕ) (vs s : List ℤ) → Legal h → 1 ≤ h.limits.capacity → out h a Resume ≡ Answers.Woken (Some s) → (later newer older : List Entry) (b : ℕ) (r : Request)
-    → h.past ≡ later ++ Asked b r (Words.Done (HandedTo a)) ∷ (newer ++ Asked a (Call o p vs) Words.Queued ∷ older) → list_any (is_own a) later ≡ false → list_any (is_own a) newer ≡ false → is_complete r ≡ true → HandsScalars h a o s
-handed_by h a o p vs s l room woken later newer older b (Complete values exit) split silent quiet e =
+    → h.past ≡ later ++ Asked b r (Words.Done (HandedTo a)) ∷ (newer ++ Asked a (Call o p vs) Words.Queued ∷ older) → list_any (is_own a) later ≡ false → list_any (is_own a) newer ≡ false → HandsScalars h a o s
+handed_by h a o p vs s l room woken later newer older b r split silent quiet =
     let past : List Entry = newer ++ Asked a (Call o p vs) Words.Queued ∷ older in
-    let k : IsHanded h past b values a = handed_wakes h later past b values exit a l (legal_solvent h room l) split silent in
-    let same : values ≡ s = ap scalars_in (sym k.wakes ∙ woken) in
+    let k : IsHanded h past b r a = handed_wakes h later past b r a l (legal_solvent h room l) split silent in
+    let same : served_with h.shapes past r k.body.object ≡ s = ap scalars_in (sym k.wakes ∙ woken) in
     let call : k.call ≡ record { actor = a; object = o; operation = p } = ap (λ (c : Option Body). call_in c k.call) (sym k.queued ∙ last_is a o p vs newer older quiet) in
     let there : k.call.object ≡ o = ap (λ (c : Body). c.object) call in
     record {
       later = later;
       past = past;
       by = b;
-      exit = exit;
-      split = split ∙ ap (λ (z : List ℤ). later ++ Asked b (Complete z exit) (Words.Done (HandedTo a)) ∷ past) same;
+      request = r;
+      split = split;
       silent = silent;
-      ended = k.body;
-      ending = k.ending;
+      body = k.body;
+      serving = k.serving;
       there = sym k.there ∙ there;
+      had = sym same ∙ ap (λ (n : ℕ). served_with h.shapes past r n) (sym k.there ∙ there);
       still = resumes_give h a s woken ∙ (ap (λ (bs : List Body). scalars_held h (slice_get bs 0)) k.holds ∙ ap (λ (n : ℕ). scalars h.shapes n h.past) there);
     }
-handed_by h a o p vs s l room woken later newer older b (Call o' p' vs') split silent quiet e = absurd (cc e)
-handed_by h a o p vs s l room woken later newer older b Resume split silent quiet e = absurd (cc e)
-handed_by h a o p vs s l room woken later newer older b (DelayUntil time) split silent quiet e = absurd (cc e)
-handed_by h a o p vs s l room woken later newer older b Clock split silent quiet e = absurd (cc e)
-handed_by h a o p vs s l room woken later newer older b Fire split silent quiet e = absurd (cc e)
-handed_by h a o p vs s l room woken later newer older b Quit split silent quiet e = absurd (cc e)
-handed_by h a o p vs s l room woken later newer older b (Tick n) split silent quiet e = absurd (cc e)
-handed_by h a o p vs s l room woken later newer older b Halt split silent quiet e = absurd (cc e)
 
 abbrev word_or : Option Recorded → Recorded → Recorded
 word_or None w = w
@@ -297,7 +299,6 @@ handed_give h a o p vs s before room l e woken =
     let start : Entry = Asked f.of f.request (Words.Done (HandedTo a)) in
     let whole : h.past ≡ f.newer ++ start ∷ (f.older ++ Asked a q Words.Queued ∷ t.older) =
     split ∙ (ap (λ (es : List Entry). es ++ Asked a q Words.Queued ∷ t.older) f.split ∙ append_assoc f.newer (start ∷ f.older) (Asked a q Words.Queued ∷ t.older)) in
-    let quiet = none_both (is_own a) f.newer (start ∷ f.older) (subst (λ (es : List Entry). list_any (is_own a) es ≡ false) f.split t.silent) in
-    let w = legal_before h.limits f.newer (start ∷ (f.older ++ Asked a q Words.Queued ∷ t.older)) h.shapes h.lists (legal_split h f.newer (start ∷ (f.older ++ Asked a q Words.Queued ∷ t.older)) l whole) in
-    handed_by h a o p vs s l room woken f.newer f.older t.older f.of f.request whole quiet.0 (neither (is_own a start) (list_any (is_own a) f.older) quiet.1).1
-    (done_at_ends (record { limits = h.limits; past = f.older ++ Asked a q Words.Queued ∷ t.older; shapes = w.old; lists = w.lists }) f.of f.request (HandedTo a) w.legal.1)
+    let nothing : list_any (is_own a) t.newer ≡ false = quiet h.limits a o p vs t.newer t.older h.shapes h.lists (subst (λ (es : List Entry). IsLegal h.limits es h.shapes h.lists) split l) t.silent in
+    let parts = none_both (is_own a) f.newer (start ∷ f.older) (subst (λ (es : List Entry). list_any (is_own a) es ≡ false) f.split nothing) in
+    handed_by h a o p vs s l room woken f.newer f.older t.older f.of f.request whole parts.0 (neither (is_own a start) (list_any (is_own a) f.older) parts.1).1

@@ -2,4 +2,5 @@ pub mod Growing
 pub mod Staying
 pub mod FollowedLater
 pub mod Giving
+pub mod Queued
 pub mod HandedCalls

@@ -6,12 +6,13 @@ use Rattle.rv_event.specs.declared.entry.Answer.TheVariants.{Started, Queued, Wo
 use Rattle.rv_event.specs.declared.entry.Body.{Body}
 use Rattle.rv_event.specs.declared.entry.Entry.{Entry}
 use Rattle.rv_event.specs.declared.entry.Entry.TheVariants.{Asked}
-use Rattle.rv_event.specs.declared.entry.Exit.{Exit}
 use Rattle.rv_event.specs.declared.entry.Next.TheVariants.{HandedTo}
 use Rattle.rv_event.specs.declared.entry.Recorded.TheVariants.{Done}
-use Rattle.rv_event.specs.declared.entry.Request.TheVariants.{Call, Complete, Fire, Resume}
+use Rattle.rv_event.specs.declared.entry.Request.{Request}
+use Rattle.rv_event.specs.declared.entry.Request.TheVariants.{Call, Fire, Resume}
 use Rattle.rv_exec.specs.Asking.{Trace}
 use Rattle.rv_history.specs.Due.{out, scalars_held}
+use Rattle.rv_history.specs.HandOver.{served, served_with}
 use Rattle.rv_history.specs.History.{History}
 use Rattle.rv_history.specs.Legal.{Legal}
 use Rattle.rv_meant.specs.Histories.{asks_of}
@@ -35,21 +36,22 @@ ResumesGiveScalars =
     (h : History) (actor : ℕ) (components : List ℤ)
     → out h actor Resume ≡ Woken (Some components) → components ≡ scalars_held h (innermost h.shapes actor h.past)
 
--- An end, with this exit, handed its object over to an actor, which asked nothing since: what it left are the object's scalars
--- still (9.5.3).
+-- An end or a settle handed its object over to an actor, which asked nothing since: what the object had then, which an end leaves
+-- it, are its scalars still (9.5.3).
 pub record HandsScalars (h : History) (actor object : ℕ) (left : List ℤ) : Type 0 where
   pub later : List Entry
   pub past : List Entry
   pub by : ℕ
-  pub exit : Exit
-  pub split : h.past ≡ later ++ Asked by (Complete left exit) (Done (HandedTo actor)) ∷ past
+  pub request : Request
+  pub split : h.past ≡ later ++ Asked by request (Done (HandedTo actor)) ∷ past
   pub silent : list_any (is_own actor) later ≡ false
-  pub ended : Body
-  pub ending : innermost h.shapes by past ≡ Some ended
-  pub there : ended.object ≡ object
+  pub body : Body
+  pub serving : served h.shapes by past request ≡ Some body
+  pub there : body.object ≡ object
+  pub had : left ≡ served_with h.shapes past request object
   pub still : left ≡ scalars h.shapes object h.past
 
--- So a caller is given, whose last ask was this call, which waited in a queue, what the end that handed it the object left of it.
+-- So a caller is given, whose last ask was this call, which waited in a queue, what the object had where it was handed over.
 abbrev pub HandedCallsGiveScalars : Type 0
 HandedCallsGiveScalars =
     (h : History) (actor object operation : ℕ) (values components : List ℤ) (before : Trace)

@@ -1,4 +1,5 @@
 pub mod Seen
+pub mod WithoutSettles
 pub mod Explained
 pub mod Followed
 pub mod Given

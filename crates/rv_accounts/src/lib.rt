@@ -11,7 +11,7 @@ pub fn asks_grow()
     ensures { AsksGrow }
 {}
 
-/// What others add is none.
+/// What others add is none, nor are settles.
 pub fn asks_stay()
     ensures { AsksStay }
 {}
@@ -38,7 +38,7 @@ pub fn followed_stays()
 
 /// What a start gives is what its object has in the history, also when a caller that waited wakes: so the components that an
 /// end is explained on are the history's own. To a caller that waited in a queue they are those of its call's object, and what
-/// the end that handed this over left.
+/// the end that handed this over left, or what the object had where it was settled.
 pub fn starts_give_the_scalars()
     ensures calls { CallsGiveScalars }
     ensures fires { FiresGiveScalars }

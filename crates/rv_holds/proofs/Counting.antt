@@ -1,5 +1,5 @@
 -- Entry by entry, what an actor's asks leave held.
-use Rattle.std.proofs.Common.{◌≡◌, ◌≢◌, ℕ, suc, ◌+◌, ◌-◌, ◌<◌, ℤ, List, [], ◌∷◌, ◌++◌, length, drop, Bool, true, false, cond, refl, sym, ap, ◌∙◌, subst, arith, append-nil, Option, Some, None}
+use Rattle.std.proofs.Common.{◌≡◌, ◌≢◌, ℕ, suc, ◌+◌, ◌-◌, ◌<◌, ◌≤◌, ℤ, List, [], ◌∷◌, ◌++◌, length, drop, Bool, true, false, cond, refl, sym, ap, ◌∙◌, subst, arith, append-nil, Option, Some, None}
 use Rattle.std.specs.Prelude.{◌==◌, not, nat_lt, if◌then◌else◌, slice_get, int_le, pos}
 use Rattle.std.specs.List.{filter}
 use Rattle.std.proofs.lemmas.Bool.Decides.{nat_tests}
@@ -9,7 +9,7 @@ use Rattle.rv_shape.specs.Catalogue.{OperationNumber, UnitTask, Who, Operator, L
 use Rattle.rv_shape.specs.declared.suspension.SuspensionOperation.{SuspensionOperation}
 use Rattle.rv_shape.specs.declared.suspension.SuspensionOperation.TheVariants.{SetTrue, SetFalse, CurrentState, SuspendUntilTrue}
 use Rattle.rv_event.proofs.Matching.{by, filter_without}
-use Rattle.rv_event.specs.Past.{begun, clock, fired, halted, held, innermost, last_queued, mode_by, named_in, next_of, or_else, released, scalars, stance, stance_of, state, under_way, without}
+use Rattle.rv_event.specs.Past.{begun, clock, closed, ended, fired, halted, handed, held, innermost, last_queued, mode, mode_by, named_in, next_of, or_else, released, scalars, stance, stance_of, started, state, to_settle, under_way, without}
 use Rattle.rv_event.specs.Recorded.{recorded}
 use Rattle.rv_event.specs.declared.entry.Answer.{Answer}
 use Rattle.rv_event.specs.declared.entry.Answer.TheVariants as Answers
@@ -22,7 +22,7 @@ use Rattle.rv_event.specs.declared.entry.Next.TheVariants.{Nothing, HandedTo, Dr
 use Rattle.rv_event.specs.declared.entry.Recorded.{Recorded}
 use Rattle.rv_event.specs.declared.entry.Recorded.TheVariants as Recordeds
 use Rattle.rv_event.specs.declared.entry.Request.{Request}
-use Rattle.rv_event.specs.declared.entry.Request.TheVariants.{Call, Complete, Resume, DelayUntil, Clock, Fire, Quit, Tick, Halt}
+use Rattle.rv_event.specs.declared.entry.Request.TheVariants.{Call, Complete, Settle, Resume, DelayUntil, Clock, Fire, Quit, Tick, Halt}
 use Rattle.rv_event.specs.declared.entry.Rule.TheVariants as Rules
 use Rattle.rv_event.specs.declared.entry.Stance.{Stance}
 use Rattle.rv_event.specs.declared.entry.Stance.TheVariants.{Free, InQueue, HandedOver, DroppedBy, WaitsOn, WaitsUntil, Gone}
@@ -32,20 +32,22 @@ use Rattle.rv_history.specs.Due.{out, due, table, gate, within, enough, judged, 
 use Rattle.rv_history.specs.Exclusion.{excluded, full_queue, is_barred}
 use Rattle.rv_history.specs.Fitting.{call_fits, end_fits, idle_line, idle_task, in_body, is_operator, is_tick, is_time, may_call}
 use Rattle.rv_history.specs.History.{History, version}
-use Rattle.rv_history.specs.HandOver.{is_complete}
+use Rattle.rv_history.specs.HandOver.{serves}
 use Rattle.rv_history.specs.Legal.{IsLegal, Legal}
 use Rattle.rv_history.specs.Rules.{breaks, decided, holds_any}
 use Rattle.rv_history.specs.Subject.{subject}
 use Rattle.rv_history.proofs.Answered.{answered, both, off, within_recorded, word_is}
 use Rattle.rv_history.proofs.Bodies.{count_less}
-use Rattle.rv_history.proofs.Ending.{Names, ends, head_waits, names_at}
+use Rattle.rv_history.proofs.Done.{done_serves}
+use Rattle.rv_history.proofs.Ending.{Names, ends, head_waits, names_at, settling}
 use Rattle.rv_history.proofs.Growing.{front_is}
-use Rattle.rv_history.proofs.HandOver.{done_at_ends}
 use Rattle.rv_history.proofs.Loaded.{way_stays}
+use Rattle.rv_history.proofs.Modes.{calls_at, ends_at, fires_at, quits_at}
+use Rattle.rv_history.proofs.Standing.{legal_standing, settler_at}
 use Rattle.rv_history.proofs.Stances.{another, held_other, is_other, itself, own_stance, same_number, unnamed_stance}
-use Rattle.rv_history.proofs.Waits.{Waits, legal_waits}
+use Rattle.rv_history.proofs.Waits.{Waits}
 use Rattle.rv_meant.specs.Asks.{held_after, held_behind}
-use Rattle.rv_meant.specs.Histories.{asked_in, asks_of, own_ask}
+use Rattle.rv_meant.specs.Histories.{ask_of, asked_in, asks_of, own_ask}
 use Rattle.rv_meant.proofs.Nesting.{held_both}
 use Rattle.rv_holds.specs.Holds.{handed_one, AsksCountTheHeld}
 
@@ -213,6 +215,10 @@ module _ (h : History) (a n : ℕ) (k : length (held h.shapes a h.past) ≡ n + 
   abbrev was : ℕ
   was = length (held h.shapes a h.past)
 
+  -- what fits one that has nothing to settle
+  calls : may_call (who h.shapes a) (mode h.shapes a h.past) ≡ true → may_call (who h.shapes a) (mode_by (held h.shapes a h.past) (stance a h.past)) ≡ true
+  calls = calls_at (who h.shapes a) (to_settle h.shapes a h.past) (mode_by (held h.shapes a h.past) (stance a h.past))
+
   own_free : (q : Request) (w : Recorded) → next_of (Asked a q w) ≡ Nothing → handed_one (stance a (Asked a q w ∷ h.past)) ≡ 0
   own_free q w none = ap (λ z. handed_one z) (own_stance a q w h.past none) ∙ never_handed a q w
 
@@ -234,11 +240,11 @@ module _ (h : History) (a n : ℕ) (k : length (held h.shapes a h.past) ≡ n + 
   own_call : (o p : ℕ) (vs : List ℤ) (w : Recorded) → recorded (out h a (Call o p vs)) ≡ Some w → Counts (Call o p vs) w
   own_call o p vs w e = by_word w e (ap (λ z. held_after n z) (out_table h a (Call o p vs) w e) ∙ call_holds h a n (Call o p vs) o (target h.shapes o p) w (answered h a (Call o p vs) w e).said) where
     free : handed_one (stance a h.past) ≡ 0
-    free = may_call_free (who h.shapes a) (held h.shapes a h.past) (stance a h.past) (both _ (call_fits (length (held h.shapes a h.past)) vs (target h.shapes o p)) (answered h a (Call o p vs) w e).fits_in).0
+    free = may_call_free (who h.shapes a) (held h.shapes a h.past) (stance a h.past) (calls (both (may_call (who h.shapes a) (mode h.shapes a h.past)) (call_fits (length (held h.shapes a h.past)) vs (target h.shapes o p)) (answered h a (Call o p vs) w e).fits_in).0)
 
     by_word : (w : Recorded) → recorded (out h a (Call o p vs)) ≡ Some w → held_after n (out h a (Call o p vs)) ≡ behind_word n w → Counts (Call o p vs) w
     by_word Recordeds.Started e holds = own_start (Call o p vs) Recordeds.Started refl (one_more a (record { actor = a; object = o; operation = p }) (under_way h.shapes h.past) refl) holds free
-    by_word (Recordeds.Done next) e holds = absurd (off (done_at_ends h a (Call o p vs) next e))
+    by_word (Recordeds.Done next) e holds = absurd (off (done_serves h a (Call o p vs) next e))
     by_word Recordeds.Queued e holds = own_plain (Call o p vs) Recordeds.Queued refl refl holds free
     by_word (Recordeds.Refused rule line number) e holds = own_plain (Call o p vs) (Recordeds.Refused rule line number) refl refl holds free
     by_word Recordeds.Suspended e holds = own_plain (Call o p vs) Recordeds.Suspended refl refl holds free
@@ -249,7 +255,7 @@ module _ (h : History) (a n : ℕ) (k : length (held h.shapes a h.past) ≡ n + 
   own_fire : (w : Recorded) → recorded (out h a Fire) ≡ Some w → Counts Fire w
   own_fire w e = by_word w e (ap (λ z. held_after n z) (out_table h a Fire w e) ∙ fire_holds h a n (handler h.shapes (a - 1)) w (answered h a Fire w e).said) where
     free : handed_one (stance a h.past) ≡ 0
-    free = idle_line_free (who h.shapes a) (held h.shapes a h.past) (stance a h.past) (answered h a Fire w e).fits_in
+    free = idle_line_free (who h.shapes a) (held h.shapes a h.past) (stance a h.past) (fires_at (who h.shapes a) (to_settle h.shapes a h.past) (mode_by (held h.shapes a h.past) (stance a h.past)) (answered h a Fire w e).fits_in)
 
     starts : (s : Option OperationNumber) → handler h.shapes (a - 1) ≡ s → recorded (due_fire h a s) ≡ Some Recordeds.Started → length (filter (by a) (begun (fired a s) (under_way h.shapes h.past))) ≡ suc was
     starts None is f = absurd (cc)
@@ -257,7 +263,7 @@ module _ (h : History) (a n : ℕ) (k : length (held h.shapes a h.past) ≡ n + 
 
     by_word : (w : Recorded) → recorded (out h a Fire) ≡ Some w → held_after n (out h a Fire) ≡ behind_word n w → Counts Fire w
     by_word Recordeds.Started e holds = own_start Fire Recordeds.Started refl (starts (handler h.shapes (a - 1)) refl (answered h a Fire Recordeds.Started e).said) holds free
-    by_word (Recordeds.Done next) e holds = absurd (off (done_at_ends h a Fire next e))
+    by_word (Recordeds.Done next) e holds = absurd (off (done_serves h a Fire next e))
     by_word Recordeds.Queued e holds = own_plain Fire Recordeds.Queued refl refl holds free
     by_word (Recordeds.Refused rule line number) e holds = own_plain Fire (Recordeds.Refused rule line number) refl refl holds free
     by_word Recordeds.Suspended e holds = own_plain Fire Recordeds.Suspended refl refl holds free
@@ -265,8 +271,8 @@ module _ (h : History) (a n : ℕ) (k : length (held h.shapes a h.past) ≡ n + 
     by_word Recordeds.Woken e holds = own_plain Fire Recordeds.Woken refl refl holds free
     by_word (Recordeds.Accepted value) e holds = own_plain Fire (Recordeds.Accepted value) refl refl holds free
 
-  next_none : (q : Request) (w : Recorded) → recorded (out h a q) ≡ Some w → is_complete q ≡ false → next_of (Asked a q w) ≡ Nothing
-  next_none q (Recordeds.Done next) e c = absurd (off (sym c ∙ done_at_ends h a q next e))
+  next_none : (q : Request) (w : Recorded) → recorded (out h a q) ≡ Some w → serves q ≡ false → next_of (Asked a q w) ≡ Nothing
+  next_none q (Recordeds.Done next) e c = absurd (off (sym c ∙ done_serves h a q next e))
   next_none q Recordeds.Started e c = refl
   next_none q Recordeds.Queued e c = refl
   next_none q (Recordeds.Refused rule line number) e c = refl
@@ -276,8 +282,25 @@ module _ (h : History) (a n : ℕ) (k : length (held h.shapes a h.past) ≡ n + 
   next_none q (Recordeds.Accepted value) e c = refl
 
   -- one that is no call
-  own_calm : (q : Request) (w : Recorded) → recorded (out h a q) ≡ Some w → is_complete q ≡ false → length (held h.shapes a (Asked a q w ∷ h.past)) ≡ was → held_after n (table h a q) ≡ n → handed_one (stance a h.past) ≡ 0 → Counts q w
+  own_calm : (q : Request) (w : Recorded) → recorded (out h a q) ≡ Some w → serves q ≡ false → length (held h.shapes a (Asked a q w ∷ h.past)) ≡ was → held_after n (table h a q) ≡ n → handed_one (stance a h.past) ≡ 0 → Counts q w
   own_calm q w e c same holds free = own_plain q w (next_none q w e c) same (ap (λ z. held_after n z) (out_table h a q w e) ∙ holds) free
+
+  -- one that is free, whose entry names a caller
+  module _ (l : Legal h) (r : Request) (next : Next) (m : ℕ) (free : stance a h.past ≡ Free) (names : Names h a r next m) where
+    waits : Waits h.shapes h.past names.served_by.call
+    waits = head_waits h.shapes h.past names.body.object names.served_by.call names.served_by.rest (legal_standing h.limits h.past h.shapes h.lists l).wait names.served_by.queued
+
+    apart : a ≢ m
+    apart i = free_not_queued (stance a h.past) free (ap (λ (z : ℕ). stance z h.past) (i ∙ sym names.served_by.is_its) ∙ waits.at)
+
+    calls_last : last_queued m h.past ≡ Some names.served_by.call
+    calls_last = ap (λ (z : ℕ). last_queued z h.past) (sym names.served_by.is_its) ∙ waits.last
+
+    -- what is handed over is none of its own bodies
+    hands_others : (rest : List Body) → length (filter (by a) (begun (last_queued m h.past) rest)) ≡ length (filter (by a) rest)
+    hands_others rest =
+        ap (λ (o : Option Body). length (filter (by a) (begun o rest))) calls_last
+        ∙ none_more a names.served_by.call rest (λ i. apart (sym i ∙ names.served_by.is_its))
 
   -- an end
   module _ (l : Legal h) (vs : List ℤ) (x : Exit) where
@@ -293,7 +316,9 @@ module _ (h : History) (a n : ℕ) (k : length (held h.shapes a h.past) ≡ n + 
     without_one = ap length (filter_without a (under_way h.shapes h.past)) ∙ one_less (held h.shapes a h.past)
 
     is_free : (w : Recorded) → recorded (out h a (Complete vs x)) ≡ Some w → stance a h.past ≡ Free
-    is_free w e = in_body_free (held h.shapes a h.past) (stance a h.past) (both _ (end_fits h.shapes vs x (innermost h.shapes a h.past)) (answered h a (Complete vs x) w e).fits_in).0
+    is_free w e =
+        in_body_free (held h.shapes a h.past) (stance a h.past)
+        (ends_at (to_settle h.shapes a h.past) (mode_by (held h.shapes a h.past) (stance a h.past)) (both (in_body (mode h.shapes a h.past)) (end_fits h.shapes vs x (innermost h.shapes a h.past)) (answered h a (Complete vs x) w e).fits_in).0)
 
     end_holds : (w : Recorded) → recorded (out h a (Complete vs x)) ≡ Some w → held_after n (out h a (Complete vs x)) ≡ n - 1
     end_holds w e =
@@ -307,29 +332,17 @@ module _ (h : History) (a n : ℕ) (k : length (held h.shapes a h.past) ≡ n + 
         let holds : held_after n (out h a (Complete vs x)) ≡ n - 1 = end_holds w e in
         omega (arith, k, less, free, some, before, holds)
 
-    -- an end that names a caller
-    module _ (next : Next) (m : ℕ) (e : recorded (out h a (Complete vs x)) ≡ Some (Recordeds.Done next)) (names : Names h a vs next m) where
-      waits : Waits h.shapes h.past names.served_by.call
-      waits = head_waits h.shapes h.past names.body.object names.served_by.call names.served_by.rest (legal_waits h.limits h.past h.shapes h.lists l) names.served_by.queued
-
-      apart : a ≢ m
-      apart i = free_not_queued (stance a h.past) (is_free (Recordeds.Done next) e) (ap (λ (z : ℕ). stance z h.past) (i ∙ sym names.served_by.is_its) ∙ waits.at)
-
-      calls_last : last_queued m h.past ≡ Some names.served_by.call
-      calls_last = ap (λ (z : ℕ). last_queued z h.past) (sym names.served_by.is_its) ∙ waits.last
-
     own_done : (next : Next) → recorded (out h a (Complete vs x)) ≡ Some (Recordeds.Done next) → Counts (Complete vs x) (Recordeds.Done next)
     own_done Nothing e = own_end (Recordeds.Done Nothing) e without_one (own_free (Complete vs x) (Recordeds.Done Nothing) refl)
     own_done (HandedTo m) e =
-        let names = names_at h a vs x (HandedTo m) m e refl in
-        let off_it : a ≢ m = apart (HandedTo m) m e names in
+        let names = names_at h a (Complete vs x) (HandedTo m) m e refl in
+        let off_it : a ≢ m = apart l (Complete vs x) (HandedTo m) m (is_free (Recordeds.Done (HandedTo m)) e) names in
         own_end (Recordeds.Done (HandedTo m)) e
-        (ap (λ (o : Option Body). length (filter (by a) (begun o (without a (under_way h.shapes h.past))))) (calls_last (HandedTo m) m e names)
-        ∙ (none_more a names.served_by.call (without a (under_way h.shapes h.past)) (λ i. off_it (sym i ∙ names.served_by.is_its)) ∙ without_one))
+        (hands_others l (Complete vs x) (HandedTo m) m (is_free (Recordeds.Done (HandedTo m)) e) names (without a (under_way h.shapes h.past)) ∙ without_one)
         (λ i. handed_one (or_else (first_of (if another m a off_it i then Some HandedOver else None) (if itself a i then Some Free else None)) (stance a h.past)))
     own_done (Dropped m line) e =
-        let names = names_at h a vs x (Dropped m line) m e refl in
-        let off_it : a ≢ m = apart (Dropped m line) m e names in
+        let names = names_at h a (Complete vs x) (Dropped m line) m e refl in
+        let off_it : a ≢ m = apart l (Complete vs x) (Dropped m line) m (is_free (Recordeds.Done (Dropped m line)) e) names in
         own_end (Recordeds.Done (Dropped m line)) e without_one
         (λ i. handed_one (or_else (first_of (if another m a off_it i then Some (DroppedBy line) else None) (if itself a i then Some Free else None)) (stance a h.past)))
 
@@ -343,16 +356,53 @@ module _ (h : History) (a n : ℕ) (k : length (held h.shapes a h.past) ≡ n + 
     own_complete Recordeds.Woken e = absurd (cc (ends h a vs x Recordeds.Woken e).word)
     own_complete (Recordeds.Accepted value) e = absurd (cc (ends h a vs x (Recordeds.Accepted value) e).word)
 
-  own_counts : Legal h → 0 < a → (q : Request) (w : Recorded) → recorded (out h a q) ≡ Some w → Counts q w
+  -- a settle, which is no ask, and leaves what its actor holds
+  module _ (l : Legal h) where
+    abbrev CountsSettled : Recorded → Type 0
+    CountsSettled w = length (held h.shapes a (Asked a Settle w ∷ h.past)) ≡ n + handed_one (stance a (Asked a Settle w ∷ h.past))
+
+    settles_free : (w : Recorded) → recorded (out h a Settle) ≡ Some w → stance a h.past ≡ Free
+    settles_free w e = let t = settling h a w e in settler_at h a t.body (legal_standing h.limits h.past h.shapes h.lists l) t.first
+
+    own_settle : (w : Recorded) → recorded (out h a Settle) ≡ Some w → length (held h.shapes a (Asked a Settle w ∷ h.past)) ≡ was → handed_one (stance a (Asked a Settle w ∷ h.past)) ≡ 0 → CountsSettled w
+    own_settle w e same free = let before : handed_one (stance a h.past) ≡ 0 = ap (λ z. handed_one z) (settles_free w e) in omega (arith, k, same, free, before)
+
+    settle_done : (next : Next) → recorded (out h a Settle) ≡ Some (Recordeds.Done next) → CountsSettled (Recordeds.Done next)
+    settle_done Nothing e = own_settle (Recordeds.Done Nothing) e refl (own_free Settle (Recordeds.Done Nothing) refl)
+    settle_done (HandedTo m) e =
+        let names = names_at h a Settle (HandedTo m) m e refl in
+        let off_it : a ≢ m = apart l Settle (HandedTo m) m (settles_free (Recordeds.Done (HandedTo m)) e) names in
+        own_settle (Recordeds.Done (HandedTo m)) e (hands_others l Settle (HandedTo m) m (settles_free (Recordeds.Done (HandedTo m)) e) names (under_way h.shapes h.past))
+        (λ i. handed_one (or_else (first_of (if another m a off_it i then Some HandedOver else None) (if itself a i then Some Free else None)) (stance a h.past)))
+    settle_done (Dropped m line) e =
+        let names = names_at h a Settle (Dropped m line) m e refl in
+        let off_it : a ≢ m = apart l Settle (Dropped m line) m (settles_free (Recordeds.Done (Dropped m line)) e) names in
+        own_settle (Recordeds.Done (Dropped m line)) e refl
+        (λ i. handed_one (or_else (first_of (if another m a off_it i then Some (DroppedBy line) else None) (if itself a i then Some Free else None)) (stance a h.past)))
+
+    own_settled : (w : Recorded) → recorded (out h a Settle) ≡ Some w → CountsSettled w
+    own_settled (Recordeds.Done next) e = settle_done next e
+    own_settled Recordeds.Started e = absurd (cc (settling h a Recordeds.Started e).word)
+    own_settled Recordeds.Queued e = absurd (cc (settling h a Recordeds.Queued e).word)
+    own_settled (Recordeds.Refused rule line number) e = absurd (cc (settling h a (Recordeds.Refused rule line number) e).word)
+    own_settled Recordeds.Suspended e = absurd (cc (settling h a Recordeds.Suspended e).word)
+    own_settled Recordeds.Delayed e = absurd (cc (settling h a Recordeds.Delayed e).word)
+    own_settled Recordeds.Woken e = absurd (cc (settling h a Recordeds.Woken e).word)
+    own_settled (Recordeds.Accepted value) e = absurd (cc (settling h a (Recordeds.Accepted value) e).word)
+
+  own_counts : Legal h → 0 < a → (q : Request) (w : Recorded) → recorded (out h a q) ≡ Some w
+      → length (held h.shapes a (Asked a q w ∷ h.past)) ≡ held_behind n (ask_of q (out h a q)) + handed_one (stance a (Asked a q w ∷ h.past))
   own_counts l some (Call o p vs) w e = own_call o p vs w e
   own_counts l some (Complete vs x) w e = own_complete l vs x w e
+  own_counts l some Settle w e = own_settled l w e
   own_counts l some Resume w e = own_resume w e (next_none Resume w e refl)
   own_counts l some (DelayUntil t) w e =
       own_calm (DelayUntil t) w e refl refl (delay_holds h n (holds_any h a) (int_le t (pos (clock h.past))))
-      (may_call_free (who h.shapes a) (held h.shapes a h.past) (stance a h.past) (both _ (is_time t) (answered h a (DelayUntil t) w e).fits_in).0)
-  own_counts l some Clock w e = own_calm Clock w e refl refl refl (may_call_free (who h.shapes a) (held h.shapes a h.past) (stance a h.past) (answered h a Clock w e).fits_in)
+      (may_call_free (who h.shapes a) (held h.shapes a h.past) (stance a h.past) (calls (both (may_call (who h.shapes a) (mode h.shapes a h.past)) (is_time t) (answered h a (DelayUntil t) w e).fits_in).0))
+  own_counts l some Clock w e = own_calm Clock w e refl refl refl (may_call_free (who h.shapes a) (held h.shapes a h.past) (stance a h.past) (calls (answered h a Clock w e).fits_in))
   own_counts l some Fire w e = own_fire w e
-  own_counts l some Quit w e = own_calm Quit w e refl refl refl (idle_task_free (who h.shapes a) (held h.shapes a h.past) (stance a h.past) (answered h a Quit w e).fits_in)
+  own_counts l some Quit w e = own_calm Quit w e refl refl refl
+      (idle_task_free (who h.shapes a) (held h.shapes a h.past) (stance a h.past) (quits_at (who h.shapes a) (to_settle h.shapes a h.past) (mode_by (held h.shapes a h.past) (stance a h.past)) (answered h a Quit w e).fits_in))
   own_counts l some (Tick m) w e = absurd (off (sym (not_operator h.shapes a some) ∙ (both _ (is_tick m) (answered h a (Tick m) w e).fits_in).0))
   own_counts l some Halt w e = absurd (off (sym (not_operator h.shapes a some) ∙ (answered h a Halt w e).fits_in))
 
@@ -367,9 +417,9 @@ module _ (h : History) (a b n : ℕ) (l : Legal h) (apart : a ≢ b) (k : length
       ap length (held_other h.shapes h.past b q w a apart e)
       ∙ (k ∙ ap (λ z. n + handed_one z) (sym (unnamed_stance (next_of (Asked b q w)) a b (stance_of (Asked b q w)) (stance a h.past) e apart)))
 
-  module _ (vs : List ℤ) (x : Exit) (next : Next) (names : Names h b vs next a) where
+  module _ (r : Request) (next : Next) (names : Names h b r next a) where
     waits_for : Waits h.shapes h.past names.served_by.call
-    waits_for = head_waits h.shapes h.past names.body.object names.served_by.call names.served_by.rest (legal_waits h.limits h.past h.shapes h.lists l) names.served_by.queued
+    waits_for = head_waits h.shapes h.past names.body.object names.served_by.call names.served_by.rest (legal_standing h.limits h.past h.shapes h.lists l).wait names.served_by.queued
 
     its : names.served_by.call.actor ≡ a
     its = names.served_by.is_its
@@ -380,63 +430,69 @@ module _ (h : History) (a b n : ℕ) (l : Legal h) (apart : a ≢ b) (k : length
     none_held : n ≡ 0
     none_held = let z : length (held h.shapes a h.past) ≡ 0 = held_none in omega (arith, k, z)
 
-    none_left : length (filter (by a) (without b (under_way h.shapes h.past))) ≡ 0
-    none_left = let less = count_less (by a) b (under_way h.shapes h.past) in let z : length (held h.shapes a h.past) ≡ 0 = held_none in omega (arith, less, z)
+    none_left : (rest : List Body) → length (filter (by a) rest) ≤ length (held h.shapes a h.past) → length (filter (by a) rest) ≡ 0
+    none_left rest less = let z : length (held h.shapes a h.past) ≡ 0 = held_none in omega (arith, less, z)
 
     named_last : last_queued a h.past ≡ Some names.served_by.call
     named_last = ap (λ (z : ℕ). last_queued z h.past) (sym its) ∙ waits_for.last
 
-  named : (vs : List ℤ) (x : Exit) (next : Next) → recorded (out h b (Complete vs x)) ≡ Some (Recordeds.Done next) → is_other (named_in next) a ≡ false → CountsBy (Complete vs x) (Recordeds.Done next)
-  named vs x Nothing e f = absurd (off (sym f))
-  named vs x (HandedTo m) e f = by_number m (same_number m a (not_false (m == a) f)) e where
-    not_false : (t : Bool) → not t ≡ false → t ≡ true
-    not_false true g = refl
-    not_false false g = absurd (off (sym g))
+  -- what an end and a settle start, and how many of the actor's bodies they leave
+  record ServesOne (r : Request) : Type 0 where
+    starts : (next : Next) → started h.shapes h.past (Asked b r (Recordeds.Done next)) ≡ handed h.past next
+    fewer : (next : Next) → length (filter (by a) (closed (ended (Asked b r (Recordeds.Done next))) (under_way h.shapes h.past))) ≤ length (held h.shapes a h.past)
 
-    by_number : (m : ℕ) → m ≡ a → recorded (out h b (Complete vs x)) ≡ Some (Recordeds.Done (HandedTo m)) → CountsBy (Complete vs x) (Recordeds.Done (HandedTo m))
+  serves_one : (r : Request) → serves r ≡ true → ServesOne r
+  serves_one (Complete vs x) c = record { starts = λ next. refl; fewer = λ next. count_less (by a) b (under_way h.shapes h.past) }
+  serves_one Settle c = record { starts = λ next. refl; fewer = λ next. omega arith }
+  serves_one (Call o p vs) c = absurd (off c)
+  serves_one Resume c = absurd (off c)
+  serves_one (DelayUntil t) c = absurd (off c)
+  serves_one Clock c = absurd (off c)
+  serves_one Fire c = absurd (off c)
+  serves_one Quit c = absurd (off c)
+  serves_one (Tick m) c = absurd (off c)
+  serves_one Halt c = absurd (off c)
+
+  not_false : (t : Bool) → not t ≡ false → t ≡ true
+  not_false true g = refl
+  not_false false g = absurd (off (sym g))
+
+  named : (r : Request) → ServesOne r → (next : Next) → recorded (out h b r) ≡ Some (Recordeds.Done next) → is_other (named_in next) a ≡ false → CountsBy r (Recordeds.Done next)
+  named r s Nothing e f = absurd (off (sym f))
+  named r s (HandedTo m) e f = by_number m (same_number m a (not_false (m == a) f)) e where
+    by_number : (m : ℕ) → m ≡ a → recorded (out h b r) ≡ Some (Recordeds.Done (HandedTo m)) → CountsBy r (Recordeds.Done (HandedTo m))
     by_number m is e =
-        let e' : recorded (out h b (Complete vs x)) ≡ Some (Recordeds.Done (HandedTo a)) = subst (λ (z : ℕ). recorded (out h b (Complete vs x)) ≡ Some (Recordeds.Done (HandedTo z))) is e in
-        let names = names_at h b vs x (HandedTo a) a e' refl in
-        let one : length (held h.shapes a (Asked b (Complete vs x) (Recordeds.Done (HandedTo a)) ∷ h.past)) ≡ suc (length (filter (by a) (without b (under_way h.shapes h.past)))) =
-        ap (λ (o : Option Body). length (filter (by a) (begun o (without b (under_way h.shapes h.past))))) (named_last vs x (HandedTo a) names) ∙ one_more a names.served_by.call (without b (under_way h.shapes h.past)) names.served_by.is_its in
-        let now : handed_one (stance a (Asked b (Complete vs x) (Recordeds.Done (HandedTo a)) ∷ h.past)) ≡ 1 =
-        λ i. handed_one (or_else (first_of (if itself a i then Some HandedOver else None) (if b == a then Some Free else None)) (stance a h.past)) in
-        let left : length (filter (by a) (without b (under_way h.shapes h.past))) ≡ 0 = none_left vs x (HandedTo a) names in
-        let zero : n ≡ 0 = none_held vs x (HandedTo a) names in
-        let all : CountsBy (Complete vs x) (Recordeds.Done (HandedTo a)) = omega (arith, one, now, left, zero) in
-        subst (λ (z : ℕ). CountsBy (Complete vs x) (Recordeds.Done (HandedTo z))) (sym is) all
-  named vs x (Dropped m line) e f = by_number m (same_number m a (not_false (m == a) f)) e where
-    not_false : (t : Bool) → not t ≡ false → t ≡ true
-    not_false true g = refl
-    not_false false g = absurd (off (sym g))
-
-    by_number : (m : ℕ) → m ≡ a → recorded (out h b (Complete vs x)) ≡ Some (Recordeds.Done (Dropped m line)) → CountsBy (Complete vs x) (Recordeds.Done (Dropped m line))
+        let e' : recorded (out h b r) ≡ Some (Recordeds.Done (HandedTo a)) = subst (λ (z : ℕ). recorded (out h b r) ≡ Some (Recordeds.Done (HandedTo z))) is e in
+        let names = names_at h b r (HandedTo a) a e' refl in
+        let rest : List Body = closed (ended (Asked b r (Recordeds.Done (HandedTo a)))) (under_way h.shapes h.past) in
+        let one : length (held h.shapes a (Asked b r (Recordeds.Done (HandedTo a)) ∷ h.past)) ≡ suc (length (filter (by a) rest)) =
+        ap (λ (o : Option Body). length (filter (by a) (begun o rest))) (s.starts (HandedTo a) ∙ named_last r (HandedTo a) names) ∙ one_more a names.served_by.call rest names.served_by.is_its in
+        let now : handed_one (stance a (Asked b r (Recordeds.Done (HandedTo a)) ∷ h.past)) ≡ 1 =
+        λ i. handed_one (or_else (first_of (if itself a i then Some HandedOver else None) (if b == a then Some (stance_of (Asked b r (Recordeds.Done (HandedTo a)))) else None)) (stance a h.past)) in
+        let left : length (filter (by a) rest) ≡ 0 = none_left r (HandedTo a) names rest (s.fewer (HandedTo a)) in
+        let zero : n ≡ 0 = none_held r (HandedTo a) names in
+        let all : CountsBy r (Recordeds.Done (HandedTo a)) = omega (arith, one, now, left, zero) in
+        subst (λ (z : ℕ). CountsBy r (Recordeds.Done (HandedTo z))) (sym is) all
+  named r s (Dropped m line) e f = by_number m (same_number m a (not_false (m == a) f)) e where
+    by_number : (m : ℕ) → m ≡ a → recorded (out h b r) ≡ Some (Recordeds.Done (Dropped m line)) → CountsBy r (Recordeds.Done (Dropped m line))
     by_number m is e =
-        let e' : recorded (out h b (Complete vs x)) ≡ Some (Recordeds.Done (Dropped a line)) = subst (λ (z : ℕ). recorded (out h b (Complete vs x)) ≡ Some (Recordeds.Done (Dropped z line))) is e in
-        let names = names_at h b vs x (Dropped a line) a e' refl in
-        let now : handed_one (stance a (Asked b (Complete vs x) (Recordeds.Done (Dropped a line)) ∷ h.past)) ≡ 0 =
-        λ i. handed_one (or_else (first_of (if itself a i then Some (DroppedBy line) else None) (if b == a then Some Free else None)) (stance a h.past)) in
-        let left : length (filter (by a) (without b (under_way h.shapes h.past))) ≡ 0 = none_left vs x (Dropped a line) names in
-        let zero : n ≡ 0 = none_held vs x (Dropped a line) names in
-        let all : CountsBy (Complete vs x) (Recordeds.Done (Dropped a line)) = omega (arith, now, left, zero) in
-        subst (λ (z : ℕ). CountsBy (Complete vs x) (Recordeds.Done (Dropped z line))) (sym is) all
-
-  done_counts : (q : Request) (next : Next) → recorded (out h b q) ≡ Some (Recordeds.Done next) → is_complete q ≡ true → is_other (named_in next) a ≡ false → CountsBy q (Recordeds.Done next)
-  done_counts (Complete vs x) next e c f = named vs x next e f
-  done_counts (Call o p vs) next e c f = absurd (off c)
-  done_counts Resume next e c f = absurd (off c)
-  done_counts (DelayUntil t) next e c f = absurd (off c)
-  done_counts Clock next e c f = absurd (off c)
-  done_counts Fire next e c f = absurd (off c)
-  done_counts Quit next e c f = absurd (off c)
-  done_counts (Tick m) next e c f = absurd (off c)
-  done_counts Halt next e c f = absurd (off c)
+        let e' : recorded (out h b r) ≡ Some (Recordeds.Done (Dropped a line)) = subst (λ (z : ℕ). recorded (out h b r) ≡ Some (Recordeds.Done (Dropped z line))) is e in
+        let names = names_at h b r (Dropped a line) a e' refl in
+        let rest : List Body = closed (ended (Asked b r (Recordeds.Done (Dropped a line)))) (under_way h.shapes h.past) in
+        let same : length (held h.shapes a (Asked b r (Recordeds.Done (Dropped a line)) ∷ h.past)) ≡ length (filter (by a) rest) =
+        ap (λ (o : Option Body). length (filter (by a) (begun o rest))) (s.starts (Dropped a line)) in
+        let now : handed_one (stance a (Asked b r (Recordeds.Done (Dropped a line)) ∷ h.past)) ≡ 0 =
+        λ i. handed_one (or_else (first_of (if itself a i then Some (DroppedBy line) else None) (if b == a then Some (stance_of (Asked b r (Recordeds.Done (Dropped a line)))) else None)) (stance a h.past)) in
+        let left : length (filter (by a) rest) ≡ 0 = none_left r (Dropped a line) names rest (s.fewer (Dropped a line)) in
+        let zero : n ≡ 0 = none_held r (Dropped a line) names in
+        let all : CountsBy r (Recordeds.Done (Dropped a line)) = omega (arith, same, now, left, zero) in
+        subst (λ (z : ℕ). CountsBy r (Recordeds.Done (Dropped z line))) (sym is) all
 
   other_counts : (q : Request) (w : Recorded) → recorded (out h b q) ≡ Some w → CountsBy q w
   other_counts q (Recordeds.Done next) e = by_name (is_other (named_in next) a) refl where
     by_name : (t : Bool) → is_other (named_in next) a ≡ t → CountsBy q (Recordeds.Done next)
     by_name true f = unnamed q (Recordeds.Done next) f
-    by_name false f = done_counts q next e (done_at_ends h b q next e) f
+    by_name false f = named q (serves_one q (done_serves h b q next e)) next e f
   other_counts q Recordeds.Started e = unnamed q Recordeds.Started refl
   other_counts q Recordeds.Queued e = unnamed q Recordeds.Queued refl
   other_counts q (Recordeds.Refused rule line number) e = unnamed q (Recordeds.Refused rule line number) refl
@@ -456,13 +512,13 @@ not_same a b e i = off (sym e ∙ (ap (λ (z : ℕ). z == a) (sym i) ∙ itself 
 entry_counts : (h : History) (a b : ℕ) (q : Request) (w : Recorded) → Legal h → 0 < a → recorded (out h b q) ≡ Some w → length (held h.shapes a h.past) ≡ held_behind 0 (asks_of a h) + handed_one (stance a h.past)
     → length (held h.shapes a (Asked b q w ∷ h.past)) ≡ held_behind 0 (asks_of a h ++ own_ask a (Asked b q w) h) + handed_one (stance a (Asked b q w ∷ h.past))
 entry_counts h a b q w l some e k = by_actor (b == a) refl where
-  own : (b : ℕ) → b ≡ a → recorded (out h b q) ≡ Some w → length (held h.shapes a (Asked b q w ∷ h.past)) ≡ held_behind 0 (asks_of a h ++ (q, out h a q) ∷ []) + handed_one (stance a (Asked b q w ∷ h.past))
+  own : (b : ℕ) → b ≡ a → recorded (out h b q) ≡ Some w → length (held h.shapes a (Asked b q w ∷ h.past)) ≡ held_behind 0 (asks_of a h ++ ask_of q (out h a q)) + handed_one (stance a (Asked b q w ∷ h.past))
   own b is e =
       let e' : recorded (out h a q) ≡ Some w = subst (λ (z : ℕ). recorded (out h z q) ≡ Some w) is e in
-      subst (λ (z : ℕ). length (held h.shapes a (Asked z q w ∷ h.past)) ≡ held_behind 0 (asks_of a h ++ (q, out h a q) ∷ []) + handed_one (stance a (Asked z q w ∷ h.past))) (sym is)
-      (own_counts h a (held_behind 0 (asks_of a h)) k l some q w e' ∙ ap (λ (m : ℕ). m + handed_one (stance a (Asked a q w ∷ h.past))) (sym (held_both 0 (asks_of a h) ((q, out h a q) ∷ []))))
+      subst (λ (z : ℕ). length (held h.shapes a (Asked z q w ∷ h.past)) ≡ held_behind 0 (asks_of a h ++ ask_of q (out h a q)) + handed_one (stance a (Asked z q w ∷ h.past))) (sym is)
+      (own_counts h a (held_behind 0 (asks_of a h)) k l some q w e' ∙ ap (λ (m : ℕ). m + handed_one (stance a (Asked a q w ∷ h.past))) (sym (held_both 0 (asks_of a h) (ask_of q (out h a q)))))
 
-  by_actor : (t : Bool) → (b == a) ≡ t → length (held h.shapes a (Asked b q w ∷ h.past)) ≡ held_behind 0 (asks_of a h ++ cond t ((q, out h a q) ∷ []) []) + handed_one (stance a (Asked b q w ∷ h.past))
+  by_actor : (t : Bool) → (b == a) ≡ t → length (held h.shapes a (Asked b q w ∷ h.past)) ≡ held_behind 0 (asks_of a h ++ cond t (ask_of q (out h a q)) []) + handed_one (stance a (Asked b q w ∷ h.past))
   by_actor true is = own b (same_number b a is) e
   by_actor false is =
       other_counts h a b (held_behind 0 (asks_of a h)) l (not_same a b is) k q w e

@@ -8,7 +8,7 @@ use Rattle.rv_history.specs.Legal.{Legal}
 use Rattle.rv_meant.specs.Asks.{held_behind}
 use Rattle.rv_meant.specs.Histories.{asks_of}
 
--- one object more is held by a caller that an end handed it, and that hasn't woken since
+-- one object more is held by a caller that an end or a settle handed it, and that hasn't woken since
 abbrev pub handed_one : Stance → ℕ
 handed_one HandedOver = 1
 handed_one stance = 0

@@ -1,4 +1,5 @@
 pub mod Asks
+pub mod Settles
 pub mod Nested
 pub mod Histories
 pub mod Explained

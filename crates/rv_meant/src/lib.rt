@@ -2,6 +2,7 @@
 #![tactic(auto)]
 
 ghost use Rattle.rv_meant.specs.Nested.{BodiesNest, TasksNest};
+ghost use Rattle.rv_meant.specs.Settles.{BodiesNeverSettle, TasksNeverSettle};
 ghost use Rattle.rv_meant.specs.Told.{InnerEndsAreExplained, OuterEndsAreExplained, TaskEndsAreExplained};
 
 /// Each end of a body that a body asked, and that was answered Done, closes a body that it called: it is what that one
@@ -31,4 +32,14 @@ pub fn outer_ends_are_explained()
 /// And each end that a task's text asked.
 pub fn task_ends_are_explained()
     ensures { TaskEndsAreExplained }
+{}
+
+/// No body asks to settle an object, nor does one that it calls: that is a port's alone.
+pub fn bodies_never_settle()
+    ensures { BodiesNeverSettle }
+{}
+
+/// Nor does a task.
+pub fn tasks_never_settle()
+    ensures { TasksNeverSettle }
 {}

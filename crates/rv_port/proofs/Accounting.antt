@@ -1,5 +1,5 @@
 -- What a trace of a port left in what it has seen.
-use Rattle.std.proofs.Common.{◌≡◌, ◌⊎◌, inl, inr, ⊎_elim, ℕ, List, [], ◌∷◌, ◌++◌, Bool, true, cond, eq-eqb, refl, sym, ap, ◌∙◌, subst, append_assoc, append-nil, Option, Some, None}
+use Rattle.std.proofs.Common.{◌≡◌, ◌⊎◌, inl, inr, ⊎_elim, ℕ, List, [], ◌∷◌, ◌++◌, Bool, true, false, cond, eq-eqb, refl, sym, ap, ◌∙◌, subst, append_assoc, append-nil, Option, Some, None}
 use Rattle.std.specs.Prelude.{is_some}
 use Rattle.rv_event.specs.Recorded.{recorded}
 use Rattle.rv_event.specs.declared.entry.Request.{Request}
@@ -13,11 +13,15 @@ use Rattle.rv_turn.specs.Histories.{mine, StartsWith}
 use Rattle.rv_turn.specs.Prefixes.{starts_both, mine-append}
 use Rattle.rv_meant.specs.Asks.{recorded_if, recorded_of}
 use Rattle.rv_meant.specs.Explained.{stops_bodies}
+use Rattle.rv_meant.specs.Histories.{ask_of}
+use Rattle.rv_meant.specs.Settles.{is_settle, NeverSettles}
+use Rattle.rv_meant.proofs.Settles.{ask_is}
 use Rattle.rv_behind.specs.Events.{by, history_at}
 use Rattle.rv_behind.specs.Acting.{entered, grown}
 use Rattle.rv_behind.specs.declared.event.Event.{Event}
 use Rattle.rv_behind.specs.declared.event.Event.TheVariants.{Asks, Loads, Lists}
-use Rattle.rv_accounts.specs.Seen.{asked_at}
+use Rattle.rv_accounts.specs.Seen.{asked_at, but_settles}
+use Rattle.rv_accounts.specs.WithoutSettles.{but_settles-append}
 use Rattle.rv_accounts.proofs.Growing.{asks_grow, asks_stay}
 use Rattle.rv_port.specs.Traces.{Trace, told, noted, noted_if, IsAnswered, IsWorn, EachAnswered}
 use Rattle.rv_port.specs.Composing.{noted-append}
@@ -46,8 +50,8 @@ compared (d ∷ one) [] more rest e = inl (d ∷ one, refl)
 compared (d ∷ one) (c ∷ other) more rest e =
     cons_compared d c one other (ap (λ (l : List Event). first_or d l) e) (compared one other more rest (ap (λ (l : List Event). rest_of l) e))
 
--- of two fronts on which an actor asked as much, both have the same asks
-pub same_asks : (limits : Limits) (a : ℕ) (one other later : List Event) → StartsWith later one → StartsWith later other → mine by a one ≡ mine by a other → asked_at limits a one ≡ asked_at limits a other
+-- of two fronts on which an actor asked as much, settles aside, both have the same asks
+pub same_asks : (limits : Limits) (a : ℕ) (one other later : List Event) → StartsWith later one → StartsWith later other → but_settles (mine by a one) ≡ but_settles (mine by a other) → asked_at limits a one ≡ asked_at limits a other
 same_asks limits a one other later w z e =
     ⊎_elim (λ h. asks_stay limits a other one h e) (λ h. sym (asks_stay limits a one other h (sym e))) (compared one other w.0 z.0 (sym w.1 ∙ z.1))
 
@@ -116,36 +120,39 @@ module _ (limits : Limits) (a : ℕ) (seen later : List Event) (left : ℕ) wher
 
   -- how the rest of a trace is accounted for
   abbrev Rest : List Event → Trace → Trace → Type 0
-  Rest p done rest = (own base : List Event) → EachAnswered limits a seen later left own (done ++ rest) → StartsWith later base → mine by a base ≡ own → mine by a p ≡ own ++ noted a done → HasThen base p done
+  Rest p done rest = (own base : List Event) → EachAnswered limits a seen later left own (done ++ rest) → StartsWith later base → but_settles (mine by a base) ≡ own → but_settles (mine by a p) ≡ own ++ noted a done → HasThen base p done
 
-  one_more : (own base p : List Event) (q : Request) (r : Answer) (done rest : Trace) (word : Option Recorded) → recorded r ≡ word → Rest p done rest → IsAnswered limits a seen own later q r ⊎ IsWorn a left r (done ++ rest)
-      → EachAnswered limits a seen later left (own ++ noted a ((q, r) ∷ [])) (done ++ rest) → StartsWith later base → mine by a base ≡ own → mine by a p ≡ own ++ noted a ((q, r) ∷ done) → HasThen base p ((q, r) ∷ done)
-  one_more own base p q r done rest None is go x y w b e =
+  one_more : (own base p : List Event) (q : Request) (r : Answer) (done rest : Trace) (word : Option Recorded) → recorded r ≡ word → is_settle q ≡ false → Rest p done rest → IsAnswered limits a seen own later q r ⊎ IsWorn a left r (done ++ rest)
+      → EachAnswered limits a seen later left (own ++ noted a ((q, r) ∷ [])) (done ++ rest) → StartsWith later base → but_settles (mine by a base) ≡ own → but_settles (mine by a p) ≡ own ++ noted a ((q, r) ∷ done) → HasThen base p ((q, r) ∷ done)
+  one_more own base p q r done rest None is plain go x y w b e =
       let none : noted a ((q, r) ∷ []) ≡ [] = ap (λ (o : Option Recorded). noted_if o a q []) is in
       go (own ++ noted a ((q, r) ∷ [])) base y w (b ∙ sym (ap (λ (l : List Event). own ++ l) none ∙ append-nil own))
       (e ∙ (ap (λ (l : List Event). own ++ l) (noted-append a ((q, r) ∷ []) done) ∙ sym (append_assoc own (noted a ((q, r) ∷ [])) (noted a done))))
       ∙ ap (λ (o : Option Recorded). asked_at limits a base ++ recorded_if (is_some o) (q, r) (recorded_of done)) (sym is)
-  one_more own base p q r done rest (Some word) is go (inr x) y w b e = absurd (cc (is, ap (λ (c : Answer). recorded c) x.0))
-  one_more own base p q r done rest (Some word) is go (inl x) y w b e =
+  one_more own base p q r done rest (Some word) is plain go (inr x) y w b e = absurd (cc (is, ap (λ (c : Answer). recorded c) x.0))
+  one_more own base p q r done rest (Some word) is plain go (inl x) y w b e =
       let one : noted a ((q, r) ∷ []) ≡ Asks a q word ∷ [] = ap (λ (o : Option Recorded). noted_if o a q []) is in
       let next : List Event = x.at ++ Asks a q word ∷ [] in
       let grown_is : grown x.at a q r ≡ next = ap (λ (o : Option Recorded). entered x.at a q o) is in
       let d : Answer = out (history_at limits x.at) a q in
       let r_is : r ≡ d = x.due_is ∙ told_recorded d word (ap (λ (c : Answer). recorded c) (sym x.due_is) ∙ is) in
       let to : StartsWith later next = subst (λ (l : List Event). StartsWith later l) grown_is x.to in
-      let own_is : mine by a next ≡ own ++ noted a ((q, r) ∷ []) = mine-append by a x.at (Asks a q word ∷ []) ∙ (λ i. x.own_is i ++ (ap (λ (k : Bool). cond k (Asks a q word ∷ []) []) (eq-eqb a a refl) ∙ sym one) i) in
+      let kept : but_settles (mine by a (Asks a q word ∷ [])) ≡ noted a ((q, r) ∷ []) =
+      ap (λ (k : Bool). but_settles (cond k (Asks a q word ∷ []) [])) (eq-eqb a a refl) ∙ (ap (λ (k : Bool). cond k [] (Asks a q word ∷ [])) plain ∙ sym one) in
+      let own_is : but_settles (mine by a next) ≡ own ++ noted a ((q, r) ∷ []) =
+      ap but_settles (mine-append by a x.at (Asks a q word ∷ [])) ∙ (but_settles-append (mine by a x.at) (mine by a (Asks a q word ∷ [])) ∙ (λ i. x.own_is i ++ kept i)) in
       let here : asked_at limits a next ≡ asked_at limits a base ++ (q, r) ∷ [] =
       asks_grow limits a x.at (Asks a q word)
-      ∙ (λ i. same_asks limits a x.at base later (starts_both x.at next later (Asks a q word ∷ [], refl) to) w (x.own_is ∙ sym b) i ++ (ap (λ (k : Bool). cond k ((q, d) ∷ []) []) (eq-eqb a a refl) ∙ ap (λ (c : Answer). (q, c) ∷ []) (sym r_is)) i) in
+      ∙ (λ i. same_asks limits a x.at base later (starts_both x.at next later (Asks a q word ∷ [], refl) to) w (x.own_is ∙ sym b) i ++ (ap (λ (k : Bool). cond k (ask_of q d) []) (eq-eqb a a refl) ∙ (ask_is q d plain ∙ ap (λ (c : Answer). (q, c) ∷ []) (sym r_is))) i) in
       go (own ++ noted a ((q, r) ∷ [])) next y to own_is
       (e ∙ (ap (λ (l : List Event). own ++ l) (noted-append a ((q, r) ∷ []) done) ∙ sym (append_assoc own (noted a ((q, r) ∷ [])) (noted a done))))
       ∙ (ap (λ (t : Trace). t ++ recorded_of done) here ∙ (append_assoc (asked_at limits a base) ((q, r) ∷ []) (recorded_of done)
       ∙ ap (λ (o : Option Recorded). asked_at limits a base ++ recorded_if (is_some o) (q, r) (recorded_of done)) (sym is)))
 
-  pub so_far : (own base p : List Event) (done rest : Trace) → EachAnswered limits a seen later left own (done ++ rest) → StartsWith later base → mine by a base ≡ own → StartsWith later p → mine by a p ≡ own ++ noted a done → HasThen base p done
-  so_far own base p [] rest x w b z e = same_asks limits a p base later z w (e ∙ (append-nil own ∙ sym b)) ∙ sym (append-nil (asked_at limits a base))
-  so_far own base p ((q, r) ∷ done) rest x w b z e =
-      one_more own base p q r done rest (recorded r) refl (λ own₁ base₁ y w₁ b₁ e₁. so_far own₁ base₁ p done rest y w₁ b₁ z e₁) x.0 x.1 w b e
+  pub so_far : (own base p : List Event) (done rest : Trace) → NeverSettles done → EachAnswered limits a seen later left own (done ++ rest) → StartsWith later base → but_settles (mine by a base) ≡ own → StartsWith later p → but_settles (mine by a p) ≡ own ++ noted a done → HasThen base p done
+  so_far own base p [] rest never x w b z e = same_asks limits a p base later z w (e ∙ (append-nil own ∙ sym b)) ∙ sym (append-nil (asked_at limits a base))
+  so_far own base p ((q, r) ∷ done) rest never x w b z e =
+      one_more own base p q r done rest (recorded r) refl never.0 (λ own₁ base₁ y w₁ b₁ e₁. so_far own₁ base₁ p done rest never.1 y w₁ b₁ z e₁) x.0 x.1 w b e
 
 -- An end of the actor in what was seen later
 

@@ -8,21 +8,20 @@ use Rattle.rv_access.specs.Words.{Words}
 use Rattle.rv_shape.specs.Shape.{Shape}
 use Rattle.rv_shape.specs.Fits.{shape_fits}
 use Rattle.rv_shape.specs.Catalogue.{Operator, Line, Task, UnitTask, tasks_of, all_tasks, task_of, who}
-use Rattle.rv_event.specs.Past.{halted, held, is_own, mode, mode_by, stance}
+use Rattle.rv_event.specs.Past.{halted, is_own, mode}
 use Rattle.rv_event.specs.declared.entry.Answer.{Answer}
 use Rattle.rv_event.specs.declared.entry.Entry.{Entry}
 use Rattle.rv_event.specs.declared.entry.Entry.TheVariants.{Asked, Load, ListChange}
 use Rattle.rv_event.specs.declared.entry.Mode.TheVariants as Modes
 use Rattle.rv_event.specs.declared.entry.Recorded.TheVariants as Says
 use Rattle.rv_event.specs.declared.entry.Request.TheVariants.{Quit}
-use Rattle.rv_event.specs.declared.entry.Stance.TheVariants.{Free}
 use Rattle.rv_history.specs.Due.{gate, nothing_more, out, within}
 use Rattle.rv_history.specs.Fitting.{fits, idle_task}
 use Rattle.rv_history.specs.History.{History}
 use Rattle.rv_history.specs.declared.limits.Limits.{Limits}
 use Rattle.rv_history.specs.Legal.{IsLegal, Legal}
 use Rattle.rv_history.specs.Owed.{actors, has_room, owed}
-use Rattle.rv_history.proofs.Frame.{held_stays, stance_stays}
+use Rattle.rv_history.proofs.Frame.{mode_stays}
 use Rattle.rv_history.proofs.Pays.{quit_never_full}
 use Rattle.rv_history.proofs.Room.{from_room, legal_solvent}
 use Rattle.rv_history.proofs.Silent.{apart_while}
@@ -74,9 +73,7 @@ idle_at : (h : History) (a : ℕ) → Legal h → list_any (is_own a) h.past ≡
 idle_at h a l none =
     let whole : h.past ++ [] ≡ h.past = append-nil h.past in
     let apart = apart_while h.limits h.past [] h.shapes h.lists a (subst (λ (p : List Entry). IsLegal h.limits p h.shapes h.lists) (sym whole) l) refl none in
-    let free : stance a h.past ≡ Free = ap (stance a) (sym whole) ∙ stance_stays a h.past [] apart in
-    let empty : held h.shapes a h.past ≡ [] = ap (held h.shapes a) (sym whole) ∙ held_stays h.shapes a h.past [] apart in
-    ap (λ s. mode_by (held h.shapes a h.past) s) free ∙ ap (λ bs. mode_by bs Free) empty
+    ap (mode h.shapes a) (sym whole) ∙ mode_stays h.shapes a h.past [] apart
 
 -- and may quit, if it is a task
 

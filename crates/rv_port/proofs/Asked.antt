@@ -14,7 +14,7 @@ use Rattle.rv_event.specs.declared.entry.Next.{Next}
 use Rattle.rv_event.specs.declared.entry.Recorded.{Recorded}
 use Rattle.rv_event.specs.declared.entry.Recorded.TheVariants as Recordeds
 use Rattle.rv_event.specs.declared.entry.Request.{Request}
-use Rattle.rv_event.specs.declared.entry.Request.TheVariants.{Complete, Quit}
+use Rattle.rv_event.specs.declared.entry.Request.TheVariants.{Complete, Settle, Quit}
 use Rattle.rv_history.specs.declared.limits.Limits.{Limits}
 use Rattle.rv_history.specs.Due.{out}
 use Rattle.rv_history.specs.History.{History}
@@ -24,7 +24,9 @@ use Rattle.rv_history.proofs.Growing.{front_is}
 use Rattle.rv_turn.specs.Histories.{mine, StartsWith}
 use Rattle.rv_turn.specs.Passes.{Acted, Meets}
 use Rattle.rv_meant.specs.Asks.{AreRecorded}
-use Rattle.rv_meant.specs.Histories.{asked_in, own_ask, history_of, asks_of}
+use Rattle.rv_meant.specs.Histories.{ask_of, asked_in, own_ask, history_of, asks_of}
+use Rattle.rv_meant.specs.Settles.{is_settle}
+use Rattle.rv_meant.proofs.Settles.{ask_is, none_asked}
 use Rattle.rv_meant.proofs.Nesting.{recorded_both}
 use Rattle.rv_behind.specs.Acting.{Does, entered}
 use Rattle.rv_behind.specs.declared.event.Ask.TheVariants as Wants
@@ -34,10 +36,10 @@ use Rattle.rv_behind.specs.declared.event.Event.{Event}
 use Rattle.rv_behind.specs.declared.event.Event.TheVariants.{Asks, Loads, Lists}
 use Rattle.rv_accounts.specs.Explained.{ExplainedEnd, Explained}
 use Rattle.rv_accounts.specs.Seen.{asked_at}
-use Rattle.rv_accounts.proofs.Growing.{asks_grow, asks_stay}
+use Rattle.rv_accounts.proofs.Growing.{asks_grow, others_stay}
 use Rattle.rv_accounts.proofs.Staying.{stays, others, nothing}
 use Rattle.rv_port.specs.Held.{asked_so_far, Owns}
-use Rattle.rv_port.specs.Traces.{Passing, Trace, limits_in, InVain}
+use Rattle.rv_port.specs.Traces.{Passing, Trace, limits_in, drops, SettledBy, SettlesBehind, InVain}
 use Rattle.rv_port.specs.Traces as traces
 use Rattle.rv_port.proofs.Accounting.{first_or, rest_of}
 use Rattle.rv_port.specs.Calls.{QuitBy, Quits}
@@ -118,6 +120,17 @@ pub lent_explained : (v w : Passing) (reply : Reply) → Acted by Does v Wants.B
 lent_explained v w reply x owns old =
     same_explained v w (ap (λ (z : Passing). z.about) x.same) (ap (λ (z : Passing). z.actor) x.same) (ap (λ (z : Passing). z.base) x.same) (borrow_own v w reply x) (later_entry x.at v.seen v w x.later x.entry) owns x.owns old
 
+-- the settles behind an end explain nothing
+settled_explained : (b : Bool) (answers : List Answer) (u w : Passing) → SettledBy b answers u w → Owns u → Owns w → EndsExplained u → EndsExplained w
+settled_explained false [] u w t owns owned old = subst (λ (z : Passing). EndsExplained z) (sym t) old
+settled_explained false (r ∷ rs) u w t owns owned old = absurd t
+settled_explained true [] u w t owns owned old = vain_explained u w Settle t.0 owns owned old
+settled_explained true (r ∷ rs) u w t owns owned old =
+    settled_explained (drops r) rs t.0 w t.2 t.1.owns owned (asked_explained u t.0 Settle r t.1 owns old (λ scalars exit next e f. absurd (cc e)))
+
+pub settles_explained : (u w : Passing) (r : Answer) → SettlesBehind r u w → Owns u → Owns w → EndsExplained u → EndsExplained w
+settles_explained u w r s owns owned old = settled_explained (drops r) s.0 u w s.1 owns owned old
+
 -- a quit
 quit_explained : (b : Bool) (v w : Passing) → QuitBy b v w → Owns v → EndsExplained v → EndsExplained w
 quit_explained true v w t owns old = subst (λ (z : Passing). EndsExplained z) (sym t) old
@@ -136,8 +149,12 @@ new_explained v owns base own = nothing (limits_in v.about) v.seen v.actor (owns
 
 own_recorded : (a b : ℕ) (q : Request) (word : Recorded) (h : History) → recorded (out h b q) ≡ Some word → AreRecorded (own_ask a (Asked b q word) h)
 own_recorded a b q word h e = by_test (eqb b a) refl where
-  by_test : (k : Bool) → eqb b a ≡ k → AreRecorded (cond k ((q, out h a q) ∷ []) [])
-  by_test true is = (ap (λ (n : ℕ). is_some (recorded (out h n q))) (sym (eqb-true b a is)) ∙ ap (λ (o : Option Recorded). is_some o) e, tt)
+  by_settle : (s : Bool) → is_settle q ≡ s → is_some (recorded (out h a q)) ≡ true → AreRecorded (ask_of q (out h a q))
+  by_settle true settles some = subst (λ (l : Trace). AreRecorded l) (sym (none_asked q (out h a q) settles)) tt
+  by_settle false settles some = subst (λ (l : Trace). AreRecorded l) (sym (ask_is q (out h a q) settles)) (some, tt)
+
+  by_test : (k : Bool) → eqb b a ≡ k → AreRecorded (cond k (ask_of q (out h a q)) [])
+  by_test true is = by_settle (is_settle q) refl (ap (λ (n : ℕ). is_some (recorded (out h n q))) (sym (eqb-true b a is)) ∙ ap (λ (o : Option Recorded). is_some o) e)
   by_test false is = tt
 
 in_recorded : (limits : Limits) (a : ℕ) (past : List Entry) (shapes : List Shape) (lists : List (List Words)) → IsLegal limits past shapes lists → AreRecorded (asked_in limits a past shapes lists)
@@ -158,20 +175,21 @@ pub legal_recorded : (h : History) (a : ℕ) → Legal h → AreRecorded (asks_o
 legal_recorded h a t = in_recorded h.limits a h.past h.shapes h.lists t
 
 -- an ask more
-asked_entered : (limits : Limits) (a : ℕ) (at : List Event) (q : Request) (r : Answer) (word : Option Recorded) → is_some word ≡ true → r ≡ out (history_at limits at) a q → asked_at limits a (entered at a q word) ≡ asked_at limits a at ++ (q, r) ∷ []
-asked_entered limits a at q r None is due = absurd (cc is)
-asked_entered limits a at q r (Some word) is due =
+asked_entered : (limits : Limits) (a : ℕ) (at : List Event) (q : Request) (r : Answer) (word : Option Recorded) → is_settle q ≡ false → is_some word ≡ true → r ≡ out (history_at limits at) a q → asked_at limits a (entered at a q word) ≡ asked_at limits a at ++ (q, r) ∷ []
+asked_entered limits a at q r None plain is due = absurd (cc is)
+asked_entered limits a at q r (Some word) plain is due =
     asks_grow limits a at (Asks a q word)
-    ∙ (ap (λ (k : Bool). asked_at limits a at ++ cond k ((q, out (history_at limits at) a q) ∷ []) []) (eq-eqb a a refl) ∙ ap (λ (z : Answer). asked_at limits a at ++ (q, z) ∷ []) (sym due))
+    ∙ (ap (λ (k : Bool). asked_at limits a at ++ cond k (ask_of q (out (history_at limits at) a q)) []) (eq-eqb a a refl)
+    ∙ (ap (λ (z : Answer). asked_at limits a at ++ ask_of q z) (sym due) ∙ ap (λ (l : Trace). asked_at limits a at ++ l) (ask_is q r plain)))
 
 module _ (v w : Passing) (q : Request) (r : Answer) (x : traces.Asked v q r w) (owns : Owns v) where
   asked_then : asked_at (limits_in v.about) v.actor x.at ≡ asked_so_far v
-  asked_then = asks_stay (limits_in v.about) v.actor v.seen x.at x.from (x.owned ∙ sym owns)
+  asked_then = others_stay (limits_in v.about) v.actor v.seen x.at x.from (x.owned ∙ sym owns)
 
-  pub asked_more : is_some (recorded r) ≡ true → asked_so_far w ≡ asked_so_far v ++ (q, r) ∷ []
-  asked_more is =
+  pub asked_more : is_settle q ≡ false → is_some (recorded r) ≡ true → asked_so_far w ≡ asked_so_far v ++ (q, r) ∷ []
+  asked_more plain is =
       (λ i. asked_at (ap (λ (z : Passing). limits_in z.about) x.same i) (ap (λ (z : Passing). z.actor) x.same i) (x.seen_is i))
-      ∙ (asked_entered (limits_in v.about) v.actor x.at q r (recorded r) is x.due_is ∙ ap (λ (t : Trace). t ++ (q, r) ∷ []) asked_then)
+      ∙ (asked_entered (limits_in v.about) v.actor x.at q r (recorded r) plain is x.due_is ∙ ap (λ (t : Trace). t ++ (q, r) ∷ []) asked_then)
 
   pub all_recorded : AreRecorded (asked_so_far v)
   all_recorded = subst (λ (t : Trace). AreRecorded t) asked_then (legal_recorded (history_at (limits_in v.about) x.at) v.actor x.legal)

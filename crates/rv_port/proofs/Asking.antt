@@ -12,7 +12,7 @@ use Rattle.rv_turn.specs.Histories.{mine, StartsWith}
 use Rattle.rv_turn.specs.Passes.{Acted, IsWorn}
 use Rattle.rv_behind.specs.Events.{by, history_at, catalogue_of}
 use Rattle.rv_behind.specs.Acting.{entered, grown, Does, begun_by}
-use Rattle.rv_port.specs.Traces.{Passing, limits_in, told, IsTold, asks_on, noted, noted_if, EachInVain, InVain, WoreOut, Went, Asked, Replied, RepliedOnce, Settled}
+use Rattle.rv_port.specs.Traces.{Passing, limits_in, told, IsTold, asks_on, noted, noted_if, EachInVain, InVain, WoreOut, Asked, Replied, RepliedOnce, Settled}
 use Rattle.std.specs.Prelude.{Result, Ok, Err, MatchResult}
 use Rattle.rv_turn.specs.declared.pass.Worn.{Worn}
 use Rattle.rv_exec.specs.Asking.{stands}
@@ -62,7 +62,7 @@ told_recorded Answers.Unattached = refl
 told_recorded Answers.BadLine = refl
 told_recorded Answers.OutOfMemory = refl
 
-noted_one : (word : Option Recorded) (a : ℕ) (q : Request) → length (noted_if word a q []) ≤ 1
+pub noted_one : (word : Option Recorded) (a : ℕ) (q : Request) → length (noted_if word a q []) ≤ 1
 noted_one (Some w) a q = omega arith
 noted_one None a q = omega arith
 
@@ -174,31 +174,6 @@ asked_act v w q r at limits about later owned legal due grew entry owns some sam
       same = same ∙ ap (λ (n : ℕ). record v { seen = w.seen; own = w.own; left = n }) (sym fewer);
     }
 
--- what a trace tells of one ask
-pub asked_went : (v w : Passing) (q : Request) (r : Answer) → Asked v q r w → asks_on r ≡ false → Went v ((q, told r) ∷ []) w
-asked_went v w q r x n =
-    let tells : noted v.actor ((q, told r) ∷ []) ≡ noted v.actor ((q, r) ∷ []) = ap (λ (z : Option Recorded). noted_if z v.actor q []) (told_recorded r) in
-    let grew : w.seen ≡ grown x.at v.actor q (told r) = x.seen_is ∙ ap (λ (z : Option Recorded). entered x.at v.actor q z) (sym (told_recorded r)) in
-    let one : length (noted v.actor ((q, told r) ∷ [])) ≤ 1 = noted_one (recorded (told r)) v.actor q in
-    let act : w.left + 1 ≡ x.before.left = x.act in let acts : x.before.left + length x.in_vain.times ≡ v.left = x.in_vain.acts in record {
-      later = asked_later v w q r x;
-      own = x.own_is ∙ ap (λ (l : List Event). v.own ++ l) (sym tells);
-      acts = omega (arith, one, act, acts);
-      each = (
-        inl record {
-          at = x.at;
-          from = x.from;
-          to = subst (λ (l : List Event). StartsWith w.seen l) grew (starts_self w.seen);
-          own_is = x.owned;
-          legal = x.legal;
-          due_is = ap told x.due_is;
-        },
-        tt,
-      );
-      steps = (w, inl (r, x, n, refl), refl);
-      same = x.same;
-    }
-
 -- an ask after others that were in vain
 pub asked_after : (v u w : Passing) (q : Request) (r : Answer) → InVain v q u → Asked u q r w → Asked v q r w
 asked_after v u w q r p x = let sa : u.actor ≡ v.actor = ap (λ (k : Passing). k.actor) p.same in let sb : u.base ≡ v.base = ap (λ (k : Passing). k.base) p.same in
@@ -254,21 +229,6 @@ told_stands Answers.Waiting t = absurd t
 told_stands Answers.Unattached t = refl
 told_stands Answers.BadLine t = refl
 told_stands Answers.OutOfMemory t = refl
-
--- where no act is left a body is told Full
-pub worn_told : (v w : Passing) (q : Request) → WoreOut v q w → Went v ((q, Answers.Full) ∷ []) w
-worn_told v w q p = let so : w.own ≡ v.own = ap (λ (k : Passing). k.own) p.0.same in let acts : w.left + length p.0.times ≡ v.left = p.0.acts in record {
-  later = in_vain_later v w q p.0;
-  own = so ∙ sym (append-nil v.own);
-  acts = omega (arith, acts);
-  each = (inr (refl, p.1, refl), tt);
-  steps = (w, inr (p, refl), refl);
-  same = p.0.same ∙ ap (λ (l : List Event). record v { seen = w.seen; own = l; left = w.left }) (sym so);
-}
-
--- a body is told the answer itself
-pub answer_told : (v w : Passing) (q : Request) (r t : Answer) (b : Begun) (lent : Option Lent) → Replied v q r b lent w → asks_on r ≡ false → t ≡ told r → Went v ((q, t) ∷ []) w
-answer_told v w q r t b lent x n is = subst (λ (z : Answer). Went v ((q, z) ∷ []) w) (sym is) (asked_went v w q r x.asked n)
 
 none_times : (v : Passing) (q : Request) → (in_vain_none v q).times ≡ []
 unfolding in_vain_none

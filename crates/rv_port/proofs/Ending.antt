@@ -21,13 +21,15 @@ use Rattle.rv_fits.specs.Fits.{callee_fits}
 use Rattle.rv_behind.specs.Acting.{IsLent}
 use Rattle.rv_port.proofs.Fitting.{lent_calls}
 use Rattle.rv_behind.specs.Events.{catalogue_of, history_at}
-use Rattle.rv_port.specs.Traces.{Passing, limits_in, Trace, noted, WoreOut, Went, Asked}
+use Rattle.rv_accounts.specs.Seen.{but_settles}
+use Rattle.rv_port.specs.Traces.{Passing, limits_in, Trace, noted, drops, SettlesBehind, WoreOut, Went, Asked}
 use Rattle.rv_port.specs.Reaching.{reached_by, end_of}
 use Rattle.rv_port.specs.Bodies.{Runs}
 use Rattle.rv_port.specs.Held.{held_by, Owns}
-use Rattle.rv_port.specs.Calls.{EndsIf, RanOn, InBody, EndedBy, stops_at, StoppedAsking, StoppedAt, StoppedInside, LeftInside, Tied}
+use Rattle.rv_port.specs.Calls.{AreSettles, EndsIf, RanOn, InBody, EndedBy, stops_at, StoppedAsking, StoppedAt, StoppedInside, LeftInside, Tied}
 use Rattle.rv_port.proofs.Asking.{asked_later}
 use Rattle.rv_port.proofs.Gets.{of_end, end_gets}
+use Rattle.rv_port.proofs.Settles.{none_behind, settles_events, settles_to}
 use Rattle.rv_port.proofs.Performing.{stays_both, went_stays}
 use Rattle.rv_port.proofs.Stopped.{stop_at, runs_stop}
 use Rattle.rv_port.proofs.Straying.{no_strays}
@@ -45,7 +47,11 @@ pub record LastEnd (u : Passing) (exit : Exit) (w : Passing) : Type 0 where
   pub asked : Trace
   pub scalars : List ℤ
   pub next : Next
-  pub own_is : w.own ≡ u.own ++ (noted u.actor asked ++ Asks u.actor (Complete scalars exit) (Words.Done next) ∷ [])
+  pub inside : List Event
+  pub inside_is : but_settles inside ≡ noted u.actor asked
+  pub behind : List Event
+  pub settles : AreSettles u.actor next behind
+  pub own_is : w.own ≡ u.own ++ (inside ++ Asks u.actor (Complete scalars exit) (Words.Done next) ∷ behind)
   pub later : StartsWith w.seen u.seen
 
 -- its end was asked in vain
@@ -78,9 +84,13 @@ ended_by v u w q exit o t = record {
   asked = t.asked;
   scalars = t.scalars;
   next = t.next;
-  own_is = subst (λ (n : ℕ). w.own ≡ u.own ++ (noted n t.asked ++ Asks n (Complete t.scalars exit) (Words.Done t.next) ∷ [])) o.actor_is t.own_is
-      ∙ (ap (λ (l : List Event). l ++ (noted v.actor t.asked ++ Asks v.actor (Complete t.scalars exit) (Words.Done t.next) ∷ [])) o.own_is
-      ∙ append_assoc v.own o.first (noted v.actor t.asked ++ Asks v.actor (Complete t.scalars exit) (Words.Done t.next) ∷ []));
+  inside = t.inside;
+  inside_is = t.inside_is ∙ ap (λ (n : ℕ). noted n t.asked) o.actor_is;
+  behind = t.behind;
+  settles = subst (λ (n : ℕ). AreSettles n t.next t.behind) o.actor_is t.settles;
+  own_is = subst (λ (n : ℕ). w.own ≡ u.own ++ (t.inside ++ Asks n (Complete t.scalars exit) (Words.Done t.next) ∷ t.behind)) o.actor_is t.own_is
+      ∙ (ap (λ (l : List Event). l ++ (t.inside ++ Asks v.actor (Complete t.scalars exit) (Words.Done t.next) ∷ t.behind)) o.own_is
+      ∙ append_assoc v.own o.first (t.inside ++ Asks v.actor (Complete t.scalars exit) (Words.Done t.next) ∷ t.behind));
 }
 
 in_body : (v u k : Passing) (q : Request) (asked : Trace) → Opened v q u → Went u asked k → InBody v q asked k
@@ -89,8 +99,9 @@ in_body v u k q asked o t = record {
   start = o.start;
   opens = o.opens;
   is_new = new_later o.start v.seen u.seen k.seen o.is_new t.later;
-  own_is = subst (λ (n : ℕ). k.own ≡ u.own ++ noted n asked) o.actor_is t.own
-      ∙ (ap (λ (l : List Event). l ++ noted v.actor asked) o.own_is ∙ append_assoc v.own o.first (noted v.actor asked));
+  inside = t.grew.more;
+  inside_is = t.grew.pairs ∙ ap (λ (n : ℕ). noted n asked) o.actor_is;
+  own_is = t.grew.own_is ∙ (ap (λ (l : List Event). l ++ t.grew.more) o.own_is ∙ append_assoc v.own o.first t.grew.more);
 }
 
 no_end : (v u w : Passing) (q : Request) → Opened v q u → NoEnd u w → StoppedAsking v q w
@@ -129,15 +140,27 @@ tied_body v u w q Reaches.Stopped o t = ⊎_elim (λ none. inl (no_end v u w q o
 tied_body v u w q (Reaches.Refused rule line version) o t = absurd t
 tied_body v u w q Reaches.Misuse o t = absurd t
 
-done_last : (u w : Passing) (trace : Trace) (k : Passing) (scalars : List ℤ) (exit : Exit) (next : Next) → Went u trace k → Asked k (Complete scalars exit) (Answers.Done next) w → LastEnd u exit w
-done_last u w trace k scalars exit next p x = record {
-  asked = trace;
-  scalars = scalars;
-  next = next;
-  own_is = x.own_is ∙ ((λ i. p.own i ++ Asks (ap (λ (z : Passing). z.actor) p.same i) (Complete scalars exit) (Words.Done next) ∷ [])
-      ∙ append_assoc u.own (noted u.actor trace) (Asks u.actor (Complete scalars exit) (Words.Done next) ∷ []));
-  later = starts_both u.seen k.seen w.seen p.later (asked_later k w _ _ x);
-}
+-- its end and the settles behind it are what is new behind what it asked
+end_own : (u k m w : Passing) (more behind : List Event) (e : Event) → k.own ≡ u.own ++ more → m.own ≡ k.own ++ e ∷ [] → w.own ≡ m.own ++ behind → w.own ≡ u.own ++ (more ++ e ∷ behind)
+end_own u k m w more behind e p q r =
+    r ∙ (ap (λ (l : List Event). l ++ behind) (q ∙ ap (λ (l : List Event). l ++ e ∷ []) p)
+    ∙ (append_assoc (u.own ++ more) (e ∷ []) behind ∙ append_assoc u.own more (e ∷ behind)))
+
+done_last : (u m w : Passing) (trace : Trace) (k : Passing) (scalars : List ℤ) (exit : Exit) (next : Next) → Went u trace k → Asked k (Complete scalars exit) (Answers.Done next) m → SettlesBehind (Answers.Done next) m w → LastEnd u exit w
+done_last u m w trace k scalars exit next p x b =
+    let s = settles_events next m w b in
+    let same : k.actor ≡ u.actor = ap (λ (z : Passing). z.actor) p.same in record {
+      asked = trace;
+      scalars = scalars;
+      next = next;
+      inside = p.grew.more;
+      inside_is = p.grew.pairs;
+      behind = s.0;
+      settles = subst (λ (n : ℕ). AreSettles n next s.0) (ap (λ (z : Passing). z.actor) x.same ∙ same) s.2;
+      own_is = end_own u k m w p.grew.more s.0 (Asks u.actor (Complete scalars exit) (Words.Done next)) p.grew.own_is
+          (x.own_is ∙ ap (λ (n : ℕ). k.own ++ Asks n (Complete scalars exit) (Words.Done next) ∷ []) same) s.1;
+      later = starts_both u.seen m.seen w.seen (starts_both u.seen k.seen m.seen p.later (asked_later k m _ _ x)) (settles_to m w (Answers.Done next) b).later;
+    }
 
 by_exit : (u w : Passing) (exit : Exit) (t : LastEnd u exit w) → (exit ≡ Exits.Stopped → StoppedAt u t.asked) → RanTo u (reached_by exit) w
 by_exit u w (Exits.Return values) t f = t
@@ -146,27 +169,28 @@ by_exit u w Exits.Overrun t f = (Exits.Overrun, refl, t)
 by_exit u w Exits.Stopped t f = inr (inl (t, f refl))
 
 -- the answer to its end stops the call
-stopped_end : (u w : Passing) (trace : Trace) (k : Passing) (scalars : List ℤ) (exit : Exit) (d : Answer) → Went u trace k → Asked k (Complete scalars exit) d w → stops_at (Complete scalars exit) d ≡ true → NoEnd u w
-stopped_end u w trace k scalars exit d p x e = record { asked = trace; body = k; went = p; scalars = scalars; exit = exit; reason = inr (d, x, e) }
+stopped_end : (u m w : Passing) (trace : Trace) (k : Passing) (scalars : List ℤ) (exit : Exit) (d : Answer) → Went u trace k → Asked k (Complete scalars exit) d m → stops_at (Complete scalars exit) d ≡ true → drops d ≡ false → SettlesBehind d m w → NoEnd u w
+stopped_end u m w trace k scalars exit d p x e none b =
+    record { asked = trace; body = k; went = p; scalars = scalars; exit = exit; reason = inr (d, subst (λ (z : Passing). Asked k (Complete scalars exit) d z) (sym (none_behind m w d none b)) x, e) }
 
-ran_end : (log : List Event) (u w : Passing) (trace : Trace) (k : Passing) (scalars : List ℤ) (exit : Exit) (d : Answer) → StartsWith u.seen log → Went u trace k → Asked k (Complete scalars exit) d w → of_end d ≡ true → (exit ≡ Exits.Stopped → StopsIn (callee_fits (catalogue_of log)) trace) → RanTo u (end_of d exit) w
+ran_end : (log : List Event) (u m w : Passing) (trace : Trace) (k : Passing) (scalars : List ℤ) (exit : Exit) (d : Answer) → StartsWith u.seen log → Went u trace k → Asked k (Complete scalars exit) d m → SettlesBehind d m w → of_end d ≡ true → (exit ≡ Exits.Stopped → StopsIn (callee_fits (catalogue_of log)) trace) → RanTo u (end_of d exit) w
 unfolding done_last
-ran_end log u w trace k scalars exit (Answers.Done next) later p x e f = by_exit u w exit (done_last u w trace k scalars exit next p x) (λ is. stop_at log u trace k later (f is) p.steps)
-ran_end log u w trace k scalars exit Answers.Misuse later p x e f = inl (stopped_end u w trace k scalars exit Answers.Misuse p x refl)
-ran_end log u w trace k scalars exit Answers.Full later p x e f = inl (stopped_end u w trace k scalars exit Answers.Full p x refl)
-ran_end log u w trace k scalars exit (Answers.Refused rule line version) later p x e f = absurd (cc e)
-ran_end log u w trace k scalars exit (Answers.Accepted value) later p x e f = absurd (cc e)
-ran_end log u w trace k scalars exit (Answers.Woken s) later p x e f = absurd (cc e)
-ran_end log u w trace k scalars exit (Answers.Started s) later p x e f = absurd (cc e)
-ran_end log u w trace k scalars exit Answers.Queued later p x e f = absurd (cc e)
-ran_end log u w trace k scalars exit Answers.Suspended later p x e f = absurd (cc e)
-ran_end log u w trace k scalars exit Answers.Delayed later p x e f = absurd (cc e)
-ran_end log u w trace k scalars exit Answers.Halted later p x e f = absurd (cc e)
-ran_end log u w trace k scalars exit Answers.Busy later p x e f = absurd (cc e)
-ran_end log u w trace k scalars exit Answers.Waiting later p x e f = absurd (cc e)
-ran_end log u w trace k scalars exit Answers.Unattached later p x e f = absurd (cc e)
-ran_end log u w trace k scalars exit Answers.BadLine later p x e f = absurd (cc e)
-ran_end log u w trace k scalars exit Answers.OutOfMemory later p x e f = absurd (cc e)
+ran_end log u m w trace k scalars exit (Answers.Done next) later p x b e f = by_exit u w exit (done_last u m w trace k scalars exit next p x b) (λ is. stop_at log u trace k p.asks later (f is) p.steps)
+ran_end log u m w trace k scalars exit Answers.Misuse later p x b e f = inl (stopped_end u m w trace k scalars exit Answers.Misuse p x refl refl b)
+ran_end log u m w trace k scalars exit Answers.Full later p x b e f = inl (stopped_end u m w trace k scalars exit Answers.Full p x refl refl b)
+ran_end log u m w trace k scalars exit (Answers.Refused rule line version) later p x b e f = absurd (cc e)
+ran_end log u m w trace k scalars exit (Answers.Accepted value) later p x b e f = absurd (cc e)
+ran_end log u m w trace k scalars exit (Answers.Woken s) later p x b e f = absurd (cc e)
+ran_end log u m w trace k scalars exit (Answers.Started s) later p x b e f = absurd (cc e)
+ran_end log u m w trace k scalars exit Answers.Queued later p x b e f = absurd (cc e)
+ran_end log u m w trace k scalars exit Answers.Suspended later p x b e f = absurd (cc e)
+ran_end log u m w trace k scalars exit Answers.Delayed later p x b e f = absurd (cc e)
+ran_end log u m w trace k scalars exit Answers.Halted later p x b e f = absurd (cc e)
+ran_end log u m w trace k scalars exit Answers.Busy later p x b e f = absurd (cc e)
+ran_end log u m w trace k scalars exit Answers.Waiting later p x b e f = absurd (cc e)
+ran_end log u m w trace k scalars exit Answers.Unattached later p x b e f = absurd (cc e)
+ran_end log u m w trace k scalars exit Answers.BadLine later p x b e f = absurd (cc e)
+ran_end log u m w trace k scalars exit Answers.OutOfMemory later p x b e f = absurd (cc e)
 
 ended_so : (v w : Passing) (scalars : List ℤ) (exit : Exit) (d : Answer) → Asked v (Complete scalars exit) d w → of_end d ≡ true
 ended_so v w scalars exit d x = ap of_end x.due_is ∙ end_gets (history_at (limits_in v.about) x.at) v.actor scalars exit
@@ -189,7 +213,7 @@ left_stops log u k None b scalars arguments trace last lent later t p own owned 
 left_stops log u k (Some bodies) b scalars arguments trace last lent later t p own owned n =
     let nested = bodies_nest (callee_fits (catalogue_of log)) bodies (held_by u) b.object b.operation arguments scalars t.0 trace last.exit (lent_calls log bodies lent) t.1 in
     is_by_stopped last.exit
-    (⊎_elim (λ s. no_strays log u trace k later p.steps s)
+    (⊎_elim (λ s. no_strays log u trace k later p.asks p.steps s)
     (λ h. ⊎_elim (λ w. unlike (held_by k) (held_by u) (held_went u k trace own owned p ∙ w.0 (held_by u)) n) (λ m. m.0) h) nested.course)
 
 pub ran_to : (log : List Event) (u w : Passing) (bodies : Option UnitBodies) (b : Begun) (scalars arguments : List ℤ) (reached : Reached) → IsLent log bodies → StartsWith u.seen log → Owns u → RanOn bodies u b scalars arguments reached w → RanTo u reached w
@@ -197,8 +221,8 @@ ran_to log u w bodies b scalars arguments reached lent later own n = by_held (eq
   by_held : (k : Bool) → eqb (held_by n.body) (held_by u) ≡ k → EndsIf k n.body (Complete n.ended.scalars n.ended.exit) n.ended.exit reached w → RanTo u reached w
   by_held true is e =
       ⊎_elim (λ wore. subst (λ (z : Reached). RanTo u z w) (sym wore.1) (inl (record { asked = n.trace; body = n.body; went = n.went; scalars = n.ended.scalars; exit = n.ended.exit; reason = inl wore.0 })))
-      (λ t. subst (λ (z : Reached). RanTo u z w) (sym t.3) (ran_end log u w n.trace n.body n.ended.scalars n.ended.exit t.0 later n.went t.1 (ended_so n.body w n.ended.scalars n.ended.exit t.0 t.1) (runs_stop log bodies (held_by u) b scalars arguments n.trace n.ended lent n.runs))) e
+      (λ t. subst (λ (z : Reached). RanTo u z w) (sym t.4) (ran_end log u t.1 w n.trace n.body n.ended.scalars n.ended.exit t.0 later n.went t.2 t.5 (ended_so n.body t.1 n.ended.scalars n.ended.exit t.0 t.2) (runs_stop log bodies (held_by u) b scalars arguments n.trace n.ended lent n.runs))) e
   by_held false is e =
       let stopped : n.ended.exit ≡ Exits.Stopped = left_stops log u n.body bodies b scalars arguments n.trace n.ended lent later n.runs n.went own n.owned is in
       subst (λ (z : Passing × Reached). RanTo u z.1 z.0) (λ i. (sym e.0 i, sym e.1 i))
-      (inr (inr (record { asked = n.trace; went = n.went; stopped = stop_at log u n.trace n.body later (runs_stop log bodies (held_by u) b scalars arguments n.trace n.ended lent n.runs stopped) n.went.steps })))
+      (inr (inr (record { asked = n.trace; went = n.went; stopped = stop_at log u n.trace n.body n.went.asks later (runs_stop log bodies (held_by u) b scalars arguments n.trace n.ended lent n.runs stopped) n.went.steps })))

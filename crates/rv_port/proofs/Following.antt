@@ -8,7 +8,7 @@ use Rattle.rv_event.specs.declared.entry.Answer.TheVariants as Answers
 use Rattle.rv_event.specs.declared.entry.Exit.{Exit}
 use Rattle.rv_event.specs.declared.entry.Recorded.{Recorded}
 use Rattle.rv_event.specs.declared.entry.Request.{Request}
-use Rattle.rv_event.specs.declared.entry.Request.TheVariants.{Call, Complete, Resume, DelayUntil, Clock, Fire, Quit, Tick, Halt}
+use Rattle.rv_event.specs.declared.entry.Request.TheVariants.{Call, Complete, Settle, Resume, DelayUntil, Clock, Fire, Quit, Tick, Halt}
 use Rattle.rv_exec.specs.Asking.{Along}
 use Rattle.rv_exec.specs.Bodies.{task_of}
 use Rattle.rv_exec.specs.Stops.{is_final}
@@ -17,27 +17,30 @@ use Rattle.rv_history.specs.declared.limits.Limits.{Limits}
 use Rattle.rv_history.specs.Due.{out, due, gate, within, enough, goes_on, nothing_more}
 use Rattle.rv_history.specs.Fitting.{fits}
 use Rattle.rv_history.specs.History.{History}
+use Rattle.rv_history.specs.Legal.{Legal}
 use Rattle.rv_turn.specs.Histories.{mine, StartsWith}
 use Rattle.rv_turn.specs.Prefixes.{starts_self, starts_both}
 use Rattle.rv_meant.specs.Asks.{recorded_if, recorded_of}
 use Rattle.rv_meant.specs.Explained.{stops_bodies}
-use Rattle.rv_meant.proofs.Nesting.{place_of}
 use Rattle.rv_behind.specs.Acting.{entered}
 use Rattle.rv_behind.specs.Events.{by, bodies_at, catalogue_of, history_at}
 use Rattle.rv_behind.specs.declared.event.Event.{Event}
 use Rattle.rv_behind.specs.declared.event.Event.TheVariants.{Asks}
-use Rattle.rv_accounts.specs.Seen.{asked_at, OwnAreDue}
+use Rattle.rv_accounts.specs.Seen.{asked_at, but_settles, OwnAreDue}
+use Rattle.rv_meant.specs.Settles.{NeverSettles}
 use Rattle.rv_accounts.specs.Followed.{IsAccounted, TextFollowed}
 use Rattle.rv_accounts.proofs.Staying.{not_mine}
-use Rattle.rv_accounts.proofs.Growing.{asks_stay}
+use Rattle.rv_accounts.proofs.Growing.{others_stay}
 use Rattle.rv_port.specs.Actors.{HasHandler}
 use Rattle.rv_port.specs.Held.{Owns}
 use Rattle.rv_port.specs.Traces.{Passing, Trace, limits_in, told, noted, noted_if, asks_on, IsAnswered, EachAnswered, Tells, Steps, Went}
 use Rattle.rv_port.proofs.Accounting.{each_at, so_far, final_none}
 use Rattle.rv_port.proofs.Actors.{handler_later}
-use Rattle.rv_port.proofs.Gets.{of_first, of_end, of_resume, first_gets, end_gets, resume_gets}
+use Rattle.rv_port.proofs.Gets.{of_first, of_end, of_resume, first_gets, end_gets, resume_gets, settle_gets}
 use Rattle.rv_port.proofs.Ends.{IsLentBy}
-use Rattle.rv_port.proofs.Fronts.{legal_with}
+use Rattle.rv_port.proofs.Fronts.{all_kept}
+use Rattle.rv_port.proofs.Legals.{legal_front, steps_see}
+use Rattle.rv_port.specs.Composing.{never_first}
 
 -- What is due
 
@@ -114,6 +117,7 @@ due_settles h a (DelayUntil time) has = first_settles (DelayUntil time) (out h a
 due_settles h a Clock has = first_settles Clock (out h a Clock) (first_gets h a Clock has tt)
 due_settles h a Fire has = first_settles Fire (out h a Fire) (first_gets h a Fire has tt)
 due_settles h a (Complete vs x) has = end_settles (out h a (Complete vs x)) (end_gets h a vs x)
+due_settles h a Settle has = end_settles (out h a Settle) (settle_gets h a)
 due_settles h a Resume has = resume_settles (out h a Resume) (resume_gets h a)
 due_settles h a Quit has = plain_settles (enough h a Quit (recorded (due h a Quit))) (fits h a Quit) (halted h.past && not (goes_on Quit))
 due_settles h a (Tick n) has = plain_settles (enough h a (Tick n) (recorded (due h a (Tick n)))) (fits h a (Tick n)) (halted h.past && not (goes_on (Tick n)))
@@ -163,7 +167,7 @@ told_calm Answers.OutOfMemory e = e
 
 -- none of the answers of a port's steps leaves its request standing
 tells_calm : (v w : Passing) (q : Request) (r : Answer) → Tells v q r w → asks_on r ≡ false
-tells_calm v w q r t = ⊎_elim (λ x. ap asks_on x.3 ∙ told_calm x.0 x.2) (λ x. ap asks_on x.1) t
+tells_calm v w q r t = ⊎_elim (λ x. ap asks_on x.4 ∙ told_calm x.0 x.3) (λ x. ap asks_on x.1) t
 
 steps_calm : (v w : Passing) (before : Trace) (q : Request) (r : Answer) (behind : Trace) → Steps v (before ++ (q, r) ∷ behind) w → asks_on r ≡ false
 steps_calm v w [] q r behind t = tells_calm v t.0 q r t.1
@@ -185,21 +189,16 @@ module _ (v w : Passing) (trace : Trace) (log : List Event) (k : IsLentBy v log)
   limits = limits_in v.about
 
   abbrev own : List Event
-  own = v.base ++ v.own
-
-  all_mine : mine by a w.seen ≡ own ++ noted a trace
-  all_mine =
-      ap (λ (n : ℕ). mine by n w.seen) (sym (ap (λ (z : Passing). z.actor) went.same))
-      ∙ (owned ∙ ((λ i. (ap (λ (z : Passing). z.base) went.same) i ++ went.own i) ∙ sym (append_assoc v.base v.own (noted a trace))))
+  own = but_settles (v.base ++ v.own)
 
   nothing : asked_at limits a v.seen ≡ []
-  nothing = asks_stay limits a [] v.seen (v.seen, refl) (k.owns ∙ none)
+  nothing = others_stay limits a [] v.seen (v.seen, refl) (k.owns ∙ none)
 
   each : EachAnswered limits a v.seen w.seen w.left own (trace ++ [])
   each = subst (λ (l : Trace). EachAnswered limits a v.seen w.seen w.left own l) (sym (append-nil trace)) went.each
 
   pub entries : asked_at limits a w.seen ≡ recorded_of trace
-  entries = so_far limits a v.seen w.seen w.left own v.seen w.seen trace [] each went.later k.owns (starts_self w.seen) all_mine ∙ ap (λ (l : Trace). l ++ recorded_of trace) nothing
+  entries = so_far limits a v.seen w.seen w.left own v.seen w.seen trace [] went.asks each went.later (ap but_settles k.owns) (starts_self w.seen) (all_kept v w trace owned went) ∙ ap (λ (l : Trace). l ++ recorded_of trace) nothing
 
   module _ (done : Trace) (q : Request) (r : Answer) (behind : Trace) (split : trace ≡ done ++ (q, r) ∷ behind) where
     here : EachAnswered limits a v.seen w.seen w.left own (done ++ (q, r) ∷ behind)
@@ -218,7 +217,7 @@ module _ (v w : Passing) (trace : Trace) (log : List Event) (k : IsLentBy v log)
             later = starts_both log v.seen y.at k.from y.from;
             seen_then = to_at;
             legal = y.legal;
-            had_asked = so_far limits a v.seen w.seen w.left own v.seen y.at done ((q, r) ∷ behind) here went.later k.owns to_at y.own_is ∙ ap (λ (l : Trace). l ++ recorded_of done) nothing;
+            had_asked = so_far limits a v.seen w.seen w.left own v.seen y.at done ((q, r) ∷ behind) (never_first done ((q, r) ∷ behind) (subst (λ (l : Trace). NeverSettles l) split went.asks)) here went.later (ap but_settles k.owns) to_at y.own_is ∙ ap (λ (l : Trace). l ++ recorded_of done) nothing;
             due = stops;
           },
         ))
@@ -231,12 +230,13 @@ module _ (v w : Passing) (trace : Trace) (log : List Event) (k : IsLentBy v log)
     pub accounted : IsAccounted limits a w.left log w.seen done q r behind
     accounted = ⊎_elim (λ y. answered y) (λ y. inr (inr (y.0, y.1, none_recorded a behind y.2))) (each_at limits a v.seen w.seen w.left own done q r behind here)
 
-  -- each event of the actor came with the text
+  -- each event of the actor came with the text, or is a settle behind an end of it
   pub own_due : OwnAreDue limits a w.seen
   own_due before after q word e =
-      ⊎_elim (λ h. absurd (not_mine a q word before h.0 (sym (ap (λ (l : List Event). mine by a l) h.1) ∙ (k.owns ∙ none))))
-      (λ h. legal_with v w trace k.owns owned went before after q word (h.0, h.1) e)
-      (place_of (Asks a q word) v.seen went.later.0 before after (sym went.later.1 ∙ e))
+      let one : List Event = Asks a q word ∷ [] in
+      ⊎_elim (λ same. absurd (not_mine a q word before after (sym (ap (λ (l : List Event). mine by a l) e) ∙ (ap (λ (l : List Event). mine by a l) same ∙ (k.owns ∙ none)))))
+      (λ l. legal_front limits (before ++ one) after (subst (λ (z : List Event). Legal (history_at limits z)) (e ∙ sym (append_assoc before one after)) l))
+      (steps_see v trace w went.steps).1
 
 -- Of the bodies that a port was lent, which had done nothing, that of its task ran, with so many requests of its own: it is followed.
 pub texts_follow :

@@ -2,7 +2,7 @@
 use Rattle.std.proofs.Common.{◌≡◌, ℕ, Bool, true, false, if◌then◌else◌, List, Option, Some, None, refl, sym, ap, ◌∙◌, eqb}
 use Rattle.std.specs.Prelude.{ℤ, ◌&&◌, not, ◌-◌, nat_lt, is_some, slice_get}
 use Rattle.rv_event.specs.Recorded.{recorded}
-use Rattle.rv_event.specs.Past.{halted, innermost, stance, scalars, state, mode}
+use Rattle.rv_event.specs.Past.{halted, innermost, stance, scalars, state, mode, to_settle}
 use Rattle.rv_shape.specs.Catalogue.{OperationNumber, UnitTask, Operator, Line, who, task_of, all_tasks, Site, Target, Nowhere, OnProtected, OnSuspension, target, is_function, is_entry, handles, handler}
 use Rattle.rv_shape.specs.declared.kind.Kind.{Kind}
 use Rattle.rv_shape.specs.declared.kind.Kind.TheVariants.{Function, Procedure, Entry as EntryKind, Handler}
@@ -14,7 +14,7 @@ use Rattle.rv_shape.specs.declared.suspension.SuspensionOperation.TheVariants.{S
 use Rattle.rv_event.specs.declared.entry.Rule.TheVariants as Rules
 use Rattle.rv_event.specs.declared.entry.Exit.{Exit}
 use Rattle.rv_event.specs.declared.entry.Request.{Request}
-use Rattle.rv_event.specs.declared.entry.Request.TheVariants.{Call, Complete, Resume, DelayUntil, Clock, Fire, Quit, Tick, Halt}
+use Rattle.rv_event.specs.declared.entry.Request.TheVariants.{Call, Complete, Settle, Resume, DelayUntil, Clock, Fire, Quit, Tick, Halt}
 use Rattle.rv_event.specs.declared.entry.Answer.{Answer}
 use Rattle.rv_event.specs.declared.entry.Answer.TheVariants as Answers
 use Rattle.rv_history.specs.History.{History, version}
@@ -26,7 +26,7 @@ use Rattle.rv_history.specs.Fitting.{fits, idle_line}
 use Rattle.rv_history.specs.Owed.{actors}
 use Rattle.rv_event.specs.declared.entry.Mode.{Mode}
 use Rattle.rv_port.specs.Actors.{HasHandler}
-use Rattle.rv_history.specs.Due.{out, due, table, gate, within, enough, goes_on, judged, suspended, performed, due_call, due_fire, due_delay, due_end, end_of, due_resume, or_waiting}
+use Rattle.rv_history.specs.Due.{out, due, table, gate, within, enough, goes_on, judged, suspended, performed, due_call, due_fire, due_delay, due_end, due_settle, end_of, due_resume, or_waiting}
 use Rattle.rv_port.specs.Reaching.{Performs}
 
 -- a call of an operation
@@ -53,7 +53,7 @@ of_first q Answers.Full = true
 of_first q Answers.Busy = true
 of_first q r = false
 
--- the answers that an end may get
+-- the answers that an end, or a settle, may get
 abbrev pub of_end : Answer → Bool
 of_end (Answers.Done next) = true
 of_end Answers.Misuse = true
@@ -199,6 +199,7 @@ first_gets h a (DelayUntil time) has t = shut_gets h a (DelayUntil time) (delay_
 first_gets h a Clock has t = shut_gets h a Clock refl
 first_gets h a Fire has t = fire_gets h a (nat_lt a 11) refl has.handled
 first_gets h a (Complete vs x) has t = absurd t
+first_gets h a Settle has t = absurd t
 first_gets h a Resume has t = absurd t
 first_gets h a Quit has t = absurd t
 first_gets h a (Tick n) has t = absurd t
@@ -222,6 +223,16 @@ end_gets h a vs x = let q : Request = Complete vs x in
     within_gets of_end (enough h a q (recorded (due h a q))) (due h a q) refl
     (ap (λ (b : Bool). of_end (gate (fits h a q) b (table h a q))) (and_false (halted h.past))
     ∙ open_gets of_end (fits h a q) (table h a q) refl (due_end_gets h vs (innermost h.shapes a h.past)))
+
+due_settle_gets : (h : History) (b : Option Body) → of_end (due_settle h b) ≡ true
+due_settle_gets h None = refl
+due_settle_gets h (Some b) = refl
+
+pub settle_gets : (h : History) (a : ℕ) → of_end (out h a Settle) ≡ true
+settle_gets h a =
+    within_gets of_end (enough h a Settle (recorded (due h a Settle))) (due h a Settle) refl
+    (ap (λ (b : Bool). of_end (gate (fits h a Settle) b (table h a Settle))) (and_false (halted h.past))
+    ∙ open_gets of_end (fits h a Settle) (table h a Settle) refl (due_settle_gets h (to_settle h.shapes a h.past)))
 
 waiting_gets : (h : History) (ready : Bool) → of_resume (or_waiting h ready) ≡ true
 waiting_gets h true = refl

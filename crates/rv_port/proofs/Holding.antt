@@ -1,5 +1,5 @@
 -- How many objects an actor holds, behind what a port did.
-use Rattle.std.proofs.Common.{◌≡◌, ℕ, suc, ◌+◌, ◌-◌, ◌<◌, ◌≤◌, List, [], ◌∷◌, ◌++◌, length, Bool, false, cond, eq-eqb, refl, sym, ap, ◌∙◌, subst, append_assoc, append-nil, arith, length-append, ⊎_elim, Option, Some, None, Ok, Err}
+use Rattle.std.proofs.Common.{◌≡◌, ℕ, suc, ◌+◌, ◌-◌, ◌<◌, ◌≤◌, List, [], ◌∷◌, ◌++◌, length, Bool, true, false, cond, eq-eqb, refl, sym, ap, ◌∙◌, subst, append-nil, arith, length-append, ⊎_elim, Option, Some, None, Ok, Err}
 use Rattle.std.specs.Prelude.{is_some, Result, MatchResult}
 use Rattle.rv_event.specs.Recorded.{recorded}
 use Rattle.rv_event.specs.declared.entry.Answer.{Answer}
@@ -15,6 +15,9 @@ use Rattle.rv_turn.specs.declared.pass.Worn.{Worn}
 use Rattle.rv_meant.specs.Asks.{held_after, held_behind, recorded_if, recorded_of}
 use Rattle.rv_meant.proofs.Nesting.{held_both}
 use Rattle.rv_meant.proofs.Explaining.{recorded_held}
+use Rattle.rv_meant.proofs.Settles.{ask_is, none_asked}
+use Rattle.rv_meant.specs.Histories.{ask_of}
+use Rattle.rv_meant.specs.Settles.{is_settle}
 use Rattle.rv_behind.specs.Acting.{Does, Due, entered}
 use Rattle.rv_behind.specs.declared.event.Ask.TheVariants as Wants
 use Rattle.rv_behind.specs.declared.event.Reply.{Reply}
@@ -24,12 +27,13 @@ use Rattle.rv_behind.specs.declared.event.Begun.{Begun}
 use Rattle.rv_behind.specs.declared.event.Event.{Event}
 use Rattle.rv_behind.specs.declared.event.Event.TheVariants.{Asks}
 use Rattle.rv_behind.specs.declared.event.Lent.{Lent}
-use Rattle.rv_accounts.specs.Seen.{asked_at}
-use Rattle.rv_accounts.proofs.Growing.{asks_grow, asks_stay}
-use Rattle.rv_port.specs.Held.{held_by, Owns}
-use Rattle.rv_port.specs.Traces.{Passing, Trace, limits_in, noted, EachAnswered, Went, Asked, RepliedOnce}
+use Rattle.rv_accounts.specs.Seen.{asked_at, but_settles}
+use Rattle.rv_accounts.proofs.Growing.{asks_grow, others_stay}
+use Rattle.rv_port.specs.Held.{held_by, held_past, Owns}
+use Rattle.rv_port.specs.Traces.{Passing, Trace, limits_in, EachAnswered, Went, Asked, RepliedOnce}
 use Rattle.rv_port.proofs.Accounting.{so_far}
 use Rattle.rv_port.proofs.Actors.{later_entry}
+use Rattle.rv_port.proofs.Fronts.{all_kept}
 
 -- what its actor asked, and holds, by another pass of the same limits and actor
 held_as : (v w : Passing) → w.about ≡ v.about → w.actor ≡ v.actor → held_by w ≡ held_behind 0 (asked_at (limits_in v.about) v.actor w.seen)
@@ -37,7 +41,7 @@ held_as v w e f = λ i. held_behind 0 (asked_at (limits_in (e i)) (f i) w.seen)
 
 -- others change nothing
 pub held_stays : (v w : Passing) → w.about ≡ v.about → w.actor ≡ v.actor → StartsWith w.seen v.seen → mine by v.actor w.seen ≡ mine by v.actor v.seen → held_by w ≡ held_by v
-held_stays v w e f later same = held_as v w e f ∙ ap (λ (t : Trace). held_behind 0 t) (asks_stay (limits_in v.about) v.actor v.seen w.seen later same)
+held_stays v w e f later same = held_as v w e f ∙ ap (λ (t : Trace). held_behind 0 t) (others_stay (limits_in v.about) v.actor v.seen w.seen later same)
 
 -- behind a trace
 module _ (v w : Passing) (trace : Trace) (owns : Owns v) (owned : Owns w) (went : Went v trace w) where
@@ -48,18 +52,13 @@ module _ (v w : Passing) (trace : Trace) (owns : Owns v) (owned : Owns w) (went 
   limits = limits_in v.about
 
   abbrev own : List Event
-  own = v.base ++ v.own
-
-  all_mine : mine by a w.seen ≡ own ++ noted a trace
-  all_mine =
-      ap (λ (n : ℕ). mine by n w.seen) (sym (ap (λ (z : Passing). z.actor) went.same))
-      ∙ (owned ∙ ((λ i. (ap (λ (z : Passing). z.base) went.same) i ++ went.own i) ∙ sym (append_assoc v.base v.own (noted a trace))))
+  own = but_settles (v.base ++ v.own)
 
   each : EachAnswered limits a v.seen w.seen w.left own (trace ++ [])
   each = subst (λ (l : Trace). EachAnswered limits a v.seen w.seen w.left own l) (sym (append-nil trace)) went.each
 
   has : asked_at limits a w.seen ≡ asked_at limits a v.seen ++ recorded_of trace
-  has = so_far limits a v.seen w.seen w.left own v.seen w.seen trace [] each went.later owns (starts_self w.seen) all_mine
+  has = so_far limits a v.seen w.seen w.left own v.seen w.seen trace [] went.asks each went.later (ap but_settles owns) (starts_self w.seen) (all_kept v w trace owned went)
 
   pub held_went : held_by w ≡ held_behind (held_by v) trace
   held_went =
@@ -71,24 +70,32 @@ unrecorded_held : (n : ℕ) (q : Request) (r : Answer) → is_some (recorded r) 
 unrecorded_held n q r e = sym (recorded_held n ((q, r) ∷ [])) ∙ ap (λ (k : Bool). held_behind n (recorded_if k (q, r) [])) e
 
 -- behind one ask
-held_next : (limits : Limits) (a n : ℕ) (q : Request) (r : Answer) (word : Option Recorded) (at : List Event) → recorded r ≡ word → r ≡ out (history_at limits at) a q → held_behind 0 (asked_at limits a at) ≡ n → held_behind 0 (asked_at limits a (entered at a q word)) ≡ held_after n r
-held_next limits a n q r None at is due e = e ∙ sym (unrecorded_held n q r (ap (λ (o : Option Recorded). is_some o) is))
-held_next limits a n q r (Some word) at is due e =
-    ap (λ (t : Trace). held_behind 0 t) (asks_grow limits a at (Asks a q word) ∙ ap (λ (k : Bool). asked_at limits a at ++ cond k ((q, out (history_at limits at) a q) ∷ []) []) (eq-eqb a a refl))
-    ∙ (held_both 0 (asked_at limits a at) ((q, out (history_at limits at) a q) ∷ []) ∙ (λ i. held_after (e i) (sym due i)))
+held_asked : (n : ℕ) (q : Request) (r : Answer) (s : Bool) → is_settle q ≡ s → held_behind n (ask_of q r) ≡ cond s n (held_after n r)
+held_asked n q r true is = ap (λ (t : Trace). held_behind n t) (none_asked q r is)
+held_asked n q r false is = ap (λ (t : Trace). held_behind n t) (ask_is q r is)
 
-pub asked_held : (v w : Passing) (q : Request) (r : Answer) → Owns v → Asked v q r w → held_by w ≡ held_after (held_by v) r
+unrecorded_past : (n : ℕ) (r : Answer) (s : Bool) → held_after n r ≡ n → n ≡ cond s n (held_after n r)
+unrecorded_past n r true e = refl
+unrecorded_past n r false e = sym e
+
+held_next : (limits : Limits) (a n : ℕ) (q : Request) (r : Answer) (word : Option Recorded) (at : List Event) → recorded r ≡ word → r ≡ out (history_at limits at) a q → held_behind 0 (asked_at limits a at) ≡ n → held_behind 0 (asked_at limits a (entered at a q word)) ≡ held_past q n r
+held_next limits a n q r None at is due e = e ∙ unrecorded_past n r (is_settle q) (unrecorded_held n q r (ap (λ (o : Option Recorded). is_some o) is))
+held_next limits a n q r (Some word) at is due e =
+    ap (λ (t : Trace). held_behind 0 t) (asks_grow limits a at (Asks a q word) ∙ ap (λ (k : Bool). asked_at limits a at ++ cond k (ask_of q (out (history_at limits at) a q)) []) (eq-eqb a a refl))
+    ∙ (held_both 0 (asked_at limits a at) (ask_of q (out (history_at limits at) a q)) ∙ ((λ i. held_behind (e i) (ask_of q (sym due i))) ∙ held_asked n q r (is_settle q) refl))
+
+pub asked_held : (v w : Passing) (q : Request) (r : Answer) → Owns v → Asked v q r w → held_by w ≡ held_past q (held_by v) r
 asked_held v w q r owns x =
     held_as v w (ap (λ (z : Passing). z.about) x.same) (ap (λ (z : Passing). z.actor) x.same)
     ∙ (ap (λ (l : List Event). held_behind 0 (asked_at (limits_in v.about) v.actor l)) x.seen_is
     ∙ held_next (limits_in v.about) v.actor (held_by v) q r (recorded r) x.at refl x.due_is
-    (ap (λ (t : Trace). held_behind 0 t) (asks_stay (limits_in v.about) v.actor v.seen x.at x.from (x.owned ∙ sym owns))))
+    (ap (λ (t : Trace). held_behind 0 t) (others_stay (limits_in v.about) v.actor v.seen x.at x.from (x.owned ∙ sym owns))))
 
 -- The count of an asker
 
 pub counts_replied : (v w : Passing) (q : Request) (r : Answer) (begun : Begun) (lent : Option Lent) (result : Result Unit Worn) (held after : ℕ) → MatchResult result (λ _. RepliedOnce v q r begun lent w) (λ _. IsWorn v w) → Owns v → held ≡ held_by v
-    → result ≡ Ok tt → after ≡ held_after held r → after ≡ held_by w
-counts_replied v w q r begun lent (Ok u) held after x owns counts is e = e ∙ (ap (λ (n : ℕ). held_after n r) counts ∙ sym (asked_held v w q r owns x.0.asked))
+    → result ≡ Ok tt → after ≡ held_past q held r → after ≡ held_by w
+counts_replied v w q r begun lent (Ok u) held after x owns counts is e = e ∙ (ap (λ (n : ℕ). held_past q n r) counts ∙ sym (asked_held v w q r owns x.0.asked))
 counts_replied v w q r begun lent (Err u) held after x owns counts is e = absurd (cc is)
 
 more_few : (n held : ℕ) (r : Answer) → n ≡ held_after held r → n ≤ suc held
@@ -110,6 +117,10 @@ more_few n held Answers.Unattached e = omega (arith, e)
 more_few n held Answers.BadLine e = omega (arith, e)
 more_few n held Answers.OutOfMemory e = omega (arith, e)
 
+past_few : (n held : ℕ) (r : Answer) (s : Bool) → n ≡ cond s held (held_after held r) → n ≤ suc held
+past_few n held r true e = omega (arith, e)
+past_few n held r false e = more_few n held r e
+
 act_taken : (v w : Passing) (q : Request) (r : Answer) → Asked v q r w → w.left + 1 ≤ v.left
 act_taken v w q r x = let act : w.left + 1 ≡ x.before.left = x.act in let acts : x.before.left + length x.in_vain.times ≡ v.left = x.in_vain.acts in omega (arith, act, acts)
 
@@ -118,10 +129,10 @@ one_more v w q r begun lent (Ok u) held most x few is = let less : w.left + 1 �
 one_more v w q r begun lent (Err u) held most x few is = absurd (cc is)
 
 pub few_replied : (v w : Passing) (q : Request) (r : Answer) (begun : Begun) (lent : Option Lent) (result : Result Unit Worn) (held after most : ℕ) → MatchResult result (λ _. RepliedOnce v q r begun lent w) (λ _. IsWorn v w) → held + v.left < most
-    → result ≡ Ok tt → after ≡ held_after held r → after + w.left < most
+    → result ≡ Ok tt → after ≡ held_past q held r → after + w.left < most
 few_replied v w q r begun lent (Ok u) held after most x few is e =
     let less : w.left + 1 ≤ v.left = act_taken v w q r x.0.asked in
-    let more : after ≤ suc held = more_few after held r e in
+    let more : after ≤ suc held = past_few after held r (is_settle q) e in
     omega (arith, few, less, more)
 few_replied v w q r begun lent (Err u) held after most x few is e = absurd (cc is)
 
@@ -161,7 +172,7 @@ few_lent v w (Err e) held most x few = subst (λ (z : Passing). held + z.left < 
 
 -- a new port holds nothing
 pub counts_new : (v : Passing) → Owns v → v.base ≡ [] → v.own ≡ [] → 0 ≡ held_by v
-counts_new v owns base own = sym (ap (λ (t : Trace). held_behind 0 t) (asks_stay (limits_in v.about) v.actor [] v.seen (v.seen, refl) (owns ∙ (λ i. base i ++ own i))))
+counts_new v owns base own = sym (ap (λ (t : Trace). held_behind 0 t) (others_stay (limits_in v.about) v.actor [] v.seen (v.seen, refl) (owns ∙ (λ i. base i ++ own i))))
 
 pub few_new : (n most : ℕ) → n < most → 0 + n < most
 few_new n most e = omega (arith, e)

@@ -2,6 +2,8 @@ pub mod Above
 pub mod Actors
 pub mod Asking
 pub mod Gets
+pub mod Settles
+pub mod Settlers
 pub mod Later
 pub mod Resuming
 pub mod Performing
@@ -23,6 +25,7 @@ pub mod Straying
 pub mod Holding
 pub mod Ends
 pub mod Fronts
+pub mod Legals
 pub mod Since
 pub mod OwnEnds
 pub mod Starts

@@ -17,15 +17,16 @@ use Rattle.rv_meant.specs.Asks.{held_behind, HoldsMore, recorded_of}
 use Rattle.rv_meant.specs.Histories.{asks_of, without_last}
 use Rattle.rv_meant.specs.Explained.{StartsBody, stops_bodies}
 use Rattle.rv_meant.specs.Told.{HasAsked}
+use Rattle.rv_meant.specs.Settles.{NeverSettles}
 use Rattle.rv_meant.proofs.Explaining.{outer_ends}
 use Rattle.rv_behind.specs.Acting.{entered}
 use Rattle.rv_behind.specs.Events.{by, bodies_at, catalogue_of, history_at}
 use Rattle.rv_behind.specs.declared.event.Event.{Event}
-use Rattle.rv_accounts.specs.Seen.{asked_at}
+use Rattle.rv_accounts.specs.Seen.{asked_at, but_settles}
 use Rattle.rv_accounts.specs.Explained.{ExplainedEnd}
 use Rattle.rv_accounts.proofs.Growing.{without_later}
 use Rattle.rv_port.specs.Traces.{Passing, Trace, limits_in, noted, IsAnswered, EachAnswered, Asked}
-use Rattle.rv_port.specs.Composing.{each_both}
+use Rattle.rv_port.specs.Composing.{each_both, never_first, owned_then}
 use Rattle.rv_port.proofs.Actors.{catalogue-append}
 use Rattle.rv_port.proofs.Ends.{RanSo, given_at}
 use Rattle.rv_port.proofs.Accounting.{each_at, so_far, final_stops, final_none}
@@ -46,12 +47,12 @@ module _ (u body w : Passing) (trace : Trace) (log : List Event) (early opening 
   limits = limits_in u.about
 
   abbrev own : List Event
-  own = u.base ++ u.own
+  own = but_settles (u.base ++ u.own)
 
-  at_mine : mine by a x.at ≡ own ++ noted a trace
+  at_mine : but_settles (mine by a x.at) ≡ own ++ noted a trace
   at_mine =
-      ap (λ (n : ℕ). mine by n x.at) (sym (ap (λ (z : Passing). z.actor) k.went.same))
-      ∙ (x.owned ∙ ((λ i. (ap (λ (z : Passing). z.base) k.went.same) i ++ k.went.own i) ∙ sym (append_assoc u.base u.own (noted a trace))))
+      ap but_settles (ap (λ (n : ℕ). mine by n x.at) (sym (ap (λ (z : Passing). z.actor) k.went.same)) ∙ x.owned)
+      ∙ owned_then u body trace (ap (λ (z : Passing). z.base) k.went.same) k.went.grew
 
   from_start : StartsWith x.at u.seen
   from_start = starts_both u.seen body.seen x.at k.went.later x.from
@@ -60,7 +61,7 @@ module _ (u body w : Passing) (trace : Trace) (log : List Event) (early opening 
   each = each_both limits a u.seen body.seen x.at body.left body.left own trace [] k.went.later x.from (no_more_left body.left) k.went.each tt
 
   has : asked_at limits a x.at ≡ asked_at limits a u.seen ++ recorded_of trace
-  has = so_far limits a u.seen x.at body.left own u.seen x.at trace [] each from_start k.lent.owns (starts_self x.at) at_mine
+  has = so_far limits a u.seen x.at body.left own u.seen x.at trace [] k.went.asks each from_start (ap but_settles k.lent.owns) (starts_self x.at) at_mine
 
   abbrev IsDue : Trace → Request → Type 0
   IsDue done q =
@@ -75,7 +76,7 @@ module _ (u body w : Passing) (trace : Trace) (log : List Event) (early opening 
         let to_at : StartsWith x.at y.at = subst (λ (o : Option Recorded). StartsWith x.at (entered y.at a q o)) (final_none r final) y.to in
         let same : without_last (length (reverse to_at.0)) (history_at limits x.at) ≡ history_at limits y.at = ap (λ (l : List Event). without_last (length (reverse to_at.0)) (history_at limits l)) to_at.1 ∙ without_later limits y.at to_at.0 in (
           length (reverse to_at.0),
-          ap (λ (h : History). asks_of a h) same ∙ so_far limits a u.seen x.at body.left own u.seen y.at done ((q, r) ∷ (behind ++ [])) here from_start k.lent.owns to_at y.own_is,
+          ap (λ (h : History). asks_of a h) same ∙ so_far limits a u.seen x.at body.left own u.seen y.at done ((q, r) ∷ (behind ++ [])) (never_first done ((q, r) ∷ behind) (subst (λ (l : Trace). NeverSettles l) split k.went.asks)) here from_start (ap but_settles k.lent.owns) to_at y.own_is,
           ap (λ (h : History). stops_bodies (out h a q)) same ∙ final_stops (out (history_at limits y.at) a q) (ap is_final (sym y.due_is) ∙ final),
         )
 
@@ -94,7 +95,7 @@ module _ (u body w : Passing) (trace : Trace) (log : List Event) (early opening 
   pub own_end : StartsBody (catalogue_of x.at) u.actor opening object operation values components → ExplainedEnd limits a x.at (given_at x.at object operation left) exit
   own_end o =
       let z : StartsWith x.at log = starts_both log u.seen x.at k.lent.from from_start in
-      ⊎_elim (λ h. no_strays log u trace body k.lent.from k.went.steps h)
+      ⊎_elim (λ h. no_strays log u trace body k.lent.from k.went.asks k.went.steps h)
       (λ h. ⊎_elim (λ m. absurd (not_left m)) (λ m. record { legal = legal_at; log = log; from = z; fit = k.lent.fit; explained = m }) h)
       (outer_ends (catalogue_of log) (bodies_at log) (history_at limits x.at) a early opening object operation values components left exit trace
       (record { fit = k.lent.fit.1; more = catalogue_of z.0; loaded = ap catalogue_of z.1 ∙ catalogue-append log z.0 })

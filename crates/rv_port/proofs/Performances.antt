@@ -13,7 +13,7 @@ use Rattle.rv_event.specs.declared.entry.Exit.TheVariants as Exits
 use Rattle.rv_event.specs.declared.entry.Next.{Next}
 use Rattle.rv_event.specs.declared.entry.Recorded.TheVariants as Words
 use Rattle.rv_event.specs.declared.entry.Request.{Request}
-use Rattle.rv_event.specs.declared.entry.Request.TheVariants.{Call, Complete, Resume, DelayUntil, Clock, Fire, Quit, Tick, Halt}
+use Rattle.rv_event.specs.declared.entry.Request.TheVariants.{Call, Complete, Settle, Resume, DelayUntil, Clock, Fire, Quit, Tick, Halt}
 use Rattle.rv_exec.specs.Asking.{Along}
 use Rattle.rv_exec.specs.Blocks.{operation_run_at}
 use Rattle.rv_event.specs.declared.entry.Recorded.{Recorded}
@@ -47,7 +47,7 @@ use Rattle.rv_port.proofs.Resuming.{pause_unnamed}
 use Rattle.rv_port.proofs.Tying.{pause_at, suspends, delayed}
 use Rattle.rv_port.specs.Ends.{EndsExplained, ExplainedUnless}
 use Rattle.rv_port.proofs.Ends.{IsLentBy, RanSo, given_at}
-use Rattle.rv_port.proofs.Asked.{asked_explained, vain_explained, asked_more, all_recorded}
+use Rattle.rv_port.proofs.Asked.{asked_explained, settles_explained, vain_explained, asked_more, all_recorded}
 use Rattle.rv_port.proofs.OwnEnds.{own_ends}
 use Rattle.rv_port.proofs.Since.{bodies_leave}
 use Rattle.rv_port.proofs.Starts.{begins, unlike, call_begins, fire_begins, queue_shares, target_later, handler_later, delay_begins_not, clock_begins_not}
@@ -124,34 +124,34 @@ module _ (u w : Passing) (log : List Event) (bodies : UnitBodies) (b : Begun) (s
   given_is at from =
       sym (n.runs.2 ∙ ap (λ (z : Bool). cond z [] left) (st.shared ∙ ap (λ z. shares z) (sym (same_target log at b.object b.operation from st.loaded))))
 
-  end_done : held_by n.body ≡ held_by u → (m : Next) (x : Asked n.body asks (Answers.Done m) w) (values : List ℤ) (exit : Exit) → asks ≡ Complete values exit → ExplainedEnd (limits_in n.body.about) n.body.actor x.at values exit
-  end_done same m x values exit e =
+  end_done : (z : Passing) → held_by n.body ≡ held_by u → (m : Next) (x : Asked n.body asks (Answers.Done m) z) (values : List ℤ) (exit : Exit) → asks ≡ Complete values exit → ExplainedEnd (limits_in n.body.about) n.body.actor x.at values exit
+  end_done z same m x values exit e =
       subst (λ (z : (Limits × ℕ) × (List ℤ × Exit)). ExplainedEnd z.0.0 z.0.1 x.at z.1.0 z.1.1)
       (λ i. ((sym limits_are i, sym actor_is i), ((given_is x.at (later_at x.at x.from) ∙ ap (λ (q : Request). scalars_in q) e) i, ap (λ (q : Request). exit_in q) e i)))
-      (own_ends u n.body w n.trace log st.early st.opening b.object b.operation arguments scalars left n.ended.exit asks m (ran_so same) x (st.starts x.at (later_at x.at x.from)))
+      (own_ends u n.body z n.trace log st.early st.opening b.object b.operation arguments scalars left n.ended.exit asks m (ran_so same) x (st.starts x.at (later_at x.at x.from)))
 
-  new_end : held_by n.body ≡ held_by u → (d : Answer) (x : Asked n.body asks d w) (values : List ℤ) (exit : Exit) (next : Next) → asks ≡ Complete values exit → d ≡ Answers.Done next → ExplainedEnd (limits_in n.body.about) n.body.actor x.at values exit
-  new_end same (Answers.Done m) x values exit next e f = end_done same m x values exit e
-  new_end same (Answers.Started s) x values exit next e f = absurd (cc f)
-  new_end same Answers.Queued x values exit next e f = absurd (cc f)
-  new_end same (Answers.Refused rule line version) x values exit next e f = absurd (cc f)
-  new_end same Answers.Suspended x values exit next e f = absurd (cc f)
-  new_end same Answers.Delayed x values exit next e f = absurd (cc f)
-  new_end same (Answers.Woken s) x values exit next e f = absurd (cc f)
-  new_end same (Answers.Accepted value) x values exit next e f = absurd (cc f)
-  new_end same Answers.Misuse x values exit next e f = absurd (cc f)
-  new_end same Answers.Halted x values exit next e f = absurd (cc f)
-  new_end same Answers.Full x values exit next e f = absurd (cc f)
-  new_end same Answers.Busy x values exit next e f = absurd (cc f)
-  new_end same Answers.Waiting x values exit next e f = absurd (cc f)
-  new_end same Answers.Unattached x values exit next e f = absurd (cc f)
-  new_end same Answers.BadLine x values exit next e f = absurd (cc f)
-  new_end same Answers.OutOfMemory x values exit next e f = absurd (cc f)
+  new_end : (z : Passing) → held_by n.body ≡ held_by u → (d : Answer) (x : Asked n.body asks d z) (values : List ℤ) (exit : Exit) (next : Next) → asks ≡ Complete values exit → d ≡ Answers.Done next → ExplainedEnd (limits_in n.body.about) n.body.actor x.at values exit
+  new_end z same (Answers.Done m) x values exit next e f = end_done z same m x values exit e
+  new_end z same (Answers.Started s) x values exit next e f = absurd (cc f)
+  new_end z same Answers.Queued x values exit next e f = absurd (cc f)
+  new_end z same (Answers.Refused rule line version) x values exit next e f = absurd (cc f)
+  new_end z same Answers.Suspended x values exit next e f = absurd (cc f)
+  new_end z same Answers.Delayed x values exit next e f = absurd (cc f)
+  new_end z same (Answers.Woken s) x values exit next e f = absurd (cc f)
+  new_end z same (Answers.Accepted value) x values exit next e f = absurd (cc f)
+  new_end z same Answers.Misuse x values exit next e f = absurd (cc f)
+  new_end z same Answers.Halted x values exit next e f = absurd (cc f)
+  new_end z same Answers.Full x values exit next e f = absurd (cc f)
+  new_end z same Answers.Busy x values exit next e f = absurd (cc f)
+  new_end z same Answers.Waiting x values exit next e f = absurd (cc f)
+  new_end z same Answers.Unattached x values exit next e f = absurd (cc f)
+  new_end z same Answers.BadLine x values exit next e f = absurd (cc f)
+  new_end z same Answers.OutOfMemory x values exit next e f = absurd (cc f)
 
   ended_explained : (same : Bool) → eqb (held_by n.body) (held_by u) ≡ same → EndsIf same n.body asks n.ended.exit reached w → EndsExplained w
   ended_explained true is e =
       ⊎_elim (λ wore. vain_explained n.body w asks wore.0.0 n.owned owned body_explained)
-      (λ t. asked_explained n.body w asks t.0 t.1 n.owned body_explained (new_end (eqb-true (held_by n.body) (held_by u) is) t.0 t.1)) e
+      (λ t. settles_explained t.1 w t.0 t.5 t.2.owns owned (asked_explained n.body t.1 asks t.0 t.2 n.owned body_explained (new_end t.1 (eqb-true (held_by n.body) (held_by u) is) t.0 t.2))) e
   ended_explained false is e = subst (λ (z : Passing). EndsExplained z) (sym e.0) body_explained
 
   pub ran_explained : EndsExplained w
@@ -176,7 +176,7 @@ call_start v u o p vs s x owns =
     record {
       early = asked_so_far v;
       opening = (Call o p vs, Answers.Started s) ∷ [];
-      asked = asked_more v u (Call o p vs) (Answers.Started s) x owns refl;
+      asked = asked_more v u (Call o p vs) (Answers.Started s) x owns refl refl;
       recorded = first_opening v u (Call o p vs) (Answers.Started s) x owns refl;
       from = asked_grown v u (Call o p vs) (Answers.Started s) x;
       loaded = loaded;
@@ -191,7 +191,7 @@ fire_start v u s x owns =
     subst (λ (z : Begun). Start u x.at z [] s) (sym (ap (λ (n : Option OperationNumber). begun_by_handler (catalogue_of x.at) n) f.handles)) (record {
       early = asked_so_far v;
       opening = (Fire, Answers.Started s) ∷ [];
-      asked = asked_more v u Fire (Answers.Started s) x owns refl;
+      asked = asked_more v u Fire (Answers.Started s) x owns refl refl;
       recorded = first_opening v u Fire (Answers.Started s) x owns refl;
       from = asked_grown v u Fire (Answers.Started s) x;
       loaded = f.loaded;
@@ -216,7 +216,7 @@ queue_start v u k o p vs s x y owns =
     record {
       early = asked_so_far v;
       opening = (Call o p vs, Answers.Queued) ∷ (Resume, Answers.Woken (Some s)) ∷ [];
-      asked = asked_more u k Resume (Answers.Woken (Some s)) y x.owns refl ∙ (ap (λ (t : Trace). t ++ (Resume, Answers.Woken (Some s)) ∷ []) (asked_more v u (Call o p vs) Answers.Queued x owns refl) ∙ two);
+      asked = asked_more u k Resume (Answers.Woken (Some s)) y x.owns refl refl ∙ (ap (λ (t : Trace). t ++ (Resume, Answers.Woken (Some s)) ∷ []) (asked_more v u (Call o p vs) Answers.Queued x owns refl refl) ∙ two);
       recorded = subst (λ (t : Trace). AreRecorded t) two (recorded_both (asked_so_far v ++ (Call o p vs, Answers.Queued) ∷ []) ((Resume, Answers.Woken (Some s)) ∷ []) (first_opening v u (Call o p vs) Answers.Queued x owns refl) (refl, tt));
       from = asked_grown u k Resume (Answers.Woken (Some s)) y;
       loaded = ap (λ z. on_protected z) same ∙ first;
@@ -232,6 +232,7 @@ no_end (DelayUntil time) t values exit e = cc e
 no_end Clock t values exit e = cc e
 no_end Fire t values exit e = cc e
 no_end (Complete vs x) t values exit e = absurd t
+no_end Settle t values exit e = absurd t
 no_end Resume t values exit e = absurd t
 no_end Quit t values exit e = absurd t
 no_end (Tick n) t values exit e = absurd t
@@ -281,6 +282,7 @@ started_explained v u w m Fire s reached x t owns owned old ran = ran_lent u w x
 started_explained v u w m (DelayUntil time) s reached x t owns owned old ran = unlike (begins (out (history_at (limits_in v.about) x.at) v.actor (DelayUntil time))) (ap (λ (z : Answer). begins z) (sym x.due_is)) (delay_begins_not (history_at (limits_in v.about) x.at) v.actor time)
 started_explained v u w m Clock s reached x t owns owned old ran = unlike (begins (out (history_at (limits_in v.about) x.at) v.actor Clock)) (ap (λ (z : Answer). begins z) (sym x.due_is)) (clock_begins_not (history_at (limits_in v.about) x.at) v.actor)
 started_explained v u w m (Complete vs e) s reached x t owns owned old ran = absurd t
+started_explained v u w m Settle s reached x t owns owned old ran = absurd t
 started_explained v u w m Resume s reached x t owns owned old ran = absurd t
 started_explained v u w m Quit s reached x t owns owned old ran = absurd t
 started_explained v u w m (Tick n) s reached x t owns owned old ran = absurd t
@@ -295,6 +297,7 @@ queued_explained v u w m (DelayUntil time) reached x c owns owned old t = absurd
 queued_explained v u w m Clock reached x c owns owned old t = absurd (cc c)
 queued_explained v u w m Fire reached x c owns owned old t = absurd (cc c)
 queued_explained v u w m (Complete vs e) reached x c owns owned old t = absurd (cc c)
+queued_explained v u w m Settle reached x c owns owned old t = absurd (cc c)
 queued_explained v u w m Resume reached x c owns owned old t = absurd (cc c)
 queued_explained v u w m Quit reached x c owns owned old t = absurd (cc c)
 queued_explained v u w m (Tick n) reached x c owns owned old t = absurd (cc c)

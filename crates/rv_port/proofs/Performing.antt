@@ -8,12 +8,13 @@ use Rattle.rv_event.specs.declared.entry.Answer.TheVariants as Answers
 use Rattle.rv_behind.specs.declared.event.Event.{Event}
 use Rattle.rv_port.specs.declared.reached.Reached.{Reached}
 use Rattle.rv_behind.specs.Events.{catalogue_of, called}
-use Rattle.rv_port.specs.Traces.{Passing, Trace, InVain, Went, Asked, Replied, RepliedOnce, asks_on}
+use Rattle.rv_port.specs.Traces.{Passing, Trace, InVain, Went, Asked, Replied, RepliedOnce, SettlesBehind, asks_on}
 use Rattle.rv_behind.specs.Acting.{begun_by, lent_view}
 use Rattle.rv_code.specs.Bodies.{UnitBodies}
 use Rattle.rv_behind.specs.declared.event.Lent.{Lent}
 use Rattle.rv_port.specs.Reaching.{arguments_of, reads, plain_of, waits_on, waited_for}
 use Rattle.rv_port.proofs.Asking.{in_vain_later, asked_later}
+use Rattle.rv_port.proofs.Settles.{settles_to}
 use Rattle.rv_event.specs.declared.entry.Exit.{Exit}
 use Rattle.rv_port.specs.Bodies.{RunsTo}
 use Rattle.rv_port.specs.Held.{held_by, Owns}
@@ -194,8 +195,8 @@ went_stays v w xs p = record {
   actor = ap (λ (k : Passing). k.actor) p.same;
   about = ap (λ (k : Passing). k.about) p.same;
   later = p.later;
-  grown = (_, p.own);
-  fewer = let less = p.acts in omega (arith, less);
+  grown = (p.grew.more, p.grew.own_is);
+  fewer = let less = p.grew.acts in omega (arith, less);
 }
 
 pub vain_stays : (v w : Passing) (q : Request) → InVain v q w → Stays v w
@@ -218,8 +219,18 @@ asked_stays v w q r x = let act : w.left + 1 ≡ x.before.left = x.act in let ac
   fewer = omega (arith, act, acts);
 }
 
+settles_stay : (u w : Passing) (r : Answer) → SettlesBehind r u w → Stays u w
+settles_stay u w r s = let t = settles_to u w r s in let less : w.left + length t.more ≤ u.left = t.acts in record {
+  turn = ap (λ (k : Passing). k.turn) t.same;
+  actor = ap (λ (k : Passing). k.actor) t.same;
+  about = ap (λ (k : Passing). k.about) t.same;
+  later = t.later;
+  grown = (t.more, t.own_is);
+  fewer = omega (arith, less);
+}
+
 end_stays : (b : Bool) (v w : Passing) (q : Request) (exit : Exit) (reached : Reached) → EndsIf b v q exit reached w → Stays v w
-end_stays true v w q exit reached e = ⊎_elim (λ wore. vain_stays v w _ wore.0.0) (λ t. asked_stays v w _ t.0 t.1) e
+end_stays true v w q exit reached e = ⊎_elim (λ wore. vain_stays v w _ wore.0.0) (λ t. stays_both v t.1 w (asked_stays v t.1 _ t.0 t.2) (settles_stay t.1 w t.0 t.5)) e
 end_stays false v w q exit reached e = subst (λ (z : Passing). Stays v z) (sym e.0) (stays_self v)
 
 ran_stays : (v w : Passing) (bodies : Option UnitBodies) (b : Begun) (scalars arguments : List ℤ) (reached : Reached) → RanOn bodies v b scalars arguments reached w → Stays v w

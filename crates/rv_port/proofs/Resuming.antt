@@ -6,8 +6,7 @@ use Rattle.std.proofs.lemmas.Bool.Decides.{nat_tests}
 use Rattle.std.proofs.lemmas.List.{reverse-append, reverse-reverse}
 use Rattle.rv_access.specs.Words.{Words as Words_of}
 use Rattle.rv_shape.specs.Shape.{Shape}
-use Rattle.rv_shape.specs.Catalogue.{first_of}
-use Rattle.rv_event.specs.Past.{clock, halted, held, if_named, is_own, mode_by, next_of, or_else, released, stance, stance_of}
+use Rattle.rv_event.specs.Past.{clock, halted, held, is_own, mode, mode_by, or_settling, released, stance, to_settle}
 use Rattle.rv_event.specs.Recorded.{recorded}
 use Rattle.rv_event.specs.declared.entry.Body.{Body}
 use Rattle.rv_event.specs.declared.entry.Answer.{Answer}
@@ -20,8 +19,6 @@ use Rattle.rv_event.specs.declared.entry.Request.{Request}
 use Rattle.rv_event.specs.declared.entry.Request.TheVariants.{Call, Resume, DelayUntil}
 use Rattle.rv_event.specs.declared.entry.Recorded.{Recorded}
 use Rattle.rv_event.specs.declared.entry.Recorded.TheVariants as Words
-use Rattle.rv_event.specs.declared.entry.Next.{Next}
-use Rattle.rv_event.specs.declared.entry.Next.TheVariants.{Nothing, HandedTo, Dropped}
 use Rattle.rv_history.specs.declared.limits.Limits.{Limits}
 use Rattle.rv_history.specs.History.{History}
 use Rattle.rv_history.specs.Legal.{Legal, IsLegal}
@@ -30,6 +27,8 @@ use Rattle.rv_history.specs.Owed.{actors}
 use Rattle.rv_history.specs.Due.{out, due, table, gate, within, enough, goes_on, due_resume, or_waiting}
 use Rattle.rv_history.proofs.Frame.{stance_stays}
 use Rattle.rv_history.proofs.Silent.{is_queued, apart_while, known_actor}
+use Rattle.rv_history.proofs.Standing.{legal_standing, none_left as nothing_left}
+use Rattle.rv_accounts.proofs.Queued.{in_queue, own_now, still_in_queue}
 use Rattle.rv_turn.specs.Histories.{mine, StartsWith}
 use Rattle.rv_turn.specs.Prefixes.{mine-append}
 use Rattle.rv_behind.specs.Events.{by, mark, marks, shapes_of, lists_of, history_at}
@@ -75,13 +74,6 @@ none_own a (Lists l ∷ es) e =
 
 -- What it is at
 
--- in a queue, or named since
-abbrev pub in_queue : Stance → Bool
-in_queue InQueue = true
-in_queue HandedOver = true
-in_queue (DroppedBy line) = true
-in_queue s = false
-
 -- at a wait that starts no body
 abbrev pub paused : Stance → Bool
 paused (WaitsOn object) = true
@@ -112,48 +104,8 @@ pause_waits (WaitsOn object) e = refl
 pause_waits (WaitsUntil time) e = refl
 pause_waits Gone e = absurd (cc e)
 
-if_none : (b : Bool) (s : Stance) → b ≡ false → (if b then Some s else None) ≡ None
-if_none true s e = absurd (cc e)
-if_none false s e = refl
-
-named_still : (next : Next) (a : ℕ) (own : Option Stance) (s : Stance) → own ≡ None → in_queue s ≡ true → in_queue (or_else (first_of (if_named a next) own) s) ≡ true
-named_still Nothing a own s e h = ap (λ (o : Option Stance). in_queue (or_else o s)) e ∙ h
-named_still (HandedTo m) a own s e h = by_test (eqb m a) where
-  by_test : (b : Bool) → in_queue (or_else (first_of (if b then Some HandedOver else None) own) s) ≡ true
-  by_test true = refl
-  by_test false = ap (λ (o : Option Stance). in_queue (or_else o s)) e ∙ h
-named_still (Dropped m line) a own s e h = by_test (eqb m a) where
-  by_test : (b : Bool) → in_queue (or_else (first_of (if b then Some (DroppedBy line) else None) own) s) ≡ true
-  by_test true = refl
-  by_test false = ap (λ (o : Option Stance). in_queue (or_else o s)) e ∙ h
-
-or_first : (b c : Bool) → (b || c) ≡ false → b ≡ false
-or_first true c e = e
-or_first false c e = refl
-
-or_second : (b c : Bool) → (b || c) ≡ false → c ≡ false
-or_second true c e = absurd (cc e)
-or_second false c e = e
-
-queue_stays : (a : ℕ) (later past : List Entry) → list_any (is_own a) later ≡ false → in_queue (stance a past) ≡ true → in_queue (stance a (later ++ past)) ≡ true
-queue_stays a [] past none h = h
-queue_stays a (Asked b r w ∷ later) past none h =
-    named_still (next_of (Asked b r w)) a (if eqb b a then Some (stance_of (Asked b r w)) else None) (stance a (later ++ past))
-    (if_none (eqb b a) (stance_of (Asked b r w)) (or_first (eqb b a) (list_any (is_own a) later) none))
-    (queue_stays a later past (or_second (eqb b a) (list_any (is_own a) later) none) h)
-queue_stays a (Load ∷ later) past none h = queue_stays a later past none h
-queue_stays a (ListChange ∷ later) past none h = queue_stays a later past none h
-
 itself : (a : ℕ) → eqb a a ≡ true
 itself a = grind (arith, nat_tests)
-
-own_now : (b : Bool) (t s : Stance) → b ≡ true → or_else (if b then Some t else None) s ≡ t
-own_now true t s e = refl
-own_now false t s e = absurd (cc e)
-
--- right after a call was queued
-queued_now : (a o p : ℕ) (vs : List ℤ) (past : List Entry) → stance a (Asked a (Call o p vs) Words.Queued ∷ past) ≡ InQueue
-queued_now a o p vs past = own_now (eqb a a) InQueue (stance a past) (itself a)
 
 -- right after a pause began
 abbrev pause_of : Request → Stance
@@ -174,10 +126,6 @@ not_queued InQueue e = absurd (cc e)
 not_queued HandedOver e = refl
 not_queued (DroppedBy line) e = refl
 not_queued Gone e = refl
-
--- one that was queued is in the queue, or was named since
-pub still_in_queue : (a o p : ℕ) (vs : List ℤ) (later past : List Entry) → list_any (is_own a) later ≡ false → in_queue (stance a (later ++ Asked a (Call o p vs) Words.Queued ∷ past)) ≡ true
-still_in_queue a o p vs later past none = queue_stays a later (Asked a (Call o p vs) Words.Queued ∷ past) none (ap in_queue (queued_now a o p vs past))
 
 -- nobody names one at a pause
 pub still_paused : (c : Limits) (shapes : List Shape) (lists : List (List Words_of)) (a : ℕ) (q : Request) (wait : Recorded) (later past : List Entry) → IsLegal c (later ++ Asked a q wait ∷ past) shapes lists → IsPause q wait → list_any (is_own a) later ≡ false
@@ -237,8 +185,10 @@ busy h a e free = absurd (cc (sym (ap waits free) ∙ e))
 -- the resume of one that waits is no misuse
 pub resume_sound : (h : History) (a : ℕ) → Legal h → waits (stance a h.past) ≡ true → is_sound (out h a Resume) ≡ true
 resume_sound h a legal e =
-    let fit : fits h a Resume ≡ true = both_true (nat_lt a (actors h.shapes)) (awaits (mode_by (held h.shapes a h.past) (stance a h.past)))
-    (to_test a (actors h.shapes) (known_actor h a legal (busy h a e))) (awaits_at (held h.shapes a h.past) (stance a h.past) e) in
+    let settled : to_settle h.shapes a h.past ≡ None = nothing_left h.shapes h.past a (legal_standing h.limits h.past h.shapes h.lists legal).left (busy h a e) in
+    let fit : fits h a Resume ≡ true = both_true (nat_lt a (actors h.shapes)) (awaits (mode h.shapes a h.past))
+    (to_test a (actors h.shapes) (known_actor h a legal (busy h a e)))
+    (ap (λ (o : Option Body). awaits (or_settling o (mode_by (held h.shapes a h.past) (stance a h.past)))) settled ∙ awaits_at (held h.shapes a h.past) (stance a h.past) e) in
     ap (λ (f : Bool). is_sound (within (enough h a Resume (recorded (due h a Resume))) (gate f (halted h.past && not (goes_on Resume)) (table h a Resume)))) fit
     ∙ open_sound (enough h a Resume (recorded (due h a Resume))) (halted h.past && not (goes_on Resume)) (table h a Resume) (due_sound h a (stance a h.past) e)
 

@@ -23,6 +23,7 @@ use Rattle.rv_turn.specs.Prefixes.{starts_both, mine-append}
 use Rattle.rv_exec.specs.Blocks.{operation_run_at}
 use Rattle.rv_meant.specs.Asks.{recorded_of}
 use Rattle.rv_meant.specs.Nested.{Strays}
+use Rattle.rv_meant.specs.Settles.{NeverSettles}
 use Rattle.rv_meant.specs.Histories.{asks_of, without_last}
 use Rattle.rv_meant.specs.Explained.{stops_bodies, MeantEnd}
 use Rattle.rv_meant.specs.Told.{HasAsked, FitBehind}
@@ -31,11 +32,12 @@ use Rattle.rv_behind.specs.Acting.{entered}
 use Rattle.rv_behind.specs.Events.{by, bodies_at, catalogue_of, history_at}
 use Rattle.rv_behind.specs.declared.event.Event.{Event}
 use Rattle.rv_behind.specs.declared.event.Event.TheVariants.{Asks}
-use Rattle.rv_accounts.specs.Seen.{asked_at}
+use Rattle.rv_accounts.specs.Seen.{asked_at, but_settles}
+use Rattle.rv_accounts.specs.WithoutSettles.{but_settles-append}
 use Rattle.rv_accounts.specs.Explained.{ExplainedEnd}
 use Rattle.rv_accounts.proofs.Growing.{without_later}
 use Rattle.rv_port.specs.Traces.{Passing, Trace, limits_in, noted, noted_if, IsAnswered, EachAnswered, Steps, Went}
-use Rattle.rv_port.specs.Composing.{noted-append}
+use Rattle.rv_port.specs.Composing.{never_first, noted-append}
 use Rattle.rv_port.proofs.Actors.{catalogue-append}
 use Rattle.rv_port.specs.Held.{asked_so_far, held_by, Owns}
 use Rattle.rv_port.proofs.Ends.{IsLentBy, EndsSinceAreExplained}
@@ -101,28 +103,31 @@ module _ (v w : Passing) (trace : Trace) (log : List Event) (k : IsLentBy v log)
   limits = limits_in v.about
 
   abbrev own : List Event
-  own = v.base ++ v.own
+  own = but_settles (v.base ++ v.own)
 
   abbrev the_end : Event
   the_end = Asks v.actor (Complete scalars exit) (Words.Done next)
 
-  abbrev pub at_end : FoundIn a trace (mine by a p.0) (Complete scalars exit) (Words.Done next)
-  at_end = at_own v w trace k.owns owned went before after (Complete scalars exit) (Words.Done next) p e
+  abbrev pub at_end : FoundIn a trace (but_settles (mine by a p.0)) (Complete scalars exit) (Words.Done next)
+  at_end = at_own v w trace k.owns owned went before after (Complete scalars exit) (Words.Done next) refl p e
 
   abbrev end_pair : Request × Answer
   end_pair = (Complete scalars exit, at_end.answer)
 
   each : EachAnswered limits a v.seen w.seen w.left own (at_end.before ++ end_pair ∷ at_end.after)
-  each = each_own v w trace k.owns owned went before after (Complete scalars exit) (Words.Done next) p e
+  each = each_own v w trace k.owns owned went before after (Complete scalars exit) (Words.Done next) refl p e
 
-  noted_before : mine by a before ≡ own ++ noted a at_end.before
-  noted_before = before_noted v w trace k.owns owned went before after (Complete scalars exit) (Words.Done next) p e
+  noted_before : but_settles (mine by a before) ≡ own ++ noted a at_end.before
+  noted_before = before_noted v w trace k.owns owned went before after (Complete scalars exit) (Words.Done next) refl p e
+
+  never : NeverSettles (at_end.before ++ end_pair ∷ at_end.after)
+  never = subst (λ (l : Trace). NeverSettles l) at_end.trace_is went.asks
 
   pub legal_end : Legal (history_at limits before)
-  legal_end = legal_before v w trace k.owns owned went before after (Complete scalars exit) (Words.Done next) p e
+  legal_end = legal_before v w trace k.owns owned went before after (Complete scalars exit) (Words.Done next) refl p e
 
   has : asked_at limits a before ≡ asked_at limits a v.seen ++ recorded_of at_end.before
-  has = so_far limits a v.seen w.seen w.left own v.seen before at_end.before (end_pair ∷ at_end.after) each went.later k.owns (the_end ∷ after, e) noted_before
+  has = so_far limits a v.seen w.seen w.left own v.seen before at_end.before (end_pair ∷ at_end.after) (never_first at_end.before (end_pair ∷ at_end.after) never) each went.later (ap but_settles k.owns) (the_end ∷ after, e) noted_before
 
   abbrev IsDue : Trace → Request → Type 0
   IsDue done q =
@@ -135,6 +140,9 @@ module _ (v w : Passing) (trace : Trace) (log : List Event) (k : IsLentBy v log)
     here : EachAnswered limits a v.seen w.seen w.left own (done ++ (q, r) ∷ others)
     here = subst (λ (l : Trace). EachAnswered limits a v.seen w.seen w.left own l) (ap (λ (l : Trace). l ++ end_pair ∷ at_end.after) split ∙ append_assoc done ((q, r) ∷ behind) (end_pair ∷ at_end.after)) each
 
+    never_done : NeverSettles done
+    never_done = never_first done ((q, r) ∷ behind) (subst (λ (l : Trace). NeverSettles l) split (never_first at_end.before (end_pair ∷ at_end.after) never))
+
     noted_more : noted a at_end.before ≡ noted a done ++ noted a ((q, r) ∷ behind)
     noted_more = ap (λ (l : Trace). noted a l) split ∙ noted-append a done ((q, r) ∷ behind)
 
@@ -144,12 +152,13 @@ module _ (v w : Passing) (trace : Trace) (log : List Event) (k : IsLentBy v log)
 
       too_many : (d : Event) (ds : List Event) → x.at ≡ before ++ d ∷ ds → d ≡ the_end → ⊥
       too_many d ds h i =
-          let m : mine by a x.at ≡ mine by a before ++ the_end ∷ mine by a ds =
-          ap (λ (l : List Event). mine by a l) h ∙ (mine-append by a before (d ∷ ds) ∙ ap (λ (z : Event). mine by a before ++ mine by a (z ∷ ds)) i
-          ∙ ap (λ (b : Bool). mine by a before ++ cond b (the_end ∷ mine by a ds) (mine by a ds)) (eq-eqb a a refl)) in
-          let one : own ++ noted a done ≡ (own ++ (noted a done ++ noted a ((q, r) ∷ behind))) ++ the_end ∷ mine by a ds =
-          sym x.own_is ∙ (m ∙ ap (λ (l : List Event). l ++ the_end ∷ mine by a ds) (noted_before ∙ ap (λ (l : List Event). own ++ l) noted_more)) in
-          longer own (noted a done) (noted a ((q, r) ∷ behind)) (mine by a ds) the_end one
+          let m : but_settles (mine by a x.at) ≡ but_settles (mine by a before) ++ the_end ∷ but_settles (mine by a ds) =
+          ap (λ (l : List Event). but_settles (mine by a l)) h ∙ (ap but_settles (mine-append by a before (d ∷ ds)) ∙ (but_settles-append (mine by a before) (mine by a (d ∷ ds))
+          ∙ (ap (λ (z : Event). but_settles (mine by a before) ++ but_settles (mine by a (z ∷ ds))) i
+          ∙ ap (λ (b : Bool). but_settles (mine by a before) ++ but_settles (cond b (the_end ∷ mine by a ds) (mine by a ds))) (eq-eqb a a refl)))) in
+          let one : own ++ noted a done ≡ (own ++ (noted a done ++ noted a ((q, r) ∷ behind))) ++ the_end ∷ but_settles (mine by a ds) =
+          sym x.own_is ∙ (m ∙ ap (λ (l : List Event). l ++ the_end ∷ but_settles (mine by a ds)) (noted_before ∙ ap (λ (l : List Event). own ++ l) noted_more)) in
+          longer own (noted a done) (noted a ((q, r) ∷ behind)) (but_settles (mine by a ds)) the_end one
 
       front : (rest : List Event) → x.at ≡ before ++ rest → StartsWith before x.at
       front [] h = ([], sym (ap (λ (l : List Event). l ++ []) h ∙ (append-nil (before ++ []) ∙ append-nil before)))
@@ -165,7 +174,7 @@ module _ (v w : Passing) (trace : Trace) (log : List Event) (k : IsLentBy v log)
       answered_due =
           let same : without_last (length (reverse at_before.0)) (history_at limits before) ≡ history_at limits x.at = ap (λ (l : List Event). without_last (length (reverse at_before.0)) (history_at limits l)) at_before.1 ∙ without_later limits x.at at_before.0 in (
             length (reverse at_before.0),
-            ap (λ (h : History). asks_of a h) same ∙ so_far limits a v.seen w.seen w.left own v.seen x.at done ((q, r) ∷ others) here went.later k.owns to_at x.own_is,
+            ap (λ (h : History). asks_of a h) same ∙ so_far limits a v.seen w.seen w.left own v.seen x.at done ((q, r) ∷ others) never_done here went.later (ap but_settles k.owns) to_at x.own_is,
             ap (λ (h : History). stops_bodies (out h a q)) same ∙ final_stops (out (history_at limits x.at) a q) (ap is_final (sym x.due_is) ∙ final),
           )
 
@@ -186,7 +195,7 @@ module _ (v w : Passing) (trace : Trace) (log : List Event) (k : IsLentBy v log)
   pub end_explained : Strays (callee_fits (catalogue_of log)) at_end.before ⊎ MeantEnd (catalogue_of log) (bodies_at log) (history_at limits before) a scalars exit → ExplainedEnd limits a before scalars exit
   end_explained s =
       let t = steps_front v at_end.before (end_pair ∷ at_end.after) w (subst (λ (l : Trace). Steps v l w) at_end.trace_is went.steps) in
-      ⊎_elim (λ h. no_strays log v at_end.before t.0 k.from t.1 h) (λ h. record { legal = legal_end; log = log; from = starts_both log v.seen before k.from p; fit = k.fit; explained = h }) s
+      ⊎_elim (λ h. no_strays log v at_end.before t.0 k.from (never_first at_end.before (end_pair ∷ at_end.after) never) t.1 h) (λ h. record { legal = legal_end; log = log; from = starts_both log v.seen before k.from p; fit = k.fit; explained = h }) s
 
 -- Where a body ran on a port, of an actor that held so many objects, each end that came since is explained.
 pub bodies_leave :

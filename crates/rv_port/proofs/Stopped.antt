@@ -25,7 +25,7 @@ use Rattle.rv_turn.specs.Prefixes.{starts_both}
 use Rattle.rv_behind.specs.declared.event.Event.{Event}
 use Rattle.rv_code.specs.Bodies.{UnitBodies}
 use Rattle.rv_event.specs.declared.entry.Request.{Request}
-use Rattle.rv_event.specs.declared.entry.Request.TheVariants.{Call, Complete, Resume, DelayUntil, Clock, Fire, Quit, Tick, Halt}
+use Rattle.rv_event.specs.declared.entry.Request.TheVariants.{Call, Complete, Settle, Resume, DelayUntil, Clock, Fire, Quit, Tick, Halt}
 use Rattle.rv_event.specs.declared.entry.Exit.{Exit}
 use Rattle.rv_event.specs.declared.entry.Exit.TheVariants as Exits
 use Rattle.rv_event.specs.declared.entry.Answer.{Answer}
@@ -44,12 +44,16 @@ use Rattle.rv_port.specs.Composing.{went_none, went_both}
 use Rattle.rv_behind.specs.Acting.{IsLent}
 use Rattle.rv_port.proofs.Fitting.{lent_calls}
 use Rattle.rv_behind.specs.Events.{catalogue_of, history_at}
-use Rattle.rv_port.specs.Traces.{Passing, Trace, limits_in, told, asks_on, Asked, WoreOut, Tells, Steps, Went}
+use Rattle.rv_port.specs.Traces.{Passing, Trace, limits_in, told, asks_on, drops, SettlesBehind, Asked, WoreOut, Tells, Steps, Went}
 use Rattle.rv_port.proofs.Actors.{catalogue-append}
-use Rattle.rv_port.proofs.Asking.{asked_went, is_told, told_stands, worn_told}
+use Rattle.rv_meant.specs.Settles.{is_settle, NeverSettles}
+use Rattle.rv_event.specs.declared.entry.Next.TheVariants.{Nothing, HandedTo, Dropped}
+use Rattle.rv_port.proofs.Asking.{is_told, told_stands}
+use Rattle.rv_port.proofs.Settles.{none_behind, tells_later, tells_went}
 use Rattle.rv_port.proofs.Opening.{Waits, here}
 use Rattle.rv_port.proofs.Performing.{asked_actor}
-use Rattle.rv_port.proofs.Resuming.{in_queue, paused, in_queue_at, paused_at}
+use Rattle.rv_accounts.proofs.Queued.{in_queue}
+use Rattle.rv_port.proofs.Resuming.{paused, in_queue_at, paused_at}
 use Rattle.rv_port.proofs.Gets.{of_end, end_gets}
 
 -- What a body is told, and the answer itself
@@ -114,6 +118,7 @@ ends_within v w (Call o p vs) d x t = absurd t
 ends_within v w (DelayUntil time) d x t = absurd t
 ends_within v w Clock d x t = absurd t
 ends_within v w Fire d x t = absurd t
+ends_within v w Settle d x t = absurd t
 ends_within v w Resume d x t = absurd t
 ends_within v w Quit d x t = absurd t
 ends_within v w (Tick n) d x t = absurd t
@@ -142,9 +147,9 @@ never_unfit log v w q d x later n t =
 stops_so : (log : List Event) (v w : Passing) (q : Request) (d : Answer) (x : Asked v q d w) → StartsWith x.at log → asks_on d ≡ false → Stops (callee_fits (catalogue_of log)) q (told d) → stops_within d ≡ true
 stops_so log v w q d x later n t = ⊎_elim (λ e. final_within d e) (λ s. ⊎_elim (λ u. ends_within v w q d x u) (λ u. never_unfit log v w q d x later n u) s) t
 
-stops_body : (log : List Event) (v w : Passing) (q : Request) (r : Answer) → StartsWith v.seen log → Stops (callee_fits (catalogue_of log)) q r → Tells v q r w → StopsBody v q r w
+stops_body : (log : List Event) (v w : Passing) (q : Request) (r : Answer) → StartsWith v.seen log → Stops (callee_fits (catalogue_of log)) q r → Tells v q r w → (u : Passing) × StopsBody v q r u
 stops_body log v w q r later s t =
-    ⊎_elim (λ x. inr (x.0, x.1, x.3, stops_so log v w q x.0 x.1 (starts_both log v.seen x.1.at later x.1.from) x.2 (subst (λ (z : Answer). Stops (callee_fits (catalogue_of log)) q z) x.3 s))) (λ x. inl x) t
+    ⊎_elim (λ x. (x.1, inr (x.0, x.2, x.4, stops_so log v x.1 q x.0 x.2 (starts_both log v.seen x.2.at later x.2.from) x.3 (subst (λ (z : Answer). Stops (callee_fits (catalogue_of log)) q z) x.4 s)))) (λ x. (w, inl x)) t
 
 -- Nor is one to the resume of what waits
 
@@ -300,19 +305,15 @@ never_unfit_woken such v u k q p d r x z n t =
 
 -- The pairs before it
 
-tells_went : (v w : Passing) (q : Request) (r : Answer) → Tells v q r w → Went v ((q, r) ∷ []) w
-tells_went v w q r t = ⊎_elim (λ x. subst (λ (z : Answer). Went v ((q, z) ∷ []) w) (sym x.3) (asked_went v w q x.0 x.1 x.2))
-    (λ x. subst (λ (z : Answer). Went v ((q, z) ∷ []) w) (sym x.1) (worn_told v w q x.0)) t
-
 stop_with : (u w : Passing) (q : Request) (r : Answer) (more : Trace) → StopsBody u q r w → Unwinds more → StoppedAt u ((q, r) ∷ more)
 stop_with u w q r more reason b =
     record { before = []; asker = u; went = went_none u; request = q; answer = r; after = w; reason = reason; behind = more; unwinds = b; asked_is = refl }
 
-stop_later : (u w : Passing) (q : Request) (r : Answer) (more : Trace) → Tells u q r w → StoppedAt w more → StoppedAt u ((q, r) ∷ more)
-stop_later u w q r more t p = record {
+stop_later : (u w : Passing) (q : Request) (r : Answer) (more : Trace) → is_settle q ≡ false → Tells u q r w → StoppedAt w more → StoppedAt u ((q, r) ∷ more)
+stop_later u w q r more plain t p = record {
   before = (q, r) ∷ p.before;
   asker = p.asker;
-  went = went_both u w p.asker ((q, r) ∷ []) p.before (tells_went u w q r t) p.went;
+  went = went_both u w p.asker ((q, r) ∷ []) p.before (tells_went u w q r plain t) p.went;
   request = p.request;
   answer = p.answer;
   after = p.after;
@@ -322,23 +323,48 @@ stop_later u w q r more t p = record {
   asked_is = ap (λ (l : Trace). (q, r) ∷ l) p.asked_is;
 }
 
+-- what waits dropped nobody, so nothing was settled behind it
+waits_drops : (c : Callee) (d : Answer) → is_waits (replied c (told d)) ≡ true → drops d ≡ false
+waits_drops c (Answers.Done (Dropped m line)) e = absurd (cc e)
+waits_drops c (Answers.Done Nothing) e = refl
+waits_drops c (Answers.Done (HandedTo m)) e = refl
+waits_drops c (Answers.Started s) e = refl
+waits_drops c Answers.Queued e = refl
+waits_drops c (Answers.Refused rule line version) e = refl
+waits_drops c Answers.Suspended e = refl
+waits_drops c Answers.Delayed e = refl
+waits_drops c (Answers.Woken s) e = refl
+waits_drops c (Answers.Accepted n) e = refl
+waits_drops c Answers.Misuse e = refl
+waits_drops c Answers.Halted e = refl
+waits_drops c Answers.Full e = refl
+waits_drops c Answers.Busy e = refl
+waits_drops c Answers.Waiting e = refl
+waits_drops c Answers.Unattached e = refl
+waits_drops c Answers.BadLine e = refl
+waits_drops c Answers.OutOfMemory e = refl
+
+waited_at : (v m u : Passing) (c : Callee) (q : Request) (d r : Answer) → Asked v q d m → r ≡ told d → is_waits (replied c r) ≡ true → SettlesBehind d m u → Asked v q d u
+waited_at v m u c q d r x is e s =
+    subst (λ (z : Passing). Asked v q d z) (sym (none_behind m u d (waits_drops c d (ap (λ (z : Answer). is_waits (replied c z)) (sym is) ∙ e)) s)) x
+
 -- the resume of what waits found no act left
 wore_waiting : (such : Callee → Bool) (v u k : Passing) (q p : Request) (r s : Answer) → Tells v q r u → Tells u p s k → IsUnfitWoken such q r p s → WoreOut u p k × (s ≡ Answers.Full)
 wore_waiting such v u k q p r s f t w =
-    ⊎_elim (λ y. ⊎_elim (λ x. never_unfit_woken such v u k q p x.0 y.0 x.1 y.1 y.2 (subst (λ (z : Answer × Answer). IsUnfitWoken such q z.0 p z.1) (λ i. (x.3 i, y.3 i)) w))
+    ⊎_elim (λ y. ⊎_elim (λ x. never_unfit_woken such v u y.1 q p x.0 y.0 (waited_at v x.1 u w.1 q x.0 r x.2 x.4 (ap is_waits w.5) x.5) y.2 y.3 (subst (λ (z : Answer × Answer). IsUnfitWoken such q z.0 p z.1) (λ i. (x.4 i, y.4 i)) w))
     (λ x. unlike false (sym (ap (λ (z : Answer). is_waits (replied w.1 z)) x.1) ∙ ap is_waits w.5) refl) f) (λ wore. wore) t
 
-stop_waiting : (such : Callee → Bool) (u w k : Passing) (q : Request) (r : Answer) (more : Trace) → StopsWaiting such (q, r) more → Tells u q r w → Steps w more k → StoppedAt u ((q, r) ∷ more)
-stop_waiting such u w k q r [] s f t = absurd s
-stop_waiting such u w k q r ((p, a) ∷ more) s f t =
-    stop_later u w q r ((p, a) ∷ more) f (stop_with w t.0 p a more (inl (wore_waiting such u w t.0 q p r a f t.1 s.0)) s.1)
+stop_waiting : (such : Callee → Bool) (u w k : Passing) (q : Request) (r : Answer) (more : Trace) → is_settle q ≡ false → StopsWaiting such (q, r) more → Tells u q r w → Steps w more k → StoppedAt u ((q, r) ∷ more)
+stop_waiting such u w k q r [] plain s f t = absurd s
+stop_waiting such u w k q r ((p, a) ∷ more) plain s f t =
+    stop_later u w q r ((p, a) ∷ more) plain f (stop_with w t.0 p a more (inl (wore_waiting such u w t.0 q p r a f t.1 s.0)) s.1)
 
-pub stop_at : (log : List Event) (u : Passing) (trace : Trace) (k : Passing) → StartsWith u.seen log → StopsIn (callee_fits (catalogue_of log)) trace → Steps u trace k → StoppedAt u trace
-stop_at log u [] k later s t = absurd s
-stop_at log u ((q, r) ∷ more) k later s t =
-    ⊎_elim (λ h. stop_with u t.0 q r more (stops_body log u t.0 q r later h.0 t.1) h.1)
-    (λ n. ⊎_elim (λ h. stop_waiting (callee_fits (catalogue_of log)) u t.0 k q r more h t.1 t.2)
-    (λ h. stop_later u t.0 q r more t.1 (stop_at log t.0 more k (starts_both log u.seen t.0.seen later (tells_went u t.0 q r t.1).later) h t.2)) n) s
+pub stop_at : (log : List Event) (u : Passing) (trace : Trace) (k : Passing) → NeverSettles trace → StartsWith u.seen log → StopsIn (callee_fits (catalogue_of log)) trace → Steps u trace k → StoppedAt u trace
+stop_at log u [] k never later s t = absurd s
+stop_at log u ((q, r) ∷ more) k never later s t =
+    ⊎_elim (λ h. let b = stops_body log u t.0 q r later h.0 t.1 in stop_with u b.0 q r more b.1 h.1)
+    (λ n. ⊎_elim (λ h. stop_waiting (callee_fits (catalogue_of log)) u t.0 k q r more never.0 h t.1 t.2)
+    (λ h. stop_later u t.0 q r more never.0 t.1 (stop_at log t.0 more k never.1 (starts_both log u.seen t.0.seen later (tells_later u t.0 q r t.1)) h t.2)) n) s
 
 -- A body that exits by stopped has such a request
 
@@ -357,4 +383,4 @@ text_stops log u w (Some bodies) budget trace (Exits.Return values) lent later t
 text_stops log u w (Some bodies) budget trace (Exits.Raise exception) lent later t p = tt
 text_stops log u w (Some bodies) budget trace Exits.Overrun lent later t p = tt
 text_stops log u w (Some bodies) budget trace Exits.Stopped lent later t p =
-    stop_at log u trace w later (tasks_stop_by (callee_fits (catalogue_of log)) bodies u.actor budget trace (lent_calls log bodies lent) t) p.steps
+    stop_at log u trace w p.asks later (tasks_stop_by (callee_fits (catalogue_of log)) bodies u.actor budget trace (lent_calls log bodies lent) t) p.steps

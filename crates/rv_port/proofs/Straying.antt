@@ -10,14 +10,11 @@ use Rattle.rv_turn.specs.Prefixes.{starts_both}
 use Rattle.rv_meant.specs.Nested.{StraysWaiting, Strays}
 use Rattle.rv_behind.specs.Events.{catalogue_of}
 use Rattle.rv_behind.specs.declared.event.Event.{Event}
-use Rattle.rv_port.specs.Traces.{Passing, Trace, told, Tells, Steps, Went}
+use Rattle.rv_port.specs.Traces.{Passing, Trace, told, Tells, Steps}
 use Rattle.rv_port.specs.Calls.{stops_within, StopsBody, StoppedAt}
-use Rattle.rv_port.proofs.Asking.{asked_went, worn_told}
+use Rattle.rv_meant.specs.Settles.{is_settle, NeverSettles}
+use Rattle.rv_port.proofs.Settles.{tells_later}
 use Rattle.rv_port.proofs.Stopped.{stop_at}
-
-tells_went : (v w : Passing) (q : Request) (r : Answer) → Tells v q r w → Went v ((q, r) ∷ []) w
-tells_went v w q r t = ⊎_elim (λ x. subst (λ (z : Answer). Went v ((q, z) ∷ []) w) (sym x.3) (asked_went v w q x.0 x.1 x.2))
-    (λ x. subst (λ (z : Answer). Went v ((q, z) ∷ []) w) (sym x.1) (worn_told v w q x.0)) t
 
 within_final : (d : Answer) → stops_within d ≡ true → is_final (told d) ≡ true
 within_final Answers.Halted e = refl
@@ -75,20 +72,20 @@ two_final u first second n s = by_before s.before s.asked_is where
 unlike : {X : Type 0} (b : Bool) → b ≡ true → b ≡ false → X
 unlike b e f = absurd (cc (e, f))
 
-never_unfit : {X : Type 0} (log : List Event) (u k : Passing) (q : Request) (r : Answer) → StartsWith u.seen log → Tells u q r k → IsUnfit (callee_fits (catalogue_of log)) q r → X
-never_unfit log u k q r later t n = unlike (is_final r) (one_final u (q, r) (stop_at log u ((q, r) ∷ []) k later (inl (inr (inr n), tt)) (k, t, refl))) n.0
+never_unfit : {X : Type 0} (log : List Event) (u k : Passing) (q : Request) (r : Answer) → is_settle q ≡ false → StartsWith u.seen log → Tells u q r k → IsUnfit (callee_fits (catalogue_of log)) q r → X
+never_unfit log u k q r plain later t n = unlike (is_final r) (one_final u (q, r) (stop_at log u ((q, r) ∷ []) k (plain, tt) later (inl (inr (inr n), tt)) (k, t, refl))) n.0
 
-never_unfit_woken : {X : Type 0} (log : List Event) (u m k : Passing) (q p : Request) (r s : Answer) → StartsWith u.seen log → Tells u q r m → Tells m p s k → IsUnfitWoken (callee_fits (catalogue_of log)) q r p s → X
-never_unfit_woken log u m k q p r s later t x n =
-    unlike (is_final s) (two_final u (q, r) (p, s) (ap unwinds n.6) (stop_at log u ((q, r) ∷ (p, s) ∷ []) k later (inr (inl (n, tt))) (m, t, (k, x, refl)))) n.0
+never_unfit_woken : {X : Type 0} (log : List Event) (u m k : Passing) (q p : Request) (r s : Answer) → is_settle q ≡ false → is_settle p ≡ false → StartsWith u.seen log → Tells u q r m → Tells m p s k → IsUnfitWoken (callee_fits (catalogue_of log)) q r p s → X
+never_unfit_woken log u m k q p r s plain next later t x n =
+    unlike (is_final s) (two_final u (q, r) (p, s) (ap unwinds n.6) (stop_at log u ((q, r) ∷ (p, s) ∷ []) k (plain, next, tt) later (inr (inl (n, tt))) (m, t, (k, x, refl)))) n.0
 
-stray_waiting : {X : Type 0} (log : List Event) (u m k : Passing) (q : Request) (r : Answer) (more : Trace) → StartsWith u.seen log → Tells u q r m → Steps m more k → StraysWaiting (callee_fits (catalogue_of log)) (q, r) more → X
-stray_waiting log u m k q r [] later t x n = absurd n
-stray_waiting log u m k q r ((p, s) ∷ more) later t x n = never_unfit_woken log u m x.0 q p r s later t x.1 n
+stray_waiting : {X : Type 0} (log : List Event) (u m k : Passing) (q : Request) (r : Answer) (more : Trace) → is_settle q ≡ false → NeverSettles more → StartsWith u.seen log → Tells u q r m → Steps m more k → StraysWaiting (callee_fits (catalogue_of log)) (q, r) more → X
+stray_waiting log u m k q r [] plain never later t x n = absurd n
+stray_waiting log u m k q r ((p, s) ∷ more) plain never later t x n = never_unfit_woken log u m x.0 q p r s plain never.0 later t x.1 n
 
-pub no_strays : {X : Type 0} (log : List Event) (u : Passing) (trace : Trace) (k : Passing) → StartsWith u.seen log → Steps u trace k → Strays (callee_fits (catalogue_of log)) trace → X
-no_strays log u [] k later t s = absurd s
-no_strays log u ((q, r) ∷ more) k later t s =
-    ⊎_elim (λ n. never_unfit log u t.0 q r later t.1 n)
-    (λ h. ⊎_elim (λ n. stray_waiting log u t.0 k q r more later t.1 t.2 n)
-    (λ n. no_strays log t.0 more k (starts_both log u.seen t.0.seen later (tells_went u t.0 q r t.1).later) t.2 n) h) s
+pub no_strays : {X : Type 0} (log : List Event) (u : Passing) (trace : Trace) (k : Passing) → StartsWith u.seen log → NeverSettles trace → Steps u trace k → Strays (callee_fits (catalogue_of log)) trace → X
+no_strays log u [] k later never t s = absurd s
+no_strays log u ((q, r) ∷ more) k later never t s =
+    ⊎_elim (λ n. never_unfit log u t.0 q r never.0 later t.1 n)
+    (λ h. ⊎_elim (λ n. stray_waiting log u t.0 k q r more never.0 never.1 later t.1 t.2 n)
+    (λ n. no_strays log t.0 more k (starts_both log u.seen t.0.seen later (tells_later u t.0 q r t.1)) never.1 t.2 n) h) s

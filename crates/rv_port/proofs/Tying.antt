@@ -3,7 +3,7 @@ use Rattle.std.proofs.Common.{◌≡◌, ℕ, ◌≤◌, Bool, true, false, List
 use Rattle.std.specs.Prelude.{ℤ}
 use Rattle.rv_event.specs.Past.{stance, until_then}
 use Rattle.rv_event.specs.declared.entry.Request.{Request}
-use Rattle.rv_event.specs.declared.entry.Request.TheVariants.{Call, Complete, Resume, DelayUntil, Clock, Fire, Quit, Tick, Halt}
+use Rattle.rv_event.specs.declared.entry.Request.TheVariants.{Call, Complete, Settle, Resume, DelayUntil, Clock, Fire, Quit, Tick, Halt}
 use Rattle.rv_event.specs.declared.entry.Rule.{Rule}
 use Rattle.rv_event.specs.declared.entry.Answer.{Answer}
 use Rattle.rv_event.specs.declared.entry.Answer.TheVariants as Answers
@@ -29,7 +29,8 @@ use Rattle.rv_port.proofs.Asking.{asked_grown}
 use Rattle.rv_port.proofs.Gets.{calls, delays, of_first, first_gets, of_resume, resume_gets}
 use Rattle.rv_port.proofs.Later.{version_later, dropped_later, refused_resume}
 use Rattle.rv_port.proofs.Performing.{asked_actor, stays_self, asked_stays}
-use Rattle.rv_port.proofs.Resuming.{in_queue, paused, waits, queue_waits, pause_waits, is_sound, in_queue_at, paused_at, resume_sound, queue_wakes, pause_unnamed}
+use Rattle.rv_accounts.proofs.Queued.{in_queue}
+use Rattle.rv_port.proofs.Resuming.{paused, waits, queue_waits, pause_waits, is_sound, in_queue_at, paused_at, resume_sound, queue_wakes, pause_unnamed}
 use Rattle.rv_port.proofs.Opening.{here, opened_at_once, Waits, both_own, back_at, opened_by_wait}
 use Rattle.rv_port.proofs.Ending.{tied_body, ran_to}
 
@@ -141,6 +142,7 @@ after_queue v u w m f (DelayUntil time) reached c a t = absurd (cc c)
 after_queue v u w m f Clock reached c a t = absurd (cc c)
 after_queue v u w m f Fire reached c a t = absurd (cc c)
 after_queue v u w m f (Complete vs x) reached c a t = absurd (cc c)
+after_queue v u w m f Settle reached c a t = absurd (cc c)
 after_queue v u w m f Resume reached c a t = absurd (cc c)
 after_queue v u w m f Quit reached c a t = absurd (cc c)
 after_queue v u w m f (Tick n) reached c a t = absurd (cc c)
@@ -157,6 +159,7 @@ suspends (DelayUntil time) e = absurd (cc e)
 suspends Clock e = absurd (cc e)
 suspends Fire e = absurd (cc e)
 suspends (Complete vs x) e = absurd (cc e)
+suspends Settle e = absurd (cc e)
 suspends Resume e = absurd (cc e)
 suspends Quit e = absurd (cc e)
 suspends (Tick n) e = absurd (cc e)
@@ -168,6 +171,7 @@ delayed (Call o p vs) e = absurd (cc e)
 delayed Clock e = absurd (cc e)
 delayed Fire e = absurd (cc e)
 delayed (Complete vs x) e = absurd (cc e)
+delayed Settle e = absurd (cc e)
 delayed Resume e = absurd (cc e)
 delayed Quit e = absurd (cc e)
 delayed (Tick n) e = absurd (cc e)
@@ -201,6 +205,7 @@ stops_on_halt (DelayUntil time) t = refl
 stops_on_halt Clock t = refl
 stops_on_halt Fire t = refl
 stops_on_halt (Complete vs x) t = absurd t
+stops_on_halt Settle t = absurd t
 stops_on_halt Resume t = absurd t
 stops_on_halt Quit t = absurd t
 stops_on_halt (Tick n) t = absurd t

@@ -15,7 +15,7 @@ use Rattle.rv_behind.specs.Acting.{BodiesFit}
 use Rattle.rv_behind.specs.Events.{by, bodies_at}
 use Rattle.rv_behind.specs.declared.event.Event.{Event}
 use Rattle.rv_accounts.specs.Followed.{TextFollowed}
-use Rattle.rv_accounts.proofs.Growing.{asks_stay}
+use Rattle.rv_accounts.proofs.Growing.{others_stay}
 use Rattle.rv_accounts.proofs.Staying.{not_mine}
 use Rattle.rv_port.specs.Held.{Owns}
 use Rattle.rv_port.specs.Traces.{Passing, limits_in}
@@ -70,7 +70,7 @@ worn_follows v w budget owns base fit worn none task =
       trace = full_trace what;
       exit = full_end what;
       along = along_full what;
-      entries = asks_stay (limits_in v.about) v.actor [] v.seen (v.seen, refl) nothing ∙ sym (none_recorded what);
+      entries = others_stay (limits_in v.about) v.actor [] v.seen (v.seen, refl) nothing ∙ sym (none_recorded what);
       due = λ before after q word e. absurd (not_mine v.actor q word before after (sym (ap (λ (l : List Event). mine by v.actor l) e) ∙ nothing));
       each = λ before q r behind e. let t = each_full what before q r behind e in inr (inr (t.0, worn.0, t.1));
     }

@@ -3,7 +3,7 @@ use Rattle.std.specs.Prelude.{◌≡◌, ◌⊎◌, ℕ, ℤ, ◌≤◌, nat_lt,
 use Rattle.rv_code.specs.Bodies.{UnitBodies}
 use Rattle.rv_exec.specs.Stops.{Unwinds}
 use Rattle.rv_event.specs.declared.entry.Request.{Request}
-use Rattle.rv_event.specs.declared.entry.Request.TheVariants.{Call, Complete, Resume, DelayUntil, Quit}
+use Rattle.rv_event.specs.declared.entry.Request.TheVariants.{Call, Complete, Settle, Resume, DelayUntil, Quit}
 use Rattle.rv_event.specs.declared.entry.Exit.{Exit}
 use Rattle.rv_event.specs.declared.entry.Exit.TheVariants as Exits
 use Rattle.rv_event.specs.declared.entry.Answer.{Answer}
@@ -11,7 +11,7 @@ use Rattle.rv_event.specs.declared.entry.Answer.TheVariants as Answers
 use Rattle.rv_event.specs.declared.entry.Recorded.{Recorded}
 use Rattle.rv_event.specs.declared.entry.Recorded.TheVariants as Words
 use Rattle.rv_event.specs.declared.entry.Next.{Next}
-use Rattle.rv_event.specs.declared.entry.Next.TheVariants.{HandedTo}
+use Rattle.rv_event.specs.declared.entry.Next.TheVariants.{HandedTo, Dropped}
 use Rattle.rv_shape.specs.Catalogue.{first_task}
 use Rattle.rv_port.specs.declared.body.Ended.{Ended}
 use Rattle.rv_behind.specs.declared.event.Begun.{Begun}
@@ -22,7 +22,8 @@ use Rattle.rv_port.specs.declared.reached.Reached.TheVariants as Reaches
 use Rattle.rv_behind.specs.Events.{catalogue_of, called}
 use Rattle.rv_port.specs.Later.{version_seen}
 use Rattle.rv_turn.specs.Histories.{StartsWith}
-use Rattle.rv_port.specs.Traces.{Passing, Trace, told, noted, WoreOut, Went, Asked, asks_on}
+use Rattle.rv_accounts.specs.Seen.{but_settles}
+use Rattle.rv_port.specs.Traces.{Passing, Trace, told, noted, WoreOut, Went, Asked, asks_on, SettlesBehind}
 use Rattle.rv_behind.specs.Acting.{IsLent}
 use Rattle.rv_port.specs.Bodies.{Runs}
 use Rattle.rv_port.specs.Held.{held_by, Owns}
@@ -46,10 +47,12 @@ pub record Stays (v w : Passing) : Type 0 where
 abbrev pub Wore : Passing → Request → Reached → Passing → Type 0
 Wore v q reached w = WoreOut v q w × (reached ≡ Reaches.Stopped)
 
--- the end of a body was asked by this request, with this exit; or no act was left (own)
+-- the end of a body was asked by this request, with this exit, and then the port settled, where it had to; or no act was left for
+-- the end. What is reached is what the end says, also where no act was left for a settle. (own)
 abbrev pub Ends : Passing → Request → Exit → Reached → Passing → Type 0
 Ends v q exit reached w =
-    Wore v q reached w ⊎ ((d : Answer) × Asked v q d w × (asks_on d ≡ false) × (reached ≡ end_of d exit))
+    Wore v q reached w
+    ⊎ ((d : Answer) × (u : Passing) × Asked v q d u × (asks_on d ≡ false) × (reached ≡ end_of d exit) × SettlesBehind d u w)
 
 -- the same; where the actor holds another number of objects than at the body's start it is left in a body that this one called:
 -- then the end isn't asked (own)
@@ -148,17 +151,25 @@ Opens a q first start =
 abbrev pub IsNew : Event → List Event → List Event → Type 0
 IsNew e before after = (more : List Event) × (rest : List Event) × (after ≡ before ++ (more ++ e ∷ rest))
 
--- A body of the call has started, and asked this: the call's first events and what the body asked are the growth of the
--- pass's own events, and the start is new in what was seen. (own)
+-- A body of the call has started, and asked this: the call's first events, and what the body asked with the settles behind the
+-- ends in it, are the growth of the pass's own events, and the start is new in what was seen. (own)
 pub record InBody (v : Passing) (q : Request) (asked : Trace) (u : Passing) : Type 0 where
   pub first : List Event
   pub start : Event
   pub opens : Opens v.actor q first start
   pub is_new : IsNew start v.seen u.seen
-  pub own_is : u.own ≡ v.own ++ (first ++ noted v.actor asked)
+  pub inside : List Event
+  pub inside_is : but_settles inside ≡ noted v.actor asked
+  pub own_is : u.own ≡ v.own ++ (first ++ inside)
 
--- A body of the call ended by this exit: the call's first events, what the body asked, and the end are the growth of the
--- pass's own events, and the start is new in what was seen. (own)
+-- the events behind an end, or a settle, that was answered so: where it dropped a caller there may be one settle more (own)
+abbrev pub AreSettles : ℕ → Next → List Event → Type 0
+AreSettles a next [] = Unit {0}
+AreSettles a (Dropped actor line) (e ∷ es) = (next : Next) × (e ≡ Asks a Settle (Words.Done next)) × AreSettles a next es
+AreSettles a next (e ∷ es) = ⊥
+
+-- A body of the call ended by this exit: the call's first events, what the body asked with the settles behind the ends in it, the
+-- end, and the settles behind it are the growth of the pass's own events, and the start is new in what was seen. (own)
 pub record EndedBy (v : Passing) (q : Request) (exit : Exit) (w : Passing) : Type 0 where
   pub first : List Event
   pub start : Event
@@ -167,7 +178,11 @@ pub record EndedBy (v : Passing) (q : Request) (exit : Exit) (w : Passing) : Typ
   pub asked : Trace
   pub scalars : List ℤ
   pub next : Next
-  pub own_is : w.own ≡ v.own ++ (first ++ (noted v.actor asked ++ Asks v.actor (Complete scalars exit) (Words.Done next) ∷ []))
+  pub inside : List Event
+  pub inside_is : but_settles inside ≡ noted v.actor asked
+  pub behind : List Event
+  pub settles : AreSettles v.actor next behind
+  pub own_is : w.own ≡ v.own ++ (first ++ (inside ++ Asks v.actor (Complete scalars exit) (Words.Done next) ∷ behind))
 
 -- an end with these values, or an answer without a body: Accepted, with the value that was read, or Woken (own)
 abbrev pub Back : Passing → Request → List ℤ → Passing → Type 0
@@ -250,7 +265,7 @@ pub record LeftInside (v : Passing) (q : Request) (w : Passing) : Type 0 where
   pub went : Went start asked w
   pub stopped : StoppedAt start asked
 
--- What is reached, by the pass's own last event: a refusal is that very answer, by the list in force in what had been seen or
+-- What is reached, by the pass's own last event that is no settle: a refusal is that very answer, by the list in force in what had been seen or
 -- by a later one; values and exceptions are those of the end of the call's body, or of an answer that starts none. Misuse
 -- is the answer to the request, and nothing is new. A call stops at its last ask, or by an answer to a request within its
 -- body, whose end may not be asked then. (own)

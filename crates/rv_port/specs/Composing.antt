@@ -8,7 +8,10 @@ use Rattle.rv_history.specs.declared.limits.Limits.{Limits}
 use Rattle.rv_turn.specs.Histories.{StartsWith}
 use Rattle.rv_turn.specs.Prefixes.{starts_self, starts_both}
 use Rattle.rv_behind.specs.Acting.{grown}
-use Rattle.rv_port.specs.Traces.{Passing, limits_in, Trace, noted, noted_if, IsAnswered, EachAnswered, Steps, Went}
+use Rattle.rv_meant.specs.Settles.{NeverSettles}
+use Rattle.rv_accounts.specs.Seen.{but_settles}
+use Rattle.rv_accounts.specs.WithoutSettles.{but_settles-append, fewer}
+use Rattle.rv_port.specs.Traces.{Passing, limits_in, Trace, noted, noted_if, IsAnswered, EachAnswered, GrewBy, Steps, Went}
 use Rattle.rv_behind.specs.declared.event.Event.{Event}
 
 noted_if-append : (b : Option Recorded) (a : ℕ) (q : Request) (es fs : List Event) → noted_if b a q (es ++ fs) ≡ noted_if b a q es ++ fs
@@ -48,26 +51,71 @@ each_both limits a seen mid later l₁ l₂ own (x ∷ xs) ys p q few t u = (
   first_of_all : (x : Request × Answer) (xs : Trace) → noted a (x ∷ xs) ≡ noted a (x ∷ []) ++ noted a xs
   first_of_all x xs = noted-append a (x ∷ []) xs
 
+-- none of two traces is a settle
+pub never_both : (xs ys : Trace) → NeverSettles xs → NeverSettles ys → NeverSettles (xs ++ ys)
+never_both [] ys p q = q
+never_both (x ∷ xs) ys p q = (p.0, never_both xs ys p.1 q)
+
+pub never_first : (xs ys : Trace) → NeverSettles (xs ++ ys) → NeverSettles xs
+never_first [] ys p = tt
+never_first (x ∷ xs) ys p = (p.0, never_first xs ys p.1)
+
+pub never_rest : (xs ys : Trace) → NeverSettles (xs ++ ys) → NeverSettles ys
+never_rest [] ys p = p
+never_rest (x ∷ xs) ys p = never_rest xs ys p.1
+
+pub grew_none : (v : Passing) → GrewBy v [] v
+grew_none v = record { more = []; own_is = sym (append-nil v.own); pairs = refl; acts = omega arith }
+
+pub grew_both : (v u w : Passing) (xs ys : Trace) → u.actor ≡ v.actor → GrewBy v xs u → GrewBy u ys w → GrewBy v (xs ++ ys) w
+grew_both v u w xs ys same p q = let few = p.acts in let more = q.acts in record {
+  more = p.more ++ q.more;
+  own_is = q.own_is ∙ (ap (λ (l : List Event). l ++ q.more) p.own_is ∙ append_assoc v.own p.more q.more);
+  pairs = but_settles-append p.more q.more
+      ∙ ((λ i. p.pairs i ++ (q.pairs ∙ ap (λ (n : ℕ). noted n ys) same) i) ∙ sym (noted-append v.actor xs ys));
+  acts = omega (arith, few, more, length-append p.more q.more);
+}
+
+-- as many acts were taken at least as pairs are recorded
+pub grew_acts : (v w : Passing) (xs : Trace) → GrewBy v xs w → w.left + length (noted v.actor xs) ≤ v.left
+grew_acts v w xs g = let few = g.acts in let less = fewer g.more in let same : length (but_settles g.more) ≡ length (noted v.actor xs) = ap length g.pairs in omega (arith, few, less, same)
+
+-- what there was, and what came since, without the settles
+pub owned_then : (v w : Passing) (xs : Trace) → w.base ≡ v.base → GrewBy v xs w → but_settles (w.base ++ w.own) ≡ but_settles (v.base ++ v.own) ++ noted v.actor xs
+owned_then v w xs same g =
+    ap but_settles ((λ i. same i ++ g.own_is i) ∙ sym (append_assoc v.base v.own g.more))
+    ∙ (but_settles-append (v.base ++ v.own) g.more ∙ ap (λ (l : List Event). but_settles (v.base ++ v.own) ++ l) g.pairs)
+
 pub went_none : (v : Passing) → Went v [] v
-went_none v = record { later = starts_self v.seen; own = sym (append-nil v.own); acts = omega arith; each = tt; steps = refl; same = refl }
+went_none v = record { later = starts_self v.seen; asks = tt; grew = grew_none v; each = tt; steps = refl; same = refl }
 
 steps_both : (v u w : Passing) (xs ys : Trace) → Steps v xs u → Steps u ys w → Steps v (xs ++ ys) w
 steps_both v u w [] ys p q = subst (λ (z : Passing). Steps z ys w) p q
 steps_both v u w (x ∷ xs) ys p q = (p.0, p.1, steps_both p.0 u w xs ys p.2 q)
 
 pub went_both : (v u w : Passing) (xs ys : Trace) → Went v xs u → Went u ys w → Went v (xs ++ ys) w
-went_both v u w xs ys p q = let sa : u.actor ≡ v.actor = ap (λ k. k.actor) p.same in let sb : u.base ≡ v.base = ap (λ k. k.base) p.same in let sl : u.about ≡ v.about = ap (λ k. k.about) p.same in
-    let own_u : u.own ≡ v.own ++ noted v.actor xs = p.own in
-    let own_w : w.own ≡ u.own ++ noted v.actor ys = subst (λ (n : ℕ). w.own ≡ u.own ++ noted n ys) sa q.own in
-    let acts_w : w.left + length (noted v.actor ys) ≤ u.left = subst (λ (n : ℕ). w.left + length (noted n ys) ≤ u.left) sa q.acts in
-    let both : noted v.actor (xs ++ ys) ≡ noted v.actor xs ++ noted v.actor ys = noted-append v.actor xs ys in
-    let owned : u.base ++ u.own ≡ (v.base ++ v.own) ++ noted v.actor xs = ap (λ (l : List Event). l ++ u.own) sb ∙ (ap (λ (l : List Event). v.base ++ l) own_u ∙ sym (append_assoc v.base v.own (noted v.actor xs))) in
-    let each_w : EachAnswered (limits_in v.about) v.actor u.seen w.seen w.left ((v.base ++ v.own) ++ noted v.actor xs) ys
-    = subst (λ (z : Option Limits × ℕ × List Event). EachAnswered (limits_in z.0) z.1 u.seen w.seen w.left z.2 ys) (λ i. (sl i, sa i, owned i)) q.each in record {
+went_both v u w xs ys p q =
+    let sa : u.actor ≡ v.actor = ap (λ k. k.actor) p.same in
+    let sb : u.base ≡ v.base = ap (λ k. k.base) p.same in
+    let sl : u.about ≡ v.about = ap (λ k. k.about) p.same in
+    let acts_w : w.left + length (noted v.actor ys) ≤ u.left = subst (λ (n : ℕ). w.left + length (noted n ys) ≤ u.left) sa (grew_acts u w ys q.grew) in
+    let each_w : EachAnswered (limits_in v.about) v.actor u.seen w.seen w.left (but_settles (v.base ++ v.own) ++ noted v.actor xs) ys
+    = subst (λ (z : Option Limits × ℕ × List Event). EachAnswered (limits_in z.0) z.1 u.seen w.seen w.left z.2 ys) (λ i. (sl i, sa i, owned_then v u xs sb p.grew i)) q.each in record {
       later = starts_both v.seen u.seen w.seen p.later q.later;
-      own = own_w ∙ (ap (λ (l : List Event). l ++ noted v.actor ys) own_u ∙ (append_assoc v.own (noted v.actor xs) (noted v.actor ys) ∙ ap (λ (l : List Event). v.own ++ l) (sym both)));
-      acts = let long = ap length both ∙ length-append (noted v.actor xs) (noted v.actor ys) in let fewer = p.acts in omega (arith, long, fewer, acts_w);
-      each = each_both (limits_in v.about) v.actor v.seen u.seen w.seen u.left w.left (v.base ++ v.own) xs ys p.later q.later acts_w p.each each_w;
+      asks = never_both xs ys p.asks q.asks;
+      grew = grew_both v u w xs ys sa p.grew q.grew;
+      each = each_both (limits_in v.about) v.actor v.seen u.seen w.seen u.left w.left (but_settles (v.base ++ v.own)) xs ys p.later q.later acts_w p.each each_w;
       steps = steps_both v u w xs ys p.steps q.steps;
       same = q.same ∙ ap (λ (k : Passing). record k { seen = w.seen; own = w.own; left = w.left }) p.same;
     }
+
+-- The same of a trace of which nothing says yet that it has no settle
+
+abbrev pub MayGo : Passing → Trace → Passing → Type 0
+MayGo v xs w = NeverSettles xs → Went v xs w
+
+pub may_none : (v : Passing) → MayGo v [] v
+may_none v n = went_none v
+
+pub may_both : (v u w : Passing) (xs ys : Trace) → MayGo v xs u → MayGo u ys w → MayGo v (xs ++ ys) w
+may_both v u w xs ys p q n = went_both v u w xs ys (p (never_first xs ys n)) (q (never_rest xs ys n))

@@ -6,6 +6,7 @@ pub mod Reaching
 pub mod Later
 pub mod Bodies
 pub mod Calls
+pub mod Settled
 pub mod Ports
 pub mod Controls
 pub mod Closing

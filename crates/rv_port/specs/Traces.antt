@@ -1,7 +1,9 @@
 -- What a port's asks did: a trace of asks and replies, between two states of its pass. (own)
 use Rattle.std.specs.Prelude.{◌≡◌, ◌⊎◌, ℕ, ◌+◌, ◌≤◌, Bool, true, false, List, [], ◌∷◌, ◌++◌, length, Option, Some, None}
 use Rattle.rv_event.specs.Recorded.{recorded}
+use Rattle.rv_event.specs.declared.entry.Next.TheVariants.{Dropped}
 use Rattle.rv_event.specs.declared.entry.Request.{Request}
+use Rattle.rv_event.specs.declared.entry.Request.TheVariants.{Settle}
 use Rattle.rv_event.specs.declared.entry.Answer.{Answer}
 use Rattle.rv_event.specs.declared.entry.Answer.TheVariants as Answers
 use Rattle.rv_event.specs.declared.entry.Recorded.{Recorded}
@@ -10,6 +12,8 @@ use Rattle.rv_history.specs.Limits.{limits_of}
 use Rattle.rv_history.specs.Due.{out}
 use Rattle.rv_history.specs.Legal.{Legal}
 use Rattle.rv_turn.specs.Histories.{mine, StartsWith}
+use Rattle.rv_accounts.specs.Seen.{but_settles}
+use Rattle.rv_meant.specs.Settles.{NeverSettles}
 use Rattle.rv_turn.specs.Passes.{Known}
 use Rattle.rv_behind.specs.Events.{by, history_at, catalogue_of}
 use Rattle.rv_behind.specs.Acting.{grown, begun_by, IsLent, lent_view}
@@ -57,13 +61,13 @@ abbrev pub noted : ℕ → Trace → List Event
 noted a [] = []
 noted a (x ∷ xs) = noted_if (recorded x.1) a x.0 (noted a xs)
 
--- The reply is due on a legal history, which begins with all that was seen, and has of the actor's events these alone.
--- What is seen later begins with that history, and with the event where there is one. (own)
+-- The reply is due on a legal history, which begins with all that was seen, and has of the actor's events these alone, and
+-- settles. What is seen later begins with that history, and with the event where there is one. (own)
 pub record IsAnswered (limits : Limits) (a : ℕ) (seen own later : List Event) (q : Request) (r : Answer) : Type 0 where
   pub at : List Event
   pub from : StartsWith at seen
   pub to : StartsWith later (grown at a q r)
-  pub own_is : mine by a at ≡ own
+  pub own_is : but_settles (mine by a at) ≡ own
   pub legal : Legal (history_at limits at)
   pub due_is : r ≡ told (out (history_at limits at) a q)
 
@@ -71,7 +75,7 @@ pub record IsAnswered (limits : Limits) (a : ℕ) (seen own later : List Event) 
 abbrev pub IsWorn : ℕ → ℕ → Answer → Trace → Type 0
 IsWorn a left r rest = (r ≡ Answers.Full) × (left ≡ 0) × (noted a rest ≡ [])
 
--- each pair of a trace, from a pass's events so far (own)
+-- each pair of a trace, from a pass's events so far, without the settles (own)
 abbrev pub EachAnswered : Limits → ℕ → List Event → List Event → ℕ → List Event → Trace → Type 0
 EachAnswered limits a seen later left own [] = Unit {0}
 EachAnswered limits a seen later left own (x ∷ xs) =
@@ -112,21 +116,47 @@ pub record Asked (v : Passing) (q : Request) (r : Answer) (w : Passing) : Type 0
 abbrev pub WoreOut : Passing → Request → Passing → Type 0
 WoreOut v q w = InVain v q w × (w.left ≡ 0)
 
--- a body is told an answer, or Full where no act is left (own)
-abbrev pub Tells : Passing → Request → Answer → Passing → Type 0
-Tells v q r w = ((d : Answer) × Asked v q d w × (asks_on d ≡ false) × (r ≡ told d)) ⊎ (WoreOut v q w × (r ≡ Answers.Full))
+-- the answer to an end, or to a settle, is that a queued caller was dropped: others may wait behind it (9.5.3, own)
+abbrev pub drops : Answer → Bool
+drops (Answers.Done (Dropped actor line)) = true
+drops r = false
 
--- the pairs of a trace, one after another, and nothing else (own)
+-- Settles, with these answers: one behind another while a caller is dropped, unless no act is left (own)
+abbrev pub SettledBy : (is_dropped : Bool) → List Answer → Passing → Passing → Type 0
+SettledBy false [] v w = w ≡ v
+SettledBy false (r ∷ rs) v w = ⊥
+SettledBy true [] v w = WoreOut v Settle w
+SettledBy true (r ∷ rs) v w = (u : Passing) × Asked v Settle r u × SettledBy (drops r) rs u w
+
+-- what a port asks by itself behind an answer: only where a caller was dropped, and then until the object is settled (own)
+abbrev pub SettlesBehind : Answer → Passing → Passing → Type 0
+SettlesBehind r v w = (answers : List Answer) × SettledBy (drops r) answers v w
+
+-- a body is told an answer, behind which the port settles; or Full where no act is left (own)
+abbrev pub Tells : Passing → Request → Answer → Passing → Type 0
+Tells v q r w =
+    ((d : Answer) × (u : Passing) × Asked v q d u × (asks_on d ≡ false) × (r ≡ told d) × SettlesBehind d u w)
+    ⊎ (WoreOut v q w × (r ≡ Answers.Full))
+
+-- the pairs of a trace, one after another, and nothing else but the settles behind ends (own)
 abbrev pub Steps : Passing → Trace → Passing → Type 0
 Steps v [] w = w ≡ v
 Steps v (x ∷ xs) w = (u : Passing) × Tells v x.0 x.1 u × Steps u xs w
 
--- The events of the recorded pairs are the growth of the pass's own, each takes an act, and acts left never grow. (own)
+-- A pass's own events have grown: without the settles, by the events of these recorded pairs. Each takes an act. (own)
+pub record GrewBy (v : Passing) (xs : Trace) (w : Passing) : Type 0 where
+  pub more : List Event
+  pub own_is : w.own ≡ v.own ++ more
+  pub pairs : but_settles more ≡ noted v.actor xs
+  pub acts : w.left + length more ≤ v.left
+
+-- The events of the recorded pairs, of which none is a settle, and of the settles behind ends are the growth of the pass's own,
+-- and acts left never grow. (own)
 pub record Went (v : Passing) (xs : Trace) (w : Passing) : Type 0 where
   pub later : StartsWith w.seen v.seen
-  pub own : w.own ≡ v.own ++ noted v.actor xs
-  pub acts : w.left + length (noted v.actor xs) ≤ v.left
-  pub each : EachAnswered (limits_in v.about) v.actor v.seen w.seen w.left (v.base ++ v.own) xs
+  pub asks : NeverSettles xs
+  pub grew : GrewBy v xs w
+  pub each : EachAnswered (limits_in v.about) v.actor v.seen w.seen w.left (but_settles (v.base ++ v.own)) xs
   pub steps : Steps v xs w
   pub same : w ≡ record v { seen = w.seen; own = w.own; left = w.left }
 

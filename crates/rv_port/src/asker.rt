@@ -3,17 +3,18 @@
 ghost use Rattle.std.specs.Prelude.{◌≡◌, ◌<◌, ◌+◌, ◌^◌, ℕ, ◌++◌, ◌∷◌, [], MatchResult, true, false, is_some};
 ghost use Rattle.rv_turn.specs.Histories.{mine};
 ghost use Rattle.rv_turn.specs.Passes.{IsWorn};
-ghost use Rattle.rv_meant.specs.Asks.{held_after};
+ghost use Rattle.rv_port.specs.Held.{held_past};
 ghost use Rattle.rv_port.specs.Actors.{HasHandler};
 ghost use Rattle.rv_port.specs.Held.{held_by};
 ghost use Rattle.rv_behind.specs.Acting.{BodiesFit};
 ghost use Rattle.rv_behind.specs.Events.{by, catalogue_of};
-ghost use Rattle.rv_port.specs.Traces.{RepliedOnce, Settled, WoreOut, Went, IsTold, told, asks_on};
+ghost use Rattle.rv_port.specs.Composing.{MayGo};
+ghost use Rattle.rv_port.specs.Traces.{RepliedOnce, Settled, SettlesBehind, WoreOut, IsTold, told, asks_on, drops};
 
 use crate::bell::Bell;
 use rv_behind::behind::Behind;
 use rv_behind::event::Letter;
-use rv_event::entry::{Answer, Request};
+use rv_event::entry::{Answer, Next, Request};
 use rv_exec::outward::Outward;
 use rv_turn::{Pass, Worn};
 use std::alloc::Global;
@@ -56,14 +57,21 @@ fn told_of(answer: &Answer) -> Answer
     }
 }
 
-// How many objects are held behind an answer.
-fn held_after(held: u64, answer: &Answer) -> u64
+// Whether a queued caller was dropped: others may wait behind it (9.5.3).
+fn drops(answer: &Answer) -> bool
+    ensures { result ≡ drops answer.now }
+{
+    matches!(answer, Answer::Done(Next::Dropped(_, _)))
+}
+
+// How many objects are held behind an answer. A settle ends no body.
+fn held_past(held: u64, request: &Request, answer: &Answer) -> u64
     requires { held + 1 < 2 ^ 63 }
-    ensures { result ≡ held_after held answer.now }
+    ensures { result ≡ held_past request.now held answer.now }
 {
     match answer {
         Answer::Started(_) | Answer::Woken(Some(_)) => held + 1,
-        Answer::Done(_) => held.saturating_sub(1),
+        Answer::Done(_) if !matches!(request, Request::Settle) => held.saturating_sub(1),
         _ => held,
     }
 }
@@ -81,7 +89,7 @@ impl Asker {
         let Ok(()) = self.pass.send(rt, letter) else {
             return Err(Worn);
         };
-        self.held = held_after(self.held, &letter.answer);
+        self.held = held_past(self.held, &letter.request, &letter.answer);
         Ok(())
     }
 
@@ -107,9 +115,29 @@ impl Asker {
         unreachable!()
     }
 
-    // Asks for a body: Full in place of Misuse, and where no act is left.
+    /// Settles the object of a body whose end was answered so: while a queued caller is dropped, one more is
+    /// served (9.5.3). Where no act is left the object stays unsettled.
+    pub(crate) fn settle<R: Wait>(&mut self, rt: &R, answer: &Answer)
+        ensures settles { SettlesBehind answer.now self.old.pass self.new.pass }
+        ensures mark { self.new.is_refused ≡ self.old.is_refused }
+    {
+        let mut is_dropped = drops(answer);
+        for _ in rt.forever() {
+            if !is_dropped {
+                return;
+            }
+            let mut letter = Letter::new(&Request::Settle);
+            let Ok(()) = self.insist(rt, &mut letter) else {
+                return;
+            };
+            is_dropped = drops(&letter.answer);
+        }
+        unreachable!()
+    }
+
+    // Asks for a body, and settles: Full in place of Misuse, and where no act is left.
     fn ask_for_body<R: Wait>(&mut self, rt: &R, request: &Request) -> Answer
-        ensures went { Went self.old.pass ((request.now, result) ∷ []) self.new.pass }
+        ensures went { MayGo self.old.pass ((request.now, result) ∷ []) self.new.pass }
         ensures told { IsTold result }
         ensures mark { self.new.is_refused ≡ self.old.is_refused }
     {
@@ -117,6 +145,7 @@ impl Asker {
         let Ok(()) = self.insist(rt, &mut letter) else {
             return Answer::Full;
         };
+        self.settle(rt, &letter.answer);
         told_of(&letter.answer)
     }
 }
@@ -124,17 +153,16 @@ impl Asker {
 impl<R: Wait> Outward<R> for Asker {
     ghost use Rattle.std.specs.Prelude.{◌≡◌};
     ghost use Rattle.std.proofs.Common.{refl, ◌∙◌};
-    ghost use Rattle.rv_port.specs.Traces.{Went};
-    ghost use Rattle.rv_port.specs.Composing.{went_none, went_both};
+    ghost use Rattle.rv_port.specs.Composing.{MayGo, may_none, may_both};
 
-    ghost went = { λ s trace t. Went s.pass trace t.pass × (t.is_refused ≡ s.is_refused) };
+    ghost went = { λ s trace t. MayGo s.pass trace t.pass × (t.is_refused ≡ s.is_refused) };
 
     #[tactic(auto, using(crate::proofs::Asking::told_stands))]
     fn ask(&mut self, rt: &R, request: Request) -> Answer {
         self.ask_for_body(rt, &request)
     }
 
-    ghost none = { λ s. (went_none s.pass, refl) };
+    ghost none = { λ s. (may_none s.pass, refl) };
 
-    ghost both = { λ s t u a b p q. (went_both s.pass t.pass u.pass a b p.0 q.0, q.1 ∙ p.1) };
+    ghost both = { λ s t u a b p q. (may_both s.pass t.pass u.pass a b p.0 q.0, q.1 ∙ p.1) };
 }

@@ -10,6 +10,7 @@ ghost use Rattle.rv_port.specs.Calls.{Quits};
 ghost use Rattle.rv_port.specs.Controls.{IsGiven};
 ghost use Rattle.rv_behind.specs.Events.{by, catalogue_of, history_at, log_of, units_in};
 ghost use Rattle.rv_port.specs.Later.{NoEarlierList, KeepsBodies};
+ghost use Rattle.rv_port.specs.Settled.{EndsAreSettled};
 ghost use Rattle.rv_port.specs.Traces.{Passing};
 ghost use Rattle.rv_behind.specs.declared.event.Event.{Event};
 
@@ -47,6 +48,13 @@ pub fn events_stay()
 /// that was handed an object runs by the bodies of then, and those of units loaded since.
 pub fn bodies_stay()
     ensures { (seen log : List Event) → StartsWith log seen → KeepsBodies seen log }
+{}
+
+/// Behind an end that a call or a body asked, and the settles that the port asks behind it, the actor has
+/// no object to settle, unless no act is left: then the object stays unsettled (9.5.3).
+#[tactic(auto, using(crate::proofs::Settlers::ends_are_settled))]
+pub fn ends_leave_objects_settled()
+    ensures { EndsAreSettled }
 {}
 
 /// A port on which nothing was called is finished by its quit alone, which is accepted; of a line there is nothing.

@@ -14,8 +14,9 @@ use rv_event::entry::{Answer, Exit, Request};
 use std::sync::Wait;
 
 impl Asker {
-    // Passes the gate, and asks for the end of a body, at whose start so many objects were held. Where it isn't so many, the
-    // actor is left in a body that this one called: the host would take the end for that of the other one.
+    // Passes the gate, and asks for the end of a body, at whose start so many objects were held; then settles, where others
+    // may wait. Where it isn't so many, the actor is left in a body that this one called: the host would take the end for that
+    // of the other one.
     fn end_body<R: Wait, G: Gate<R>>(
         &mut self,
         rt: &R,
@@ -34,6 +35,7 @@ impl Asker {
         let Ok(()) = self.insist(rt, letter) else {
             return Reached::Stopped;
         };
+        self.settle(rt, &letter.answer);
         ended_as(&letter.answer, exit)
     }
 
