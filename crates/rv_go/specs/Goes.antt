@@ -6,10 +6,10 @@ use Rattle.rv_event.specs.Past.{mode}
 use Rattle.rv_event.specs.declared.entry.Mode.{Mode}
 use Rattle.rv_event.specs.declared.entry.Mode.TheVariants as Modes
 use Rattle.rv_event.specs.declared.entry.Request.{Request}
-use Rattle.rv_event.specs.declared.entry.Request.TheVariants.{Resume, Fire}
+use Rattle.rv_event.specs.declared.entry.Request.TheVariants.{Resume, Fire, Settle}
 use Rattle.rv_history.specs.History.{History}
 use Rattle.rv_history.specs.Owed.{actors}
-use Rattle.rv_history.specs.Fitting.{awaits}
+use Rattle.rv_history.specs.Fitting.{awaits, is_settling}
 use Rattle.rv_code.specs.Bodies.{Body}
 use Rattle.rv_exec.specs.Bodies.{operation_of, task_of}
 use Rattle.rv_exec.specs.Next.{settling, next_of}
@@ -46,9 +46,12 @@ asks_by texts shapes actor at (Line line) = line_asks texts shapes actor line at
 asks_by texts shapes actor at (Task task) = task_asks texts actor
 asks_by texts shapes actor at Nobody = None
 
--- one that waits resumes
+-- one that waits resumes, and one whose end left callers waiting settles (own)
 abbrev pub asks_at : TextsView → List Shape → ℕ → Mode → Option Request
-asks_at texts shapes actor at = if awaits at then Some Resume else asks_by texts shapes actor at (who shapes actor)
+asks_at texts shapes actor at =
+    if awaits at then Some Resume
+    else if is_settling at then Some Settle
+    else asks_by texts shapes actor at (who shapes actor)
 
 -- what `go` asks for an actor, if there is something
 abbrev pub asks : TextsView → History → ℕ → Option Request

@@ -7,10 +7,10 @@ use Rattle.rv_event.specs.declared.entry.Mode.{Mode}
 use Rattle.rv_event.specs.declared.entry.Mode.TheVariants as Modes
 use Rattle.rv_event.specs.declared.entry.Answer.{Answer}
 use Rattle.rv_event.specs.declared.entry.Request.{Request}
-use Rattle.rv_event.specs.declared.entry.Request.TheVariants.{Resume, Fire}
+use Rattle.rv_event.specs.declared.entry.Request.TheVariants.{Resume, Fire, Settle}
 use Rattle.rv_history.specs.History.{History}
 use Rattle.rv_history.specs.Owed.{actors}
-use Rattle.rv_history.specs.Fitting.{awaits}
+use Rattle.rv_history.specs.Fitting.{awaits, is_settling}
 use Rattle.rv_code.specs.Bodies.{Body, UnitBodies}
 use Rattle.rv_exec.specs.Asking.{Trace}
 use Rattle.rv_exec.specs.Bodies.{operation_of, task_of}
@@ -83,7 +83,8 @@ fires who at = false
 
 -- what `go` asks for an actor whose text asks this next
 abbrev pub beside : Option Request → Who → Mode → Option Request
-beside next who at = if awaits at then Some Resume else if fires who at then Some Fire else next
+beside next who at =
+    if awaits at then Some Resume else if is_settling at then Some Settle else if fires who at then Some Fire else next
 
 abbrev pub asks_beside : Option Request → History → ℕ → Option Request
 asks_beside next h actor =

@@ -1,7 +1,7 @@
 -- The texts of actors: the bodies of the loaded units, and what actors were answered since their texts began (own).
 use Rattle.std.specs.Prelude.{ℕ, Bool, true, false, ◌==◌, not, ◌&&◌, if◌then◌else◌, List, [], ◌∷◌, ◌++◌, reverse}
 use Rattle.rv_event.specs.declared.entry.Request.{Request}
-use Rattle.rv_event.specs.declared.entry.Request.TheVariants.{Fire}
+use Rattle.rv_event.specs.declared.entry.Request.TheVariants.{Fire, Settle}
 use Rattle.rv_event.specs.declared.entry.Answer.{Answer}
 use Rattle.rv_event.specs.declared.entry.Answer.TheVariants.{Started}
 use Rattle.rv_code.specs.Bodies.{UnitBodies}
@@ -39,10 +39,16 @@ abbrev pub is_fire : Request → Bool
 is_fire Fire = true
 is_fire request = false
 
+-- whether it serves an object's queue on, which no text asks for
+abbrev pub is_settle : Request → Bool
+is_settle Settle = true
+is_settle request = false
+
 -- whether a text goes on by the answer to a request: that of a handler begins where its line's `fire` is answered Started (C.3);
--- else the request is a `go`, and the answer doesn't leave it standing
+-- else the request is a `go` that the text asked for, and the answer doesn't leave it standing
 abbrev pub is_heard : Bool → Request → Answer → Bool
-is_heard goes request answer = if is_fire request then is_started answer else goes && not (stands answer)
+is_heard goes request answer =
+    if is_fire request then is_started answer else goes && not (is_settle request) && not (stands answer)
 
 -- the texts behind such an answer
 abbrev pub hears : TextsView → ℕ → Bool → Request → Answer → TextsView

@@ -3,7 +3,7 @@
 ghost use Rattle.std.specs.Prelude.{◌≡◌, IfOk, Option, option_map};
 ghost use Rattle.rv_event.specs.declared.entry.Request.{Request};
 ghost use Rattle.rv_exec.specs.Next.{told};
-ghost use Rattle.rv_history.specs.Fitting.{awaits};
+ghost use Rattle.rv_history.specs.Fitting.{awaits, is_settling};
 ghost use Rattle.rv_go.specs.Texts.{texts_view};
 ghost use Rattle.rv_go.specs.Goes.{task_asks, handler_asks, line_asks, asks};
 
@@ -30,8 +30,18 @@ pub(crate) fn awaits(mode: Mode) -> bool
     ensures { result ≡ awaits mode }
 {
     match mode {
-        Mode::Idle | Mode::InBody | Mode::Ended => false,
+        Mode::Idle | Mode::InBody | Mode::Settling | Mode::Ended => false,
         Mode::Queued | Mode::Handed | Mode::Dropped | Mode::Suspended | Mode::Delayed => true,
+    }
+}
+
+// Whether an actor in this mode has an object to settle.
+pub(crate) fn is_settling(mode: Mode) -> bool
+    ensures { result ≡ is_settling mode }
+{
+    match mode {
+        Mode::Settling => true,
+        _ => false,
     }
 }
 
@@ -86,8 +96,8 @@ impl Texts {
         }
     }
 
-    /// What `go` asks for an actor, if there is something: a resume where the actor waits, a fire for an idle line, else
-    /// what its text asks next. Its text runs on the stack: a thread with `rv_exec::machine::STACK_BYTES` of it holds any.
+    /// What `go` asks for an actor, if there is something: a resume where the actor waits, a settle where its end left
+    /// callers waiting, a fire for an idle line, else what its text asks next. Its text runs on the stack: a thread with `rv_exec::machine::STACK_BYTES` of it holds any.
     pub fn asks(
         &self,
         alloc: Global,
@@ -101,6 +111,9 @@ impl Texts {
         };
         if awaits(mode) {
             return Ok(Some(Request::Resume));
+        }
+        if is_settling(mode) {
+            return Ok(Some(Request::Settle));
         }
         match host.catalogue().who(actor) {
             Actor::Line(line) => self.line_asks(alloc, host.catalogue(), actor, line, mode),

@@ -6,7 +6,7 @@ ghost use Rattle.rv_shape.specs.Readers.{who_of};
 ghost use Rattle.rv_exec.specs.Bodies.{bodies_view, task_of};
 ghost use Rattle.rv_go.specs.Runs.{Runs, asked_by, asks_beside, fires, handler_text, task_text, text_of};
 
-use crate::asking::awaits;
+use crate::asking::{awaits, is_settling};
 use crate::texts::{Texts, no_bodies};
 use rv_event::entry::{Mode, Request};
 use rv_exec::bodies::{Bodies, SharedUnit};
@@ -63,14 +63,17 @@ fn fires(who: Actor<'_>, mode: Mode) -> bool
     }
 }
 
-/// What `go` asks for an actor whose text asks this next: a resume where the actor waits, a fire for an idle line, else
-/// that.
+/// What `go` asks for an actor whose text asks this next: a resume where the actor waits, a settle where its end left
+/// callers waiting, a fire for an idle line, else that.
 pub fn asks_beside(host: &Host, actor: usize, next: Option<Request>) -> Option<Request>
     ensures { result ≡ asks_beside next host.now actor }
 {
     let mode = host.mode(actor)?;
     if awaits(mode) {
         return Some(Request::Resume);
+    }
+    if is_settling(mode) {
+        return Some(Request::Settle);
     }
     if fires(host.catalogue().who(actor), mode) {
         return Some(Request::Fire);

@@ -4,7 +4,7 @@ ghost use Rattle.std.specs.Prelude.{◌≡◌, [], ◌∷◌, ◌++◌, IfOk, On
 ghost use Rattle.rv_code.specs.BodyView.{unit_view};
 ghost use Rattle.rv_exec.specs.Asking.{stands};
 ghost use Rattle.rv_exec.specs.Bodies.{no_bodies};
-ghost use Rattle.rv_go.specs.Texts.{texts_view, no_texts, with_bodies, is_started, is_fire, is_heard, hears, with_answer, answers_to};
+ghost use Rattle.rv_go.specs.Texts.{texts_view, no_texts, with_bodies, is_started, is_fire, is_heard, is_settle, hears, with_answer, answers_to};
 
 use rv_code::UnitBodies;
 use rv_event::entry::{Answer, Next, Request, Rule};
@@ -64,6 +64,16 @@ pub fn is_fire(request: &Request) -> bool
     }
 }
 
+// Whether it serves an object's queue on, which no text asks for.
+fn is_settle(request: &Request) -> bool
+    ensures { result ≡ is_settle request.now }
+{
+    match request {
+        Request::Settle => true,
+        _ => false,
+    }
+}
+
 /// Whether a text goes on by the answer to a request: `goes` says whether the request was a `go`.
 pub fn is_heard(goes: bool, request: &Request, answer: &Answer) -> bool
     ensures { result ≡ is_heard goes request.now answer.now }
@@ -71,7 +81,7 @@ pub fn is_heard(goes: bool, request: &Request, answer: &Answer) -> bool
     if is_fire(request) {
         return is_started(answer);
     }
-    goes && !stands(answer)
+    goes && !is_settle(request) && !stands(answer)
 }
 
 /// No bodies.
