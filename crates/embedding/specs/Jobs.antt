@@ -1,6 +1,5 @@
--- What the jobs of hardware ask, and what starts of threads leave. (own)
+-- What the jobs of hardware ask. (own)
 use Rattle.std.specs.Prelude.{◌≡◌, ℕ, ℤ, zero, suc, true, List, [], ◌∷◌}
-use Rattle.atomic_table.specs.Seated.{TableId}
 use Rattle.rv_turn.specs.Histories.{Each}
 use Rattle.rv_event.specs.declared.entry.Request.{Request}
 use Rattle.rv_event.specs.declared.entry.Request.TheVariants.{Call}
@@ -8,7 +7,6 @@ use Rattle.rv_port.specs.declared.reached.Reached.{Reached}
 use Rattle.rv_port.specs.declared.reached.Reached.TheVariants.{Returned}
 use Rattle.rv_port.specs.Ports.{Porting, PerformedBy}
 use Rattle.rv_crew.specs.Tasks.{goes_on}
-use Rattle.rv_crew.specs.Teams.{Team, IsOfTurn}
 use Rattle.embedding.specs.declared.sensor.Wiring.{Wiring}
 
 -- a request is made so often, one time after another (own)
@@ -32,7 +30,3 @@ abbrev pub Samples : Wiring → List Sampled → Porting → Porting → Type 0
 Samples wiring [] v w = w ≡ v
 Samples wiring (last ∷ before) v w = (u : Porting) × Samples wiring before v u
     × Each (λ sampled. goes_on sampled.reached ≡ true) before × Sample wiring last.number last.reached u w
-
--- a crew stays of the turn of a port (own)
-abbrev pub KeepsTurn : Team → Porting → Team → Type 0
-KeepsTurn crew port after = (turn : TableId) → IsOfTurn turn crew → port.turn ≡ turn → IsOfTurn turn after

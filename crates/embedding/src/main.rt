@@ -2,7 +2,7 @@
 #![tactic(auto)]
 
 ghost use Rattle.std.specs.Prelude.{◌≡◌};
-ghost use Rattle.embedding.specs.Jobs.{KeepsTurn};
+ghost use Rattle.embedding.specs.Beginning.{begun};
 
 mod actuator;
 mod hands;
@@ -10,7 +10,7 @@ mod host_caller;
 mod plant;
 mod sensor;
 
-use hands::{Hands, Work, act, give_up, start};
+use hands::{Begun, Hands, Work, act, give_up, start};
 use rv_crew::crew::Crew;
 use rv_crew::job::Job;
 use rv_port::port::{Finished, Port};
@@ -19,8 +19,8 @@ use std::snapshot::Snapshot;
 
 // The jobs of threads are boxed here, where the runtime is.
 fn main(rt: HostRuntime) -> io::Result<()> {
-    let begin = move |crew: &mut Crew, port: Port, work: Work|
-        ensures { KeepsTurn crew.old port crew.new }
+    let begin = move |crew: &mut Crew, port: Port, work: Work| -> Begun
+        ensures { crew.new ≡ begun crew.old port result }
     {
         let given = Snapshot::of(&port);
         let boxed = Box::new(
