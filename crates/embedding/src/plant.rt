@@ -78,7 +78,9 @@ fn new_control(alloc: Global) -> Option<Control> {
 fn load<R: Wait>(rt: &R, alloc: Global, control: &mut Control) -> Option<()> {
     let tank = compile(alloc, TANK, control.catalogue()).ok()?;
     control.load(rt, tank).ok()?;
-    control.load_shape(rt, read_shape(alloc, DEVICES).ok()?).ok()?;
+    control
+        .load_shape(rt, read_shape(alloc, DEVICES).ok()?)
+        .ok()?;
     control.set_list(rt, read_list(alloc, LIST).ok()?).ok()?;
     Some(())
 }

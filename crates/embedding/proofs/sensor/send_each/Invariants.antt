@@ -8,4 +8,4 @@ use Rattle.embedding.proofs.sensor.send_each.Given as goal
 abbrev pub invariant-loop-line : goal.invariant-loop-line
 invariant-loop-line g l = ((samples : List Sampled) × Samples l.fn.wiring samples l.fn.port l.port
     × Each (λ sampled. goes_on sampled.reached ≡ true) samples)
-  × (l.port.turn ≡ l.fn.port.turn) × (l.port.actor ≡ l.fn.port.actor)
+    × (l.port.turn ≡ l.fn.port.turn) × (l.port.actor ≡ l.fn.port.actor)
