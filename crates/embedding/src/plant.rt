@@ -1,6 +1,6 @@
 //! A plant: a tank that a unit text describes, with a sensor and a valve whose jobs are of Rattle.
 
-ghost use Rattle.std.specs.Prelude.{◌≡◌, IfSome};
+ghost use Rattle.std.specs.Prelude.{◌≡◌, [], IfSome};
 ghost use Rattle.rv_crew.specs.Teams.{IsOfTurn};
 
 use crate::actuator::Actuator;
@@ -68,9 +68,17 @@ allow Devices Plant.Taken Suspend_Until_True
 allow Plant Plant.Taken Set_True
 ";
 
-// The control of a new host.
-fn new_control(alloc: Global) -> Option<Control> {
-    let host = Host::new(alloc, CAPACITY).ok()?;
+// A new host.
+fn new_host(alloc: Global) -> Option<Host>
+    ensures { IfSome result (λ host. host.past ≡ []) }
+{
+    Host::new(alloc, CAPACITY).ok()
+}
+
+// The control of a host of which nothing was asked.
+fn control_of(alloc: Global, host: Host) -> Option<Control>
+    requires { host.past ≡ [] }
+{
     Control::make(alloc, host).ok()
 }
 
@@ -171,7 +179,7 @@ fn run<R: Threads + Wait + AllocGlobal>(
 fn played<R: Threads + Wait + AllocGlobal>(rt: &R, hands: &Hands) -> Option<(u64, Closed)> {
     let alloc = rt.alloc();
     let (ended, ends) = unbounded(alloc).ok()?;
-    let mut control = new_control(alloc)?;
+    let mut control = control_of(alloc, new_host(alloc)?)?;
     load(rt, alloc, &mut control)?;
     let works = works_of(control.catalogue(), ended)?;
     let ports = ports_of(&mut control)?;
