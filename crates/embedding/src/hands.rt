@@ -77,12 +77,19 @@ pub struct Hands {
 }
 
 impl Hands {
+    // Calls the closure.
+    fn begin(&self, crew: &mut Crew, port: Port, work: Work) -> Begun
+        ensures { crew.new ≡ begun crew.old port result }
+    {
+        (self.begin)(crew, port, work)
+    }
+
     /// Starts a thread that does the work of a port's actor. The crew stays of the port's turn.
     #[tactic(auto, using(crate::proofs::Turns::begun_of_turn))]
     pub fn start(&self, crew: &mut Crew, port: Port, work: Work)
         requires { IsOfTurn port.turn crew.old }
         ensures { IsOfTurn port.turn crew.new }
     {
-        let _begun = (self.begin)(crew, port, work);
+        let _begun = self.begin(crew, port, work);
     }
 }

@@ -1,6 +1,6 @@
 //! The job of a sensor: it reads numbers, and calls an operation with each.
 
-ghost use Rattle.std.specs.Prelude.{◌≡◌, List};
+ghost use Rattle.std.specs.Prelude.{◌≡◌, ◌∷◌, [], List};
 ghost use Rattle.rv_crew.specs.Tasks.{goes_on};
 ghost use Rattle.embedding.specs.Jobs.{Sample, Samples, Sampled};
 
@@ -37,13 +37,19 @@ fn goes_on(reached: &Reached) -> bool
     !matches!(reached, Reached::Stopped | Reached::Misuse)
 }
 
+// The values of a call with a number.
+fn values_of(number: i64) -> Args
+    ensures { result ≡ number ∷ [] }
+{
+    Args::from_slice(&[number])
+}
+
 // One call with a number; where it returned, the sensor waits until the number is taken.
 fn send<R: Wait>(rt: &R, port: &mut Port, wiring: Wiring, number: i64) -> Reached
     ensures sample { Sample wiring number result port.old port.new }
     ensures stays { (port.new.turn ≡ port.old.turn) × (port.new.actor ≡ port.old.actor) }
 {
-    let values = Args::from_slice(&[number]);
-    let reached = port.call(rt, wiring.object, wiring.operation, values);
+    let reached = port.call(rt, wiring.object, wiring.operation, values_of(number));
     if let Reached::Returned(_) = reached {
         let _ = port.suspend(rt, wiring.taken);
     }
