@@ -1,10 +1,11 @@
 //! How often each kind of answer came.
 
-use rv_event::entry::{Answer, Next, Rule};
+use rv_event::entry::{Answer, Next, Request, Rule};
+use rv_history::command::Command;
 use std::io;
 
 // The kinds of answers, in the order in which they are told.
-const KINDS: [&str; 24] = [
+const KINDS: [&str; 27] = [
     "started",
     "queued",
     "refused by the list",
@@ -28,11 +29,17 @@ const KINDS: [&str; 24] = [
     "waiting",
     "unattached",
     "badline",
+    "settled, done",
+    "settled, handed over",
+    "settled, dropped",
     "nomemory",
 ];
 
+// The place of a settle by which nobody is named; behind it stand those of the others.
+const SETTLED: usize = 23;
+
 // The place of want of memory, which alone need not come.
-const NO_MEMORY: usize = 23;
+const NO_MEMORY: usize = 26;
 
 // The place of a rule among the kinds.
 fn place_of_rule(rule: Rule) -> usize {
@@ -53,6 +60,26 @@ fn place_of_end(next: Next) -> usize {
         Next::HandedTo(_) => 9,
         Next::Dropped(_, _) => 10,
     }
+}
+
+// The place of an answer to a settle among the kinds, where it is no other answer's.
+fn place_of_settle(answer: &Answer) -> Option<usize> {
+    match *answer {
+        Answer::Done(Next::Nothing) => Some(SETTLED),
+        Answer::Done(Next::HandedTo(_)) => Some(SETTLED + 1),
+        Answer::Done(Next::Dropped(_, _)) => Some(SETTLED + 2),
+        _ => None,
+    }
+}
+
+// The place of the answer to a command among the kinds.
+fn place_of_answer(command: &Command, answer: &Answer) -> usize {
+    if let Command::Ask(_, Request::Settle) = command {
+        if let Some(place) = place_of_settle(answer) {
+            return place;
+        }
+    }
+    place_of(answer)
 }
 
 // The place of an answer among the kinds.
@@ -81,18 +108,18 @@ fn place_of(answer: &Answer) -> usize {
 /// How often each kind came.
 #[derive(Drop)]
 pub struct Counts {
-    counts: [usize; 24],
+    counts: [usize; 27],
 }
 
 impl Counts {
     /// None yet.
     pub fn new() -> Counts {
-        Counts { counts: [0; 24] }
+        Counts { counts: [0; 27] }
     }
 
-    /// Counts an answer.
-    pub fn add(&mut self, answer: &Answer) {
-        if let Some(count) = self.counts.get_mut(place_of(answer)) {
+    /// Counts the answer to a command.
+    pub fn add(&mut self, command: &Command, answer: &Answer) {
+        if let Some(count) = self.counts.get_mut(place_of_answer(command, answer)) {
             *count = count.saturating_add(1);
         }
     }

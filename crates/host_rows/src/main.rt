@@ -20,7 +20,26 @@ use std::io;
 use std::process::ExitCode;
 
 // How many runs there are, each with a seed of its own.
-const RUNS: u64 = 80;
+const RUNS: u64 = 136;
+
+// How many of them have queues of one caller; the others have 2 to 8.
+const RUNS_OF_ONE: u64 = 80;
+
+// How many callers the queues of a seed take.
+fn limit_of(seed: u64) -> usize {
+    if seed <= RUNS_OF_ONE {
+        return 1;
+    }
+    match seed % 7 {
+        0 => 8,
+        1 => 7,
+        2 => 6,
+        3 => 5,
+        4 => 4,
+        5 => 3,
+        _ => 2,
+    }
+}
 
 // How many entries the hosts of a seed have room for: in one run of five few, so that they come to an end.
 fn capacity_of(seed: u64) -> usize {
@@ -90,9 +109,10 @@ fn run_seed<R: Print>(
     seed: u64,
 ) -> io::Result<Option<Run>> {
     let capacity = capacity_of(seed);
-    match Host::new(alloc, capacity) {
+    let limit = limit_of(seed);
+    match Host::with_limit(alloc, capacity, limit) {
         Ok(mut host) => {
-            let mut scan = Scan::new(alloc, capacity);
+            let mut scan = Scan::new(alloc, capacity, limit);
             run_on(rt, alloc, &mut host, &mut scan, counts, seed)
         }
         Err(_) => Err(io::Error::from(io::ErrorKind::OutOfMemory)),

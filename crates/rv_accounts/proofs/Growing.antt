@@ -59,13 +59,13 @@ asks_grow limits actor log e =
 
 -- of an actor's events, one that is another's is none, and so is a settle
 abbrev Adds : ℕ → Event → List Event → Type 0
-Adds actor e es = (((eqb (by e) actor ≡ false) × (but_settles (mine by actor es) ≡ [])) ⊎ ((settles e ≡ true) × (but_settles (mine by actor es) ≡ [])))
+Adds actor e es = ((eqb (by e) actor ≡ false) ⊎ (settles e ≡ true)) × (but_settles (mine by actor es) ≡ [])
 
 none_first : (actor : ℕ) (e : Event) (es : List Event) → but_settles (mine by actor (e ∷ es)) ≡ [] → Adds actor e es
 none_first actor e es n = by_test (eqb (by e) actor) refl (settles e) refl n where
   by_test : (k : Bool) → eqb (by e) actor ≡ k → (s : Bool) → settles e ≡ s → but_settles (cond k (e ∷ mine by actor es) (mine by actor es)) ≡ [] → Adds actor e es
-  by_test false is s settled m = inl (is, m)
-  by_test true is true settled m = inr (settled, ap (λ (b : Bool). cond b (but_settles (mine by actor es)) (e ∷ but_settles (mine by actor es))) (sym settled) ∙ m)
+  by_test false is s settled m = (inl is, m)
+  by_test true is true settled m = (inr settled, ap (λ (b : Bool). cond b (but_settles (mine by actor es)) (e ∷ but_settles (mine by actor es))) (sym settled) ∙ m)
   by_test true is false settled m = absurd (cc (ap (λ (b : Bool). cond b (but_settles (mine by actor es)) (e ∷ but_settles (mine by actor es))) (sym settled) ∙ m))
 
 others_own : (limits : Limits) (actor : ℕ) (log : List Event) (e : Event) → eqb (by e) actor ≡ false → own_event limits actor log e ≡ []
@@ -83,12 +83,11 @@ settle_own limits actor log (Lists l) n = refl
 
 others_add : (limits : Limits) (actor : ℕ) (log rest : List Event) → but_settles (mine by actor rest) ≡ [] → asked_at limits actor (log ++ rest) ≡ asked_at limits actor log
 others_add limits actor log [] n = ap (λ (l : List Event). asked_at limits actor l) (append-nil log)
-others_add limits actor log (e ∷ rest) n = ⊎_elim (λ m. one_more (others_own limits actor log e m.0) m.1) (λ m. one_more (settle_own limits actor log e m.0) m.1) (none_first actor e rest n) where
-  one_more : own_event limits actor log e ≡ [] → but_settles (mine by actor rest) ≡ [] → asked_at limits actor (log ++ e ∷ rest) ≡ asked_at limits actor log
-  one_more own m =
-      ap (λ (l : List Event). asked_at limits actor l) (sym (append_assoc log (e ∷ []) rest))
-      ∙ (others_add limits actor (log ++ e ∷ []) rest m
-      ∙ (asks_grow limits actor log e ∙ (ap (λ (t : Trace). asked_at limits actor log ++ t) own ∙ append-nil (asked_at limits actor log))))
+others_add limits actor log (e ∷ rest) n =
+    let m = none_first actor e rest n in
+    ap (λ (l : List Event). asked_at limits actor l) (sym (append_assoc log (e ∷ []) rest))
+    ∙ (others_add limits actor (log ++ e ∷ []) rest m.1
+    ∙ (asks_grow limits actor log e ∙ (ap (λ (t : Trace). asked_at limits actor log ++ t) (⊎_elim (λ other. others_own limits actor log e other) (λ settle. settle_own limits actor log e settle) m.0) ∙ append-nil (asked_at limits actor log))))
 
 none_more : {A : Type 0} (xs ys : List A) → xs ++ ys ≡ xs → ys ≡ []
 none_more xs [] e = refl

@@ -18,7 +18,7 @@ use Rattle.rv_event.specs.declared.entry.Recorded.TheVariants as Words
 use Rattle.rv_event.specs.declared.entry.Request.{Request}
 use Rattle.rv_event.specs.declared.entry.Request.TheVariants.{Call, Settle}
 use Rattle.rv_event.specs.declared.entry.Stance.{Stance}
-use Rattle.rv_event.specs.declared.entry.Stance.TheVariants.{Free, InQueue, HandedOver, DroppedBy, WaitsOn, WaitsUntil, Gone}
+use Rattle.rv_event.specs.declared.entry.Stance.TheVariants.{Free, InQueue, HandedOver, DroppedBy}
 use Rattle.rv_history.specs.declared.limits.Limits.{Limits}
 use Rattle.rv_history.specs.Due.{out}
 use Rattle.rv_history.specs.History.{History}
@@ -103,18 +103,16 @@ pub quiet : (limits : Limits) (a o p : ℕ) (vs : List ℤ) (newer older : List 
     → list_any (own_asks a) newer ≡ false → list_any (is_own a) newer ≡ false
 quiet limits a o p vs [] older shapes lists l none = refl
 quiet limits a o p vs (Asked b r w ∷ newer) older shapes lists l none =
-    by_actor (eqb b a) refl (is_settle r) refl (neither (own_asks a (Asked b r w)) (list_any (own_asks a) newer) none).0 where
-  past : List Entry
-  past = newer ++ Asked a (Call o p vs) Words.Queued ∷ older
+    let parts = neither (own_asks a (Asked b r w)) (list_any (own_asks a) newer) none in
+    by_actor (eqb b a) refl (is_settle r) refl parts.0 (quiet limits a o p vs newer older shapes lists l.0 parts.1) where
+      past : List Entry
+      past = newer ++ Asked a (Call o p vs) Words.Queued ∷ older
 
-  rest : list_any (is_own a) newer ≡ false
-  rest = quiet limits a o p vs newer older shapes lists l.0 (neither (own_asks a (Asked b r w)) (list_any (own_asks a) newer) none).1
-
-  by_actor : (k : Bool) → eqb b a ≡ k → (s : Bool) → is_settle r ≡ s → cond k (not s) false ≡ false → list_any (is_own a) (Asked b r w ∷ newer) ≡ false
-  by_actor false is s settles e = λ i. is i || rest i
-  by_actor true is false settles e = absurd (cc e)
-  by_actor true is true settles e =
-      no_settle limits a o p vs newer older shapes lists w l.0 rest
-      (subst (λ (z : ℕ × Request). recorded (out (history_of limits past shapes lists) z.0 z.1) ≡ Some w) (λ i. (eqb-true b a is i, settle_is r settles i)) l.1)
+      by_actor : (k : Bool) → eqb b a ≡ k → (s : Bool) → is_settle r ≡ s → cond k (not s) false ≡ false → list_any (is_own a) newer ≡ false → list_any (is_own a) (Asked b r w ∷ newer) ≡ false
+      by_actor false is s settles e rest = λ i. is i || rest i
+      by_actor true is false settles e rest = absurd (cc e)
+      by_actor true is true settles e rest =
+          no_settle limits a o p vs newer older shapes lists w l.0 rest
+          (subst (λ (z : ℕ × Request). recorded (out (history_of limits past shapes lists) z.0 z.1) ≡ Some w) (λ i. (eqb-true b a is i, settle_is r settles i)) l.1)
 quiet limits a o p vs (Load ∷ newer) older shapes lists l none = quiet limits a o p vs newer older l.0 lists l.3 none
 quiet limits a o p vs (ListChange ∷ newer) older shapes lists l none = quiet limits a o p vs newer older shapes l.0 l.3 none

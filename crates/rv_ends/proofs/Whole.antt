@@ -3,6 +3,7 @@ use Rattle.std.proofs.Common.{◌≡◌, inl, inr, ℕ, List, [], ◌∷◌, ◌
 use Rattle.std.specs.Prelude.{◌==◌, if◌then◌else◌, is_some}
 use Rattle.rv_access.specs.Words.{Words}
 use Rattle.rv_shape.specs.Shape.{Shape}
+use Rattle.rv_event.specs.Past.{mode}
 use Rattle.rv_event.specs.Recorded.{recorded}
 use Rattle.rv_code.specs.Bodies.{UnitBodies}
 use Rattle.rv_event.specs.declared.entry.Answer.{Answer}
@@ -13,13 +14,14 @@ use Rattle.rv_event.specs.declared.entry.Entry.TheVariants.{Asked, Load, ListCha
 use Rattle.rv_event.specs.declared.entry.Recorded.{Recorded}
 use Rattle.rv_event.specs.declared.entry.Request.{Request}
 use Rattle.rv_history.specs.Due.{out}
+use Rattle.rv_history.specs.Fitting.{is_settling}
 use Rattle.rv_history.specs.History.{History}
 use Rattle.rv_history.specs.Legal.{Legal, after, after_list, after_load, empty, entered, out_list, out_load}
 use Rattle.rv_history.specs.Steps.{MayLackMemory}
 use Rattle.rv_history.specs.declared.limits.Limits.{Limits}
 use Rattle.rv_ends.specs.Afoot.{Afoot, AreAfoot, answered, open_view}
 use Rattle.rv_ends.specs.Ends.{AllStopped, IsWhole, afoot_of, left_stops, of_others, texts_after}
-use Rattle.rv_ends.specs.Explained.{IsFront, IsStopped, is_stop, is_stopped_end, leaves_open}
+use Rattle.rv_ends.specs.Explained.{IsFront, IsStopped, is_stop, unwinds, leaves_open}
 use Rattle.rv_ends.specs.declared.ends.Ends.{Ends}
 use Rattle.rv_ends.specs.declared.ends.Stop.{Stop}
 
@@ -40,6 +42,7 @@ stopped_on h e actor ask leaves is = record {
   later = e ∷ is.later;
   is_front = front_on is.front h is.later e is.is_front;
   since = (leaves, is.since);
+  settled = is.settled;
   stops = is.stops;
 }
 
@@ -47,10 +50,10 @@ if_stopped : (b stopped : Bool) → stopped ≡ true → (if b then stopped else
 if_stopped true stopped is = is
 if_stopped false stopped is = refl
 
-all_on_end : (h : History) (by : ℕ) (request : Request) (word : Recorded) (stops : List Stop) → is_stopped_end request ≡ true → AllStopped h stops → AllStopped (record h { past = Asked by request word ∷ h.past }) stops
+all_on_end : (h : History) (by : ℕ) (request : Request) (word : Recorded) (stops : List Stop) → unwinds request ≡ true → AllStopped h stops → AllStopped (record h { past = Asked by request word ∷ h.past }) stops
 all_on_end h by request word [] is all = tt
 all_on_end h by request word (s ∷ stops) is all =
-    (stopped_on h (Asked by request word) s.actor s.ask (if_stopped (s.actor == by) (is_stopped_end request) is) all.0, all_on_end h by request word stops is all.1)
+    (stopped_on h (Asked by request word) s.actor s.ask (if_stopped (s.actor == by) (unwinds request) is) all.0, all_on_end h by request word stops is all.1)
 
 all_on_other : (h : History) (by : ℕ) (request : Request) (word : Recorded) (stops : List Stop) → AllStopped h stops → AllStopped (record h { past = Asked by request word ∷ h.past }) (of_others by stops)
 all_on_other h by request word [] all = tt
@@ -58,12 +61,12 @@ all_on_other h by request word (s ∷ stops) all = by_test (all_on_other h by re
   where
     by_test : AllStopped (record h { past = Asked by request word ∷ h.past }) (of_others by stops) → (b : Bool) → (s.actor == by) ≡ b → AllStopped (record h { past = Asked by request word ∷ h.past }) (if b then of_others by stops else s ∷ of_others by stops)
     by_test rest true is = rest
-    by_test rest false is = (stopped_on h (Asked by request word) s.actor s.ask (ap (λ (b : Bool). if b then is_stopped_end request else true) is) all.0, rest)
+    by_test rest false is = (stopped_on h (Asked by request word) s.actor s.ask (ap (λ (b : Bool). if b then unwinds request else true) is) all.0, rest)
 
 all_left : (h : History) (by : ℕ) (request : Request) (word : Recorded) (stops : List Stop) → AllStopped h stops → AllStopped (record h { past = Asked by request word ∷ h.past }) (left_stops request by stops)
-all_left h by request word stops all = by_test (is_stopped_end request) refl
+all_left h by request word stops all = by_test (unwinds request) refl
   where
-    by_test : (b : Bool) → is_stopped_end request ≡ b → AllStopped (record h { past = Asked by request word ∷ h.past }) (if b then stops else of_others by stops)
+    by_test : (b : Bool) → unwinds request ≡ b → AllStopped (record h { past = Asked by request word ∷ h.past }) (if b then stops else of_others by stops)
     by_test true is = all_on_end h by request word stops is all
     by_test false is = all_on_other h by request word stops all
 
@@ -78,7 +81,7 @@ whole_new e limits host calls under_way stops = record {
 -- Requests
 
 pub whole_asked : (e n : Ends) (actor : ℕ) (request : Request) (word : Recorded) → IsWhole e → recorded (out e.host actor request) ≡ Some word → n.host ≡ after e.host actor request (out e.host actor request)
-    → afoot_of n ≡ answered e.host.shapes actor request (out e.host actor request) (afoot_of e) → n.stops.items ≡ left_stops request actor e.stops.items → IsWhole n
+    → afoot_of n ≡ answered e.host.shapes (Asked actor request word ∷ e.host.past) actor request (out e.host actor request) (afoot_of e) → n.stops.items ≡ left_stops request actor e.stops.items → IsWhole n
 whole_asked e n actor request word w is host_is afoot_is stops_is =
     let k : History = record e.host { past = Asked actor request word ∷ e.host.past } in
     let host : n.host ≡ k = host_is ∙ ap (entered e.host actor request) is in
@@ -95,18 +98,15 @@ whole_same e n w host afoot_is stops_is = record {
 
 -- a request whose answer is recorded
 pub whole_recorded : (e n : Ends) (actor : ℕ) (request : Request) (answer : Answer) → IsWhole e → answer ≡ out e.host actor request → is_some (recorded answer) ≡ true → n.host ≡ after e.host actor request answer
-    → afoot_of n ≡ answered (after e.host actor request answer).shapes actor request answer (afoot_of e) → n.stops.items ≡ left_stops request actor e.stops.items → IsWhole n
+    → afoot_of n ≡ answered (after e.host actor request answer).shapes (after e.host actor request answer).past actor request answer (afoot_of e) → n.stops.items ≡ left_stops request actor e.stops.items → IsWhole n
 whole_recorded e n actor request answer w due some host_is afoot_is stops_is = by_word (recorded answer) refl some
   where
-    shapes_stay : (o : Option Recorded) → (entered e.host actor request o).shapes ≡ e.host.shapes
-    shapes_stay None = refl
-    shapes_stay (Some word) = refl
-
     by_word : (o : Option Recorded) → recorded answer ≡ o → is_some o ≡ true → IsWhole n
     by_word None is b = absurd cc
     by_word (Some word) is b =
         whole_asked e n actor request word w (ap recorded (sym due) ∙ is) (host_is ∙ ap (λ (a : Answer). after e.host actor request a) due)
-        (afoot_is ∙ ap (λ (l : List Shape). answered l actor request answer (afoot_of e)) (shapes_stay (recorded answer)) ∙ ap (λ (a : Answer). answered e.host.shapes actor request a (afoot_of e)) due) stops_is
+        (afoot_is ∙ ap (λ (o : Option Recorded). answered (entered e.host actor request o).shapes (entered e.host actor request o).past actor request answer (afoot_of e)) is
+        ∙ ap (λ (a : Answer). answered e.host.shapes (Asked actor request word ∷ e.host.past) actor request a (afoot_of e)) due) stops_is
 
 -- one whose answer isn't
 pub whole_unrecorded : (e n : Ends) (actor : ℕ) (request : Request) (answer : Answer) → IsWhole e → is_some (recorded answer) ≡ false → n.host ≡ after e.host actor request answer → afoot_of n ≡ afoot_of e → n.stops.items ≡ e.stops.items → IsWhole n
@@ -148,13 +148,13 @@ all_on_load : (h : History) (shape : Shape) (stops : List Stop) → AllStopped h
 all_on_load h shape [] all = tt
 all_on_load h shape (s ∷ stops) all =
     let is = all.0 in
-    (record { front = is.front; later = Load ∷ is.later; is_front = load_on is.front h shape is.later is.is_front; since = (refl, is.since); stops = is.stops }, all_on_load h shape stops all.1)
+    (record { front = is.front; later = Load ∷ is.later; is_front = load_on is.front h shape is.later is.is_front; since = (refl, is.since); settled = is.settled; stops = is.stops }, all_on_load h shape stops all.1)
 
 all_on_list : (h : History) (list : List Words) (stops : List Stop) → AllStopped h stops → AllStopped (record h { past = ListChange ∷ h.past; lists = h.lists ++ list ∷ [] }) stops
 all_on_list h list [] all = tt
 all_on_list h list (s ∷ stops) all =
     let is = all.0 in
-    (record { front = is.front; later = ListChange ∷ is.later; is_front = list_on is.front h list is.later is.is_front; since = (refl, is.since); stops = is.stops }, all_on_list h list stops all.1)
+    (record { front = is.front; later = ListChange ∷ is.later; is_front = list_on is.front h list is.later is.is_front; since = (refl, is.since); settled = is.settled; stops = is.stops }, all_on_list h list stops all.1)
 
 pub whole_loaded : (e n : Ends) (shape : Shape) → IsWhole e → n.host ≡ record e.host { past = Load ∷ e.host.past; shapes = e.host.shapes ++ shape ∷ [] } → afoot_of n ≡ afoot_of e → n.stops.items ≡ e.stops.items → IsWhole n
 whole_loaded e n shape w host afoot_is stops_is =
@@ -190,8 +190,8 @@ whole_by_list e n list answer w host afoot_is stops_is = by_test (is_some (recor
 
 -- Stops
 
-pub stopped_here : (h : History) (actor : ℕ) (ask : Request) → Legal h → is_stop (out h actor ask) ≡ true → IsStopped h actor ask
-stopped_here h actor ask legal is = record {
+pub stopped_here : (h : History) (actor : ℕ) (ask : Request) → Legal h → is_settling (mode h.shapes actor h.past) ≡ false → is_stop (out h actor ask) ≡ true → IsStopped h actor ask
+stopped_here h actor ask legal settled is = record {
   front = h;
   later = [];
   is_front = record {
@@ -202,6 +202,7 @@ stopped_here h actor ask legal is = record {
     legal = legal;
   };
   since = tt;
+  settled = settled;
   stops = is;
 }
 
@@ -224,11 +225,11 @@ unrecorded answers.Unattached e = absurd cc
 unrecorded answers.BadLine e = absurd cc
 unrecorded answers.OutOfMemory e = absurd cc
 
-pub stopped_now : (h k : History) (actor : ℕ) (ask : Request) (answer : Answer) → Legal h → answer ≡ out h actor ask → is_stop answer ≡ true → k ≡ after h actor ask (out h actor ask) → IsStopped k actor ask
-stopped_now h k actor ask answer legal due stops is =
+pub stopped_now : (h k : History) (actor : ℕ) (ask : Request) (answer : Answer) → Legal h → is_settling (mode h.shapes actor h.past) ≡ false → answer ≡ out h actor ask → is_stop answer ≡ true → k ≡ after h actor ask (out h actor ask) → IsStopped k actor ask
+stopped_now h k actor ask answer legal settled due stops is =
     let here : is_stop (out h actor ask) ≡ true = ap is_stop (sym due) ∙ stops in
     let same : k ≡ h = is ∙ ap (entered h actor ask) (unrecorded (out h actor ask) here) in
-    subst (λ (x : History). IsStopped x actor ask) (sym same) (stopped_here h actor ask legal here)
+    subst (λ (x : History). IsStopped x actor ask) (sym same) (stopped_here h actor ask legal settled here)
 
 pub whole_stopped : (e n : Ends) (stop : Stop) → IsWhole e → IsStopped e.host stop.actor stop.ask → n.host ≡ e.host → afoot_of n ≡ afoot_of e → n.stops.items ≡ e.stops.items ++ stop ∷ [] → IsWhole n
 whole_stopped e n stop w is host afoot_is stops_is = record {

@@ -5,7 +5,7 @@ use Rattle.std.specs.List.{filter}
 use Rattle.rv_access.specs.Words.{Words}
 use Rattle.rv_shape.specs.Shape.{Shape}
 use Rattle.rv_shape.specs.Catalogue.{OperationNumber, handler}
-use Rattle.rv_event.specs.Past.{named_in}
+use Rattle.rv_event.specs.Past.{named_in, scalars}
 use Rattle.rv_event.specs.declared.entry.Answer.{Answer}
 use Rattle.rv_event.specs.declared.entry.Answer.TheVariants.{Started, Queued, Done}
 use Rattle.rv_event.specs.declared.entry.Entry.{Entry}
@@ -13,7 +13,7 @@ use Rattle.rv_event.specs.declared.entry.Entry.TheVariants.{Asked, Load, ListCha
 use Rattle.rv_event.specs.declared.entry.Next.{Next}
 use Rattle.rv_event.specs.declared.entry.Next.TheVariants.{Nothing, HandedTo, Dropped}
 use Rattle.rv_event.specs.declared.entry.Request.{Request}
-use Rattle.rv_event.specs.declared.entry.Request.TheVariants.{Call, Complete, Fire, Resume}
+use Rattle.rv_event.specs.declared.entry.Request.TheVariants.{Call, Complete, Settle, Fire, Resume}
 use Rattle.rv_exec.specs.Asking.{Trace}
 use Rattle.rv_history.specs.Due.{out}
 use Rattle.rv_history.specs.History.{History}
@@ -72,9 +72,10 @@ call_of actor (call ∷ calls) = if call.actor == actor then Some call else call
 -- Asks
 
 -- a body's asks are all of its actor's until its end, those of bodies inside it too; but a resume is none: it is part of the
--- call that waited
+-- call that waited; nor is a settle, which serves a queue on behind an end
 abbrev pub is_ask : Request → Bool
 is_ask Resume = false
+is_ask Settle = false
 is_ask request = true
 
 abbrev pub with_ask : ℕ → Request → Answer → Open → Open
@@ -99,17 +100,17 @@ closed actor request bodies = if is_end request then without actor bodies else b
 abbrev pub holding : ℕ → List Open → ℕ
 holding actor bodies = length (filter (λ body. body.start.actor == actor) bodies)
 
--- the body of a call that waited, which is handed the object with these components
-abbrev pub handed : List ℤ → ℕ → Option QueuedCall → Option Start
-handed components held None = None
-handed components held (Some call) =
-    Some (record { actor = call.actor; object = call.object; operation = call.operation; values = call.values; components = components; held = suc held })
+-- the body of a call that waited, which is handed the object with the components that these entries leave it
+abbrev pub handed : List Shape → List Entry → ℕ → Option QueuedCall → Option Start
+handed shapes entries held None = None
+handed shapes entries held (Some call) =
+    Some (record { actor = call.actor; object = call.object; operation = call.operation; values = call.values; components = scalars shapes call.object entries; held = suc held })
 
--- the same for whom an end names, with the components that the end leaves
-abbrev pub handed_next : Afoot → List ℤ → Next → Option Start
-handed_next afoot components Nothing = None
-handed_next afoot components (HandedTo actor) = handed components (holding actor afoot.bodies) (call_of actor afoot.calls)
-handed_next afoot components (Dropped actor line) = None
+-- the same for whom an end or a settle names
+abbrev pub handed_next : List Shape → List Entry → Afoot → Next → Option Start
+handed_next shapes entries afoot Nothing = None
+handed_next shapes entries afoot (HandedTo actor) = handed shapes entries (holding actor afoot.bodies) (call_of actor afoot.calls)
+handed_next shapes entries afoot (Dropped actor line) = None
 
 -- the components that a start carries
 abbrev pub components_of : Answer → Option (List ℤ)
@@ -127,13 +128,14 @@ abbrev pub fired : ℕ → ℕ → Option OperationNumber → Option (List ℤ) 
 fired actor held None components = None
 fired actor held (Some at) components = called actor at.object at.operation [] held components
 
--- the body that an answered request starts
-abbrev pub started : List Shape → Afoot → ℕ → Request → Answer → Option Start
-started shapes afoot actor (Call object operation values) answer =
+-- the body that an answered request starts, the last of these entries
+abbrev pub started : List Shape → List Entry → Afoot → ℕ → Request → Answer → Option Start
+started shapes entries afoot actor (Call object operation values) answer =
     called actor object operation values (holding actor afoot.bodies) (components_of answer)
-started shapes afoot actor Fire answer = fired actor (holding actor afoot.bodies) (handler shapes (actor - 1)) (components_of answer)
-started shapes afoot actor (Complete components exit) answer = handed_next afoot components (next_of answer)
-started shapes afoot actor request answer = None
+started shapes entries afoot actor Fire answer = fired actor (holding actor afoot.bodies) (handler shapes (actor - 1)) (components_of answer)
+started shapes entries afoot actor (Complete components exit) answer = handed_next shapes entries afoot (next_of answer)
+started shapes entries afoot actor Settle answer = handed_next shapes entries afoot (next_of answer)
+started shapes entries afoot actor request answer = None
 
 abbrev pub begun : Option Start → List Open → List Open
 begun None bodies = bodies
@@ -141,11 +143,11 @@ begun (Some start) bodies = record { start = start; asked = [] } ∷ bodies
 
 -- Entries
 
--- what is afoot behind an answered request that is recorded
-abbrev pub answered : List Shape → ℕ → Request → Answer → Afoot → Afoot
-answered shapes actor request answer afoot = record {
+-- what is afoot behind an answered request that is recorded, the last of these entries
+abbrev pub answered : List Shape → List Entry → ℕ → Request → Answer → Afoot → Afoot
+answered shapes entries actor request answer afoot = record {
   calls = joined (queued actor request answer) (left (named_in (next_of answer)) afoot.calls);
-  bodies = begun (started shapes afoot actor request answer) (map (with_ask actor request answer) (closed actor request afoot.bodies));
+  bodies = begun (started shapes entries afoot actor request answer) (map (with_ask actor request answer) (closed actor request afoot.bodies));
 }
 
 -- This is afoot behind a history: each of its entries has the answer that was due behind those before it.
@@ -153,7 +155,7 @@ abbrev pub IsAfoot : Limits → List Entry → List Shape → List (List Words) 
 IsAfoot limits [] shapes lists afoot = afoot ≡ nothing_afoot
 IsAfoot limits (Asked actor request word ∷ past) shapes lists afoot =
     (before : Afoot) × IsAfoot limits past shapes lists before
-    × (afoot ≡ answered shapes actor request (out (record { limits = limits; past = past; shapes = shapes; lists = lists }) actor request) before)
+    × (afoot ≡ answered shapes (Asked actor request word ∷ past) actor request (out (record { limits = limits; past = past; shapes = shapes; lists = lists }) actor request) before)
 IsAfoot limits (Load ∷ past) shapes lists afoot =
     (old : List Shape) × (shape : Shape) × (shapes ≡ old ++ shape ∷ []) × IsAfoot limits past old lists afoot
 IsAfoot limits (ListChange ∷ past) shapes lists afoot =

@@ -7,7 +7,7 @@ use Rattle.rv_event.specs.declared.entry.Request.{Request}
 use Rattle.rv_exec.specs.Bodies.{bodies_view, with_unit}
 use Rattle.rv_history.specs.History.{History}
 use Rattle.rv_ends.specs.Afoot.{Afoot, AreAfoot, Open, open_view}
-use Rattle.rv_ends.specs.Explained.{AsksBehind, ByRecorded, EndsBy, HasNoText, IsExplained, IsStopped, innermost, is_stopped_end}
+use Rattle.rv_ends.specs.Explained.{AsksBehind, ByRecorded, EndsBy, HasNoText, IsExplained, IsStopped, innermost, unwinds}
 use Rattle.rv_ends.specs.declared.ends.Ends.{Ends}
 use Rattle.rv_ends.specs.declared.ends.Stop.{Stop}
 use Rattle.rv_ends.specs.declared.meaning.Meaning.{Meaning}
@@ -39,9 +39,9 @@ abbrev pub of_others : ℕ → List Stop → List Stop
 of_others actor [] = []
 of_others actor (stop ∷ stops) = if stop.actor == actor then of_others actor stops else stop ∷ of_others actor stops
 
--- those that are left behind a request of an actor: behind an end by stopped all
+-- those that are left behind a request of an actor: behind an end by stopped and a settle all
 abbrev pub left_stops : Request → ℕ → List Stop → List Stop
-left_stops request actor stops = if is_stopped_end request then stops else of_others actor stops
+left_stops request actor stops = if unwinds request then stops else of_others actor stops
 
 -- What is kept is what is afoot, and what stopped its actors.
 pub record IsWhole (ends : Ends) : Type 0 where

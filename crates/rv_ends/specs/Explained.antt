@@ -5,6 +5,7 @@ use Rattle.rv_access.specs.Words.{Words}
 use Rattle.rv_shape.specs.Shape.{Shape}
 use Rattle.rv_shape.specs.Catalogue.{Target, OnProtected, target}
 use Rattle.rv_code.specs.Bodies.{UnitBodies, Body}
+use Rattle.rv_event.specs.Past.{mode}
 use Rattle.rv_event.specs.declared.entry.Answer.{Answer}
 use Rattle.rv_event.specs.declared.entry.Answer.TheVariants.{Started, Done, Refused, Full, Halted, Misuse}
 use Rattle.rv_event.specs.declared.entry.Entry.{Entry}
@@ -12,12 +13,13 @@ use Rattle.rv_event.specs.declared.entry.Entry.TheVariants.{Asked}
 use Rattle.rv_event.specs.declared.entry.Exit.{Exit}
 use Rattle.rv_event.specs.declared.entry.Exit.TheVariants.{Stopped}
 use Rattle.rv_event.specs.declared.entry.Request.{Request}
-use Rattle.rv_event.specs.declared.entry.Request.TheVariants.{Call, Complete}
+use Rattle.rv_event.specs.declared.entry.Request.TheVariants.{Call, Complete, Settle}
 use Rattle.rv_event.specs.declared.entry.Rule.TheVariants.{Reentry}
 use Rattle.rv_exec.specs.Asking.{Trace, Along, stands}
 use Rattle.rv_exec.specs.Blocks.{operation_run_at}
 use Rattle.rv_exec.specs.Bodies.{operation_of}
 use Rattle.rv_history.specs.Due.{out}
+use Rattle.rv_history.specs.Fitting.{is_settling}
 use Rattle.rv_history.specs.History.{History}
 use Rattle.rv_history.specs.Legal.{Legal}
 use Rattle.rv_ends.specs.Afoot.{Afoot, AreAfoot, Open}
@@ -102,9 +104,15 @@ is_stop Full = true
 is_stop Misuse = true
 is_stop answer = false
 
--- whether an entry is an actor's end of a body by stopped, or another actor's
+-- the requests by which the bodies of a stopped actor end, one behind another: ends by stopped, and settles behind them
+abbrev pub unwinds : Request → Bool
+unwinds (Complete components Stopped) = true
+unwinds Settle = true
+unwinds request = false
+
+-- whether an entry is such a request of an actor, or another actor's
 abbrev pub leaves_open : ℕ → Entry → Bool
-leaves_open actor (Asked by request answer) = if actor == by then is_stopped_end request else true
+leaves_open actor (Asked by request answer) = if actor == by then unwinds request else true
 leaves_open actor entry = true
 
 abbrev pub AllLeaveOpen : ℕ → List Entry → Type 0
@@ -119,12 +127,14 @@ pub record IsFront (front h : History) (later : List Entry) : Type 0 where
   pub lists : (more : List (List Words)) × (h.lists ≡ front.lists ++ more)
   pub legal : Legal front
 
--- An ask of an actor is due Halted, Full or Misuse on a history since the actor's last entry, its ends by stopped aside.
+-- An ask of an actor is due Halted, Full or Misuse on a history since the actor's last entry, its ends by stopped and the settles
+-- behind them aside; the actor had nothing to settle there, as who asks by a text has.
 pub record IsStopped (h : History) (actor : ℕ) (other : Request) : Type 0 where
   pub front : History
   pub later : List Entry
   pub is_front : IsFront front h later
   pub since : AllLeaveOpen actor later
+  pub settled : is_settling (mode front.shapes actor front.past) ≡ false
   pub stops : is_stop (out front actor other) ≡ true
 
 -- What explains an end

@@ -7,7 +7,7 @@ ghost use Rattle.rv_ends.specs.Afoot.{begun, call_of, called, closed, components
 
 use crate::afoot::{OpenBody, QueuedCall, Start};
 use rv_event::entry::{Answer, Exception, Exit, Next, Request, Rule};
-use rv_shape::catalogue::Catalogue;
+use rv_host::host::Host;
 use rv_value::{Args, Scalars};
 use std::alloc::{AllocError, Global};
 
@@ -16,7 +16,7 @@ fn is_ask(request: &Request) -> bool
     ensures { result ≡ is_ask request.now }
 {
     match request {
-        Request::Resume => false,
+        Request::Resume | Request::Settle => false,
         _ => true,
     }
 }
@@ -156,10 +156,10 @@ fn call_of(calls: &[QueuedCall], actor: usize) -> Option<QueuedCall>
     call_of(rest, actor)
 }
 
-// The body of a call that waited.
-fn handed(components: Scalars, held: usize, call: Option<QueuedCall>) -> Option<Start>
+// The body of a call that waited, which is handed the object as the host has it now.
+fn handed(host: &Host, held: usize, call: Option<QueuedCall>) -> Option<Start>
     requires { held < 2 ^ 63 }
-    ensures { result ≡ handed components held call }
+    ensures { result ≡ handed host.now.shapes host.now.past held call }
 {
     let call = call?;
     Some(Start {
@@ -167,22 +167,17 @@ fn handed(components: Scalars, held: usize, call: Option<QueuedCall>) -> Option<
         object: call.object,
         operation: call.operation,
         values: call.values,
-        components,
+        components: *host.scalars(call.object),
         held: held + 1,
     })
 }
 
-// The body of the call that an end names.
-fn handed_next(
-    calls: &[QueuedCall],
-    bodies: &[OpenBody],
-    components: Scalars,
-    next: Next,
-) -> Option<Start>
-    ensures { result ≡ handed_next (record { calls = calls.now; bodies = map open_view bodies.now }) components next }
+// The body of the call that an end or a settle names.
+fn handed_next(host: &Host, calls: &[QueuedCall], bodies: &[OpenBody], next: Next) -> Option<Start>
+    ensures { result ≡ handed_next host.now.shapes host.now.past (record { calls = calls.now; bodies = map open_view bodies.now }) next }
 {
     match next {
-        Next::HandedTo(actor) => handed(components, holding(bodies, actor), call_of(calls, actor)),
+        Next::HandedTo(actor) => handed(host, holding(bodies, actor), call_of(calls, actor)),
         Next::Nothing | Next::Dropped(_, _) => None,
     }
 }
@@ -234,16 +229,16 @@ fn fired(
     called(actor, object, operation, Args::new(), held, components)
 }
 
-/// The body that an answered request starts.
+/// The body that an answered request starts, the last entry of the host.
 pub fn started(
-    catalogue: &Catalogue,
+    host: &Host,
     calls: &[QueuedCall],
     bodies: &[OpenBody],
     actor: usize,
     request: &Request,
     answer: &Answer,
 ) -> Option<Start>
-    ensures { result ≡ started catalogue.now (record { calls = calls.now; bodies = map open_view bodies.now }) actor request.now answer.now }
+    ensures { result ≡ started host.now.shapes host.now.past (record { calls = calls.now; bodies = map open_view bodies.now }) actor request.now answer.now }
 {
     let held = holding(bodies, actor);
     match *request {
@@ -260,11 +255,11 @@ pub fn started(
         Request::Fire => fired(
             actor,
             held,
-            catalogue.handler(actor.saturating_sub(1)),
+            host.catalogue().handler(actor.saturating_sub(1)),
             components_of(answer),
         ),
-        Request::Complete(components, _) => {
-            handed_next(calls, bodies, components, next_of(answer))
+        Request::Complete(_, _) | Request::Settle => {
+            handed_next(host, calls, bodies, next_of(answer))
         }
         _ => None,
     }

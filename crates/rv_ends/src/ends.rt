@@ -1,25 +1,27 @@
 //! The ends of bodies, entry by entry of a journal.
 
-ghost use Rattle.std.specs.Prelude.{◌≡◌, ◌≤◌, ◌^◌, true, Some, IfOk, OnOk};
+ghost use Rattle.std.specs.Prelude.{◌≡◌, ◌≤◌, ◌^◌, false, true, Some, IfOk, OnOk};
 ghost use Rattle.rv_code.specs.BodyView.{unit_view};
 ghost use Rattle.rv_exec.specs.Bodies.{no_bodies};
+ghost use Rattle.rv_event.specs.Past.{mode};
 ghost use Rattle.rv_history.specs.Due.{out};
+ghost use Rattle.rv_history.specs.Fitting.{is_settling};
 ghost use Rattle.rv_history.specs.Legal.{Legal, after, after_list, after_load, empty, out_list, out_load};
-ghost use Rattle.rv_history.specs.Limits.{limits_of};
+ghost use Rattle.rv_history.specs.Limits.{limits_with};
 ghost use Rattle.rv_ends.specs.Afoot.{answered};
 ghost use Rattle.rv_history.specs.Owed.{IsSolvent};
 ghost use Rattle.rv_history.specs.Steps.{MayLackMemory};
 ghost use Rattle.rv_history.specs.History.{History};
 ghost use Rattle.rv_ends.specs.Ends.{AllStopped, IsFoundStop, IsMeaning, IsWhole, afoot_of, history_of, is_settled, left_stops, of_others, texts_after, texts_of};
-ghost use Rattle.rv_ends.specs.Explained.{IsStopped, is_stop};
+ghost use Rattle.rv_ends.specs.Explained.{IsStopped, is_stop, unwinds};
 
 use crate::afoot::{OpenBody, QueuedCall};
 use crate::answered::{begin, close, hear_all, innermost, queue, started};
-use crate::following::{is_same, is_stopped_end};
+use crate::following::is_same;
 use crate::meaning::{Course, Meaning, course_of};
 use rv_access::AccessList;
 use rv_code::UnitBodies;
-use rv_event::entry::{Answer, Exception, Exit, Next, Request, Rule};
+use rv_event::entry::{Answer, Exception, Exit, Mode, Next, Request, Rule};
 use rv_exec::bodies::Bodies;
 use rv_host::host::{Host, NewFault};
 use rv_shape::catalogue::Catalogue;
@@ -57,6 +59,27 @@ fn is_stop(answer: &Answer) -> bool
     }
 }
 
+// Whether the bodies of a stopped actor end by it, one behind another.
+fn unwinds(request: &Request) -> bool
+    ensures { result ≡ unwinds request.now }
+{
+    match request {
+        Request::Complete(_, Exit::Stopped) => true,
+        Request::Settle => true,
+        _ => false,
+    }
+}
+
+// Whether an actor is known to have nothing to settle.
+fn has_settled(host: &Host, actor: usize) -> bool
+    ensures { result ≡ true → is_settling (mode host.now.shapes actor host.now.past) ≡ false }
+{
+    match host.mode(actor) {
+        Some(mode) => !matches!(mode, Mode::Settling),
+        None => false,
+    }
+}
+
 // What stopped others than this actor.
 fn without(alloc: Global, stops: &[Stop], actor: usize) -> Result<Vec<Stop>, AllocError>
     ensures { IfOk result (λ others. others.items ≡ of_others actor stops.now) }
@@ -86,14 +109,14 @@ fn has_stop(stops: &[Stop], actor: usize, ask: &Request) -> bool
 }
 
 impl Ends {
-    /// Before the first entry of a journal over a capacity, 16 .. 1,048,576.
+    /// Before the first entry of a journal over a capacity, 16 .. 1,048,576, and queues of so many callers, 1 .. 8.
     #[tactic(auto, using(crate::proofs::Whole::whole_new))]
-    pub fn new(alloc: Global, capacity: usize) -> Result<Ends, NewFault>
+    pub fn new(alloc: Global, capacity: usize, limit: usize) -> Result<Ends, NewFault>
         ensures whole { IfOk result IsWhole }
-        ensures history { IfOk result (λ ends. history_of ends ≡ empty (limits_of capacity)) }
+        ensures history { IfOk result (λ ends. history_of ends ≡ empty (limits_with capacity limit)) }
         ensures texts { IfOk result (λ ends. texts_of ends ≡ no_bodies) }
     {
-        let host = Host::new(alloc, capacity)?;
+        let host = Host::with_limit(alloc, capacity, limit)?;
         Ok(Ends {
             alloc,
             host,
@@ -171,11 +194,11 @@ impl Ends {
 
     // What an answered request changes of what is afoot.
     fn take(&mut self, actor: usize, request: &Request, answer: &Answer) -> Result<(), AllocError>
-        ensures afoot { OnOk result (afoot_of self.new ≡ answered (history_of self.old).shapes actor request.now answer.now (afoot_of self.old)) }
+        ensures afoot { OnOk result (afoot_of self.new ≡ answered (history_of self.old).shapes (history_of self.old).past actor request.now answer.now (afoot_of self.old)) }
         ensures same { (self.new.host ≡ self.old.host) × (self.new.bodies ≡ self.old.bodies) × (self.new.stops ≡ self.old.stops) }
     {
         let start = started(
-            self.host.catalogue(),
+            &self.host,
             self.calls.as_slice(),
             self.under_way.as_slice(),
             actor,
@@ -193,7 +216,7 @@ impl Ends {
         ensures stops { OnOk result (self.new.stops.items ≡ left_stops request.now actor self.old.stops.items) }
         ensures same { (self.new.host ≡ self.old.host) × (self.new.bodies ≡ self.old.bodies) × (afoot_of self.new ≡ afoot_of self.old) }
     {
-        if is_stopped_end(request) {
+        if unwinds(request) {
             return Ok(());
         }
         self.stops = without(self.alloc, self.stops.as_slice(), actor)?;
@@ -202,7 +225,7 @@ impl Ends {
 
     // Takes an answer that is recorded into account.
     fn note(&mut self, actor: usize, request: &Request, answer: &Answer) -> Result<(), AllocError>
-        ensures afoot { OnOk result (afoot_of self.new ≡ answered (history_of self.old).shapes actor request.now answer.now (afoot_of self.old)) }
+        ensures afoot { OnOk result (afoot_of self.new ≡ answered (history_of self.old).shapes (history_of self.old).past actor request.now answer.now (afoot_of self.old)) }
         ensures stops { OnOk result (self.new.stops.items ≡ left_stops request.now actor self.old.stops.items) }
         ensures same { (self.new.host ≡ self.old.host) × (self.new.bodies ≡ self.old.bodies) }
     {
@@ -253,6 +276,9 @@ impl Ends {
         self.host.replays();
         if self.is_known_stop(actor, ask) {
             return Ok(true);
+        }
+        if !has_settled(&self.host, actor) {
+            return Ok(false);
         }
         let answer = self.ask(actor, ask)?;
         if !is_stop(&answer) {

@@ -4,7 +4,7 @@ ghost use Rattle.std.specs.Prelude.{◌≡◌, ◌≤◌, ◌^◌, ℕ, [], IfOk
 ghost use Rattle.rv_code.specs.BodyView.{unit_view};
 ghost use Rattle.rv_history.specs.History.{History};
 ghost use Rattle.rv_history.specs.Legal.{Legal, empty};
-ghost use Rattle.rv_history.specs.Limits.{limits_of};
+ghost use Rattle.rv_history.specs.Limits.{limits_with};
 ghost use Rattle.rv_history.specs.Owed.{IsSolvent};
 ghost use Rattle.rv_ends.specs.Ends.{IsWhole};
 ghost use Rattle.rv_ends.specs.Tally.{Follows, IsCarriedOut, IsNoted, TakesList, TakesLoad, TakesRequest, noted, one_more, taken_of};
@@ -75,12 +75,12 @@ fn noted(found: Found, number: usize, meaning: Meaning) -> Found
 }
 
 impl Tally {
-    /// Before the first entry of a journal over a capacity, 16 .. 1,048,576.
+    /// Before the first entry of a journal over a capacity, 16 .. 1,048,576, and queues of so many callers, 1 .. 8.
     #[tactic(auto, using(crate::proofs::Counting::at_first))]
-    pub fn new(alloc: Global, capacity: usize) -> Result<Tally, NewFault>
-        ensures { IfOk result (λ tally. Follows tally (empty (limits_of capacity)) []) }
+    pub fn new(alloc: Global, capacity: usize, limit: usize) -> Result<Tally, NewFault>
+        ensures { IfOk result (λ tally. Follows tally (empty (limits_with capacity limit)) []) }
     {
-        let ends = Ends::new(alloc, capacity)?;
+        let ends = Ends::new(alloc, capacity, limit)?;
         Ok(Tally {
             ends,
             found: Found {

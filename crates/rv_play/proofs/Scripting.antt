@@ -1,5 +1,5 @@
 -- What is told of scripts are steps of the host, which lead to legal histories.
-use Rattle.std.proofs.Common.{◌≡◌, ◌≤◌, ℕ, List, [], ◌∷◌, Some, None, Option, Ok, Err, Result, true, refl, sym, ap, subst, inl}
+use Rattle.std.proofs.Common.{◌≡◌, ◌≤◌, ℕ, List, [], ◌∷◌, Some, None, Option, Ok, Err, Result, true, refl, sym, ap, subst, inl, arith}
 use Rattle.std.proofs.lemmas.Bool.Decides.{nat_tests}
 use Rattle.rv_event.specs.declared.entry.Answer.{Answer}
 use Rattle.rv_history.specs.declared.command.Command.{Command}

@@ -6,6 +6,7 @@ use Rattle.rv_event.specs.declared.entry.Answer.{Answer}
 use Rattle.rv_event.specs.declared.entry.Answer.TheVariants as Answers
 use Rattle.rv_event.specs.declared.entry.Recorded.{Recorded}
 use Rattle.rv_event.specs.declared.entry.Request.{Request}
+use Rattle.rv_event.specs.declared.entry.Request.TheVariants.{Quit}
 use Rattle.rv_history.specs.declared.limits.Limits.{Limits}
 use Rattle.rv_history.specs.Due.{out}
 use Rattle.rv_turn.specs.Histories.{mine, StartsWith}
@@ -19,6 +20,7 @@ use Rattle.rv_meant.proofs.Settles.{ask_is, none_asked}
 use Rattle.rv_meant.specs.Histories.{ask_of}
 use Rattle.rv_meant.specs.Settles.{is_settle}
 use Rattle.rv_behind.specs.Acting.{Does, Due, entered}
+use Rattle.rv_behind.specs.declared.event.Ask.{Ask}
 use Rattle.rv_behind.specs.declared.event.Ask.TheVariants as Wants
 use Rattle.rv_behind.specs.declared.event.Reply.{Reply}
 use Rattle.rv_behind.specs.declared.event.Reply.TheVariants as Gives
@@ -92,6 +94,14 @@ asked_held v w q r owns x =
     (ap (λ (t : Trace). held_behind 0 t) (others_stay (limits_in v.about) v.actor v.seen x.at x.from (x.owned ∙ sym owns))))
 
 -- The count of an asker
+
+abbrev request_in : Ask → Request
+request_in (Wants.Step q) = q
+request_in other = Quit
+
+-- the request that was sent is the one that was asked
+pub past_sent : (p q : Request) (n : ℕ) (r : Answer) → Wants.Step p ≡ Wants.Step q → held_past p n r ≡ held_past q n r
+past_sent p q n r e = ap (λ (k : Ask). held_past (request_in k) n r) e
 
 pub counts_replied : (v w : Passing) (q : Request) (r : Answer) (begun : Begun) (lent : Option Lent) (result : Result Unit Worn) (held after : ℕ) → MatchResult result (λ _. RepliedOnce v q r begun lent w) (λ _. IsWorn v w) → Owns v → held ≡ held_by v
     → result ≡ Ok tt → after ≡ held_past q held r → after ≡ held_by w

@@ -1,5 +1,5 @@
 -- Who has an object to settle, and that nobody has behind an end and its settles.
-use Rattle.std.proofs.Common.{◌≡◌, ◌⊎◌, inl, inr, ⊎_elim, ℕ, ◌+◌, ◌-◌, ◌≤◌, ℤ, List, [], ◌∷◌, ◌++◌, length, drop, Bool, true, false, cond, refl, sym, ap, ◌∙◌, subst, arith, reverse, Option, Some, None}
+use Rattle.std.proofs.Common.{◌≡◌, ◌⊎◌, inl, inr, ⊎_elim, ℕ, ◌≤◌, ℤ, List, [], ◌∷◌, ◌++◌, length, drop, Bool, true, false, cond, refl, sym, ap, ◌∙◌, subst, arith, Option, Some, None}
 use Rattle.std.specs.Prelude.{◌==◌, slice_get}
 use Rattle.std.specs.List.{filter}
 use Rattle.std.proofs.lemmas.List.{reverse-append}
@@ -29,7 +29,6 @@ use Rattle.rv_history.specs.Fitting.{end_fits, in_body, is_settling}
 use Rattle.rv_history.specs.History.{History}
 use Rattle.rv_history.specs.Legal.{IsLegal, Legal}
 use Rattle.rv_history.specs.Owed.{IsSolvent}
-use Rattle.rv_history.specs.Settling.{Serves}
 use Rattle.rv_history.proofs.Answered.{answered, both, off}
 use Rattle.rv_history.proofs.Bodies.{at_most_one, count_less}
 use Rattle.rv_history.proofs.Ending.{ends, settling}

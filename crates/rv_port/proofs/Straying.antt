@@ -1,5 +1,5 @@
 -- Of the answers that a port's body is told none strays.
-use Rattle.std.proofs.Common.{◌≡◌, inl, inr, ⊎_elim, List, [], ◌∷◌, ◌++◌, Bool, true, false, refl, sym, ap, ◌∙◌, subst}
+use Rattle.std.proofs.Common.{◌≡◌, inl, inr, ⊎_elim, List, [], ◌∷◌, ◌++◌, Bool, true, false, refl, ap, ◌∙◌}
 use Rattle.rv_event.specs.declared.entry.Request.{Request}
 use Rattle.rv_event.specs.declared.entry.Answer.{Answer}
 use Rattle.rv_event.specs.declared.entry.Answer.TheVariants as Answers
@@ -77,7 +77,7 @@ never_unfit log u k q r plain later t n = unlike (is_final r) (one_final u (q, r
 
 never_unfit_woken : {X : Type 0} (log : List Event) (u m k : Passing) (q p : Request) (r s : Answer) → is_settle q ≡ false → is_settle p ≡ false → StartsWith u.seen log → Tells u q r m → Tells m p s k → IsUnfitWoken (callee_fits (catalogue_of log)) q r p s → X
 never_unfit_woken log u m k q p r s plain next later t x n =
-    unlike (is_final s) (two_final u (q, r) (p, s) (ap unwinds n.6) (stop_at log u ((q, r) ∷ (p, s) ∷ []) k (plain, next, tt) later (inr (inl (n, tt))) (m, t, (k, x, refl)))) n.0
+    unlike (is_final s) (two_final u (q, r) (p, s) (ap unwinds n.6) (stop_at log u ((q, r) ∷ (p, s) ∷ []) k (plain, (next, tt)) later (inr (inl (n, tt))) (m, t, (k, x, refl)))) n.0
 
 stray_waiting : {X : Type 0} (log : List Event) (u m k : Passing) (q : Request) (r : Answer) (more : Trace) → is_settle q ≡ false → NeverSettles more → StartsWith u.seen log → Tells u q r m → Steps m more k → StraysWaiting (callee_fits (catalogue_of log)) (q, r) more → X
 stray_waiting log u m k q r [] plain never later t x n = absurd n

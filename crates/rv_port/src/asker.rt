@@ -69,9 +69,12 @@ fn held_past(held: u64, request: &Request, answer: &Answer) -> u64
     requires { held + 1 < 2 ^ 63 }
     ensures { result ≡ held_past request.now held answer.now }
 {
+    if matches!(request, Request::Settle) {
+        return held;
+    }
     match answer {
         Answer::Started(_) | Answer::Woken(Some(_)) => held + 1,
-        Answer::Done(_) if !matches!(request, Request::Settle) => held.saturating_sub(1),
+        Answer::Done(_) => held.saturating_sub(1),
         _ => held,
     }
 }

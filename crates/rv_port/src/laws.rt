@@ -52,7 +52,6 @@ pub fn bodies_stay()
 
 /// Behind an end that a call or a body asked, and the settles that the port asks behind it, the actor has
 /// no object to settle, unless no act is left: then the object stays unsettled (9.5.3).
-#[tactic(auto, using(crate::proofs::Settlers::ends_are_settled))]
 pub fn ends_leave_objects_settled()
     ensures { EndsAreSettled }
 {}

@@ -1,5 +1,5 @@
 -- What a script brings to an audit, or what stands against it (own).
-use Rattle.std.specs.Prelude.{◌≡◌, ◌⊎◌, ◌≤◌, ◌^◌, Bool, true, List, Result, Ok, Err}
+use Rattle.std.specs.Prelude.{◌≡◌, ◌⊎◌, ◌≤◌, ◌^◌, ℕ, Bool, true, List, Result, Ok, Err}
 use Rattle.rv_shape.specs.Shape.{Shape}
 use Rattle.rv_history.specs.declared.limits.Limits.{Limits}
 use Rattle.rv_history.specs.Limits.{is_queue_limit, limits_with}

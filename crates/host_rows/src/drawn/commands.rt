@@ -10,8 +10,23 @@ use rv_event::entry::Request;
 use rv_history::command::Command;
 use std::alloc::{AllocError, Global};
 
-// How many units are loaded at most.
-const MOST_UNITS: usize = 8;
+// How many units are loaded at most, and how often in a hundred times a command is such a load: where queues take more
+// than one caller, soon a few, so that many tasks meet at few entries.
+fn loads_of(limit: usize) -> (usize, usize) {
+    if limit == 1 { (8, 3) } else { (3, 10) }
+}
+
+// How often in a hundred times a command changes the list: more often as long as there is none, and where queues take
+// more than one caller, of whom some are to be denied.
+fn changes_of(scan: &Scan) -> usize {
+    if scan.lists().is_empty() {
+        15
+    } else if scan.limit() == 1 {
+        6
+    } else {
+        12
+    }
+}
 
 // The load of the next unit, or now and then of one of a name that is taken.
 fn load(alloc: Global, numbers: &mut Numbers, scan: &Scan) -> Result<Option<Command>, AllocError> {
@@ -48,9 +63,9 @@ fn append(
 }
 
 // A line appended that denies a call that waits, if one does.
-fn deny(alloc: Global, scan: &Scan) -> Result<Option<Change>, AllocError> {
+fn deny(alloc: Global, numbers: &mut Numbers, scan: &Scan) -> Result<Option<Change>, AllocError> {
     let seen = scan.seen()?;
-    match denial(alloc, &seen)? {
+    match denial(alloc, numbers, &seen)? {
         Some(line) => Ok(Some(Change::Append(line))),
         None => Ok(None),
     }
@@ -83,21 +98,25 @@ fn change(alloc: Global, numbers: &mut Numbers, scan: &Scan) -> Result<Option<Ch
     if scan.lists().is_empty() {
         return set(alloc, numbers, units);
     }
+    if 1 < scan.limit() && numbers.chance(40) {
+        return deny(alloc, numbers, scan);
+    }
     match numbers.below(10) {
         0 => set(alloc, numbers, units),
         1..=3 => append(alloc, numbers, units),
         4 | 5 => replace(alloc, numbers, units, lines),
-        6 | 7 => deny(alloc, scan),
+        6 | 7 => deny(alloc, numbers, scan),
         _ => Ok(Some(Change::Remove(line_number(numbers, lines)))),
     }
 }
 
-// A request, or the halt, which comes late in a run.
+// A request, or the halt, which comes late in a run, and most times where an object is unsettled then.
 fn ask(numbers: &mut Numbers, scan: &Scan, is_late: bool) -> Result<Option<Command>, AllocError> {
-    if is_late && numbers.chance(3) {
+    let seen = scan.seen()?;
+    let percent = if seen.unsettled.is_empty() { 3 } else { 60 };
+    if is_late && numbers.chance(percent) {
         return Ok(Some(Command::Ask(0, Request::Halt)));
     }
-    let seen = scan.seen()?;
     let (actor, request) = request(numbers, &seen);
     Ok(Some(Command::Ask(actor, request)))
 }
@@ -110,11 +129,11 @@ pub fn command(
     is_late: bool,
 ) -> Result<Option<Command>, AllocError> {
     let loaded = scan.catalogue().shapes().len();
-    if loaded == 0 || (loaded < MOST_UNITS && numbers.chance(3)) {
+    let (most, percent) = loads_of(scan.limit());
+    if loaded == 0 || (loaded < most && numbers.chance(percent)) {
         return load(alloc, numbers, scan);
     }
-    let percent = if scan.lists().is_empty() { 15 } else { 6 };
-    if !numbers.chance(percent) {
+    if !numbers.chance(changes_of(scan)) {
         return ask(numbers, scan, is_late);
     }
     match change(alloc, numbers, scan)? {

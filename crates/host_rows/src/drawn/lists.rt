@@ -4,6 +4,7 @@ use crate::drawn::numbers::Numbers;
 use crate::drawn::units::{MOST_OBJECTS, MOST_OPERATIONS};
 use crate::scan::seen::Seen;
 use rv_access::{AccessList, Line, read_line, read_list};
+use rv_shape::actor::Actor;
 use rv_shape::object::Object;
 use std::alloc::{AllocError, Global};
 use std::fmt::Write;
@@ -81,16 +82,33 @@ pub fn line(
     Ok(read_line(alloc, text.as_str()).ok())
 }
 
+// Whom a line denies what was waited for last: all, or, where queues take more than one caller, mostly the
+// unit of the caller.
+fn denied<'a>(numbers: &mut Numbers, seen: &Seen<'a>, caller: usize) -> &'a str {
+    if seen.limit == 1 || numbers.chance(25) {
+        return "*";
+    }
+    match seen.catalogue.who(caller) {
+        Actor::Task(shape, _) => shape.name(),
+        _ => "*",
+    }
+}
+
 /// A line that denies the third operation of the object that was waited for last, which is its entry. None where
 /// nobody waits.
-pub fn denial(alloc: Global, seen: &Seen) -> Result<Option<Line>, AllocError> {
+pub fn denial(
+    alloc: Global,
+    numbers: &mut Numbers,
+    seen: &Seen,
+) -> Result<Option<Line>, AllocError> {
     let Some(waiting) = seen.waiting.as_slice().last() else {
         return Ok(None);
     };
     let Some((shape, Object::Protected(object))) = seen.catalogue.object(waiting.object) else {
         return Ok(None);
     };
-    let text = format!(in alloc; "deny * {}.{} op3", shape.name(), object.name())?;
+    let unit = denied(numbers, seen, waiting.actor);
+    let text = format!(in alloc; "deny {unit} {}.{} op3", shape.name(), object.name())?;
     Ok(read_line(alloc, text.as_str()).ok())
 }
 

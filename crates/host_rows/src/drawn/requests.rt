@@ -4,6 +4,7 @@ use crate::drawn::numbers::Numbers;
 use crate::drawn::values::{exit, inward, scalars};
 use crate::scan::bodies::innermost;
 use crate::scan::fitting::mode;
+use crate::scan::queues::head;
 use crate::scan::seen::Seen;
 use crate::scan::time::clock;
 use rv_event::entry::{Body, Exit, Mode, Request};
@@ -23,9 +24,26 @@ fn operation_of(numbers: &mut Numbers, operations: usize) -> usize {
     }
 }
 
+// Where queues take more than one caller and somebody waits on the object, mostly its procedure, whose end may serve the
+// queue, or its entry.
+fn crowded(numbers: &mut Numbers, seen: &Seen, object: usize) -> Option<usize> {
+    if seen.limit == 1 || head(seen.waiting.as_slice(), object).is_none() || numbers.chance(20) {
+        return None;
+    }
+    Some(numbers.between(2, 3))
+}
+
 // A call of an operation of a protected object.
-fn call_protected(numbers: &mut Numbers, object: usize, operations: &[Operation]) -> Request {
-    let operation = operation_of(numbers, operations.len());
+fn call_protected(
+    numbers: &mut Numbers,
+    seen: &Seen,
+    object: usize,
+    operations: &[Operation],
+) -> Request {
+    let operation = match crowded(numbers, seen, object) {
+        Some(operation) => operation,
+        None => operation_of(numbers, operations.len()),
+    };
     let values = match operations.get(operation.saturating_sub(1)) {
         Some(found) => inward(numbers, found.parameters()),
         None => Args::new(),
@@ -43,10 +61,11 @@ fn call_suspension(numbers: &mut Numbers, object: usize) -> Request {
     Request::Call(object, operation, Args::new())
 }
 
-// A number of an object, often of the one that was waited for last.
+// A number of an object, often of the one that was waited for last, and more often where others may wait there too.
 fn object_of(numbers: &mut Numbers, seen: &Seen) -> usize {
+    let percent = if seen.limit == 1 { 30 } else { 70 };
     match seen.waiting.as_slice().last() {
-        Some(waiting) if numbers.chance(30) => waiting.object,
+        Some(waiting) if numbers.chance(percent) => waiting.object,
         _ => numbers.between(1, seen.catalogue.objects()),
     }
 }
@@ -55,7 +74,12 @@ fn object_of(numbers: &mut Numbers, seen: &Seen) -> usize {
 fn call(numbers: &mut Numbers, seen: &Seen) -> Request {
     let object = object_of(numbers, seen);
     match seen.catalogue.object(object) {
-        Some((_, Object::Protected(found))) => call_protected(numbers, object, found.operations()),
+        Some((_, Object::Protected(found))) => call_protected(
+            numbers,
+            seen,
+            object,
+            found.operations(),
+        ),
         Some((_, Object::Suspension(_))) => call_suspension(numbers, object),
         None => Request::Call(object, 1, Args::new()),
     }
@@ -94,9 +118,10 @@ fn tick(numbers: &mut Numbers) -> Request {
     Request::Tick(i64::try_from(numbers.below(30)).unwrap_or(1))
 }
 
-// Any request.
+// Any request: a settle only where queues take more than one caller.
 fn any(numbers: &mut Numbers, seen: &Seen, actor: usize) -> Request {
-    match numbers.below(16) {
+    let kinds = if seen.limit == 1 { 16 } else { 18 };
+    match numbers.below(kinds) {
         0..=4 => call(numbers, seen),
         5..=8 => end(numbers, seen, actor),
         9 | 10 => Request::Resume,
@@ -104,7 +129,8 @@ fn any(numbers: &mut Numbers, seen: &Seen, actor: usize) -> Request {
         12 => Request::Clock,
         13 => Request::Fire,
         14 => tick(numbers),
-        _ => Request::Quit,
+        15 => Request::Quit,
+        _ => Request::Settle,
     }
 }
 
@@ -136,6 +162,7 @@ fn admitted(numbers: &mut Numbers, seen: &Seen, actor: usize) -> Request {
         Mode::Idle if actor < FIRST_TASK => Request::Fire,
         Mode::Idle => idle(numbers, seen),
         Mode::InBody => within(numbers, seen, actor),
+        Mode::Settling => Request::Settle,
         Mode::Ended => Request::Quit,
         _ => Request::Resume,
     }

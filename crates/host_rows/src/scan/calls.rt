@@ -5,7 +5,7 @@ use crate::scan::bodies::{count_held, is_holding};
 use crate::scan::exclusion::{is_busy, is_open, scalars_of};
 use crate::scan::grants::decide_call;
 use crate::scan::priorities::active_priority;
-use crate::scan::queues::head;
+use crate::scan::queues::count_waiting;
 use crate::scan::seen::Seen;
 use crate::scan::suspension::{has_waiter, state};
 use crate::scan::time::count_lists;
@@ -48,7 +48,7 @@ fn call_facts(
         above: ceiling < active_priority(seen, asked.actor),
         busy: is_busy(seen, asked.object, kind),
         barred: kind.is_entry() && !open,
-        full: head(seen.waiting.as_slice(), asked.object).is_some(),
+        full: seen.limit <= count_waiting(seen.waiting.as_slice(), asked.object),
     }
 }
 

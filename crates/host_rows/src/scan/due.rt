@@ -1,7 +1,7 @@
 //! The answer that is due to a request, before the room is asked.
 
 use crate::scan::calls::{Asked, answer_call, answer_fire};
-use crate::scan::ends::answer_end;
+use crate::scan::ends::{answer_end, answer_settle};
 use crate::scan::fitting::{is_fitting, is_known};
 use crate::scan::seen::Seen;
 use crate::scan::time::{clock, is_halted};
@@ -21,6 +21,7 @@ fn answer_fitting(seen: &Seen, actor: usize, request: &Request) -> Answer {
             },
         ),
         Request::Complete(scalars, _) => answer_end(seen, actor, scalars),
+        Request::Settle => answer_settle(seen, actor),
         Request::Resume => answer_resume(seen, actor),
         Request::DelayUntil(until) => answer_delay(seen, actor, *until),
         Request::Clock => Answer::Accepted(clock(seen.entries)),
@@ -32,7 +33,7 @@ fn answer_fitting(seen: &Seen, actor: usize, request: &Request) -> Answer {
 // Whether a request is answered on a halted host too.
 fn goes_on(request: &Request) -> bool {
     match request {
-        Request::Complete(_, _) | Request::Resume | Request::Quit => true,
+        Request::Complete(_, _) | Request::Settle | Request::Resume | Request::Quit => true,
         Request::Call(_, _, _) | Request::DelayUntil(_) | Request::Clock => false,
         Request::Fire | Request::Tick(_) | Request::Halt => false,
     }

@@ -64,14 +64,25 @@ pub fn scalars_of(seen: &Seen, object: usize) -> Scalars {
     initial(seen.catalogue, object)
 }
 
-/// Whether those who hold an object keep an operation of this kind out: of two functions neither does.
+// Whether an object is unsettled.
+fn is_unsettled(seen: &Seen, object: usize) -> bool {
+    for body in seen.unsettled.as_slice() {
+        if body.object == object {
+            return true;
+        }
+    }
+    false
+}
+
+/// Whether those who hold an object keep an operation of this kind out: of two functions neither does; or the object
+/// is unsettled.
 pub fn is_busy(seen: &Seen, object: usize, kind: Kind) -> bool {
     for body in seen.bodies.as_slice() {
         if body.object == object && !(kind.is_function() && is_shared(seen.catalogue, *body)) {
             return true;
         }
     }
-    false
+    is_unsettled(seen, object)
 }
 
 // Whether a barrier is open on these scalars.

@@ -2,6 +2,7 @@
 
 use crate::scan::bodies::{count_held, innermost};
 use crate::scan::seen::Seen;
+use crate::scan::settling::to_settle;
 use crate::scan::stances::{mode_of, stance};
 use crate::scan::values::{fit_exit, fit_inward, fit_scalars};
 use rv_event::entry::{Exit, Mode, Request};
@@ -18,6 +19,9 @@ const MOST_TICKS: i64 = 1_000_000;
 
 /// What an actor is at.
 pub fn mode(seen: &Seen, actor: usize) -> Mode {
+    if to_settle(seen.unsettled.as_slice(), actor).is_some() {
+        return Mode::Settling;
+    }
     let held = count_held(seen.bodies.as_slice(), actor);
     mode_of(0 < held, stance(seen.entries, actor))
 }
@@ -51,7 +55,7 @@ fn may_quit(seen: &Seen, actor: usize) -> bool {
 // Whether the actor waits for an answer.
 fn awaits(mode: Mode) -> bool {
     match mode {
-        Mode::Idle | Mode::InBody | Mode::Ended => false,
+        Mode::Idle | Mode::InBody | Mode::Settling | Mode::Ended => false,
         Mode::Queued | Mode::Handed | Mode::Dropped | Mode::Suspended | Mode::Delayed => true,
     }
 }
@@ -98,6 +102,7 @@ pub fn is_fitting(seen: &Seen, actor: usize, request: &Request) -> bool {
         Request::Complete(scalars, exit) => {
             mode(seen, actor) == Mode::InBody && fits_end(seen, actor, scalars.as_slice(), exit)
         }
+        Request::Settle => mode(seen, actor) == Mode::Settling,
         Request::Resume => awaits(mode(seen, actor)),
         Request::DelayUntil(time) => may_call(seen, actor) && -LATEST <= *time && *time <= LATEST,
         Request::Clock => may_call(seen, actor),

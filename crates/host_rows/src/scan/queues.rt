@@ -41,8 +41,7 @@ pub fn waiting(alloc: Global, entries: &[Entry]) -> Result<Vec<Body>, AllocError
     Ok(calls)
 }
 
-/// The call at the head of an object's queue. One waits at most (Max_Entry_Queue_Length), so a queue with a head is
-/// full.
+/// The call at the head of an object's queue.
 pub fn head(waiting: &[Body], object: usize) -> Option<Body> {
     for call in waiting {
         if call.object == object {
@@ -50,4 +49,15 @@ pub fn head(waiting: &[Body], object: usize) -> Option<Body> {
         }
     }
     None
+}
+
+/// How many calls wait in an object's queue.
+pub fn count_waiting(waiting: &[Body], object: usize) -> usize {
+    let mut count = 0usize;
+    for call in waiting {
+        if call.object == object {
+            count = count.saturating_add(1);
+        }
+    }
+    count
 }

@@ -26,10 +26,11 @@ fn dues(seen: &Seen, actor: usize) -> usize {
     }
 }
 
-/// The entries and what is owed after them, with so many tasks: the bodies under way, what each actor owes beside
-/// them, and the halt.
+/// The entries and what is owed after them, with so many tasks: the bodies under way, the unsettled objects, what each
+/// actor owes beside them, and the halt.
 pub fn taken(seen: &Seen, tasks: usize) -> usize {
     let mut taken = seen.entries.len().saturating_add(seen.bodies.len());
+    taken = taken.saturating_add(seen.unsettled.len());
     for actor in 0..FIRST_TASK.saturating_add(tasks) {
         taken = taken.saturating_add(dues(seen, actor));
     }

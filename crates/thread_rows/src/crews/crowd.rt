@@ -90,7 +90,6 @@ fn begin_callers(hands: &Hands, control: &mut Control, crew: &mut Crew) -> Optio
 }
 
 // Reads the journal from this entry on.
-#[tactic(auto, using(crate::proofs::Turns::read_turn))]
 fn read<R: Wait>(rt: &R, control: &mut Control, from: usize, page: &mut Page) -> bool
     ensures { control.new.turn ≡ control.old.turn }
 {

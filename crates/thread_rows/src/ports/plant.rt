@@ -2,6 +2,7 @@
 
 use crate::units::{UnitSection, load_section, set_list};
 use rv_access::{AccessList, Change, read_list};
+use rv_code::Unit;
 use rv_fault::unit_of;
 use rv_history::command::Command;
 use rv_port::control::Control;
@@ -73,13 +74,8 @@ fn list(alloc: Global) -> Option<AccessList> {
 
 /// The same as commands.
 pub fn loads(alloc: Global) -> Option<Vec<Command>> {
-    let plant = unit_of(alloc, &Catalogue::new(alloc), 1, PLANT).ok()?;
+    let Unit { shape, bodies: _ } = unit_of(alloc, &Catalogue::new(alloc), 1, PLANT).ok()?;
     let device = read_shape(alloc, DEVICE).ok()?;
-    let list = Change::Whole(list(alloc)?);
-    vec![in alloc;
-        Command::Load(plant.shape),
-        Command::Load(device),
-        Command::Change(list),
-    ]
-    .ok()
+    let list = Command::Change(Change::Whole(list(alloc)?));
+    vec![in alloc; Command::Load(shape), Command::Load(device), list].ok()
 }

@@ -13,5 +13,5 @@ returns-clause-whole c = λ w.
     whole_recorded c.args.self.now c.note.new.self c.args.actor c.args.request.now answer w c.put_answer.ensures.answer
     (ap (λ (o : Option Recorded). is_some o) (sym c.recorded.ensures) ∙ c.is_none.ensures ∙ ap not c.if-is_none.false)
     (c.in_ok-note.ensures.same.0 ∙ c.put_answer.ensures.history)
-    (c.in_ok-note.ensures.afoot ∙ ap (λ (h : History). answered h.shapes c.args.actor c.args.request.now answer (afoot_of c.args.self.now)) c.put_answer.ensures.history)
+    (c.in_ok-note.ensures.afoot ∙ ap (λ (h : History). answered h.shapes h.past c.args.actor c.args.request.now answer (afoot_of c.args.self.now)) c.put_answer.ensures.history)
     c.in_ok-note.ensures.stops
