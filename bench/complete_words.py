@@ -48,9 +48,9 @@ ONE, ALL = "\t", "\x14"
 ROWS = [
     ("{} ", ALL, "{} audit check help play run"),
     ("{} pl", ONE, "{} play "),
-    ("{} play --", ALL, "{} play --all --help --notes --warnings-are-errors "),
+    ("{} play --", ALL, "{} play --all --explain --help --notes --warnings-are-errors "),
     ("{} play --a", ONE, "{} play --all "),
-    ("{} play --all --", ALL, "{} play --all --notes --warnings-are-errors "),
+    ("{} play --all --", ALL, "{} play --all --explain --notes --warnings-are-errors "),
     ("{} check --e", ONE, "{} check --explain "),
     ("{} check --", ALL, "{} check --explain --help --notes --script --warnings-are-errors "),
     ("{} check --s", ONE, "{} check --script "),

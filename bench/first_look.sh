@@ -51,7 +51,7 @@ compare_words() {
 # A script, and the journal that it has to print: the loads, and what README.md shows beside the script.
 first_command() {
     printf '1 operator load Plant -> accepted 0\n2 operator load Nav -> accepted 0\n' >"$folder/journal"
-    sed -n '/its journal:$/,/^Journal entry/s/^    .*  \([0-9][0-9]* .*->.*\)$/\1/p' README.md >>"$folder/journal"
+    sed -n '/its journal:$/,/^Entry 4 /s/^    .*  \([0-9][0-9]* .*->.*\)$/\1/p' README.md >>"$folder/journal"
     cp examples/first.raven "$folder/in"
 }
 

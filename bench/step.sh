@@ -1,6 +1,6 @@
 #!/usr/bin/env bash
 # Measures a step of a host (a call of a function, and its end): on a new host, with one and with 512 lines of the list, these
-# with windows and without, with one and with 64 units; on a host of the largest journal, new and after a million entries;
+# with windows and without, with one and with 64 units, with queues of up to eight callers; on a host of the largest journal, new and after a million entries;
 # beside a push of 64 bytes, a lock, and where gnatmake is there the same call under GNAT's Ravenscar with ceilings; a change
 # of a whole list; what a host of the largest journal touches; and, where ravenhost is built, a script of 16 MiB of changes of
 # the list. Then it counts allocations: a step must take none, of whatever kind, with whatever answer. It is no test but of
@@ -99,6 +99,7 @@ print(f"the least of {len(rows)} rounds of 20 batches, and its ratio to the firs
 print("on memory that was used before:")
 told("a step: one unit, one line, a new host", "step", "step", "aim: at most 100 ns")
 told("the same with request and answer moved, and not lent", "moved", "step")
+told("a step where queues may have eight callers", "eight", "step", "aim: within 1.1")
 told("a step with 64 units, 256 objects of 16 operations", "units", "step", "aim: within 1.3")
 told("a step with 512 lines, of which the first decides", "lines", "step", "aim: within 1.3")
 told("a step with 512 lines, each with a window of its own", "windows", "lines", "aim: within 1.3 of the line before")

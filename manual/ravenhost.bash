@@ -5,9 +5,9 @@
 _ravenhost_flags() {
     case $1 in
         "") echo "-h --help -V --version" ;;
-        play) echo "--all --notes --warnings-are-errors -h --help" ;;
+        play) echo "--all --explain --notes --warnings-are-errors -h --help" ;;
         check) echo "--explain --script --notes --warnings-are-errors -h --help" ;;
-        run) echo "--journal --sync --notes --warnings-are-errors -h --help" ;;
+        run) echo "--journal --sync --explain --notes --warnings-are-errors -h --help" ;;
         audit) echo "--journal --torn --explain -h --help" ;;
     esac
 }

@@ -228,18 +228,11 @@ def worked_scripts() -> Iterator[Script]:
 
 
 def document_scripts() -> Iterator[Script]:
-    """The example of docs/SCRIPTS.md with its journal, and the script beside which README.md shows its journal, loads aside."""
-    example = (ROOT / "docs/SCRIPTS.md").read_text().partition("## An example\n")[2]
-    script, journal = [indented(part) for part in example.split("`play --all` prints")]
-    yield Script(script.encode(), Outcome(journal.encode(), b"", 0))
-    shown = (ROOT / "README.md").read_text().partition("its journal:\n")[2].partition("\nJournal entry")[0]
+    """The script beside which README.md shows its journal, loads aside."""
+    shown = (ROOT / "README.md").read_text().partition("its journal:\n")[2].partition("\nEntry 4 ")[0]
     loads = "1 operator load Plant -> accepted 0\n2 operator load Nav -> accepted 0\n"
     journal = loads + "".join(line + "\n" for line in re.findall(r"(?<=  )\d+ .*", shown))
     yield Script((ROOT / "examples/first.raven").read_bytes(), Outcome(journal.encode(), b"", 0))
-
-
-def indented(text: str) -> str:
-    return "".join(line[4:] + "\n" for line in text.split("\n") if line.startswith("    ") and line.strip())
 
 
 def main() -> int:

@@ -9,17 +9,7 @@ use Rattle.ravenhost.specs.declared.chosen.Choice.TheVariants.{Play, Check, Run,
 use Rattle.ravenhost.specs.declared.chosen.Notes.{Notes}
 use Rattle.ravenhost.specs.declared.chosen.Notes.TheVariants.{Auto}
 use Rattle.ravenhost.specs.declared.chosen.Sync.TheVariants.{Second}
-use Rattle.ravenhost.specs.Choices.{HasNoFile, HasNoWord, IsExplaining, IsFlag, IsJournal, IsKeeping, IsNoted, Names, NamesNone, audit_of, line_of, notes_of, program, sync_of}
-
--- The subcommand that was found, from its name and its rows.
-
-pub found_is : {X : Type 0} (q : Option X) (n : X → Text) (r : X → List Row) (name : Text) (rows : List Row) → Some name ≡ option_map n q → Some rows ≡ option_map (λ (p : Text × List Row). p.1) (option_map {U = Text × List Row} (λ x. (n x, r x)) q) →
-    option_map {U = Text × List Row} (λ x. (n x, r x)) q ≡ Some (name, rows)
-found_is None n r name rows e f = absurd (cc)
-found_is (Some x) n r name rows e f =
-    let one : name ≡ n x = ap (λ (o : Option Text). unwrap_or o name) e in
-    let two : rows ≡ r x = ap (λ (o : Option (List Row)). unwrap_or o rows) f in
-    λ i. Some (sym one i, sym two i)
+use Rattle.ravenhost.specs.Choices.{HasNoFile, HasNoWord, IsFlag, IsJournal, IsKeeping, IsNoted, LacksFile, Names, NamesNone, audit_of, line_of, notes_of, program, sync_of}
 
 -- The plain lines.
 
@@ -31,10 +21,8 @@ pub taken : (name : Text) (choice : Choice) → takes program (name ∷ line_of 
 unfolding clap_on_literals
 taken name (Play false) = refl
 taken name (Play true) = refl
-taken name (Check false false) = refl
-taken name (Check false true) = refl
-taken name (Check true false) = refl
-taken name (Check true true) = refl
+taken name (Check false) = refl
+taken name (Check true) = refl
 taken name Run = refl
 taken name Audit = refl
 taken name (AuditFile false) = refl
@@ -54,7 +42,7 @@ file_in = option_map (λ (p : Text × List Row). first_of (codes "journal") p.1)
 -- what they are of a plain line
 abbrev word_of : Choice → Text
 word_of (Play all) = codes "play"
-word_of (Check explain whole) = codes "check"
+word_of (Check whole) = codes "check"
 word_of Run = codes "run"
 word_of Audit = codes "audit"
 word_of (AuditFile torn) = codes "audit"
@@ -67,10 +55,8 @@ name_is : (name : Text) (choice : Choice) → name_in (subcommand_of program (na
 unfolding clap_on_literals
 name_is name (Play false) = refl
 name_is name (Play true) = refl
-name_is name (Check false false) = refl
-name_is name (Check false true) = refl
-name_is name (Check true false) = refl
-name_is name (Check true true) = refl
+name_is name (Check false) = refl
+name_is name (Check true) = refl
 name_is name Run = refl
 name_is name Audit = refl
 name_is name (AuditFile false) = refl
@@ -81,19 +67,10 @@ unfolding clap_on_literals
 play_flag name true = refl
 play_flag name false = refl
 
-check_flag : (name : Text) (explain whole : Bool) → flag_in (codes "explain") (subcommand_of program (name ∷ line_of (Check explain whole))) ≡ Some (Some (flag_text explain))
+script_flag : (name : Text) (whole : Bool) → flag_in (codes "script") (subcommand_of program (name ∷ line_of (Check whole))) ≡ Some (Some (flag_text whole))
 unfolding clap_on_literals
-check_flag name false false = refl
-check_flag name false true = refl
-check_flag name true false = refl
-check_flag name true true = refl
-
-script_flag : (name : Text) (explain whole : Bool) → flag_in (codes "script") (subcommand_of program (name ∷ line_of (Check explain whole))) ≡ Some (Some (flag_text whole))
-unfolding clap_on_literals
-script_flag name false false = refl
-script_flag name false true = refl
-script_flag name true false = refl
-script_flag name true true = refl
+script_flag name false = refl
+script_flag name true = refl
 
 torn_flag : (name : Text) (torn : Bool) → flag_in (codes "torn") (subcommand_of program (name ∷ line_of (AuditFile torn))) ≡ Some (Some (flag_text torn))
 unfolding clap_on_literals
@@ -123,12 +100,10 @@ unfolding clap_on_literals
 play_notes name true = refl
 play_notes name false = refl
 
-check_notes : (name : Text) (explain whole : Bool) → notes_in (subcommand_of program (name ∷ line_of (Check explain whole))) ≡ Some None
+check_notes : (name : Text) (whole : Bool) → notes_in (subcommand_of program (name ∷ line_of (Check whole))) ≡ Some None
 unfolding clap_on_literals
-check_notes name false false = refl
-check_notes name false true = refl
-check_notes name true false = refl
-check_notes name true true = refl
+check_notes name false = refl
+check_notes name true = refl
 
 run_notes : (name : Text) → notes_in (subcommand_of program (name ∷ line_of Run)) ≡ Some None
 unfolding clap_on_literals
@@ -202,7 +177,7 @@ found_word name choice found e = ap (λ (o : Option Text). unwrap_or o found.0) 
 -- a choice that it names has that word
 word_named : (choice : Choice) (found : Text × List Row) → Names found choice → found.0 ≡ word_of choice
 word_named (Play all) found n = n.0
-word_named (Check explain whole) found n = n.0
+word_named (Check whole) found n = n.0
 word_named Run found n = n
 word_named Audit found n = n.0
 word_named (AuditFile torn) found n = n.0
@@ -210,29 +185,28 @@ word_named (AuditFile torn) found n = n.0
 -- a choice that a plain line names is its own
 same_choice : (name : Text) (choice other : Choice) (found : Text × List Row) → subcommand_of program (name ∷ line_of choice) ≡ Some found → word_of choice ≡ word_of other → Names found other → other ≡ choice
 same_choice name (Play all) (Play other) found e w n = ap Play (by_flag all other _ (flag_found (codes "all") (flag_text all) _ found e (play_flag name all)) n.1)
-same_choice name (Play all) (Check other both) found e w n = absurd (no_check w)
+same_choice name (Play all) (Check other) found e w n = absurd (no_check w)
 same_choice name (Play all) Run found e w n = absurd (no_run w)
-same_choice name (Check explain whole) (Play other) found e w n = absurd (no_check (sym w))
-same_choice name (Check explain whole) (Check other both) found e w n =
-    ap₂ Check (by_flag explain other _ (flag_found (codes "explain") (flag_text explain) _ found e (check_flag name explain whole)) n.1)
-    (by_flag whole both _ (flag_found (codes "script") (flag_text whole) _ found e (script_flag name explain whole)) n.2)
-same_choice name (Check explain whole) Run found e w n = absurd (check_no_run w)
+same_choice name (Check whole) (Play other) found e w n = absurd (no_check (sym w))
+same_choice name (Check whole) (Check other) found e w n =
+    ap Check (by_flag whole other _ (flag_found (codes "script") (flag_text whole) _ found e (script_flag name whole)) n.1)
+same_choice name (Check whole) Run found e w n = absurd (check_no_run w)
 same_choice name (Play all) Audit found e w n = absurd (no_audit w)
 same_choice name (Play all) (AuditFile torn) found e w n = absurd (no_audit w)
-same_choice name (Check explain whole) Audit found e w n = absurd (check_no_audit w)
-same_choice name (Check explain whole) (AuditFile torn) found e w n = absurd (check_no_audit w)
+same_choice name (Check whole) Audit found e w n = absurd (check_no_audit w)
+same_choice name (Check whole) (AuditFile torn) found e w n = absurd (check_no_audit w)
 same_choice name Run (Play other) found e w n = absurd (no_run (sym w))
-same_choice name Run (Check other both) found e w n = absurd (check_no_run (sym w))
+same_choice name Run (Check other) found e w n = absurd (check_no_run (sym w))
 same_choice name Run Run found e w n = refl
 same_choice name Run Audit found e w n = absurd (run_no_audit w)
 same_choice name Run (AuditFile torn) found e w n = absurd (run_no_audit w)
 same_choice name Audit (Play other) found e w n = absurd (no_audit (sym w))
-same_choice name Audit (Check other both) found e w n = absurd (check_no_audit (sym w))
+same_choice name Audit (Check other) found e w n = absurd (check_no_audit (sym w))
 same_choice name Audit Run found e w n = absurd (run_no_audit (sym w))
 same_choice name Audit Audit found e w n = refl
 same_choice name Audit (AuditFile torn) found e w n = absurd (n.2 (file_found None _ found e (no_file name)))
 same_choice name (AuditFile torn) (Play other) found e w n = absurd (no_audit (sym w))
-same_choice name (AuditFile torn) (Check other both) found e w n = absurd (check_no_audit (sym w))
+same_choice name (AuditFile torn) (Check other) found e w n = absurd (check_no_audit (sym w))
 same_choice name (AuditFile torn) Run found e w n = absurd (run_no_audit (sym w))
 same_choice name (AuditFile torn) Audit found e w n =
     let file : None ≡ Some (codes "J") = sym n.2 ∙ file_found (Some (codes "J")) _ found e (some_file name torn) in
@@ -247,7 +221,7 @@ names_it name choice other found e n =
 none_chosen : (name : Text) (choice : Choice) (m : Option (Text × List Row)) → m ≡ subcommand_of program (name ∷ line_of choice) → ((found : Text × List Row) → m ≡ Some found → NamesNone found)
     → (found : Text × List Row) → m ≡ Some found → found.0 ≡ word_of choice → ⊥
 none_chosen name (Play all) m e none found is w = has_word _ found (sym e ∙ is) (play_notes name all) ((none found is).0 w)
-none_chosen name (Check explain whole) m e none found is w = has_word _ found (sym e ∙ is) (check_notes name explain whole) ((none found is).1 w)
+none_chosen name (Check whole) m e none found is w = has_word _ found (sym e ∙ is) (check_notes name whole) ((none found is).1 w)
 none_chosen name Run m e none found is w = no_wrong ((none found is).2 w)
   where
     no_wrong : HasNoWord found.1 ⊎ HasNoFile found.1 → ⊥
@@ -296,55 +270,24 @@ audit_named found (Some f) n torn choice w is flag e =
     (subst (λ (c : Choice). Names found c) same (w, flag, λ none. let both : None ≡ Some (n f) = sym none ∙ e in absurd cc), (w, e))
 
 -- its flag alone chooses nothing
-flag_alone : {X : Type 0} (found : Text × List Row) (file : Option X) (n : X → Text) (torn : Bool) → audit_of (is_some file) torn ≡ None → IsFlag (one_of (codes "torn") found.1) torn → first_of (codes "journal") found.1 ≡ option_map n file
-    → IsFlag (one_of (codes "torn") found.1) true × (first_of (codes "journal") found.1 ≡ None)
+pub flag_alone : {X : Type 0} (found : Text × List Row) (file : Option X) (n : X → Text) (torn : Bool) → audit_of (is_some file) torn ≡ None → IsFlag (one_of (codes "torn") found.1) torn → first_of (codes "journal") found.1 ≡ option_map n file
+    → LacksFile found.1
 flag_alone found None n true is flag e = (flag, e)
 flag_alone found None n false is flag e = absurd cc
 flag_alone found (Some f) n torn is flag e = absurd cc
 
-pub torn_alone : {X : Type 0} (m : Option (Text × List Row)) (found : Text × List Row) (file : Option X) (n : X → Text) (torn : Bool) → m ≡ Some found → found.0 ≡ codes "audit" → audit_of (is_some file) torn ≡ None → IsFlag (one_of (codes "torn") found.1) torn
-    → first_of (codes "journal") found.1 ≡ option_map n file → (other : Text × List Row) → m ≡ Some other → NamesNone other
-torn_alone m found file n torn is w none flag e other f =
-    let same : found ≡ other = ap (λ (o : Option (Text × List Row)). unwrap_or o found) (sym is ∙ f) in
-    subst NamesNone same (λ p. absurd (no_audit (sym p ∙ w)), λ p. absurd (check_no_audit (sym p ∙ w)), λ p. absurd (run_no_audit (sym p ∙ w)), λ _. flag_alone found file n torn none flag e)
-
--- What a wrong word for notes chooses.
-
-pub play_wrong : (m : Option (Text × List Row)) (found : Text × List Row) → m ≡ Some found → found.0 ≡ codes "play" → HasNoWord found.1 → (other : Text × List Row) → m ≡ Some other → NamesNone other
-play_wrong m found is w none other f =
-    let same : found ≡ other = ap (λ (o : Option (Text × List Row)). unwrap_or o found) (sym is ∙ f) in
-    subst NamesNone same (λ _. none, λ p. absurd (no_check (sym w ∙ p)), λ p. absurd (no_run (sym w ∙ p)), λ p. absurd (no_audit (sym w ∙ p)))
-
-pub check_wrong : (m : Option (Text × List Row)) (found : Text × List Row) → m ≡ Some found → found.0 ≡ codes "check" → HasNoWord found.1 → (other : Text × List Row) → m ≡ Some other → NamesNone other
-check_wrong m found is w none other f =
-    let same : found ≡ other = ap (λ (o : Option (Text × List Row)). unwrap_or o found) (sym is ∙ f) in
-    subst NamesNone same (λ p. absurd (no_check (sym p ∙ w)), λ _. none, λ p. absurd (check_no_run (sym w ∙ p)), λ p. absurd (check_no_audit (sym w ∙ p)))
-
-pub run_wrong : (m : Option (Text × List Row)) (found : Text × List Row) → m ≡ Some found → found.0 ≡ codes "run" → HasNoWord found.1 ⊎ HasNoFile found.1 → (other : Text × List Row) → m ≡ Some other → NamesNone other
-run_wrong m found is w none other f =
-    let same : found ≡ other = ap (λ (o : Option (Text × List Row)). unwrap_or o found) (sym is ∙ f) in
-    subst NamesNone same (λ p. absurd (no_run (sym p ∙ w)), λ p. absurd (check_no_run (sym p ∙ w)), λ _. none, λ p. absurd (run_no_audit (sym w ∙ p)))
-
 -- what `audit` chooses looks at no lists
 pub unnoted : (found : Text × List Row) (choice : Choice) (notes : Notes) (errors : Bool) → found.0 ≡ codes "audit" → Names found choice → errors ≡ false → IsNoted found choice notes errors
 unnoted found (Play all) notes errors w n e = absurd (no_audit (sym n.0 ∙ w))
-unnoted found (Check explain whole) notes errors w n e = absurd (check_no_audit (sym n.0 ∙ w))
+unnoted found (Check whole) notes errors w n e = absurd (check_no_audit (sym n.0 ∙ w))
 unnoted found Run notes errors w n e = absurd (run_no_audit (sym n ∙ w))
 unnoted found Audit notes errors w n e = e
 unnoted found (AuditFile torn) notes errors w n e = e
 
--- whether it explains ends is its own flag
-pub explaining : (found : Text × List Row) (choice : Choice) (explains : Bool) → found.0 ≡ codes "audit" → Names found choice → IsFlag (one_of (codes "explain") found.1) explains → IsExplaining found choice explains
-explaining found (Play all) explains w n flag = absurd (no_audit (sym n.0 ∙ w))
-explaining found (Check explain whole) explains w n flag = absurd (check_no_audit (sym n.0 ∙ w))
-explaining found Run explains w n flag = absurd (run_no_audit (sym n ∙ w))
-explaining found Audit explains w n flag = flag
-explaining found (AuditFile torn) explains w n flag = flag
-
 -- it keeps no journal
 pub unkept : (found : Text × List Row) (choice : Choice) → found.0 ≡ codes "audit" → Names found choice → IsKeeping found choice None
 unkept found (Play all) w n = refl
-unkept found (Check explain whole) w n = refl
+unkept found (Check whole) w n = refl
 unkept found Run w n = absurd (run_no_audit (sym n ∙ w))
 unkept found Audit w n = refl
 unkept found (AuditFile torn) w n = refl

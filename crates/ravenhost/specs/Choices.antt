@@ -1,6 +1,7 @@
--- The command line (own): `play`, which may be given `--all`, `check`, which may be given `--explain` and `--script`, and `run`, which
--- may be given `--journal FILE` and, with it, `--sync HOW`, all three with `--notes WHEN` and `--warnings-are-errors`; and `audit`, which may be given `--journal FILE` and, with it, `--torn`, and
--- `--explain`. What words come to is what `clap` says of this command.
+-- The command line (own): `play`, which may be given `--all`, `check`, which may be given `--script`, and `run`, which may be
+-- given `--journal FILE` and, with it, `--sync HOW`, all three with `--notes WHEN` and `--warnings-are-errors`; and `audit`, which
+-- may be given `--journal FILE` and, with it, `--torn`. Each may be given `--explain`. What words come to is what `clap` says of
+-- this command.
 use Rattle.std.specs.Prelude.{◌≡◌, ◌⊎◌, Bool, true, false, if◌then◌else◌, List, [], ◌∷◌, Option, Some, None, codes}
 use Rattle.std.specs.Str.{bytes_eq}
 use Rattle.clap.specs.Words.{App, Row, Rule, new_app, new_rule, subcommand_of, with_rule, with_subcommand}
@@ -21,6 +22,10 @@ use Rattle.ravenhost.specs.declared.chosen.Unchosen.TheVariants.{Usage, Unknown,
 abbrev pub flag_rule : Text → Rule
 flag_rule name = record (new_rule name) { long = Some name; action = Some SetTrue }
 
+-- what asks for explanations
+abbrev pub explain_rule : Rule
+explain_rule = flag_rule (codes "explain")
+
 -- when notes are told
 abbrev pub notes_rule : Rule
 notes_rule = record (new_rule (codes "notes")) { long = Some (codes "notes"); action = Some Set; value_names = 1 }
@@ -30,10 +35,10 @@ abbrev pub with_notes : App → App
 with_notes app = with_rule (with_rule app notes_rule) (flag_rule (codes "warnings-are-errors"))
 
 abbrev pub playing : App
-playing = with_notes (with_rule (new_app (codes "play")) (flag_rule (codes "all")))
+playing = with_notes (with_rule (with_rule (new_app (codes "play")) (flag_rule (codes "all"))) explain_rule)
 
 abbrev pub checked : App
-checked = with_notes (with_rule (with_rule (new_app (codes "check")) (flag_rule (codes "explain"))) (flag_rule (codes "script")))
+checked = with_notes (with_rule (with_rule (new_app (codes "check")) explain_rule) (flag_rule (codes "script")))
 
 -- the name of a file, and when it is synced
 abbrev pub file_rule : Rule
@@ -44,7 +49,7 @@ sync_rule = record (new_rule (codes "sync")) { long = Some (codes "sync"); actio
 
 -- `run`, which may keep its journal in a file
 abbrev pub keeping : App
-keeping = with_rule (with_rule (new_app (codes "run")) file_rule) sync_rule
+keeping = with_rule (with_rule (with_rule (new_app (codes "run")) file_rule) sync_rule) explain_rule
 
 abbrev pub running : App
 running = with_notes keeping
@@ -54,7 +59,7 @@ abbrev pub judging : App
 judging = with_rule (with_rule (new_app (codes "audit")) file_rule) (flag_rule (codes "torn"))
 
 abbrev pub audited : App
-audited = with_rule judging (flag_rule (codes "explain"))
+audited = with_rule judging explain_rule
 
 -- the program, of which one subcommand must be named
 abbrev pub versioned : App
@@ -75,8 +80,7 @@ IsFlag text flag = (text ≡ Some (codes "true") → flag ≡ true)
 -- a subcommand with what it was given is a choice
 abbrev pub Names : Text × List Row → Choice → Type 0
 Names found (Play all) = (found.0 ≡ codes "play") × IsFlag (one_of (codes "all") found.1) all
-Names found (Check explain whole) =
-    (found.0 ≡ codes "check") × IsFlag (one_of (codes "explain") found.1) explain × IsFlag (one_of (codes "script") found.1) whole
+Names found (Check whole) = (found.0 ≡ codes "check") × IsFlag (one_of (codes "script") found.1) whole
 Names found Run = found.0 ≡ codes "run"
 Names found Audit = (found.0 ≡ codes "audit") × IsFlag (one_of (codes "torn") found.1) false × (first_of (codes "journal") found.1 ≡ None)
 Names found (AuditFile torn) = (found.0 ≡ codes "audit") × IsFlag (one_of (codes "torn") found.1) torn × (first_of (codes "journal") found.1 ≡ None → ⊥)
@@ -102,15 +106,13 @@ Tells rows notes errors = (notes_of (first_of (codes "notes") rows) ≡ Some not
 -- the same, for `play`, `check` and `run`
 abbrev pub IsNoted : Text × List Row → Choice → Notes → Bool → Type 0
 IsNoted found (Play all) notes errors = Tells found.1 notes errors
-IsNoted found (Check explain whole) notes errors = Tells found.1 notes errors
+IsNoted found (Check whole) notes errors = Tells found.1 notes errors
 IsNoted found Run notes errors = Tells found.1 notes errors
 IsNoted found choice notes errors = errors ≡ false
 
--- whether ends are explained, for `audit` alone
-abbrev pub IsExplaining : Text × List Row → Choice → Bool → Type 0
-IsExplaining found Audit explains = IsFlag (one_of (codes "explain") found.1) explains
-IsExplaining found (AuditFile torn) explains = IsFlag (one_of (codes "explain") found.1) explains
-IsExplaining found choice explains = explains ≡ false
+-- whether a script's fault, or for `audit` the ends of bodies, are explained
+abbrev pub IsExplaining : Text × List Row → Bool → Type 0
+IsExplaining found explains = IsFlag (one_of (codes "explain") found.1) explains
 
 -- when a file is synced, by the word that is given, if it is one of these
 abbrev pub sync_of : Option Text → Option Sync
@@ -152,17 +154,27 @@ audit_of true torn = Some (AuditFile torn)
 audit_of false true = None
 audit_of false false = Some Audit
 
--- no choice has the name of what was found, or notes have another word, or it has the flag of `audit` without a file
+-- a flag of `audit` stands without a file
+abbrev pub LacksFile : List Row → Type 0
+LacksFile rows = IsFlag (one_of (codes "torn") rows) true × (first_of (codes "journal") rows ≡ None)
+
+-- no choice has the name of what was found, or notes have another word, or a file is missing
 abbrev pub NamesNone : Text × List Row → Type 0
 NamesNone found = (found.0 ≡ codes "play" → HasNoWord found.1) × (found.0 ≡ codes "check" → HasNoWord found.1) × (found.0 ≡ codes "run" → HasNoWord found.1 ⊎ HasNoFile found.1)
-    × (found.0 ≡ codes "audit" → IsFlag (one_of (codes "torn") found.1) true × (first_of (codes "journal") found.1 ≡ None))
+    × (found.0 ≡ codes "audit" → LacksFile found.1)
 
--- the words name a choice, a file that is judged where there is one, what becomes of notes, whether ends are explained, and the file
--- that a journal is kept in
-abbrev pub Chooses : List Text → Choice → Option Text → Notes → Bool → Bool → Option (Text × Sync) → Type 0
-Chooses words choice file notes errors explains kept = (found : Text × List Row) × (subcommand_of program words ≡ Some found)
-    × Names found choice × IsJournal found file × IsNoted found choice notes errors × IsExplaining found choice explains
+-- a subcommand with what it was given is a choice, with a file that is judged where there is one, what becomes of notes, whether
+-- there are explanations, and the file that a journal is kept in
+abbrev pub IsSelection : Text × List Row → Choice → Option Text → Notes → Bool → Bool → Option (Text × Sync) → Type 0
+IsSelection found choice file notes errors explains kept =
+    Names found choice × IsJournal found file × IsNoted found choice notes errors × IsExplaining found explains
     × IsKeeping found choice kept
+
+-- the words name such a choice
+abbrev pub Chooses : List Text → Choice → Option Text → Notes → Bool → Bool → Option (Text × Sync) → Type 0
+Chooses words choice file notes errors explains kept =
+    (found : Text × List Row) × (subcommand_of program words ≡ Some found)
+    × IsSelection found choice file notes errors explains kept
 
 -- where `clap` takes the words, nothing is chosen only for want of memory, or where its matches name no choice
 abbrev pub Lacks : List Text → Unchosen → Type 0
@@ -175,10 +187,8 @@ Lacks words (Usage error) = ⊥
 abbrev pub line_of : Choice → List Text
 line_of (Play false) = codes "play" ∷ []
 line_of (Play true) = codes "play" ∷ codes "--all" ∷ []
-line_of (Check false false) = codes "check" ∷ []
-line_of (Check false true) = codes "check" ∷ codes "--script" ∷ []
-line_of (Check true false) = codes "check" ∷ codes "--explain" ∷ []
-line_of (Check true true) = codes "check" ∷ codes "--explain" ∷ codes "--script" ∷ []
+line_of (Check false) = codes "check" ∷ []
+line_of (Check true) = codes "check" ∷ codes "--script" ∷ []
 line_of Run = codes "run" ∷ []
 line_of Audit = codes "audit" ∷ []
 line_of (AuditFile false) = codes "audit" ∷ codes "--journal" ∷ codes "J" ∷ []

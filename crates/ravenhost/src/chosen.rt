@@ -1,12 +1,12 @@
 //! The command line: what the program is to do.
 
-ghost use Rattle.std.specs.Prelude.{◌≡◌, ◌∷◌, List, true, false, Some, None, IfSome, IfNone, IfOk, IfErr, codes, map, option_map};
+ghost use Rattle.std.specs.Prelude.{◌≡◌, ◌∷◌, ◌⊎◌, List, true, false, Some, None, IfSome, IfNone, IfOk, IfErr, codes, map, option_map};
 ghost use Rattle.clap.specs.Words.{app_of, new_app, rule_of, subcommand_rows_of, takes, with_rule};
 ghost use Rattle.clap.specs.Matches.{found_of};
 ghost use Rattle.clap.specs.Walk.{Row, Text, rows_of};
 ghost use Rattle.clap.specs.declared.builder.command.Command.TheViews.{out-Command as fields_of};
 ghost use Rattle.ravenhost.specs.declared.chosen.Unchosen.TheVariants as Unchosen;
-ghost use Rattle.ravenhost.specs.Choices.{Chooses, HasNoFile, HasNoFileAs, HasNoWord, IsExplaining, IsJournal, IsKeeping, IsNoted, Keeps, KeepsAs, Lacks, Names, NamesNone, Tells, audit_of, audited, checked, file_rule, flag_rule, judging, keeping, line_of, notes_of, notes_rule, playing, program, running, sync_of, sync_rule, with_notes};
+ghost use Rattle.ravenhost.specs.Choices.{Chooses, HasNoFile, HasNoFileAs, HasNoWord, IsSelection, Keeps, KeepsAs, Lacks, LacksFile, NamesNone, Tells, audit_of, audited, checked, file_rule, flag_rule, judging, keeping, line_of, notes_of, notes_rule, playing, program, running, sync_of, sync_rule, with_notes};
 
 use clap::error::ErrorKind;
 use clap::{Arg, ArgAction, ArgMatches, Command, Error};
@@ -17,9 +17,9 @@ use std::alloc::{AllocError, Global};
 pub enum Choice {
     /// Carry out a script; where the flag is set, unrecorded answers are printed too.
     Play(bool),
-    /// Look at the sections of a script. Where the first flag is set, its fault is explained; where the second is, a whole
-    /// script is looked at, its steps, commands or journal too.
-    Check(bool, bool),
+    /// Look at the sections of a script. Where the flag is set, a whole script is looked at, its steps, commands or journal
+    /// too.
+    Check(bool),
     /// Run a host, with a thread for each actor, and serve the operator's commands.
     Run,
     /// Judge the journal of a script.
@@ -68,7 +68,7 @@ pub struct Selection<'a> {
     pub are_errors: bool,
     /// The name of the file that holds a journal, where one is given.
     pub journal: Option<&'a str>,
-    /// Whether the ends of bodies in a journal are explained.
+    /// Whether a script's fault, or the ends of bodies in a journal, are explained.
     pub explains: bool,
     /// The file that a run's journal is kept in, where one is given.
     pub kept: Option<KeptFile<'a>>,
@@ -97,6 +97,14 @@ fn flag<'a>(alloc: Global, name: &'a str, help: &'a str) -> Arg<'a>
         .long(name)
         .help(help)
         .action(ArgAction::SetTrue)
+}
+
+// The flag that asks for explanations.
+fn explain_flag<'a>(alloc: Global, help: &'a str) -> Arg<'a>
+    ensures rule { rule_of result ≡ flag_rule (codes "explain") }
+    ensures local { result.global ≡ false }
+{
+    flag(alloc, "explain", help)
 }
 
 // When notes on lists are told.
@@ -153,7 +161,11 @@ fn noted<'a>(alloc: Global, command: Command<'a>) -> Result<Command<'a>, AllocEr
     command.arg(notes_flag(alloc))?.arg(are_errors)
 }
 
-// The subcommand `play`, which may print more.
+// What is explained of a refused script.
+const FAULT_HELP: &str =
+    "Below a fault, show the line with its place, and say what the fault means";
+
+// The subcommand `play`, which may print more, and explain a fault.
 fn play_subcommand<'a>(alloc: Global) -> Result<Command<'a>, AllocError>
     ensures app { IfOk result (λ c. app_of c ≡ playing) }
     ensures local { IfOk result (λ c. (fields_of c).has_globals ≡ false) }
@@ -166,7 +178,8 @@ fn play_subcommand<'a>(alloc: Global) -> Result<Command<'a>, AllocError>
     let command = Command::new(alloc, "play")
         .about("Carry out a script from standard input, and print its journal")
         .after_help("Example: ravenhost play --all < examples/first.raven")
-        .arg(all)?;
+        .arg(all)?
+        .arg(explain_flag(alloc, FAULT_HELP))?;
     noted(alloc, command)
 }
 
@@ -175,11 +188,6 @@ fn check_subcommand<'a>(alloc: Global) -> Result<Command<'a>, AllocError>
     ensures app { IfOk result (λ c. app_of c ≡ checked) }
     ensures local { IfOk result (λ c. (fields_of c).has_globals ≡ false) }
 {
-    let explain = flag(
-        alloc,
-        "explain",
-        "Below a fault, show the line with its place, and say what the fault means",
-    );
     let whole = flag(
         alloc,
         "script",
@@ -188,12 +196,12 @@ fn check_subcommand<'a>(alloc: Global) -> Result<Command<'a>, AllocError>
     let command = Command::new(alloc, "check")
         .about("Say of each section of a script from standard input whether it is well formed")
         .after_help("Example: ravenhost check --script --explain < examples/first.raven")
-        .arg(explain)?
+        .arg(explain_flag(alloc, FAULT_HELP))?
         .arg(whole)?;
     noted(alloc, command)
 }
 
-// The subcommand `run`, which may keep its journal in a file.
+// The subcommand `run`, which may keep its journal in a file, and explain a fault.
 fn keeping_subcommand<'a>(alloc: Global) -> Result<Command<'a>, AllocError>
     ensures app { IfOk result (λ c. app_of c ≡ keeping) }
     ensures local { IfOk result (λ c. (fields_of c).has_globals ≡ false) }
@@ -208,7 +216,8 @@ fn keeping_subcommand<'a>(alloc: Global) -> Result<Command<'a>, AllocError>
         )
         .after_help("Example: ravenhost run < examples/plant.raven")
         .arg(journal)?
-        .arg(sync_arg(alloc))
+        .arg(sync_arg(alloc))?
+        .arg(explain_flag(alloc, FAULT_HELP))
 }
 
 // The same, which may be told of notes.
@@ -248,9 +257,8 @@ fn audit_subcommand<'a>(alloc: Global) -> Result<Command<'a>, AllocError>
     ensures app { IfOk result (λ c. app_of c ≡ audited) }
     ensures local { IfOk result (λ c. (fields_of c).has_globals ≡ false) }
 {
-    let explain = flag(
+    let explain = explain_flag(
         alloc,
-        "explain",
         "Also say whether each body ended as its text means on the entries since it started",
     );
     judging_subcommand(alloc)?.arg(explain)
@@ -361,64 +369,100 @@ fn kept_of<'a>(words: &ArgMatches<'a>) -> Option<Option<KeptFile<'a>>>
     file_of(words.get_str("journal"), words.get_str("sync"))
 }
 
+// What `play` chooses by what it was given; none where notes have another word.
+fn play_chosen<'a>(words: &ArgMatches<'a>) -> Option<Selection<'a>>
+    ensures some { IfSome result (λ chosen. IsSelection (codes "play", rows_of (found_of words.now)) chosen.choice
+        (option_map (λ s. s.now) chosen.journal) chosen.notes chosen.are_errors chosen.explains
+        (option_map (λ k. (k.name.now, k.sync)) chosen.kept)) }
+    ensures none { IfNone result (HasNoWord (rows_of (found_of words.now))) }
+{
+    let told = telling_of(words)?;
+    Some(Selection {
+        choice: Choice::Play(words.get_flag("all")),
+        notes: told.0,
+        are_errors: told.1,
+        journal: None,
+        explains: words.get_flag("explain"),
+        kept: None,
+    })
+}
+
+// What `check` chooses; none where notes have another word.
+fn check_chosen<'a>(words: &ArgMatches<'a>) -> Option<Selection<'a>>
+    ensures some { IfSome result (λ chosen. IsSelection (codes "check", rows_of (found_of words.now)) chosen.choice
+        (option_map (λ s. s.now) chosen.journal) chosen.notes chosen.are_errors chosen.explains
+        (option_map (λ k. (k.name.now, k.sync)) chosen.kept)) }
+    ensures none { IfNone result (HasNoWord (rows_of (found_of words.now))) }
+{
+    let told = telling_of(words)?;
+    Some(Selection {
+        choice: Choice::Check(words.get_flag("script")),
+        notes: told.0,
+        are_errors: told.1,
+        journal: None,
+        explains: words.get_flag("explain"),
+        kept: None,
+    })
+}
+
+// What `run` chooses; none where notes or syncs have another word, or a sync has no file.
+fn run_chosen<'a>(words: &ArgMatches<'a>) -> Option<Selection<'a>>
+    ensures some { IfSome result (λ chosen. IsSelection (codes "run", rows_of (found_of words.now)) chosen.choice
+        (option_map (λ s. s.now) chosen.journal) chosen.notes chosen.are_errors chosen.explains
+        (option_map (λ k. (k.name.now, k.sync)) chosen.kept)) }
+    ensures none { IfNone result (HasNoWord (rows_of (found_of words.now)) ⊎ HasNoFile (rows_of (found_of words.now))) }
+{
+    let told = telling_of(words)?;
+    let kept = kept_of(words)?;
+    Some(Selection {
+        choice: Choice::Run,
+        notes: told.0,
+        are_errors: told.1,
+        journal: None,
+        explains: words.get_flag("explain"),
+        kept,
+    })
+}
+
+// What `audit` chooses; none where a flag has no file.
+fn audit_chosen<'a>(words: &ArgMatches<'a>) -> Option<Selection<'a>>
+    ensures some { IfSome result (λ chosen. IsSelection (codes "audit", rows_of (found_of words.now)) chosen.choice
+        (option_map (λ s. s.now) chosen.journal) chosen.notes chosen.are_errors chosen.explains
+        (option_map (λ k. (k.name.now, k.sync)) chosen.kept)) }
+    ensures none { IfNone result (LacksFile (rows_of (found_of words.now))) }
+{
+    let journal = words.get_str("journal");
+    let choice = audit_of(journal.is_some(), words.get_flag("torn"))?;
+    Some(Selection {
+        choice,
+        notes: Notes::Never,
+        are_errors: false,
+        journal,
+        explains: words.get_flag("explain"),
+        kept: None,
+    })
+}
+
 // What a command line that was read chooses.
 fn choice_of<'a>(matches: &ArgMatches<'a>) -> Option<Selection<'a>>
-    ensures found { IfSome result (λ chosen. (found : Text × List Row)
-        × (subcommand_rows_of matches.now ≡ Some found) × Names found chosen.choice
-        × IsJournal found (option_map (λ s. s.now) chosen.journal)
-        × IsNoted found chosen.choice chosen.notes chosen.are_errors
-        × IsExplaining found chosen.choice chosen.explains
-        × IsKeeping found chosen.choice (option_map (λ k. (k.name.now, k.sync)) chosen.kept)) }
+    ensures found { IfSome result (λ chosen. (found : Text × List Row) × (subcommand_rows_of matches.now ≡ Some found)
+        × IsSelection found chosen.choice (option_map (λ s. s.now) chosen.journal) chosen.notes chosen.are_errors
+        chosen.explains (option_map (λ k. (k.name.now, k.sync)) chosen.kept)) }
     ensures none { IfNone result ((found : Text × List Row) → subcommand_rows_of matches.now ≡ Some found
         → NamesNone found) }
 {
     let (name, words) = matches.subcommand()?;
     if name == "play" {
-        let playing = telling_of(words)?;
-        return Some(Selection {
-            choice: Choice::Play(words.get_flag("all")),
-            notes: playing.0,
-            are_errors: playing.1,
-            journal: None,
-            explains: false,
-            kept: None,
-        });
+        return play_chosen(words);
     }
     if name == "check" {
-        let checking = telling_of(words)?;
-        return Some(Selection {
-            choice: Choice::Check(words.get_flag("explain"), words.get_flag("script")),
-            notes: checking.0,
-            are_errors: checking.1,
-            journal: None,
-            explains: false,
-            kept: None,
-        });
+        return check_chosen(words);
     }
     if name == "run" {
-        let running = telling_of(words)?;
-        let kept = kept_of(words)?;
-        return Some(Selection {
-            choice: Choice::Run,
-            notes: running.0,
-            are_errors: running.1,
-            journal: None,
-            explains: false,
-            kept,
-        });
+        return run_chosen(words);
     }
     if name == "audit" {
-        let journal = words.get_str("journal");
-        let choice = audit_of(journal.is_some(), words.get_flag("torn"))?;
-        let explains = words.get_flag("explain");
-        return Some(Selection {
-            choice,
-            notes: Notes::Never,
-            are_errors: false,
-            journal,
-            explains,
-            kept: None,
-        });
+        return audit_chosen(words);
     }
     None
 }

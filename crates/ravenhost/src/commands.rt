@@ -59,21 +59,8 @@ pub fn run_warnings(alloc: Global, before: &[u8]) -> Result<Warnings, Failure> {
     run_warnings_of(alloc, before)
 }
 
-/// Carries out the script that a reader gives, and writes its journal: the line of each entry and,
-/// where all is asked for, of each answer that isn't recorded.
-pub fn play<R: Read, W: Write>(
-    alloc: Global,
-    reader: &mut R,
-    writer: &mut W,
-    all: bool,
-) -> Result<(), Failure>
-    ensures { IfSome (R.remaining reader.old) (λ script.
-        WritesScript (W.contents writer.old) (W.contents writer.new) (outcome_of all) script result) }
-{
-    rv_play::play::play(alloc, reader, writer, all)
-}
-
-/// As `play`; and gives how many answers there were, and which of them the journal doesn't have.
+/// Carries out the script that a reader gives, and writes its journal: the line of each entry and, where all is asked for, of
+/// each answer that isn't recorded. Gives how many answers there were, and which of them the journal doesn't have.
 pub fn play_counted<R: Read, W: Write>(
     alloc: Global,
     reader: &mut R,
@@ -87,20 +74,8 @@ pub fn play_counted<R: Read, W: Write>(
     rv_play::play::play_counted(alloc, reader, writer, all, counts)
 }
 
-/// Looks at the sections of the script that a reader gives, in order, and writes a line for each that
-/// is well formed, but none for settings. It stops at the first fault.
-pub fn check<R: Read, W: Write>(
-    alloc: Global,
-    reader: &mut R,
-    writer: &mut W,
-) -> Result<(), Failure>
-    ensures { IfSome (R.remaining reader.old) (λ script.
-        WritesScript (W.contents writer.old) (W.contents writer.new) checked script result) }
-{
-    rv_check::check::check(alloc, reader, writer)
-}
-
-/// Does what `check` does, and gives back what was read of the script.
+/// Looks at the sections of the script that a reader gives, in order, and writes a line for each that is well formed, but
+/// none for settings. It stops at the first fault. Gives back what was read of the script.
 pub fn check_kept<R: Read, W: Write>(
     alloc: Global,
     reader: &mut R,

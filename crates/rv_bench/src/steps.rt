@@ -29,6 +29,7 @@ fn made(alloc: Global, calls: usize) -> Option<usize> {
         units: 1,
         lines: 1,
         has_windows: false,
+        queued: 1,
     };
     let mut host = host(alloc, MOST_ENTRIES, plant)?;
     Some(stepped::calls(&mut host, plant.actor(), calls))

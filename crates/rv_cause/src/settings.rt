@@ -5,7 +5,7 @@ use rv_near::nearest;
 use rv_text::{dotted_parts, integer_of, is_identifier, is_same_name, next_line, next_word};
 use std::alloc::{AllocError, Global};
 
-const TOP_KEYS: [&str; 3] = ["capacity", "budget", "device"];
+const TOP_KEYS: [&str; 4] = ["capacity", "budget", "queue_limit", "device"];
 
 const DEVICE_KEYS: [&str; 6] = ["unit", "task", "object", "operation", "priority", "calls"];
 
@@ -57,7 +57,7 @@ const CALLS: &str = "{0} is a whole number, 1 .. 1000000";
 
 const TABLE: &str = "devices are tables of their own: write [[device]]";
 
-const KEYS: [Key; 9] = [
+const KEYS: [Key; 10] = [
     Key {
         name: "capacity",
         table: Table::Top,
@@ -69,6 +69,12 @@ const KEYS: [Key; 9] = [
         table: Table::Top,
         taken: Taken::Number(1, 1_000_000),
         said: CALLS,
+    },
+    Key {
+        name: "queue_limit",
+        table: Table::Top,
+        taken: Taken::Number(1, 8),
+        said: "queue_limit is a whole number, 1 .. 8",
     },
     Key {
         name: "calls",
@@ -201,7 +207,7 @@ impl<'a> Entry<'a> {
                 if self.table == Table::Device {
                     "unknown key {0}; a device has unit, task, object, operation, priority and calls"
                 } else {
-                    "unknown key {0}; the keys are capacity, budget and device"
+                    "unknown key {0}; the keys are capacity, budget, queue_limit and device"
                 }
             }
         }
@@ -280,7 +286,7 @@ pub fn unknown_key<'a>(alloc: Global, entries: &[Entry<'a>]) -> Result<Cause<'a>
             return Ok(Cause::of(entry.at, said, entry.value));
         }
     }
-    Ok(Cause::plain(0, "the keys are capacity, budget and device"))
+    Ok(Cause::plain(0, "the keys are capacity, budget, queue_limit and device"))
 }
 
 // Whether a key of a device stands among its lines, which begin with this one.

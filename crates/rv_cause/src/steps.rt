@@ -124,13 +124,18 @@ fn request<'a>(line: &Line<'a>) -> Cause<'a> {
     if word == "end" {
         return end(line);
     }
-    if line.has(2) && is_listed(&["resume", "clock", "fire", "finish", "halt"], word) {
+    if line.has(2)
+        && is_listed(
+            &["settle", "resume", "clock", "fire", "finish", "halt"],
+            word,
+        )
+    {
         let said = "nothing may stand behind {0}; {1} does";
         return Cause::new(line.at(2), said, [word, line.word(2), ""]);
     }
     line.cause(
         1,
-        "{0} is no request; there are call, end, resume, delay, clock, fire, finish, tick, halt, append, remove, replace, go",
+        "{0} is no request; there are call, end, settle, resume, delay, clock, fire, finish, tick, halt, append, remove, replace, go",
     )
 }
 

@@ -11,17 +11,17 @@ use Rattle.rv_event.specs.Recorded.{recorded}
 use Rattle.rv_event.specs.declared.entry.Recorded.{Recorded}
 use Rattle.rv_event.specs.declared.entry.Answer.{Answer}
 use Rattle.rv_event.specs.declared.entry.Request.{Request}
-use Rattle.rv_event.specs.declared.entry.Request.TheVariants.{Resume, Fire}
+use Rattle.rv_event.specs.declared.entry.Request.TheVariants.{Resume, Fire, Settle}
 use Rattle.rv_history.specs.History.{History}
 use Rattle.rv_history.specs.Owed.{actors}
-use Rattle.rv_history.specs.Fitting.{awaits}
+use Rattle.rv_history.specs.Fitting.{awaits, is_settling}
 use Rattle.rv_history.specs.Legal.{entered}
 use Rattle.rv_code.specs.Bodies.{Body, UnitBodies}
 use Rattle.rv_exec.specs.Asking.{stands}
 use Rattle.rv_exec.specs.Bodies.{operation_of, task_of}
 use Rattle.rv_exec.specs.Next.{settling, next_of}
 use Rattle.rv_exec.specs.Tasks.{task_run, line_run}
-use Rattle.rv_go.specs.Texts.{TextsView, is_fire, is_started, is_heard, hears, with_answer, answers_to}
+use Rattle.rv_go.specs.Texts.{TextsView, is_fire, is_settle, is_started, is_heard, hears, with_answer, answers_to}
 use Rattle.rv_go.specs.declared.texts.Heard.{Heard}
 use Rattle.rv_go.specs.Goes.{if_body, task_asks, handler_asks, line_asks, asks_by, asks_at, asks}
 use Rattle.rv_go.specs.Runs.{task_text, operation_text, handler_text, text_by, text_of, asked_by_any, fires, beside, asks_beside}
@@ -42,6 +42,7 @@ line_is texts shapes actor line Modes.Handed = refl
 line_is texts shapes actor line Modes.Dropped = refl
 line_is texts shapes actor line Modes.Suspended = refl
 line_is texts shapes actor line Modes.Delayed = refl
+line_is texts shapes actor line Modes.Settling = refl
 line_is texts shapes actor line Modes.Ended = refl
 
 operation_is : (bodies : UnitBodies) (budget : ℕ) (at : OperationNumber) (o : Option Body) (given : List Answer) → if_body o (next_of (line_run bodies at.object at.operation) given) ≡ asked_by_any bodies budget (operation_text at o) given
@@ -70,8 +71,9 @@ by_is texts shapes actor at Nobody = refl
 
 asks_is : (texts : TextsView) (h : History) (actor : ℕ) → asks texts h actor ≡ asks_beside (next_at texts h.shapes actor) h actor
 asks_is texts h actor =
-    ap (λ (z : Option Request). if nat_lt actor (actors h.shapes) then (if awaits (mode h.shapes actor h.past) then Some Resume else z) else None)
-    (by_is texts h.shapes actor (mode h.shapes actor h.past) (who h.shapes actor))
+    let at = mode h.shapes actor h.past in
+    ap (λ (z : Option Request). if nat_lt actor (actors h.shapes) then (if awaits at then Some Resume else if is_settling at then Some Settle else z) else None)
+    (by_is texts h.shapes actor at (who h.shapes actor))
 
 -- a `go` asks what the text asks next, behind others by whose answers it didn't go on
 pub comes : (act : Act) (actor : ℕ) (before now : Stage) (next request : Option Request) → IsGo act (going actor before) → next ≡ asked_behind (going actor before) (settled actor before)
@@ -126,16 +128,17 @@ with_own true false answer before e f = refl
 with_own false starts answer before e f = absurd cc
 
 -- what is heard of a request other than a fire settles it
-heard_settles : (fire b : Bool) (answer r : Answer) → fire ≡ false → b ≡ (if fire then is_started answer else (true && not (stands answer))) → (if b then Some answer else None) ≡ Some r → (b ≡ true) × (answer ≡ r) × (stands answer ≡ false)
-heard_settles true b answer r e f g = absurd cc
-heard_settles false true answer r e f g = (refl, some_same answer r g, settles (stands answer) f) where
+heard_settles : (fire settle b : Bool) (answer r : Answer) → fire ≡ false → b ≡ (if fire then is_started answer else (true && not settle && not (stands answer))) → (if b then Some answer else None) ≡ Some r → (b ≡ true) × (answer ≡ r) × (stands answer ≡ false)
+heard_settles true settle b answer r e f g = absurd cc
+heard_settles false true true answer r e f g = absurd cc
+heard_settles false false true answer r e f g = (refl, some_same answer r g, settles (stands answer) f) where
   some_same : (x y : Answer) → Some x ≡ Some y → x ≡ y
   some_same x y p = cc
 
   settles : (s : Bool) → true ≡ (true && not s) → s ≡ false
   settles true p = absurd cc
   settles false p = refl
-heard_settles false false answer r e f g = absurd cc
+heard_settles false settle false answer r e f g = absurd cc
 
 heard_if : (b : Bool) (texts : TextsView) (heard : List Heard) → b ≡ true → (if b then record texts { heard = heard } else texts).heard ≡ heard
 heard_if true texts heard e = refl
@@ -145,7 +148,7 @@ heard_on : (actor : ℕ) (stage : Stage) (request : Option Request) (answer r : 
 heard_on actor stage None answer r e f = absurd cc
 heard_on actor stage (Some q) answer r e f =
     let h : Heard = record { actor = actor; starts = is_fire q; answer = answer } in
-    let is = heard_settles (is_fire q) (is_heard true q answer) answer r e refl f in
+    let is = heard_settles (is_fire q) (is_settle q) (is_heard true q answer) answer r e refl f in
     let old : List Answer = answers_to actor stage.texts.heard in
     let now : settled actor (after_deed stage (go actor (Some q)) answer) ≡ settling old ++ answer ∷ [] =
     ap (λ (hs : List Heard). settling (answers_to actor hs)) (heard_if (is_heard true q answer) stage.texts (h ∷ stage.texts.heard) is.0)
@@ -156,7 +159,7 @@ heard_on actor stage (Some q) answer r e f =
 pub settles : (request : Option Request) (answer r : Answer) → asks_fire request ≡ false → heard_of request answer ≡ Some r → stands r ≡ false
 settles None answer r e f = absurd cc
 settles (Some q) answer r e f =
-    let is = heard_settles (is_fire q) (is_heard true q answer) answer r e refl f in subst (λ (z : Answer). stands z ≡ false) is.1 is.2
+    let is = heard_settles (is_fire q) (is_settle q) (is_heard true q answer) answer r e refl f in subst (λ (z : Answer). stands z ≡ false) is.1 is.2
 
 -- The `go` that was carried out
 

@@ -18,6 +18,7 @@ use Rattle.rv_play.specs.Stages.{Stage, start}
 use Rattle.rv_play.specs.Scripted.{Run, Playing, default_limits, PlaysOpened, PlaysScript, BeginsOpened, IsLimits, ReadsLimits, told_text, text_of, outcome_of}
 use Rattle.rv_play.specs.Carried.{Whole, Part, Carries}
 use Rattle.rv_play.proofs.Named.{text_is}
+use Rattle.rv_play.proofs.Scripting.{queues_fit}
 
 abbrev beginning : Bool → Limits → Playing
 beginning all limits = record { all = all; stage = start limits }
@@ -61,7 +62,7 @@ all_is : (all : Bool) (a b : Option (List ℕ)) (script : List ℕ) (whole : Ope
     → Whole a b (beginning all limits) (acts_from whole.sections) fault last → WritesAll a b (outcome_of all script).Is fault
 all_is all a b script whole limits fault last e is carried =
     let run : Run = record { told = carried.told; fault = fault; last = last } in
-    let same = text_is all limits (acts_from whole.sections) carried.told fault last carried.plays in
+    let same = text_is all limits (acts_from whole.sections) carried.told fault last (queues_fit whole.settings limits is) carried.plays in
     record {
       text = told_text all carried.told;
       is = (run, subst (λ (o : Result OpenedText ℕ). PlaysOpened o run) (sym e) (Ok limits, is, carried.plays), refl, sym same);
@@ -72,7 +73,7 @@ some_is : (all : Bool) (a b : Option (List ℕ)) (script : List ℕ) (whole : Op
     → Part a b (beginning all limits) (acts_from whole.sections) → WritesSome a b (outcome_of all script).Begins
 some_is all a b script whole limits e is part =
     let run : Run = record { told = part.told; fault = None; last = part.last } in
-    let same = text_is all limits part.done part.told None part.last part.plays in
+    let same = text_is all limits part.done part.told None part.last (queues_fit whole.settings limits is) part.plays in
     record {
       text = told_text all part.told;
       begins = inr (run, subst (λ (o : Result OpenedText ℕ). BeginsOpened o run) (sym e) (limits, is, part.done, part.rest, part.split, part.plays), sym same);

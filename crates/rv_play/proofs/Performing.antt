@@ -115,6 +115,7 @@ pub one_step : (a b : Known) (p q : Playing) (result : Ended) (line : ℕ) (aske
 one_step a b p q result line asker (Asks.Go count) other carries = absurd (other count refl)
 one_step a b p q result line asker (Asks.Call object operation values) other carries = carries
 one_step a b p q result line asker (Asks.Complete scalars exit) other carries = carries
+one_step a b p q result line asker Asks.Settle other carries = carries
 one_step a b p q result line asker Asks.Resume other carries = carries
 one_step a b p q result line asker (Asks.DelayUntil time) other carries = carries
 one_step a b p q result line asker Asks.Clock other carries = carries

@@ -100,7 +100,7 @@ list_comes line stage text list (Err (Io error)) given ok err = absurd cc
 -- Settings
 
 -- the limits of settings
-pub limits_read : (section : Option SectionText) (settings : SettingsText) → GivesSettings section (Ok settings) → IsLimits section (Ok (record { capacity = settings.capacity; budget = settings.budget }))
+pub limits_read : (section : Option SectionText) (settings : SettingsText) → GivesSettings section (Ok settings) → IsLimits section (Ok (record { capacity = settings.capacity; queue = settings.queue_limit; budget = settings.budget }))
 limits_read None settings given = cc
 limits_read (Some section) settings given = (settings, given, refl)
 

@@ -14,7 +14,7 @@ use Rattle.rv_history.specs.declared.command.Command.{Command}
 use Rattle.rv_history.specs.declared.command.Command.TheVariants as Commands
 use Rattle.rv_history.specs.History.{History, force}
 use Rattle.rv_script.specs.Openings.{OpenedText, opened}
-use Rattle.rv_settings.specs.Settings.{SettingsText, IsSettings, IsRefused, default_capacity, default_budget}
+use Rattle.rv_settings.specs.Settings.{SettingsText, IsSettings, IsRefused, default_capacity, default_queue_limit, default_budget}
 use Rattle.rv_settings.specs.declared.fault.SettingsFault.{SettingsFault}
 use Rattle.rv_settings.specs.declared.fault.SettingsFault.TheVariants.{NoMemory}
 use Rattle.rv_fault.specs.declared.failure.Failure.{Failure}
@@ -74,12 +74,13 @@ pub record Run : Type 0 where
 
 -- the limits of a run: those of the settings, where there are some, or what stands against them
 abbrev pub default_limits : Limits
-default_limits = record { capacity = default_capacity; budget = default_budget }
+default_limits = record { capacity = default_capacity; queue = default_queue_limit; budget = default_budget }
 
 abbrev pub IsLimits : Option SectionText → Result Limits ScriptFault → Type 0
 IsLimits None limits = limits ≡ Ok default_limits
 IsLimits (Some section) (Ok limits) =
-    (settings : SettingsText) × IsSettings section.text settings × (limits ≡ record { capacity = settings.capacity; budget = settings.budget })
+    (settings : SettingsText) × IsSettings section.text settings
+    × (limits ≡ record { capacity = settings.capacity; queue = settings.queue_limit; budget = settings.budget })
 IsLimits (Some section) (Err fault) =
     (why : SettingsFault) × IsRefused section.text why × (why ≡ NoMemory → ⊥) × (fault ≡ record { line = section.line; what = Whats.Settings why })
 

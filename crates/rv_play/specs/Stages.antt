@@ -7,7 +7,7 @@ use Rattle.rv_history.specs.declared.command.Command.{Command}
 use Rattle.rv_history.specs.declared.command.Command.TheVariants.{Ask, Load}
 use Rattle.rv_history.specs.History.{History}
 use Rattle.rv_history.specs.Legal.{empty}
-use Rattle.rv_history.specs.Limits.{limits_of}
+use Rattle.rv_history.specs.Limits.{limits_with}
 use Rattle.rv_history.specs.Steps.{due_command, after_command}
 use Rattle.rv_code.specs.Bodies.{UnitBodies}
 use Rattle.rv_go.specs.Texts.{TextsView, no_texts, with_bodies, hears}
@@ -41,7 +41,7 @@ pub record Stage : Type 0 where
 
 -- at the beginning, within these limits
 abbrev pub start : Limits → Stage
-start limits = record { history = empty (limits_of limits.capacity); texts = no_texts limits.budget }
+start limits = record { history = empty (limits_with limits.capacity limits.queue); texts = no_texts limits.budget }
 
 -- the answer that is due; one who has nothing to ask is answered misuse
 abbrev pub due_answer : Stage → Option Command → Answer

@@ -2,7 +2,7 @@
 
 ghost use Rattle.std.specs.Prelude.{◌≡◌, ℕ, List, Option, Bool, false};
 ghost use Rattle.rv_history.specs.Legal.{Legal, empty};
-ghost use Rattle.rv_history.specs.Limits.{limits_of};
+ghost use Rattle.rv_history.specs.Limits.{limits_with};
 ghost use Rattle.rv_history.specs.Steps.{Steps};
 ghost use Rattle.rv_fault.specs.declared.fault.ScriptFault.{ScriptFault};
 ghost use Rattle.rv_play.specs.Acts.{Act};
@@ -18,7 +18,7 @@ ghost use Rattle.rv_play.specs.declared.player.Limits.{Limits};
 pub fn acts_are_steps()
     ensures { (limits : Limits) → (acts : List Act) → (told : List Told) → (fault : Option ScriptFault) → (last : Stage)
         → Plays (start limits) acts told fault last
-        → Steps (empty (limits_of limits.capacity)) (commands told) (answers told) last.history }
+        → Steps (empty (limits_with limits.capacity limits.queue)) (commands told) (answers told) last.history }
 {}
 
 /// The history that a script leads to is legal.

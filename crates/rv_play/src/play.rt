@@ -221,7 +221,8 @@ fn carry_out_all<W: Write>(
     Ok(())
 }
 
-// How many entries the journal of a script may have, and how many requests a task's own body may make.
+// How many entries the journal of a script may have, how many callers a queue, and how many requests a task's own body
+// may make.
 fn limits_of(alloc: Global, settings: &Option<Section<'_>>) -> Result<Limits, Failure>
     ensures { ReadsLimits (option_map (λ s. record { line = s.line; opening = s.opening.now; text = s.text.now })
         settings.now) result }
@@ -229,6 +230,7 @@ fn limits_of(alloc: Global, settings: &Option<Section<'_>>) -> Result<Limits, Fa
     let settings = settings_of(alloc, settings)?;
     Ok(Limits {
         capacity: settings.capacity(),
+        queue: settings.queue_limit(),
         budget: settings.budget(),
     })
 }
@@ -254,7 +256,9 @@ fn play_text<W: Write>(
             *counts = player.counts;
             done
         }
-        Err(NewFault::BadCapacity) | Err(NewFault::NoMemory) => Err(Failure::Memory),
+        Err(NewFault::BadCapacity) | Err(NewFault::BadLimit) | Err(NewFault::NoMemory) => {
+            Err(Failure::Memory)
+        }
     }
 }
 

@@ -2,7 +2,7 @@
 use Rattle.std.proofs.Common.{◌≡◌, ℕ, Bool, List, [], Ok, inl, sym, ap, subst}
 use Rattle.rv_fault.specs.Sections.{GivesSettings, line_of}
 use Rattle.rv_history.specs.Legal.{empty}
-use Rattle.rv_history.specs.Limits.{limits_of}
+use Rattle.rv_history.specs.Limits.{limits_with}
 use Rattle.rv_input.specs.Coming.{GivesBefore, IfTold, Reading, coming, most_before}
 use Rattle.rv_port.specs.Traces.{Passing}
 use Rattle.rv_script.specs.Openings.{OpenedText, opened}
@@ -13,13 +13,13 @@ use Rattle.rv_run.specs.Finishing.{Plays, Served}
 use Rattle.rv_run.specs.Preparing.{Prepares}
 use Rattle.rv_run.specs.Running.{IsControlOf, IsPrepared, Opens, Runs}
 
-pub is_prepared : (script : OpenedText) (settings : SettingsText) (first control : Passing) (staff : Staffed) (capacity : ℕ)
-    → capacity ≡ settings.capacity → IsControlOf (empty (limits_of capacity)) first
+pub is_prepared : (script : OpenedText) (settings : SettingsText) (first control : Passing) (staff : Staffed)
+    → IsControlOf (empty (limits_with settings.capacity settings.queue_limit)) first
     → Prepares first control script.sections (line_of script.settings) settings.devices (Ok tt)
     → staff ≡ record { control = control; crew = no_crew } → IsPrepared script settings staff
-is_prepared script settings first control staff capacity same begins prepared is = record {
+is_prepared script settings first control staff begins prepared is = record {
   first = first;
-  begins = subst (λ (n : ℕ). IsControlOf (empty (limits_of n)) first) same begins;
+  begins = begins;
   prepared = subst (λ (s : Staffed). Prepares first s.control script.sections (line_of script.settings) settings.devices (Ok tt)) (sym is) prepared;
   alone = ap (λ (s : Staffed). s.crew) is;
 }

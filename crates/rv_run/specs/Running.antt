@@ -3,7 +3,7 @@ use Rattle.std.specs.Prelude.{◌≡◌, ◌⊎◌, ℕ, List, [], Bool, Ok, Err
 use Rattle.rv_fault.specs.Sections.{GivesSettings, line_of}
 use Rattle.rv_history.specs.History.{History}
 use Rattle.rv_history.specs.Legal.{empty}
-use Rattle.rv_history.specs.Limits.{limits_of}
+use Rattle.rv_history.specs.Limits.{limits_with}
 use Rattle.rv_input.specs.Coming.{GivesBefore, IfTold, Reading, coming, most_before}
 use Rattle.rv_port.specs.Controls.{BeginsWith}
 use Rattle.rv_behind.specs.Events.{by}
@@ -20,10 +20,10 @@ use Rattle.rv_run.specs.Preparing.{Prepares}
 abbrev pub IsControlOf : History → Passing → Type 0
 IsControlOf host control = BeginsWith host control.seen × (control ≡ opening_of control.turn host.limits by control.seen)
 
--- on a new host of the settings' capacity the sections of a script are carried out, and then its devices loaded
+-- on a new host within the limits of the settings the sections of a script are carried out, and then its devices loaded
 pub record IsPrepared (script : OpenedText) (settings : SettingsText) (staff : Staffed) : Type 0 where
   pub first : Passing
-  pub begins : IsControlOf (empty (limits_of settings.capacity)) first
+  pub begins : IsControlOf (empty (limits_with settings.capacity settings.queue_limit)) first
   pub prepared : Prepares first staff.control script.sections (line_of script.settings) settings.devices (Ok tt)
   pub alone : staff.crew ≡ no_crew
 

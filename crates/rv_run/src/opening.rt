@@ -2,7 +2,7 @@
 
 ghost use Rattle.std.specs.Prelude.{◌≡◌, [], Some, IfSome};
 ghost use Rattle.rv_history.specs.Legal.{empty};
-ghost use Rattle.rv_history.specs.Limits.{limits_of};
+ghost use Rattle.rv_history.specs.Limits.{limits_with};
 ghost use Rattle.rv_run.specs.Preparing.{CarriesOut, CarriesOutAll, CarriesOutAs, Prepares};
 ghost use Rattle.rv_run.specs.Running.{IsControlOf};
 
@@ -106,11 +106,11 @@ fn made(alloc: Global, host: Host) -> Option<Control>
     }
 }
 
-/// The control of a host without entries, which may have so many. None where memory was refused.
-pub(crate) fn control_of(alloc: Global, capacity: usize) -> Option<Control>
-    ensures { IfSome result (IsControlOf (empty (limits_of capacity))) }
+/// The control of a host without entries, within the limits of settings. None where memory was refused.
+pub(crate) fn control_of(alloc: Global, settings: &Settings) -> Option<Control>
+    ensures { IfSome result (IsControlOf (empty (limits_with settings.now.capacity settings.now.queue_limit))) }
 {
-    match Host::new(alloc, capacity) {
+    match Host::with_limit(alloc, settings.capacity(), settings.queue_limit()) {
         Ok(host) => made(alloc, host),
         Err(_) => None,
     }

@@ -2,6 +2,7 @@
 use Rattle.std.proofs.Common.{◌≡◌, ℕ, ◌<◌, ◌≤◌, List, Some, None, Option, Ok, Err, Result, length, take, refl, sym, ap, ◌∙◌, subst, arith, min, length-take, inl, inr}
 use Rattle.std.specs.Prelude.{Bool, IfSome}
 use Rattle.std.proofs.lemmas.List.{take_all}
+use Rattle.rv_history.specs.declared.limits.Limits.{Limits}
 use Rattle.rv_script.specs.Whole.{IsScript, IsRefused}
 use Rattle.rv_script.specs.declared.read.ReadError.{ReadError}
 use Rattle.rv_script.specs.declared.read.ReadError.TheVariants as Reads
@@ -19,7 +20,7 @@ use Rattle.rv_verdict.specs.Audits.{AuditsScript, AuditsText, Saying}
 -- The text of a script
 
 -- what it brings was refused
-pub nothing_brought : {A : Type 0} (has_journal : Bool) (Says : Saying A) (old : Option (List ℕ)) (script : List ℕ) (failure : Failure) → (let r : Result (ℕ × GivenText) Failure = Err failure in GivesScript has_journal script r) →
+pub nothing_brought : {A : Type 0} (has_journal : Bool) (Says : Saying A) (old : Option (List ℕ)) (script : List ℕ) (failure : Failure) → (let r : Result (Limits × GivenText) Failure = Err failure in GivesScript has_journal script r) →
     AuditsText has_journal Says old old script (Err failure)
 nothing_brought has_journal Says old script (Refused told) h = (h, keeps_nothing old)
 nothing_brought has_journal Says old script Memory h = inl (keeps_nothing old)

@@ -1,8 +1,8 @@
 -- What a script brings to an audit, or what stands against it (own).
-use Rattle.std.specs.Prelude.{◌≡◌, ◌⊎◌, ◌≤◌, ◌^◌, ℕ, Bool, List, Result, Ok, Err}
+use Rattle.std.specs.Prelude.{◌≡◌, ◌⊎◌, ◌≤◌, ◌^◌, ℕ, Bool, true, List, Result, Ok, Err}
 use Rattle.rv_shape.specs.Shape.{Shape}
 use Rattle.rv_history.specs.declared.limits.Limits.{Limits}
-use Rattle.rv_history.specs.Limits.{limits_of}
+use Rattle.rv_history.specs.Limits.{is_queue_limit, limits_with}
 use Rattle.rv_script.specs.Openings.{OpenedText, opened}
 use Rattle.rv_settings.specs.Settings.{SettingsText}
 use Rattle.rv_fault.specs.Sections.{GivesSettings, line_of}
@@ -21,7 +21,7 @@ pub record Brought : Type 0 where
 -- the limits are the settings', and the units of their devices come last
 abbrev pub brought : SettingsText → GivenText → Brought
 brought settings given = record {
-  limits = limits_of settings.capacity;
+  limits = limits_with settings.capacity settings.queue_limit;
   units = with_devices given.units settings.devices;
   journal = given.journal;
 }
@@ -44,16 +44,17 @@ brings_by has_journal (Err line) found = found ≡ Err (record { line = line; wh
 abbrev pub Brings : Bool → List ℕ → Result Brought ScriptFault → Type 0
 Brings has_journal script = brings_by has_journal (opened script)
 
--- a capacity that a host may have
-pub record IsCapacity (capacity : ℕ) : Type 0 where
-  pub least : 16 ≤ capacity
-  pub most : capacity ≤ 2 ^ 20
+-- limits that a host may have
+pub record AreLimits (limits : Limits) : Type 0 where
+  pub least : 16 ≤ limits.capacity
+  pub most : limits.capacity ≤ 2 ^ 20
+  pub queue : is_queue_limit limits.queue ≡ true
 
 -- a call gives what a script brings, unless memory ran out
-abbrev pub GivesScript : Bool → List ℕ → Result (ℕ × GivenText) Failure → Type 0
+abbrev pub GivesScript : Bool → List ℕ → Result (Limits × GivenText) Failure → Type 0
 GivesScript has_journal script (Ok found) =
-    IsCapacity found.0
-    × Brings has_journal script (Ok (record { limits = limits_of found.0; units = found.1.units; journal = found.1.journal }))
+    AreLimits found.0
+    × Brings has_journal script (Ok (record { limits = found.0; units = found.1.units; journal = found.1.journal }))
 GivesScript has_journal script (Err (Refused told)) = Brings has_journal script (Err told)
 GivesScript has_journal script (Err Memory) = Unit {0}
 GivesScript has_journal script (Err (Io error)) = ⊥

@@ -4,7 +4,6 @@ ghost use Rattle.std.specs.Prelude.{◌≡◌, ℕ, [], List, Option, IfErr, IfO
 ghost use Rattle.rv_event.specs.declared.entry.Recorded.{Recorded};
 ghost use Rattle.rv_history.specs.History.{History};
 ghost use Rattle.rv_history.specs.Legal.{empty};
-ghost use Rattle.rv_history.specs.Limits.{limits_of};
 ghost use Rattle.rv_reading.specs.Reads.{told};
 ghost use Rattle.rv_reading.specs.Told.{Asks, Lists, Loads};
 ghost use Rattle.rv_shape.specs.Shape.{Shape};
@@ -21,6 +20,7 @@ use rv_ends::tally::{Found, Tally};
 use rv_event::entry::Request;
 use rv_event::text::text_of_request;
 use rv_fault::{Failure, put};
+use rv_history::limits::Limits;
 use rv_reading::deed::Deed;
 use rv_reading::line::read_line;
 use rv_reading::lists::list_of;
@@ -88,12 +88,12 @@ fn line_of(alloc: Global, catalogue: &Catalogue, found: &Found) -> Result<String
 }
 
 impl Explainer {
-    /// Before the first line of a journal over a capacity. Err where memory was refused.
-    pub fn new(alloc: Global, capacity: usize) -> Result<Explainer, Failure>
-        ensures follows { IfOk result (λ explainer. Follows explainer.tally (empty (limits_of capacity)) []) }
+    /// Before the first line of a journal within limits. Err where memory was refused.
+    pub fn new(alloc: Global, limits: Limits) -> Result<Explainer, Failure>
+        ensures follows { IfOk result (λ explainer. Follows explainer.tally (empty limits) []) }
         ensures err { IfErr result IsOfCall }
     {
-        let Ok(tally) = Tally::new(alloc, capacity) else {
+        let Ok(tally) = Tally::new(alloc, limits.capacity, limits.queue) else {
             return Err(Failure::Memory);
         };
         Ok(Explainer {

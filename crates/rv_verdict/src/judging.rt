@@ -3,14 +3,14 @@
 ghost use Rattle.std.specs.Prelude.{◌≡◌, ◌≤◌, IfSome, length, true, false};
 ghost use Rattle.rv_script.specs.UnitTexts.{without_returns};
 ghost use Rattle.rv_script.specs.Whole.{most_bytes};
-ghost use Rattle.rv_history.specs.Limits.{limits_of};
 ghost use Rattle.rv_verdict.specs.Audits.{AuditsScript, AuditsText, SaysOf, SaysOfBytes, SaysOfFile, SaysOfSection};
-ghost use Rattle.rv_verdict.specs.Brought.{IsCapacity};
+ghost use Rattle.rv_verdict.specs.Brought.{AreLimits};
 
 use crate::file::{Watch, judge_file};
 use crate::said::say;
 use crate::script::{audit_over, script_of};
 use rv_fault::{Failure, What, refused};
+use rv_history::limits::Limits;
 use rv_script::unit_text::unit_text;
 use rv_script::{read_script, text_of};
 use rv_shape::shape::UnitShape;
@@ -30,15 +30,15 @@ pub struct Audited {
 fn audit_journal<W: Write>(
     alloc: Global,
     writer: &mut W,
-    capacity: usize,
+    limits: Limits,
     units: &[UnitShape],
     journal: &str,
 ) -> Result<bool, Failure>
-    requires { IsCapacity capacity }
-    ensures { SaysOf (W.contents writer.old) (W.contents writer.new) (limits_of capacity) units.now (without_returns journal.now) result }
+    requires { AreLimits limits }
+    ensures { SaysOf (W.contents writer.old) (W.contents writer.new) limits units.now (without_returns journal.now) result }
 {
     let journal = unit_text(alloc, journal)?;
-    let mut audit = audit_over(alloc, capacity)?;
+    let mut audit = audit_over(alloc, limits)?;
     let verdict = audit.judge_all(units, journal.as_str());
     say(alloc, writer, audit.catalogue(), &verdict)
 }
@@ -48,8 +48,8 @@ fn audit_text<W: Write>(alloc: Global, writer: &mut W, text: &str) -> Result<boo
     requires { length text.now ≤ most_bytes }
     ensures { AuditsText true SaysOfSection (W.contents writer.old) (W.contents writer.new) text.now result }
 {
-    let (capacity, given) = script_of(alloc, text, true)?;
-    audit_journal(alloc, writer, capacity, given.units(), given.journal())
+    let (limits, given) = script_of(alloc, text, true)?;
+    audit_journal(alloc, writer, limits, given.units(), given.journal())
 }
 
 // Judges the journal of the script that bytes are, if they are text.
@@ -88,13 +88,13 @@ fn audit_reader<J: Read, W: Write, H: Watch>(
     takes_torn: bool,
     watch: &mut H,
     writer: &mut W,
-    capacity: usize,
+    limits: Limits,
     units: &[UnitShape],
 ) -> Result<Audited, Failure>
-    requires { IsCapacity capacity }
-    ensures { SaysOfBytes (J.remaining journal.old) takes_torn (W.contents writer.old) (W.contents writer.new) (limits_of capacity) units.now result }
+    requires { AreLimits limits }
+    ensures { SaysOfBytes (J.remaining journal.old) takes_torn (W.contents writer.old) (W.contents writer.new) limits units.now result }
 {
-    let mut audit = audit_over(alloc, capacity)?;
+    let mut audit = audit_over(alloc, limits)?;
     let (verdict, torn) = judge_file(alloc, &mut audit, units, journal, takes_torn, watch)?;
     let is_legal = say(alloc, writer, audit.catalogue(), &verdict)?;
     Ok(Audited { is_legal, torn })
@@ -112,14 +112,14 @@ fn audit_file_text<J: Read, W: Write, H: Watch>(
     requires { length text.now ≤ most_bytes }
     ensures { AuditsText false (SaysOfFile (J.remaining journal.old) takes_torn) (W.contents writer.old) (W.contents writer.new) text.now result }
 {
-    let (capacity, given) = script_of(alloc, text, false)?;
+    let (limits, given) = script_of(alloc, text, false)?;
     audit_reader(
         alloc,
         journal,
         takes_torn,
         watch,
         writer,
-        capacity,
+        limits,
         given.units(),
     )
 }

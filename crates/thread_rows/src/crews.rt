@@ -2,8 +2,9 @@
 
 mod caller;
 mod changes;
-mod explained;
+mod crowd;
 mod journal;
+mod judged;
 mod notes;
 mod plant;
 mod starts;
@@ -17,14 +18,14 @@ mod waiting;
 
 use crate::hands::Hands;
 pub use caller::{Caller, call_valve};
-use explained::{Explained, explain};
 use journal::Journal;
+use judged::explained_ends;
 use rv_crew::crew::Closed;
 use std::alloc::Global;
 use std::io;
 use std::sync::Wait;
 use std::thread::Threads;
-use texts::{CALLS_BACK, TWO_TASKS};
+use texts::CALLS_BACK;
 
 // Tells of actors, each in a line.
 fn tell_each<R: Print>(rt: &R, word: &str, actors: &[u64]) -> io::Result<()> {
@@ -65,12 +66,10 @@ fn tell_storm<R: Threads + Wait + AllocGlobal + Print>(rt: &R, hands: &Hands) ->
     }
 }
 
-// Tells how many ends are explained by their texts.
-fn tell_explained<R: Print>(rt: &R, name: &str, found: Option<Explained>) -> io::Result<()> {
-    match found {
-        Some(Explained { ends, explained }) => println!(rt;
-            "{name}: {explained} of {ends} ends explained"
-        ),
+// Tells how many ends are explained.
+fn tell_explained<R: Print>(rt: &R, name: &str, ends: Option<usize>) -> io::Result<()> {
+    match ends {
+        Some(ends) => println!(rt; "{name}: legal, and {ends} ends explained"),
         None => println!(rt; "{name}: failed"),
     }
 }
@@ -80,13 +79,13 @@ fn tell_called_back<R: Threads + Wait + AllocGlobal + Print>(
     rt: &R,
     hands: &Hands,
 ) -> io::Result<()> {
-    let closed = texts::play(rt, hands, &CALLS_BACK);
-    let found = match &closed {
-        Some(closed) => explain(rt.alloc(), &CALLS_BACK, &closed.host),
+    let closed = texts::play(rt, hands, &CALLS_BACK, false);
+    let ends = match &closed {
+        Some(closed) => explained_ends(rt.alloc(), &CALLS_BACK, &closed.host),
         None => None,
     };
     tell(rt, "row_11_on_a_thread", closed)?;
-    tell_explained(rt, "row_11_on_a_thread", found)
+    tell_explained(rt, "row_11_on_a_thread", ends)
 }
 
 /// Plays all games.
@@ -98,7 +97,7 @@ pub fn play_all<R: Threads + Wait + AllocGlobal + Print>(rt: &R, hands: &Hands) 
     tell(rt, "given_up_port_is_lost", starts::given_up(rt))?;
     tell(rt, "finishes_without_a_call", starts::no_call(rt, hands))?;
     tell_called_back(rt, hands)?;
-    let found = texts::play_often(rt, hands, &TWO_TASKS);
-    tell_explained(rt, "units_on_two_threads", found)?;
+    tell_explained(rt, "units_on_two_threads", texts::play_often(rt, hands))?;
+    tell_explained(rt, "a_crowd_at_one_entry", crowd::play_often(rt, hands))?;
     tell_storm(rt, hands)
 }

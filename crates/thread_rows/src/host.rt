@@ -7,21 +7,14 @@ use rv_port::control::Control;
 use rv_port::port::Port;
 use std::alloc::Global;
 
-/// How many entries a journal has room for, where a game asks for no other room.
-pub const CAPACITY: usize = 2000;
+/// How many entries a journal has room for.
+pub const CAPACITY: usize = 65_536;
 
-// A host without units whose journal has so much room.
-fn host_with(alloc: Global, capacity: usize) -> Option<Host>
+/// A new host without units, whose queues have room for so many callers. None where there is no memory.
+pub fn new_host(alloc: Global, queue: usize) -> Option<Host>
     ensures { IfSome result (λ host. host.past ≡ []) }
 {
-    Host::new(alloc, capacity).ok()
-}
-
-/// A new host without units. None where there is no memory.
-pub fn new_host(alloc: Global) -> Option<Host>
-    ensures { IfSome result (λ host. host.past ≡ []) }
-{
-    host_with(alloc, CAPACITY)
+    Host::with_limit(alloc, CAPACITY, queue).ok()
 }
 
 // The control of a host of which nothing was asked.
@@ -31,17 +24,12 @@ fn control_of(alloc: Global, host: Host) -> Option<Control>
     Control::make(alloc, host).ok()
 }
 
-/// The control of a new host without units, whose journal has so much room.
-pub fn control_with(alloc: Global, capacity: usize) -> Option<Control> {
-    match host_with(alloc, capacity) {
+/// The control of a new host without units, whose queues have room for so many callers.
+pub fn new_control(alloc: Global, queue: usize) -> Option<Control> {
+    match new_host(alloc, queue) {
         Some(host) => control_of(alloc, host),
         None => None,
     }
-}
-
-/// The control of a new host without units.
-pub fn new_control(alloc: Global) -> Option<Control> {
-    control_with(alloc, CAPACITY)
 }
 
 /// The port of an actor of a control.

@@ -10,6 +10,7 @@ mod hands;
 mod host;
 mod ports;
 mod runs;
+mod units;
 
 use hands::{Hands, Role, act};
 use rv_crew::crew::Crew;

@@ -1,9 +1,7 @@
-//! Games of ports in threads: plays each game of the file `games` of the folder that the program is run in, and then those
+//! Games of ports in threads: plays each game of the file `games` of the folder that the program is run in, and then two
 //! that no steps can tell, and tells of each in a line what was seen. Each wait of the games of the file has a limit of
 //! turns, but for that of a port for the host.
 
-mod bodies;
-mod closing;
 mod example;
 mod flag;
 mod game;
@@ -16,7 +14,6 @@ mod shown;
 mod step;
 mod threads;
 mod told;
-mod told_revoke;
 mod work;
 
 use rv_text::open_script;
@@ -61,8 +58,7 @@ where
     let alloc = rt.alloc();
     let games = fs::read_to_string(rt, "games")?;
     play_steps(rt, alloc, games.as_str())?;
-    tell(rt, "told_revoke", told_revoke::play(rt, alloc))?;
-    tell(rt, "closing", closing::play(rt, alloc))?;
     tell(rt, "example", shown::play(rt, alloc))?;
-    tell(rt, "plain_acts", plain_acts::play(rt, alloc))
+    let acts = fs::read_to_string(rt, "acts")?;
+    tell(rt, "plain_acts", plain_acts::play(rt, alloc, acts.as_str()))
 }

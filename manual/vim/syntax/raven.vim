@@ -92,7 +92,7 @@ syntax cluster ravenAsked contains=ravenRequest,ravenCall,ravenEnd,ravenRequestE
 syntax match ravenActor contained /^\s*\zs\a\w*\.\a\w*\ze\%(\s\|$\)/ nextgroup=@ravenAsked skipwhite
 syntax match ravenActor contained /^\s*\zs\cInt_\d\ze\%(\s\|$\)/ nextgroup=@ravenAsked skipwhite
 syntax match ravenActor contained /^\s*\zs\coperator\ze\%(\s\|$\)/ nextgroup=@ravenAsked,ravenChange skipwhite
-syntax match ravenRequest contained /\%(resume\|clock\|fire\|finish\|halt\)\ze\%(\s\|$\)/ nextgroup=ravenRequestError skipwhite
+syntax match ravenRequest contained /\%(settle\|resume\|clock\|fire\|finish\|halt\)\ze\%(\s\|$\)/ nextgroup=ravenRequestError skipwhite
 syntax match ravenRequest contained /\%(delay\|tick\)\ze\s/ nextgroup=ravenLastNumber,ravenRequestError skipwhite
 syntax match ravenRequest contained /go\ze\%(\s\|$\)/ nextgroup=ravenLastNumber,ravenRequestError skipwhite
 syntax match ravenLastNumber contained /-\=\d\{1,18}\ze\%(\s\|$\)/ nextgroup=ravenRequestError skipwhite
@@ -129,7 +129,7 @@ syntax match ravenEntryNumber contained /^\d\+\ze / nextgroup=ravenEntryActor,ra
 syntax match ravenEntryActor contained /\a\w*\%(\.\a\w*\)\=\ze / nextgroup=ravenEntryRequest,ravenEntryError skipwhite
 syntax cluster ravenEntryWords contains=ravenEntryWord,ravenEntryLine,ravenEntryValue
 syntax match ravenEntryRequest contained /\S.*\ze -> / contains=@ravenEntryWords nextgroup=ravenArrow skipwhite
-syntax match ravenEntryWord contained /\<\%(load\|list\|call\|end\|resume\|delay\|clock\|fire\|tick\|halt\|finish\)\>/
+syntax match ravenEntryWord contained /\<\%(load\|list\|call\|end\|settle\|resume\|delay\|clock\|fire\|tick\|halt\|finish\)\>/
 syntax match ravenEntryWord contained /\<\%(return\|raise\|overrun\|stopped\)\>/
 syntax match ravenEntryLine contained /\<\%(allow\|deny\|from\|until\)\>/
 syntax match ravenEntryValue contained /\%(^\|\s\)\@1<=-\=\d\+\ze\%(\s\|$\)/
@@ -142,7 +142,7 @@ syntax match ravenAnswerWord contained /\<\%(line\|version\|handed\|dropped\)\>/
 " Settings, in TOML. A bare key that there isn't is an error.
 syntax cluster ravenToml contains=ravenTomlKey,ravenTomlBadKey,ravenTomlTable,ravenTomlString,ravenTomlNumber,ravenTomlComment
 syntax match ravenTomlBadKey contained /\%(^\|[{,]\)\@1<=\s*\zs[A-Za-z0-9_-]\+\ze\s*=/
-syntax match ravenTomlKey contained /\%(^\|[{,]\)\@1<=\s*\zs\%(capacity\|budget\|device\|unit\|task\|object\|operation\|priority\|calls\)\ze\s*=/
+syntax match ravenTomlKey contained /\%(^\|[{,]\)\@1<=\s*\zs\%(capacity\|budget\|queue_limit\|device\|unit\|task\|object\|operation\|priority\|calls\)\ze\s*=/
 syntax match ravenTomlBadKey contained /^\s*\zs\[.*/
 syntax match ravenTomlTable contained /^\s*\[\[\s*device\s*\]\]/
 syntax match ravenTomlNumber contained /=\@1<=\s*\zs[+-]\=\d[0-9A-Za-z_]*/

@@ -18,6 +18,8 @@ pub struct Plant {
     pub lines: usize,
     /// Whether each line has a window of ticks; that of the first is open at all ticks that the hosts come by.
     pub has_windows: bool,
+    /// How many callers may wait at an entry, 1 .. 8.
+    pub queued: usize,
 }
 
 impl Plant {
@@ -107,7 +109,7 @@ fn fill(alloc: Global, host: &mut Host, plant: Plant) -> bool {
 /// A host of so many entries with that plant, whose task of the last unit is to call operation 1 of object 1, a function.
 /// None where there is no memory.
 pub fn host(alloc: Global, capacity: usize, plant: Plant) -> Option<Host> {
-    let mut host = Host::new(alloc, capacity).ok()?;
+    let mut host = Host::with_limit(alloc, capacity, plant.queued).ok()?;
     if fill(alloc, &mut host, plant) {
         Some(host)
     } else {

@@ -25,30 +25,43 @@ const SMALL: Plant = Plant {
     units: 1,
     lines: 1,
     has_windows: false,
+    queued: 1,
+};
+
+// With queues of up to eight callers.
+const QUEUED: Plant = Plant {
+    units: 1,
+    lines: 1,
+    has_windows: false,
+    queued: 8,
 };
 
 const WIDE: Plant = Plant {
     units: MOST_UNITS,
     lines: 1,
     has_windows: false,
+    queued: 1,
 };
 
 const LISTED: Plant = Plant {
     units: 1,
     lines: MOST_LINES,
     has_windows: false,
+    queued: 1,
 };
 
 const TIMED: Plant = Plant {
     units: 1,
     lines: MOST_LINES,
     has_windows: true,
+    queued: 1,
 };
 
 const LARGE: Plant = Plant {
     units: MOST_UNITS,
     lines: MOST_LINES,
     has_windows: false,
+    queued: 1,
 };
 
 // A step on a new host of that plant: its memory is small, so that of the host before is taken again.
@@ -112,6 +125,7 @@ fn print_row<R: Clock + Wait + Print>(rt: &R, alloc: Global, round: usize) -> io
     print!(rt; "{round}")?;
     print_figure(rt, step(rt, alloc, SMALL, Way::Lent))?;
     print_figure(rt, step(rt, alloc, SMALL, Way::Moved))?;
+    print_figure(rt, step(rt, alloc, QUEUED, Way::Lent))?;
     print_figure(rt, step(rt, alloc, WIDE, Way::Lent))?;
     print_figure(rt, step(rt, alloc, LISTED, Way::Lent))?;
     print_figure(rt, step(rt, alloc, TIMED, Way::Lent))?;
@@ -129,7 +143,7 @@ pub fn print<R: Clock + Wait + Print>(
     alloc: Global,
     rounds: usize,
 ) -> io::Result<ExitCode> {
-    println!(rt; "round step moved units lines windows both touch push lock list timed")?;
+    println!(rt; "round step moved eight units lines windows both touch push lock list timed")?;
     for round in 0..rounds {
         print_row(rt, alloc, round)?;
     }

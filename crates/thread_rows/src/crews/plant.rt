@@ -1,11 +1,9 @@
-//! The hosts of the crews: a plant with a valve, whose bodies come from its text, and tasks and devices beside it.
+//! What the games of crews are played on: units, whose bodies come from their texts, and the list over them.
 
-use crate::host::{control_with, new_control};
+use crate::host::new_control;
+use crate::units::{UnitSection, load_section, load_shape, set_list};
 use row_files::texts::{NAV, PLANT};
-use rv_access::read_list;
-use rv_fault::unit_of;
 use rv_port::control::Control;
-use rv_shape::reading::read_shape;
 use std::alloc::Global;
 use std::sync::Wait;
 
@@ -15,17 +13,35 @@ pub const FIRST: u64 = 11;
 /// The number of line 4.
 pub const LINE: u64 = 5;
 
-/// How many entries the storm's journal has room for.
-pub const STORM_CAPACITY: usize = 65_536;
+/// The units of a game, the list over them, and how many callers may wait in a queue.
+#[derive(Clone, Copy, Drop)]
+pub struct Scene {
+    pub units: &'static [UnitSection],
+    pub list: &'static str,
+    pub queue: usize,
+}
 
-// Task 11.
-const DEVICE: &str = "unit Dev\ntask Main 15\n";
+const ALL: &str = "allow * * *\n";
+
+/// The plant, and two tasks beside it.
+pub const TASKS: Scene = Scene {
+    units: &[("@unit", PLANT), ("@unit", NAV)],
+    list: ALL,
+    queue: 1,
+};
 
 // A handler of line 4, whose actor has number 5.
 const ALARM: &str = "unit Alarm
 protected Latch 35
 handler Trip 4
 ";
+
+/// The plant, and two tasks and a line beside it.
+pub const TASKS_AND_A_LINE: Scene = Scene {
+    units: &[("@unit", PLANT), ("@unit", NAV), ("@shape", ALARM)],
+    list: ALL,
+    queue: 1,
+};
 
 // Tasks 11 to 18.
 const STORM: &str = "unit Storm
@@ -39,68 +55,35 @@ task Seven 15
 task Eight 15
 ";
 
-// Loads the unit of a text.
-fn load_text<R: Wait>(rt: &R, alloc: Global, control: &mut Control, text: &str) -> Option<()> {
-    let unit = unit_of(alloc, control.catalogue(), 1, text).ok()?;
-    let _ = control.load(rt, unit);
-    Some(())
-}
+/// The plant, and eight tasks beside it.
+pub const EIGHT_TASKS: Scene = Scene {
+    units: &[("@unit", PLANT), ("@shape", STORM)],
+    list: ALL,
+    queue: 1,
+};
 
-// Loads a shape.
-fn load_shape<R: Wait>(rt: &R, alloc: Global, control: &mut Control, text: &str) -> Option<()> {
-    let shape = read_shape(alloc, text).ok()?;
-    let _ = control.load_shape(rt, shape);
-    Some(())
-}
+const ALONE: Scene = Scene {
+    units: &[("@unit", PLANT)],
+    list: ALL,
+    queue: 1,
+};
 
-// Lets everybody call everything.
-fn allow_all<R: Wait>(rt: &R, alloc: Global, control: &mut Control) -> Option<()> {
-    let list = read_list(alloc, "allow * * *\n").ok()?;
-    let _ = control.set_list(rt, list);
-    Some(())
-}
+// Task 11.
+const DEVICE: &str = "unit Dev\ntask Main 15\n";
 
-/// The units of these texts, under this list.
-pub fn with_units<R: Wait>(rt: &R, alloc: Global, texts: &[&str], list: &str) -> Option<Control> {
-    let mut control = new_control(alloc)?;
-    for text in texts {
-        load_text(rt, alloc, &mut control, text)?;
+/// The units of a scene, under its list.
+pub fn with_scene<R: Wait>(rt: &R, alloc: Global, scene: &Scene) -> Option<Control> {
+    let mut control = new_control(alloc, scene.queue)?;
+    for section in scene.units {
+        load_section(rt, alloc, &mut control, section)?;
     }
-    let list = read_list(alloc, list).ok()?;
-    let _ = control.set_list(rt, list);
-    Some(control)
-}
-
-/// The plant, and two tasks beside it.
-pub fn with_tasks<R: Wait>(rt: &R, alloc: Global) -> Option<Control> {
-    let mut control = new_control(alloc)?;
-    load_text(rt, alloc, &mut control, PLANT)?;
-    load_text(rt, alloc, &mut control, NAV)?;
-    allow_all(rt, alloc, &mut control)?;
-    Some(control)
-}
-
-/// The plant, and two tasks and a line beside it.
-pub fn with_line<R: Wait>(rt: &R, alloc: Global) -> Option<Control> {
-    let mut control = with_tasks(rt, alloc)?;
-    load_shape(rt, alloc, &mut control, ALARM)?;
+    set_list(rt, alloc, &mut control, scene.list)?;
     Some(control)
 }
 
 /// The plant, and a device that is loaded behind the list.
 pub fn with_device<R: Wait>(rt: &R, alloc: Global) -> Option<Control> {
-    let mut control = new_control(alloc)?;
-    load_text(rt, alloc, &mut control, PLANT)?;
-    allow_all(rt, alloc, &mut control)?;
+    let mut control = with_scene(rt, alloc, &ALONE)?;
     load_shape(rt, alloc, &mut control, DEVICE)?;
-    Some(control)
-}
-
-/// The plant, and eight tasks beside it.
-pub fn with_storm<R: Wait>(rt: &R, alloc: Global) -> Option<Control> {
-    let mut control = control_with(alloc, STORM_CAPACITY)?;
-    load_text(rt, alloc, &mut control, PLANT)?;
-    load_shape(rt, alloc, &mut control, STORM)?;
-    allow_all(rt, alloc, &mut control)?;
     Some(control)
 }

@@ -4,7 +4,7 @@ ghost use Rattle.std.specs.Prelude.{◌≡◌};
 ghost use Rattle.rv_crew.specs.Teams.{IsOfTurn};
 
 use crate::crews::caller::{GET, call, caller_of};
-use crate::crews::plant::{FIRST, LINE, with_line, with_tasks};
+use crate::crews::plant::{FIRST, LINE, TASKS, TASKS_AND_A_LINE, with_scene};
 use crate::crews::threads::{begin, close};
 use crate::hands::{Hands, Role};
 use crate::host::port_of;
@@ -34,7 +34,7 @@ fn begin_calls(
 /// The second of two starts makes no thread: its actor is lost.
 pub fn second_fails<R: Threads + Wait + AllocGlobal>(rt: &R, hands: &Hands) -> Option<Closed> {
     let alloc = rt.alloc();
-    let mut control = with_tasks(rt, alloc)?;
+    let mut control = with_scene(rt, alloc, &TASKS)?;
     let port = port_of(&mut control, FIRST)?;
     let other = port_of(&mut control, FIRST + 1)?;
     let mut crew = Crew::refusing(alloc, 2).ok()?;
@@ -60,7 +60,7 @@ fn give_up<R: Threads + Wait + AllocGlobal>(rt: &R, port: Port, control: Control
 
 /// A port that has called, and is given up: its actor is lost, and its entries stay.
 pub fn given_up<R: Threads + Wait + AllocGlobal>(rt: &R) -> Option<Closed> {
-    let mut control = with_tasks(rt, rt.alloc())?;
+    let mut control = with_scene(rt, rt.alloc(), &TASKS)?;
     let mut port = port_of(&mut control, FIRST)?;
     let _ = call(rt, &mut port, GET);
     give_up(rt, port, control)
@@ -69,7 +69,7 @@ pub fn given_up<R: Threads + Wait + AllocGlobal>(rt: &R) -> Option<Closed> {
 /// Two jobs that finish without a call: that of a task leaves its finish alone, that of a line leaves nothing.
 pub fn no_call<R: Threads + Wait + AllocGlobal>(rt: &R, hands: &Hands) -> Option<Closed> {
     let alloc = rt.alloc();
-    let mut control = with_line(rt, alloc)?;
+    let mut control = with_scene(rt, alloc, &TASKS_AND_A_LINE)?;
     let port = port_of(&mut control, FIRST)?;
     let line = port_of(&mut control, LINE)?;
     let mut crew = Crew::new(alloc);

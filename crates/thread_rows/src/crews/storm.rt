@@ -6,7 +6,8 @@ ghost use Rattle.rv_crew.specs.Teams.{IsOfTurn};
 use crate::crews::caller::{ADD, GET, caller_of};
 use crate::crews::changes::{append, remove};
 use crate::crews::journal::Journal;
-use crate::crews::plant::{FIRST, STORM_CAPACITY, with_storm};
+use crate::crews::judged::explained_ends;
+use crate::crews::plant::{EIGHT_TASKS, FIRST, with_scene};
 use crate::crews::threads::{begin, close};
 use crate::crews::waiting::receive;
 use crate::hands::{Hands, Role};
@@ -14,10 +15,7 @@ use crate::host::port_of;
 use crate::ports::journal::has_replies;
 use crossbeam_channel::Receiver;
 use rv_access::read_line;
-use rv_audit::journal::audit;
-use rv_audit::verdict::Verdict;
 use rv_crew::crew::{Closed, Crew};
-use rv_host::host::Host;
 use rv_port::control::Control;
 use rv_port::reached::Reached;
 use std::alloc::Global;
@@ -130,22 +128,13 @@ fn replies_all<R: Wait>(
 /// Lets the storm blow. None where there is no memory or no thread, or a reply doesn't come: then threads may be left.
 pub fn blow<R: Threads + Wait + AllocGlobal>(rt: &R, hands: &Hands) -> Option<Storm> {
     let alloc = rt.alloc();
-    let mut control = with_storm(rt, alloc)?;
+    let mut control = with_scene(rt, alloc, &EIGHT_TASKS)?;
     let mut crew = Crew::new(alloc);
     let all = begin_all(hands, alloc, &mut control, &mut crew)?;
     change_all(rt, alloc, &mut control)?;
     let replies = replies_all(rt, alloc, &all)?;
     let closed = close(rt, crew, control)?;
     Some(Storm { replies, closed })
-}
-
-// Whether a journal is legal, with all its entries.
-fn is_legal(alloc: Global, host: &Host, journal: &Journal) -> bool {
-    let units = host.catalogue().shapes();
-    match audit(alloc, STORM_CAPACITY, units, journal.text.as_str()) {
-        Verdict::Legal(entries) => entries == host.used(),
-        _ => false,
-    }
 }
 
 // Whether the replies of each port stand in the journal, in its order.
@@ -164,8 +153,10 @@ fn are_there(journal: &Journal, replies: &[Vec<Reached>]) -> bool {
 pub fn seen(alloc: Global, storm: &Storm) -> Option<String> {
     let host = &storm.closed.host;
     let journal = Journal::of(alloc, host).ok()?;
-    let legal = is_legal(alloc, host, &journal);
+    let legal = explained_ends(alloc, &EIGHT_TASKS, host).is_some();
     let there = are_there(&journal, &storm.replies);
     let back = storm.closed.finished.len();
-    format!(in alloc; "{back} ports came back; legal: {legal}; their replies in it: {there}").ok()
+    format!(in alloc;
+        "{back} ports came back; legal and explained: {legal}; their replies in it: {there}"
+    ).ok()
 }

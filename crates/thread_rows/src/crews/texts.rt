@@ -3,8 +3,8 @@
 ghost use Rattle.std.specs.Prelude.{◌≡◌, ◌<◌};
 ghost use Rattle.rv_crew.specs.Teams.{IsOfTurn};
 
-use crate::crews::explained::{Explained, explain};
-use crate::crews::plant::{FIRST, with_units};
+use crate::crews::judged::explained_ends;
+use crate::crews::plant::{FIRST, Scene, with_scene};
 use crate::crews::threads::{begin, close};
 use crate::hands::{Hands, Role};
 use crate::host::port_of;
@@ -18,16 +18,8 @@ use std::thread::Threads;
 // How many requests of its own a task may make.
 const BUDGET: u32 = 1_000;
 
-// How often two tasks are run.
-const RUNS: u32 = 100;
-
-/// The units of a game, the list over them, and how many tasks they have.
-#[derive(Clone, Copy, Drop)]
-pub struct Scene {
-    pub units: &'static [&'static str],
-    pub list: &'static str,
-    tasks: u64,
-}
+/// How often a scene is played that is played often.
+pub const TIMES: u32 = 100;
 
 // A procedure calls another object, whose body's call back is refused.
 const CALLED_BACK: &str = "package P is
@@ -62,21 +54,21 @@ end;
 
 /// One task, whose call of a procedure calls on.
 pub const CALLS_BACK: Scene = Scene {
-    units: &[CALLED_BACK],
+    units: &[("@unit", CALLED_BACK)],
     list: "allow P * *\n",
-    tasks: 1,
+    queue: 1,
 };
 
 /// Two tasks, one of which waits for what the other does.
 pub const TWO_TASKS: Scene = Scene {
-    units: &[PLANT, NAV],
+    units: &[("@unit", PLANT), ("@unit", NAV)],
     list: "allow Nav Plant.Valve *\n",
-    tasks: 2,
+    queue: 1,
 };
 
-// Starts the thread of a task.
-fn begin_text(hands: &Hands, control: &mut Control, crew: &mut Crew, number: u64) -> Option<()>
-    requires number { number < 2 }
+/// Starts the thread of a task by its text.
+pub fn begin_text(hands: &Hands, control: &mut Control, crew: &mut Crew, number: u64) -> Option<()>
+    requires number { number < 20 }
     requires turn { IsOfTurn control.old.turn crew.old }
     ensures { IsOfTurn control.new.turn crew.new }
 {
@@ -87,33 +79,43 @@ fn begin_text(hands: &Hands, control: &mut Control, crew: &mut Crew, number: u64
     None
 }
 
-/// Runs the tasks of a scene, each on a thread of its own, to their ends. None where there is no memory or no thread: then
-/// threads may be left.
+// Runs one task of a scene, and the next if there are two, each on a thread of its own.
+fn begin_tasks(hands: &Hands, control: &mut Control, crew: &mut Crew, are_two: bool) -> Option<()>
+    requires { IsOfTurn control.old.turn crew.old }
+    ensures { IsOfTurn control.new.turn crew.new }
+{
+    begin_text(hands, control, crew, 0)?;
+    if are_two {
+        return begin_text(hands, control, crew, 1);
+    }
+    Some(())
+}
+
+/// Runs a task of a scene, or two, to their ends. None where there is no memory or no thread: then threads may be left.
 pub fn play<R: Threads + Wait + AllocGlobal>(
     rt: &R,
     hands: &Hands,
     scene: &Scene,
+    are_two: bool,
 ) -> Option<Closed> {
-    let alloc = rt.alloc();
-    let mut control = with_units(rt, alloc, scene.units, scene.list)?;
-    let mut crew = Crew::new(alloc);
-    begin_text(hands, &mut control, &mut crew, 0)?;
-    if scene.tasks > 1 {
-        begin_text(hands, &mut control, &mut crew, 1)?;
-    }
+    let mut control = with_scene(rt, rt.alloc(), scene)?;
+    let mut crew = Crew::new(rt.alloc());
+    begin_tasks(hands, &mut control, &mut crew, are_two)?;
     close(rt, crew, control)
 }
 
-/// Plays a scene again and again. Gives how many ends were recorded, and how many of them are explained. None as above.
-pub fn play_often<R: Threads + Wait + AllocGlobal>(
-    rt: &R,
-    hands: &Hands,
-    scene: &Scene,
-) -> Option<Explained> {
-    let mut all = Explained::new();
-    for _ in 0..RUNS {
-        let closed = play(rt, hands, scene)?;
-        all.add(explain(rt.alloc(), scene, &closed.host)?);
+// How many ends two tasks leave that run to their ends, each explained.
+fn play_two<R: Threads + Wait + AllocGlobal>(rt: &R, hands: &Hands) -> Option<usize> {
+    let closed = play(rt, hands, &TWO_TASKS, true)?;
+    explained_ends(rt.alloc(), &TWO_TASKS, &closed.host)
+}
+
+/// Plays two tasks again and again, and counts the ends that they leave. None where a journal isn't legal, or an end not
+/// explained.
+pub fn play_often<R: Threads + Wait + AllocGlobal>(rt: &R, hands: &Hands) -> Option<usize> {
+    let mut ends = 0usize;
+    for _ in 0..TIMES {
+        ends = ends.saturating_add(play_two(rt, hands)?);
     }
-    Some(all)
+    Some(ends)
 }

@@ -7,7 +7,7 @@ ghost use Rattle.thread_rows.specs.Hearing.{Hears, Tells};
 use crate::crews::caller::{Caller, GET, call_all, caller_of};
 use crate::crews::changes::remove;
 use crate::crews::notes::{Hearer, Teller, ends};
-use crate::crews::plant::{FIRST, with_tasks};
+use crate::crews::plant::{FIRST, TASKS, with_scene};
 use crate::crews::threads::{begin, close};
 use crate::crews::waiting::receive;
 use crate::hands::{Hands, Role};
@@ -115,7 +115,7 @@ fn read<R: Threads + Wait + AllocGlobal>(
 
 /// Plays the game. None where it isn't as it should be: then threads may be left.
 pub fn play<R: Threads + Wait + AllocGlobal>(rt: &R, hands: &Hands) -> Option<Closed> {
-    let mut control = with_tasks(rt, rt.alloc())?;
+    let mut control = with_scene(rt, rt.alloc(), &TASKS)?;
     let port = port_of(&mut control, FIRST)?;
     read(rt, hands, port, control)
 }

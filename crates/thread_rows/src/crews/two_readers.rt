@@ -3,7 +3,7 @@
 ghost use Rattle.std.specs.Prelude.{◌≡◌};
 
 use crate::crews::caller::{GET, VALVE, call};
-use crate::crews::plant::{FIRST, with_tasks};
+use crate::crews::plant::{FIRST, TASKS, with_scene};
 use crate::crews::threads::{begin, close};
 use crate::crews::waiting::receive;
 use crate::hands::{Hands, Role};
@@ -130,7 +130,7 @@ fn read<R: Threads + Wait + AllocGlobal>(
 
 /// Plays the game. None where it isn't as it should be: then threads may be left.
 pub fn play<R: Threads + Wait + AllocGlobal>(rt: &R, hands: &Hands) -> Option<Closed> {
-    let mut control = with_tasks(rt, rt.alloc())?;
+    let mut control = with_scene(rt, rt.alloc(), &TASKS)?;
     let port = port_of(&mut control, FIRST)?;
     let other = port_of(&mut control, FIRST + 1)?;
     read(rt, hands, (port, other), control)

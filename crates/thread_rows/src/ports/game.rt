@@ -117,6 +117,6 @@ fn play_on<R: Threads + Wait + Sync>(
 /// Plays a game, and tells in one line what its actors were told, in the order in which they come up. None where there is
 /// no memory.
 pub fn play<R: Threads + Wait + Sync>(rt: &R, alloc: Global, game: &str) -> Option<String> {
-    let mut control = new_control(alloc)?;
+    let mut control = new_control(alloc, 1)?;
     play_on(rt, alloc, &mut control, game)
 }

@@ -2,22 +2,106 @@
 ghost use Rattle.std.specs.Prelude.{◌≡◌, true, []};
 
 mod counted_host;
-mod rounds;
 
+use crate::host::new_host;
 use counted_host::{CountedHost, Letter};
-use rounds::{A_ROUND, all_requests, host};
+use rv_access::read_list;
 use rv_event::entry::{Answer, Request};
 use rv_history::command::Command;
 use rv_host::answers::Answers;
+use rv_host::host::Host;
+use rv_shape::catalogue::Catalogue;
+use rv_shape::reading::read_shape;
+use rv_step::lookup::{actor_of, request_of};
+use rv_step::reading::step_of;
+use rv_step::step::Step;
 use rv_turn::{Pass, Turn};
 use std::alloc::{AllocError, Global};
 use std::sync::Wait;
+
+const UNIT: &str = "unit Kinds
+task Pilot 15
+task Waiter 16
+task Other 14
+task High 25
+suspension Go
+protected Valve 20
+scalar 0 1 0
+scalar 0 9999 4
+entry Wait 1
+procedure Open
+function Get 0 9999
+protected Alarm 35
+scalar 0 9999 0
+handler Ring 3
+procedure Note in 0 100
+";
+
+const LIST: &str = "allow * * *
+deny Kinds Kinds.Alarm Note
+";
+
+// How often the requests of a round are made.
+const ROUNDS: usize = 33;
+
+// How many requests a round has.
+const A_ROUND: usize = 30;
 
 // How many acts each pass may make.
 const ACTS: u64 = 1000;
 
 // The actor of the highest number.
 const LAST: u64 = 14;
+
+// A new host with the unit and the list.
+fn host(alloc: Global) -> Option<Host> {
+    let shape = read_shape(alloc, UNIT).ok()?;
+    let list = read_list(alloc, LIST).ok()?;
+    let mut host = new_host(alloc, 1)?;
+    let loaded = host.load(&shape);
+    let listed = host.set_list(&list);
+    match (loaded, listed) {
+        (Answer::Accepted(_), Answer::Accepted(_)) => Some(host),
+        _ => None,
+    }
+}
+
+// The request of a step.
+fn command_of(alloc: Global, catalogue: &Catalogue, line: &str) -> Option<Command> {
+    let Step { asker, asked } = step_of(alloc, line).ok()?;
+    let actor = actor_of(alloc, catalogue, &asker).ok()?;
+    let request = request_of(alloc, catalogue, &asked).ok()?;
+    match (actor, request) {
+        (Some(actor), Some(request)) => Some(Command::Ask(actor, request)),
+        _ => None,
+    }
+}
+
+// Adds the requests of steps.
+fn add_all(
+    alloc: Global,
+    catalogue: &Catalogue,
+    steps: &str,
+    requests: &mut Vec<Command>,
+) -> Option<()> {
+    for line in steps.lines() {
+        requests.push(command_of(alloc, catalogue, line)?).ok()?;
+    }
+    Some(())
+}
+
+// All requests of a text, in order.
+fn all_requests(alloc: Global, text: &str) -> Option<Vec<Command>> {
+    let host = host(alloc)?;
+    let (_front, behind) = text.split_once("@round\n")?;
+    let (round, last) = behind.split_once("@last\n")?;
+    let mut requests = Vec::new(alloc);
+    for _ in 0..ROUNDS {
+        add_all(alloc, host.catalogue(), round, &mut requests)?;
+    }
+    add_all(alloc, host.catalogue(), last, &mut requests)?;
+    Some(requests)
+}
 
 /// The passes of all actors: that of the operator, and those of actors 1 to 14.
 #[derive(Drop)]
@@ -181,7 +265,7 @@ fn make_both<R: Wait>(rt: &R, alloc: Global, requests: &[Command]) -> Option<Str
 
 /// Requests of the operator, of lines and of tasks, each through the pass of its actor, get the answers that one run of all
 /// of them gets on an equal host.
-pub fn play<R: Wait>(rt: &R, alloc: Global) -> Option<String> {
-    let requests = all_requests(alloc)?;
+pub fn play<R: Wait>(rt: &R, alloc: Global, text: &str) -> Option<String> {
+    let requests = all_requests(alloc, text)?;
     make_both(rt, alloc, &requests)
 }

@@ -41,7 +41,7 @@ fn have(entries: &[Entry], answers: &[Answer]) -> bool {
 
 // Runs the commands on a new host, and compares.
 fn is_run(alloc: Global, entries: &[Entry], commands: &[Command]) -> Option<bool> {
-    let mut host = new_host(alloc)?;
+    let mut host = new_host(alloc, 1)?;
     let mut answers = Answers::new(alloc);
     host.run(commands, &mut answers).ok()?;
     Some(have(entries, answers.as_slice()))

@@ -19,7 +19,7 @@ fn count<R: Threads + Wait + Sync>(
 
 /// The same, on a new host and in words.
 pub fn play<R: Threads + Wait + Sync>(rt: &R, alloc: Global) -> Option<String> {
-    let mut control = new_control(alloc)?;
+    let mut control = new_control(alloc, 1)?;
     let counts = count(rt, alloc, &mut control)?;
     format!(in alloc; " refused of ten calls each: {counts:?}").ok()
 }

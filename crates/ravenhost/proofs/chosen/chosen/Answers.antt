@@ -13,7 +13,7 @@ pub returns-in-Some-clause-line : goal.returns-in-Some-clause-line
 returns-in-Some-clause-line c name choice is =
     let matches = (c.in-Ok-try_get_matches_from.ensures.matches (ap is_simple c.in-Ok.ensures ∙ simple)).1 in
     let found = c.in-Some.ensures.found in
-    (line_named name choice _ (subcommand_rows_of c.in-Ok-try_get_matches_from.matches) (matches ∙ ap₂ subcommand_of c.in-Ok.ensures is) found.0 found.1 found.2, tt)
+    (line_named name choice _ (subcommand_rows_of c.in-Ok-try_get_matches_from.matches) (matches ∙ ap₂ subcommand_of c.in-Ok.ensures is) found.0 found.1 found.2.0, tt)
 
 pub returns-clause-line : goal.returns-clause-line
 returns-clause-line c name choice is =

@@ -30,6 +30,12 @@ returns-in-Some-clause-goes g c act is e =
     paused_heard _ (g.W.Write.contents c.loop-done.writer) _ _ (playing c.loop-done.player) _ act c.args.actor c.loop-done.done c.args.count c.args.next.now c.asks_beside-request.result c.in-Some.answer
     c.loop-done.invariant c.loop-done-test.true c.asks_beside-request.ensures c.in_ok-answer.ensures.does fire (sym c.in_ok-answer.ensures.heard ∙ c.in-Some.is) is e
 
+pub returns-in-Some-clause-settles : goal.returns-in-Some-clause-settles
+returns-in-Some-clause-settles g c =
+    let fire : asks_fire c.asks_beside-request.result ≡ false = sym c.asks_fire.ensures ∙ c.if-asks_fire.false in
+    settles c.asks_beside-request.result (due_answer (playing c.loop-done.player).stage (asked_command c.args.actor c.asks_beside-request.result)) c.in-Some.answer fire
+    (sym c.in_ok-answer.ensures.heard ∙ c.in-Some.is)
+
 pub returns-clause-goes : goal.returns-clause-goes
 returns-clause-goes g c act is e =
     let all : c.loop-done.done ≡ c.args.count = omega arith in

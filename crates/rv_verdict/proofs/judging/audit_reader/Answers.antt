@@ -1,7 +1,6 @@
-use Rattle.std.proofs.Common.{List, refl, sym, subst}
+use Rattle.std.proofs.Common.{List, sym, subst}
 use Rattle.std.proofs.lemmas.Result.{err_from_is_err_and}
 use Rattle.rv_shape.specs.Shape.{Shape}
-use Rattle.rv_history.specs.Limits.{limits_of}
 use Rattle.rv_verdict.specs.Judging.{Found, IsOfCall}
 use Rattle.rv_verdict.proofs.Lines.{at_first}
 use Rattle.rv_verdict.proofs.Telling.{file_broken, file_fails, file_said}
@@ -10,12 +9,12 @@ use Rattle.rv_verdict.proofs.judging.audit_reader.Goals as goal
 pub returns-in_err-audit : goal.returns-in_err-audit
 returns-in_err-audit g c =
     let p = err_from_is_err_and c.from_residual.result c.from_residual.ensures.1 in
-    rw (p.1, p.2) (file_fails (g.J.Read.remaining c.args.journal.now) c.args.takes_torn (g.W.Write.contents c.args.writer.now) (limits_of c.args.capacity) c.args.units.now c.in_err-audit.field-0.0 (subst IsOfCall (sym c.in_err-audit.ensures.err) tt))
+    rw (p.1, p.2) (file_fails (g.J.Read.remaining c.args.journal.now) c.args.takes_torn (g.W.Write.contents c.args.writer.now) c.args.limits c.args.units.now c.in_err-audit.field-0.0 (subst IsOfCall (sym c.in_err-audit.ensures.err) tt))
 
 pub returns-in_err-verdict : goal.returns-in_err-verdict
 returns-in_err-verdict g c =
     let p = err_from_is_err_and c.from_residual-in_err-verdict.result c.from_residual-in_err-verdict.ensures.1 in
-    rw (p.1, p.2) (file_fails (g.J.Read.remaining c.args.journal.now) c.args.takes_torn (g.W.Write.contents c.args.writer.now) (limits_of c.args.capacity) c.args.units.now c.in_err-verdict.field-0.0 c.in_err-verdict.ensures.err)
+    rw (p.1, p.2) (file_fails (g.J.Read.remaining c.args.journal.now) c.args.takes_torn (g.W.Write.contents c.args.writer.now) c.args.limits c.args.units.now c.in_err-verdict.field-0.0 c.in_err-verdict.ensures.err)
 
 pub returns-in_err-is_legal : goal.returns-in_err-is_legal
 returns-in_err-is_legal g c =
@@ -23,15 +22,15 @@ returns-in_err-is_legal g c =
     let old = g.W.Write.contents c.args.writer.now in
     let new = g.W.Write.contents c.say.new.writer in
     let journal = g.J.Read.remaining c.args.journal.now in
-    let found = c.in_ok-verdict.ensures.found (limits_of c.args.capacity) (at_first (limits_of c.args.capacity) c.args.units.now c.args.takes_torn journal c.in_ok-audit.audit c.requires refl c.in_ok-audit.ensures.ok) in
-    let named = subst (λ (shapes : List Shape). Found (limits_of c.args.capacity) c.args.units.now c.args.takes_torn journal shapes (c.in_ok-verdict.verdict, c.in_ok-verdict.torn)) (sym c.catalogue.ensures) found in
-    rw (p.1, p.2) (file_broken journal c.args.takes_torn old new (limits_of c.args.capacity) c.args.units.now c.catalogue.result.now c.in_ok-verdict.verdict c.in_ok-verdict.torn c.in_err-is_legal.field-0.0 named c.in_err-is_legal.ensures)
+    let found = c.in_ok-verdict.ensures.found c.args.limits (at_first c.args.limits c.args.units.now c.args.takes_torn journal c.in_ok-audit.audit c.requires c.in_ok-audit.ensures.ok) in
+    let named = subst (λ (shapes : List Shape). Found c.args.limits c.args.units.now c.args.takes_torn journal shapes (c.in_ok-verdict.verdict, c.in_ok-verdict.torn)) (sym c.catalogue.ensures) found in
+    rw (p.1, p.2) (file_broken journal c.args.takes_torn old new c.args.limits c.args.units.now c.catalogue.result.now c.in_ok-verdict.verdict c.in_ok-verdict.torn c.in_err-is_legal.field-0.0 named c.in_err-is_legal.ensures)
 
 pub returns : goal.returns
 returns g c =
     let old = g.W.Write.contents c.args.writer.now in
     let new = g.W.Write.contents c.say.new.writer in
     let journal = g.J.Read.remaining c.args.journal.now in
-    let found = c.in_ok-verdict.ensures.found (limits_of c.args.capacity) (at_first (limits_of c.args.capacity) c.args.units.now c.args.takes_torn journal c.in_ok-audit.audit c.requires refl c.in_ok-audit.ensures.ok) in
-    let named = subst (λ (shapes : List Shape). Found (limits_of c.args.capacity) c.args.units.now c.args.takes_torn journal shapes (c.in_ok-verdict.verdict, c.in_ok-verdict.torn)) (sym c.catalogue.ensures) found in
-    file_said journal c.args.takes_torn old new (limits_of c.args.capacity) c.args.units.now c.catalogue.result.now c.in_ok-verdict.verdict c.in_ok-verdict.torn c.in_ok-is_legal.is_legal named c.in_ok-is_legal.ensures
+    let found = c.in_ok-verdict.ensures.found c.args.limits (at_first c.args.limits c.args.units.now c.args.takes_torn journal c.in_ok-audit.audit c.requires c.in_ok-audit.ensures.ok) in
+    let named = subst (λ (shapes : List Shape). Found c.args.limits c.args.units.now c.args.takes_torn journal shapes (c.in_ok-verdict.verdict, c.in_ok-verdict.torn)) (sym c.catalogue.ensures) found in
+    file_said journal c.args.takes_torn old new c.args.limits c.args.units.now c.catalogue.result.now c.in_ok-verdict.verdict c.in_ok-verdict.torn c.in_ok-is_legal.is_legal named c.in_ok-is_legal.ensures

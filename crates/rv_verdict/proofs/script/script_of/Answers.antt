@@ -1,5 +1,6 @@
-use Rattle.std.proofs.Common.{◌∙◌, ℕ, List, Ok, ap, subst, sym}
+use Rattle.std.proofs.Common.{◌∙◌, List, Ok, ap, subst, sym}
 use Rattle.std.proofs.lemmas.Result.{err_from_is_err_and}
+use Rattle.rv_history.specs.declared.limits.Limits.{Limits}
 use Rattle.rv_settings.specs.Settings.{DeviceText}
 use Rattle.rv_verdict.specs.Given.{GivenText, with_devices}
 use Rattle.rv_verdict.specs.Brought.{GivesScript}
@@ -27,5 +28,6 @@ returns-in_err-add_devices c =
 pub returns : goal.returns
 returns c =
     let with = λ (ds : List DeviceText). let g : GivenText = record { units = with_devices c.in_ok-given.given.units ds; fitting = c.in_ok-given.given.fitting; journal = c.in_ok-given.given.journal } in g in
-    subst (λ (n : ℕ). GivesScript c.args.has_journal c.args.text.now (Ok (n, c.add_devices.new.self))) (sym c.capacity.ensures)
+    let limits = c.limits_of-limits.ensures in
+    subst (λ (l : Limits). GivesScript c.args.has_journal c.args.text.now (Ok (l, c.add_devices.new.self))) (sym limits)
     (all_brought c.args.has_journal c.args.text.now _ c.in_ok-settings.settings c.in_ok-given.given c.add_devices.new.self c.in-Ok.ensures.ok c.in_ok-settings.ensures c.in_ok-given.ensures (c.in_ok-add_devices.ensures.ok ∙ ap with c.devices.ensures))
