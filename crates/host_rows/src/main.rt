@@ -1,12 +1,13 @@
 //! Compares the host that keeps fields with one that looks back over its entries at each request, over commands
 //! drawn from fixed seeds: each answer, and at the end each entry. It ends with status 1 at the first difference,
 //! which it prints, or where a kind of answer never came, and with status 3 where memory is refused. It also prints
-//! pages of a long journal.
+//! pages of a long journal, and which limits of queues a host takes.
 #![tactic(auto)]
 
 mod compared;
 mod counts;
 mod drawn;
+mod limits;
 mod pages;
 mod scan;
 mod told;
@@ -148,6 +149,7 @@ fn compare<R: Print>(rt: &R, alloc: Global) -> io::Result<bool> {
     };
     counts.print(rt)?;
     pages::print(rt, alloc)?;
+    limits::print(rt, alloc)?;
     if let Some(kind) = counts.missing() {
         println!(rt; "never answered: {kind}")?;
         return Ok(false);
