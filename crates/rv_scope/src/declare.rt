@@ -26,7 +26,7 @@ pub fn declare_all(
 }
 
 /// What the identifiers of one declaration denote.
-#[derive(Clone, Copy, Drop)]
+#[derive(Clone, Copy)]
 pub enum Form {
     /// Constants and named numbers (3.3.1, 3.3.2).
     Constant,

@@ -3,7 +3,7 @@
 use crate::predefined::{Library, Predefined};
 
 /// What an operation of a protected unit is (9.4).
-#[derive(Clone, Copy, PartialEq, Eq, Debug, Drop)]
+#[derive(Clone, Copy)]
 pub enum OperationKind {
     Function,
     /// A procedure, which may handle a line (C.3.1).
@@ -12,7 +12,7 @@ pub enum OperationKind {
 }
 
 /// A declaration. One of the text is told by the place of the identifier that it declares, which no other has.
-#[derive(Clone, Copy, PartialEq, Eq, Debug, Drop)]
+#[derive(Clone, Copy)]
 pub enum Declared {
     /// A subtype (3.2.2).
     Subtype(usize),

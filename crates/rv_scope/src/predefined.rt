@@ -6,7 +6,7 @@ ghost use Rattle.rv_scope.specs.Predefined.{is_among as is_among_libraries, libr
 use rv_text::is_same_name;
 
 /// A library package.
-#[derive(Clone, Copy, PartialEq, Eq, Debug, Drop)]
+#[derive(Clone, Copy)]
 pub enum Library {
     /// Standard (A.1).
     Standard,
@@ -27,7 +27,7 @@ pub enum Library {
 }
 
 /// What a library package declares.
-#[derive(Clone, Copy, PartialEq, Eq, Debug, Drop)]
+#[derive(Clone, Copy)]
 pub enum Predefined {
     /// Standard.Integer (3.5.4).
     Integer,

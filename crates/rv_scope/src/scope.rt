@@ -27,7 +27,6 @@ fn completed_place(found: Option<Option<Declared>>) -> Option<usize>
 }
 
 /// What is declared at a point of a text.
-#[derive(Drop)]
 pub struct Scope<'a> {
     alloc: Global,
     // The name of the text's unit.
@@ -47,6 +46,25 @@ pub struct Scope<'a> {
     libraries: Vec<Library>,
     used: Vec<Library>,
     catalogue: &'a Catalogue,
+}
+
+impl Drop for Scope<'_> {
+    // A function of its own: a derived one is written out wherever a value is let go, and proved there.
+    fn drop(self) {
+        let Scope {
+            alloc: _,
+            unit: _,
+            around: _,
+            innermost: _,
+            current: _,
+            body: _,
+            shown: _,
+            units: _,
+            libraries: _,
+            used: _,
+            catalogue: _,
+        } = self;
+    }
 }
 
 impl<'a> Model for Scope<'a> {

@@ -7,7 +7,7 @@ use crate::declared::{Declared, OperationKind};
 use crate::predefined::Predefined;
 
 /// What a name is wanted for.
-#[derive(Clone, Copy, PartialEq, Eq, Debug, Drop)]
+#[derive(Clone, Copy)]
 pub enum Wanted {
     /// A `with` (10.1.2).
     With,
@@ -48,7 +48,7 @@ pub enum Wanted {
 }
 
 /// What sort of thing a declaration declares.
-#[derive(Clone, Copy, PartialEq, Eq, Debug, Drop)]
+#[derive(Clone, Copy)]
 pub enum Sort {
     Subtype,
     SuspensionType,
