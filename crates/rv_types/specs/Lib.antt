@@ -11,3 +11,4 @@ pub mod Selectors
 pub mod StatementCode
 pub mod Blocks
 pub mod BodiesOf
+pub mod BodyAt

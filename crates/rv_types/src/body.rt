@@ -5,8 +5,11 @@ ghost use Rattle.std.specs.Option.{option_map};
 ghost use Rattle.rv_tree.specs.NameView.{identifier_view, identifiers_view};
 ghost use Rattle.rv_tree.specs.DeclarationView.{parameter_view};
 ghost use Rattle.rv_tree.specs.BodyView.{block_view, operation_body_view, task_body_view};
+ghost use Rattle.rv_scope.specs.Scope.{OnlyDeclares, in_body};
+ghost use Rattle.rv_scope.specs.DeclarationUses.{with_parameters};
 ghost use Rattle.rv_code.specs.BodyView.{body_view};
 ghost use Rattle.rv_types.specs.BodiesOf.{name_taken, names_taken, parameters_taken, all_taken as all_are_taken, result_of as range_of_result, body_of, operation_code, body_name as name_of_body, body_named as body_of_name, operations_onto, task_code};
+ghost use Rattle.rv_types.specs.BodyAt.{body_at as code_at};
 
 use crate::block::block;
 use crate::point::Point;
@@ -92,6 +95,40 @@ fn result_range(kind: Kind) -> Option<Range>
     }
 }
 
+// The region of the body of this identifier begins, in which its parameters are declared. What it gives is for `leave_body`.
+fn enter(
+    name: &Identifier,
+    parameters: &Vec<Specification>,
+    scope: &mut Scope,
+) -> Result<Option<usize>, Refused>
+    ensures around { IfOk result (λ around. around ≡ scope.old.body) }
+    ensures scope { OnOk result (scope.new ≡ with_parameters (map parameter_view parameters.now.items) (in_body (identifier_view name.now) scope.old)) }
+    ensures only { OnOk result (OnlyDeclares (in_body (identifier_view name.now) scope.old) scope.new) }
+{
+    let around = scope.enter_body(name)?;
+    declare_parameters(parameters, scope)?;
+    Ok(around)
+}
+
+// A block with parameters, at a point where these are declared.
+fn body_at(
+    alloc: Global,
+    operation: &Operation,
+    name: &Identifier,
+    parameters: &Vec<Specification>,
+    part: &Block,
+    point: &mut Point,
+) -> Result<Body, Refused>
+    ensures code { IfOk result (λ b. code_at operation.now (map parameter_view parameters.now.items) (block_view part.now) point.old ≡ Some (body_view b)) }
+    ensures only { OnOk result (OnlyDeclares point.old.scope point.new.scope) }
+{
+    take_parameters(operation.parameters(), parameters, point)?;
+    all_taken(operation.parameters(), name.at, point)?;
+    let own = copied(alloc, operation.parameters())?;
+    let is_function = result_range(operation.kind()).is_some();
+    block(alloc, own, is_function, part, point)
+}
+
 // A block with parameters, as the body of an operation of this identifier, of an object.
 fn block_body<'a>(
     alloc: Global,
@@ -107,14 +144,10 @@ fn block_body<'a>(
     ensures scope { IfOk result (λ r. r.1 ≡ around.entry) }
 {
     let mut scope = around;
-    let outer = scope.enter_body(name)?;
-    declare_parameters(parameters, &mut scope)?;
+    let outer = enter(name, parameters, &mut scope)?;
     let result_part = result_range(operation.kind());
     let mut point = Point::new(alloc, setting, scope, object, result_part);
-    take_parameters(operation.parameters(), parameters, &mut point)?;
-    all_taken(operation.parameters(), name.at, &point)?;
-    let own = copied(alloc, operation.parameters())?;
-    let body = block(alloc, own, result_part.is_some(), part, &mut point)?;
+    let body = body_at(alloc, operation, name, parameters, part, &mut point)?;
     let mut scope = point.into_scope();
     scope.leave_body(outer);
     Ok((body, scope))

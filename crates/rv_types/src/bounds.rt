@@ -1,12 +1,14 @@
 //! What loops go over.
 
-ghost use Rattle.std.specs.Prelude.{◌≡◌, IfOk, Some, true};
+ghost use Rattle.std.specs.Prelude.{◌≡◌, IfOk, Some, map, true};
 ghost use Rattle.rv_tree.specs.NameView.{name_view};
 ghost use Rattle.rv_tree.specs.ExpressionView.{expression_view, range_view};
 ghost use Rattle.rv_tree.specs.StatementView.{bounds_view as tree_bounds_view};
 ghost use Rattle.rv_static.specs.Meanings.{range_in};
 ghost use Rattle.rv_static.specs.Ranges.{is_discrete as type_is_discrete, bounded as bounded_range};
+ghost use Rattle.rv_code.specs.Statements.{for_loop, statements_of};
 ghost use Rattle.rv_code.specs.ExpressionView.{expression_view as code_view};
+ghost use Rattle.rv_code.specs.StatementView.{statement_view};
 ghost use Rattle.rv_types.specs.Points.{static_meaning};
 ghost use Rattle.rv_types.specs.Typed.{literal_in as literal_of, typed};
 ghost use Rattle.rv_types.specs.Loops.{parameter_range as range_of_parameter, between as bounds_of_codes, discrete as discrete_range, subtype_named as subtype_of_expression, all_values as values_of_subtype, bounds_between as bounds_in_range, bounds_of, two_bounds_of, constrained_bounds_of, whole_bounds_of};
@@ -14,10 +16,11 @@ ghost use Rattle.rv_types.specs.LoopView.{bounds_view};
 ghost use Rattle.rv_types.specs.TypedView.{typed_view};
 
 use crate::expression::{expression, expression_as};
+use crate::held::Held;
 use crate::point::Point;
 use crate::refused::{Refused, least, mismatch};
 use crate::typed::{Typed, literal_in};
-use rv_code::Expression as Code;
+use rv_code::{Expression as Code, Statement as Action};
 use rv_outline::point::whole_range;
 use rv_shape::kind::{Range, ValueType};
 use rv_static::{Meaning, Meanings, TypeFault};
@@ -25,12 +28,46 @@ use rv_tree::{Expression, LoopBounds, Name, RangeConstraint};
 use std::alloc::Global;
 
 /// What a loop goes over: two bounds that lie in a range, and the subtype of its parameter.
-#[derive(Drop)]
 pub struct Bounds {
     pub range: Range,
     pub low: Code,
     pub high: Code,
     pub parameter: Range,
+}
+
+impl Drop for Bounds {
+    // A function of its own: a derived one is written out wherever a value is let go, and proved there.
+    fn drop(self) {
+        let Bounds {
+            range: _,
+            low: _,
+            high: _,
+            parameter: _,
+        } = self;
+    }
+}
+
+impl Bounds {
+    /// The loop over them, whose parameter has this slot.
+    pub(crate) fn into_loop(self, slot: usize, is_reverse: bool, statements: Vec<Action>) -> Action
+        ensures { statement_view result ≡ for_loop slot is_reverse self.range (code_view self.low) (code_view self.high)
+            (statements_of (map statement_view statements.items)) }
+    {
+        let Bounds {
+            range,
+            low,
+            high,
+            parameter: _,
+        } = self;
+        Action::For {
+            parameter: slot,
+            is_reverse,
+            range,
+            low,
+            high,
+            statements,
+        }
+    }
 }
 
 pub(crate) fn is_discrete(of: ValueType) -> bool
@@ -96,11 +133,14 @@ fn parameter_range(
 fn between(range: Range, low: Code, high: Code, places: (usize, usize)) -> Result<Bounds, Refused>
     ensures { IfOk result (λ b. bounds_of_codes range (code_view low) (code_view high) ≡ Some (bounds_view b)) }
 {
-    let parameter = parameter_range(range, literal_in(&low), literal_in(&high), places)?;
+    let (first, last) = (literal_in(&low), literal_in(&high));
+    let low = Held::new(low);
+    let high = Held::new(high);
+    let parameter = parameter_range(range, first, last, places)?;
     Ok(Bounds {
         range,
-        low,
-        high,
+        low: low.take(),
+        high: high.take(),
         parameter,
     })
 }
@@ -182,9 +222,9 @@ fn bounds_between(
 ) -> Result<Bounds, Refused>
     ensures { IfOk result (λ b. bounds_in_range point.now range (expression_view low.now) (expression_view high.now) ≡ Some (bounds_view b)) }
 {
-    let first = expression_as(alloc, range.of, low, point)?;
+    let first = Held::new(expression_as(alloc, range.of, low, point)?);
     let last = expression_as(alloc, range.of, high, point)?;
-    between(range, first, last, (low.place(), high.place()))
+    between(range, first.take(), last, (low.place(), high.place()))
 }
 
 // Bounds of a subtype.

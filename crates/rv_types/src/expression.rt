@@ -12,6 +12,7 @@ ghost use Rattle.rv_types.specs.TypedView.{typed_view, sum_view};
 mod call;
 
 use crate::expression::call::{call, named};
+use crate::held::Held;
 use crate::operators::{
     Adder, adder_of, chain_of, is_decided, is_related, joined_value, logical_operator,
     multiplying_operator, pair_of, prefixed_by, product_so_far, push_link, relational_operator,
@@ -120,8 +121,9 @@ fn computed(
         }
         Expression::Sum(first, more) => {
             let at = first.place();
-            let Typed { of, code } = expression(alloc, first, is_evaluated, point)?;
-            terms(alloc, more, of, code, at, is_evaluated, point)
+            let found = expression(alloc, first, is_evaluated, point)?;
+            let of = found.of;
+            terms(alloc, more, of, found.into_code(), at, is_evaluated, point)
         }
         Expression::Relation(left, operator, right) => {
             let at = left.place();
@@ -173,8 +175,9 @@ fn factors(
     ensures { IfOk result (λ t. product_of point.now is_evaluated (code_view first) (factors_of (factors_view more.now.items)) ≡ Some (typed_view t)) }
 {
     let left = number_of(&first, is_evaluated);
+    let held = Held::new(first);
     let links = factor_links(alloc, more, left, at, is_evaluated, point)?;
-    chain_of(alloc, ValueType::Integer, first, links)
+    chain_of(alloc, ValueType::Integer, held.take(), links)
 }
 
 // The factors behind a first one, of this number where it is static, and at a place.
@@ -199,8 +202,14 @@ fn factor_links(
             is_evaluated,
             point,
         )?;
-        total = product_so_far(factor.operator, total, number_of(&right, is_evaluated), at)?;
-        push_link(&mut links, multiplying_operator(factor.operator), right)?;
+        let number = number_of(&right, is_evaluated);
+        let held = Held::new(right);
+        total = product_so_far(factor.operator, total, number, at)?;
+        push_link(
+            &mut links,
+            multiplying_operator(factor.operator),
+            held.take(),
+        )?;
     }
     Ok(links)
 }
@@ -219,8 +228,9 @@ fn terms(
     ensures { IfOk result (λ t. sum_of point.now is_evaluated of (code_view first) (terms_of (terms_view more.now.items)) ≡ Some (typed_view t)) }
 {
     let left = number_of(&first, is_evaluated);
+    let held = Held::new(first);
     let Sum { of, links } = term_links(alloc, more, of, left, at, is_evaluated, point)?;
-    chain_of(alloc, of, first, links)
+    chain_of(alloc, of, held.take(), links)
 }
 
 // The terms behind a first one, of this type, of this number where it is static, and at a place.
@@ -246,9 +256,9 @@ fn term_links(
         }
         let right = expression(alloc, &term.operand, is_evaluated, point)?;
         let adder = adder_for(times, sort, term, right.of)?;
-        let code = right.into_code();
-        total = sum_so_far(term.operator, total, number_of(&code, is_evaluated), at)?;
-        push_link(&mut links, adder.operator, code)?;
+        let number = number_of(&right.code, is_evaluated);
+        total = sum_so_far(term.operator, total, number, at)?;
+        push_link(&mut links, adder.operator, right.into_code())?;
         sort = adder.of;
     }
     Ok(Sum { of: sort, links })
@@ -291,15 +301,10 @@ fn logic(
 ) -> Result<Typed, Refused>
     ensures { IfOk result (λ t. logic_of point.now is_evaluated operator (code_view first) (expressions_of (expressions_view more.now.items)) ≡ Some (typed_view t)) }
 {
-    let links = logic_links(
-        alloc,
-        operator,
-        literal_in(&first),
-        more,
-        is_evaluated,
-        point,
-    )?;
-    chain_of(alloc, ValueType::Boolean, first, links)
+    let left = literal_in(&first);
+    let held = Held::new(first);
+    let links = logic_links(alloc, operator, left, more, is_evaluated, point)?;
+    chain_of(alloc, ValueType::Boolean, held.take(), links)
 }
 
 // Relations behind others, whose value is known where they are static.

@@ -15,6 +15,7 @@ mod covers;
 mod declarations;
 pub mod denoted;
 mod expression;
+mod held;
 mod names;
 mod operators;
 pub mod point;

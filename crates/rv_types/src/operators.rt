@@ -7,6 +7,7 @@ ghost use Rattle.rv_code.specs.ExpressionView.{expression_view as code_view, lin
 ghost use Rattle.rv_types.specs.Typed.{adds as adds_by_types, is_related as related, value_of, chained, signed_code as code_signed, multiplying_operator as operator_of_factor, relational_operator as operator_of_relation, logical_code as operator_of_logic, link as link_to, is_decided as is_decided_by, joined_value as value_joined};
 ghost use Rattle.rv_types.specs.TypedView.{typed_view};
 
+use crate::held::Held;
 use crate::refused::Refused;
 use crate::typed::Typed;
 use rv_code::{Expression as Code, Link, Operator, Prefix};
@@ -215,9 +216,10 @@ pub(crate) fn pair_of(
 ) -> Result<Typed, Refused>
     ensures { IfOk result (λ t. value_of ValueType.Boolean (chain (code_view first) (and_link operator (code_view second) no_links)) ≡ typed_view t) }
 {
+    let held = Held::new(first);
     let mut links = Vec::new(alloc);
     push_link(&mut links, operator, second)?;
-    chain_of(alloc, ValueType::Boolean, first, links)
+    chain_of(alloc, ValueType::Boolean, held.take(), links)
 }
 
 /// An operator before its operand.

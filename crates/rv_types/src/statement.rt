@@ -13,12 +13,13 @@ ghost use Rattle.rv_types.specs.Typed.{typed};
 ghost use Rattle.rv_types.specs.TypedView.{typed_view};
 ghost use Rattle.rv_types.specs.StatementCode.{exit_of, return_of, raise_of, delay_of, branch_with, alternative_with, for_loop_of, statement_of, statements_onto, branches_onto, alternatives_onto};
 
-use crate::bounds::{Bounds, discrete, loop_bounds};
+use crate::bounds::{discrete, loop_bounds};
 use crate::choice::choices;
 use crate::coverage::uncovered;
 use crate::covers::covers;
 use crate::denoted::Denoted;
 use crate::expression::{expression, expression_as};
+use crate::held::Held;
 use crate::operators::within_range;
 use crate::point::Point;
 use crate::refused::{Refused, least, mismatch};
@@ -217,8 +218,9 @@ fn statement(alloc: Global, one: &Statement, point: &mut Point) -> Result<Action
             else_statements: otherwise,
         } => {
             let condition = expression_as(alloc, ValueType::Boolean, condition, point)?;
+            let held = Held::new(condition);
             let chosen = statements(alloc, chosen, point)?;
-            let branches = branches(alloc, parts, condition, chosen, point)?;
+            let branches = branches(alloc, parts, held.take(), chosen, point)?;
             let others = statements(alloc, otherwise, point)?;
             Ok(Action::If(branches, others))
         }
@@ -285,8 +287,9 @@ fn turns(
         }
         Iteration::While(condition) => {
             let condition = expression_as(alloc, ValueType::Boolean, condition, point)?;
+            let held = Held::new(condition);
             let body = statements(alloc, body, point)?;
-            Ok(Action::While(condition, body))
+            Ok(Action::While(held.take(), body))
         }
         Iteration::For {
             parameter,
@@ -312,23 +315,11 @@ fn for_loop(
 {
     let slot = point.slots();
     point.begin_bounds(parameter)?;
-    let Bounds {
-        range,
-        low,
-        high,
-        parameter: values,
-    } = loop_bounds(alloc, bounds, point)?;
-    point.begin_loop(parameter, values)?;
+    let found = loop_bounds(alloc, bounds, point)?;
+    point.begin_loop(parameter, found.parameter)?;
     let statements = statements(alloc, body, point)?;
     point.end_loop();
-    Ok(Action::For {
-        parameter: slot,
-        is_reverse,
-        range,
-        low,
-        high,
-        statements,
-    })
+    Ok(found.into_loop(slot, is_reverse, statements))
 }
 
 /// Statements, in their order.
@@ -366,8 +357,9 @@ fn branches(
     push_branch(&mut done, condition, first)?;
     for part in parts {
         let condition = expression_as(alloc, ValueType::Boolean, &part.condition, point)?;
+        let held = Held::new(condition);
         let chosen = statements(alloc, &part.statements, point)?;
-        push_branch(&mut done, condition, chosen)?;
+        push_branch(&mut done, held.take(), chosen)?;
     }
     Ok(done)
 }

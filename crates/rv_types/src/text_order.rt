@@ -49,6 +49,18 @@ fn operations<'a>(
     Ok(scope)
 }
 
+// The protected unit that a body is of, and its number.
+fn unit_of<'u>(
+    units: &[&'u ProtectedUnit],
+    body: &ProtectedBody,
+    scope: &Scope,
+) -> Option<(usize, &'u ProtectedUnit)> {
+    let found = scope.denoted_by_body(Wanted::ProtectedBody, &body.name);
+    let number = unit_number(found)?;
+    let unit = units.get(number)?;
+    Some((number, *unit))
+}
+
 // A protected body.
 fn protected<'a>(
     alloc: Global,
@@ -57,11 +69,7 @@ fn protected<'a>(
     body: &ProtectedBody,
     around: Scope<'a>,
 ) -> Result<Scope<'a>, Refused> {
-    let found = around.denoted_by_body(Wanted::ProtectedBody, &body.name);
-    let Some(number) = unit_number(found) else {
-        return Err(mismatch(body.name.at));
-    };
-    let Some(unit) = units.get(number) else {
+    let Some((number, unit)) = unit_of(units, body, &around) else {
         return Err(mismatch(body.name.at));
     };
     let mut scope = around;

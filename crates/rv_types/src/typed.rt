@@ -14,10 +14,16 @@ use rv_static::{Number, Static};
 use rv_tree::LogicalOperator;
 
 /// The type of an expression, and the code that gives its value.
-#[derive(Drop)]
 pub struct Typed {
     pub of: ValueType,
     pub code: Code,
+}
+
+impl Drop for Typed {
+    // A function of its own: a derived one is written out wherever a value is let go, and proved there.
+    fn drop(self) {
+        let Typed { of: _, code: _ } = self;
+    }
 }
 
 /// The type of a sum, and its terms behind the first one.
