@@ -96,6 +96,7 @@ fn result_range(kind: Kind) -> Option<Range>
 }
 
 // The region of the body of this identifier begins, in which its parameters are declared. What it gives is for `leave_body`.
+#[tactic(auto, using(crate::proofs::Ended::declares_from))]
 fn enter(
     name: &Identifier,
     parameters: &Vec<Specification>,
@@ -111,6 +112,7 @@ fn enter(
 }
 
 // A block with parameters, at a point where these are declared.
+#[tactic(auto, using(crate::proofs::Ended::declares_from))]
 fn body_at(
     alloc: Global,
     operation: &Operation,

@@ -133,7 +133,8 @@ fn parameter_range(
 fn between(range: Range, low: Code, high: Code, places: (usize, usize)) -> Result<Bounds, Refused>
     ensures { IfOk result (λ b. bounds_of_codes range (code_view low) (code_view high) ≡ Some (bounds_view b)) }
 {
-    let (first, last) = (literal_in(&low), literal_in(&high));
+    let first = literal_in(&low);
+    let last = literal_in(&high);
     let low = Held::new(low);
     let high = Held::new(high);
     let parameter = parameter_range(range, first, last, places)?;
