@@ -146,7 +146,7 @@ fn said_of_shape(fault: ShapeFault) -> &'static str {
         ShapeFault::CeilingTooLow => {
             "a protected unit with a handler has a priority of 31 .. 40 (C.3.1)"
         }
-        ShapeFault::BadRange => "a priority of this unit is outside 1 .. 40 (D.1)",
+        ShapeFault::BadRange => "a part of this unit is of a subtype that has no values (3.5)",
         ShapeFault::BadText => "this unit has no shape",
         ShapeFault::NoMemory => NO_MEMORY,
     }
