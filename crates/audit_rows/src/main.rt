@@ -1,7 +1,8 @@
 //! Worked rows of audits: judges the journal of each script of the folder that it is run in, and says of each whether
 //! it found what stands beside it.
 //!
-//! `NAME.raven` is a script of shapes and a journal, behind a capacity where it isn't 4,096; `NAME.said` is the verdict.
+//! `NAME.raven` is a script of shapes and a journal, behind a capacity where it isn't 4,096 and a limit of queues where it
+//! isn't 1; `NAME.said` is the verdict.
 //! Each line of a journal that is legal is read as an entry, too.
 //!
 //! Where there is a `NAME.damaged`, the journal of `NAME.raven` is damaged in each way at each place, and judged: the
@@ -51,7 +52,7 @@ fn entries_read(alloc: Global, audit: &Audit, journal: &str) -> usize {
 
 // What is found of the journal of a script.
 fn found(alloc: Global, script: &Script<'_>) -> io::Result<String> {
-    let Ok(mut audit) = Audit::new(alloc, script.capacity) else {
+    let Ok(mut audit) = Audit::new(alloc, script.capacity, script.limit) else {
         return String::from_str(alloc, "no audit\n").map_err(|e| io::Error::from(e));
     };
     let verdict = audit.judge_all(script.units.as_slice(), script.journal);
@@ -66,7 +67,7 @@ fn found(alloc: Global, script: &Script<'_>) -> io::Result<String> {
 
 // What is found of a journal over the units of a script.
 fn verdict_on(alloc: Global, script: &Script<'_>, journal: &str) -> io::Result<String> {
-    let Ok(mut audit) = Audit::new(alloc, script.capacity) else {
+    let Ok(mut audit) = Audit::new(alloc, script.capacity, script.limit) else {
         return String::from_str(alloc, "no audit\n").map_err(|e| io::Error::from(e));
     };
     let verdict = audit.judge_all(script.units.as_slice(), journal);

@@ -107,7 +107,7 @@ pub fn print_steps<R: Clock + Print + Eprint>(
 
 // Judges a journal.
 fn time_audit<R: Clock>(rt: &R, alloc: Global, stock: &Stock, text: &str) -> Option<Audited> {
-    let mut audit = Audit::new(alloc, CAPACITY).ok()?;
+    let mut audit = Audit::new(alloc, CAPACITY, 1).ok()?;
     let start = Instant::now(rt).ok()?;
     let verdict = audit.judge_all(stock.units(), text);
     let nanos = u64::try_from(start.elapsed(rt).ok()?.as_nanos()).ok()?;
