@@ -4,5 +4,4 @@
 pub mod crew;
 pub mod job;
 pub mod laws;
-pub mod notice;
 pub mod tasks;

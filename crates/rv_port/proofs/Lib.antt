@@ -34,4 +34,3 @@ pub mod Performances
 pub mod Following
 pub mod WornTexts
 pub mod TextEnds
-pub mod Endings

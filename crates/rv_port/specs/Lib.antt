@@ -14,4 +14,3 @@ pub mod Texts
 pub mod Alone
 pub mod Ends
 pub mod Following
-pub mod Endings

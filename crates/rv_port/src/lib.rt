@@ -5,7 +5,6 @@ mod asker;
 mod bell;
 mod body;
 pub mod control;
-pub mod ended;
 pub mod fault;
 pub mod gate;
 pub mod laws;

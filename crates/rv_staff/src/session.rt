@@ -7,7 +7,6 @@ ghost use Rattle.rv_staff.specs.Staffs.{no_crew};
 use crate::staff::Staff;
 use crossbeam_channel::Sender;
 use rv_crew::crew::Closed;
-use rv_crew::notice::Notice;
 use rv_port::control::Control;
 use std::alloc::Global;
 use std::sync::Wait;
@@ -45,8 +44,6 @@ pub struct Session {
     pub devices: Vec<DeviceJob>,
     /// How many requests a task's own body may make.
     pub budget: u32,
-    /// Where threads that are started from now on notify of how texts and handlers ended, if anywhere.
-    pub notices: Option<Sender<Notice>>,
 }
 
 impl Drop for Session {
@@ -58,7 +55,6 @@ impl Drop for Session {
             channels: _,
             devices: _,
             budget: _,
-            notices: _,
         } = self;
     }
 }
@@ -76,7 +72,6 @@ impl Session {
             channels: Vec::new(alloc),
             devices,
             budget,
-            notices: None,
         }
     }
 
@@ -91,7 +86,6 @@ impl Session {
             channels,
             devices: _,
             budget: _,
-            notices: _,
         } = self;
         drop(channels);
         staff.end(rt)

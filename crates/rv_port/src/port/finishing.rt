@@ -63,7 +63,6 @@ fn finished(asker: Asker) -> Finished
         bell: _,
         is_refused,
         held: _,
-        course: _,
     } = asker;
     Finished { pass, is_refused }
 }
