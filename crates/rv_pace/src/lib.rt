@@ -1,0 +1,6 @@
+//! The clock of a host that follows a real one: which ticks are due, each asked once.
+#![tactic(auto)]
+
+mod pace;
+
+pub use pace::{MOST_PERIOD, MOST_TICKS, Pace};
