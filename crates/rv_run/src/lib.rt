@@ -2,6 +2,7 @@
 //! operator are served until the run ends.
 #![tactic(auto)]
 
+mod coming;
 mod command;
 mod devices;
 mod following;
@@ -10,5 +11,7 @@ pub mod kept;
 mod loads;
 mod opening;
 pub mod run;
+mod ticking;
 
 pub use following::{Follower, KeptFailure};
+pub use kept::Outputs;

@@ -44,6 +44,8 @@ pub struct Session {
     pub devices: Vec<DeviceJob>,
     /// How many requests a task's own body may make.
     pub budget: u32,
+    /// How many entries its journal may have.
+    pub capacity: usize,
 }
 
 impl Drop for Session {
@@ -55,16 +57,24 @@ impl Drop for Session {
             channels: _,
             devices: _,
             budget: _,
+            capacity: _,
         } = self;
     }
 }
 
 impl Session {
     /// A session on a host, whose threads aren't started yet.
-    pub fn new(alloc: Global, control: Control, devices: Vec<DeviceJob>, budget: u32) -> Session
+    pub fn new(
+        alloc: Global,
+        control: Control,
+        devices: Vec<DeviceJob>,
+        budget: u32,
+        capacity: usize,
+    ) -> Session
         ensures staff { result.staff ≡ record { control = control; crew = no_crew } }
         ensures devices { result.devices ≡ devices }
         ensures budget { result.budget ≡ budget }
+        ensures capacity { result.capacity ≡ capacity }
     {
         Session {
             alloc,
@@ -72,6 +82,7 @@ impl Session {
             channels: Vec::new(alloc),
             devices,
             budget,
+            capacity,
         }
     }
 
@@ -86,6 +97,7 @@ impl Session {
             channels,
             devices: _,
             budget: _,
+            capacity: _,
         } = self;
         drop(channels);
         staff.end(rt)

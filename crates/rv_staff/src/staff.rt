@@ -5,7 +5,9 @@ ghost use Rattle.rv_text.specs.Words.{words};
 ghost use Rattle.rv_turn.specs.Passes.{IsWorn};
 ghost use Rattle.rv_behind.specs.Events.{catalogue_of};
 ghost use Rattle.rv_port.specs.Ports.{pass_of};
-ghost use Rattle.rv_port.specs.Controls.{Brings, IsGiven, IsPortFault, LoadTold};
+ghost use Rattle.rv_behind.specs.declared.event.Ask.{Ask};
+ghost use Rattle.rv_event.specs.declared.entry.Request.TheVariants as asks;
+ghost use Rattle.rv_port.specs.Controls.{Brings, IsGiven, IsPortFault, LoadTold, Told};
 ghost use Rattle.rv_follow.specs.Following.{IsKept, Looked, Reads};
 ghost use Rattle.rv_keep.specs.Keeping.{Known};
 ghost use Rattle.rv_crew.specs.Crews.{IsClosedBy};
@@ -18,6 +20,7 @@ ghost use Rattle.rv_staff.specs.Staffs.{AreOf, no_crew};
 use crate::hands::give_up;
 use crate::hires::{HireFault, Hires};
 use crate::work::Work;
+use rv_access::Change;
 use rv_code::Unit;
 use rv_crew::crew::{Closed, Crew};
 use rv_event::entry::Answer;
@@ -133,6 +136,30 @@ impl Staff {
         ensures crew { self.new.crew ≡ self.old.crew }
     {
         self.control.load(rt, unit)
+    }
+
+    /// So many ticks of the clock go by, 1 .. 1,000,000 (D.8).
+    #[tactic(auto, using(crate::proofs::OneTurn::moved, crate::proofs::OneTurn::asks_stay))]
+    pub fn tick<R: Wait>(&mut self, rt: &R, ticks: i64) -> Result<Answer, Worn>
+        ensures told { MatchResult
+            result
+            (λ r. Told self.old.control (Ask.Step (asks.Tick ticks)) r self.new.control)
+            (λ _. IsWorn self.old.control self.new.control) }
+        ensures crew { self.new.crew ≡ self.old.crew }
+    {
+        self.control.tick(rt, ticks)
+    }
+
+    /// A change of the access list.
+    #[tactic(auto, using(crate::proofs::OneTurn::moved, crate::proofs::OneTurn::asks_stay))]
+    pub fn change<R: Wait>(&mut self, rt: &R, change: Change) -> Result<Answer, Worn>
+        ensures told { MatchResult
+            result
+            (λ r. Told self.old.control (Ask.Change change) r self.new.control)
+            (λ _. IsWorn self.old.control self.new.control) }
+        ensures crew { self.new.crew ≡ self.old.crew }
+    {
+        self.control.change(rt, change)
     }
 
     /// Writes the entries that came since the last look into a keeper's file. Gives whether there were some.
