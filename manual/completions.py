@@ -19,7 +19,7 @@ HELP, VERSION = ("-h", "--help"), ("-V", "--version")
 FILES, FOLDERS = "files", "folders"
 # Of numbers, some that are usual.
 VALUES = {"FILE": FILES, "PIPE": FILES, "PREFIX": FOLDERS, "WHEN": ("auto", "always", "never"), "HOW": ("each", "second", "never"),
-          "MS": ("1000", "100", "10")}
+          "MS": ("1000", "100", "10"), "N": ("100", "1000", "10000")}
 
 
 class Flag:

@@ -1,5 +1,5 @@
 -- The command line (own): `play`, which may be given `--all`, `check`, which may be given `--script`, and `run`, which may be
--- given `--journal FILE` and, with it, `--sync HOW`, `--tick MS` and `--stop-by PIPE`, all three with `--notes WHEN` and `--warnings-are-errors`; and `audit`, which
+-- given `--journal FILE` and, with it, `--sync HOW`, `--halt-below N`, `--quota N`, `--tick MS` and `--stop-by PIPE`, all three with `--notes WHEN` and `--warnings-are-errors`; and `audit`, which
 -- may be given `--journal FILE` and, with it, `--torn`. Each may be given `--explain`. What words come to is what `clap` says of
 -- this command.
 use Rattle.std.specs.Prelude.{◌≡◌, ◌⊎◌, ℕ, Bool, true, false, ◌&&◌, nat_le, nat_lt, if◌then◌else◌, List, [], ◌∷◌, Option, Some, None, codes}
@@ -56,9 +56,13 @@ value_rule name = record (new_rule name) { long = Some name; action = Some Set; 
 abbrev pub keeping : App
 keeping = with_rule (with_rule (with_rule (new_app (codes "run")) file_rule) sync_rule) explain_rule
 
+-- which may be told what to do as its journal fills
+abbrev pub guarding : App
+guarding = with_rule (with_rule keeping (value_rule (codes "halt-below"))) (value_rule (codes "quota"))
+
 -- whose clock may follow a real one, and which may be ended from outside
 abbrev pub attending : App
-attending = with_rule (with_rule keeping (value_rule (codes "tick"))) (value_rule (codes "stop-by"))
+attending = with_rule (with_rule guarding (value_rule (codes "tick"))) (value_rule (codes "stop-by"))
 
 abbrev pub running : App
 running = with_notes attending
@@ -148,35 +152,48 @@ Keeps rows kept = KeepsAs (first_of (codes "journal") rows) (first_of (codes "sy
 abbrev pub HasNoFile : List Row → Type 0
 HasNoFile rows = HasNoFileAs (first_of (codes "journal") rows) (first_of (codes "sync") rows)
 
--- the milliseconds between two ticks: a number of 1 .. 3,600,000, an hour
-abbrev pub period_of : Option ℕ → Option (Option ℕ)
-period_of None = None
-period_of (Some millis) = if nat_lt 0 millis && nat_le millis 3_600_000 then Some (Some millis) else None
+-- a number from 1 up to a greatest
+abbrev pub counted : ℕ → Option ℕ → Option (Option ℕ)
+counted most None = None
+counted most (Some number) = if nat_lt 0 number && nat_le number most then Some (Some number) else None
 
 -- by the word that is given, if it is one of these
-abbrev pub tick_of : Option Text → Option (Option ℕ)
-tick_of None = Some None
-tick_of (Some word) = period_of (natural_of word)
+abbrev pub number_of : ℕ → Option Text → Option (Option ℕ)
+number_of most None = Some None
+number_of most (Some word) = counted most (natural_of word)
 
--- What a run does beside its commands: the file that its journal is kept in, the milliseconds between two ticks, and the pipe
--- whose end ends it.
+-- the longest time between two ticks, an hour of milliseconds; and the most entries of a journal
+abbrev pub longest_period : ℕ
+longest_period = 3600000
+
+abbrev pub most_entries : ℕ
+most_entries = 1048576
+
+-- What a run does beside its commands: the file that its journal is kept in, the milliseconds between two ticks, the room of the
+-- journal below which it ends, how many entries a unit's tasks may add, and the pipe whose end ends it.
 pub record RunWords : Type 0 where
   pub kept : Option (Text × Sync)
   pub tick : Option ℕ
+  pub halt_below : Option ℕ
+  pub quota : Option ℕ
   pub stop : Option Text
 
 -- by what `run` is given
 abbrev pub IsRun : List Row → RunWords → Type 0
 IsRun rows run =
-    Keeps rows run.kept × (tick_of (first_of (codes "tick") rows) ≡ Some run.tick) × (run.stop ≡ first_of (codes "stop-by") rows)
+    Keeps rows run.kept × (number_of longest_period (first_of (codes "tick") rows) ≡ Some run.tick)
+    × (number_of most_entries (first_of (codes "halt-below") rows) ≡ Some run.halt_below)
+    × (number_of most_entries (first_of (codes "quota") rows) ≡ Some run.quota) × (run.stop ≡ first_of (codes "stop-by") rows)
 
 -- a word is another, or a file is missing
 abbrev pub HasNoRun : List Row → Type 0
-HasNoRun rows = HasNoFile rows ⊎ (tick_of (first_of (codes "tick") rows) ≡ None)
+HasNoRun rows =
+    HasNoFile rows ⊎ (number_of longest_period (first_of (codes "tick") rows) ≡ None)
+    ⊎ (number_of most_entries (first_of (codes "halt-below") rows) ≡ None) ⊎ (number_of most_entries (first_of (codes "quota") rows) ≡ None)
 
 -- nothing of that
 abbrev pub no_run : RunWords
-no_run = record { kept = None; tick = None; stop = None }
+no_run = record { kept = None; tick = None; halt_below = None; quota = None; stop = None }
 
 -- the same, for `run` alone
 abbrev pub IsRunning : Text × List Row → Choice → RunWords → Type 0

@@ -6,11 +6,10 @@ ghost use Rattle.clap.specs.Matches.{found_of};
 ghost use Rattle.clap.specs.Walk.{Row, Text, rows_of};
 ghost use Rattle.clap.specs.declared.builder.command.Command.TheViews.{out-Command as fields_of};
 ghost use Rattle.ravenhost.specs.declared.chosen.Unchosen.TheVariants as Unchosen;
-ghost use Rattle.ravenhost.specs.Choices.{Chooses, HasNoFile, HasNoFileAs, HasNoRun, HasNoWord, IsRun, IsSelection, Keeps, KeepsAs, Lacks, LacksFile, NamesNone, Tells, attending, audit_of, audited, checked, file_rule, flag_rule, judging, keeping, line_of, notes_of, notes_rule, playing, program, running, sync_of, sync_rule, tick_of, value_rule, with_notes};
+ghost use Rattle.ravenhost.specs.Choices.{Chooses, HasNoFile, HasNoFileAs, HasNoRun, HasNoWord, IsRun, IsSelection, Keeps, KeepsAs, Lacks, LacksFile, NamesNone, Tells, attending, audit_of, audited, checked, file_rule, flag_rule, guarding, judging, keeping, line_of, notes_of, notes_rule, playing, program, running, number_of, sync_of, sync_rule, value_rule, with_notes};
 
 use clap::error::ErrorKind;
 use clap::{Arg, ArgAction, ArgMatches, Command, Error};
-use rv_pace::MOST_PERIOD;
 use rv_text::natural_of;
 use std::alloc::{AllocError, Global};
 
@@ -65,7 +64,11 @@ pub struct RunWords<'a> {
     /// The file that its journal is kept in, where one is given.
     pub kept: Option<KeptFile<'a>>,
     /// The milliseconds between two ticks of the clock, where it follows a real one.
-    pub tick: Option<u64>,
+    pub tick: Option<u32>,
+    /// The room of the journal below which it ends.
+    pub halt_below: Option<u32>,
+    /// How many entries a unit's tasks may add.
+    pub quota: Option<u32>,
     /// The name of the pipe whose end ends it, where one is given.
     pub stop_by: Option<&'a str>,
 }
@@ -73,9 +76,14 @@ pub struct RunWords<'a> {
 impl RunWords<'_> {
     /// Whether there is anything beside its commands.
     pub fn is_attended(&self) -> bool
-        ensures { result ≡ (is_some self.now.kept || is_some self.now.tick || is_some self.now.stop_by) }
+        ensures { result ≡ (is_some self.now.kept || is_some self.now.tick || is_some self.now.halt_below || is_some self.now.quota
+            || is_some self.now.stop_by) }
     {
-        self.kept.is_some() || self.tick.is_some() || self.stop_by.is_some()
+        self.kept.is_some()
+            || self.tick.is_some()
+            || self.halt_below.is_some()
+            || self.quota.is_some()
+            || self.stop_by.is_some()
     }
 }
 
@@ -101,12 +109,17 @@ pub struct Selection<'a> {
 pub enum Unchosen {
     /// They are no command line, or ask for help, which this prints.
     Usage(Error),
-    /// There is no subcommand of this name, `--torn` or `--sync` stands without a file, or `--notes`, `--sync` or `--tick` has
-    /// another word.
+    /// There is no subcommand of this name, `--torn` or `--sync` stands without a file, or a flag has another word than it takes.
     Unknown,
     /// Memory was refused.
     NoMemory,
 }
+
+// The longest time between two ticks, in milliseconds: an hour.
+const LONGEST_PERIOD: u32 = 3_600_000;
+
+// The most entries that a journal may have.
+const MOST_ENTRIES: u32 = 1_048_576;
 
 /// The version of the program. The launcher adds whether it is proved, and the kit that built it.
 pub const VERSION: &str = "1.0.0";
@@ -255,6 +268,26 @@ fn keeping_subcommand<'a>(alloc: Global) -> Result<Command<'a>, AllocError>
         .arg(explain_flag(alloc, FAULT_HELP))
 }
 
+// The same, which may be told what to do as its journal fills.
+fn guarding_subcommand<'a>(alloc: Global) -> Result<Command<'a>, AllocError>
+    ensures app { IfOk result (λ c. app_of c ≡ guarding) }
+    ensures local { IfOk result (λ c. (fields_of c).has_globals ≡ false) }
+{
+    let halt_below = valued(
+        alloc,
+        "halt-below",
+        "N",
+        "End as by quit when the journal has room for fewer than N entries",
+    );
+    let quota = valued(
+        alloc,
+        "quota",
+        "N",
+        "Deny a unit everything whose tasks have added more than N entries, by a line at the end of the list",
+    );
+    keeping_subcommand(alloc)?.arg(halt_below)?.arg(quota)
+}
+
 // The same, whose clock may follow a real one, and which may be ended from outside.
 fn attending_subcommand<'a>(alloc: Global) -> Result<Command<'a>, AllocError>
     ensures app { IfOk result (λ c. app_of c ≡ attending) }
@@ -272,7 +305,7 @@ fn attending_subcommand<'a>(alloc: Global) -> Result<Command<'a>, AllocError>
         "PIPE",
         "End as at the end of input once this pipe has a byte or ends; the script ./ravenhost gives it, for signals",
     );
-    keeping_subcommand(alloc)?.arg(tick)?.arg(stop_by)
+    guarding_subcommand(alloc)?.arg(tick)?.arg(stop_by)
 }
 
 // The same, which may be told of notes.
@@ -424,15 +457,15 @@ fn kept_of<'a>(words: &ArgMatches<'a>) -> Option<Option<KeptFile<'a>>>
     file_of(words.get_str("journal"), words.get_str("sync"))
 }
 
-// The milliseconds between two ticks, by the word that was given; none for another word.
-fn tick_of(word: Option<&str>) -> Option<Option<u64>>
-    ensures { result ≡ tick_of (option_map (λ w. w.now) word.entry) }
+// A number of 1 up to a greatest, by the word that was given; none for another word.
+fn number_of(word: Option<&str>, most: u32) -> Option<Option<u32>>
+    ensures { result ≡ number_of most (option_map (λ w. w.now) word.entry) }
 {
     let Some(word) = word else {
         return Some(None);
     };
     match natural_of(word) {
-        Some(millis) if 0 < millis && millis <= MOST_PERIOD => Some(Some(millis)),
+        Some(number) if 0 < number && number <= most as u64 => Some(Some(number as u32)),
         _ => None,
     }
 }
@@ -441,14 +474,18 @@ fn tick_of(word: Option<&str>) -> Option<Option<u64>>
 fn run_words<'a>(words: &ArgMatches<'a>) -> Option<RunWords<'a>>
     ensures some { IfSome result (λ run. IsRun (rows_of (found_of words.now))
         (record { kept = option_map (λ k. (k.name.now, k.sync)) run.kept; tick = run.tick;
-            stop = option_map (λ s. s.now) run.stop_by })) }
+            halt_below = run.halt_below; quota = run.quota; stop = option_map (λ s. s.now) run.stop_by })) }
     ensures none { IfNone result (HasNoRun (rows_of (found_of words.now))) }
 {
     let kept = kept_of(words)?;
-    let tick = tick_of(words.get_str("tick"))?;
+    let tick = number_of(words.get_str("tick"), LONGEST_PERIOD)?;
+    let halt_below = number_of(words.get_str("halt-below"), MOST_ENTRIES)?;
+    let quota = number_of(words.get_str("quota"), MOST_ENTRIES)?;
     Some(RunWords {
         kept,
         tick,
+        halt_below,
+        quota,
         stop_by: words.get_str("stop-by"),
     })
 }
@@ -457,6 +494,8 @@ fn run_words<'a>(words: &ArgMatches<'a>) -> Option<RunWords<'a>>
 const NO_RUN: RunWords<'static> = RunWords {
     kept: None,
     tick: None,
+    halt_below: None,
+    quota: None,
     stop_by: None,
 };
 
@@ -465,7 +504,7 @@ fn play_chosen<'a>(words: &ArgMatches<'a>) -> Option<Selection<'a>>
     ensures some { IfSome result (λ chosen. IsSelection (codes "play", rows_of (found_of words.now)) chosen.choice
         (option_map (λ s. s.now) chosen.journal) chosen.notes chosen.are_errors chosen.explains
         (record { kept = option_map (λ k. (k.name.now, k.sync)) chosen.run.kept; tick = chosen.run.tick;
-            stop = option_map (λ s. s.now) chosen.run.stop_by })) }
+            halt_below = chosen.run.halt_below; quota = chosen.run.quota; stop = option_map (λ s. s.now) chosen.run.stop_by })) }
     ensures none { IfNone result (HasNoWord (rows_of (found_of words.now))) }
 {
     let told = telling_of(words)?;
@@ -484,7 +523,7 @@ fn check_chosen<'a>(words: &ArgMatches<'a>) -> Option<Selection<'a>>
     ensures some { IfSome result (λ chosen. IsSelection (codes "check", rows_of (found_of words.now)) chosen.choice
         (option_map (λ s. s.now) chosen.journal) chosen.notes chosen.are_errors chosen.explains
         (record { kept = option_map (λ k. (k.name.now, k.sync)) chosen.run.kept; tick = chosen.run.tick;
-            stop = option_map (λ s. s.now) chosen.run.stop_by })) }
+            halt_below = chosen.run.halt_below; quota = chosen.run.quota; stop = option_map (λ s. s.now) chosen.run.stop_by })) }
     ensures none { IfNone result (HasNoWord (rows_of (found_of words.now))) }
 {
     let told = telling_of(words)?;
@@ -503,7 +542,7 @@ fn run_chosen<'a>(words: &ArgMatches<'a>) -> Option<Selection<'a>>
     ensures some { IfSome result (λ chosen. IsSelection (codes "run", rows_of (found_of words.now)) chosen.choice
         (option_map (λ s. s.now) chosen.journal) chosen.notes chosen.are_errors chosen.explains
         (record { kept = option_map (λ k. (k.name.now, k.sync)) chosen.run.kept; tick = chosen.run.tick;
-            stop = option_map (λ s. s.now) chosen.run.stop_by })) }
+            halt_below = chosen.run.halt_below; quota = chosen.run.quota; stop = option_map (λ s. s.now) chosen.run.stop_by })) }
     ensures none { IfNone result (HasNoWord (rows_of (found_of words.now)) ⊎ HasNoRun (rows_of (found_of words.now))) }
 {
     let told = telling_of(words)?;
@@ -523,7 +562,7 @@ fn audit_chosen<'a>(words: &ArgMatches<'a>) -> Option<Selection<'a>>
     ensures some { IfSome result (λ chosen. IsSelection (codes "audit", rows_of (found_of words.now)) chosen.choice
         (option_map (λ s. s.now) chosen.journal) chosen.notes chosen.are_errors chosen.explains
         (record { kept = option_map (λ k. (k.name.now, k.sync)) chosen.run.kept; tick = chosen.run.tick;
-            stop = option_map (λ s. s.now) chosen.run.stop_by })) }
+            halt_below = chosen.run.halt_below; quota = chosen.run.quota; stop = option_map (λ s. s.now) chosen.run.stop_by })) }
     ensures none { IfNone result (LacksFile (rows_of (found_of words.now))) }
 {
     let journal = words.get_str("journal");
@@ -544,7 +583,7 @@ fn choice_of<'a>(matches: &ArgMatches<'a>) -> Option<Selection<'a>>
         × IsSelection found chosen.choice (option_map (λ s. s.now) chosen.journal) chosen.notes chosen.are_errors
         chosen.explains
         (record { kept = option_map (λ k. (k.name.now, k.sync)) chosen.run.kept; tick = chosen.run.tick;
-            stop = option_map (λ s. s.now) chosen.run.stop_by })) }
+            halt_below = chosen.run.halt_below; quota = chosen.run.quota; stop = option_map (λ s. s.now) chosen.run.stop_by })) }
     ensures none { IfNone result ((found : Text × List Row) → subcommand_rows_of matches.now ≡ Some found
         → NamesNone found) }
 {
@@ -569,7 +608,7 @@ pub fn chosen<'a>(alloc: Global, words: &'a [&'a str]) -> Result<Selection<'a>, 
     ensures ok { IfOk result (λ chosen. Chooses (map (λ w. w.now) words.now) chosen.choice
         (option_map (λ s. s.now) chosen.journal) chosen.notes chosen.are_errors chosen.explains
         (record { kept = option_map (λ k. (k.name.now, k.sync)) chosen.run.kept; tick = chosen.run.tick;
-            stop = option_map (λ s. s.now) chosen.run.stop_by })) }
+            halt_below = chosen.run.halt_below; quota = chosen.run.quota; stop = option_map (λ s. s.now) chosen.run.stop_by })) }
     ensures taken { takes program (map (λ w. w.now) words.now) ≡ true
         → IfErr result (Lacks (map (λ w. w.now) words.now)) }
     ensures line { (name : Text) → (choice : Choice) → map (λ w. w.now) words.now ≡ name ∷ line_of choice

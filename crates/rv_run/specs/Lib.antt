@@ -5,4 +5,5 @@ pub mod Finishing
 pub mod Preparing
 pub mod Running
 pub mod Ticking
+pub mod Rooming
 pub mod KeepingRuns

@@ -5,6 +5,7 @@ ghost use Rattle.rv_text.specs.Words.{words};
 ghost use Rattle.rv_turn.specs.Passes.{IsWorn};
 ghost use Rattle.rv_behind.specs.Events.{catalogue_of};
 ghost use Rattle.rv_port.specs.Ports.{pass_of};
+ghost use Rattle.rv_access.specs.declared.change.Change.TheVariants as changes;
 ghost use Rattle.rv_behind.specs.declared.event.Ask.{Ask};
 ghost use Rattle.rv_event.specs.declared.entry.Request.TheVariants as asks;
 ghost use Rattle.rv_port.specs.Controls.{Brings, IsGiven, IsPortFault, LoadTold, Told};
@@ -20,7 +21,7 @@ ghost use Rattle.rv_staff.specs.Staffs.{AreOf, no_crew};
 use crate::hands::give_up;
 use crate::hires::{HireFault, Hires};
 use crate::work::Work;
-use rv_access::Change;
+use rv_access::Line;
 use rv_code::Unit;
 use rv_crew::crew::{Closed, Crew};
 use rv_event::entry::Answer;
@@ -31,6 +32,7 @@ use rv_port::fault::PortFault;
 use rv_port::port::Port;
 use rv_shape::catalogue::Catalogue;
 use rv_shell::{LineFault, Next, Shell};
+use rv_tally::Tally;
 use rv_turn::Worn;
 use std::alloc::Global;
 use std::io::Write;
@@ -150,19 +152,19 @@ impl Staff {
         self.control.tick(rt, ticks)
     }
 
-    /// A change of the access list.
+    /// A line more at the end of the access list.
     #[tactic(auto, using(crate::proofs::OneTurn::moved, crate::proofs::OneTurn::asks_stay))]
-    pub fn change<R: Wait>(&mut self, rt: &R, change: Change) -> Result<Answer, Worn>
+    pub fn append_line<R: Wait>(&mut self, rt: &R, line: Line) -> Result<Answer, Worn>
         ensures told { MatchResult
             result
-            (λ r. Told self.old.control (Ask.Change change) r self.new.control)
+            (λ r. Told self.old.control (Ask.Change (changes.Append line)) r self.new.control)
             (λ _. IsWorn self.old.control self.new.control) }
         ensures crew { self.new.crew ≡ self.old.crew }
     {
-        self.control.change(rt, change)
+        self.control.append_line(rt, line)
     }
 
-    /// Writes the entries that came since the last look into a keeper's file. Gives whether there were some.
+    /// Writes the entries that came since the last look into a keeper's file, and counts them. Gives whether there were some.
     ///
     /// # Errors
     /// `Write` where a write or a sync fails.
@@ -171,13 +173,14 @@ impl Staff {
         rt: &R,
         alloc: Global,
         keeper: &mut Keeper<F>,
+        tally: &mut Tally,
     ) -> Result<bool, KeepFault>
         ensures reads { Reads self.old.control self.new.control }
         ensures kept { (opened : Known) → IsKept opened (F.contents keeper.old.file) self.old.control keeper.old.next
             → Looked opened (F.contents keeper.new.file) self.new.control keeper.new.next result }
         ensures crew { self.new.crew ≡ self.old.crew }
     {
-        follow(rt, alloc, &mut self.control, keeper)
+        follow(rt, alloc, &mut self.control, keeper, tally)
     }
 
     /// Writes the answer to a request of the operator.
