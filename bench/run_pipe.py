@@ -415,7 +415,7 @@ def ticks(program):
 def usage(program):
     """Values that no flag takes, and a pipe that isn't there."""
     for words in (("--tick", "0"), ("--tick", "3600001"), ("--tick", "+5"), ("--tick", "1.5"), ("--tick", ""), ("--tick",),
-                  ("--stop-by",), ("--tick", "5", "--tick", "5")):
+                  ("--stop-by",), ("--tick", "5", "--tick", "5"), ("--quota", "0"), ("--quota", "1048577"), ("--halt-below", "-1")):
         done = subprocess.run([program, "run", *words], input=b"@run\n", stdout=subprocess.PIPE, stderr=subprocess.PIPE, timeout=LIMIT)
         expect_that(f"run {words}", done.returncode == 2 and done.stdout == b"" and done.stderr, done)
     done = subprocess.run([program, "run", "--stop-by", "/nowhere/pipe"], input=b"@run\n", stdout=subprocess.PIPE,
@@ -481,6 +481,63 @@ def all_flags(program):
         numbered("the journal of all flags", journal)
         expect("all flags", (out.decode(), err.decode(), run.process.returncode), (f"entries {len(journal)}\n", "", 0))
         os.close(held)
+
+
+def free(name):
+    """A task that calls for as long as it may."""
+    return looper(name).replace("delay until Next;", "null;")
+
+
+def quota(program):
+    """A noisy unit beside a good one: it is denied everything once, and the good one and the operator go on."""
+    script = "@host.toml\nbudget = 1000000\n" + unit(PLANT) + unit(looper("Good")) + unit(free("Bad")) + "@list\nallow * * *\n@run\n"
+    run = Run(program, script, ("--quota", "1000", "--notes", "always"))
+    until("the denial", lambda: any("deny Bad * *]" in line for line in run.journal()))
+    ticking(run, "Good goes on", lambda journal: len(of(journal, "Good.Pilot")) > 20)
+    expect("a revocation beside a quota", run.ask("append deny Good * *"), "accepted 0")
+    journal = run.journal()
+    numbered("the journal of a quota", journal)
+    place = [number for number, line in enumerate(journal) if "deny Bad * *]" in line]
+    expect("denials of a quota", len(place), 1)
+    expect("entries of Bad that start behind its denial", [line for line in of(journal[place[0]:], "Bad.Pilot") if "started" in line][1:], [])
+    out, err, status = run.end()
+    lines = err.splitlines()
+    expect_that("notes of a quota", "quota: tasks of Bad added more than 1,000 entries; deny Bad * * is in force" in lines
+                and lines[0].startswith("journal: 4,096 entries less 512 don't hold the quota of 1,000"), lines)
+    expect_that("quit behind a quota", re.fullmatch(r"entries \d+\n", out) and status == 0, (out, status))
+
+
+def halt_below(program):
+    """A run ends by itself when its journal has little room."""
+    script = "@host.toml\nbudget = 1000000\n" + unit(PLANT) + unit(free("Bad")) + "@list\nallow * * *\n@run\n"
+    for words, due in (((), r""), (("--notes", "always"), r"(journal: .*\n)+")):
+        run = Run(program, script, ("--halt-below", "2000", *words))
+        out, err = run.process.stdout.read().decode(), run.process.stderr.read().decode()
+        status = run.process.wait(timeout=LIMIT)
+        run.process.stdin.close()
+        entries = re.fullmatch(r"entries (\d+)\n", out)
+        expect_that(f"the end by --halt-below with {words}", entries and int(entries[1]) > 2096 and re.fullmatch(due, err)
+                    and status == 0, (out, err, status))
+
+
+def unread(program):
+    """An output that nobody reads holds up neither ticks nor the end, and past its bound ends the run."""
+    with tempfile.TemporaryDirectory() as folder:
+        file = os.path.join(folder, "journal")
+        script = "@host.toml\ncapacity = 100000\n@list\nallow * * *\n@run\n"
+        run = Run(program, script + 60 * "tick 1\n" + 3_000 * "journal 1\n", ("--journal", file, "--tick", "10"))
+        until("ticks beside an output that nobody reads", lambda: os.path.exists(file) and open(file).read().count("operator tick 10") > 30)
+        out, err, status = run.end()
+        expect_that("the end of an output that is read late", out.endswith(f"entries {len(open(file).readlines())}\n") and not err
+                    and status == 0, (out[-100:], err, status))
+        os.remove(file)
+        run = Run(program, script + 60 * "tick 1\n", ("--journal", file, "--tick", "10"))
+        try:
+            run.send(12_000 * "journal 1\n")
+        except BrokenPipeError:
+            pass
+        expect("the status of an output that nobody reads", run.process.wait(timeout=LIMIT), 4)
+        expect("what is said of it", run.process.stderr.read(), b"ravenhost: nobody reads the output: 16 MiB of it wait\n")
 
 
 def children(process):
@@ -564,7 +621,7 @@ def main():
         return 1 if faults else 0
     program = os.path.abspath(sys.argv[1]) if sys.argv[1:] else os.path.join(TOP, "crates/ravenhost/out/ravenhost")
     for part in (commands, row, device, two_devices, deepest, deepest_of_all, live, no_thread, refused, closed, edges, ticks, usage, prompt,
-                 stops, all_flags):
+                 stops, all_flags, quota, halt_below, unread):
         try:
             part(program)
         except BrokenPipeError:

@@ -25,7 +25,7 @@ use rv_access::Line;
 use rv_code::Unit;
 use rv_crew::crew::{Closed, Crew};
 use rv_event::entry::Answer;
-use rv_follow::follow;
+use rv_follow::{Found, follow};
 use rv_keep::{KeepFault, Keeper};
 use rv_port::control::Control;
 use rv_port::fault::PortFault;
@@ -164,7 +164,7 @@ impl Staff {
         self.control.append_line(rt, line)
     }
 
-    /// Writes the entries that came since the last look into a keeper's file, and counts them. Gives whether there were some.
+    /// Writes entries that came since the last look into a keeper's file, and counts them.
     ///
     /// # Errors
     /// `Write` where a write or a sync fails.
@@ -174,7 +174,7 @@ impl Staff {
         alloc: Global,
         keeper: &mut Keeper<F>,
         tally: &mut Tally,
-    ) -> Result<bool, KeepFault>
+    ) -> Result<Found, KeepFault>
         ensures reads { Reads self.old.control self.new.control }
         ensures kept { (opened : Known) → IsKept opened (F.contents keeper.old.file) self.old.control keeper.old.next
             → Looked opened (F.contents keeper.new.file) self.new.control keeper.new.next result }
