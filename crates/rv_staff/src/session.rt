@@ -47,6 +47,8 @@ pub struct Session {
     pub budget: u32,
     /// Where threads that are started from now on notify of how texts and handlers ended, if anywhere.
     pub notices: Option<Sender<Notice>>,
+    /// How many entries its journal may have.
+    pub capacity: usize,
 }
 
 impl Drop for Session {
@@ -59,16 +61,24 @@ impl Drop for Session {
             devices: _,
             budget: _,
             notices: _,
+            capacity: _,
         } = self;
     }
 }
 
 impl Session {
     /// A session on a host, whose threads aren't started yet.
-    pub fn new(alloc: Global, control: Control, devices: Vec<DeviceJob>, budget: u32) -> Session
+    pub fn new(
+        alloc: Global,
+        control: Control,
+        devices: Vec<DeviceJob>,
+        budget: u32,
+        capacity: usize,
+    ) -> Session
         ensures staff { result.staff ≡ record { control = control; crew = no_crew } }
         ensures devices { result.devices ≡ devices }
         ensures budget { result.budget ≡ budget }
+        ensures capacity { result.capacity ≡ capacity }
     {
         Session {
             alloc,
@@ -77,6 +87,7 @@ impl Session {
             devices,
             budget,
             notices: None,
+            capacity,
         }
     }
 
@@ -92,6 +103,7 @@ impl Session {
             devices: _,
             budget: _,
             notices: _,
+            capacity: _,
         } = self;
         drop(channels);
         staff.end(rt)
