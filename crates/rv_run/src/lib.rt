@@ -10,6 +10,7 @@ mod following;
 mod journal;
 pub mod kept;
 mod loads;
+mod notices;
 mod opening;
 mod room;
 pub mod run;
