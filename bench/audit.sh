@@ -9,30 +9,21 @@
 set -eu
 export LC_ALL=C
 
-missing() {
-    echo "bench/audit.sh: $1 is missing" >&2
-    exit 127
-}
-for tool in awk nproc cut sha256sum; do
-    command -v "$tool" >/dev/null || missing "$tool"
-done
+bench=$(dirname "$(readlink -f "$0")")
+. "$bench/shared/measuring.sh"
+needs awk nproc cut sha256sum
 case $(date +%N) in '' | *[!0-9]*) missing "GNU date" ;; esac
 [ -r /proc/loadavg ] || missing /proc/loadavg
 
-top=$(readlink -f "$(dirname "$(readlink -f "$0")")/..")
-folder=$(mktemp -d)
-trap 'rm -rf "$folder"' EXIT
+take_folder
 rounds=${1:-3}
 if [ $# -ge 3 ]; then
-    bench=$(readlink -f "$2") ravenhost=$(readlink -f "$3")
+    program=$(readlink -f "$2") ravenhost=$(readlink -f "$3")
 else
-    command -v rt >/dev/null || missing rt
-    (cd "$top" && ./ravenhost --prove)
-    if ! (cd "$top/crates/rv_bench" && rt run -- steps 0) >"$folder/log" 2>&1 </dev/null; then
-        cat "$folder/log" >&2
-        exit 1
-    fi
-    bench=$top/crates/rv_bench/out/rv_bench ravenhost=$top/crates/ravenhost/out/ravenhost
+    needs rt
+    "$bench/../ravenhost" --prove
+    build_beside rv_bench steps 0
+    ravenhost=$bench/../crates/ravenhost/out/ravenhost
 fi
 
 wrong() {
@@ -73,16 +64,16 @@ least() {
     sort -g "$1" | head -n 1
 }
 
-"$bench" script >"$folder/script"
+"$program" script >"$folder/script"
 echo "$(nproc) cores, load $(cut -d ' ' -f 1 /proc/loadavg) before the first run; the least of $rounds rounds"
 for entries in 100000 1000000; do
     journal=$folder/journal
-    "$bench" journal "$entries" >"$journal"
+    "$program" journal "$entries" >"$journal"
     [ "$(wc -l <"$journal")" = "$entries" ] || wrong "a journal of $entries entries has $(wc -l <"$journal") lines"
     for _ in $(seq "$rounds"); do
-        "$bench" steps "$entries" >"$folder/said" || wrong "no $entries steps"
+        "$program" steps "$entries" >"$folder/said" || wrong "no $entries steps"
         awk '{ print $5 }' "$folder/said" >>"$folder/alone.$entries"
-        "$bench" audit "$entries" >"$folder/said" || wrong "no audit of $entries entries in process"
+        "$program" audit "$entries" >"$folder/said" || wrong "no audit of $entries entries in process"
         awk '{ print $5 }' "$folder/said" | cut -d , -f 1 >>"$folder/steps.$entries"
         awk '{ print $8 }' "$folder/said" >>"$folder/audit.$entries"
         given=$folder/script

@@ -19,33 +19,7 @@ none="Machine::reserve Pass::split Control::note Crew::new Crew::join_all"
 
 build_allocations
 
-# Copies the sources of a crate into a folder of that name.
-copy() {
-    local part
-    for part in src specs proofs stdout; do
-        rm -rf "$2/${1##*/}/$part"
-        mkdir -p "$2/${1##*/}"
-        [ ! -e "$1/$part" ] || cp -r "$1/$part" "$2/${1##*/}/"
-    done
-    # The sources of bench/refusal_rows end in .txt, since the gate takes those of its crates alone.
-    find "$2/${1##*/}" -name '*.txt' | while IFS= read -r part; do mv "$part" "${part%.txt}"; done
-}
-
-# Has rt prove and build the program, in a tree of its own beside copies of the crates.
-prove() {
-    needs rt
-    local tree=$bench/refusal_rows/out/tree crate
-    mkdir -p "$tree/crates"
-    for crate in "$bench"/../crates/* "$bench/refusal_rows"; do copy "$crate" "$tree/crates"; done
-    cp "$bench/../HANDLES" "$tree"
-    cat "$bench/../crates.txt" "$bench/refusal_rows/crates.line" >"$tree/crates.txt"
-    if ! (cd "$tree/crates/refusal_rows" && rt run) >"$folder/whole" 2>"$folder/log" </dev/null; then
-        cat "$folder/log" >&2
-        exit 1
-    fi
-    program=$tree/crates/refusal_rows/out/refusal_rows
-}
-if [ $# -gt 0 ]; then program=$(readlink -f "$1"); else prove; fi
+if [ $# -gt 0 ]; then program=$(readlink -f "$1"); else build_beside refusal_rows; fi
 
 # Prints the call that found no memory, where it is one and all others are done.
 cat >"$folder/one.awk" <<'AWK'

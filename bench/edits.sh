@@ -1,7 +1,7 @@
 #!/usr/bin/env bash
 # Tries the must-fail edits that the gate leaves out, since their crates are dear to prove a second time, or since others of
 # their kind stand in the gate: the prover has to refuse each. Names of crates may be given; else all of bench/edits are
-# tried, and with them the gate's own edits of these crates. It needs rt, and some seventy processor minutes.
+# tried, and with them the gate's own edits of these crates. It needs rt, and some eighty processor minutes.
 set -eu
 
 command -v rt >/dev/null || { echo "bench/edits.sh: rt is missing" >&2; exit 127; }

@@ -1,4 +1,5 @@
-# What scripts of bench/ have in common that measure by crates/rv_bench or look at allocations. They source it.
+# What scripts of bench/ have in common that measure by bench/rv_bench or look at allocations. They source it, with their folder in
+# `bench`.
 
 missing() {
     echo "bench/$(basename "$0"): $1 is missing" >&2
@@ -19,16 +20,63 @@ take_folder() {
     trap 'rm -rf "$folder"' EXIT
 }
 
-# Makes a folder and goes to rv_bench, which the first time is proved and built. The words are those of a short run of it.
-enter_rv_bench() {
-    needs rt nproc cut
-    [ -r /proc/loadavg ] || missing /proc/loadavg
-    take_folder
-    cd "$bench/../crates/rv_bench"
-    if ! rt run -- "$@" >"$folder/log" 2>&1 </dev/null; then
+# Copies the sources of a crate into a folder of its name below another, and links its library there, where that is proved.
+copy_crate() {
+    local to=$2/${1##*/} part
+    mkdir -p "$to/out"
+    for part in src specs proofs stdout; do
+        [ ! -e "$1/$part" ] || cp -r "$1/$part" "$to/"
+    done
+    [ ! -d "$1/out/rlib" ] || cp -al "$1/out/rlib" "$to/out/"
+    # The sources of bench/ end in .txt, since the gate takes those of its crates alone.
+    find "$to" -name '*.antt.txt' -o -name '*.rt.txt' | while IFS= read -r part; do mv "$part" "${part%.txt}"; done
+}
+
+# Gives a program of bench/ its out/ back, and removes the tree, since the gate takes no sources but those of crates.
+lift_tree() {
+    [ ! -d "$2/crates/$1/out" ] || [ -d "$bench/$1/out" ] || mv "$2/crates/$1/out" "$bench/$1/"
+    rm -rf "$2"
+}
+
+# Lays a tree of the crates and of a program of bench/ that isn't part of the gate, whose out/ goes there. Before that it has
+# the libraries proved that the program stands on, where they are.
+lay_tree() {
+    local name=$1 tree=$2 crate
+    for crate in $(cut -d : -f 2 "$bench/$name/crates.line"); do
+        [ ! -d "$bench/../crates/$crate" ] || (cd "$bench/../crates/$crate" && rt lib) || return
+    done
+    lift_tree "$name" "$tree" && mkdir -p "$tree/crates" || return
+    for crate in "$bench"/../crates/* "$bench/$name"; do copy_crate "$crate" "$tree/crates" || return; done
+    cp "$bench/../HANDLES" "$tree" &&
+        cat "$bench/../crates.txt" "$bench/$name/crates.line" >"$tree/crates.txt" &&
+        mkdir -p "$bench/$name/out" && rmdir "$tree/crates/$name/out" && mv "$bench/$name/out" "$tree/crates/$name/"
+}
+
+# Has rt prove and build a program of bench/ that isn't part of the gate, `program`, where that is due: in a tree of its own,
+# which stands while it does. The words after its name are those of a short run of it.
+build_beside() {
+    needs rt find cut flock
+    local name=$1 tree=$bench/out/$1
+    shift
+    program=$bench/$name/out/$name
+    mkdir -p "$bench/out"
+    (
+        flock 9
+        trap 'lift_tree "$name" "$tree"' EXIT
+        lay_tree "$name" "$tree" && cd "$tree/crates/$name" && rt run -- "$@"
+    ) >"$folder/log" 2>&1 </dev/null 9>"$bench/out/$name.lock" || {
         cat "$folder/log" >&2
         exit 1
-    fi
+    }
+}
+
+# Makes a folder and goes to rv_bench, which the first time is proved and built. The words are those of a short run of it.
+enter_rv_bench() {
+    needs nproc cut
+    [ -r /proc/loadavg ] || missing /proc/loadavg
+    take_folder
+    build_beside rv_bench "$@"
+    cd "$bench/rv_bench"
 }
 
 # What the machine is, and what it is at.

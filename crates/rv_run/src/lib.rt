@@ -13,6 +13,7 @@ mod loads;
 mod opening;
 mod room;
 pub mod run;
+mod telling;
 mod ticking;
 
 pub use attention::Attention;

@@ -7,6 +7,7 @@ ghost use Rattle.rv_staff.specs.Staffs.{no_crew};
 use crate::staff::Staff;
 use crossbeam_channel::Sender;
 use rv_crew::crew::Closed;
+use rv_crew::notice::Notice;
 use rv_port::control::Control;
 use std::alloc::Global;
 use std::sync::Wait;
@@ -46,6 +47,8 @@ pub struct Session {
     pub budget: u32,
     /// How many entries its journal may have.
     pub capacity: usize,
+    /// Where threads that are started from now on notify of how texts and handlers ended, if anywhere.
+    pub notices: Option<Sender<Notice>>,
 }
 
 impl Drop for Session {
@@ -58,6 +61,7 @@ impl Drop for Session {
             devices: _,
             budget: _,
             capacity: _,
+            notices: _,
         } = self;
     }
 }
@@ -83,6 +87,7 @@ impl Session {
             devices,
             budget,
             capacity,
+            notices: None,
         }
     }
 
@@ -98,6 +103,7 @@ impl Session {
             devices: _,
             budget: _,
             capacity: _,
+            notices: _,
         } = self;
         drop(channels);
         staff.end(rt)

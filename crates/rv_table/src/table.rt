@@ -22,7 +22,6 @@ use std::marker::Model;
 /// at most. It answers for every tick, and keeps no place among them.
 ///
 /// Contracts see its marks, and `IsTable` says of which list and which units they are.
-#[derive(Drop)]
 pub struct Table {
     callers: Vec<Row>,
     objects: Vec<ObjectRows>,
@@ -30,6 +29,20 @@ pub struct Table {
     allowing: Row,
     spans: Spans,
     lines: usize,
+}
+
+impl Drop for Table {
+    // A function of its own: a derived one is written out wherever a table is let go, and proved there.
+    fn drop(self) {
+        let Table {
+            callers: _,
+            objects: _,
+            nameless: _,
+            allowing: _,
+            spans: _,
+            lines: _,
+        } = self;
+    }
 }
 
 impl Model for Table {

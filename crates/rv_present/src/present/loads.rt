@@ -11,7 +11,7 @@ ghost use Rattle.rv_present.specs.Loads.{HasGrown};
 ghost use Rattle.rv_present.specs.Present.{IsBeforeLoad, IsPresent, Stands};
 
 use crate::new_objects::put_after;
-use crate::present::Present;
+use crate::present::{Present, sum_of};
 use rv_event::entry::{Entry, EntryRef};
 use rv_shape::actor::FIRST_TASK;
 use rv_shape::catalogue::Catalogue;
@@ -31,7 +31,13 @@ impl Present {
         let dues = self.stances.dues_of(actors);
         let halt = self.counts.halt_due_with(&EntryRef::Load);
         let unsettled = self.unsettled.number();
-        self.counts.entries + 1 + (self.bodies.number + unsettled + dues + halt)
+        1 + sum_of(
+            self.counts.entries,
+            self.bodies.number,
+            unsettled,
+            dues,
+            halt,
+        )
     }
 
     // The new objects get their initial scalars, and the new actors are among those that owe.

@@ -15,21 +15,12 @@ all_little c =
     (omega (arith, c.dues-dues.ensures, few_dues ss.stances ss.actors, k.is_present.actors_are, k.is_present.few_actors)) c.halt_due-halt.ensures.within
     (omega (arith, k.is_present.counts_are.entries_are, few, k.most)) (omega (arith, c.number-unsettled.ensures)) (omega (arith, k.is_present.unsettled_are.count, few, k.most))
 
-pub overflow_add-result : goal.overflow_add-result
-overflow_add-result c = omega (arith, all_little c)
-
-pub overflow_add-result-2 : goal.overflow_add-result-2
-overflow_add-result-2 c = omega (arith, all_little c)
-
-pub overflow_add-result-3 : goal.overflow_add-result-3
-overflow_add-result-3 c = omega (arith, all_little c)
-
-pub overflow_add-result-4 : goal.overflow_add-result-4
-overflow_add-result-4 c = omega (arith, all_little c)
+pub sum_of-requires : goal.sum_of-requires
+sum_of-requires c = omega (arith, all_little c)
 
 pub returns : goal.returns
 returns c = λ h was.
     let ss = c.args.self.now.stances in
     let due : c.dues-dues.result ≡ each (actors h.shapes) (dues h.past) = c.dues-dues.ensures ∙ dues_are h.past ss.stances ss.actors was.stances_are ∙ ap (λ n. each n (dues h.past)) was.actors_are in
     let halt : c.halt_due-halt.result ≡ halt_due (halted h.past) = c.halt_due-halt.ensures.value ∙ ap halt_due was.counts_are.halted_is in
-    omega (arith, due, halt, was.counts_are.entries_are, was.bodies_are.count, c.number-unsettled.ensures, was.unsettled_are.count)
+    omega (arith, c.sum_of.ensures.value, due, halt, was.counts_are.entries_are, was.bodies_are.count, c.number-unsettled.ensures, was.unsettled_are.count)

@@ -17,20 +17,8 @@ all_little c =
     (omega (arith, c.dues_of-dues.ensures.within, c.actors.ensures.value, ap (λ ts. length ts) c.tasks.ensures, c.requires.few, k.is_present.actors_are)) c.halt_due_with-halt.ensures.within
     (omega (arith, k.is_present.counts_are.entries_are, few, k.most)) (omega (arith, c.number-unsettled.ensures)) (omega (arith, k.is_present.unsettled_are.count, few, k.most))
 
-pub overflow_add-result : goal.overflow_add-result
-overflow_add-result c = omega (arith, all_little c)
-
-pub overflow_add-result-2 : goal.overflow_add-result-2
-overflow_add-result-2 c = omega (arith, all_little c)
-
-pub overflow_add-result-3 : goal.overflow_add-result-3
-overflow_add-result-3 c = omega (arith, all_little c)
-
-pub overflow_add-result-4 : goal.overflow_add-result-4
-overflow_add-result-4 c = omega (arith, all_little c)
-
-pub overflow_add-result-5 : goal.overflow_add-result-5
-overflow_add-result-5 c = omega (arith, all_little c)
+pub sum_of-requires : goal.sum_of-requires
+sum_of-requires c = omega (arith, all_little c)
 
 pub returns : goal.returns
 returns c = λ limits past lists legal was.
@@ -42,4 +30,4 @@ returns c = λ limits past lists legal was.
     let due : c.dues_of-dues.result ≡ each (actors shapes + length c.args.shape.now.tasks) (dues (Load ∷ past)) =
     c.dues_of-dues.ensures.value ∙ dues_are (Load ∷ past) ss.stances (c.actors.result + length c.tasks.result.now) was.stances_are ∙ ap (λ m. each m (dues (Load ∷ past))) n in
     let halt : c.halt_due_with-halt.result ≡ halt_due (halted (Load ∷ past)) = c.halt_due_with-halt.ensures.value past was.counts_are.halted_is in
-    omega (arith, owed_loaded h c.args.shape.now legal, was.bodies_are.count, c.number-unsettled.ensures, was.unsettled_are.count, due, halt, was.counts_are.entries_are)
+    omega (arith, c.sum_of.ensures.value, owed_loaded h c.args.shape.now legal, was.bodies_are.count, c.number-unsettled.ensures, was.unsettled_are.count, due, halt, was.counts_are.entries_are)
