@@ -139,10 +139,7 @@ fn tell_denial<E: Write>(
         return;
     };
     let quota = room.quota.unwrap_or(0);
-    room.tell(
-        denial_line(room.alloc, shape.name(), quota, answer),
-        errors,
-    );
+    room.tell(denial_line(room.alloc, shape.name(), quota, answer), errors);
 }
 
 // What comes behind a denial with this answer. One for which memory was refused is asked again at the next look.
@@ -227,9 +224,12 @@ pub(crate) fn keep_room<T: Wait + Clock, E: Write>(
     }
     check_promise(session, room, errors);
     for _ in 0..MOST_DUES {
-        let due = room
-            .guard
-            .next(session.staff.catalogue(), &room.tally, session.capacity, used);
+        let due = room.guard.next(
+            session.staff.catalogue(),
+            &room.tally,
+            session.capacity,
+            used,
+        );
         match do_due(rt, session, room, due, used, errors) {
             Then::Next => {}
             Then::Rest => return Goes::On,
