@@ -473,8 +473,13 @@ fn number_of(word: Option<&str>, most: u32) -> Option<Option<u32>>
 // What a run does beside its commands, by what it was given; none where a word is another, or a sync has no file.
 fn run_words<'a>(words: &ArgMatches<'a>) -> Option<RunWords<'a>>
     ensures some { IfSome result (λ run. IsRun (rows_of (found_of words.now))
-        (record { kept = option_map (λ k. (k.name.now, k.sync)) run.kept; tick = run.tick;
-            halt_below = run.halt_below; quota = run.quota; stop = option_map (λ s. s.now) run.stop_by })) }
+        (record {
+          kept = option_map (λ k. (k.name.now, k.sync)) run.kept;
+          tick = run.tick;
+          halt_below = run.halt_below;
+          quota = run.quota;
+          stop = option_map (λ s. s.now) run.stop_by;
+        })) }
     ensures none { IfNone result (HasNoRun (rows_of (found_of words.now))) }
 {
     let kept = kept_of(words)?;
@@ -503,8 +508,13 @@ const NO_RUN: RunWords<'static> = RunWords {
 fn play_chosen<'a>(words: &ArgMatches<'a>) -> Option<Selection<'a>>
     ensures some { IfSome result (λ chosen. IsSelection (codes "play", rows_of (found_of words.now)) chosen.choice
         (option_map (λ s. s.now) chosen.journal) chosen.notes chosen.are_errors chosen.explains
-        (record { kept = option_map (λ k. (k.name.now, k.sync)) chosen.run.kept; tick = chosen.run.tick;
-            halt_below = chosen.run.halt_below; quota = chosen.run.quota; stop = option_map (λ s. s.now) chosen.run.stop_by })) }
+        (record {
+          kept = option_map (λ k. (k.name.now, k.sync)) chosen.run.kept;
+          tick = chosen.run.tick;
+          halt_below = chosen.run.halt_below;
+          quota = chosen.run.quota;
+          stop = option_map (λ s. s.now) chosen.run.stop_by;
+        })) }
     ensures none { IfNone result (HasNoWord (rows_of (found_of words.now))) }
 {
     let told = telling_of(words)?;
@@ -522,8 +532,13 @@ fn play_chosen<'a>(words: &ArgMatches<'a>) -> Option<Selection<'a>>
 fn check_chosen<'a>(words: &ArgMatches<'a>) -> Option<Selection<'a>>
     ensures some { IfSome result (λ chosen. IsSelection (codes "check", rows_of (found_of words.now)) chosen.choice
         (option_map (λ s. s.now) chosen.journal) chosen.notes chosen.are_errors chosen.explains
-        (record { kept = option_map (λ k. (k.name.now, k.sync)) chosen.run.kept; tick = chosen.run.tick;
-            halt_below = chosen.run.halt_below; quota = chosen.run.quota; stop = option_map (λ s. s.now) chosen.run.stop_by })) }
+        (record {
+          kept = option_map (λ k. (k.name.now, k.sync)) chosen.run.kept;
+          tick = chosen.run.tick;
+          halt_below = chosen.run.halt_below;
+          quota = chosen.run.quota;
+          stop = option_map (λ s. s.now) chosen.run.stop_by;
+        })) }
     ensures none { IfNone result (HasNoWord (rows_of (found_of words.now))) }
 {
     let told = telling_of(words)?;
@@ -541,8 +556,13 @@ fn check_chosen<'a>(words: &ArgMatches<'a>) -> Option<Selection<'a>>
 fn run_chosen<'a>(words: &ArgMatches<'a>) -> Option<Selection<'a>>
     ensures some { IfSome result (λ chosen. IsSelection (codes "run", rows_of (found_of words.now)) chosen.choice
         (option_map (λ s. s.now) chosen.journal) chosen.notes chosen.are_errors chosen.explains
-        (record { kept = option_map (λ k. (k.name.now, k.sync)) chosen.run.kept; tick = chosen.run.tick;
-            halt_below = chosen.run.halt_below; quota = chosen.run.quota; stop = option_map (λ s. s.now) chosen.run.stop_by })) }
+        (record {
+          kept = option_map (λ k. (k.name.now, k.sync)) chosen.run.kept;
+          tick = chosen.run.tick;
+          halt_below = chosen.run.halt_below;
+          quota = chosen.run.quota;
+          stop = option_map (λ s. s.now) chosen.run.stop_by;
+        })) }
     ensures none { IfNone result (HasNoWord (rows_of (found_of words.now)) ⊎ HasNoRun (rows_of (found_of words.now))) }
 {
     let told = telling_of(words)?;
@@ -561,8 +581,13 @@ fn run_chosen<'a>(words: &ArgMatches<'a>) -> Option<Selection<'a>>
 fn audit_chosen<'a>(words: &ArgMatches<'a>) -> Option<Selection<'a>>
     ensures some { IfSome result (λ chosen. IsSelection (codes "audit", rows_of (found_of words.now)) chosen.choice
         (option_map (λ s. s.now) chosen.journal) chosen.notes chosen.are_errors chosen.explains
-        (record { kept = option_map (λ k. (k.name.now, k.sync)) chosen.run.kept; tick = chosen.run.tick;
-            halt_below = chosen.run.halt_below; quota = chosen.run.quota; stop = option_map (λ s. s.now) chosen.run.stop_by })) }
+        (record {
+          kept = option_map (λ k. (k.name.now, k.sync)) chosen.run.kept;
+          tick = chosen.run.tick;
+          halt_below = chosen.run.halt_below;
+          quota = chosen.run.quota;
+          stop = option_map (λ s. s.now) chosen.run.stop_by;
+        })) }
     ensures none { IfNone result (LacksFile (rows_of (found_of words.now))) }
 {
     let journal = words.get_str("journal");
@@ -582,8 +607,13 @@ fn choice_of<'a>(matches: &ArgMatches<'a>) -> Option<Selection<'a>>
     ensures found { IfSome result (λ chosen. (found : Text × List Row) × (subcommand_rows_of matches.now ≡ Some found)
         × IsSelection found chosen.choice (option_map (λ s. s.now) chosen.journal) chosen.notes chosen.are_errors
         chosen.explains
-        (record { kept = option_map (λ k. (k.name.now, k.sync)) chosen.run.kept; tick = chosen.run.tick;
-            halt_below = chosen.run.halt_below; quota = chosen.run.quota; stop = option_map (λ s. s.now) chosen.run.stop_by })) }
+        (record {
+          kept = option_map (λ k. (k.name.now, k.sync)) chosen.run.kept;
+          tick = chosen.run.tick;
+          halt_below = chosen.run.halt_below;
+          quota = chosen.run.quota;
+          stop = option_map (λ s. s.now) chosen.run.stop_by;
+        })) }
     ensures none { IfNone result ((found : Text × List Row) → subcommand_rows_of matches.now ≡ Some found
         → NamesNone found) }
 {
@@ -607,8 +637,13 @@ fn choice_of<'a>(matches: &ArgMatches<'a>) -> Option<Selection<'a>>
 pub fn chosen<'a>(alloc: Global, words: &'a [&'a str]) -> Result<Selection<'a>, Unchosen>
     ensures ok { IfOk result (λ chosen. Chooses (map (λ w. w.now) words.now) chosen.choice
         (option_map (λ s. s.now) chosen.journal) chosen.notes chosen.are_errors chosen.explains
-        (record { kept = option_map (λ k. (k.name.now, k.sync)) chosen.run.kept; tick = chosen.run.tick;
-            halt_below = chosen.run.halt_below; quota = chosen.run.quota; stop = option_map (λ s. s.now) chosen.run.stop_by })) }
+        (record {
+          kept = option_map (λ k. (k.name.now, k.sync)) chosen.run.kept;
+          tick = chosen.run.tick;
+          halt_below = chosen.run.halt_below;
+          quota = chosen.run.quota;
+          stop = option_map (λ s. s.now) chosen.run.stop_by;
+        })) }
     ensures taken { takes program (map (λ w. w.now) words.now) ≡ true
         → IfErr result (Lacks (map (λ w. w.now) words.now)) }
     ensures line { (name : Text) → (choice : Choice) → map (λ w. w.now) words.now ≡ name ∷ line_of choice

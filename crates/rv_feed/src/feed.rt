@@ -135,10 +135,7 @@ impl Feed {
 
     /// Whether the end that reads the input is gone.
     pub fn is_over<R: Wait>(&self, rt: &R) -> bool {
-        matches!(
-            self.pieces.try_recv(rt),
-            Err(TryRecvError::Disconnected)
-        )
+        matches!(self.pieces.try_recv(rt), Err(TryRecvError::Disconnected))
     }
 
     // Takes bytes of a piece, as many as a buffer holds, and keeps the others.

@@ -10,10 +10,10 @@ mod following;
 mod journal;
 pub mod kept;
 mod loads;
-mod notices;
 mod opening;
 mod room;
 pub mod run;
+mod telling;
 mod ticking;
 
 pub use attention::Attention;

@@ -45,10 +45,10 @@ pub struct Session {
     pub devices: Vec<DeviceJob>,
     /// How many requests a task's own body may make.
     pub budget: u32,
-    /// Where threads that are started from now on notify of how texts and handlers ended, if anywhere.
-    pub notices: Option<Sender<Notice>>,
     /// How many entries its journal may have.
     pub capacity: usize,
+    /// Where threads that are started from now on notify of how texts and handlers ended, if anywhere.
+    pub notices: Option<Sender<Notice>>,
 }
 
 impl Drop for Session {
@@ -60,8 +60,8 @@ impl Drop for Session {
             channels: _,
             devices: _,
             budget: _,
-            notices: _,
             capacity: _,
+            notices: _,
         } = self;
     }
 }
@@ -86,8 +86,8 @@ impl Session {
             channels: Vec::new(alloc),
             devices,
             budget,
-            notices: None,
             capacity,
+            notices: None,
         }
     }
 
@@ -102,8 +102,8 @@ impl Session {
             channels,
             devices: _,
             budget: _,
-            notices: _,
             capacity: _,
+            notices: _,
         } = self;
         drop(channels);
         staff.end(rt)
