@@ -45,10 +45,14 @@ abbrev pub SaysLost : {X E : Type 0} → Known → Known → List Shape → List
 SaysLost old new shapes lost result =
     Says old new (flat_map (lost_line shapes) lost) result ⊎ Says old new no_memory_line result
 
+-- a line has a handler, a task a text
+abbrev pub ending_head : Who → List ℕ
+ending_head (Line line) = codes "handler of"
+ending_head who = codes "task"
+
 -- the text of a task ended so, or a line's handler did, which raised an exception
 abbrev pub ending_line : Who → Ending → List ℕ
-ending_line (Line line) ending = codes "handler of " ++ actor_text (Line line) ++ codes " ended: " ++ ending_text ending ++ 10 ∷ []
-ending_line who ending = codes "task " ++ actor_text who ++ codes " ended: " ++ ending_text ending ++ 10 ∷ []
+ending_line who ending = (ending_head who ++ codes " " ++ actor_text who) ++ (codes " ended: " ++ (ending_text ending ++ 10 ∷ []))
 
 -- that is said of a notice
 abbrev pub notice_line : List Shape → Notice → List ℕ

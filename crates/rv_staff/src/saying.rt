@@ -4,7 +4,7 @@ ghost use Rattle.std.specs.Prelude.{◌≡◌, ◌++◌, ◌∷◌, [], codes, I
 ghost use Rattle.rv_shape.specs.Printed.{actor_text};
 ghost use Rattle.rv_shape.specs.Readers.{who_of};
 ghost use Rattle.std.specs.List.{flat_map};
-ghost use Rattle.rv_staff.specs.Saying.{Says, SaysLost, SaysNoThread, ending_line, lost_line, notice_line};
+ghost use Rattle.rv_staff.specs.Saying.{Says, SaysLost, SaysNoThread, ending_head, ending_line, lost_line, notice_line};
 
 use rv_crew::notice::Notice;
 use rv_port::ended::Ending;
@@ -42,14 +42,24 @@ fn lost_line(alloc: Global, who: &Actor) -> Result<String, AllocError>
     format!(in alloc; "lost {who}\n")
 }
 
+// What stands before an actor where it is said how its text, or its handler, ended.
+fn ending_head(who: &Actor) -> &'static str
+    ensures { result.now ≡ ending_head (who_of who.now) }
+{
+    match who {
+        Actor::Line(_) => "handler of",
+        Actor::Operator => "task",
+        Actor::Task(_, _) => "task",
+        Actor::Nobody => "task",
+    }
+}
+
 // What is said of the text of a task that ended, or of a line's handler that raised an exception.
 fn ending_line(alloc: Global, who: &Actor, ending: &Ending) -> Result<String, AllocError>
     ensures { IfOk result (λ line. string_bytes line ≡ ending_line (who_of who.now) ending.now) }
 {
-    match who {
-        Actor::Line(_) => format!(in alloc; "handler of {who} ended: {ending}\n"),
-        _ => format!(in alloc; "task {who} ended: {ending}\n"),
-    }
+    let head = ending_head(who);
+    format!(in alloc; "{head} {who} ended: {ending}\n")
 }
 
 /// What is said of a notice, by the units of a catalogue: a line, with its line feed.
