@@ -15,6 +15,7 @@ pub mod line;
 pub mod lists;
 pub mod loaded;
 pub mod names;
+pub mod nulls;
 pub mod restrictions;
 pub mod sections;
 pub mod settings;

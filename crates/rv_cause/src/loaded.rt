@@ -108,24 +108,28 @@ fn bad_part<'a>(
     if !known.has_unit(unit) {
         return Ok(Some(bad_unit(alloc, at, unit, known)?));
     }
-    if is_there(unit, name, is_task, known) {
+    let group = if is_task {
+        Group::Tasks(unit)
+    } else {
+        Group::Objects(unit)
+    };
+    if known.find(group, name).is_some() {
         return Ok(None);
     }
-    let (said, group) = if is_task {
-        ("no task {0} in {1}", Group::Tasks(unit))
-    } else {
-        ("no object {0} in {1}", Group::Objects(unit))
-    };
     let near = known.near(alloc, name, group)?;
     let behind = at.saturating_add(unit.len()).saturating_add(1);
+    let said = said_of_part(unit, name, is_task, known);
     Ok(Some(Cause::new(behind, said, [name, unit, ""]).with_names("; it has ", near, group)))
 }
 
-// Whether a unit has a task, or an object, of a name.
-fn is_there(unit: &str, name: &str, is_task: bool, known: &Known<'_>) -> bool {
+// What is said of a name that is no task, or no object, of a unit.
+fn said_of_part(unit: &str, name: &str, is_task: bool, known: &Known<'_>) -> &'static str {
+    if is_task {
+        return "no task {0} in {1}";
+    }
     match known.find(Group::Package(unit), name) {
-        Some(item) => (item.sort == Sort::Task) == is_task,
-        None => false,
+        Some(item) if item.mark == "type" => "{0} is a type, and no object of {1}",
+        _ => "no object {0} in {1}",
     }
 }
 

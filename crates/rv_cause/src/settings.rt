@@ -25,6 +25,8 @@ pub struct Entry<'a> {
     key: &'a str,
     // The first word of the value.
     value: &'a str,
+    // The whole value.
+    whole: &'a str,
     // The byte of the text where the line begins.
     at: usize,
 }
@@ -149,6 +151,16 @@ fn entry_of<'a>(table: Table, line: &'a str, at: usize) -> Option<Entry<'a>> {
             table,
             key: "",
             value: word,
+            whole: word,
+            at,
+        });
+    }
+    if word.starts_with("{") {
+        return Some(Entry {
+            table,
+            key: "device",
+            value: word,
+            whole: line,
             at,
         });
     }
@@ -159,6 +171,7 @@ fn entry_of<'a>(table: Table, line: &'a str, at: usize) -> Option<Entry<'a>> {
         table,
         key,
         value,
+        whole: right,
         at,
     })
 }
@@ -275,6 +288,37 @@ fn unknown<'a>(alloc: Global, entry: &Entry<'a>) -> Result<Cause<'a>, AllocError
     Ok(Cause::of(entry.at, entry.said_of_key(), key))
 }
 
+// The key that stands in a part of a device that is written in one line, if one does.
+fn key_within(part: &str) -> Option<&str> {
+    let (left, _) = part.split_once('=')?;
+    let key = match left.rsplit_once('{') {
+        Some((_, behind)) => behind,
+        None => left,
+    };
+    let (key, _) = next_word(key)?;
+    Some(key)
+}
+
+// Which key a device doesn't have that is written in one line, if it is that.
+fn unknown_within<'a>(alloc: Global, entry: &Entry<'a>) -> Result<Option<Cause<'a>>, AllocError> {
+    if entry.key != "device" {
+        return Ok(None);
+    }
+    for part in entry.whole.split(',') {
+        let within = Entry {
+            table: Table::Device,
+            key: key_within(part).unwrap_or("unit"),
+            value: "",
+            whole: "",
+            at: entry.at,
+        };
+        if !within.is_key() {
+            return Ok(Some(unknown(alloc, &within)?));
+        }
+    }
+    Ok(None)
+}
+
 /// Which key settings don't have. Err where memory was refused.
 pub fn unknown_key<'a>(alloc: Global, entries: &[Entry<'a>]) -> Result<Cause<'a>, AllocError> {
     for entry in entries {
@@ -284,6 +328,11 @@ pub fn unknown_key<'a>(alloc: Global, entries: &[Entry<'a>]) -> Result<Cause<'a>
         if entry.key.is_empty() && entry.table == Table::Other && entry.value != "[device]" {
             let said = "unknown table {0}; devices are [[device]]";
             return Ok(Cause::of(entry.at, said, entry.value));
+        }
+    }
+    for entry in entries {
+        if let Some(cause) = unknown_within(alloc, entry)? {
+            return Ok(cause);
         }
     }
     Ok(Cause::plain(0, "the keys are capacity, budget, queue_limit and device"))

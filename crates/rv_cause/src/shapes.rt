@@ -3,7 +3,7 @@
 use crate::cause::Cause;
 use crate::known::Known;
 use crate::line::{Form, Line, is_listed, is_number, said_of};
-use rv_text::{is_identifier, is_same_name, next_line};
+use rv_text::{integer_of, is_identifier, is_same_name, next_line};
 use std::alloc::{AllocError, Global};
 
 const PARTS: [&str; 5] = ["scalar", "function", "procedure", "entry", "handler"];
@@ -13,6 +13,10 @@ const MODES: [&str; 3] = ["in", "out", "inout"];
 const RESERVED: [&str; 5] = ["Ada", "System", "Standard", "Host", "Interrupts"];
 
 const TAKEN: &str = "line {0} has a handler already (C.3.1)";
+
+const BARRIER: &str = "a barrier is open, closed, or the number of a scalar of range 0 .. 1";
+
+const HANDLED: &str = "a line of a handler is one of 0 .. 9";
 
 const FIRST: &str = "the first line of a shape is unit and its name";
 
@@ -120,17 +124,62 @@ fn bad_line<'a>(line: &Line<'a>, is_inside: bool) -> Option<Cause<'a>> {
     Some(Cause::of(line.at(0), "this line has to be: {0}", form))
 }
 
-// The entry whose barrier is none.
-fn bad_barrier<'a>(lines: &[Line<'a>]) -> Cause<'a> {
+// Whether the scalar of a number, from 1, of the object that these lines begin with has the range 0 .. 1.
+fn is_truth(lines: &[Line<'_>], number: i64) -> bool {
+    let mut count = 0i64;
     for line in lines {
-        if line.is(0, "entry") && !line.is(2, "open") && !line.is(2, "closed") {
-            return line.cause(
-                2,
-                "a barrier is open, closed, or the number of a scalar of range 0 .. 1",
-            );
+        if !is_part(line) {
+            return false;
+        }
+        if line.is(0, "scalar") {
+            count = count.saturating_add(1);
+            if count == number {
+                return line.number(1) == Some(0) && line.number(2) == Some(1);
+            }
         }
     }
-    Cause::plain(0, "a line of a handler is one of 0 .. 9")
+    false
+}
+
+// Whether a word is the barrier of an entry of the object whose parts are these lines.
+fn is_barrier(parts: &[Line<'_>], word: &str) -> bool {
+    match integer_of(word) {
+        Some(number) => is_truth(parts, number),
+        None => word == "open" || word == "closed",
+    }
+}
+
+// That an entry of the object whose parts are these lines has no barrier, or a handler no line.
+fn bad_part<'a>(line: &Line<'a>, parts: &[Line<'_>]) -> Option<Cause<'a>> {
+    if line.is(0, "entry") && !is_barrier(parts, line.word(2)) {
+        return Some(line.cause(2, BARRIER));
+    }
+    if line.is(0, "handler") && !is_interrupt(line.number(2)) {
+        return Some(line.cause(2, HANDLED));
+    }
+    None
+}
+
+// Whether a number is that of an interrupt line.
+fn is_interrupt(number: Option<i64>) -> bool {
+    match number {
+        Some(number) => 0 <= number && number <= 9,
+        None => false,
+    }
+}
+
+// The entry whose barrier is none, or the handler whose line is none.
+fn bad_barrier<'a>(lines: &[Line<'a>]) -> Cause<'a> {
+    let mut parts = lines;
+    for (number, line) in lines.iter().enumerate() {
+        if line.is(0, "protected") {
+            parts = lines.get(number.saturating_add(1)..).unwrap_or(lines);
+        }
+        if let Some(cause) = bad_part(line, parts) {
+            return cause;
+        }
+    }
+    Cause::plain(0, HANDLED)
 }
 
 /// Which line isn't one of a shape.

@@ -82,6 +82,19 @@ fn is_library(words: &Words<'_, '_>) -> bool {
     words.fit("^Ada|Standard") || library::ends_with(words.word(0)).is_some()
 }
 
+const NOT_KNOWN: &str = "{0} has no {1} that is known here";
+
+// That a library package, whose whole name stands here, hasn't what stands behind it.
+fn no_item<'a>(words: &Words<'_, 'a>) -> Cause<'a> {
+    let last = words.last_part();
+    if let Some(library) = library::ends_with(words.word(last.saturating_sub(2))) {
+        if library.split('.').count() == last / 2 {
+            return Cause::pair(words.place(last), NOT_KNOWN, library, words.word(last));
+        }
+    }
+    Cause::pair(words.place(2), NOT_KNOWN, words.word(0), words.word(2))
+}
+
 // Which part of a name with points isn't there.
 fn dotted<'a>(
     alloc: Global,
@@ -93,8 +106,7 @@ fn dotted<'a>(
         return no_part(alloc, words, part, known);
     }
     if is_library(words) {
-        let said = "{0} has no {1} that is known here";
-        return Ok(Cause::new(words.place(2), said, [words.word(0), words.word(2), ""]));
+        return Ok(no_item(words));
     }
     simple(alloc, words, around, known)
 }

@@ -3,7 +3,7 @@
 ghost use Rattle.std.specs.Prelude.{◌+◌, ◌≤◌, ◌^◌, length};
 
 use crate::explanation::{Explanation, nothing, of_line, of_script, of_section};
-use crate::sections::{known_before, opening_before, section_at, texts_before};
+use crate::sections::{known_before, load_at, opening_before, section_at, texts_before};
 use crate::spot::{Spot, line_spot};
 use crate::units::of_unit;
 use rv_access::ListFault;
@@ -242,14 +242,29 @@ fn of_text<'a>(
     line: usize,
     what: What,
 ) -> Result<Explanation<'a>, AllocError> {
-    let Some(section) = section_at(script, line) else {
+    if let Some(section) = section_at(script, line) {
+        return of_part(alloc, script, &section, what);
+    }
+    let Some(load) = load_at(script, line) else {
         return of_spot(alloc, script, line, what);
     };
+    of_part(alloc, script, &load, what)
+}
+
+// What is said of a fault of the text of a section, or of the unit text behind a command `load`.
+fn of_part<'a>(
+    alloc: Global,
+    script: &'a str,
+    section: &Section<'a>,
+    what: What,
+) -> Result<Explanation<'a>, AllocError>
+    requires { section.now.line + length section.now.text.now ≤ 2 ^ 63 }
+{
     match what {
-        What::Unit(fault) => of_unit(alloc, script, &section, fault),
-        What::Shape(fault) => of_shape(alloc, script, &section, fault),
-        What::Settings(fault) => of_settings(alloc, &section, fault),
-        _ => of_spot(alloc, script, line, what),
+        What::Unit(fault) => of_unit(alloc, script, section, fault),
+        What::Shape(fault) => of_shape(alloc, script, section, fault),
+        What::Settings(fault) => of_settings(alloc, section, fault),
+        _ => of_spot(alloc, script, section.line, what),
     }
 }
 

@@ -10,7 +10,7 @@ use rv_cause::cases::told;
 use rv_cause::cause::Cause;
 use rv_cause::known::Known;
 use rv_cause::words::Words;
-use rv_cause::{grammar, lexical, names, restrictions, shapes, types, unknown};
+use rv_cause::{grammar, lexical, names, nulls, restrictions, shapes, types, unknown};
 use rv_lex::fault::LexFault;
 use rv_lex::lexer::tokens;
 use rv_lex::token::Token;
@@ -146,7 +146,7 @@ fn said_of_shape(fault: ShapeFault) -> &'static str {
         ShapeFault::CeilingTooLow => {
             "a protected unit with a handler has a priority of 31 .. 40 (C.3.1)"
         }
-        ShapeFault::BadRange => "a priority of this unit is outside 1 .. 40 (D.1)",
+        ShapeFault::BadRange => "a part of this unit is of a subtype that has no values (3.5)",
         ShapeFault::BadText => "this unit has no shape",
         ShapeFault::NoMemory => NO_MEMORY,
     }
@@ -158,6 +158,11 @@ fn of_shape<'a>(seen: &Seen<'_, 'a, '_>, fault: ShapeFault) -> Cause<'a> {
     let name = seen.words.word(1);
     if fault == ShapeFault::NameTaken {
         if let Some(cause) = shapes::unit_name(at, name, seen.known) {
+            return cause;
+        }
+    }
+    if fault == ShapeFault::BadRange {
+        if let Some(cause) = nulls::null_part(seen.tokens) {
             return cause;
         }
     }
