@@ -1,8 +1,21 @@
 -- One request for ticks after another.
-use Rattle.std.proofs.Common.{◌≡◌, ◌∙◌, ◌<◌, ◌≤◌, ◌+◌, ◌-◌, ℕ, zero, suc, min, arith, refl, sym, ap, subst, add-one}
+use Rattle.std.proofs.Common.{◌≡◌, ◌∙◌, ◌<◌, ◌≤◌, ◌+◌, ◌-◌, ℕ, suc, min, arith, inl, inr, refl, sym, ap, subst, Ok, Err, MatchResult}
+use Rattle.std.specs.Prelude.{Result, ℤ, pos}
+use Rattle.rv_behind.specs.declared.event.Ask.{Ask}
+use Rattle.rv_event.specs.declared.entry.Answer.{Answer}
+use Rattle.rv_event.specs.declared.entry.Request.TheVariants as asks
 use Rattle.rv_pace.specs.Pacing.{Pacing, due, missed}
+use Rattle.rv_port.specs.Controls.{Told}
 use Rattle.rv_port.specs.Traces.{Passing}
+use Rattle.rv_turn.specs.Passes.{IsWorn}
+use Rattle.rv_turn.specs.declared.pass.Worn.{Worn as Spent}
 use Rattle.rv_run.specs.Ticking.{AsksInAll, AsksOf, Ticks}
+
+-- a request, as the control takes it
+pub asked_of : (ticks : ℕ) (number : ℤ) (v w : Passing) (r : Result Answer Spent) → number ≡ pos ticks
+    → MatchResult r (λ a. Told v (Ask.Step (asks.Tick number)) a w) (λ x. IsWorn v w) → AsksOf ticks v w
+asked_of ticks number v w (Ok a) is told = inl (a, subst (λ (n : ℤ). Told v (Ask.Step (asks.Tick n)) a w) is told)
+asked_of ticks number v w (Err x) is worn = inr worn
 
 -- so many requests were made, and the ticks that are left are those that weren't asked
 pub record SoFar (v w : Passing) (old new : Pacing) (now : ℕ) : Type 0 where

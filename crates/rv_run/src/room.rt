@@ -198,7 +198,6 @@ fn do_due<T: Wait, E: Write>(
             Then::Next
         }
         Due::Halt => {
-            tell_room(session, room, used, errors);
             room.tell(String::from_str(room.alloc, ENDS), errors);
             Then::End
         }
