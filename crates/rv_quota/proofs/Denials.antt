@@ -5,7 +5,7 @@ use Rattle.rv_access.specs.Words.{Words}
 use Rattle.rv_access.specs.declared.change.Change.TheVariants.{Append}
 use Rattle.rv_event.specs.declared.entry.Answer.{Answer}
 use Rattle.rv_shape.specs.Shape.{Shape}
-use Rattle.rv_turn.specs.Passes.{Acted, IsWorn}
+use Rattle.rv_turn.specs.Passes.{Acted}
 use Rattle.rv_behind.specs.Acting.{Does}
 use Rattle.rv_behind.specs.Events.{by, catalogue_of}
 use Rattle.rv_behind.specs.declared.event.Ask.{Ask}
