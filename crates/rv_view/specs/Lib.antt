@@ -1,0 +1,3 @@
+pub mod Backs
+pub mod Stands
+pub mod Views
