@@ -1,3 +1,4 @@
 pub mod Backs
 pub mod Folding
 pub mod Stood
+pub mod Showing

@@ -1,11 +1,10 @@
 -- What stands, with one entry more.
-use Rattle.std.proofs.Common.{◌≡◌, ◌∙◌, ℕ, ◌+◌, ◌<◌, ◌≤◌, List, [], ◌∷◌, length, get_or, reverse, Bool, true, false, if◌then◌else◌, Option, Some, None, refl, ap, sym, subst}
+use Rattle.std.proofs.Common.{◌≡◌, ◌∙◌, ℕ, ◌+◌, ◌<◌, ◌≤◌, List, [], ◌∷◌, length, get_or, reverse, Bool, if◌then◌else◌, Option, Some, None, refl, ap, sym, subst}
 use Rattle.std.specs.Prelude.{◌==◌, slice_get}
 use Rattle.std.specs.List.{filter}
 use Rattle.rv_event.specs.Past as past
 use Rattle.rv_event.specs.declared.entry.Body.{Body}
 use Rattle.rv_event.specs.declared.entry.Entry.{Entry}
-use Rattle.rv_event.specs.declared.entry.Mode.{Mode}
 use Rattle.rv_event.specs.declared.entry.Next.{Next}
 use Rattle.rv_event.specs.declared.entry.Stance.{Stance}
 use Rattle.rv_event.specs.declared.entry.Stance.TheVariants.{Free, InQueue, HandedOver, DroppedBy, WaitsOn, WaitsUntil, Gone}

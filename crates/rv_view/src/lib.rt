@@ -5,6 +5,6 @@
 mod bodies;
 mod folds;
 mod standing;
-//mod view;
+mod view;
 
-//pub use view::{Queue, View};
+pub use view::{Queue, View};

@@ -1,6 +1,5 @@
-use Rattle.std.proofs.Common.{rules, ◌≡◌, ◌<◌, arith, Option, None}
-use Rattle.rv_event.specs.declared.entry.Body.{Body}
-use Rattle.rv_view.proofs.Folding.{queued_before, queued_here, queued_none}
+use Rattle.std.proofs.Common.{rules, ◌≡◌, arith, None}
+use Rattle.rv_view.proofs.Folding.{queued_before, queued_here}
 use Rattle.rv_view.proofs.folds.last_queued.Goals as goal
 
 pub returns-in-Some : goal.returns-in-Some

@@ -1,4 +1,4 @@
-use Rattle.std.proofs.Common.{◌≡◌, ◌≤◌, ℕ}
+use Rattle.std.proofs.Common.{◌≡◌, ◌≤◌}
 use Rattle.rv_event.specs.Past.{last_queued}
 use Rattle.rv_view.specs.Backs.{back}
 use Rattle.rv_view.proofs.folds.last_queued.Given as goal
