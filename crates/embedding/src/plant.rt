@@ -113,8 +113,8 @@ fn ports_of(control: &mut Control) -> Option<(Port, Port)>
     Some((sensor, valve))
 }
 
-// What the devices call, by the names of the text. The sensor tells there that it has ended.
-fn works_of(catalogue: &Catalogue, ended: Sender<u64>) -> Option<(Sensor, Actuator)> {
+// What the sensor and the actuator call, by the names of the text.
+fn wired(catalogue: &Catalogue) -> Option<(Wiring, Actuator)> {
     let object = catalogue.find_object("Plant.Tank")?;
     let wiring = Wiring {
         object,
@@ -122,19 +122,31 @@ fn works_of(catalogue: &Catalogue, ended: Sender<u64>) -> Option<(Sensor, Actuat
         taken: catalogue.find_object("Plant.Taken")?,
     };
     let entry = catalogue.find_operation(object, "Moved")?;
-    Some((Sensor { wiring, ended }, Actuator { object, entry }))
+    Some((wiring, Actuator { object, entry }))
 }
 
-// Starts the threads of both.
-fn begin(hands: &Hands, crew: &mut Crew, ports: (Port, Port), works: (Sensor, Actuator))
+// Starts the threads of both. The sensor tells by the channel that it has ended.
+fn begin(
+    hands: &Hands,
+    crew: &mut Crew,
+    ports: (Port, Port),
+    calls: (Wiring, Actuator),
+    ended: Sender<u64>,
+)
     requires crew { IsOfTurn ports.0.turn crew.old }
     requires valve { ports.1.turn ≡ ports.0.turn }
     ensures { IsOfTurn ports.0.turn crew.new }
 {
     let (sensor, valve) = ports;
-    let (sensing, actuating) = works;
-    hands.start(crew, valve, Work::Actuator(actuating));
-    hands.start(crew, sensor, Work::Sensor(sensing));
+    let (wiring, actuator) = calls;
+    hands.start(crew, valve, Work::Actuator(actuator));
+    hands.start(crew, sensor, Work::Sensor(Sensor { wiring, ended }));
+}
+
+// Waits until the sensor has ended, and gives how many calls it made. Where it got no thread, its end of the channel is
+// gone at once.
+fn wait_for_end<R: Wait>(rt: &R, ends: Receiver<u64>) -> u64 {
+    ends.recv(rt).unwrap_or(0)
 }
 
 // Halts the host, so that who waits goes on and is stopped.
@@ -155,44 +167,49 @@ fn close<R: Threads + Wait>(rt: &R, mut crew: Crew, control: Control) -> Option<
     }
 }
 
-// Lets the devices work until the sensor has ended. Where it got no thread, its end of the channel is gone at once.
+// Lets the devices work until the sensor has ended.
 fn run<R: Threads + Wait + AllocGlobal>(
     rt: &R,
     hands: &Hands,
     mut control: Control,
     ports: (Port, Port),
-    works: (Sensor, Actuator),
-    ends: Receiver<u64>,
+    calls: (Wiring, Actuator),
+    channel: (Sender<u64>, Receiver<u64>),
 ) -> Option<(u64, Closed)>
     requires sensor { ports.0.turn ≡ control.turn }
     requires valve { ports.1.turn ≡ control.turn }
 {
     let mut crew = Crew::new(rt.alloc());
-    begin(hands, &mut crew, ports, works);
-    let calls = ends.recv(rt).unwrap_or(0);
+    let (ended, ends) = channel;
+    begin(hands, &mut crew, ports, calls, ended);
+    let sent = wait_for_end(rt, ends);
     halt(rt, &mut control);
-    let closed = close(rt, crew, control)?;
-    Some((calls, closed))
+    Some((sent, close(rt, crew, control)?))
+}
+
+// The control of a new host with the tank and its devices.
+fn loaded<R: Wait>(rt: &R, alloc: Global) -> Option<Control> {
+    let mut control = control_of(alloc, new_host(alloc)?)?;
+    load(rt, alloc, &mut control)?;
+    Some(control)
 }
 
 // Makes the plant, and runs it.
 fn played<R: Threads + Wait + AllocGlobal>(rt: &R, hands: &Hands) -> Option<(u64, Closed)> {
-    let alloc = rt.alloc();
-    let (ended, ends) = unbounded(alloc).ok()?;
-    let mut control = control_of(alloc, new_host(alloc)?)?;
-    load(rt, alloc, &mut control)?;
-    let works = works_of(control.catalogue(), ended)?;
+    let mut control = loaded(rt, rt.alloc())?;
+    let calls = wired(control.catalogue())?;
     let ports = ports_of(&mut control)?;
-    run(rt, hands, control, ports, works, ends)
+    let channel = unbounded(rt.alloc()).ok()?;
+    run(rt, hands, control, ports, calls, channel)
 }
 
 /// Plays the plant over standard input, a number a line, and tells what came of its threads.
 pub fn play<R: Threads + Wait + AllocGlobal + Print>(rt: &R, hands: &Hands) -> io::Result<()> {
     match played(rt, hands) {
-        Some((calls, closed)) => {
+        Some((sent, closed)) => {
             let back = closed.finished.len();
             let lost = closed.lost.len();
-            println!(rt; "{calls} numbers sent; {back} ports came back, {lost} were lost")
+            println!(rt; "{sent} numbers sent; {back} ports came back, {lost} were lost")
         }
         None => println!(rt; "no memory for the plant"),
     }
