@@ -3,17 +3,11 @@
 #![tactic(auto)]
 
 #[cfg(test)]
-mod hosts;
-#[cfg(test)]
 mod journals;
 #[cfg(test)]
-mod lists;
-#[cfg(test)]
-mod queues;
+mod keepers;
 #[cfg(test)]
 mod scripts;
-#[cfg(test)]
-mod settings;
 #[cfg(test)]
 mod trees;
 #[cfg(test)]
