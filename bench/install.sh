@@ -74,7 +74,7 @@ cp "$folder/out" "$folder/places"
 while read -r place; do holds "${place#"$folder/"} is there" test -f "$place"; done <"$folder/places"
 holds "nothing else is there" diff <(find "$folder/prefix" ! -type d | sort) <(sort "$folder/places")
 holds "the program may be run by all" test "$(stat -c %a "$folder/prefix/bin/ravenhost")" = 755
-holds "the others may be read by all" test "$(find "$folder/prefix" -type f ! -perm 644 | wc -l)" = 1
+holds "the others may be read by all" test "$(find "$folder/prefix" -type f ! -perm 644 | wc -l)" = 2
 holds "all folders may be entered" test -z "$(find "$folder/prefix" -mindepth 1 -type d ! -perm 755)"
 holds "the program" cmp "$program" "$folder/prefix/bin/ravenhost"
 share=$folder/prefix/share

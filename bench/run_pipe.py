@@ -3,12 +3,17 @@
 next is written. Says what it saw that the documents don't allow, and ends with 1 then. Needs nothing but Python.
 
     bench/run_pipe.py [PROGRAM]        the program is crates/ravenhost/out/ravenhost where none is named
+    bench/run_pipe.py --signals [LAUNCHER]     signals alone, through the script ./ravenhost, which asks for the proved program
 """
 import os
+import pty
 import re
 import resource
+import select
+import signal
 import subprocess
 import sys
+import tempfile
 import threading
 import time
 
@@ -371,9 +376,253 @@ def edges(program):
     expect("a script past the limit", at_once(program, b"@list\n" + b"#\n" * 8_388_608 + b"@run\n"), (b"", b"script line 1: TooLong\n", 1))
 
 
+def ticks_in(journal):
+    """The ticks that the operator asked, in order."""
+    return [int(line.split(" ")[3]) for line in journal if line.split(" ")[1:3] == ["operator", "tick"]]
+
+
+def ticks(program):
+    """The clock follows the real one: without drift, and beside commands, of which it makes none."""
+    period = 20
+    begun = time.monotonic()
+    run = Run(program, "@list\nallow * * *\n@run\n", ("--tick", str(period)))
+    expect("a command beside ticks", run.ask("append deny * * *"), "accepted 0")
+    until("ticks", lambda: sum(ticks_in(run.journal())) >= 40 * period)
+    time.sleep(0.5)
+    asked = time.monotonic()
+    given = sum(ticks_in(run.journal()))
+    told = time.monotonic()
+    low, high = (asked - begun) * 1000 - 200 - period, (told - begun) * 1000
+    expect_that("ticks that follow the clock", low <= given <= high, (low, given, high))
+    seen = ticks_in(run.journal())
+    expect_that("ticks of whole periods", all(number % period == 0 for number in seen), seen)
+    out, err, status = run.end()
+    expect_that("quit beside ticks", re.fullmatch(r"entries \d+\n", out) and not err and status == 0, (out, err, status))
+    run = Run(program, "@host.toml\ncapacity = 16\n@list\n@run\n", ("--tick", "1"))
+    until("a full host", lambda: len(run.journal()) >= 15)
+    time.sleep(0.2)
+    expect("quit of a full host beside ticks", run.end(), ("entries 16\n", "", 0))
+    many = b"@list\n@run\n" + 100_005 * b"frob\n"
+    done = subprocess.run([program, "run", "--tick", "1000"], input=many, stdout=subprocess.PIPE, timeout=10 * LIMIT)
+    expect_that("100,000 commands beside ticks", done.stdout.startswith(100_000 * b"bad command\n" + b"entries ")
+                and done.returncode == 0, done.stdout[-40:])
+    run = Run(program, "@list\n@run\n", ("--tick", "100", "--notes", "always"))
+    expect("a command behind a note", run.ask("tick 1"), "accepted 0")
+    out, err, status = run.end()
+    expect("the note on ticks", (err, status), ("note: 4096 entries last 6 min 49 s by ticks alone\n", 0))
+
+
+def usage(program):
+    """Values that no flag takes, and a pipe that isn't there."""
+    for words in (("--tick", "0"), ("--tick", "3600001"), ("--tick", "+5"), ("--tick", "1.5"), ("--tick", ""), ("--tick",),
+                  ("--stop-by",), ("--tick", "5", "--tick", "5"), ("--quota", "0"), ("--quota", "1048577"), ("--halt-below", "-1")):
+        done = subprocess.run([program, "run", *words], input=b"@run\n", stdout=subprocess.PIPE, stderr=subprocess.PIPE, timeout=LIMIT)
+        expect_that(f"run {words}", done.returncode == 2 and done.stdout == b"" and done.stderr, done)
+    done = subprocess.run([program, "run", "--stop-by", "/nowhere/pipe"], input=b"@run\n", stdout=subprocess.PIPE,
+                          stderr=subprocess.PIPE, timeout=LIMIT)
+    expect_that("a pipe that isn't there", done.returncode == 4 and done.stderr.startswith(b"ravenhost: /nowhere/pipe: "), done)
+
+
+def prompt(program):
+    """Answers of an attended run come at once."""
+    run = Run(program, "@list\nallow * * *\n@run\n", ("--tick", "1000"))
+    run.ask("journal 1")
+    times = []
+    for _ in range(200):
+        begun = time.monotonic()
+        expect("a prompt answer", run.ask("frob"), "bad command")
+        times.append(time.monotonic() - begun)
+        time.sleep(0.003)
+    median = sorted(times)[100]
+    print(f"an answer of an attended run takes {median * 1e6:.0f} us")
+    expect_that("a prompt answer", median < 0.01, median)
+    run.end()
+
+
+def stops(program):
+    """A byte of the pipe, or its end, ends a run between two commands, also in the midst of its sections."""
+    with tempfile.TemporaryDirectory() as folder:
+        pipe = os.path.join(folder, "stop")
+        os.mkfifo(pipe)
+        busy = "@host.toml\ncapacity = 1048576\n" + unit(PLANT) + unit(looper("Nav").replace("delay until Next;", "null;"))
+        for how in ("byte", "end"):
+            for script in (busy + "@list\nallow * * *\n@run\n", "@list\n"):
+                held = os.open(pipe, os.O_RDWR)
+                run = Run(program, script, ("--stop-by", pipe))
+                if "@run" in script:
+                    until("they run", lambda: of(run.page(1), "Nav.Pilot"))
+                    run.send("load\npackage P is\n")
+                time.sleep(0.2)
+                if how == "byte":
+                    os.write(held, b"\n")
+                else:
+                    os.close(held)
+                out, err = run.process.stdout.read().decode(), run.process.stderr.read().decode()
+                status = run.process.wait(timeout=LIMIT)
+                expect_that(f"a stop by {how}", re.fullmatch(r"entries \d+\n", out) and not err and status == 0, (out[-200:], err, status))
+                run.process.stdin.close()
+                if how == "byte":
+                    os.close(held)
+
+
+def all_flags(program):
+    """Flags together: a journal in a file, ticks and a pipe."""
+    with tempfile.TemporaryDirectory() as folder:
+        pipe, file = os.path.join(folder, "stop"), os.path.join(folder, "journal")
+        os.mkfifo(pipe)
+        held = os.open(pipe, os.O_RDWR)
+        words = ("--journal", file, "--sync", "each", "--tick", "10", "--stop-by", pipe, "--notes", "never", "--explain")
+        run = Run(program, unit(PLANT) + unit(looper("Nav")) + "@list\nallow * * *\n@run\n", words)
+        until("ticks in a file", lambda: os.path.exists(file) and open(file).read().count("operator tick 10") > 5)
+        os.write(held, b"x")
+        out, err = run.process.communicate(timeout=LIMIT)
+        with open(file) as kept:
+            journal = kept.read().splitlines()
+        numbered("the journal of all flags", journal)
+        expect("all flags", (out.decode(), err.decode(), run.process.returncode), (f"entries {len(journal)}\n", "", 0))
+        os.close(held)
+
+
+def free(name):
+    """A task that calls for as long as it may."""
+    return looper(name).replace("delay until Next;", "null;")
+
+
+def quota(program):
+    """A noisy unit beside a good one: it is denied everything once, and the good one and the operator go on."""
+    settings = "@host.toml\ncapacity = 1048576\nbudget = 1000000\n"
+    run = Run(program, settings + unit(PLANT) + unit(looper("Good")) + unit(free("Bad")) + "@list\nallow * * *\n@run\n",
+              ("--quota", "1000", "--notes", "always"))
+    until("the denial", lambda: any("deny Bad * *]" in line for line in run.journal()))
+    ticking(run, "Good goes on", lambda journal: len(of(journal, "Good.Pilot")) > 20)
+    expect("a revocation beside a quota", run.ask("append deny Good * *"), "accepted 0")
+    journal = run.journal()
+    numbered("the journal of a quota", journal)
+    place = [number for number, line in enumerate(journal) if "deny Bad * *]" in line]
+    expect("denials of a quota", len(place), 1)
+    expect("entries of Bad that start behind its denial", [line for line in of(journal[place[0]:], "Bad.Pilot") if "started" in line][1:], [])
+    out, err, status = run.end()
+    lines = err.splitlines()
+    expect_that("notes of a quota", "quota: tasks of Bad added more than 1,000 entries; deny Bad * * is in force" in lines
+                and lines[0].startswith("journal: 1,048,576 entries less 512 don't hold the quota of 1,000"), lines)
+    expect_that("quit behind a quota", re.fullmatch(r"entries \d+\n", out) and status == 0, (out, status))
+
+
+def halt_below(program):
+    """A run ends by itself when its journal has little room."""
+    script = "@host.toml\nbudget = 1000000\n" + unit(PLANT) + unit(free("Bad")) + "@list\nallow * * *\n@run\n"
+    for words, due in (((), r""), (("--notes", "always"), r"((journal: .*|task Bad.Pilot ended: .*)\n)+")):
+        run = Run(program, script, ("--halt-below", "2000", *words))
+        out, err = run.process.stdout.read().decode(), run.process.stderr.read().decode()
+        status = run.process.wait(timeout=LIMIT)
+        run.process.stdin.close()
+        entries = re.fullmatch(r"entries (\d+)\n", out)
+        expect_that(f"the end by --halt-below with {words}", entries and int(entries[1]) > 2096 and re.fullmatch(due, err)
+                    and status == 0, (out, err, status))
+
+
+def unread(program):
+    """An output that nobody reads holds up neither ticks nor the end, and past its bound ends the run."""
+    with tempfile.TemporaryDirectory() as folder:
+        file = os.path.join(folder, "journal")
+        script = "@host.toml\ncapacity = 100000\n@list\nallow * * *\n@run\n"
+        run = Run(program, script + 60 * "tick 1\n" + 3_000 * "journal 1\n", ("--journal", file, "--tick", "10"))
+        until("ticks beside an output that nobody reads", lambda: os.path.exists(file) and open(file).read().count("operator tick 10") > 30)
+        out, err, status = run.end()
+        expect_that("the end of an output that is read late", out.endswith(f"entries {len(open(file).readlines())}\n") and not err
+                    and status == 0, (out[-100:], err, status))
+        os.remove(file)
+        run = Run(program, script + 60 * "tick 1\n", ("--journal", file, "--tick", "10"))
+        try:
+            run.send(40_000 * "journal 1\n")
+        except BrokenPipeError:
+            pass
+        expect("the status of an output that nobody reads", run.process.wait(timeout=LIMIT), 4)
+        expect("what is said of it", run.process.stderr.read(), b"ravenhost: nobody reads the output: 16 MiB of it wait\n")
+
+
+def children(process):
+    return [int(word) for word in subprocess.run(["pgrep", "-P", str(process)], stdout=subprocess.PIPE).stdout.split()]
+
+
+def is_there(process):
+    """Whether a process runs: one that ended and waits to be asked for doesn't."""
+    try:
+        with open(f"/proc/{process}/stat") as stat:
+            return stat.read().rsplit(")", 1)[1].split()[0] != "Z"
+    except OSError:
+        return False
+
+
+def ended_by(launcher, number):
+    """A signal ends the run as the end of input does, with its whole journal."""
+    with tempfile.TemporaryDirectory() as folder:
+        file = os.path.join(folder, "journal")
+        run = Run(launcher, unit(PLANT) + unit(looper("Nav").replace("delay until Next;", "null;")) + "@list\nallow * * *\n@run\n",
+                  ("--journal", file))
+        until("they run", lambda: of(run.page(1), "Nav.Pilot"))
+        run.process.send_signal(number)
+        out, err = run.process.stdout.read().decode(), run.process.stderr.read().decode()
+        status = run.process.wait(timeout=LIMIT)
+        run.process.stdin.close()
+        with open(file) as kept:
+            lines = kept.read().splitlines()
+        expect(f"{number!r}", (out, err, status), (f"entries {len(lines)}\n", "", 0))
+        expect_that(f"the last entry of {number!r}", any("operator halt" in line for line in lines), lines[-3:])
+
+
+def signals(launcher):
+    """Each signal, a second one, the launcher's end, and a terminal's interrupt."""
+    for number in (signal.SIGTERM, signal.SIGINT, signal.SIGHUP):
+        ended_by(launcher, number)
+    # Nobody reads the answers, so that the run can't end by itself.
+    run = Run(launcher, "@list\nallow * * *\n@run\n" + "journal 1\n" * 6_000)
+    time.sleep(1)
+    run.process.send_signal(signal.SIGTERM)
+    time.sleep(0.5)
+    run.process.send_signal(signal.SIGINT)
+    expect("a second signal", run.process.wait(timeout=LIMIT), 128 + signal.SIGINT)
+    run = Run(launcher, "@run\n")
+    expect("a command through the launcher", run.ask("tick 1"), "accepted 0")
+    programs = children(run.process.pid)
+    run.process.kill()
+    run.process.wait()
+    expect_that("a program beside the launcher", programs, programs)
+    until("the program's end behind the launcher's", lambda: not any(map(is_there, programs)))
+    expect("what it wrote behind the launcher's end", run.process.stdout.read(), b"entries 2\n")
+    terminal(launcher)
+
+
+def terminal(launcher):
+    """At a terminal a run reads what is typed, and Ctrl-C ends it."""
+    process, end = pty.fork()
+    if process == 0:
+        os.execv(launcher, [launcher, "run", "--notes", "never"])
+    os.write(end, b"@run\ntick 1\n")
+    seen = b""
+    while b"accepted 0" not in seen and select.select([end], [], [], LIMIT)[0]:
+        seen += os.read(end, 1024)
+    os.write(end, b"\x03")
+    while select.select([end], [], [], LIMIT)[0]:
+        try:
+            more = os.read(end, 1024)
+        except OSError:
+            break
+        if not more:
+            break
+        seen += more
+    status = os.waitstatus_to_exitcode(os.waitpid(process, 0)[1])
+    expect_that("Ctrl-C at a terminal", b"entries 2" in seen and status == 0, (seen, status))
+
+
 def main():
+    if sys.argv[1:2] == ["--signals"]:
+        signals(os.path.abspath(sys.argv[2]) if sys.argv[2:] else os.path.join(TOP, "ravenhost"))
+        print(f"{len(faults)} faults")
+        return 1 if faults else 0
     program = os.path.abspath(sys.argv[1]) if sys.argv[1:] else os.path.join(TOP, "crates/ravenhost/out/ravenhost")
-    for part in (commands, row, device, two_devices, deepest, deepest_of_all, live, no_thread, refused, closed, edges):
+    for part in (commands, row, device, two_devices, deepest, deepest_of_all, live, no_thread, refused, closed, edges, ticks, usage, prompt,
+                 stops, all_flags, quota, halt_below, unread):
         try:
             part(program)
         except BrokenPipeError:

@@ -17,7 +17,9 @@ HELP, VERSION = ("-h", "--help"), ("-V", "--version")
 
 # What completes a value of no listed words, by the name that the help gives it.
 FILES, FOLDERS = "files", "folders"
-VALUES = {"FILE": FILES, "PREFIX": FOLDERS, "WHEN": ("auto", "always", "never"), "HOW": ("each", "second", "never")}
+# Of numbers, some that are usual.
+VALUES = {"FILE": FILES, "PIPE": FILES, "PREFIX": FOLDERS, "WHEN": ("auto", "always", "never"), "HOW": ("each", "second", "never"),
+          "MS": ("1000", "100", "10"), "N": ("100", "1000", "10000")}
 
 
 class Flag:

@@ -7,7 +7,7 @@ _ravenhost_flags() {
         "") echo "-h --help -V --version" ;;
         play) echo "--all --explain --notes --warnings-are-errors -h --help" ;;
         check) echo "--explain --script --notes --warnings-are-errors -h --help" ;;
-        run) echo "--journal --sync --explain --notes --warnings-are-errors -h --help" ;;
+        run) echo "--journal --sync --explain --halt-below --quota --tick --stop-by --notes --warnings-are-errors -h --help" ;;
         audit) echo "--journal --torn --explain -h --help" ;;
     esac
 }
@@ -27,6 +27,10 @@ _ravenhost_value() {
         --notes) echo "auto always never" ;;
         --journal) echo "files" ;;
         --sync) echo "each second never" ;;
+        --halt-below) echo "100 1000 10000" ;;
+        --quota) echo "100 1000 10000" ;;
+        --tick) echo "1000 100 10" ;;
+        --stop-by) echo "files" ;;
     esac
 }
 

@@ -1,5 +1,5 @@
 -- What `clap` finds of a command line, as a choice.
-use Rattle.std.proofs.Common.{◌≡◌, ◌∷◌, inl, inr, List, Option, Some, None, Bool, true, false, true≢false, codes, slice_index, ap, ap₂, sym, ◌∙◌, refl, subst}
+use Rattle.std.proofs.Common.{◌≡◌, ◌∷◌, inl, inr, ℕ, List, Option, Some, None, Bool, true, false, true≢false, codes, slice_index, ap, ap₂, sym, ◌∙◌, refl, subst}
 use Rattle.std.specs.Prelude.{◌==◌, ◌⊎◌, is_some, option_map, unwrap_or}
 use Rattle.clap.specs.Words.{is_simple, subcommand_of, takes}
 use Rattle.clap.specs.Walk.{Row, Text, first_of, one_of}
@@ -9,7 +9,7 @@ use Rattle.ravenhost.specs.declared.chosen.Choice.TheVariants.{Play, Check, Run,
 use Rattle.ravenhost.specs.declared.chosen.Notes.{Notes}
 use Rattle.ravenhost.specs.declared.chosen.Notes.TheVariants.{Auto}
 use Rattle.ravenhost.specs.declared.chosen.Sync.TheVariants.{Second}
-use Rattle.ravenhost.specs.Choices.{HasNoFile, HasNoWord, IsFlag, IsJournal, IsKeeping, IsNoted, LacksFile, Names, NamesNone, audit_of, line_of, notes_of, program, sync_of}
+use Rattle.ravenhost.specs.Choices.{HasNoFile, HasNoRun, HasNoWord, IsFlag, IsJournal, IsNoted, IsRunning, LacksFile, Names, NamesNone, audit_of, line_of, longest_period, most_entries, no_run, notes_of, number_of, program, sync_of}
 
 -- The plain lines.
 
@@ -134,6 +134,31 @@ has_file q found e f none = wrong none
     wrong (inl word) = let both : Some Second ≡ None = sym (ap sync_of is) ∙ word in absurd cc
     wrong (inr file) = file.1 is
 
+-- no word for a number
+abbrev word_in : Text → Option (Text × List Row) → Option (Option Text)
+word_in name = option_map (λ (p : Text × List Row). first_of name p.1)
+
+run_tick : (name : Text) → word_in (codes "tick") (subcommand_of program (name ∷ line_of Run)) ≡ Some None
+unfolding clap_on_literals
+run_tick name = refl
+
+run_halt : (name : Text) → word_in (codes "halt-below") (subcommand_of program (name ∷ line_of Run)) ≡ Some None
+unfolding clap_on_literals
+run_halt name = refl
+
+run_quota : (name : Text) → word_in (codes "quota") (subcommand_of program (name ∷ line_of Run)) ≡ Some None
+unfolding clap_on_literals
+run_quota name = refl
+
+no_such : (o : Option (Option ℕ)) → o ≡ Some None → o ≡ None → ⊥
+no_such o p q = let both : Some None ≡ None = sym p ∙ q in absurd cc
+
+has_number : (most : ℕ) (word : Text) (q : Option (Text × List Row)) (found : Text × List Row) → q ≡ Some found → word_in word q ≡ Some None
+    → number_of most (first_of word found.1) ≡ None → ⊥
+has_number most word q found e g none =
+    let is : first_of word found.1 ≡ None = ap (λ (o : Option (Option Text)). unwrap_or o None) (sym (ap (word_in word) e) ∙ g) in
+    no_such (number_of most (first_of word found.1)) (ap (number_of most) is) none
+
 -- a flag that has this text is it
 by_flag : (one other : Bool) (text : Option Text) → text ≡ Some (flag_text one) → IsFlag text other → other ≡ one
 by_flag true other text f n = n.0 f
@@ -224,9 +249,12 @@ none_chosen name (Play all) m e none found is w = has_word _ found (sym e ∙ is
 none_chosen name (Check whole) m e none found is w = has_word _ found (sym e ∙ is) (check_notes name whole) ((none found is).1 w)
 none_chosen name Run m e none found is w = no_wrong ((none found is).2 w)
   where
-    no_wrong : HasNoWord found.1 ⊎ HasNoFile found.1 → ⊥
+    no_wrong : HasNoWord found.1 ⊎ HasNoRun found.1 → ⊥
     no_wrong (inl word) = has_word _ found (sym e ∙ is) (run_notes name) word
-    no_wrong (inr file) = has_file _ found (sym e ∙ is) (run_sync name) file
+    no_wrong (inr (inl file)) = has_file _ found (sym e ∙ is) (run_sync name) file
+    no_wrong (inr (inr (inl tick))) = has_number longest_period (codes "tick") _ found (sym e ∙ is) (run_tick name) tick
+    no_wrong (inr (inr (inr (inl halt)))) = has_number most_entries (codes "halt-below") _ found (sym e ∙ is) (run_halt name) halt
+    no_wrong (inr (inr (inr (inr quota)))) = has_number most_entries (codes "quota") _ found (sym e ∙ is) (run_quota name) quota
 none_chosen name Audit m e none found is w =
     let n = (none found is).3 w in
     true≢false (n.0.1 (row_found (codes "torn") (Some (flag_text false)) _ found (sym e ∙ is) (no_torn name)))
@@ -284,10 +312,10 @@ unnoted found Run notes errors w n e = absurd (run_no_audit (sym n ∙ w))
 unnoted found Audit notes errors w n e = e
 unnoted found (AuditFile torn) notes errors w n e = e
 
--- it keeps no journal
-pub unkept : (found : Text × List Row) (choice : Choice) → found.0 ≡ codes "audit" → Names found choice → IsKeeping found choice None
-unkept found (Play all) w n = refl
-unkept found (Check whole) w n = refl
-unkept found Run w n = absurd (run_no_audit (sym n ∙ w))
-unkept found Audit w n = refl
-unkept found (AuditFile torn) w n = refl
+-- it runs nothing
+pub unrun : (found : Text × List Row) (choice : Choice) → found.0 ≡ codes "audit" → Names found choice → IsRunning found choice no_run
+unrun found (Play all) w n = refl
+unrun found (Check whole) w n = refl
+unrun found Run w n = absurd (run_no_audit (sym n ∙ w))
+unrun found Audit w n = refl
+unrun found (AuditFile torn) w n = refl

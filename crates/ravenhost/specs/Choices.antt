@@ -1,13 +1,14 @@
 -- The command line (own): `play`, which may be given `--all`, `check`, which may be given `--script`, and `run`, which may be
--- given `--journal FILE` and, with it, `--sync HOW`, all three with `--notes WHEN` and `--warnings-are-errors`; and `audit`, which
+-- given `--journal FILE` and, with it, `--sync HOW`, `--halt-below N`, `--quota N`, `--tick MS` and `--stop-by PIPE`, all three with `--notes WHEN` and `--warnings-are-errors`; and `audit`, which
 -- may be given `--journal FILE` and, with it, `--torn`. Each may be given `--explain`. What words come to is what `clap` says of
 -- this command.
-use Rattle.std.specs.Prelude.{◌≡◌, ◌⊎◌, Bool, true, false, if◌then◌else◌, List, [], ◌∷◌, Option, Some, None, codes}
+use Rattle.std.specs.Prelude.{◌≡◌, ◌⊎◌, ℕ, Bool, true, false, ◌&&◌, nat_le, nat_lt, if◌then◌else◌, List, [], ◌∷◌, Option, Some, None, codes}
 use Rattle.std.specs.Str.{bytes_eq}
 use Rattle.clap.specs.Words.{App, Row, Rule, new_app, new_rule, subcommand_of, with_rule, with_subcommand}
 use Rattle.clap.specs.Simple.{on_top}
 use Rattle.clap.specs.Walk.{Text, first_of, one_of}
 use Rattle.clap.specs.declared.builder.action.ArgAction.TheVariants.{Set, SetTrue}
+use Rattle.rv_text.specs.Numbers.{natural_of}
 use Rattle.ravenhost.specs.declared.chosen.Choice.{Choice}
 use Rattle.ravenhost.specs.declared.chosen.Choice.TheVariants.{Play, Check, Run, Audit, AuditFile}
 use Rattle.ravenhost.specs.declared.chosen.Notes.{Notes}
@@ -47,12 +48,24 @@ file_rule = record (new_rule (codes "journal")) { long = Some (codes "journal");
 abbrev pub sync_rule : Rule
 sync_rule = record (new_rule (codes "sync")) { long = Some (codes "sync"); action = Some Set; value_names = 1 }
 
+-- a flag with a value
+abbrev pub value_rule : Text → Rule
+value_rule name = record (new_rule name) { long = Some name; action = Some Set; value_names = 1 }
+
 -- `run`, which may keep its journal in a file
 abbrev pub keeping : App
 keeping = with_rule (with_rule (with_rule (new_app (codes "run")) file_rule) sync_rule) explain_rule
 
+-- which may be told what to do as its journal fills
+abbrev pub guarding : App
+guarding = with_rule (with_rule keeping (value_rule (codes "halt-below"))) (value_rule (codes "quota"))
+
+-- whose clock may follow a real one, and which may be ended from outside
+abbrev pub attending : App
+attending = with_rule (with_rule guarding (value_rule (codes "tick"))) (value_rule (codes "stop-by"))
+
 abbrev pub running : App
-running = with_notes keeping
+running = with_notes attending
 
 -- `audit`, which may be given the name of a file, and two flags
 abbrev pub judging : App
@@ -139,10 +152,53 @@ Keeps rows kept = KeepsAs (first_of (codes "journal") rows) (first_of (codes "sy
 abbrev pub HasNoFile : List Row → Type 0
 HasNoFile rows = HasNoFileAs (first_of (codes "journal") rows) (first_of (codes "sync") rows)
 
--- the file of a run's journal, for `run` alone
-abbrev pub IsKeeping : Text × List Row → Choice → Option (Text × Sync) → Type 0
-IsKeeping found Run kept = Keeps found.1 kept
-IsKeeping found choice kept = kept ≡ None
+-- a number from 1 up to a greatest
+abbrev pub counted : ℕ → Option ℕ → Option (Option ℕ)
+counted most None = None
+counted most (Some number) = if nat_lt 0 number && nat_le number most then Some (Some number) else None
+
+-- by the word that is given, if it is one of these
+abbrev pub number_of : ℕ → Option Text → Option (Option ℕ)
+number_of most None = Some None
+number_of most (Some word) = counted most (natural_of word)
+
+-- the longest time between two ticks, an hour of milliseconds; and the most entries of a journal
+abbrev pub longest_period : ℕ
+longest_period = 3600000
+
+abbrev pub most_entries : ℕ
+most_entries = 1048576
+
+-- What a run does beside its commands: the file that its journal is kept in, the milliseconds between two ticks, the room of the
+-- journal below which it ends, how many entries a unit's tasks may add, and the pipe whose end ends it.
+pub record RunWords : Type 0 where
+  pub kept : Option (Text × Sync)
+  pub tick : Option ℕ
+  pub halt_below : Option ℕ
+  pub quota : Option ℕ
+  pub stop : Option Text
+
+-- by what `run` is given
+abbrev pub IsRun : List Row → RunWords → Type 0
+IsRun rows run =
+    Keeps rows run.kept × (number_of longest_period (first_of (codes "tick") rows) ≡ Some run.tick)
+    × (number_of most_entries (first_of (codes "halt-below") rows) ≡ Some run.halt_below)
+    × (number_of most_entries (first_of (codes "quota") rows) ≡ Some run.quota) × (run.stop ≡ first_of (codes "stop-by") rows)
+
+-- a word is another, or a file is missing
+abbrev pub HasNoRun : List Row → Type 0
+HasNoRun rows =
+    HasNoFile rows ⊎ (number_of longest_period (first_of (codes "tick") rows) ≡ None)
+    ⊎ (number_of most_entries (first_of (codes "halt-below") rows) ≡ None) ⊎ (number_of most_entries (first_of (codes "quota") rows) ≡ None)
+
+-- nothing of that
+abbrev pub no_run : RunWords
+no_run = record { kept = None; tick = None; halt_below = None; quota = None; stop = None }
+
+-- the same, for `run` alone
+abbrev pub IsRunning : Text × List Row → Choice → RunWords → Type 0
+IsRunning found Run run = IsRun found.1 run
+IsRunning found choice run = run ≡ no_run
 
 -- the word that was given is another
 abbrev pub HasNoWord : List Row → Type 0
@@ -160,21 +216,21 @@ LacksFile rows = IsFlag (one_of (codes "torn") rows) true × (first_of (codes "j
 
 -- no choice has the name of what was found, or notes have another word, or a file is missing
 abbrev pub NamesNone : Text × List Row → Type 0
-NamesNone found = (found.0 ≡ codes "play" → HasNoWord found.1) × (found.0 ≡ codes "check" → HasNoWord found.1) × (found.0 ≡ codes "run" → HasNoWord found.1 ⊎ HasNoFile found.1)
+NamesNone found = (found.0 ≡ codes "play" → HasNoWord found.1) × (found.0 ≡ codes "check" → HasNoWord found.1) × (found.0 ≡ codes "run" → HasNoWord found.1 ⊎ HasNoRun found.1)
     × (found.0 ≡ codes "audit" → LacksFile found.1)
 
 -- a subcommand with what it was given is a choice, with a file that is judged where there is one, what becomes of notes, whether
--- there are explanations, and the file that a journal is kept in
-abbrev pub IsSelection : Text × List Row → Choice → Option Text → Notes → Bool → Bool → Option (Text × Sync) → Type 0
-IsSelection found choice file notes errors explains kept =
+-- there are explanations, and what a run does beside its commands
+abbrev pub IsSelection : Text × List Row → Choice → Option Text → Notes → Bool → Bool → RunWords → Type 0
+IsSelection found choice file notes errors explains run =
     Names found choice × IsJournal found file × IsNoted found choice notes errors × IsExplaining found explains
-    × IsKeeping found choice kept
+    × IsRunning found choice run
 
 -- the words name such a choice
-abbrev pub Chooses : List Text → Choice → Option Text → Notes → Bool → Bool → Option (Text × Sync) → Type 0
-Chooses words choice file notes errors explains kept =
+abbrev pub Chooses : List Text → Choice → Option Text → Notes → Bool → Bool → RunWords → Type 0
+Chooses words choice file notes errors explains run =
     (found : Text × List Row) × (subcommand_of program words ≡ Some found)
-    × IsSelection found choice file notes errors explains kept
+    × IsSelection found choice file notes errors explains run
 
 -- where `clap` takes the words, nothing is chosen only for want of memory, or where its matches name no choice
 abbrev pub Lacks : List Text → Unchosen → Type 0

@@ -1,15 +1,16 @@
 //! The command line: what the program is to do.
 
-ghost use Rattle.std.specs.Prelude.{◌≡◌, ◌∷◌, ◌⊎◌, List, true, false, Some, None, IfSome, IfNone, IfOk, IfErr, codes, map, option_map};
+ghost use Rattle.std.specs.Prelude.{◌≡◌, ◌||◌, is_some, ◌∷◌, ◌⊎◌, List, true, false, Some, None, IfSome, IfNone, IfOk, IfErr, codes, map, option_map};
 ghost use Rattle.clap.specs.Words.{app_of, new_app, rule_of, subcommand_rows_of, takes, with_rule};
 ghost use Rattle.clap.specs.Matches.{found_of};
 ghost use Rattle.clap.specs.Walk.{Row, Text, rows_of};
 ghost use Rattle.clap.specs.declared.builder.command.Command.TheViews.{out-Command as fields_of};
 ghost use Rattle.ravenhost.specs.declared.chosen.Unchosen.TheVariants as Unchosen;
-ghost use Rattle.ravenhost.specs.Choices.{Chooses, HasNoFile, HasNoFileAs, HasNoWord, IsSelection, Keeps, KeepsAs, Lacks, LacksFile, NamesNone, Tells, audit_of, audited, checked, file_rule, flag_rule, judging, keeping, line_of, notes_of, notes_rule, playing, program, running, sync_of, sync_rule, with_notes};
+ghost use Rattle.ravenhost.specs.Choices.{Chooses, HasNoFile, HasNoFileAs, HasNoRun, HasNoWord, IsRun, IsSelection, Keeps, KeepsAs, Lacks, LacksFile, NamesNone, Tells, attending, audit_of, audited, checked, file_rule, flag_rule, guarding, judging, keeping, line_of, notes_of, notes_rule, playing, program, running, number_of, sync_of, sync_rule, value_rule, with_notes};
 
 use clap::error::ErrorKind;
 use clap::{Arg, ArgAction, ArgMatches, Command, Error};
+use rv_text::natural_of;
 use std::alloc::{AllocError, Global};
 
 /// What the program is to do.
@@ -57,6 +58,35 @@ pub struct KeptFile<'a> {
     pub sync: Sync,
 }
 
+/// What a run does beside its commands.
+#[derive(Clone, Copy, Drop)]
+pub struct RunWords<'a> {
+    /// The file that its journal is kept in, where one is given.
+    pub kept: Option<KeptFile<'a>>,
+    /// The milliseconds between two ticks of the clock, where it follows a real one.
+    pub tick: Option<u32>,
+    /// The room of the journal below which it ends.
+    pub halt_below: Option<u32>,
+    /// How many entries a unit's tasks may add.
+    pub quota: Option<u32>,
+    /// The name of the pipe whose end ends it, where one is given.
+    pub stop_by: Option<&'a str>,
+}
+
+impl RunWords<'_> {
+    /// Whether there is anything beside its commands.
+    pub fn is_attended(&self) -> bool
+        ensures { result ≡ (is_some self.now.kept || is_some self.now.tick || is_some self.now.halt_below || is_some self.now.quota
+            || is_some self.now.stop_by) }
+    {
+        self.kept.is_some()
+            || self.tick.is_some()
+            || self.halt_below.is_some()
+            || self.quota.is_some()
+            || self.stop_by.is_some()
+    }
+}
+
 /// What the words of a command line choose.
 #[derive(Clone, Copy, Drop)]
 pub struct Selection<'a> {
@@ -70,8 +100,8 @@ pub struct Selection<'a> {
     pub journal: Option<&'a str>,
     /// Whether a script's fault, or the ends of bodies in a journal, are explained.
     pub explains: bool,
-    /// The file that a run's journal is kept in, where one is given.
-    pub kept: Option<KeptFile<'a>>,
+    /// What a run does beside its commands.
+    pub run: RunWords<'a>,
 }
 
 /// Why the words of a command line choose nothing.
@@ -79,11 +109,17 @@ pub struct Selection<'a> {
 pub enum Unchosen {
     /// They are no command line, or ask for help, which this prints.
     Usage(Error),
-    /// There is no subcommand of this name, `--torn` or `--sync` stands without a file, or `--notes` or `--sync` has another word.
+    /// There is no subcommand of this name, `--torn` or `--sync` stands without a file, or a flag has another word than it takes.
     Unknown,
     /// Memory was refused.
     NoMemory,
 }
+
+// The longest time between two ticks, in milliseconds: an hour.
+const LONGEST_PERIOD: u32 = 3_600_000;
+
+// The most entries that a journal may have.
+const MOST_ENTRIES: u32 = 1_048_576;
 
 /// The version of the program. The launcher adds whether it is proved, and the kit that built it.
 pub const VERSION: &str = "1.0.0";
@@ -161,6 +197,18 @@ fn noted<'a>(alloc: Global, command: Command<'a>) -> Result<Command<'a>, AllocEr
     command.arg(notes_flag(alloc))?.arg(are_errors)
 }
 
+// An argument with a value that has a name.
+fn valued<'a>(alloc: Global, name: &'a str, value: &'a str, help: &'a str) -> Arg<'a>
+    ensures rule { rule_of result ≡ value_rule name.now }
+    ensures local { result.global ≡ false }
+{
+    Arg::new(alloc, name)
+        .long(name)
+        .value_name(value)
+        .help(help)
+        .action(ArgAction::Set)
+}
+
 // What is explained of a refused script.
 const FAULT_HELP: &str =
     "Below a fault, show the line with its place, and say what the fault means";
@@ -220,12 +268,52 @@ fn keeping_subcommand<'a>(alloc: Global) -> Result<Command<'a>, AllocError>
         .arg(explain_flag(alloc, FAULT_HELP))
 }
 
+// The same, which may be told what to do as its journal fills.
+fn guarding_subcommand<'a>(alloc: Global) -> Result<Command<'a>, AllocError>
+    ensures app { IfOk result (λ c. app_of c ≡ guarding) }
+    ensures local { IfOk result (λ c. (fields_of c).has_globals ≡ false) }
+{
+    let halt_below = valued(
+        alloc,
+        "halt-below",
+        "N",
+        "End as by quit when the journal has room for fewer than N entries",
+    );
+    let quota = valued(
+        alloc,
+        "quota",
+        "N",
+        "Deny a unit everything whose tasks have added more than N entries, by a line at the end of the list",
+    );
+    keeping_subcommand(alloc)?.arg(halt_below)?.arg(quota)
+}
+
+// The same, whose clock may follow a real one, and which may be ended from outside.
+fn attending_subcommand<'a>(alloc: Global) -> Result<Command<'a>, AllocError>
+    ensures app { IfOk result (λ c. app_of c ≡ attending) }
+    ensures local { IfOk result (λ c. (fields_of c).has_globals ≡ false) }
+{
+    let tick = valued(
+        alloc,
+        "tick",
+        "MS",
+        "Have the clock follow the real one, a tick a millisecond: every MS milliseconds one tick MS",
+    );
+    let stop_by = valued(
+        alloc,
+        "stop-by",
+        "PIPE",
+        "End as at the end of input once this pipe has a byte or ends; the script ./ravenhost gives it, for signals",
+    );
+    guarding_subcommand(alloc)?.arg(tick)?.arg(stop_by)
+}
+
 // The same, which may be told of notes.
 fn run_subcommand<'a>(alloc: Global) -> Result<Command<'a>, AllocError>
     ensures app { IfOk result (λ c. app_of c ≡ running) }
     ensures local { IfOk result (λ c. (fields_of c).has_globals ≡ false) }
 {
-    let command = keeping_subcommand(alloc)?;
+    let command = attending_subcommand(alloc)?;
     noted(alloc, command)
 }
 
@@ -369,11 +457,64 @@ fn kept_of<'a>(words: &ArgMatches<'a>) -> Option<Option<KeptFile<'a>>>
     file_of(words.get_str("journal"), words.get_str("sync"))
 }
 
+// A number of 1 up to a greatest, by the word that was given; none for another word.
+fn number_of(word: Option<&str>, most: u32) -> Option<Option<u32>>
+    ensures { result ≡ number_of most (option_map (λ w. w.now) word.entry) }
+{
+    let Some(word) = word else {
+        return Some(None);
+    };
+    match natural_of(word) {
+        Some(number) if 0 < number && number <= most as u64 => Some(Some(number as u32)),
+        _ => None,
+    }
+}
+
+// What a run does beside its commands, by what it was given; none where a word is another, or a sync has no file.
+fn run_words<'a>(words: &ArgMatches<'a>) -> Option<RunWords<'a>>
+    ensures some { IfSome result (λ run. IsRun (rows_of (found_of words.now))
+        (record {
+          kept = option_map (λ k. (k.name.now, k.sync)) run.kept;
+          tick = run.tick;
+          halt_below = run.halt_below;
+          quota = run.quota;
+          stop = option_map (λ s. s.now) run.stop_by;
+        })) }
+    ensures none { IfNone result (HasNoRun (rows_of (found_of words.now))) }
+{
+    let kept = kept_of(words)?;
+    let tick = number_of(words.get_str("tick"), LONGEST_PERIOD)?;
+    let halt_below = number_of(words.get_str("halt-below"), MOST_ENTRIES)?;
+    let quota = number_of(words.get_str("quota"), MOST_ENTRIES)?;
+    Some(RunWords {
+        kept,
+        tick,
+        halt_below,
+        quota,
+        stop_by: words.get_str("stop-by"),
+    })
+}
+
+// Nothing beside the commands.
+const NO_RUN: RunWords<'static> = RunWords {
+    kept: None,
+    tick: None,
+    halt_below: None,
+    quota: None,
+    stop_by: None,
+};
+
 // What `play` chooses by what it was given; none where notes have another word.
 fn play_chosen<'a>(words: &ArgMatches<'a>) -> Option<Selection<'a>>
     ensures some { IfSome result (λ chosen. IsSelection (codes "play", rows_of (found_of words.now)) chosen.choice
         (option_map (λ s. s.now) chosen.journal) chosen.notes chosen.are_errors chosen.explains
-        (option_map (λ k. (k.name.now, k.sync)) chosen.kept)) }
+        (record {
+          kept = option_map (λ k. (k.name.now, k.sync)) chosen.run.kept;
+          tick = chosen.run.tick;
+          halt_below = chosen.run.halt_below;
+          quota = chosen.run.quota;
+          stop = option_map (λ s. s.now) chosen.run.stop_by;
+        })) }
     ensures none { IfNone result (HasNoWord (rows_of (found_of words.now))) }
 {
     let told = telling_of(words)?;
@@ -383,7 +524,7 @@ fn play_chosen<'a>(words: &ArgMatches<'a>) -> Option<Selection<'a>>
         are_errors: told.1,
         journal: None,
         explains: words.get_flag("explain"),
-        kept: None,
+        run: NO_RUN,
     })
 }
 
@@ -391,7 +532,13 @@ fn play_chosen<'a>(words: &ArgMatches<'a>) -> Option<Selection<'a>>
 fn check_chosen<'a>(words: &ArgMatches<'a>) -> Option<Selection<'a>>
     ensures some { IfSome result (λ chosen. IsSelection (codes "check", rows_of (found_of words.now)) chosen.choice
         (option_map (λ s. s.now) chosen.journal) chosen.notes chosen.are_errors chosen.explains
-        (option_map (λ k. (k.name.now, k.sync)) chosen.kept)) }
+        (record {
+          kept = option_map (λ k. (k.name.now, k.sync)) chosen.run.kept;
+          tick = chosen.run.tick;
+          halt_below = chosen.run.halt_below;
+          quota = chosen.run.quota;
+          stop = option_map (λ s. s.now) chosen.run.stop_by;
+        })) }
     ensures none { IfNone result (HasNoWord (rows_of (found_of words.now))) }
 {
     let told = telling_of(words)?;
@@ -401,26 +548,32 @@ fn check_chosen<'a>(words: &ArgMatches<'a>) -> Option<Selection<'a>>
         are_errors: told.1,
         journal: None,
         explains: words.get_flag("explain"),
-        kept: None,
+        run: NO_RUN,
     })
 }
 
-// What `run` chooses; none where notes or syncs have another word, or a sync has no file.
+// What `run` chooses; none where a flag has another word, or a sync has no file.
 fn run_chosen<'a>(words: &ArgMatches<'a>) -> Option<Selection<'a>>
     ensures some { IfSome result (λ chosen. IsSelection (codes "run", rows_of (found_of words.now)) chosen.choice
         (option_map (λ s. s.now) chosen.journal) chosen.notes chosen.are_errors chosen.explains
-        (option_map (λ k. (k.name.now, k.sync)) chosen.kept)) }
-    ensures none { IfNone result (HasNoWord (rows_of (found_of words.now)) ⊎ HasNoFile (rows_of (found_of words.now))) }
+        (record {
+          kept = option_map (λ k. (k.name.now, k.sync)) chosen.run.kept;
+          tick = chosen.run.tick;
+          halt_below = chosen.run.halt_below;
+          quota = chosen.run.quota;
+          stop = option_map (λ s. s.now) chosen.run.stop_by;
+        })) }
+    ensures none { IfNone result (HasNoWord (rows_of (found_of words.now)) ⊎ HasNoRun (rows_of (found_of words.now))) }
 {
     let told = telling_of(words)?;
-    let kept = kept_of(words)?;
+    let run = run_words(words)?;
     Some(Selection {
         choice: Choice::Run,
         notes: told.0,
         are_errors: told.1,
         journal: None,
         explains: words.get_flag("explain"),
-        kept,
+        run,
     })
 }
 
@@ -428,7 +581,13 @@ fn run_chosen<'a>(words: &ArgMatches<'a>) -> Option<Selection<'a>>
 fn audit_chosen<'a>(words: &ArgMatches<'a>) -> Option<Selection<'a>>
     ensures some { IfSome result (λ chosen. IsSelection (codes "audit", rows_of (found_of words.now)) chosen.choice
         (option_map (λ s. s.now) chosen.journal) chosen.notes chosen.are_errors chosen.explains
-        (option_map (λ k. (k.name.now, k.sync)) chosen.kept)) }
+        (record {
+          kept = option_map (λ k. (k.name.now, k.sync)) chosen.run.kept;
+          tick = chosen.run.tick;
+          halt_below = chosen.run.halt_below;
+          quota = chosen.run.quota;
+          stop = option_map (λ s. s.now) chosen.run.stop_by;
+        })) }
     ensures none { IfNone result (LacksFile (rows_of (found_of words.now))) }
 {
     let journal = words.get_str("journal");
@@ -439,7 +598,7 @@ fn audit_chosen<'a>(words: &ArgMatches<'a>) -> Option<Selection<'a>>
         are_errors: false,
         journal,
         explains: words.get_flag("explain"),
-        kept: None,
+        run: NO_RUN,
     })
 }
 
@@ -447,7 +606,14 @@ fn audit_chosen<'a>(words: &ArgMatches<'a>) -> Option<Selection<'a>>
 fn choice_of<'a>(matches: &ArgMatches<'a>) -> Option<Selection<'a>>
     ensures found { IfSome result (λ chosen. (found : Text × List Row) × (subcommand_rows_of matches.now ≡ Some found)
         × IsSelection found chosen.choice (option_map (λ s. s.now) chosen.journal) chosen.notes chosen.are_errors
-        chosen.explains (option_map (λ k. (k.name.now, k.sync)) chosen.kept)) }
+        chosen.explains
+        (record {
+          kept = option_map (λ k. (k.name.now, k.sync)) chosen.run.kept;
+          tick = chosen.run.tick;
+          halt_below = chosen.run.halt_below;
+          quota = chosen.run.quota;
+          stop = option_map (λ s. s.now) chosen.run.stop_by;
+        })) }
     ensures none { IfNone result ((found : Text × List Row) → subcommand_rows_of matches.now ≡ Some found
         → NamesNone found) }
 {
@@ -471,7 +637,13 @@ fn choice_of<'a>(matches: &ArgMatches<'a>) -> Option<Selection<'a>>
 pub fn chosen<'a>(alloc: Global, words: &'a [&'a str]) -> Result<Selection<'a>, Unchosen>
     ensures ok { IfOk result (λ chosen. Chooses (map (λ w. w.now) words.now) chosen.choice
         (option_map (λ s. s.now) chosen.journal) chosen.notes chosen.are_errors chosen.explains
-        (option_map (λ k. (k.name.now, k.sync)) chosen.kept)) }
+        (record {
+          kept = option_map (λ k. (k.name.now, k.sync)) chosen.run.kept;
+          tick = chosen.run.tick;
+          halt_below = chosen.run.halt_below;
+          quota = chosen.run.quota;
+          stop = option_map (λ s. s.now) chosen.run.stop_by;
+        })) }
     ensures taken { takes program (map (λ w. w.now) words.now) ≡ true
         → IfErr result (Lacks (map (λ w. w.now) words.now)) }
     ensures line { (name : Text) → (choice : Choice) → map (λ w. w.now) words.now ≡ name ∷ line_of choice

@@ -12,7 +12,7 @@ use rv_check::warnings::{Warnings, run_warnings_of, warnings_of, whole_warnings_
 use rv_fault::Failure;
 use rv_input::{Before, InputFault};
 use rv_play::counts::Counts;
-use rv_run::{Follower, KeptFailure};
+use rv_run::{Follower, KeptFailure, Outputs};
 use rv_script::read_script;
 use rv_staff::Hires;
 use rv_verdict::{Audited, Explained, Watch};
@@ -158,14 +158,12 @@ pub fn run<T: Threads + Wait, H: Hires, R: Read, W: Write, E: Write>(
     rv_run::run::run(rt, hires, alloc, reader, writer, errors)
 }
 
-/// Does what `run` does, and keeps the journal in a file; of the input these bytes were read before.
+/// Does what `run` does, attends to the host between the commands, and keeps the journal in a file.
 pub fn run_kept<T: Threads + Wait + Clock, H: Hires, W: Write, E: Write, F: Write>(
     rt: &T,
     hires: &H,
-    before: &[u8],
     follower: &mut Follower<'_, T, F>,
-    writer: &mut W,
-    errors: &mut E,
+    outputs: &mut Outputs<W, E>,
 ) -> Result<(), KeptFailure> {
-    rv_run::kept::run_kept(rt, hires, before, follower, writer, errors)
+    rv_run::kept::run_kept(rt, hires, follower, outputs)
 }

@@ -4,4 +4,5 @@
 pub mod crew;
 pub mod job;
 pub mod laws;
+pub mod notice;
 pub mod tasks;

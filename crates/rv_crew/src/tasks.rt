@@ -1,6 +1,7 @@
 //! What jobs do: plain functions, each of which takes a port and gives it back done.
 
 ghost use Rattle.std.specs.Prelude.{◌≡◌, ℕ};
+ghost use Rattle.rv_port.specs.Endings.{TextEnded};
 ghost use Rattle.rv_port.specs.Following.{FollowsUnless};
 ghost use Rattle.rv_port.specs.Ports.{Porting, pass_of, IsExplained};
 ghost use Rattle.rv_event.specs.declared.entry.Exit.{Exit};
@@ -8,7 +9,9 @@ ghost use Rattle.rv_port.specs.Calls.{Quits, Stays};
 ghost use Rattle.rv_port.specs.Texts.{LeavesText, TextRan};
 ghost use Rattle.rv_crew.specs.Tasks.{Calls, Fires, goes_on};
 
-use crossbeam_channel::Receiver;
+use crate::notice::{Notice, notify};
+use crossbeam_channel::{Receiver, Sender};
+use rv_port::ended::Ending;
 use rv_port::port::{Finished, Port};
 use rv_port::reached::Reached;
 use rv_value::Args;
@@ -37,15 +40,16 @@ fn make_calls<R: Wait>(rt: &R, port: &mut Port, object: usize, operation: usize,
 }
 
 /// The job of a task with a text: it runs the text to its end (9.2, 9.3), with so many requests of
-/// its own, and finishes. What its actor asked is then what the text asks.
-pub fn text_task<R: Wait>(rt: &R, mut port: Port, budget: u32) -> Finished
-    ensures ran { (exit : Exit) × (done : Porting) × TextRan (pass_of port) port.refused budget exit (pass_of done) done.refused × LeavesText done.refused (pass_of done) (pass_of result) × (result.refused ≡ done.refused) }
-    ensures stays { Stays (pass_of port) (pass_of result) }
-    ensures explained { IsExplained result }
-    ensures followed { FollowsUnless result.refused budget (pass_of port) (pass_of result) }
+/// its own, and finishes. What its actor asked is then what the text asks. It gives how the text ended.
+pub fn text_task<R: Wait>(rt: &R, mut port: Port, budget: u32) -> (Finished, Ending)
+    ensures ran { (exit : Exit) × (done : Porting) × TextRan (pass_of port) port.refused budget exit (pass_of done) done.refused × LeavesText done.refused (pass_of done) (pass_of result.0) × (result.0.refused ≡ done.refused) }
+    ensures ended { (exit : Exit) × (done : Porting) × TextEnded (pass_of port) port.refused budget exit result.1 (pass_of done) done.refused × LeavesText done.refused (pass_of done) (pass_of result.0) }
+    ensures stays { Stays (pass_of port) (pass_of result.0) }
+    ensures explained { IsExplained result.0 }
+    ensures followed { FollowsUnless result.0.refused budget (pass_of port) (pass_of result.0) }
 {
-    port.run_text(rt, budget);
-    port.finish_text(rt)
+    let (_, ending) = port.run_text(rt, budget);
+    (port.finish_text(rt), ending)
 }
 
 /// The job of a device: it calls an operation without parameters so many times, by the numbers of
@@ -66,23 +70,43 @@ pub fn device<R: Wait>(
     port.finish(rt)
 }
 
+// Notifies of an exception that a handler raised, if it did.
+fn notify_raised<R: Wait>(rt: &R, notices: &Option<Sender<Notice>>, actor: u64, reached: &Reached) {
+    if let Reached::Raised(exception) = reached {
+        let ending = Ending::Raised(*exception);
+        notify(rt, notices, Notice { actor, ending });
+    }
+}
+
 // Fires for each number that comes, until no more can come.
-fn fire_each<R: Wait>(rt: &R, port: &mut Port, receiver: &Receiver<u8>)
+fn fire_each<R: Wait>(
+    rt: &R,
+    port: &mut Port,
+    receiver: &Receiver<u8>,
+    notices: &Option<Sender<Notice>>,
+)
     ensures fires { (count : ℕ) × Fires count port.old port.new }
     ensures stays { Stays (pass_of port.old) (pass_of port.new) }
 {
     for _ in receiver.iter(rt) {
-        let _ = port.fire(rt);
+        let actor = port.actor();
+        let reached = port.fire(rt);
+        notify_raised(rt, notices, actor, &reached);
     }
 }
 
 /// The job of a line: an interrupt for each line number that is received, until the channel closes
-/// (C.3).
-pub fn line_task<R: Wait>(rt: &R, mut port: Port, receiver: Receiver<u8>) -> Finished
+/// (C.3). It notifies of each whose handler raised an exception.
+pub fn line_task<R: Wait>(
+    rt: &R,
+    mut port: Port,
+    receiver: Receiver<u8>,
+    notices: Option<Sender<Notice>>,
+) -> Finished
     ensures fires { (count : ℕ) × (done : Porting) × Fires count port done × Quits (pass_of done) (pass_of result) × (result.refused ≡ done.refused) }
     ensures stays { Stays (pass_of port) (pass_of result) }
     ensures explained { IsExplained result }
 {
-    fire_each(rt, &mut port, &receiver);
+    fire_each(rt, &mut port, &receiver, &notices);
     port.finish(rt)
 }

@@ -1,13 +1,14 @@
 //! The two ends of an input that a thread reads.
 
-ghost use Rattle.std.specs.Prelude.{◌≡◌, IfOk};
-ghost use Rattle.rv_feed.specs.Hearing.{Hands, Polls, Reads};
+ghost use Rattle.std.specs.Prelude.{◌≡◌, ℕ, List, IfOk};
+ghost use Rattle.rv_feed.specs.Hearing.{Hands, Hears, ReadsInTime};
 
-use crossbeam_channel::{Receiver, Sender, TryRecvError, bounded};
+use crossbeam_channel::{Receiver, RecvTimeoutError, Sender, TryRecvError, bounded};
 use rv_input::{Input, InputFault};
 use std::alloc::{AllocError, Global};
 use std::io::{ErrorKind, Read};
 use std::sync::Wait;
+use std::time::{Clock, Duration};
 use std::{io, mem};
 
 // How many pieces may be under way.
@@ -99,36 +100,42 @@ impl Speaker {
             }
         }
     }
+
+    /// Reads an input once, to whatever comes of it, and is gone then: the other end is over.
+    pub fn read_once<I: Read>(self, reader: &mut I) {
+        let mut chunk = [0];
+        let _ = reader.read(&mut chunk);
+    }
 }
 
 impl Feed {
-    /// Looks whether more of the input came, and puts it behind what was read ahead.
+    /// Waits for more of the input, at most for a while, and puts it behind what was read ahead.
     ///
     /// # Errors
     /// As the read that failed, or for want of memory.
-    pub fn poll<R: Wait>(&mut self, rt: &R, input: &mut Input) -> Result<Came, InputFault>
-        ensures polls { Polls input.old input.new result }
+    pub fn hear<R: Wait + Clock>(
+        &mut self,
+        rt: &R,
+        input: &mut Input,
+        most: Duration,
+    ) -> Result<Came, InputFault>
+        ensures hears { Hears input.old input.new result }
         ensures rest { self.new.rest ≡ self.old.rest }
     {
-        match self.pieces.try_recv(rt) {
+        match self.pieces.recv_timeout(rt, most) {
             Ok(Piece::Bytes(bytes)) => match input.put(bytes.as_slice()) {
                 Ok(()) => Ok(Came::Bytes),
                 Err(_) => Err(InputFault::Memory),
             },
             Ok(Piece::Failed(fault)) => Err(fault),
-            Err(TryRecvError::Disconnected) => Ok(Came::Over),
-            Err(_) => Ok(Came::Nothing),
+            Err(RecvTimeoutError::Disconnected) => Ok(Came::Over),
+            Err(RecvTimeoutError::Timeout) => Ok(Came::Nothing),
         }
     }
 
-    // The next bytes, for which it waits; none at the end.
-    fn next<R: Wait>(&mut self, rt: &R) -> io::Result<Option<Vec<u8>>> {
-        match self.pieces.recv(rt) {
-            Ok(Piece::Bytes(bytes)) => Ok(Some(bytes)),
-            Ok(Piece::Failed(InputFault::Io(e))) => Err(e),
-            Ok(Piece::Failed(InputFault::Memory)) => Err(io::Error::from(ErrorKind::OutOfMemory)),
-            Err(_) => Ok(None),
-        }
+    /// Whether the end that reads the input is gone.
+    pub fn is_over<R: Wait>(&self, rt: &R) -> bool {
+        matches!(self.pieces.try_recv(rt), Err(TryRecvError::Disconnected))
     }
 
     // Takes bytes of a piece, as many as a buffer holds, and keeps the others.
@@ -145,20 +152,44 @@ impl Feed {
         }
     }
 
-    /// Reads the next bytes, for which it waits; none at the end.
+    // Takes what came of a piece.
+    fn take_piece(&mut self, piece: Piece, buf: &mut [u8]) -> io::Result<usize>
+        ensures { IfOk result (λ count. (bytes : List ℕ) × Hands bytes buf.new self.new.rest.items count) }
+    {
+        match piece {
+            Piece::Bytes(bytes) => self.take(bytes.as_slice(), buf),
+            Piece::Failed(InputFault::Io(e)) => Err(e),
+            Piece::Failed(InputFault::Memory) => Err(io::Error::from(ErrorKind::OutOfMemory)),
+        }
+    }
+
+    // Reads what a piece left.
+    fn read_rest(&mut self, buf: &mut [u8]) -> io::Result<usize>
+        ensures { IfOk result (λ count. Hands self.old.rest.items buf.new self.new.rest.items count) }
+    {
+        let rest = mem::replace(&mut self.rest, Vec::new(self.alloc));
+        self.take(rest.as_slice(), buf)
+    }
+
+    /// Reads the next bytes, for which it waits at most a while: 0 at the end, and none where nothing came.
     ///
     /// # Errors
     /// As the read that failed, or for want of memory.
-    pub(crate) fn read<R: Wait>(&mut self, rt: &R, buf: &mut [u8]) -> io::Result<usize>
-        ensures { IfOk result (λ count. Reads self.old.rest.items buf.new self.new.rest.items count) }
+    pub(crate) fn read<R: Wait + Clock>(
+        &mut self,
+        rt: &R,
+        most: Duration,
+        buf: &mut [u8],
+    ) -> io::Result<Option<usize>>
+        ensures { IfOk result (ReadsInTime self.old.rest.items buf.new self.new.rest.items) }
     {
         if self.rest.len() > 0 {
-            let rest = mem::replace(&mut self.rest, Vec::new(self.alloc));
-            return self.take(rest.as_slice(), buf);
+            return Ok(Some(self.read_rest(buf)?));
         }
-        match self.next(rt)? {
-            Some(bytes) => self.take(bytes.as_slice(), buf),
-            None => Ok(0),
+        match self.pieces.recv_timeout(rt, most) {
+            Ok(piece) => Ok(Some(self.take_piece(piece, buf)?)),
+            Err(RecvTimeoutError::Disconnected) => Ok(Some(0)),
+            Err(RecvTimeoutError::Timeout) => Ok(None),
         }
     }
 }

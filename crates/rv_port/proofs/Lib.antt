@@ -34,3 +34,4 @@ pub mod Performances
 pub mod Following
 pub mod WornTexts
 pub mod TextEnds
+pub mod Endings

@@ -43,6 +43,7 @@ use Rattle.rv_behind.specs.contracts.event.Event as event
 use Rattle.rv_port.specs.contracts.bell.Bell as bell
 use Rattle.rv_port.proofs.bell.Bell.TheSendSync as bell_crosses
 use Rattle.rv_port.specs.contracts.asker.Asker as asker
+use Rattle.rv_port.proofs.ended.Course.TheSendSync as course_crosses
 use Rattle.rv_port.specs.contracts.port.Port as port
 use Rattle.rv_port.specs.contracts.port.Port.TheInside as port_inside
 use Rattle.rv_port.specs.contracts.port.Finished as finished
@@ -137,7 +138,7 @@ bell_arc_send : IsSend (arc.the_row bell.the_row global.the_row ghosts)
 bell_arc_send = arc_crosses.the_send bell.the_row global.the_row ghosts bell_crosses.the_send global_crosses.the_send bell_crosses.the_sync global_crosses.the_sync heap_crosses.the_frees
 
 asker_send : IsSend (asker.the_field).row
-asker_send = struct_send (shape asker.the_type) (pass_crosses.the_send behind.the_row ask.the_row reply.the_row letter.the_row event.the_row limits.the_row counted behind_send, (bell_arc_send, (plain_send _ _ _ _ _, (plain_send _ _ _ _ _, tt))))
+asker_send = struct_send (shape asker.the_type) (pass_crosses.the_send behind.the_row ask.the_row reply.the_row letter.the_row event.the_row limits.the_row counted behind_send, (bell_arc_send, (plain_send _ _ _ _ _, (plain_send _ _ _ _ _, (course_crosses.the_field_send, tt)))))
 
 port_inside_send : IsSend port_inside.the_row
 port_inside_send = recorded_send (port_inside.the_field).row _ _ (port_inside.the_type).to_one (struct_send (shape port_inside.the_type) (asker_send, tt))

@@ -9,7 +9,7 @@ use Rattle.rv_behind.specs.Acting.{Does, IsLent, lent_view}
 use Rattle.rv_port.specs.Traces.{Passing, Trace, Went}
 use Rattle.rv_port.specs.Calls.{marked, Stays}
 use Rattle.rv_port.specs.Held.{held_by}
-use Rattle.rv_port.specs.Texts.{TextRuns, TextRan}
+use Rattle.rv_port.specs.Texts.{TextRuns, TextLent, TextRan}
 use Rattle.rv_behind.specs.declared.event.Lent.{Lent}
 use Rattle.rv_behind.specs.declared.event.Event.{Event}
 use Rattle.rv_behind.specs.declared.event.Ask.{Ask}
@@ -32,21 +32,21 @@ acted_stays v w ask reply a = let less : w.left ≡ v.left - 1 = ap (λ (k : Pas
 }
 
 -- a text that ran by the bodies that were lent
-pub ran_lent : (v u w : Passing) (mark same after : Bool) (budget : ℕ) (exit : Exit) (lent : Option Lent) → held_by v ≡ 0 → Acted by Does v Wants.Bodies (Gives.Bodies lent) u → same ≡ mark
-    → (trace : Trace) × TextRuns (lent_view lent) u.actor budget trace exit × Went u trace w → after ≡ marked same (lent_view lent) → TextRan v mark budget exit w after
-ran_lent v u w mark same after budget exit lent none a is t k = inr (inr record {
+unfoldable pub lent_run : (v u w : Passing) (mark same after : Bool) (budget : ℕ) (exit : Exit) (lent : Option Lent) (trace : Trace) → held_by v ≡ 0 → Acted by Does v Wants.Bodies (Gives.Bodies lent) u → same ≡ mark
+    → TextRuns (lent_view lent) u.actor budget trace exit → Went u trace w → after ≡ marked same (lent_view lent) → TextLent v mark budget exit w after
+lent_run v u w mark same after budget exit lent trace none a is runs went k = record {
   none_held = none;
   bodies = lent_view lent;
   lent = u;
   borrows = record { lent = lent; lent_is = refl; acted = a };
-  trace = t.0;
-  runs = subst (λ (n : ℕ). TextRuns (lent_view lent) n budget t.0 exit) (ap (λ (z : Passing). z.actor) a.same) t.1;
-  went = t.2;
-  stops = text_stops u.seen u w (lent_view lent) budget t.0 exit
+  trace = trace;
+  runs = subst (λ (n : ℕ). TextRuns (lent_view lent) n budget trace exit) (ap (λ (z : Passing). z.actor) a.same) runs;
+  went = went;
+  stops = text_stops u.seen u w (lent_view lent) budget trace exit
       (subst (λ (l : List Event). IsLent l (lent_view lent)) (sym a.answer.2.1) a.answer.2.0) (starts_self u.seen)
-      t.1 t.2;
+      runs went;
   marked_is = k ∙ ap (λ (b : Bool). marked b (lent_view lent)) is;
-})
+}
 
 pub ran_stays : (v w : Passing) (mark after : Bool) (budget : ℕ) (exit : Exit) → TextRan v mark budget exit w after → Stays v w
 ran_stays v w mark after budget exit t = ⊎_elim (λ worn. subst (λ (z : Passing). Stays v z) (sym worn.0.1) (stays_self v))

@@ -14,3 +14,4 @@ pub mod Texts
 pub mod Alone
 pub mod Ends
 pub mod Following
+pub mod Endings

@@ -9,9 +9,11 @@ ghost use Rattle.rv_port.specs.Held.{held_by};
 ghost use Rattle.rv_behind.specs.Acting.{BodiesFit};
 ghost use Rattle.rv_behind.specs.Events.{by, catalogue_of};
 ghost use Rattle.rv_port.specs.Composing.{MayGo};
+ghost use Rattle.rv_port.specs.Endings.{RunsCourse};
 ghost use Rattle.rv_port.specs.Traces.{RepliedOnce, Settled, SettlesBehind, WoreOut, IsTold, told, asks_on, drops};
 
 use crate::bell::Bell;
+use crate::ended::{Course, Ending, stop_of};
 use rv_behind::behind::Behind;
 use rv_behind::event::Letter;
 use rv_event::entry::{Answer, Next, Request};
@@ -30,6 +32,8 @@ pub(crate) struct Asker {
     pub(crate) is_refused: bool,
     // How many objects the actor holds.
     pub(crate) held: u64,
+    // What the run of a text has come to. Each request of a body goes on with it; only a text's run begins it anew.
+    pub(crate) course: Course,
     pub(crate) ghost given: { pass.first ≡ false },
     pub(crate) ghost fresh: { pass.base ≡ [] },
     pub(crate) ghost limited: { is_some pass.about ≡ true },
@@ -143,12 +147,17 @@ impl Asker {
         ensures went { MayGo self.old.pass ((request.now, result) ∷ []) self.new.pass }
         ensures told { IsTold result }
         ensures mark { self.new.is_refused ≡ self.old.is_refused }
+        ensures course { RunsCourse self.old.course self.old.pass ((request.now, result) ∷ []) self.new.course self.new.pass }
     {
+        let course = self.course;
+        let held = self.held;
         let mut letter = Letter::new(request);
         let Ok(()) = self.insist(rt, &mut letter) else {
+            self.course = course.past(held, request, Some(Ending::Worn));
             return Answer::Full;
         };
         self.settle(rt, &letter.answer);
+        self.course = course.past(held, request, stop_of(&letter.answer));
         told_of(&letter.answer)
     }
 }
@@ -157,15 +166,16 @@ impl<R: Wait> Outward<R> for Asker {
     ghost use Rattle.std.specs.Prelude.{◌≡◌};
     ghost use Rattle.std.proofs.Common.{refl, ◌∙◌};
     ghost use Rattle.rv_port.specs.Composing.{MayGo, may_none, may_both};
+    ghost use Rattle.rv_port.specs.Endings.{RunsCourse, course_both};
 
-    ghost went = { λ s trace t. MayGo s.pass trace t.pass × (t.is_refused ≡ s.is_refused) };
+    ghost went = { λ s trace t. MayGo s.pass trace t.pass × (t.is_refused ≡ s.is_refused) × RunsCourse s.course s.pass trace t.course t.pass };
 
     #[tactic(auto, using(crate::proofs::Asking::told_stands))]
     fn ask(&mut self, rt: &R, request: Request) -> Answer {
         self.ask_for_body(rt, &request)
     }
 
-    ghost none = { λ s. (may_none s.pass, refl) };
+    ghost none = { λ s. (may_none s.pass, refl, (refl, refl)) };
 
-    ghost both = { λ s t u a b p q. (may_both s.pass t.pass u.pass a b p.0 q.0, q.1 ∙ p.1) };
+    ghost both = { λ s t u a b p q. (may_both s.pass t.pass u.pass a b p.0 q.0, q.1 ∙ p.1, course_both s.course t.course u.course s.pass t.pass u.pass a b p.2 q.2) };
 }

@@ -5,6 +5,7 @@ mod asker;
 mod bell;
 mod body;
 pub mod control;
+pub mod ended;
 pub mod fault;
 pub mod gate;
 pub mod laws;

@@ -18,6 +18,7 @@ ghost use Rattle.rv_behind.specs.declared.event.Event.{Event};
 
 use crate::asker::Asker;
 use crate::bell::Bell;
+use crate::ended::Course;
 use crate::gate::{Gate, Open};
 use crate::note::Note;
 use crate::reached::Reached;
@@ -121,6 +122,7 @@ impl Port {
                 bell,
                 is_refused: false,
                 held: 0,
+                course: Course::fresh(0),
             },
         }
     }

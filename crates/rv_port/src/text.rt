@@ -1,17 +1,19 @@
 //! The text of a port's task, run to its end.
 
 ghost use Rattle.std.specs.Prelude.{◌≡◌, Some, IfOk, OnErr};
-ghost use Rattle.rv_exec.specs.Bodies.{bodies_view};
+ghost use Rattle.rv_exec.specs.Bodies.{bodies_view, task_of};
 ghost use Rattle.rv_turn.specs.Passes.{Acted, IsWorn};
 ghost use Rattle.rv_behind.specs.Acting.{Does, lent_view};
 ghost use Rattle.rv_behind.specs.Events.{by};
 ghost use Rattle.rv_port.specs.Traces.{Trace, Went};
 ghost use Rattle.rv_port.specs.Calls.{marked, Stays};
+ghost use Rattle.rv_port.specs.Endings.{LentGoes, OwnGoes, TextEnded, own_ending};
 ghost use Rattle.rv_port.specs.Following.{FollowsUnless};
 ghost use Rattle.rv_port.specs.Ports.{pass_of, IsExplained};
 ghost use Rattle.rv_port.specs.Texts.{TextRan, TextRuns};
 
 use crate::asker::Asker;
+use crate::ended::{Course, Ending};
 use crate::port::Port;
 use rv_behind::event::{Ask, Lent, Reply};
 use rv_event::entry::Exit;
@@ -19,6 +21,16 @@ use rv_exec::bodies::Bodies;
 use rv_exec::machine::{Machine, run_task};
 use rv_turn::Worn;
 use std::sync::Wait;
+
+// How a text ended that exited so, by its run: where its task has a body.
+fn ending_by(bodies: &Bodies, actor: usize, exit: &Exit, budget: u32, course: Course) -> Ending
+    ensures { result ≡ own_ending (task_of (bodies_view bodies.now) actor) exit.now budget course }
+{
+    match bodies.task(actor) {
+        Some(_) => course.ending(exit, budget),
+        None => Ending::NoBodies,
+    }
+}
 
 impl Asker {
     // The bodies of all units loaded so far. Err where no act is left.
@@ -37,37 +49,42 @@ impl Asker {
     }
 
     // Runs the text of the actor's task, of these bodies.
-    fn run_text<R: Wait>(&mut self, rt: &R, bodies: &Bodies, budget: u32) -> Exit
-        ensures runs { (trace : Trace) × TextRuns (Some (bodies_view bodies.now)) self.old.pass.actor budget trace result × Went self.old.pass trace self.new.pass }
+    fn run_text<R: Wait>(&mut self, rt: &R, bodies: &Bodies, budget: u32) -> (Exit, Ending)
+        ensures runs { (trace : Trace) × TextRuns (Some (bodies_view bodies.now)) self.old.pass.actor budget trace result.0 × Went self.old.pass trace self.new.pass
+            × OwnGoes (task_of (bodies_view bodies.now) self.old.pass.actor) budget result.0 self.old.pass trace self.new.pass result.1 }
         ensures mark { self.new.is_refused ≡ self.old.is_refused }
     {
         let actor = self.pass.actor() as usize;
-        run_task(&Machine { budget }, rt, bodies, actor, self)
+        self.course = Course::fresh(budget);
+        let exit = run_task(&Machine { budget }, rt, bodies, actor, self);
+        (exit, ending_by(bodies, actor, &exit, budget, self.course))
     }
 
     // Runs the text of the actor's task by these bodies. Where they couldn't be had it asks nothing.
-    fn run_lent<R: Wait>(&mut self, rt: &R, lent: &Option<Lent>, budget: u32) -> Exit
-        ensures runs { (trace : Trace) × TextRuns (lent_view lent.now) self.old.pass.actor budget trace result × Went self.old.pass trace self.new.pass }
+    fn run_lent<R: Wait>(&mut self, rt: &R, lent: &Option<Lent>, budget: u32) -> (Exit, Ending)
+        ensures runs { (trace : Trace) × TextRuns (lent_view lent.now) self.old.pass.actor budget trace result.0 × Went self.old.pass trace self.new.pass
+            × LentGoes (lent_view lent.now) self.old.pass.actor budget result.0 self.old.pass trace self.new.pass result.1 }
         ensures mark { self.new.is_refused ≡ marked self.old.is_refused (lent_view lent.now) }
     {
         match lent {
             Some(lent) => self.run_text(rt, &lent.bodies, budget),
             None => {
                 self.is_refused = true;
-                Exit::Stopped
+                (Exit::Stopped, Ending::NoBodies)
             }
         }
     }
 
     // Runs the text of the actor's task, if it holds nothing.
-    fn go_on<R: Wait>(&mut self, rt: &R, budget: u32) -> Exit
-        ensures { TextRan self.old.pass self.old.is_refused budget result self.new.pass self.new.is_refused }
+    fn go_on<R: Wait>(&mut self, rt: &R, budget: u32) -> (Exit, Ending)
+        ensures ran { TextRan self.old.pass self.old.is_refused budget result.0 self.new.pass self.new.is_refused }
+        ensures ended { TextEnded self.old.pass self.old.is_refused budget result.0 result.1 self.new.pass self.new.is_refused }
     {
         if self.held > 0 {
-            return Exit::Stopped;
+            return (Exit::Stopped, Ending::LeftInBody);
         }
         let Ok(lent) = self.borrow(rt) else {
-            return Exit::Stopped;
+            return (Exit::Stopped, Ending::Worn);
         };
         self.run_lent(rt, &lent, budget)
     }
@@ -79,9 +96,10 @@ impl Port {
     /// for it. The last request is Quit, where the task's mode allows it. Where no act is left, or
     /// the task was left in a body, it is stopped at once; where the bodies have too many holders
     /// too, and the port is marked. The text runs on the stack: a thread with
-    /// `rv_exec::machine::STACK_BYTES` of it holds any.
-    pub fn run_text<R: Wait>(&mut self, rt: &R, budget: u32) -> Exit
-        ensures ran { TextRan (pass_of self.old) self.old.refused budget result (pass_of self.new) self.new.refused }
+    /// `rv_exec::machine::STACK_BYTES` of it holds any. It gives how the text exited, and why it ended.
+    pub fn run_text<R: Wait>(&mut self, rt: &R, budget: u32) -> (Exit, Ending)
+        ensures ran { TextRan (pass_of self.old) self.old.refused budget result.0 (pass_of self.new) self.new.refused }
+        ensures ended { TextEnded (pass_of self.old) self.old.refused budget result.0 result.1 (pass_of self.new) self.new.refused }
         ensures stays { Stays (pass_of self.old) (pass_of self.new) }
         ensures explained { IsExplained self.new }
         ensures followed { FollowsUnless self.new.refused budget (pass_of self.old) (pass_of self.new) }

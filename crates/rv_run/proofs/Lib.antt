@@ -4,4 +4,5 @@ pub mod Served
 pub mod Opened
 pub mod Prepared
 pub mod Growing
+pub mod Ticked
 pub mod Keeping

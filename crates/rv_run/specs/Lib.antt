@@ -4,4 +4,6 @@ pub mod ServingLines
 pub mod Finishing
 pub mod Preparing
 pub mod Running
+pub mod Ticking
+pub mod Rooming
 pub mod KeepingRuns

@@ -2,6 +2,8 @@
 //! operator are served until the run ends.
 #![tactic(auto)]
 
+mod attention;
+mod coming;
 mod command;
 mod devices;
 mod following;
@@ -9,6 +11,11 @@ mod journal;
 pub mod kept;
 mod loads;
 mod opening;
+mod room;
 pub mod run;
+mod telling;
+mod ticking;
 
+pub use attention::Attention;
 pub use following::{Follower, KeptFailure};
+pub use kept::Outputs;

@@ -44,6 +44,10 @@ pub loads_stay : (v w : Passing) (shape : Shape) (Such : UnitBodies → Type 0) 
 loads_stay v w shape Such (Ok a) told = load_stays v w shape Such a told
 loads_stay v w shape Such (Err x) worn = ap (λ (p : Passing). p.turn) worn.1
 
+pub asks_stay : (v w : Passing) (ask : Ask) (r : Result Answer Spent) → MatchResult r (λ a. Told v ask a w) (λ x. IsWorn v w) → w.turn ≡ v.turn
+asks_stay v w ask (Ok a) told = ap (λ (p : Passing). p.turn) told.2.same
+asks_stay v w ask (Err x) worn = ap (λ (p : Passing). p.turn) worn.1
+
 -- so does it where pages are read
 reads_on_stay : (count : ℕ) (v w : Passing) → ReadsOn count v w → w.turn ≡ v.turn
 reads_on_stay zero v w same = ap (λ (p : Passing). p.turn) same

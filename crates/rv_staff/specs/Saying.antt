@@ -4,8 +4,11 @@ use Rattle.std.specs.List.{flat_map}
 use Rattle.std.specs.Io.KnownBytes.{Appends}
 use Rattle.rv_script.specs.Prefixes.{WritesPrefix}
 use Rattle.rv_shape.specs.Shape.{Shape}
-use Rattle.rv_shape.specs.Catalogue.{who}
+use Rattle.rv_shape.specs.Catalogue.{Who, Line, who}
 use Rattle.rv_shape.specs.Printed.{actor_text}
+use Rattle.rv_port.specs.declared.ended.Ending.{Ending}
+use Rattle.rv_port.specs.Endings.{ending_text}
+use Rattle.rv_crew.specs.declared.notice.Notice.{Notice}
 
 -- what a writer holds, where it tells
 abbrev pub Known : Type 0
@@ -41,3 +44,16 @@ lost_line shapes actor = codes "lost " ++ actor_text (who shapes actor) ++ 10 �
 abbrev pub SaysLost : {X E : Type 0} → Known → Known → List Shape → List ℕ → Result X E → Type 0
 SaysLost old new shapes lost result =
     Says old new (flat_map (lost_line shapes) lost) result ⊎ Says old new no_memory_line result
+
+-- a line has a handler, a task a text
+abbrev pub ending_head : Who → List ℕ
+ending_head (Line line) = codes "handler of"
+ending_head who = codes "task"
+
+-- the text of a task ended so, or a line's handler did, which raised an exception
+abbrev pub ending_line : Who → Ending → List ℕ
+ending_line who ending = (ending_head who ++ codes " " ++ actor_text who) ++ (codes " ended: " ++ (ending_text ending ++ 10 ∷ []))
+
+-- that is said of a notice
+abbrev pub notice_line : List Shape → Notice → List ℕ
+notice_line shapes notice = ending_line (who shapes notice.actor) notice.ending

@@ -13,7 +13,7 @@ mod work;
 pub use hands::{Hands, give_up, start};
 pub use hires::{HireFault, Hires};
 pub use raising::raise;
-pub use saying::{NO_MEMORY, say, say_lost};
+pub use saying::{NO_MEMORY, notice_line, say, say_lost};
 pub use session::{DeviceJob, Session};
 pub use staff::Staff;
 pub use staffing::start_threads;

@@ -4,8 +4,10 @@ ghost use Rattle.std.specs.Prelude.{◌≡◌, ◌++◌, ◌∷◌, [], codes, I
 ghost use Rattle.rv_shape.specs.Printed.{actor_text};
 ghost use Rattle.rv_shape.specs.Readers.{who_of};
 ghost use Rattle.std.specs.List.{flat_map};
-ghost use Rattle.rv_staff.specs.Saying.{Says, SaysLost, SaysNoThread, lost_line};
+ghost use Rattle.rv_staff.specs.Saying.{Says, SaysLost, SaysNoThread, ending_head, ending_line, lost_line, notice_line};
 
+use rv_crew::notice::Notice;
+use rv_port::ended::Ending;
 use rv_script::write_whole;
 use rv_shape::actor::Actor;
 use rv_shape::catalogue::Catalogue;
@@ -38,6 +40,37 @@ fn lost_line(alloc: Global, who: &Actor) -> Result<String, AllocError>
     ensures { IfOk result (λ line. string_bytes line ≡ codes "lost " ++ actor_text (who_of who.now) ++ 10 ∷ []) }
 {
     format!(in alloc; "lost {who}\n")
+}
+
+// What stands before an actor where it is said how its text, or its handler, ended.
+fn ending_head(who: &Actor) -> &'static str
+    ensures { result.now ≡ ending_head (who_of who.now) }
+{
+    match who {
+        Actor::Line(_) => "handler of",
+        Actor::Operator => "task",
+        Actor::Task(_, _) => "task",
+        Actor::Nobody => "task",
+    }
+}
+
+// What is said of the text of a task that ended, or of a line's handler that raised an exception.
+fn ending_line(alloc: Global, who: &Actor, ending: &Ending) -> Result<String, AllocError>
+    ensures { IfOk result (λ line. string_bytes line ≡ ending_line (who_of who.now) ending.now) }
+{
+    let head = ending_head(who);
+    format!(in alloc; "{head} {who} ended: {ending}\n")
+}
+
+/// What is said of a notice, by the units of a catalogue: a line, with its line feed.
+pub fn notice_line(
+    alloc: Global,
+    catalogue: &Catalogue,
+    notice: &Notice,
+) -> Result<String, AllocError>
+    ensures { IfOk result (λ line. string_bytes line ≡ notice_line catalogue.now notice.now) }
+{
+    ending_line(alloc, &catalogue.who(notice.actor as usize), &notice.ending)
 }
 
 // What is said of actors whose ports were lost.

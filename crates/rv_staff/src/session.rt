@@ -7,6 +7,7 @@ ghost use Rattle.rv_staff.specs.Staffs.{no_crew};
 use crate::staff::Staff;
 use crossbeam_channel::Sender;
 use rv_crew::crew::Closed;
+use rv_crew::notice::Notice;
 use rv_port::control::Control;
 use std::alloc::Global;
 use std::sync::Wait;
@@ -44,6 +45,10 @@ pub struct Session {
     pub devices: Vec<DeviceJob>,
     /// How many requests a task's own body may make.
     pub budget: u32,
+    /// How many entries its journal may have.
+    pub capacity: usize,
+    /// Where threads that are started from now on notify of how texts and handlers ended, if anywhere.
+    pub notices: Option<Sender<Notice>>,
 }
 
 impl Drop for Session {
@@ -55,16 +60,25 @@ impl Drop for Session {
             channels: _,
             devices: _,
             budget: _,
+            capacity: _,
+            notices: _,
         } = self;
     }
 }
 
 impl Session {
     /// A session on a host, whose threads aren't started yet.
-    pub fn new(alloc: Global, control: Control, devices: Vec<DeviceJob>, budget: u32) -> Session
+    pub fn new(
+        alloc: Global,
+        control: Control,
+        devices: Vec<DeviceJob>,
+        budget: u32,
+        capacity: usize,
+    ) -> Session
         ensures staff { result.staff ≡ record { control = control; crew = no_crew } }
         ensures devices { result.devices ≡ devices }
         ensures budget { result.budget ≡ budget }
+        ensures capacity { result.capacity ≡ capacity }
     {
         Session {
             alloc,
@@ -72,6 +86,8 @@ impl Session {
             channels: Vec::new(alloc),
             devices,
             budget,
+            capacity,
+            notices: None,
         }
     }
 
@@ -86,6 +102,8 @@ impl Session {
             channels,
             devices: _,
             budget: _,
+            capacity: _,
+            notices: _,
         } = self;
         drop(channels);
         staff.end(rt)

@@ -5,7 +5,10 @@ ghost use Rattle.rv_text.specs.Words.{words};
 ghost use Rattle.rv_turn.specs.Passes.{IsWorn};
 ghost use Rattle.rv_behind.specs.Events.{catalogue_of};
 ghost use Rattle.rv_port.specs.Ports.{pass_of};
-ghost use Rattle.rv_port.specs.Controls.{Brings, IsGiven, IsPortFault, LoadTold};
+ghost use Rattle.rv_access.specs.declared.change.Change.TheVariants as changes;
+ghost use Rattle.rv_behind.specs.declared.event.Ask.{Ask};
+ghost use Rattle.rv_event.specs.declared.entry.Request.TheVariants as asks;
+ghost use Rattle.rv_port.specs.Controls.{Brings, IsGiven, IsPortFault, LoadTold, Told};
 ghost use Rattle.rv_follow.specs.Following.{IsKept, Looked, Reads};
 ghost use Rattle.rv_keep.specs.Keeping.{Known};
 ghost use Rattle.rv_crew.specs.Crews.{IsClosedBy};
@@ -18,16 +21,18 @@ ghost use Rattle.rv_staff.specs.Staffs.{AreOf, no_crew};
 use crate::hands::give_up;
 use crate::hires::{HireFault, Hires};
 use crate::work::Work;
+use rv_access::Line;
 use rv_code::Unit;
 use rv_crew::crew::{Closed, Crew};
 use rv_event::entry::Answer;
-use rv_follow::follow;
+use rv_follow::{Found, follow};
 use rv_keep::{KeepFault, Keeper};
 use rv_port::control::Control;
 use rv_port::fault::PortFault;
 use rv_port::port::Port;
 use rv_shape::catalogue::Catalogue;
 use rv_shell::{LineFault, Next, Shell};
+use rv_tally::Tally;
 use rv_turn::Worn;
 use std::alloc::Global;
 use std::io::Write;
@@ -135,7 +140,31 @@ impl Staff {
         self.control.load(rt, unit)
     }
 
-    /// Writes the entries that came since the last look into a keeper's file. Gives whether there were some.
+    /// So many ticks of the clock go by, 1 .. 1,000,000 (D.8).
+    #[tactic(auto, using(crate::proofs::OneTurn::moved, crate::proofs::OneTurn::asks_stay))]
+    pub fn tick<R: Wait>(&mut self, rt: &R, ticks: i64) -> Result<Answer, Worn>
+        ensures told { MatchResult
+            result
+            (λ r. Told self.old.control (Ask.Step (asks.Tick ticks)) r self.new.control)
+            (λ _. IsWorn self.old.control self.new.control) }
+        ensures crew { self.new.crew ≡ self.old.crew }
+    {
+        self.control.tick(rt, ticks)
+    }
+
+    /// A line more at the end of the access list.
+    #[tactic(auto, using(crate::proofs::OneTurn::moved, crate::proofs::OneTurn::asks_stay))]
+    pub fn append_line<R: Wait>(&mut self, rt: &R, line: Line) -> Result<Answer, Worn>
+        ensures told { MatchResult
+            result
+            (λ r. Told self.old.control (Ask.Change (changes.Append line)) r self.new.control)
+            (λ _. IsWorn self.old.control self.new.control) }
+        ensures crew { self.new.crew ≡ self.old.crew }
+    {
+        self.control.append_line(rt, line)
+    }
+
+    /// Writes entries that came since the last look into a keeper's file, and counts them.
     ///
     /// # Errors
     /// `Write` where a write or a sync fails.
@@ -144,13 +173,14 @@ impl Staff {
         rt: &R,
         alloc: Global,
         keeper: &mut Keeper<F>,
-    ) -> Result<bool, KeepFault>
+        tally: &mut Tally,
+    ) -> Result<Found, KeepFault>
         ensures reads { Reads self.old.control self.new.control }
         ensures kept { (opened : Known) → IsKept opened (F.contents keeper.old.file) self.old.control keeper.old.next
             → Looked opened (F.contents keeper.new.file) self.new.control keeper.new.next result }
         ensures crew { self.new.crew ≡ self.old.crew }
     {
-        follow(rt, alloc, &mut self.control, keeper)
+        follow(rt, alloc, &mut self.control, keeper, tally)
     }
 
     /// Writes the answer to a request of the operator.

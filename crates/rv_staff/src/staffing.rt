@@ -10,7 +10,8 @@ use crate::hires::{HireFault, Hires};
 use crate::saying::{NO_MEMORY, say, say_no_thread};
 use crate::session::{DeviceJob, LineChannel, Session};
 use crate::work::Work;
-use crossbeam_channel::unbounded;
+use crossbeam_channel::{Sender, unbounded};
+use rv_crew::notice::Notice;
 use rv_port::fault::PortFault;
 use rv_port::port::Port;
 use rv_shape::actor::FIRST_TASK;
@@ -27,11 +28,19 @@ fn device_of(jobs: &[DeviceJob], actor: usize) -> Option<DeviceJob> {
     None
 }
 
+// Where a thread notifies; nowhere where memory was refused.
+fn notices_of(session: &Session) -> Option<Sender<Notice>> {
+    match &session.notices {
+        Some(sender) => sender.clone().ok(),
+        None => None,
+    }
+}
+
 // What the thread of a task does: that of its device, or else its text.
 fn work_of(session: &Session, actor: usize) -> Work {
     match device_of(session.devices.as_slice(), actor) {
         Some(job) => Work::Device(job.object, job.operation, job.calls),
-        None => Work::Text(session.budget),
+        None => Work::Text(session.budget, notices_of(session)),
     }
 }
 
@@ -51,7 +60,8 @@ fn hire_line<H: Hires>(
     let Ok((sender, receiver)) = unbounded(session.alloc) else {
         return session.staff.give_up(port);
     };
-    match session.staff.hire(hires, port, Work::Line(receiver)) {
+    let work = Work::Line(receiver, notices_of(session));
+    match session.staff.hire(hires, port, work) {
         Ok(()) => {
             session.channels.push_reserved(LineChannel { line, sender });
             Ok(())

@@ -1,9 +1,10 @@
 //! What the threads of a run do.
 
 ghost use Rattle.std.specs.Prelude.{◌≡◌};
-ghost use Rattle.rv_staff.specs.Working.{Works};
+ghost use Rattle.rv_staff.specs.Working.{TextWorks, Works};
 
-use crossbeam_channel::Receiver;
+use crossbeam_channel::{Receiver, Sender};
+use rv_crew::notice::{Notice, notify};
 use rv_crew::tasks::{device, line_task, text_task};
 use rv_port::port::{Finished, Port};
 use std::sync::Wait;
@@ -11,12 +12,24 @@ use std::sync::Wait;
 /// What a thread does with the port of its actor.
 #[derive(Drop)]
 pub enum Work {
-    /// It runs the text of a task, which may make so many requests of its own.
-    Text(u32),
+    /// It runs the text of a task, which may make so many requests of its own, and notifies of how that ended.
+    Text(u32, Option<Sender<Notice>>),
     /// It calls an operation, by the numbers of its object and of the operation, so many times.
     Device(usize, usize, u32),
-    /// It makes an interrupt for each number that is received.
-    Line(Receiver<u8>),
+    /// It makes an interrupt for each number that is received, and notifies of each whose handler raised an exception.
+    Line(Receiver<u8>, Option<Sender<Notice>>),
+}
+
+// Runs the text of a task, finishes its port, and notifies of how the text ended.
+fn run_text<R: Wait>(rt: &R, port: Port, budget: u32, notices: &Option<Sender<Notice>>) -> Finished
+    ensures ran { TextWorks budget port result }
+    ensures turn { result.turn ≡ port.turn }
+    ensures actor { result.actor ≡ port.actor }
+{
+    let actor = port.actor();
+    let (finished, ending) = text_task(rt, port, budget);
+    notify(rt, notices, Notice { actor, ending });
+    finished
 }
 
 /// Does the work of an actor, and finishes its port.
@@ -26,8 +39,8 @@ pub fn perform<R: Wait>(rt: &R, port: Port, work: Work) -> Finished
     ensures actor { result.actor ≡ port.actor }
 {
     match work {
-        Work::Text(budget) => text_task(rt, port, budget),
+        Work::Text(budget, notices) => run_text(rt, port, budget, &notices),
         Work::Device(object, operation, calls) => device(rt, port, object, operation, calls),
-        Work::Line(raised) => line_task(rt, port, raised),
+        Work::Line(raised, notices) => line_task(rt, port, raised, notices),
     }
 }

@@ -7,6 +7,8 @@ mod journals;
 #[cfg(test)]
 mod keepers;
 #[cfg(test)]
+mod rooms;
+#[cfg(test)]
 mod scripts;
 #[cfg(test)]
 mod trees;

@@ -63,6 +63,7 @@ fn finished(asker: Asker) -> Finished
         bell: _,
         is_refused,
         held: _,
+        course: _,
     } = asker;
     Finished { pass, is_refused }
 }

@@ -73,7 +73,7 @@ pub fn begin_text(hands: &Hands, control: &mut Control, crew: &mut Crew, number:
     ensures { IsOfTurn control.new.turn crew.new }
 {
     let port = port_of(control, FIRST + number)?;
-    if begin(hands, crew, port, Role::Work(Work::Text(BUDGET))) {
+    if begin(hands, crew, port, Role::Work(Work::Text(BUDGET, None))) {
         return Some(());
     }
     None

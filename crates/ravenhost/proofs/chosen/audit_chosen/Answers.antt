@@ -4,7 +4,7 @@ use Rattle.clap.specs.Matches.{found_of}
 use Rattle.clap.specs.Walk.{rows_of}
 use Rattle.clap.proofs.WalkLemmas.{first_value-rows, one_text-rows}
 use Rattle.ravenhost.specs.Choices.{audit_of}
-use Rattle.ravenhost.proofs.Choosing.{audit_named, flag_alone, unkept, unnoted}
+use Rattle.ravenhost.proofs.Choosing.{audit_named, flag_alone, unrun, unnoted}
 use Rattle.ravenhost.proofs.chosen.audit_chosen.Goals as goal
 
 pub returns-clause-some : goal.returns-clause-some
@@ -19,7 +19,7 @@ returns-clause-some c =
       named.1,
       unnoted (codes "audit", rows_of given) c.in_ok-choice.choice _ _ refl named.0 refl,
       (λ e. c.get_flag-2.ensures.value (one_text-rows given (codes "explain") ∙ e), λ e. c.get_flag-2.ensures.other (one_text-rows given (codes "explain") ∙ e)),
-      unkept (codes "audit", rows_of given) c.in_ok-choice.choice refl named.0,
+      unrun (codes "audit", rows_of given) c.in_ok-choice.choice refl named.0,
     )
 
 pub returns-in_err-choice-clause-none : goal.returns-in_err-choice-clause-none

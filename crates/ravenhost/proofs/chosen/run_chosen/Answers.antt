@@ -11,5 +11,5 @@ returns-clause-some c =
       λ e. absurd (not_audit_run _ refl e),
       c.in_ok-told.ensures.some,
       (λ e. c.get_flag.ensures.value (one_text-rows given (codes "explain") ∙ e), λ e. c.get_flag.ensures.other (one_text-rows given (codes "explain") ∙ e)),
-      c.in_ok-kept.ensures.some,
+      c.in_ok-run.ensures.some,
     )

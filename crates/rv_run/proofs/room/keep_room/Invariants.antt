@@ -1,0 +1,5 @@
+use Rattle.rv_follow.specs.Following.{Later}
+use Rattle.rv_run.proofs.room.keep_room.Given as goal
+
+abbrev pub invariant-loop : goal.invariant-loop
+invariant-loop g l = Later l.fn.session.staff.control l.session.staff.control

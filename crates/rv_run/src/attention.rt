@@ -1,0 +1,14 @@
+//! What is asked of an attended run.
+
+/// What is asked of an attended run.
+#[derive(Clone, Copy, Drop)]
+pub struct Attention {
+    /// The milliseconds between two ticks, where a real clock is followed.
+    pub period: Option<u64>,
+    /// How many entries a unit's tasks may add, where that is bounded.
+    pub quota: Option<u32>,
+    /// The room of the journal below which the run ends.
+    pub halt_below: Option<u32>,
+    /// Whether notes are told.
+    pub tells: bool,
+}

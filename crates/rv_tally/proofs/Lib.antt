@@ -1,0 +1,4 @@
+pub mod Guards
+pub mod Naming
+pub mod Promises
+pub mod Tallies

@@ -1,0 +1,5 @@
+pub mod Denying
+pub mod Guarding
+pub mod Tallying
+pub mod Watching
+pub mod Wording

@@ -1,0 +1,59 @@
+-- What is said of the room of a journal, and of quotas that it doesn't hold (own).
+use Rattle.std.specs.Prelude.{ℕ, ◌+◌, ◌-◌, ◌*◌, ◌/◌, ◌%◌, nat_lt, if◌then◌else◌, Bool, List, [], ◌∷◌, ◌++◌, codes, length}
+use Rattle.std.specs.List.{sum_by}
+use Rattle.std.specs.Fmt.{decimal}
+use Rattle.rv_event.specs.declared.entry.Entry.{Entry}
+use Rattle.rv_shape.specs.Shape.{Shape}
+use Rattle.rv_tally.specs.Tallying.{added}
+
+-- the last three digits of a number
+abbrev pub three : ℕ → List ℕ
+three number = decimal (number / 100 % 10) ++ (decimal (number / 10 % 10) ++ decimal (number % 10))
+
+-- a number with commas between its thousands and its millions
+abbrev pub grouped : ℕ → List ℕ
+grouped number =
+    if nat_lt number 1000 then decimal number
+    else if nat_lt number 1000000 then decimal (number / 1000) ++ 44 ∷ three number
+    else decimal (number / 1000000) ++ 44 ∷ (three (number / 1000) ++ 44 ∷ three number)
+
+-- The room left
+
+abbrev pub room_words : List ℕ → List ℕ → List ℕ
+room_words left capacity = codes "journal: " ++ (left ++ (codes " of " ++ (capacity ++ codes " entries left")))
+
+abbrev pub room_head : ℕ → ℕ → List ℕ
+room_head capacity left = room_words (grouped left) (grouped capacity)
+
+-- a unit and how many entries its tasks have added
+abbrev pub unit_part : List Shape → List Entry → Shape → List ℕ
+unit_part shapes entries shape = shape.name ++ 32 ∷ grouped (added shapes shape.name entries)
+
+-- units one behind another, with these marks before the first, and commas between them
+abbrev pub unit_parts : List Shape → List Entry → List ℕ → List Shape → List ℕ
+unit_parts shapes entries mark [] = []
+unit_parts shapes entries mark (shape ∷ others) =
+    mark ++ (unit_part shapes entries shape ++ unit_parts shapes entries (codes ", ") others)
+
+-- the line of a journal's room behind so many entries, with all units in the order of loading
+abbrev pub room_line : List Shape → List Entry → ℕ → ℕ → List ℕ
+room_line shapes entries capacity used =
+    (room_head capacity (capacity - used) ++ unit_parts shapes entries (codes "; ") shapes) ++ 10 ∷ []
+
+-- Quotas
+
+-- the entries that a unit's quota and twice its tasks' budgets allow it
+abbrev pub promised : ℕ → ℕ → Shape → ℕ
+promised quota budget shape = quota + 2 * (length shape.tasks * budget)
+
+-- those of all units are more than a capacity less 512
+abbrev pub is_too_much : List Shape → ℕ → ℕ → ℕ → Bool
+is_too_much shapes quota budget capacity = nat_lt (capacity - 512) (sum_by (promised quota budget) shapes)
+
+abbrev pub promise_words : List ℕ → List ℕ → List ℕ → List ℕ
+promise_words quota budget capacity =
+    codes "journal: " ++ (capacity ++ (codes " entries less 512 don't hold the quota of " ++ (quota
+    ++ (codes " of each unit and twice the budget of " ++ (budget ++ codes " of each task\n")))))
+
+abbrev pub promise_line : ℕ → ℕ → ℕ → List ℕ
+promise_line quota budget capacity = promise_words (grouped quota) (grouped budget) (grouped capacity)

@@ -1,0 +1,40 @@
+#!/usr/bin/env bash
+# Runs the plant of ../plant.raven as a service, under systemd (ravenhost-plant.service beside this) or by hand:
+#
+#     plant.sh [FOLDER]       FOLDER, else $STATE_DIRECTORY, else the current one, has the pipe and the journals
+#
+# Operator: write commands to the pipe, one a line, as in  echo 'append deny Feed Plant.Tank Fill' >FOLDER/commands
+# The answers come on standard output, notes on standard error; under systemd:  journalctl -fu ravenhost-plant
+# The journal:  tail -f FOLDER/journal.*; judged by  ravenhost audit --journal FOLDER/journal.DATE <FOLDER/plant.raven
+# The end: SIGTERM (systemctl stop), or  echo quit >FOLDER/commands  . It ends also where this script is killed.
+# RAVENHOST names the program, where it isn't on PATH.
+set -u
+here=$(dirname "$(readlink -f "${BASH_SOURCE[0]}")")
+cd "${1:-${STATE_DIRECTORY:-.}}" || exit 4
+
+# The plant, with room for a day or two, and with tasks that act once a second in place of once a millisecond.
+{
+    printf '@host.toml\ncapacity = 1048576\n'
+    sed -e 's/Milliseconds (1)/Milliseconds (1000)/' -e '/^@run/,$d' "$here/../plant.raven"
+} >plant.raven || exit 4
+
+# This script holds both pipes open: that of commands doesn't end when an operator's echo does.
+rm -f commands stop
+mkfifo -m 620 commands && mkfifo -m 600 stop || exit 4
+exec 3<>commands 4<>stop
+trap 'echo >&4' TERM INT HUP
+
+(
+    trap '' TERM INT HUP
+    exec "${RAVENHOST:-ravenhost}" run --journal "journal.$(date +%Y%m%dT%H%M%S)" --tick 1000 --notes always --stop-by stop
+) <commands 3>&- 4>&- &
+{ cat plant.raven && echo @run; } >&3
+
+# A signal ends the wait early, and not the run.
+wait $!
+status=$?
+while [ "$status" -gt 128 ] && kill -0 $! 2>/dev/null; do
+    wait $!
+    status=$?
+done
+exit "$status"
