@@ -17,6 +17,7 @@ use Rattle.rv_history.specs.Legal.{Legal, out_load}
 use Rattle.rv_history.specs.Lists.{changed}
 use Rattle.rv_history.specs.Steps.{MayLackMemory, due_change}
 use Rattle.rv_host.specs.Pages.{page}
+use Rattle.rv_view.specs.Views.{shown}
 use Rattle.rv_turn.specs.Histories.{Adds}
 use Rattle.std.specs.Arc.{arc_value}
 use Rattle.rv_code.specs.Bodies as Code
@@ -103,6 +104,7 @@ Changed c log change r after =
 abbrev pub changes : Ask → Bool
 changes (Wants.Step q) = false
 changes (Wants.Read from) = false
+changes Wants.View = false
 changes Wants.Bodies = false
 changes ask = true
 
@@ -140,6 +142,8 @@ Due c log a (Wants.Change change) (Gives.Answered r b lent) after =
     IfOperator (a == 0) (Changed c log change r after) r log after
 Due c log a (Wants.Read from) (Gives.Read p) after = (p ≡ page (history_at c log) from) × (after ≡ log)
 Due c log a (Wants.Read from) Gives.Unread after = after ≡ log
+Due c log a Wants.View (Gives.Viewed view) after = (view ≡ shown (history_at c log)) × (after ≡ log)
+Due c log a Wants.View Gives.Unread after = after ≡ log
 Due c log a Wants.Bodies (Gives.Bodies lent) after = IsLent log (lent_view lent) × (after ≡ log)
 Due c log a ask reply after = ⊥
 
@@ -199,6 +203,17 @@ due_adds c log a (Wants.LoadWithoutMemory shape) (Gives.Answered r b lent) after
 due_adds c log a (Wants.Change change) (Gives.Answered r b lent) after d = change_adds (eqb a 0) c log a change r after (is_zero a) d
 due_adds c log a (Wants.Read from) (Gives.Read p) after d = inl d.1
 due_adds c log a (Wants.Read from) Gives.Unread after d = inl d
+due_adds c log a Wants.View (Gives.Viewed view) after d = inl d.1
+due_adds c log a Wants.View Gives.Unread after d = inl d
+due_adds c log a Wants.View (Gives.Answered r b lent) after d = absurd d
+due_adds c log a Wants.View (Gives.Read p) after d = absurd d
+due_adds c log a Wants.View (Gives.Bodies lent) after d = absurd d
+due_adds c log a (Wants.Step q) (Gives.Viewed view) after d = absurd d
+due_adds c log a (Wants.Load shape unit) (Gives.Viewed view) after d = absurd d
+due_adds c log a (Wants.LoadWithoutMemory shape) (Gives.Viewed view) after d = absurd d
+due_adds c log a (Wants.Change change) (Gives.Viewed view) after d = absurd d
+due_adds c log a (Wants.Read from) (Gives.Viewed view) after d = absurd d
+due_adds c log a Wants.Bodies (Gives.Viewed view) after d = absurd d
 due_adds c log a (Wants.Read from) (Gives.Answered r b lent) after d = absurd d
 due_adds c log a (Wants.Step q) (Gives.Read p) after d = absurd d
 due_adds c log a (Wants.Step q) Gives.Unread after d = absurd d

@@ -17,6 +17,7 @@ use rv_history::limits::Limits;
 use rv_host::host::Host;
 use rv_host::pages::Page;
 use rv_turn::Counted;
+use rv_view::View;
 use std::alloc::{AllocFailed, Global};
 use std::sync::Arc;
 
@@ -43,7 +44,7 @@ fn starts(answer: &Answer) -> bool {
 fn is_change(ask: &Ask) -> bool
     ensures { result ≡ changes ask.now }
 {
-    !matches!(ask, Ask::Step(_) | Ask::Read(_) | Ask::Bodies)
+    !matches!(ask, Ask::Step(_) | Ask::Read(_) | Ask::View | Ask::Bodies)
 }
 
 impl Behind {
@@ -147,6 +148,18 @@ impl Behind {
         }
     }
 
+    // What is shown.
+    fn view(&self, actor: u64) -> Reply
+        ensures { Does self.now.host.value.limits (log_in self.now.host.value (arc_value self.now.bodies)) actor Ask.View result (log_in self.now.host.value (arc_value self.now.bodies)) }
+    {
+        let host = &*self.host;
+        host.replays();
+        match View::of(self.alloc, host) {
+            Ok(view) => Reply::Viewed(view),
+            Err(_) => Reply::Unread,
+        }
+    }
+
     // What any actor may ask.
     fn serve(&mut self, actor: u64, ask: &Ask) -> Reply
         requires { changes ask.now ≡ false }
@@ -156,6 +169,7 @@ impl Behind {
         match ask {
             Ask::Step(request) => self.request(actor, request),
             Ask::Read(from) => self.read(actor, *from),
+            Ask::View => self.view(actor),
             Ask::Bodies => self.give_bodies(actor),
             _ => unreachable!(),
         }

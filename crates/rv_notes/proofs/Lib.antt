@@ -3,3 +3,4 @@ pub mod Covering
 pub mod Spanning
 pub mod Objects
 pub mod Adding
+pub mod Changing

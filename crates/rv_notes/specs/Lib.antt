@@ -1,3 +1,4 @@
 pub mod Names
 pub mod Covered
 pub mod Notes
+pub mod Changes

@@ -11,7 +11,7 @@ use rv_shape::catalogue::Catalogue;
 use std::alloc::{AllocError, Global};
 
 // Adds a note, if it is to be told. Err where memory was refused.
-fn tell(notes: &mut Vec<Note>, is_told: bool, note: Note) -> Result<(), AllocError>
+pub(crate) fn tell(notes: &mut Vec<Note>, is_told: bool, note: Note) -> Result<(), AllocError>
     ensures { OnOk result (notes.new.items ≡ told is_told note notes.old.items) }
 {
     if is_told {

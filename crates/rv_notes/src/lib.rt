@@ -2,6 +2,7 @@
 //! nothing, since later lines cover them. What is told decides nothing itself.
 #![tactic(auto)]
 
+mod change;
 mod covered;
 mod judge;
 mod names;
@@ -9,6 +10,7 @@ mod note;
 mod spans;
 mod words;
 
+pub use change::{change_notes, change_text};
 pub use judge::notes;
 pub use note::Note;
 pub use words::words_of;

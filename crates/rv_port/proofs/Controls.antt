@@ -89,6 +89,7 @@ load_due c log a shape unit (Gives.Answered r b lent) after none d =
     if_catalogue (fits_behind log shape (held unit)) c log after shape (held unit) r (subst (λ (n : ℕ). IfOperator (eqb n 0) (LoadedIf (fits_behind log shape (held unit)) c log shape (held unit) r after) r log after) none d)
 load_due c log a shape unit (Gives.Read p) after none d = absurd d
 load_due c log a shape unit Gives.Unread after none d = absurd d
+load_due c log a shape unit (Gives.Viewed view) after none d = absurd d
 load_due c log a shape unit (Gives.Bodies lent) after none d = absurd d
 
 pub load_told : (turn : TableId) (v w : Passing) (given : List ℕ) (catalogue : List Shape) (shape : Shape) (unit : SharedUnit) (r : Answer) → IsControl turn v given catalogue → Told v (Wants.Load shape unit) r w

@@ -161,6 +161,7 @@ bodies_same limits log actor (Gives.Bodies lent) after d = d.1
 bodies_same limits log actor (Gives.Answered r b lent) after d = absurd d
 bodies_same limits log actor (Gives.Read page) after d = absurd d
 bodies_same limits log actor Gives.Unread after d = absurd d
+bodies_same limits log actor (Gives.Viewed view) after d = absurd d
 
 none_more : (xs : List Event) (e : Event) → xs ≡ xs ++ e ∷ [] → ⊥
 none_more xs e h = let l : length xs ≡ length (xs ++ e ∷ []) = ap length h in let m : length (xs ++ e ∷ []) ≡ length xs + 1 = length-append xs (e ∷ []) in omega (arith, l, m)

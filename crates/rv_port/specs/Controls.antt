@@ -59,11 +59,12 @@ pub record IsGiven (control : Passing) (actor : ℕ) (after port : Passing) : Ty
   pub performer : is_performer (catalogue_of control.seen) actor ≡ true
   pub parted : Parted by control actor port_acts after port
 
--- the answer in a reply; a page and bodies have none (own)
+-- the answer in a reply; a page, a view and bodies have none (own)
 abbrev pub answer_in : Reply → Answer
 answer_in (Gives.Answered answer begun lent) = answer
 answer_in (Gives.Read page) = Misuse
 answer_in Gives.Unread = Misuse
+answer_in (Gives.Viewed view) = Misuse
 answer_in (Gives.Bodies lent) = Misuse
 
 -- An answer to an ask of the operator: it is due on a legal history that begins with all that was seen. (own)

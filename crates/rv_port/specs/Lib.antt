@@ -15,3 +15,4 @@ pub mod Alone
 pub mod Ends
 pub mod Following
 pub mod Endings
+pub mod Viewing

@@ -68,6 +68,13 @@ impl<const LIMIT: usize> Queue<LIMIT> {
         self.callers.push(actor);
     }
 
+    /// The callers, the one that waits longest first.
+    pub fn callers(&self) -> &[usize]
+        ensures { result.now ≡ self.now }
+    {
+        self.callers.as_slice()
+    }
+
     /// The caller at the front, or `None` where nobody waits.
     pub fn head(&self) -> Option<usize>
         ensures { result ≡ slice_get self.now 0 }

@@ -5,4 +5,4 @@ mod order;
 mod shell;
 
 pub use order::{Order, order_of};
-pub use shell::{LineFault, Next, Shell};
+pub use shell::{LineFault, Next, Shell, put, put_made};

@@ -50,8 +50,11 @@ pub enum LineFault {
     Worn,
 }
 
-// Writes a text.
-fn put<W: Write>(writer: &mut W, text: &str) -> Result<Next, LineFault>
+/// Writes a text.
+///
+/// # Errors
+/// `Write` where that fails.
+pub fn put<W: Write>(writer: &mut W, text: &str) -> Result<Next, LineFault>
     ensures { Prints (W.contents writer.old) (W.contents writer.new) text.now result }
 {
     match write_whole(writer, text.as_bytes()) {
@@ -60,8 +63,11 @@ fn put<W: Write>(writer: &mut W, text: &str) -> Result<Next, LineFault>
     }
 }
 
-// Writes a text that there was memory for.
-fn put_made<W: Write>(writer: &mut W, text: Result<String, AllocError>) -> Result<Next, LineFault>
+/// Writes a text that there was memory for.
+///
+/// # Errors
+/// `NoMemory` where there was none, `Write` where writing fails.
+pub fn put_made<W: Write>(writer: &mut W, text: Result<String, AllocError>) -> Result<Next, LineFault>
     ensures { (bytes : List ℕ) → IfOk text (λ t. string_bytes t ≡ bytes)
         → Writes (W.contents writer.old) (W.contents writer.new) bytes result }
 {

@@ -60,6 +60,17 @@ impl Queues {
         Ok(Queues { items })
     }
 
+    /// The callers that wait on the object, the one that waits longest first.
+    pub fn callers(&self, object: usize) -> &[usize]
+        ensures { (history : List Entry) → AreQueues history self.now →
+            result.now ≡ callers object history }
+    {
+        match self.items.get(object) {
+            Some(queue) => queue.callers(),
+            None => &[],
+        }
+    }
+
     /// The caller that waits longest on the object.
     pub fn head(&self, object: usize) -> Option<usize>
         ensures { (history : List Entry) → AreQueues history self.now →

@@ -68,6 +68,14 @@ impl Waiting {
         })
     }
 
+    /// The callers that wait in the queue of the object, the one that waits longest first (9.5.3).
+    pub fn callers(&self, object: usize) -> &[usize]
+        ensures { (history : List Entry) → IsWaiting history self.now →
+            result.now ≡ callers object history }
+    {
+        self.queues.callers(object)
+    }
+
     /// The caller that waits longest in the queue of the object, which is the next that is served
     /// (9.5.3). On a legal history its last queued call is the one that waits.
     pub fn head(&self, object: usize) -> Option<usize>

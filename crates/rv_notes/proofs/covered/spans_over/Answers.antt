@@ -1,7 +1,7 @@
 use Rattle.std.proofs.Common.{◌≡◌, ◌∙◌, ◌∷◌, [], ◌++◌, List, true, false, ap, sym, Some, rules}
 use Rattle.rv_access.specs.Limits.{most_tick}
 use Rattle.rv_access.specs.Windows.{IsWindow}
-use Rattle.rv_notes.specs.Covered.{Span, is_held, is_wider}
+use Rattle.rv_notes.specs.Covered.{Span, is_held}
 use Rattle.rv_notes.proofs.Spanning.{past_added, span_added, span_of, span_skipped}
 use Rattle.rv_notes.proofs.covered.spans_over.Goals as goal
 

@@ -1,0 +1,6 @@
+-- The help of the console. (own)
+use Rattle.std.specs.Prelude.{ℕ, List, codes}
+use Rattle.rv_console.specs.declared.TheConstants.{HELP}
+
+abbrev pub help_text : List ℕ
+help_text = HELP.now

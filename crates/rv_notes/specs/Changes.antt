@@ -1,0 +1,62 @@
+-- What is told of a change of one line of a list: the notes on that line, and those that weren't due before. (own)
+<<<<<<< ours
+use Rattle.std.specs.Prelude.{◌≡◌, ◌⊎◌, ℕ, ◌+◌, ◌&&◌, nat_le, nat_lt, if◌then◌else◌, List, [], length, Option, Some, None}
+=======
+use Rattle.std.specs.Prelude.{◌≡◌, ◌⊎◌, ℕ, ◌&&◌, nat_le, nat_lt, if◌then◌else◌, List, [], length, Option, Some, None}
+>>>>>>> theirs
+use Rattle.std.specs.List.{All, Contains}
+use Rattle.rv_access.specs.Changes.{appended, replaced}
+use Rattle.rv_access.specs.Limits.{most_lines}
+use Rattle.rv_access.specs.Words.{Words}
+use Rattle.rv_access.specs.declared.change.Change.{Change}
+use Rattle.rv_access.specs.declared.change.Change.TheVariants.{Append, Replace}
+use Rattle.rv_shape.specs.Shape.{Shape}
+use Rattle.rv_notes.specs.Notes.{Due, number_of}
+use Rattle.rv_notes.specs.declared.note.Note.{Note}
+
+-- the list that one line more, or another line in place of one, makes of a list, if it does
+abbrev pub changed : List Words → Change → Option (List Words)
+changed list (Append line) = if nat_lt (length list) most_lines then Some (appended list line) else None
+changed list (Replace number line) =
+    if nat_lt 0 number && nat_le number (length list) then Some (replaced list number line) else None
+changed list change = None
+
+<<<<<<< ours
+-- the number of that line
+abbrev pub line_changed : List Words → Change → ℕ
+line_changed list (Append line) = length list + 1
+line_changed list (Replace number line) = number
+line_changed list change = 0
+=======
+-- the number of that line in it
+abbrev pub line_changed : List Words → Change → ℕ
+line_changed after (Append line) = length after
+line_changed after (Replace number line) = number
+line_changed after change = 0
+>>>>>>> theirs
+
+-- a note is of this line, or wasn't due before
+abbrev pub IsNew : List Shape → List Words → ℕ → Note → Type 0
+IsNew shapes before number note = (number_of note ≡ number) ⊎ (Due shapes before note → ⊥)
+
+-- each of these notes is due now, and new; and each such note is among them
+pub record AreNew (shapes : List Shape) (before after : List Words) (number : ℕ) (notes : List Note) : Type 0 where
+  pub due : All (λ note. Due shapes after note × IsNew shapes before number note) notes
+  pub all : (note : Note) → Due shapes after note → IsNew shapes before number note → Contains notes note
+
+-- of the list after a change, if it makes one; else there are none
+<<<<<<< ours
+abbrev pub AreNewOf : List Shape → List Words → Option (List Words) → ℕ → List Note → Type 0
+AreNewOf shapes before None number notes = notes ≡ []
+AreNewOf shapes before (Some after) number notes = AreNew shapes before after number notes
+
+abbrev pub AreChangeNotes : List Shape → List Words → Change → List Note → Type 0
+AreChangeNotes shapes before change notes = AreNewOf shapes before (changed before change) (line_changed before change) notes
+=======
+abbrev pub AreNewOf : List Shape → List Words → Change → Option (List Words) → List Note → Type 0
+AreNewOf shapes before change None notes = notes ≡ []
+AreNewOf shapes before change (Some after) notes = AreNew shapes before after (line_changed after change) notes
+
+abbrev pub AreChangeNotes : List Shape → List Words → Change → List Note → Type 0
+AreChangeNotes shapes before change notes = AreNewOf shapes before change (changed before change) notes
+>>>>>>> theirs
