@@ -1,9 +1,5 @@
 -- What is told of a change of one line of a list: the notes on that line, and those that weren't due before. (own)
-<<<<<<< ours
-use Rattle.std.specs.Prelude.{◌≡◌, ◌⊎◌, ℕ, ◌+◌, ◌&&◌, nat_le, nat_lt, if◌then◌else◌, List, [], length, Option, Some, None}
-=======
 use Rattle.std.specs.Prelude.{◌≡◌, ◌⊎◌, ℕ, ◌&&◌, nat_le, nat_lt, if◌then◌else◌, List, [], length, Option, Some, None}
->>>>>>> theirs
 use Rattle.std.specs.List.{All, Contains}
 use Rattle.rv_access.specs.Changes.{appended, replaced}
 use Rattle.rv_access.specs.Limits.{most_lines}
@@ -21,19 +17,11 @@ changed list (Replace number line) =
     if nat_lt 0 number && nat_le number (length list) then Some (replaced list number line) else None
 changed list change = None
 
-<<<<<<< ours
--- the number of that line
-abbrev pub line_changed : List Words → Change → ℕ
-line_changed list (Append line) = length list + 1
-line_changed list (Replace number line) = number
-line_changed list change = 0
-=======
 -- the number of that line in it
 abbrev pub line_changed : List Words → Change → ℕ
 line_changed after (Append line) = length after
 line_changed after (Replace number line) = number
 line_changed after change = 0
->>>>>>> theirs
 
 -- a note is of this line, or wasn't due before
 abbrev pub IsNew : List Shape → List Words → ℕ → Note → Type 0
@@ -45,18 +33,9 @@ pub record AreNew (shapes : List Shape) (before after : List Words) (number : �
   pub all : (note : Note) → Due shapes after note → IsNew shapes before number note → Contains notes note
 
 -- of the list after a change, if it makes one; else there are none
-<<<<<<< ours
-abbrev pub AreNewOf : List Shape → List Words → Option (List Words) → ℕ → List Note → Type 0
-AreNewOf shapes before None number notes = notes ≡ []
-AreNewOf shapes before (Some after) number notes = AreNew shapes before after number notes
-
-abbrev pub AreChangeNotes : List Shape → List Words → Change → List Note → Type 0
-AreChangeNotes shapes before change notes = AreNewOf shapes before (changed before change) (line_changed before change) notes
-=======
 abbrev pub AreNewOf : List Shape → List Words → Change → Option (List Words) → List Note → Type 0
 AreNewOf shapes before change None notes = notes ≡ []
 AreNewOf shapes before change (Some after) notes = AreNew shapes before after (line_changed after change) notes
 
 abbrev pub AreChangeNotes : List Shape → List Words → Change → List Note → Type 0
 AreChangeNotes shapes before change notes = AreNewOf shapes before change (changed before change) notes
->>>>>>> theirs

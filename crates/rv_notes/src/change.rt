@@ -1,16 +1,5 @@
 //! The notes on a change of one line of a list.
 
-<<<<<<< ours
-ghost use Rattle.std.specs.Prelude.{◌≡◌, [], true, false, IfOk, option_map};
-ghost use Rattle.std.specs.List.{Contains};
-ghost use Rattle.rv_notes.specs.Changes.{AreChangeNotes, AreNew, changed, line_changed};
-ghost use Rattle.rv_notes.specs.Notes.{AreNotes};
-ghost use Rattle.rv_shape.specs.Shape.{Shape};
-ghost use Rattle.rv_access.specs.Words.{Words};
-ghost use Rattle.std.specs.Prelude.{List};
-
-use crate::judge::notes;
-=======
 ghost use Rattle.std.specs.Prelude.{◌≡◌, true, false, IfOk, List};
 ghost use Rattle.std.specs.List.{Contains};
 ghost use Rattle.rv_notes.specs.Changes.{AreChangeNotes, AreNew, IsNew, changed, line_changed};
@@ -19,7 +8,6 @@ ghost use Rattle.rv_shape.specs.Shape.{Shape};
 ghost use Rattle.rv_access.specs.Words.{Words};
 
 use crate::judge::{notes, tell};
->>>>>>> theirs
 use crate::note::Note;
 use crate::words::words_of;
 use rv_access::{AccessList, Change, MOST_LINES};
@@ -39,8 +27,6 @@ fn is_among(notes: &[Note], note: Note) -> bool
     false
 }
 
-<<<<<<< ours
-=======
 // Whether a note is of the line of a number, or not among these.
 #[tactic(auto, using(crate::proofs::Changing::new_line, crate::proofs::Changing::new_apart, crate::proofs::Changing::not_new))]
 fn is_new(before: &[Note], note: Note, number: usize) -> bool
@@ -50,7 +36,6 @@ fn is_new(before: &[Note], note: Note, number: usize) -> bool
     note.line() == number || !is_among(before, note)
 }
 
->>>>>>> theirs
 // Of the notes on a list those that are of the line of a number, or weren't there before. Err where memory was refused.
 fn new_ones(
     alloc: Global,
@@ -63,14 +48,8 @@ fn new_ones(
 {
     let mut new = Vec::new(alloc);
     for note in found {
-<<<<<<< ours
-        if note.line() == number || !is_among(before, *note) {
-            new.push(*note)?;
-        }
-=======
         let is_told = is_new(before, *note, number);
         tell(&mut new, is_told, *note)?;
->>>>>>> theirs
     }
     Ok(new)
 }
@@ -88,21 +67,12 @@ fn changed(before: &AccessList, change: &Change) -> Result<Option<AccessList>, A
     }
 }
 
-<<<<<<< ours
-// The number of the line that a change is of.
-fn line_changed(before: &AccessList, change: &Change) -> usize
-    ensures { result ≡ line_changed before.now change.now }
-{
-    match change {
-        Change::Append(_) => before.len() + 1,
-=======
 // The number of the line that a change is of, in the list that it makes.
 fn line_changed(after: &AccessList, change: &Change) -> usize
     ensures { result ≡ line_changed after.now change.now }
 {
     match change {
         Change::Append(_) => after.len(),
->>>>>>> theirs
         Change::Replace(number, _) => *number,
         _ => 0,
     }
@@ -127,11 +97,7 @@ pub fn change_notes(
         alloc,
         old.as_slice(),
         new.as_slice(),
-<<<<<<< ours
-        line_changed(before, change),
-=======
         line_changed(&after, change),
->>>>>>> theirs
     )
 }
 
