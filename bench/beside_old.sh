@@ -29,7 +29,8 @@ done
 old=$1
 take_folder
 
-# A kit that differs in two things: its clang optimises trials, and leaves the linked program in $KEPT.
+# A kit that differs in two things: its clang optimises trials, and the linked program is copied to the place that kit/kept
+# names (a trial's tools get no environment).
 lay_kit() {
     local kit part
     kit=$(dirname "$(readlink -f "$(rt doc)")")
@@ -57,7 +58,7 @@ WRAPPER
 "$kit/toolchain/bin/ld.lld" "\$@" || exit
 made=
 for word in "\$@"; do
-    [ "\$made" != -o ] || cp "\$word" "\$KEPT"
+    [ "\$made" != -o ] || cp "\$word" "\$(cat "$folder/kit/kept")"
     made=\$word
 done
 WRAPPER
@@ -84,7 +85,8 @@ lay_sources() {
 build() {
     local kept=$folder/$1.$2
     echo "building $2 of $1, as a trial" >&2
-    (cd "$folder/$1/crates/$2" && KEPT=$kept "$folder/kit/bin/rt" try --steps 1 -- usage) >"$folder/log" 2>&1 </dev/null || true
+    echo "$kept" >"$folder/kit/kept"
+    (cd "$folder/$1/crates/$2" && "$folder/kit/bin/rt" try --steps 1 -- usage) >"$folder/log" 2>&1 </dev/null || true
     [ -x "$kept" ] || { cat "$folder/log" >&2 && echo "bench/beside_old.sh: $2 of $1 wasn't built" >&2 && exit 1; }
 }
 
