@@ -1,4 +1,5 @@
 pub mod Commanded
+pub mod Attended
 pub mod Ended
 pub mod Served
 pub mod Opened

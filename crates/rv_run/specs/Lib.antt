@@ -6,4 +6,5 @@ pub mod Preparing
 pub mod Running
 pub mod Ticking
 pub mod Rooming
+pub mod Attending
 pub mod KeepingRuns
