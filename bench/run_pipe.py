@@ -541,6 +541,70 @@ def unread(program):
         expect("what is said of it", run.process.stderr.read(), b"ravenhost: nobody reads the output: 16 MiB of it wait\n")
 
 
+ENDS = """with Ada.Interrupts.Names; with Ada.Real_Time;
+package Ends is
+   protected Bell with Interrupt_Priority => 36 is
+      procedure Ring with Attach_Handler => Ada.Interrupts.Names.Int_5;
+   private
+      Rings : Integer := 0;
+   end Bell;
+   task Returns;
+   task Raises;
+   task Overruns;
+   task Spends;
+   task Waits;
+end Ends;
+package body Ends is
+   protected body Bell is
+      procedure Ring is begin Rings := 1 / Rings; end Ring;
+   end Bell;
+   task body Returns is
+   begin
+      null;
+   end Returns;
+   task body Raises is
+      Zero : Integer := 0;
+   begin
+      Zero := 1 / Zero;
+   end Raises;
+   task body Overruns is
+   begin
+      loop null; end loop;
+   end Overruns;
+   task body Spends is
+      Now : Ada.Real_Time.Time;
+   begin
+      loop Now := Ada.Real_Time.Clock; end loop;
+   end Spends;
+   task body Waits is
+   begin
+      delay until Ada.Real_Time.Clock + Ada.Real_Time.Milliseconds (1000000);
+   end Waits;
+end Ends;
+"""
+
+
+def reasons(program):
+    """Each reason for which a task's text ends, and a handler that raises."""
+    script = "@host.toml\nbudget = 50\n" + unit(ENDS) + "@shape\nunit Bare\ntask Idle\n@list\nallow * * *\n@run\n"
+    run = Run(program, script, ("--tick", "1000", "--notes", "always"))
+    until("they end", lambda: sum("finish" in line for line in run.journal()) >= 5)
+    expect("a raise of a handler's line", run.ask("raise 5"), "raised 5")
+    until("the handler's end", lambda: any("Int_5" in line for line in run.journal()))
+    out, err, status = run.end()
+    seen = sorted(line for line in err.splitlines() if " ended: " in line)
+    due = ["handler of Int_5 ended: raise Constraint_Error", "task Bare.Idle ended: no bodies", "task Ends.Overruns ended: overrun",
+           "task Ends.Raises ended: raise Constraint_Error", "task Ends.Returns ended: return", "task Ends.Spends ended: budget 50 passed",
+           "task Ends.Waits ended: halted"]
+    expect("reasons of ends", seen, due)
+    expect_that("quit behind them", re.fullmatch(r"entries \d+\n", out) and status == 0, (out, status))
+    script = "@host.toml\ncapacity = 32\nbudget = 1000000\n" + unit(PLANT) + unit(free("Bad")) + "@list\nallow * * *\n@run\n"
+    run = Run(program, script, ("--tick", "3600000", "--notes", "always"))
+    until("a full journal", lambda: any("Bad.Pilot finish" in line for line in run.journal()))
+    out, err, status = run.end()
+    expect_that("the reason at a full journal", "task Bad.Pilot ended: full" in err.splitlines() and status == 0, (out, err, status))
+
+
 def children(process):
     return [int(word) for word in subprocess.run(["pgrep", "-P", str(process)], stdout=subprocess.PIPE).stdout.split()]
 
@@ -622,7 +686,7 @@ def main():
         return 1 if faults else 0
     program = os.path.abspath(sys.argv[1]) if sys.argv[1:] else os.path.join(TOP, "crates/ravenhost/out/ravenhost")
     for part in (commands, row, device, two_devices, deepest, deepest_of_all, live, no_thread, refused, closed, edges, ticks, usage, prompt,
-                 stops, all_flags, quota, halt_below, unread):
+                 stops, all_flags, quota, halt_below, unread, reasons):
         try:
             part(program)
         except BrokenPipeError:

@@ -1,3 +1,4 @@
+use Rattle.std.specs.Prelude.{◌≡◌}
 use Rattle.rv_follow.specs.Following.{IsKept, Later}
 use Rattle.rv_keep.specs.Keeping.{Known}
 use Rattle.rv_run.proofs.following.do_chores.Given as goal
@@ -7,3 +8,5 @@ invariant-loop g l =
     ((opened : Known) → IsKept opened (g.F.Write.contents l.fn.follower.keeper.file) l.fn.session.staff.control l.fn.follower.keeper.next
     → IsKept opened (g.F.Write.contents l.follower.keeper.file) l.session.staff.control l.follower.keeper.next)
     × Later l.fn.session.staff.control l.session.staff.control
+    × (l.session.staff.crew ≡ l.fn.session.staff.crew)
+    × (l.follower.input ≡ l.fn.follower.input)
