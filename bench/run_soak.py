@@ -15,6 +15,7 @@ LOADS = 50
 SEED = 16
 LINES = 4
 SLOWEST = 10  # the longest that an answer may take, in seconds
+MOST_SCRIPT = 16 * 1024 * 1024  # the longest script, in bytes
 LAG = 5  # how many periods of a real clock a task may be behind it
 MOST_BYTES = 200  # how much memory may grow an entry: the journal's, which is reserved, comes into use as it fills
 
@@ -205,6 +206,9 @@ def replayed(program, journal, texts):
     """Whether `play` prints the same journal."""
     script = "@host.toml\ncapacity = 1048576\n" + "".join(steps_of(journal, texts))
     print(f"replay: {len(script.encode())} bytes of script")
+    if len(script.encode()) > MOST_SCRIPT:
+        print("which is longer than a script may be: the audit alone judges it")
+        return
     done = subprocess.run([program, "play"], input=script.encode(), stdout=subprocess.PIPE, stderr=subprocess.PIPE)
     lines = done.stdout.decode().splitlines()
     expect("play of the journal", (done.stderr.decode(), done.returncode), ("", 0))
