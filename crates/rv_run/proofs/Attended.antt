@@ -5,12 +5,12 @@ use Rattle.std.specs.Io.KnownBytes.{Keeps}
 use Rattle.rv_feed.specs.Hearing.{Hears}
 use Rattle.rv_feed.specs.declared.feed.Came.{Came}
 use Rattle.rv_feed.specs.declared.feed.Came.TheVariants.{Bytes, Nothing, Over}
-use Rattle.rv_follow.specs.Following.{Later}
 use Rattle.rv_input.specs.Coming.{Reading}
 use Rattle.rv_staff.specs.Giving.{Starts}
 use Rattle.rv_staff.specs.Saying.{Known}
 use Rattle.rv_staff.specs.Staffs.{Staffed}
 use Rattle.rv_run.specs.Attending.{AttendedAll, AttendedIf, AttendedOne, AttendedUpTo, Attends, Begins, Ended, GoesAttended, Grows, IsOfRun, ServesCome, come}
+use Rattle.rv_run.specs.Chores.{Chores}
 use Rattle.rv_run.specs.Finishing.{Served}
 use Rattle.rv_run.specs.ServingLines.{most_commands}
 use Rattle.rv_run.specs.Staging.{ReadsNothing, Stage}
@@ -38,9 +38,9 @@ hears_grow r q (Err fault) same = grows_same r q same
 
 -- Between two commands
 
-pub attends : (v w : Staffed) (old new : Known) (r q : Reading) → Later v.control w.control → w.crew ≡ v.crew → Grows r q → Keeps old new
+pub attends : (v w : Staffed) (old new : Known) (r q : Reading) → Chores v.control w.control → w.crew ≡ v.crew → Grows r q → Keeps old new
     → Attends (come v old r) (come w new q)
-attends v w old new r q later crew heard written = record { later = later; crew = crew; heard = heard; written = written; left = refl }
+attends v w old new r q chores crew heard written = record { chores = chores; crew = crew; heard = heard; written = written; left = refl }
 
 -- One command after another
 

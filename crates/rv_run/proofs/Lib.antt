@@ -6,4 +6,5 @@ pub mod Opened
 pub mod Prepared
 pub mod Growing
 pub mod Ticked
+pub mod Chores
 pub mod Keeping

@@ -3,11 +3,11 @@
 use Rattle.std.specs.Prelude.{◌≡◌, ◌⊎◌, ℕ, ◌≤◌, zero, suc, List, [], ◌++◌, Bool, true, false, Some, Result, Ok, Err}
 use Rattle.std.specs.Io.KnownBytes.{Keeps}
 use Rattle.rv_fault.specs.declared.failure.Failure.{Failure}
-use Rattle.rv_follow.specs.Following.{Later}
 use Rattle.rv_input.specs.Coming.{Reading}
 use Rattle.rv_staff.specs.Giving.{Starts}
 use Rattle.rv_staff.specs.Saying.{Known}
 use Rattle.rv_staff.specs.Staffs.{Staffed}
+use Rattle.rv_run.specs.Chores.{Chores}
 use Rattle.rv_run.specs.Finishing.{Served}
 use Rattle.rv_run.specs.ServingLines.{ServesNext, most_commands}
 use Rattle.rv_run.specs.Staging.{Outcome, ReadsNothing, Stage, stage}
@@ -33,10 +33,9 @@ come staff written input = stage staff written input (Some [])
 abbrev pub Grows : Reading → Reading → Type 0
 Grows old new = (more : List ℕ) × (new ≡ record old { ahead = old.ahead ++ more })
 
--- Between two commands the operator may ask something, no thread comes or goes, more of the input may come, and what was written is
--- handed on.
+-- Between two commands chores are done, no thread comes or goes, more of the input may come, and what was written is handed on.
 pub record Attends (s t : Stage) : Type 0 where
-  pub later : Later s.staff.control t.staff.control
+  pub chores : Chores s.staff.control t.staff.control
   pub crew : t.staff.crew ≡ s.staff.crew
   pub heard : Grows s.input t.input
   pub written : Keeps s.written t.written

@@ -2,8 +2,8 @@
 
 ghost use Rattle.std.specs.Prelude.{◌≡◌};
 ghost use Rattle.rv_behind.specs.Events.{catalogue_of};
-ghost use Rattle.rv_follow.specs.Following.{Later};
-ghost use Rattle.rv_run.specs.Rooming.{DeniesUnit};
+ghost use Rattle.rv_run.specs.Chores.{Chores};
+ghost use Rattle.rv_run.specs.Rooming.{DeniesUnit, DoesDue};
 
 use crate::attention::Attention;
 use crate::command::Goes;
@@ -190,7 +190,7 @@ fn do_due<T: Wait, E: Write>(
     used: usize,
     errors: &mut E,
 ) -> Then
-    ensures later { Later session.old.staff.control session.new.staff.control }
+    ensures does { DoesDue due session.old.staff.control session.new.staff.control }
     ensures crew { session.new.staff.crew ≡ session.old.staff.crew }
 {
     match due {
@@ -219,7 +219,7 @@ pub(crate) fn keep_room<T: Wait + Clock, E: Write>(
     used: usize,
     errors: &mut E,
 ) -> Goes
-    ensures later { Later session.old.staff.control session.new.staff.control }
+    ensures chores { Chores session.old.staff.control session.new.staff.control }
     ensures crew { session.new.staff.crew ≡ session.old.staff.crew }
 {
     if !room.is_due(rt) {

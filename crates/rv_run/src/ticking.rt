@@ -2,7 +2,7 @@
 
 ghost use Rattle.std.specs.Prelude.{◌≡◌, ◌≤◌};
 ghost use Rattle.std.specs.Time.{instant_nanos};
-ghost use Rattle.rv_follow.specs.Following.{Later};
+ghost use Rattle.rv_run.specs.Chores.{Chores};
 ghost use Rattle.rv_run.specs.Ticking.{AsksOf, Begins, KeepsPace, Ticks};
 
 use rv_pace::Pace;
@@ -54,7 +54,7 @@ pub(crate) fn keep_pace<T: Wait + Clock>(
     pace: &mut Option<Pace>,
 )
     ensures ticks { KeepsPace staff.old.control staff.new.control period pace.old pace.new }
-    ensures later { Later staff.old.control staff.new.control }
+    ensures chores { Chores staff.old.control staff.new.control }
     ensures crew { staff.new.crew ≡ staff.old.crew }
 {
     match pace {
