@@ -7,7 +7,7 @@ _ravenhost_flags() {
         "") echo "-h --help -V --version" ;;
         play) echo "--all --explain --notes --warnings-are-errors -h --help" ;;
         check) echo "--explain --script --notes --warnings-are-errors -h --help" ;;
-        run) echo "--journal --sync --explain --halt-below --quota --tick --stop-by --notes --warnings-are-errors -h --help" ;;
+        run) echo "--journal --sync --explain --halt-below --quota --tick --stop-by --console --notes --warnings-are-errors -h --help" ;;
         audit) echo "--journal --torn --explain -h --help" ;;
     esac
 }

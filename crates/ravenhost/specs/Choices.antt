@@ -1,5 +1,5 @@
 -- The command line (own): `play`, which may be given `--all`, `check`, which may be given `--script`, and `run`, which may be
--- given `--journal FILE` and, with it, `--sync HOW`, `--halt-below N`, `--quota N`, `--tick MS` and `--stop-by PIPE`, all three with `--notes WHEN` and `--warnings-are-errors`; and `audit`, which
+-- given `--journal FILE` and, with it, `--sync HOW`, `--halt-below N`, `--quota N`, `--tick MS`, `--stop-by PIPE` and `--console`, all three with `--notes WHEN` and `--warnings-are-errors`; and `audit`, which
 -- may be given `--journal FILE` and, with it, `--torn`. Each may be given `--explain`. What words come to is what `clap` says of
 -- this command.
 use Rattle.std.specs.Prelude.{◌≡◌, ◌⊎◌, ℕ, Bool, true, false, ◌&&◌, nat_le, nat_lt, if◌then◌else◌, List, [], ◌∷◌, Option, Some, None, codes}
@@ -64,8 +64,12 @@ guarding = with_rule (with_rule keeping (value_rule (codes "halt-below"))) (valu
 abbrev pub attending : App
 attending = with_rule (with_rule guarding (value_rule (codes "tick"))) (value_rule (codes "stop-by"))
 
+-- which may serve a person by a console
+abbrev pub consoled : App
+consoled = with_rule attending (flag_rule (codes "console"))
+
 abbrev pub running : App
-running = with_notes attending
+running = with_notes consoled
 
 -- `audit`, which may be given the name of a file, and two flags
 abbrev pub judging : App
@@ -170,13 +174,14 @@ abbrev pub most_entries : ℕ
 most_entries = 1048576
 
 -- What a run does beside its commands: the file that its journal is kept in, the milliseconds between two ticks, the room of the
--- journal below which it ends, how many entries a unit's tasks may add, and the pipe whose end ends it.
+-- journal below which it ends, how many entries a unit's tasks may add, the pipe whose end ends it, and whether it has a console.
 pub record RunWords : Type 0 where
   pub kept : Option (Text × Sync)
   pub tick : Option ℕ
   pub halt_below : Option ℕ
   pub quota : Option ℕ
   pub stop : Option Text
+  pub console : Bool
 
 -- by what `run` is given
 abbrev pub IsRun : List Row → RunWords → Type 0
@@ -184,6 +189,7 @@ IsRun rows run =
     Keeps rows run.kept × (number_of longest_period (first_of (codes "tick") rows) ≡ Some run.tick)
     × (number_of most_entries (first_of (codes "halt-below") rows) ≡ Some run.halt_below)
     × (number_of most_entries (first_of (codes "quota") rows) ≡ Some run.quota) × (run.stop ≡ first_of (codes "stop-by") rows)
+    × IsFlag (one_of (codes "console") rows) run.console
 
 -- a word is another, or a file is missing
 abbrev pub HasNoRun : List Row → Type 0
@@ -193,7 +199,7 @@ HasNoRun rows =
 
 -- nothing of that
 abbrev pub no_run : RunWords
-no_run = record { kept = None; tick = None; halt_below = None; quota = None; stop = None }
+no_run = record { kept = None; tick = None; halt_below = None; quota = None; stop = None; console = false }
 
 -- the same, for `run` alone
 abbrev pub IsRunning : Text × List Row → Choice → RunWords → Type 0

@@ -3,10 +3,10 @@
 ghost use Rattle.std.specs.Prelude.{◌≡◌, ◌||◌, is_some, ◌∷◌, ◌⊎◌, List, true, false, Some, None, IfSome, IfNone, IfOk, IfErr, codes, map, option_map};
 ghost use Rattle.clap.specs.Words.{app_of, new_app, rule_of, subcommand_rows_of, takes, with_rule};
 ghost use Rattle.clap.specs.Matches.{found_of};
-ghost use Rattle.clap.specs.Walk.{Row, Text, rows_of};
+ghost use Rattle.clap.specs.Walk.{Row, Text, one_of, rows_of};
 ghost use Rattle.clap.specs.declared.builder.command.Command.TheViews.{out-Command as fields_of};
 ghost use Rattle.ravenhost.specs.declared.chosen.Unchosen.TheVariants as Unchosen;
-ghost use Rattle.ravenhost.specs.Choices.{Chooses, HasNoFile, HasNoFileAs, HasNoRun, HasNoWord, IsRun, IsSelection, Keeps, KeepsAs, Lacks, LacksFile, NamesNone, Tells, attending, audit_of, audited, checked, file_rule, flag_rule, guarding, judging, keeping, line_of, notes_of, notes_rule, playing, program, running, number_of, sync_of, sync_rule, value_rule, with_notes};
+ghost use Rattle.ravenhost.specs.Choices.{Chooses, HasNoFile, HasNoFileAs, HasNoRun, HasNoWord, IsFlag, IsRun, IsSelection, Keeps, KeepsAs, Lacks, LacksFile, NamesNone, Tells, attending, audit_of, audited, checked, consoled, file_rule, flag_rule, guarding, judging, keeping, line_of, notes_of, notes_rule, playing, program, running, number_of, sync_of, sync_rule, value_rule, with_notes};
 
 use clap::error::ErrorKind;
 use clap::{Arg, ArgAction, ArgMatches, Command, Error};
@@ -71,19 +71,22 @@ pub struct RunWords<'a> {
     pub quota: Option<u32>,
     /// The name of the pipe whose end ends it, where one is given.
     pub stop_by: Option<&'a str>,
+    /// Whether a person is served by a console.
+    pub console: bool,
 }
 
 impl RunWords<'_> {
     /// Whether there is anything beside its commands.
     pub fn is_attended(&self) -> bool
         ensures { result ≡ (is_some self.now.kept || is_some self.now.tick || is_some self.now.halt_below || is_some self.now.quota
-            || is_some self.now.stop_by) }
+            || is_some self.now.stop_by || self.now.console) }
     {
         self.kept.is_some()
             || self.tick.is_some()
             || self.halt_below.is_some()
             || self.quota.is_some()
             || self.stop_by.is_some()
+            || self.console
     }
 }
 
@@ -308,12 +311,25 @@ fn attending_subcommand<'a>(alloc: Global) -> Result<Command<'a>, AllocError>
     guarding_subcommand(alloc)?.arg(tick)?.arg(stop_by)
 }
 
+// The same, which may serve a person by a console.
+fn consoled_subcommand<'a>(alloc: Global) -> Result<Command<'a>, AllocError>
+    ensures app { IfOk result (λ c. app_of c ≡ consoled) }
+    ensures local { IfOk result (λ c. (fields_of c).has_globals ≡ false) }
+{
+    let console = flag(
+        alloc,
+        "console",
+        "Serve a person: a prompt before each command, and help, list, status and journal alone beside the commands",
+    );
+    attending_subcommand(alloc)?.arg(console)
+}
+
 // The same, which may be told of notes.
 fn run_subcommand<'a>(alloc: Global) -> Result<Command<'a>, AllocError>
     ensures app { IfOk result (λ c. app_of c ≡ running) }
     ensures local { IfOk result (λ c. (fields_of c).has_globals ≡ false) }
 {
-    let command = attending_subcommand(alloc)?;
+    let command = consoled_subcommand(alloc)?;
     noted(alloc, command)
 }
 
@@ -470,6 +486,13 @@ fn number_of(word: Option<&str>, most: u32) -> Option<Option<u32>>
     }
 }
 
+// Whether a run has a console, by what it was given.
+fn has_console(words: &ArgMatches<'_>) -> bool
+    ensures { IsFlag (one_of (codes "console") (rows_of (found_of words.now))) result }
+{
+    words.get_flag("console")
+}
+
 // What a run does beside its commands, by what it was given; none where a word is another, or a sync has no file.
 fn run_words<'a>(words: &ArgMatches<'a>) -> Option<RunWords<'a>>
     ensures some { IfSome result (λ run. IsRun (rows_of (found_of words.now))
@@ -479,6 +502,7 @@ fn run_words<'a>(words: &ArgMatches<'a>) -> Option<RunWords<'a>>
           halt_below = run.halt_below;
           quota = run.quota;
           stop = option_map (λ s. s.now) run.stop_by;
+          console = run.console;
         })) }
     ensures none { IfNone result (HasNoRun (rows_of (found_of words.now))) }
 {
@@ -492,6 +516,7 @@ fn run_words<'a>(words: &ArgMatches<'a>) -> Option<RunWords<'a>>
         halt_below,
         quota,
         stop_by: words.get_str("stop-by"),
+        console: has_console(words),
     })
 }
 
@@ -502,6 +527,7 @@ const NO_RUN: RunWords<'static> = RunWords {
     halt_below: None,
     quota: None,
     stop_by: None,
+    console: false,
 };
 
 // What `play` chooses by what it was given; none where notes have another word.
@@ -514,6 +540,7 @@ fn play_chosen<'a>(words: &ArgMatches<'a>) -> Option<Selection<'a>>
           halt_below = chosen.run.halt_below;
           quota = chosen.run.quota;
           stop = option_map (λ s. s.now) chosen.run.stop_by;
+          console = chosen.run.console;
         })) }
     ensures none { IfNone result (HasNoWord (rows_of (found_of words.now))) }
 {
@@ -538,6 +565,7 @@ fn check_chosen<'a>(words: &ArgMatches<'a>) -> Option<Selection<'a>>
           halt_below = chosen.run.halt_below;
           quota = chosen.run.quota;
           stop = option_map (λ s. s.now) chosen.run.stop_by;
+          console = chosen.run.console;
         })) }
     ensures none { IfNone result (HasNoWord (rows_of (found_of words.now))) }
 {
@@ -562,6 +590,7 @@ fn run_chosen<'a>(words: &ArgMatches<'a>) -> Option<Selection<'a>>
           halt_below = chosen.run.halt_below;
           quota = chosen.run.quota;
           stop = option_map (λ s. s.now) chosen.run.stop_by;
+          console = chosen.run.console;
         })) }
     ensures none { IfNone result (HasNoWord (rows_of (found_of words.now)) ⊎ HasNoRun (rows_of (found_of words.now))) }
 {
@@ -587,6 +616,7 @@ fn audit_chosen<'a>(words: &ArgMatches<'a>) -> Option<Selection<'a>>
           halt_below = chosen.run.halt_below;
           quota = chosen.run.quota;
           stop = option_map (λ s. s.now) chosen.run.stop_by;
+          console = chosen.run.console;
         })) }
     ensures none { IfNone result (LacksFile (rows_of (found_of words.now))) }
 {
@@ -613,6 +643,7 @@ fn choice_of<'a>(matches: &ArgMatches<'a>) -> Option<Selection<'a>>
           halt_below = chosen.run.halt_below;
           quota = chosen.run.quota;
           stop = option_map (λ s. s.now) chosen.run.stop_by;
+          console = chosen.run.console;
         })) }
     ensures none { IfNone result ((found : Text × List Row) → subcommand_rows_of matches.now ≡ Some found
         → NamesNone found) }
@@ -643,6 +674,7 @@ pub fn chosen<'a>(alloc: Global, words: &'a [&'a str]) -> Result<Selection<'a>, 
           halt_below = chosen.run.halt_below;
           quota = chosen.run.quota;
           stop = option_map (λ s. s.now) chosen.run.stop_by;
+          console = chosen.run.console;
         })) }
     ensures taken { takes program (map (λ w. w.now) words.now) ≡ true
         → IfErr result (Lacks (map (λ w. w.now) words.now)) }

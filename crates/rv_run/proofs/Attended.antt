@@ -38,6 +38,9 @@ hears_grow r q (Err fault) same = grows_same r q same
 
 -- Between two commands
 
+pub keeps_silent : (a b c : Known) → Keeps a b → c ≡ b → Keeps a c
+keeps_silent a b c keeps same = subst (λ (k : Known). Keeps a k) (sym same) keeps
+
 pub attends : (v w : Staffed) (old new : Known) (r q : Reading) → Chores v.control w.control → w.crew ≡ v.crew → Grows r q → Keeps old new
     → Attends (come v old r) (come w new q)
 attends v w old new r q chores crew heard written = record { chores = chores; crew = crew; heard = heard; written = written; left = refl }

@@ -1,23 +1,28 @@
 -- Chores, one after another.
 use Rattle.std.proofs.Common.{◌≡◌, ◌∙◌, ℕ, zero, suc, ◌+◌, Ok, Err, inl, inr, refl, subst}
-use Rattle.std.specs.Prelude.{Result, pos}
+use Rattle.std.specs.Prelude.{IfErr, IfOk, Result, pos}
 use Rattle.rv_access.specs.declared.change.Change.TheVariants as changes
 use Rattle.rv_behind.specs.Acting.{Does}
 use Rattle.rv_behind.specs.Events.{by, catalogue_of}
 use Rattle.rv_behind.specs.declared.event.Ask.{Ask}
 use Rattle.rv_behind.specs.declared.event.Reply.{Reply}
+use Rattle.rv_behind.specs.declared.event.Reply.TheVariants as Gives
 use Rattle.rv_event.specs.declared.entry.Answer.{Answer}
 use Rattle.rv_event.specs.declared.entry.Request.TheVariants as requests
 use Rattle.rv_follow.specs.Following.{Later, Reads, ReadsOn}
 use Rattle.rv_pace.specs.Pacing.{Pacing, missed}
 use Rattle.rv_port.specs.Controls.{Told}
 use Rattle.rv_port.specs.Traces.{Passing}
+use Rattle.rv_port.specs.Viewing.{NotViewed}
+use Rattle.rv_port.specs.declared.fault.PageFault.{PageFault}
+use Rattle.rv_port.specs.declared.fault.PageFault.TheVariants as PageFaults
 use Rattle.rv_turn.specs.Passes.{Acted}
 use Rattle.rv_turn.specs.declared.pass.Worn.{Worn as Spent}
 use Rattle.rv_run.specs.Chores.{Chores, ChoresOn, IsChore}
 use Rattle.rv_run.specs.Rooming.{DeniesUnit, DoesDue}
 use Rattle.rv_run.specs.Ticking.{AsksInAll, AsksOf, KeepsPace, Ticks}
 use Rattle.rv_run.proofs.Growing.{acted_later, later_on, same_later}
+use Rattle.rv_view.specs.Views.{Shown}
 use Rattle.rv_tally.specs.declared.guard.Due.{Due}
 use Rattle.rv_tally.specs.declared.guard.Due.TheVariants as Dues
 
@@ -80,3 +85,11 @@ due_chores v w Dues.Nothing same = no_chores v w same
 due_chores v w (Dues.Tell level) same = no_chores v w same
 due_chores v w (Dues.Deny place) does = denies v w place does.0 does.1
 due_chores v w Dues.Halt same = no_chores v w same
+
+-- What is shown of the host
+
+pub views_chores : (v w : Passing) (r : Result Shown PageFault) → IfOk r (λ view. Acted by Does v Ask.View (Gives.Viewed view) w)
+    → IfErr r (λ fault. NotViewed v fault w) → Chores v w
+views_chores v w (Ok view) told none = chore v w Ask.View (Gives.Viewed view) tt told
+views_chores v w (Err PageFaults.NoMemory) told none = chore v w Ask.View Gives.Unread tt none
+views_chores v w (Err PageFaults.Worn) told none = no_chores v w none.1

@@ -4,6 +4,7 @@ use Rattle.std.specs.Prelude.{◌≡◌, ◌⊎◌, ℕ, ◌≤◌, zero, suc, L
 use Rattle.std.specs.Io.KnownBytes.{Keeps}
 use Rattle.rv_fault.specs.declared.failure.Failure.{Failure}
 use Rattle.rv_input.specs.Coming.{Reading}
+use Rattle.rv_port.specs.Traces.{Passing}
 use Rattle.rv_staff.specs.Giving.{Starts}
 use Rattle.rv_staff.specs.Saying.{Known}
 use Rattle.rv_staff.specs.Staffs.{Staffed}
@@ -41,9 +42,12 @@ pub record Attends (s t : Stage) : Type 0 where
   pub written : Keeps s.written t.written
   pub left : t.left ≡ s.left
 
--- the next command of what came is carried out
+-- The next command of what came is carried out, behind chores for the notes on it.
+abbrev pub ServesBehind : Staffed → Stage → Stage → Outcome → Type 0
+ServesBehind first s t outcome = (u : Passing) × Chores first.control u × ServesNext (record s { staff = record first { control = u } }) t outcome
+
 abbrev pub ServesCome : Stage → Stage → Result Goes KeptFailure → Type 0
-ServesCome s t result = (outcome : Outcome) × ServesNext s t outcome × IsOfRun outcome result
+ServesCome s t result = (outcome : Outcome) × ServesBehind s.staff s t outcome × IsOfRun outcome result
 
 -- The run is attended, and then either the next command is carried out, or the run doesn't go on.
 pub record AttendedOne (s t : Stage) (result : Result Goes KeptFailure) : Type 0 where

@@ -5,7 +5,7 @@ use Rattle.rv_access.specs.declared.change.Change.TheVariants.{Append}
 use Rattle.rv_behind.specs.Acting.{Does}
 use Rattle.rv_behind.specs.Events.{by}
 use Rattle.rv_behind.specs.declared.event.Ask.{Ask}
-use Rattle.rv_behind.specs.declared.event.Ask.TheVariants.{Step, Read}
+use Rattle.rv_behind.specs.declared.event.Ask.TheVariants.{Step, Read, View}
 use Rattle.rv_behind.specs.declared.event.Ask.TheVariants as asks
 use Rattle.rv_behind.specs.declared.event.Reply.{Reply}
 use Rattle.rv_denied.specs.Denied.{denial}
@@ -23,11 +23,12 @@ abbrev pub IsDenial : Change → Type 0
 IsDenial (Append line) = (unit : List ℕ) × (line ≡ denial unit)
 IsDenial change = ⊥
 
--- ticks, that a unit be denied everything, and pages of the journal
+-- ticks, that a unit be denied everything, pages of the journal, and what is shown of the host
 abbrev pub IsChore : Ask → Type 0
 IsChore (Step request) = IsTick request
 IsChore (asks.Change change) = IsDenial change
 IsChore (Read from) = Unit {0}
+IsChore View = Unit {0}
 IsChore ask = ⊥
 
 -- so many chores, one after another, and nothing else is asked

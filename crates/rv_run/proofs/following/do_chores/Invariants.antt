@@ -11,3 +11,4 @@ invariant-loop g l =
     × Chores l.fn.session.staff.control l.session.staff.control
     × (l.session.staff.crew ≡ l.fn.session.staff.crew)
     × (l.follower.input ≡ l.fn.follower.input)
+    × (l.follower.asked ≡ l.fn.follower.asked)

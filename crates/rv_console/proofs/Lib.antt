@@ -1,0 +1,2 @@
+mod Paging
+pub mod Looking
