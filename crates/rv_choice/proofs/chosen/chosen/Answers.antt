@@ -1,7 +1,7 @@
-use Rattle.std.proofs.Common.{rules, refl, ◌∙◌, ap, ap₂}
+use Rattle.std.proofs.Common.{rules, refl, sym, ◌∙◌, ap, ap₂}
 use Rattle.clap.specs.Words.{is_simple, subcommand_of, subcommand_rows_of, takes}
-use Rattle.ravenhost.proofs.Choosing.{simple, taken, line_named, line_unnamed}
-use Rattle.ravenhost.proofs.chosen.chosen.Goals as goal
+use Rattle.rv_choice.proofs.Choosing.{simple, taken, line_named, line_unnamed}
+use Rattle.rv_choice.proofs.chosen.chosen.Goals as goal
 
 pub returns-in-Err-clause-line : goal.returns-in-Err-clause-line
 returns-in-Err-clause-line c name choice is =
@@ -29,3 +29,9 @@ pub returns-in-Err-clause-taken : goal.returns-in-Err-clause-taken
 returns-in-Err-clause-taken c taking =
     let kind = c.in-Err.ensures.passes (ap₂ takes c.in-Ok.ensures refl ∙ taking) in
     absurd (search rules)
+
+pub returns-in-Some-clause-ok : goal.returns-in-Some-clause-ok
+returns-in-Some-clause-ok c =
+    let matches = (c.in-Ok-try_get_matches_from.ensures.matches (ap is_simple c.in-Ok.ensures ∙ simple)).1 in
+    let found = c.in-Some.ensures.found in
+    (found.0, sym (matches ∙ ap₂ subcommand_of c.in-Ok.ensures refl) ∙ found.1, found.2)

@@ -9,15 +9,15 @@ use Rattle.clap.specs.Simple.{on_top}
 use Rattle.clap.specs.Walk.{Text, first_of, one_of}
 use Rattle.clap.specs.declared.builder.action.ArgAction.TheVariants.{Set, SetTrue}
 use Rattle.rv_text.specs.Numbers.{natural_of}
-use Rattle.ravenhost.specs.declared.chosen.Choice.{Choice}
-use Rattle.ravenhost.specs.declared.chosen.Choice.TheVariants.{Play, Check, Run, Audit, AuditFile}
-use Rattle.ravenhost.specs.declared.chosen.Notes.{Notes}
-use Rattle.ravenhost.specs.declared.chosen.Notes.TheVariants.{Auto, Always}
-use Rattle.ravenhost.specs.declared.chosen.Notes.TheVariants as NotesWords
-use Rattle.ravenhost.specs.declared.chosen.Sync.{Sync}
-use Rattle.ravenhost.specs.declared.chosen.Sync.TheVariants.{Each, Second, Never}
-use Rattle.ravenhost.specs.declared.chosen.Unchosen.{Unchosen}
-use Rattle.ravenhost.specs.declared.chosen.Unchosen.TheVariants.{Usage, Unknown, NoMemory}
+use Rattle.rv_choice.specs.declared.chosen.Choice.{Choice}
+use Rattle.rv_choice.specs.declared.chosen.Choice.TheVariants.{Play, Check, Run, Audit, AuditFile}
+use Rattle.rv_choice.specs.declared.chosen.Notes.{Notes}
+use Rattle.rv_choice.specs.declared.chosen.Notes.TheVariants.{Auto, Always}
+use Rattle.rv_choice.specs.declared.chosen.Notes.TheVariants as NotesWords
+use Rattle.rv_choice.specs.declared.chosen.Sync.{Sync}
+use Rattle.rv_choice.specs.declared.chosen.Sync.TheVariants.{Each, Second, Never}
+use Rattle.rv_choice.specs.declared.chosen.Unchosen.{Unchosen}
+use Rattle.rv_choice.specs.declared.chosen.Unchosen.TheVariants.{Usage, Unknown, NoMemory}
 
 -- a flag
 abbrev pub flag_rule : Text → Rule

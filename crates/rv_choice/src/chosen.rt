@@ -3,10 +3,10 @@
 ghost use Rattle.std.specs.Prelude.{◌≡◌, ◌||◌, is_some, ◌∷◌, ◌⊎◌, List, true, false, Some, None, IfSome, IfNone, IfOk, IfErr, codes, map, option_map};
 ghost use Rattle.clap.specs.Words.{app_of, new_app, rule_of, subcommand_rows_of, takes, with_rule};
 ghost use Rattle.clap.specs.Matches.{found_of};
-ghost use Rattle.clap.specs.Walk.{Row, Text, one_of, rows_of};
+ghost use Rattle.clap.specs.Walk.{Row, Text, first_of, one_of, rows_of};
 ghost use Rattle.clap.specs.declared.builder.command.Command.TheViews.{out-Command as fields_of};
-ghost use Rattle.ravenhost.specs.declared.chosen.Unchosen.TheVariants as Unchosen;
-ghost use Rattle.ravenhost.specs.Choices.{Chooses, HasNoFile, HasNoFileAs, HasNoRun, HasNoWord, IsFlag, IsRun, IsSelection, Keeps, KeepsAs, Lacks, LacksFile, NamesNone, Tells, attending, audit_of, audited, checked, consoled, file_rule, flag_rule, guarding, judging, keeping, line_of, notes_of, notes_rule, playing, program, running, number_of, sync_of, sync_rule, value_rule, with_notes};
+ghost use Rattle.rv_choice.specs.declared.chosen.Unchosen.TheVariants as Unchosen;
+ghost use Rattle.rv_choice.specs.Choices.{Chooses, HasNoFile, HasNoFileAs, HasNoRun, HasNoWord, IsFlag, IsRun, IsSelection, Keeps, KeepsAs, Lacks, LacksFile, NamesNone, Tells, attending, audit_of, audited, checked, consoled, file_rule, flag_rule, guarding, judging, keeping, line_of, notes_of, notes_rule, playing, program, running, number_of, sync_of, sync_rule, value_rule, with_notes};
 
 use clap::error::ErrorKind;
 use clap::{Arg, ArgAction, ArgMatches, Command, Error};
@@ -486,6 +486,20 @@ fn number_of(word: Option<&str>, most: u32) -> Option<Option<u32>>
     }
 }
 
+// A number of 1 up to a greatest, by the word that a flag of this name was given; none for another word.
+fn given_number(words: &ArgMatches<'_>, name: &str, most: u32) -> Option<Option<u32>>
+    ensures { result ≡ number_of most (first_of name.now (rows_of (found_of words.now))) }
+{
+    number_of(words.get_str(name), most)
+}
+
+// The name of the pipe whose end ends a run, where one was given.
+fn stop_of<'a>(words: &ArgMatches<'a>) -> Option<&'a str>
+    ensures { option_map (λ s. s.now) result ≡ first_of (codes "stop-by") (rows_of (found_of words.now)) }
+{
+    words.get_str("stop-by")
+}
+
 // Whether a run has a console, by what it was given.
 fn has_console(words: &ArgMatches<'_>) -> bool
     ensures { IsFlag (one_of (codes "console") (rows_of (found_of words.now))) result }
@@ -506,16 +520,24 @@ fn run_words<'a>(words: &ArgMatches<'a>) -> Option<RunWords<'a>>
         })) }
     ensures none { IfNone result (HasNoRun (rows_of (found_of words.now))) }
 {
-    let kept = kept_of(words)?;
-    let tick = number_of(words.get_str("tick"), LONGEST_PERIOD)?;
-    let halt_below = number_of(words.get_str("halt-below"), MOST_ENTRIES)?;
-    let quota = number_of(words.get_str("quota"), MOST_ENTRIES)?;
+    let Some(kept) = kept_of(words) else {
+        return None;
+    };
+    let Some(tick) = given_number(words, "tick", LONGEST_PERIOD) else {
+        return None;
+    };
+    let Some(halt_below) = given_number(words, "halt-below", MOST_ENTRIES) else {
+        return None;
+    };
+    let Some(quota) = given_number(words, "quota", MOST_ENTRIES) else {
+        return None;
+    };
     Some(RunWords {
         kept,
         tick,
         halt_below,
         quota,
-        stop_by: words.get_str("stop-by"),
+        stop_by: stop_of(words),
         console: has_console(words),
     })
 }

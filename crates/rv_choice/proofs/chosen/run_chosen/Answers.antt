@@ -1,8 +1,8 @@
 use Rattle.std.proofs.Common.{◌∙◌, codes, refl}
 use Rattle.clap.specs.Matches.{found_of}
 use Rattle.clap.proofs.WalkLemmas.{one_text-rows}
-use Rattle.ravenhost.proofs.Choosing.{not_audit_run}
-use Rattle.ravenhost.proofs.chosen.run_chosen.Goals as goal
+use Rattle.rv_choice.proofs.Choosing.{not_audit_run}
+use Rattle.rv_choice.proofs.chosen.run_chosen.Goals as goal
 
 pub returns-clause-some : goal.returns-clause-some
 returns-clause-some c =

@@ -2,8 +2,8 @@ use Rattle.std.proofs.Common.{◌≡◌, ◌∙◌, true, ap, ap₂, codes}
 use Rattle.std.proofs.lemmas.Result.{IfOk-weaker}
 use Rattle.clap.specs.Words.{App, app_of, new_app, with_subcommand}
 use Rattle.clap.specs.Simple.{app_of_fields, on_top}
-use Rattle.ravenhost.specs.Choices.{alone, checked, playing, running, versioned}
-use Rattle.ravenhost.proofs.chosen.command.Goals as goal
+use Rattle.rv_choice.specs.Choices.{alone, checked, playing, running, versioned}
+use Rattle.rv_choice.proofs.chosen.command.Goals as goal
 
 pub returns : goal.returns
 returns c =

@@ -3,9 +3,9 @@ use Rattle.std.specs.Prelude.{is_some}
 use Rattle.clap.specs.Matches.{found_of}
 use Rattle.clap.specs.Walk.{rows_of}
 use Rattle.clap.proofs.WalkLemmas.{first_value-rows, one_text-rows}
-use Rattle.ravenhost.specs.Choices.{audit_of}
-use Rattle.ravenhost.proofs.Choosing.{audit_named, flag_alone, unrun, unnoted}
-use Rattle.ravenhost.proofs.chosen.audit_chosen.Goals as goal
+use Rattle.rv_choice.specs.Choices.{audit_of}
+use Rattle.rv_choice.proofs.Choosing.{audit_named, flag_alone, unrun, unnoted}
+use Rattle.rv_choice.proofs.chosen.audit_chosen.Goals as goal
 
 pub returns-clause-some : goal.returns-clause-some
 returns-clause-some c =

@@ -1,15 +1,15 @@
 -- What `clap` finds of a command line, as a choice.
-use Rattle.std.proofs.Common.{◌≡◌, ◌∷◌, inl, inr, ℕ, List, Option, Some, None, Bool, true, false, true≢false, codes, slice_index, ap, ap₂, sym, ◌∙◌, refl, subst}
+use Rattle.std.proofs.Common.{◌≡◌, ◌∷◌, inl, inr, ℕ, List, Option, Some, None, Bool, true, false, true≢false, codes, slice_index, ap, sym, ◌∙◌, refl, subst}
 use Rattle.std.specs.Prelude.{◌==◌, ◌⊎◌, is_some, option_map, unwrap_or}
 use Rattle.clap.specs.Words.{is_simple, subcommand_of, takes}
 use Rattle.clap.specs.Walk.{Row, Text, first_of, one_of}
 use Rattle.clap.proofs.OnLiterals.{clap_on_literals}
-use Rattle.ravenhost.specs.declared.chosen.Choice.{Choice}
-use Rattle.ravenhost.specs.declared.chosen.Choice.TheVariants.{Play, Check, Run, Audit, AuditFile}
-use Rattle.ravenhost.specs.declared.chosen.Notes.{Notes}
-use Rattle.ravenhost.specs.declared.chosen.Notes.TheVariants.{Auto}
-use Rattle.ravenhost.specs.declared.chosen.Sync.TheVariants.{Second}
-use Rattle.ravenhost.specs.Choices.{HasNoFile, HasNoRun, HasNoWord, IsFlag, IsJournal, IsNoted, IsRunning, LacksFile, Names, NamesNone, audit_of, line_of, longest_period, most_entries, no_run, notes_of, number_of, program, sync_of}
+use Rattle.rv_choice.specs.declared.chosen.Choice.{Choice}
+use Rattle.rv_choice.specs.declared.chosen.Choice.TheVariants.{Play, Check, Run, Audit, AuditFile}
+use Rattle.rv_choice.specs.declared.chosen.Notes.{Notes}
+use Rattle.rv_choice.specs.declared.chosen.Notes.TheVariants.{Auto}
+use Rattle.rv_choice.specs.declared.chosen.Sync.TheVariants.{Second}
+use Rattle.rv_choice.specs.Choices.{HasNoFile, HasNoRun, HasNoWord, IsFlag, IsJournal, IsNoted, IsRunning, LacksFile, Names, NamesNone, audit_of, line_of, longest_period, most_entries, no_run, notes_of, number_of, program, sync_of}
 
 -- The plain lines.
 
@@ -180,8 +180,8 @@ flag_found flag text q found e f =
 no_check : codes "play" ≡ codes "check" → ⊥
 no_check e = true≢false (ap (λ (t : Text). slice_index t 0 == 112) e)
 
-no_run : codes "play" ≡ codes "run" → ⊥
-no_run e = true≢false (ap (λ (t : Text). slice_index t 0 == 112) e)
+play_no_run : codes "play" ≡ codes "run" → ⊥
+play_no_run e = true≢false (ap (λ (t : Text). slice_index t 0 == 112) e)
 
 no_audit : codes "play" ≡ codes "audit" → ⊥
 no_audit e = true≢false (ap (λ (t : Text). slice_index t 0 == 112) e)
@@ -211,7 +211,7 @@ word_named (AuditFile torn) found n = n.0
 same_choice : (name : Text) (choice other : Choice) (found : Text × List Row) → subcommand_of program (name ∷ line_of choice) ≡ Some found → word_of choice ≡ word_of other → Names found other → other ≡ choice
 same_choice name (Play all) (Play other) found e w n = ap Play (by_flag all other _ (flag_found (codes "all") (flag_text all) _ found e (play_flag name all)) n.1)
 same_choice name (Play all) (Check other) found e w n = absurd (no_check w)
-same_choice name (Play all) Run found e w n = absurd (no_run w)
+same_choice name (Play all) Run found e w n = absurd (play_no_run w)
 same_choice name (Check whole) (Play other) found e w n = absurd (no_check (sym w))
 same_choice name (Check whole) (Check other) found e w n =
     ap Check (by_flag whole other _ (flag_found (codes "script") (flag_text whole) _ found e (script_flag name whole)) n.1)
@@ -220,7 +220,7 @@ same_choice name (Play all) Audit found e w n = absurd (no_audit w)
 same_choice name (Play all) (AuditFile torn) found e w n = absurd (no_audit w)
 same_choice name (Check whole) Audit found e w n = absurd (check_no_audit w)
 same_choice name (Check whole) (AuditFile torn) found e w n = absurd (check_no_audit w)
-same_choice name Run (Play other) found e w n = absurd (no_run (sym w))
+same_choice name Run (Play other) found e w n = absurd (play_no_run (sym w))
 same_choice name Run (Check other) found e w n = absurd (check_no_run (sym w))
 same_choice name Run Run found e w n = refl
 same_choice name Run Audit found e w n = absurd (run_no_audit w)
