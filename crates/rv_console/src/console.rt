@@ -28,7 +28,8 @@ use std::marker::Model;
 use std::sync::Wait;
 
 /// What may be asked.
-pub const HELP: &str = "append LINE     a line more at the end of the list: append allow Safety.* * *
+pub const HELP: &str =
+    "append LINE     a line more at the end of the list: append allow Safety.* * *
 remove N        a line less: the lines count as `list` numbers them
 replace N LINE  another line in place of one
 tick N          N ticks of the clock go by, 1 .. 1000000
@@ -109,7 +110,7 @@ impl Console {
     ) -> Result<Next, LineFault>
         ensures shows { (entries : List Entry) → length entries < 2 ^ 64 → IsTally entries tally.now
             → ShowsOrWorn (status_text (catalogue_of control.new.seen) entries) (W.contents writer.old) (W.contents writer.new)
-                control.old control.new result }
+            control.old control.new result }
         ensures looks { Looks control.old control.new }
     {
         match Console::look(rt, control) {
