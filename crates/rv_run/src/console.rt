@@ -242,7 +242,15 @@ pub(crate) fn serve_typed<T: Threads + Wait, H: Hires, W: Write, E: Write, F>(
 {
     let mut nothing = io::empty();
     match follower.input.line(&mut nothing) {
-        Ok(Some(line)) => serve_echoed(rt, hires, session, follower, typing, line.as_str(), outputs),
+        Ok(Some(line)) => serve_echoed(
+            rt,
+            hires,
+            session,
+            follower,
+            typing,
+            line.as_str(),
+            outputs,
+        ),
         Ok(None) => match wrote(end_prompt(&follower.asked, &mut outputs.writer)) {
             Ok(()) => Ok(Goes::Out),
             Err(failure) => Err(failure),
