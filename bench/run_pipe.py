@@ -722,6 +722,18 @@ def console(program):
         expect_that("the end of a console at a terminal", re.search(due, out) and status == 0, (out, status))
 
 
+def notes_at_commands(program):
+    """Lines of the list that commands bring are judged, and taken all the same."""
+    due = [NOTE, "warning: list line 2, names Pots.Gate; Post is loaded\n", "warning: list line 1, decides no call, since later lines cover it\n"]
+    for words, told in ((("--notes", "always"), due), ((), []), (("--tick", "3600000"), []), (("--tick", "3600000", "--notes", "never"), [])):
+        run = Run(program, unit(POST) + "@list\nallow Post Post.Gate Pass\n@run\n", words)
+        for command in (MISSPELT, "replace 2 allow Post Pots.Gate Pass", "replace 2 deny * * *", "remove 1", "replace 7 allow a a.b c"):
+            expect(f"{command} with {words}", run.ask(command), "badline" if "7" in command else "accepted 0")
+        out, err, status = run.end()
+        seen = [line + "\n" for line in err.splitlines() if line.startswith("warning: ")]
+        expect_that(f"notes at commands with {words}", seen == told and status == 0 and (err == "" or told), err)
+
+
 def children(process):
     return [int(word) for word in subprocess.run(["pgrep", "-P", str(process)], stdout=subprocess.PIPE).stdout.split()]
 
