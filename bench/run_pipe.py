@@ -680,7 +680,7 @@ def converse(console, name, note):
     begun = console.prompted()
     expect_that(f"{name}: what stands before the first prompt", begun in ("", script), begun)
     waits = "task Post.Guard: queued\nqueue of Post.Gate: Post.Guard\n"
-    status = until(f"{name}: a caller in a queue", lambda: (said := console.ask("status")) if waits in said else None)
+    status = until(f"{name}: a caller in a queue", lambda: next(filter(lambda said: waits in said, [console.ask("status")]), None))
     due = (r"status\nclock 0\nroom for \d+ entries beside those that are owed\nlist version 1, lines 1\n" + re.escape(waits)
            + r"journal: 4,093 of 4,096 entries left; Post 1\n")
     expect_that(f"{name}: status", status and re.fullmatch(due, status), status)
@@ -720,6 +720,18 @@ def console(program):
         out = seen.rest()
         status = os.waitstatus_to_exitcode(os.waitpid(process, 0)[1])
         expect_that("the end of a console at a terminal", re.search(due, out) and status == 0, (out, status))
+
+
+def notes_at_commands(program):
+    """Lines of the list that commands bring are judged, and taken all the same."""
+    due = [NOTE, "warning: list line 2, names Pots.Gate; Post is loaded\n", "warning: list line 1, decides no call, since later lines cover it\n"]
+    for words, told in ((("--notes", "always"), due), ((), []), (("--tick", "3600000"), []), (("--tick", "3600000", "--notes", "never"), [])):
+        run = Run(program, unit(POST) + "@list\nallow Post Post.Gate Pass\n@run\n", words)
+        for command in (MISSPELT, "replace 2 allow Post Pots.Gate Pass", "replace 2 deny * * *", "remove 1", "replace 7 allow a a.b c"):
+            expect(f"{command} with {words}", run.ask(command), "badline" if "7" in command else "accepted 0")
+        out, err, status = run.end()
+        seen = [line + "\n" for line in err.splitlines() if line.startswith("warning: ")]
+        expect_that(f"notes at commands with {words}", seen == told and status == 0 and (err == "" or told), err)
 
 
 def children(process):

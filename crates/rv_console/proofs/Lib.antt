@@ -1,2 +1,3 @@
 mod Paging
 pub mod Looking
+mod Turning

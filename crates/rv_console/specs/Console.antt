@@ -1,5 +1,5 @@
 -- What the console has beside the commands of a run: words by which the operator looks, and asks nothing that adds an entry. (own)
-use Rattle.std.specs.Prelude.{◌≡◌, ◌⊎◌, ℕ, List, [], ◌∷◌, codes, if◌then◌else◌, Option, Some, None, Result, Ok, Err}
+use Rattle.std.specs.Prelude.{◌≡◌, ◌⊎◌, ℕ, ◌+◌, ◌-◌, ◌^◌, min, length, List, [], ◌∷◌, codes, if◌then◌else◌, Option, Some, None, Result, Ok, Err}
 use Rattle.std.specs.Str.{bytes_eq}
 use Rattle.rv_behind.specs.Acting.{Does}
 use Rattle.rv_behind.specs.Events.{by, catalogue_of}
@@ -7,6 +7,7 @@ use Rattle.rv_behind.specs.declared.event.Ask.{Ask}
 use Rattle.rv_behind.specs.declared.event.Reply.{Reply}
 use Rattle.rv_behind.specs.declared.event.Reply.TheVariants as Gives
 use Rattle.rv_event.specs.declared.entry.Entry.{Entry}
+use Rattle.rv_host.specs.Pages.{Item}
 use Rattle.rv_port.specs.Traces.{Passing}
 use Rattle.rv_port.specs.Viewing.{NotViewed}
 use Rattle.rv_port.specs.declared.fault.PageFault.TheVariants as PageFaults
@@ -75,6 +76,23 @@ ShowsOrWorn text old new v w (Err Worn) = NoActLeft old new v w
 ShowsOrWorn text old new v w (Err NoMemory) =
     (NotViewed v PageFaults.NoMemory w × (new ≡ old)) ⊎ Shows text old new v w (Err NoMemory)
 ShowsOrWorn text old new v w result = Shows text old new v w result
+
+-- a page from an entry on was read, and the next one begins behind it
+abbrev pub Turned : ℕ → Passing → Passing → ℕ → Type 0
+Turned from v w next =
+    (page : List Item) × Acted by Does v (Ask.Read from) (Gives.Read page) w × (next ≡ min (from + length page) (2 ^ 64 - 1))
+
+-- unless there was none for want of memory or of an act
+abbrev pub TurnsPage : ℕ → ℕ → Passing → Passing → ℕ → Result Next LineFault → Type 0
+TurnsPage old from v w new (Err Worn) = new ≡ old
+TurnsPage old from v w new (Err NoMemory) = (new ≡ old) ⊎ Turned from v w new
+TurnsPage old from v w new result = Turned from v w new
+
+-- with which entry the next page begins, before a word and behind it
+abbrev pub Turns : ℕ → ℕ → Passing → Passing → Word → Result Next LineFault → Type 0
+Turns old new v w Journal result = TurnsPage old old v w new result
+Turns old new v w (Page from) result = TurnsPage old from v w new result
+Turns old new v w word result = new ≡ old
 
 -- What a word does; the next page begins with the entry of this number, and these entries were counted.
 abbrev pub Answers : Written → Written → Passing → Passing → ℕ → List Entry → Word → Result Next LineFault → Type 0

@@ -5,7 +5,7 @@ ghost use Rattle.rv_behind.specs.Acting.{Does};
 ghost use Rattle.rv_behind.specs.Events.{by, catalogue_of};
 ghost use Rattle.rv_behind.specs.declared.event.Ask.{Ask};
 ghost use Rattle.rv_behind.specs.declared.event.Reply.{Reply};
-ghost use Rattle.rv_console.specs.Console.{Answers, Looks, NotShown, ShowsOrWorn};
+ghost use Rattle.rv_console.specs.Console.{Answers, Looks, NotShown, ShowsOrWorn, Turns, TurnsPage};
 ghost use Rattle.rv_console.specs.Texts.{list_text, status_text};
 ghost use Rattle.rv_event.specs.declared.entry.Entry.{Entry};
 ghost use Rattle.rv_shell.specs.Serving.{ReadsOrWorn};
@@ -123,6 +123,7 @@ impl Console {
     }
 
     // The page of the journal that begins at a number.
+    #[tactic(auto, using(crate::proofs::Turning::turned))]
     fn page<R: Wait, W: Write>(
         &mut self,
         rt: &R,
@@ -131,6 +132,7 @@ impl Console {
         writer: &mut W,
     ) -> Result<Next, LineFault>
         ensures reads { ReadsOrWorn (W.contents writer.old) (W.contents writer.new) control.old control.new from result }
+        ensures turns { TurnsPage self.old from control.old control.new self.new result }
     {
         let mut page = Page::new(self.alloc);
         match control.entries(rt, from, &mut page) {
@@ -161,6 +163,7 @@ impl Console {
     ) -> Result<Next, LineFault>
         ensures answers { (entries : List Entry) → length entries < 2 ^ 64 → IsTally entries tally.now
             → Answers (W.contents writer.old) (W.contents writer.new) control.old control.new self.old entries word result }
+        ensures turns { Turns self.old self.new control.old control.new word result }
         ensures looks { Looks control.old control.new }
     {
         match word {
