@@ -86,6 +86,29 @@ end %s;
 """
 
 
+# A task that waits in an entry's queue, and for nothing else.
+POST = """package Post is
+   protected Gate with Priority => 20 is
+      procedure Open;
+      entry Pass;
+   private
+      Is_Open : Boolean := False;
+   end Gate;
+   task Guard;
+end Post;
+package body Post is
+   protected body Gate is
+      procedure Open is begin Is_Open := True; end Open;
+      entry Pass when Is_Open is begin Is_Open := False; end Pass;
+   end Gate;
+   task body Guard is
+   begin
+      Gate.Pass;
+   end Guard;
+end Post;
+"""
+
+
 def unit(text):
     return "@unit\n" + text
 
@@ -186,6 +209,7 @@ def commands(program):
                             ("remove 7", "badline"), ("tick 0", "misuse"), ("append allow x", "list BadWord at line 1"),
                             ("append allow a b c", "list BadName at line 1"), ("append # note", "bad command"),
                             ("raise 3", "unattached"), ("raise 10", "bad command"),
+                            ("help", "bad command"), ("list", "bad command"), ("status", "bad command"), ("journal", "bad command"),
                             ("append deny * * *", "accepted 0"), ("replace 2 allow * * *", "accepted 0")):
         expect(command, run.ask(command), answer)
     run.send("load\npackage Q is\nend;\n@end\n")
@@ -541,6 +565,175 @@ def unread(program):
         expect("what is said of it", run.process.stderr.read(), b"ravenhost: nobody reads the output: 16 MiB of it wait\n")
 
 
+ENDS = """with Ada.Interrupts.Names; with Ada.Real_Time;
+package Ends is
+   protected Bell with Interrupt_Priority => 36 is
+      procedure Ring with Attach_Handler => Ada.Interrupts.Names.Int_5;
+   private
+      Rings : Integer := 0;
+   end Bell;
+   task Returns;
+   task Raises;
+   task Overruns;
+   task Spends;
+   task Waits;
+end Ends;
+package body Ends is
+   protected body Bell is
+      procedure Ring is begin Rings := 1 / Rings; end Ring;
+   end Bell;
+   task body Returns is
+   begin
+      null;
+   end Returns;
+   task body Raises is
+      Zero : Integer := 0;
+   begin
+      Zero := 1 / Zero;
+   end Raises;
+   task body Overruns is
+   begin
+      loop null; end loop;
+   end Overruns;
+   task body Spends is
+      Now : Ada.Real_Time.Time;
+   begin
+      loop Now := Ada.Real_Time.Clock; end loop;
+   end Spends;
+   task body Waits is
+   begin
+      delay until Ada.Real_Time.Clock + Ada.Real_Time.Milliseconds (1000000);
+   end Waits;
+end Ends;
+"""
+
+
+def reasons(program):
+    """Each reason for which a task's text ends, and a handler that raises."""
+    script = "@host.toml\nbudget = 50\n" + unit(ENDS) + "@shape\nunit Bare\ntask Idle\n@list\nallow * * *\n@run\n"
+    run = Run(program, script, ("--tick", "1000", "--notes", "always"))
+    until("they end", lambda: sum("finish" in line for line in run.journal()) >= 5)
+    expect("a raise of a handler's line", run.ask("raise 5"), "raised 5")
+    until("the handler's end", lambda: any("Int_5" in line for line in run.journal()))
+    out, err, status = run.end()
+    seen = sorted(line for line in err.splitlines() if " ended: " in line)
+    due = ["handler of Int_5 ended: raise Constraint_Error", "task Bare.Idle ended: no bodies", "task Ends.Overruns ended: overrun",
+           "task Ends.Raises ended: raise Constraint_Error", "task Ends.Returns ended: return", "task Ends.Spends ended: budget 50 passed",
+           "task Ends.Waits ended: halted"]
+    expect("reasons of ends", seen, due)
+    expect_that("quit behind them", re.fullmatch(r"entries \d+\n", out) and status == 0, (out, status))
+    script = "@host.toml\ncapacity = 32\nbudget = 1000000\n" + unit(PLANT) + unit(free("Bad")) + "@list\nallow * * *\n@run\n"
+    run = Run(program, script, ("--tick", "3600000", "--notes", "always"))
+    until("a full journal", lambda: any("Bad.Pilot finish" in line for line in run.journal()))
+    out, err, status = run.end()
+    expect_that("the reason at a full journal", "task Bad.Pilot ended: full" in err.splitlines() and status == 0, (out, err, status))
+
+
+PROMPT = "> "
+MISSPELT = "append allow Post Post.Gaet Pass"
+NOTE = "warning: list line 2, names Post.Gaet; Post has Gate\n"
+
+
+class Typed:
+    """What a console writes, through a pipe or a terminal, up to each prompt."""
+
+    def __init__(self, reads, writes):
+        self.reads, self.writes, self.seen = reads, writes, ""
+
+    def more(self):
+        """Whether more came."""
+        if not select.select([self.reads], [], [], LIMIT)[0]:
+            return False
+        try:
+            came = os.read(self.reads, 65536)
+        except OSError:
+            return False
+        # At a terminal notes stand between the answers; how the task ended is none of the console's.
+        self.seen = re.sub(r"task Post\.Guard ended: .*\n", "", (self.seen + came.decode()).replace("\r\n", "\n"))
+        return bool(came)
+
+    def prompted(self):
+        """What stands before the next prompt."""
+        while not f"\n{self.seen}".endswith(f"\n{PROMPT}") and self.more():
+            pass
+        before, self.seen = self.seen.removesuffix(PROMPT), ""
+        return before
+
+    def send(self, text):
+        os.write(self.writes, text.encode())
+
+    def ask(self, command):
+        """What stands between a command's prompt and the next: its line first."""
+        self.send(command + "\n")
+        return self.prompted()
+
+    def rest(self):
+        while self.more():
+            pass
+        return self.seen
+
+
+def converse(console, name, note):
+    """A conversation with a console, in which a note on a list stands where it is told."""
+    script = unit(POST) + "@list\nallow Post * *\n@run\n"
+    console.send(script)
+    begun = console.prompted()
+    expect_that(f"{name}: what stands before the first prompt", begun in ("", script), begun)
+    waits = "task Post.Guard: queued\nqueue of Post.Gate: Post.Guard\n"
+    status = until(f"{name}: a caller in a queue", lambda: next(filter(lambda said: waits in said, [console.ask("status")]), None))
+    due = (r"status\nclock 0\nroom for \d+ entries beside those that are owed\nlist version 1, lines 1\n" + re.escape(waits)
+           + r"journal: 4,093 of 4,096 entries left; Post 1\n")
+    expect_that(f"{name}: status", status and re.fullmatch(due, status), status)
+    help_text = console.ask("help")
+    expect_that(f"{name}: help", help_text.startswith("help\nappend LINE  ") and help_text.endswith("\nquit            the run ends\n"), help_text)
+    pages = ["1 operator load Post -> accepted 0\n2 operator list [allow Post * *] -> accepted 0\n3 Post.Guard call Post.Gate Pass -> queued\n",
+             "4 operator list [allow Post * *; allow Post Post.Gaet Pass] -> accepted 0\n5 operator tick 7 -> accepted 0\n", ""]
+    for command, answer in (("list", "version 1\n1 allow Post * *\n"), ("", ""), ("journal", pages[0]), (MISSPELT, note + "accepted 0\n"),
+                            ("list", "version 2\n1 allow Post * *\n2 allow Post Post.Gaet Pass\n"), ("tick 7", "accepted 0\n"),
+                            ("journal", pages[1]), ("journal", pages[2]), ("journal 3", pages[0].split("\n", 2)[2] + pages[1]),
+                            ("journal", ""), ("frob", "bad command\n"), ("help me", "bad command\n"), ("List", "bad command\n"),
+                            ("append allow x", "list BadWord at line 1\n"), ("remove 2", "accepted 0\n"),
+                            ("replace 1 allow Post Post.Gate Pass", "accepted 0\n"), ("raise 3", "unattached\n"), ("halt", "accepted 0\n")):
+        expect(f"{name}: {command}", console.ask(command), f"{command}\n{answer}")
+    status = console.ask("status")
+    expect_that(f"{name}: status behind halt", status.startswith("status\nclock 7, halted\n") and "\nlist version 4, lines 1\n" in status, status)
+    expect(f"{name}: a line that a halted host doesn't take", console.ask(MISSPELT), f"{MISSPELT}\nhalted\n")
+
+
+def console(program):
+    """A console through a pipe, which echoes, and through a terminal, which does that itself."""
+    for words, note in ((("--console", "--notes", "always"), NOTE), (("--console",), ""), (("--console", "--notes", "never", "--tick", "3600000"), "")):
+        run = Run(program, "", words, bufsize=0)
+        converse(Typed(run.process.stdout.fileno(), run.process.stdin.fileno()), f"console {words} through a pipe", "")
+        out, err, status = run.end("quit\n")
+        expect_that(f"quit of a console {words}", re.fullmatch(r"quit\nentries \d+\n", out) and (err == note or note and err.startswith(note))
+                    and status == 0, (out, err, status))
+    run = Run(program, "@list\n@run\n", ("--console",))
+    expect_that("the end of a console's input", run.end("tick 1\n") == ("> tick 1\naccepted 0\n> \nentries 3\n", "", 0), "")
+    for end_by, due in (("quit\n", r"quit\nentries \d+\n"), ("\x04", r"\nentries \d+\n")):
+        process, end = pty.fork()
+        if process == 0:
+            os.execv(program, [program, "run", "--console"])
+        seen = Typed(end, end)
+        converse(seen, "console at a terminal", NOTE)
+        seen.send(end_by)
+        out = seen.rest()
+        status = os.waitstatus_to_exitcode(os.waitpid(process, 0)[1])
+        expect_that("the end of a console at a terminal", re.search(due, out) and status == 0, (out, status))
+
+
+def notes_at_commands(program):
+    """Lines of the list that commands bring are judged, and taken all the same."""
+    due = [NOTE, "warning: list line 2, names Pots.Gate; Post is loaded\n", "warning: list line 1, decides no call, since later lines cover it\n"]
+    for words, told in ((("--notes", "always"), due), ((), []), (("--tick", "3600000"), []), (("--tick", "3600000", "--notes", "never"), [])):
+        run = Run(program, unit(POST) + "@list\nallow Post Post.Gate Pass\n@run\n", words)
+        for command in (MISSPELT, "replace 2 allow Post Pots.Gate Pass", "replace 2 deny * * *", "remove 1", "replace 7 allow a a.b c"):
+            expect(f"{command} with {words}", run.ask(command), "badline" if "7" in command else "accepted 0")
+        out, err, status = run.end()
+        seen = [line + "\n" for line in err.splitlines() if line.startswith("warning: ")]
+        expect_that(f"notes at commands with {words}", seen == told and status == 0 and (err == "" or told), err)
+
+
 def children(process):
     return [int(word) for word in subprocess.run(["pgrep", "-P", str(process)], stdout=subprocess.PIPE).stdout.split()]
 
@@ -622,7 +815,7 @@ def main():
         return 1 if faults else 0
     program = os.path.abspath(sys.argv[1]) if sys.argv[1:] else os.path.join(TOP, "crates/ravenhost/out/ravenhost")
     for part in (commands, row, device, two_devices, deepest, deepest_of_all, live, no_thread, refused, closed, edges, ticks, usage, prompt,
-                 stops, all_flags, quota, halt_below, unread):
+                 stops, all_flags, quota, halt_below, unread, reasons, console):
         try:
             part(program)
         except BrokenPipeError:

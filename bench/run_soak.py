@@ -6,7 +6,7 @@ import sys
 import tempfile
 import time
 
-from run_pipe import Run, expect, expect_that, faults, numbered
+from run_pipe import Run, expect, expect_that, faults, numbered, ticks_in
 
 MOST_TICKS = 3000  # so that the script that replays the journal is no longer than a script may be
 TEAMS = "ABCD"
@@ -15,6 +15,8 @@ LOADS = 50
 SEED = 16
 LINES = 4
 SLOWEST = 10  # the longest that an answer may take, in seconds
+MOST_SCRIPT = 16 * 1024 * 1024  # the longest script, in bytes
+LAG = 5  # how many periods of a real clock a task may be behind it
 MOST_BYTES = 200  # how much memory may grow an entry: the journal's, which is reserved, comes into use as it fills
 
 PLANT = """with Ada.Synchronous_Task_Control; with Ada.Interrupts.Names;
@@ -72,7 +74,7 @@ PACED = """   task body T%d is
    begin
       loop
          %s
-         T := T + Ada.Real_Time.Milliseconds (1);
+         T := T + Ada.Real_Time.Milliseconds (%d);
          delay until T;
       end loop;
    end T%d;
@@ -87,14 +89,14 @@ WAITING = """   task body T7 is
 """
 
 
-def team(name):
-    """Eight tasks that act once a tick on an object of their own, whose body calls the plant. The last task of A waits in
+def team(name, pace):
+    """Eight tasks that act once a pace of ticks on an object of their own, whose body calls the plant. The last task of A waits in
     the plant's entry, that of B on its suspension object, which that of C sets."""
     specs = "".join(f"   task T{n} with Priority => {10 + n};\n" for n in range(TASKS))
-    bodies = "".join(PACED % (n, f"O.G ({n});", n) for n in range(TASKS - 1))
+    bodies = "".join(PACED % (n, f"O.G ({n});", pace, n) for n in range(TASKS - 1))
     set_true = "Ada.Synchronous_Task_Control.Set_True (P.R);"
     wait = "Ada.Synchronous_Task_Control.Suspend_Until_True (P.R);"
-    bodies += {"A": WAITING % "P.V.W (Y);", "B": WAITING % wait, "C": PACED % (7, set_true, 7)}.get(name, PACED % (7, "O.G (7);", 7))
+    bodies += {"A": WAITING % "P.V.W (Y);", "B": WAITING % wait, "C": PACED % (7, set_true, pace, 7)}.get(name, PACED % (7, "O.G (7);", pace, 7))
     return (f"with Ada.Real_Time; with Ada.Synchronous_Task_Control; with P;\npackage {name} is\n   protected O with Priority => 18 is\n"
             f"      procedure G (K : in Integer);\n   end O;\n{specs}end {name};\npackage body {name} is\n{ACTION}{bodies}end {name};\n")
 
@@ -114,9 +116,9 @@ def memory(process):
 
 
 class Soak:
-    def __init__(self, program, seconds, words):
-        self.seconds, self.random = seconds, random.Random(SEED)
-        self.texts = {"P": PLANT, **{name: team(name) for name in TEAMS}}
+    def __init__(self, program, seconds, words, follows=0):
+        self.seconds, self.random, self.follows = seconds, random.Random(SEED), follows
+        self.texts = {"P": PLANT, **{name: team(name, follows or 1) for name in TEAMS}}
         script = "@host.toml\ncapacity = 1048576\nbudget = 1000000\n"
         script += "".join("@unit\n" + text for text in self.texts.values()) + "@list\nallow * * *\n@run\n"
         self.run = Run(program, script, words=words)
@@ -153,7 +155,8 @@ class Soak:
         ticks = min(MOST_TICKS, max(100, int(self.seconds * 50)))
         pause, start = self.seconds / ticks, time.monotonic()
         for tick in range(1, ticks + 1):
-            expect("tick", self.ask("tick 1"), "accepted 0")
+            if not self.follows:
+                expect("tick", self.ask("tick 1"), "accepted 0")
             line = self.random.randrange(LINES)
             expect("raise", self.ask(f"raise {line}"), "raised")
             self.raised[line] += 1
@@ -203,6 +206,9 @@ def replayed(program, journal, texts):
     """Whether `play` prints the same journal."""
     script = "@host.toml\ncapacity = 1048576\n" + "".join(steps_of(journal, texts))
     print(f"replay: {len(script.encode())} bytes of script")
+    if len(script.encode()) > MOST_SCRIPT:
+        print("which is longer than a script may be: the audit alone judges it")
+        return
     done = subprocess.run([program, "play"], input=script.encode(), stdout=subprocess.PIPE, stderr=subprocess.PIPE)
     lines = done.stdout.decode().splitlines()
     expect("play of the journal", (done.stderr.decode(), done.returncode), ("", 0))
@@ -228,7 +234,7 @@ def judged(program, journal, texts):
 
 
 def all_went_on(journal, ticks):
-    """Each paced task acted at each tick: it delayed to a time past the last. Those that wait in the entry and on the
+    """Each paced task acted to the end: it delayed to a time past so many ticks. Those that wait in the entry and on the
     suspension object were woken to the end, too: in the last twentieth of the journal."""
     last = {}
     for line in journal:
@@ -252,14 +258,21 @@ def all_fired(journal, raised):
 
 def main():
     seconds, program, file = float(sys.argv[1]), sys.argv[2], sys.argv[3] if len(sys.argv) > 3 else None
-    soak = Soak(program, seconds, ("--journal", file) if file else ())
+    follows = int(sys.argv[4]) if len(sys.argv) > 4 else 0
+    words = (*(("--journal", file) if file else ()), *(("--tick", str(follows)) if follows else ()))
+    soak = Soak(program, seconds, words, follows)
     first = memory(soak.run.process)
     soak.drive()
-    before = soak.settle(1)
-    all_went_on(before, soak.ticks)
-    all_fired(before, soak.raised)
+    # Where the clock goes on by itself the journal grows to the halt.
+    before = [] if follows else soak.settle(1)
     expect("halt", soak.ask("halt"), "accepted 0")
     journal = before + soak.settle(len(before) + 1)
+    if follows:
+        before = journal[:[line.split(" ", 1)[1] for line in journal].index("operator halt -> accepted 0")]
+        soak.ticks = sum(ticks_in(before)) - LAG * follows
+        expect_that("ticks that follow the clock", sum(ticks_in(before)) > seconds * 1000 - LAG * follows, sum(ticks_in(before)))
+    all_went_on(before, soak.ticks)
+    all_fired(before, soak.raised)
     last = memory(soak.run.process)
     out, err, status = soak.run.end()
     expect("quit", (out, err, status), (f"entries {len(journal)}\n", "", 0))

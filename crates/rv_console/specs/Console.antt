@@ -1,68 +1,68 @@
--- What the console has beside the commands of a run: four words, by which the operator looks and asks nothing. (own)
-use Rattle.std.specs.Prelude.{◌≡◌, ◌⊎◌, ℕ, ◌+◌, zero, suc, List, [], ◌∷◌, ◌++◌, codes, if◌then◌else◌, Option, Some, None, Result, Ok, Err}
-use Rattle.std.specs.Fmt.{decimal}
+-- What the console has beside the commands of a run: words by which the operator looks, and asks nothing that adds an entry. (own)
+use Rattle.std.specs.Prelude.{◌≡◌, ◌⊎◌, ℕ, ◌+◌, ◌-◌, ◌^◌, min, length, List, [], ◌∷◌, codes, if◌then◌else◌, Option, Some, None, Result, Ok, Err}
 use Rattle.std.specs.Str.{bytes_eq}
-use Rattle.rv_access.specs.Text.{line_text}
-use Rattle.rv_access.specs.Words.{Words}
 use Rattle.rv_behind.specs.Acting.{Does}
-use Rattle.rv_behind.specs.Events.{by}
+use Rattle.rv_behind.specs.Events.{by, catalogue_of}
 use Rattle.rv_behind.specs.declared.event.Ask.{Ask}
 use Rattle.rv_behind.specs.declared.event.Reply.{Reply}
 use Rattle.rv_behind.specs.declared.event.Reply.TheVariants as Gives
+use Rattle.rv_event.specs.declared.entry.Entry.{Entry}
+use Rattle.rv_host.specs.Pages.{Item}
 use Rattle.rv_port.specs.Traces.{Passing}
 use Rattle.rv_port.specs.Viewing.{NotViewed}
 use Rattle.rv_port.specs.declared.fault.PageFault.TheVariants as PageFaults
-use Rattle.rv_turn.specs.Passes.{Acted}
-use Rattle.rv_shell.specs.Serving.{NoActLeft, ReadsOrWorn, Serves, Writes, WritesOnly, Written}
+use Rattle.rv_turn.specs.Passes.{Acted, IsWorn}
+use Rattle.rv_shell.specs.Orders.{order_of}
+use Rattle.rv_shell.specs.Serving.{NoActLeft, ReadsOrWorn, TellsCaller, Writes, WritesOnly, Written}
+use Rattle.rv_shell.specs.declared.order.Order.{Order}
+use Rattle.rv_shell.specs.declared.order.Order.TheVariants as Orders
 use Rattle.rv_shell.specs.declared.shell.LineFault.{LineFault}
 use Rattle.rv_shell.specs.declared.shell.LineFault.TheVariants.{NoMemory, Write, Worn}
 use Rattle.rv_shell.specs.declared.shell.Next.{Next}
+use Rattle.rv_shell.specs.declared.shell.Next.TheVariants.{Go}
 use Rattle.rv_view.specs.Views.{Shown}
 use Rattle.rv_console.specs.Help.{help_text}
+use Rattle.rv_console.specs.Texts.{list_text, status_text}
 use Rattle.rv_console.specs.declared.word.Word.{Word}
-use Rattle.rv_console.specs.declared.word.Word.TheVariants as Words_of
+use Rattle.rv_console.specs.declared.word.Word.TheVariants.{Blank, Help, Lines, Status, Journal, Page}
 
--- what a line asks of the console, if it does: keywords heed case, and nothing stands behind them
-abbrev pub word_of : List (List ℕ) → Option Word
-word_of (word ∷ []) =
-    if bytes_eq word (codes "help") then Some Words_of.Help
-    else if bytes_eq word (codes "list") then Some Words_of.Lines
-    else if bytes_eq word (codes "status") then Some Words_of.Status
-    else if bytes_eq word (codes "journal") then Some Words_of.Journal
+-- what one word asks of the console, if it does: keywords heed case
+abbrev pub single : List ℕ → Option Word
+single word =
+    if bytes_eq word (codes "help") then Some Help
+    else if bytes_eq word (codes "list") then Some Lines
+    else if bytes_eq word (codes "status") then Some Status
+    else if bytes_eq word (codes "journal") then Some Journal
     else None
-word_of words = None
+
+-- a command for a page
+abbrev pub page_of : Option Order → Option Word
+page_of (Some (Orders.Journal from)) = Some (Page from)
+page_of order = None
+
+-- what a line asks of the console, if it does: a blank one nothing; nothing stands behind a word of its own
+abbrev pub word_of : List (List ℕ) → Option Word
+word_of [] = Some Blank
+word_of (word ∷ []) = single word
+word_of (word ∷ other ∷ others) = page_of (order_of (word ∷ other ∷ others))
 
 -- Looks
 
 -- asks that only look
-abbrev pub Looks : Ask → Type 0
-Looks (Ask.Read from) = Unit {0}
-Looks Ask.View = Unit {0}
-Looks ask = ⊥
+abbrev pub IsLook : Ask → Type 0
+IsLook (Ask.Read from) = Unit {0}
+IsLook Ask.View = Unit {0}
+IsLook ask = ⊥
 
--- the operator looks so many times, and asks nothing else
-abbrev pub LooksOn : ℕ → Passing → Passing → Type 0
-LooksOn zero v w = w ≡ v
-LooksOn (suc count) v w =
-    (u : Passing) × (ask : Ask) × (reply : Reply) × LooksOn count v u × Looks ask × Acted by Does u ask reply w
+-- the operator looks once, or asks nothing
+abbrev pub Looks : Passing → Passing → Type 0
+Looks v w = (w ≡ v) ⊎ ((ask : Ask) × (reply : Reply) × IsLook ask × Acted by Does v ask reply w)
 
-abbrev pub OnlyLooks : Passing → Passing → Type 0
-OnlyLooks v w = (count : ℕ) × LooksOn count v w
-
--- The list
-
--- a line of a list behind its number
-abbrev pub numbered_line : ℕ → Words → List ℕ
-numbered_line number line = decimal number ++ codes " " ++ line_text line ++ codes "\n"
-
--- lines of a list, the first of which has this number
-abbrev pub numbered_lines : ℕ → List Words → List ℕ
-numbered_lines number [] = []
-numbered_lines number (line ∷ lines) = numbered_line number line ++ numbered_lines (number + 1) lines
-
--- the version of the list in force, and its lines as `remove` and `replace` count them
-abbrev pub list_text : Shown → List ℕ
-list_text view = codes "version " ++ decimal view.version ++ codes "\n" ++ numbered_lines 1 view.list
+-- nothing is shown, for want of memory or of an act
+abbrev pub NotShown : Passing → LineFault → Passing → Type 0
+NotShown v NoMemory w = NotViewed v PageFaults.NoMemory w
+NotShown v Worn w = IsWorn v w
+NotShown v (Write error) w = ⊥
 
 -- what is shown of the host was asked, and a text of it is written
 pub record Shows (text : Shown → List ℕ) (old new : Written) (v w : Passing) (result : Result Next LineFault) : Type 0 where
@@ -77,33 +77,28 @@ ShowsOrWorn text old new v w (Err NoMemory) =
     (NotViewed v PageFaults.NoMemory w × (new ≡ old)) ⊎ Shows text old new v w (Err NoMemory)
 ShowsOrWorn text old new v w result = Shows text old new v w result
 
--- The status
+-- a page from an entry on was read, and the next one begins behind it
+abbrev pub Turned : ℕ → Passing → Passing → ℕ → Type 0
+Turned from v w next =
+    (page : List Item) × Acted by Does v (Ask.Read from) (Gives.Read page) w × (next ≡ min (from + length page) (2 ^ 64 - 1))
 
--- the operator looked at the journal, and then asked what is shown of the host; something is written
-pub record Reports (old new : Written) (v w : Passing) (result : Result Next LineFault) : Type 0 where
-  pub before : Passing
-  pub looked : OnlyLooks v before
-  pub view : Shown
-  pub told : Acted by Does before Ask.View (Gives.Viewed view) w
-  pub text : List ℕ
-  pub written : Writes old new text result
+-- unless there was none for want of memory or of an act
+abbrev pub TurnsPage : ℕ → ℕ → Passing → Passing → ℕ → Result Next LineFault → Type 0
+TurnsPage old from v w new (Err Worn) = new ≡ old
+TurnsPage old from v w new (Err NoMemory) = (new ≡ old) ⊎ Turned from v w new
+TurnsPage old from v w new result = Turned from v w new
 
--- without memory or an act left the operator only looked, and nothing is written
-abbrev pub ReportsOrWorn : Written → Written → Passing → Passing → Result Next LineFault → Type 0
-ReportsOrWorn old new v w (Err Worn) = OnlyLooks v w × (new ≡ old)
-ReportsOrWorn old new v w (Err NoMemory) = OnlyLooks v w × (new ≡ old)
-ReportsOrWorn old new v w result = Reports old new v w result
+-- with which entry the next page begins, before a word and behind it
+abbrev pub Turns : ℕ → ℕ → Passing → Passing → Word → Result Next LineFault → Type 0
+Turns old new v w Journal result = TurnsPage old old v w new result
+Turns old new v w (Page from) result = TurnsPage old from v w new result
+Turns old new v w word result = new ≡ old
 
--- What a line does: a word of the console's own, or a command; the next page begins with the entry of this number.
-abbrev pub Answers : Written → Written → Passing → Passing → ℕ → Word → Result Next LineFault → Type 0
-Answers old new v w next Words_of.Help result = WritesOnly old new v w help_text result
-Answers old new v w next Words_of.Lines result = ShowsOrWorn list_text old new v w result
-Answers old new v w next Words_of.Status result = ReportsOrWorn old new v w result
-Answers old new v w next Words_of.Journal result = ReadsOrWorn old new v w next result
-
-abbrev pub AnswersOr : Written → Written → Passing → Passing → ℕ → List (List ℕ) → Option Word → Result Next LineFault → Type 0
-AnswersOr old new v w next words (Some word) result = Answers old new v w next word result
-AnswersOr old new v w next words None result = Serves old new v w words result
-
-abbrev pub ServesConsole : Written → Written → Passing → Passing → ℕ → List (List ℕ) → Result Next LineFault → Type 0
-ServesConsole old new v w next words result = AnswersOr old new v w next words (word_of words) result
+-- What a word does; the next page begins with the entry of this number, and these entries were counted.
+abbrev pub Answers : Written → Written → Passing → Passing → ℕ → List Entry → Word → Result Next LineFault → Type 0
+Answers old new v w next entries Blank result = TellsCaller old new v w Go result
+Answers old new v w next entries Help result = WritesOnly old new v w help_text result
+Answers old new v w next entries Lines result = ShowsOrWorn list_text old new v w result
+Answers old new v w next entries Status result = ShowsOrWorn (status_text (catalogue_of w.seen) entries) old new v w result
+Answers old new v w next entries Journal result = ReadsOrWorn old new v w next result
+Answers old new v w next entries (Page from) result = ReadsOrWorn old new v w from result

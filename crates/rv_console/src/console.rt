@@ -1,47 +1,54 @@
 //! The console's side of a run.
 
-ghost use Rattle.std.specs.Prelude.{◌≡◌, ◌++◌, ◌∷◌, [], codes, take, OnOk, IfOk, string_bytes};
-ghost use Rattle.rv_console.specs.Console.{Answers, ReportsOrWorn, ServesConsole, ShowsOrWorn, list_text, numbered_line, numbered_lines};
-ghost use Rattle.rv_shell.specs.Serving.{Prints, ReadsOrWorn, Serves, Writes};
-ghost use Rattle.rv_text.specs.Words.{words};
+ghost use Rattle.std.specs.Prelude.{◌≡◌, IfErr, IfOk, List, length, ◌<◌, ◌^◌};
+ghost use Rattle.rv_behind.specs.Acting.{Does};
+ghost use Rattle.rv_behind.specs.Events.{by, catalogue_of};
+ghost use Rattle.rv_behind.specs.declared.event.Ask.{Ask};
+ghost use Rattle.rv_behind.specs.declared.event.Reply.{Reply};
+ghost use Rattle.rv_console.specs.Console.{Answers, Looks, NotShown, ShowsOrWorn, Turns, TurnsPage};
+ghost use Rattle.rv_console.specs.Texts.{list_text, status_text};
+ghost use Rattle.rv_event.specs.declared.entry.Entry.{Entry};
+ghost use Rattle.rv_shell.specs.Serving.{ReadsOrWorn};
+ghost use Rattle.rv_tally.specs.Tallying.{IsTally};
+ghost use Rattle.rv_turn.specs.Passes.{Acted};
 
+use crate::list::list_text;
 use crate::status::status_text;
-use crate::tally::Tally;
-use crate::word::{Word, word_of};
-use rv_access::Line;
+use crate::word::Word;
 use rv_host::pages::Page;
 use rv_keep::page_text;
 use rv_port::control::Control;
 use rv_port::fault::PageFault;
-use rv_shell::{LineFault, Next, Order, Shell, order_of, put, put_made};
+use rv_shell::{LineFault, Next, put, put_made};
+use rv_tally::Tally;
 use rv_view::View;
-use std::alloc::{AllocError, Global};
+use std::alloc::Global;
 use std::io::Write;
 use std::marker::Model;
 use std::sync::Wait;
 
 /// What may be asked.
-pub const HELP: &str = "append LINE     a line more at the end of the list: append allow Safety.* * *
+pub const HELP: &str =
+    "append LINE     a line more at the end of the list: append allow Safety.* * *
 remove N        a line less: the lines count as `list` numbers them
 replace N LINE  another line in place of one
 tick N          N ticks of the clock go by, 1 .. 1000000
 raise K         the interrupt line Int_K is raised, 0 .. 9
 load            a unit text follows, and behind it a line @end
 list            the list in force, its lines numbered
-status          the clock, the journal, the tasks, who waits where
+status          the clock, the room, the tasks, who waits where, entries by unit
 journal         the next page of the journal, 50 entries
 journal N       the page from entry N on
 halt            nothing new starts
 quit            the run ends
 ";
 
-/// What `run` says to a person. Contracts see the number of the entry that the next page begins with.
+/// What `run` shows a person. Contracts see the number of the entry that the next page begins with.
 #[derive(Drop)]
 pub struct Console {
     alloc: Global,
     // The number of the entry that the next page begins with.
     next: usize,
-    tally: Tally,
 }
 
 impl Model for Console {
@@ -52,66 +59,25 @@ impl Model for Console {
     ghost view = { λ c. c.next };
 }
 
-// A line of a list behind its number.
-fn numbered(alloc: Global, number: usize, line: &Line) -> Result<String, AllocError>
-    ensures { IfOk result (λ text. string_bytes text ≡ numbered_line number line.now) }
-{
-    let line = line.text(alloc)?;
-    let line = line.as_str();
-    format!(in alloc; "{number} {line}\n")
-}
-
-// Adds the lines of a list, each behind its number.
-fn put_lines(alloc: Global, text: &mut String, lines: &[Line]) -> Result<(), AllocError>
-    ensures { OnOk result (string_bytes text.new ≡ string_bytes text.old ++ numbered_lines 1 lines.now) }
-{
-    for i in 0..lines.len() {
-        let line = numbered(alloc, i + 1, &lines[i])?;
-        text.push_str(line.as_str())?;
-    }
-    Ok(())
-}
-
-// The version of the list in force, and its lines.
-fn lines_text(alloc: Global, view: &View) -> Result<String, AllocError>
-    ensures { IfOk result (λ text. string_bytes text ≡ list_text view.now) }
-{
-    let version = view.version();
-    let mut text = format!(in alloc; "version {version}\n")?;
-    put_lines(alloc, &mut text, view.list().lines())?;
-    Ok(text)
-}
-
-/// Asks a person for a line. The caller flushes.
-///
-/// # Errors
-/// `Write` where that fails.
-pub fn prompt<W: Write>(writer: &mut W) -> Result<Next, LineFault>
-    ensures { Prints (W.contents writer.old) (W.contents writer.new) (codes "> ") result }
-{
-    put(writer, "> ")
-}
-
-/// Echoes a line, which comes without its line feed and which nobody typed.
-///
-/// # Errors
-/// `NoMemory`, or `Write` where that fails.
-pub fn echo<W: Write>(alloc: Global, line: &str, writer: &mut W) -> Result<Next, LineFault>
-    ensures { Writes (W.contents writer.old) (W.contents writer.new) (codes "> " ++ line.now ++ 10 ∷ []) result }
-{
-    let text = format!(in alloc; "> {line}\n");
-    put_made(writer, text)
-}
-
 impl Console {
     /// A console, whose next page is the first.
     pub fn new(alloc: Global) -> Console
         ensures { result ≡ 1 }
     {
-        Console {
-            alloc,
-            next: 1,
-            tally: Tally::new(alloc),
+        Console { alloc, next: 1 }
+    }
+
+    // What is shown of the host.
+    #[tactic(auto, using(crate::proofs::Looking::viewed_looks, crate::proofs::Looking::unviewed_looks))]
+    fn look<R: Wait>(rt: &R, control: &mut Control) -> Result<View, LineFault>
+        ensures ok { IfOk result (λ view. Acted by Does control.old Ask.View (Reply.Viewed view) control.new) }
+        ensures err { IfErr result (λ fault. NotShown control.old fault control.new) }
+        ensures looks { Looks control.old control.new }
+    {
+        match control.view(rt) {
+            Ok(view) => Ok(view),
+            Err(PageFault::NoMemory) => Err(LineFault::NoMemory),
+            Err(PageFault::Worn) => Err(LineFault::Worn),
         }
     }
 
@@ -122,43 +88,42 @@ impl Console {
         control: &mut Control,
         writer: &mut W,
     ) -> Result<Next, LineFault>
-        ensures { ShowsOrWorn list_text (W.contents writer.old) (W.contents writer.new) control.old control.new result }
+        ensures shows { ShowsOrWorn list_text (W.contents writer.old) (W.contents writer.new) control.old control.new result }
+        ensures looks { Looks control.old control.new }
     {
-        match control.view(rt) {
+        match Console::look(rt, control) {
             Ok(view) => {
-                let text = lines_text(self.alloc, &view);
+                let text = list_text(self.alloc, &view);
                 put_made(writer, text)
             }
-            Err(PageFault::NoMemory) => Err(LineFault::NoMemory),
-            Err(PageFault::Worn) => Err(LineFault::Worn),
+            Err(fault) => Err(fault),
         }
     }
 
     // What the host is at.
     fn status<R: Wait, W: Write>(
-        &mut self,
+        &self,
         rt: &R,
         control: &mut Control,
+        tally: &Tally,
         writer: &mut W,
     ) -> Result<Next, LineFault>
-        ensures reports { ReportsOrWorn (W.contents writer.old) (W.contents writer.new) control.old control.new result }
+        ensures shows { (entries : List Entry) → length entries < 2 ^ 64 → IsTally entries tally.now
+            → ShowsOrWorn (status_text (catalogue_of control.new.seen) entries) (W.contents writer.old) (W.contents writer.new)
+            control.old control.new result }
+        ensures looks { Looks control.old control.new }
     {
-        match self.tally.catch_up(rt, self.alloc, control) {
-            Ok(()) => {}
-            Err(PageFault::NoMemory) => return Err(LineFault::NoMemory),
-            Err(PageFault::Worn) => return Err(LineFault::Worn),
-        }
-        match control.view(rt) {
+        match Console::look(rt, control) {
             Ok(view) => {
-                let text = status_text(self.alloc, control.catalogue(), &view, &self.tally);
+                let text = status_text(self.alloc, control.catalogue(), &view, tally);
                 put_made(writer, text)
             }
-            Err(PageFault::NoMemory) => Err(LineFault::NoMemory),
-            Err(PageFault::Worn) => Err(LineFault::Worn),
+            Err(fault) => Err(fault),
         }
     }
 
     // The page of the journal that begins at a number.
+    #[tactic(auto, using(crate::proofs::Turning::turned))]
     fn page<R: Wait, W: Write>(
         &mut self,
         rt: &R,
@@ -166,7 +131,8 @@ impl Console {
         from: usize,
         writer: &mut W,
     ) -> Result<Next, LineFault>
-        ensures { ReadsOrWorn (W.contents writer.old) (W.contents writer.new) control.old control.new from result }
+        ensures reads { ReadsOrWorn (W.contents writer.old) (W.contents writer.new) control.old control.new from result }
+        ensures turns { TurnsPage self.old from control.old control.new self.new result }
     {
         let mut page = Page::new(self.alloc);
         match control.entries(rt, from, &mut page) {
@@ -180,62 +146,36 @@ impl Console {
         }
     }
 
-    // What a word of the console asks.
-    fn answer<R: Wait, W: Write>(
+    /// Answers a word of the console: nothing is asked but what the host is at. Entries by unit are those of the tally. The
+    /// caller flushes.
+    ///
+    /// # Errors
+    /// `NoMemory` where there is none for what is shown, and nothing is written; `Worn` where no act is left to ask for it;
+    /// `Write` where writing fails.
+    #[tactic(auto, using(crate::proofs::Looking::none_looks, crate::proofs::Looking::pages_look))]
+    pub fn show<R: Wait, W: Write>(
         &mut self,
         rt: &R,
         control: &mut Control,
+        tally: &Tally,
         word: Word,
         writer: &mut W,
     ) -> Result<Next, LineFault>
-        ensures { Answers (W.contents writer.old) (W.contents writer.new) control.old control.new self.old word result }
+        ensures answers { (entries : List Entry) → length entries < 2 ^ 64 → IsTally entries tally.now
+            → Answers (W.contents writer.old) (W.contents writer.new) control.old control.new self.old entries word result }
+        ensures turns { Turns self.old self.new control.old control.new word result }
+        ensures looks { Looks control.old control.new }
     {
         match word {
+            Word::Blank => Ok(Next::Go),
             Word::Help => put(writer, HELP),
             Word::Lines => self.list(rt, control, writer),
-            Word::Status => self.status(rt, control, writer),
+            Word::Status => self.status(rt, control, tally, writer),
             Word::Journal => {
                 let next = self.next;
                 self.page(rt, control, next, writer)
             }
-        }
-    }
-
-    // What another line asks: as a shell does it, and of a page where the next one begins.
-    fn obey<R: Wait, W: Write>(
-        &mut self,
-        rt: &R,
-        control: &mut Control,
-        line: &str,
-        writer: &mut W,
-    ) -> Result<Next, LineFault>
-        ensures { Serves (W.contents writer.old) (W.contents writer.new) control.old control.new (words line.now) result }
-    {
-        if let Ok(Order::Journal(from)) = order_of(self.alloc, line) {
-            return self.page(rt, control, from, writer);
-        }
-        Shell::new(self.alloc).line(rt, control, line, writer)
-    }
-
-    /// Carries out a command line, which comes without its line feed: `help`, `list`, `status` and `journal` alone, by which
-    /// nothing is asked but what the host is at; else as a shell does. The caller flushes.
-    ///
-    /// # Errors
-    /// As of a shell; `NoMemory` also where there is none for what is shown, and `Worn` where no act is left to ask for it.
-    #[tactic(auto, using(crate::proofs::Looking::serves_turn))]
-    pub fn line<R: Wait, W: Write>(
-        &mut self,
-        rt: &R,
-        control: &mut Control,
-        line: &str,
-        writer: &mut W,
-    ) -> Result<Next, LineFault>
-        ensures serves { ServesConsole (W.contents writer.old) (W.contents writer.new) control.old control.new self.old (words line.now) result }
-        ensures turn { control.new.turn ≡ control.old.turn }
-    {
-        match word_of(line) {
-            Some(word) => self.answer(rt, control, word, writer),
-            None => self.obey(rt, control, line, writer),
+            Word::Page(from) => self.page(rt, control, from, writer),
         }
     }
 }

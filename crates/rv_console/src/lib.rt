@@ -2,8 +2,9 @@
 #![tactic(auto)]
 
 mod console;
+mod list;
 mod status;
-mod tally;
 mod word;
 
-pub use console::{Console, HELP, echo, prompt};
+pub use console::{Console, HELP};
+pub use word::{Word, word_of};

@@ -1,175 +1,239 @@
-//! What the host is at, for people.
+//! What the host is at, as the console shows it.
 
-use crate::tally::Tally;
+ghost use Rattle.std.specs.Prelude.{◌≡◌, ◌++◌, ◌<◌, ◌^◌, IfOk, List, OnOk, codes, length, option_map, string_bytes};
+ghost use Rattle.rv_console.specs.Texts.{actor_names, actors_text, head_text, marked_actor, mode_word, object_name, queue_line, queue_lines, status_text, task_line, task_lines, waiter_line, waiter_lines};
+ghost use Rattle.rv_event.specs.declared.entry.Entry.{Entry};
+ghost use Rattle.rv_tally.specs.Tallying.{IsTally};
+
 use rv_event::entry::Mode;
 use rv_shape::actor::FIRST_TASK;
 use rv_shape::catalogue::Catalogue;
-use rv_view::View;
+use rv_tally::{Tally, room_line};
+use rv_view::{Queue, View};
 use std::alloc::{AllocError, Global};
-use std::fmt::Write;
 
 // What a mode is called.
-fn mode_word(mode: Mode) -> &'static str {
+fn mode_word(mode: Mode) -> &'static str
+    ensures { result.now ≡ mode_word mode }
+{
     match mode {
         Mode::Idle => "idle",
         Mode::InBody => "in a body",
         Mode::Queued => "queued",
-        Mode::Settling => "settling",
+        Mode::Settling => "to settle an object",
         Mode::Handed => "handed an object",
-        Mode::Dropped => "dropped from its queue",
+        Mode::Dropped => "dropped from a queue",
         Mode::Suspended => "suspended",
         Mode::Delayed => "delayed",
         Mode::Ended => "ended",
     }
 }
 
-// Adds the whole name of a task.
-fn put_actor(text: &mut String, catalogue: &Catalogue, actor: usize) -> Result<(), AllocError> {
-    match catalogue.task(actor) {
-        Some((shape, task)) => put_name(text, shape.name(), task.name()),
-        None => Ok(()),
-    }
-}
-
-// Adds a name of a unit's, behind a blank.
-fn put_name(text: &mut String, unit: &str, name: &str) -> Result<(), AllocError> {
-    write!(text, " {unit}.{name}")
-}
-
-// Adds the whole name of an object.
-fn put_object(text: &mut String, catalogue: &Catalogue, object: usize) -> Result<(), AllocError> {
-    match catalogue.object(object) {
-        Some((shape, found)) => put_name(text, shape.name(), found.name()),
-        None => Ok(()),
-    }
-}
-
-// Adds what a task is at.
-fn put_task(
-    text: &mut String,
+// What a task is at.
+fn task_line(
+    alloc: Global,
     catalogue: &Catalogue,
     actor: usize,
     mode: Mode,
-) -> Result<(), AllocError> {
+) -> Result<String, AllocError>
+    ensures { IfOk result (λ line. string_bytes line ≡ task_line catalogue.now actor mode) }
+{
+    let who = catalogue.who(actor);
     let word = mode_word(mode);
-    text.push_str("task")?;
-    put_actor(text, catalogue, actor)?;
-    write!(text, " {word}\n")
+    format!(in alloc; "task {who}: {word}\n")
 }
 
-// Adds who waits in the queue of an object, if somebody does.
-fn put_queue(
+// Adds what tasks are at, the first of which is this actor.
+fn put_tasks(
     text: &mut String,
+    alloc: Global,
+    catalogue: &Catalogue,
+    actor: usize,
+    modes: &[Mode],
+) -> Result<(), AllocError>
+    ensures { OnOk result (string_bytes text.new ≡ string_bytes text.old ++ task_lines catalogue.now actor modes.now) }
+{
+    let Some((mode, others)) = modes.split_first() else {
+        return Ok(());
+    };
+    let line = task_line(alloc, catalogue, actor, *mode)?;
+    text.push_str(line.as_str())?;
+    // No host has so many tasks that their numbers end.
+    let Some(next) = actor.checked_add(1) else {
+        return Err(AllocError);
+    };
+    put_tasks(text, alloc, catalogue, next, others)
+}
+
+// The whole name of an object.
+fn object_name(alloc: Global, catalogue: &Catalogue, object: usize) -> Result<String, AllocError>
+    ensures { IfOk result (λ name. string_bytes name ≡ object_name catalogue.now object) }
+{
+    match catalogue.object(object) {
+        Some((shape, found)) => {
+            let unit = shape.name();
+            let name = found.name();
+            format!(in alloc; "{unit}.{name}")
+        }
+        None => String::from_str(alloc, "?"),
+    }
+}
+
+// The name of an actor behind a mark.
+fn marked_actor(
+    alloc: Global,
+    catalogue: &Catalogue,
+    mark: &str,
+    actor: usize,
+) -> Result<String, AllocError>
+    ensures { IfOk result (λ name. string_bytes name ≡ marked_actor catalogue.now mark.now actor) }
+{
+    let who = catalogue.who(actor);
+    format!(in alloc; "{mark}{who}")
+}
+
+// Adds the names of actors, with this mark before the first, and commas between them.
+fn put_actors(
+    text: &mut String,
+    alloc: Global,
+    catalogue: &Catalogue,
+    mark: &str,
+    actors: &[usize],
+) -> Result<(), AllocError>
+    ensures { OnOk result (string_bytes text.new ≡ string_bytes text.old ++ actor_names catalogue.now mark.now actors.now) }
+{
+    let Some((actor, others)) = actors.split_first() else {
+        return Ok(());
+    };
+    let name = marked_actor(alloc, catalogue, mark, *actor)?;
+    text.push_str(name.as_str())?;
+    put_actors(text, alloc, catalogue, ", ", others)
+}
+
+// Who waits in the queue of an object; nothing where nobody does.
+fn queue_line(
+    alloc: Global,
     catalogue: &Catalogue,
     object: usize,
     callers: &[usize],
-) -> Result<(), AllocError> {
+) -> Result<String, AllocError>
+    ensures { IfOk result (λ line. string_bytes line ≡ queue_line catalogue.now object callers.now) }
+{
     if callers.is_empty() {
-        return Ok(());
+        return Ok(String::new(alloc));
     }
-    text.push_str("queue of")?;
-    put_object(text, catalogue, object)?;
-    text.push_str(":")?;
-    for caller in callers {
-        put_actor(text, catalogue, *caller)?;
-    }
-    text.push_str("\n")
+    let name = object_name(alloc, catalogue, object)?;
+    let name = name.as_str();
+    let mut line = format!(in alloc; "queue of {name}:")?;
+    put_actors(&mut line, alloc, catalogue, " ", callers)?;
+    line.push_str("\n")?;
+    Ok(line)
 }
 
-// Adds who waits on a suspension object, if somebody does.
-fn put_waiter(
+// Adds who waits in queues, of objects the first of which has this number.
+fn put_queues(
     text: &mut String,
+    alloc: Global,
+    catalogue: &Catalogue,
+    object: usize,
+    queues: &[Queue],
+) -> Result<(), AllocError>
+    ensures { OnOk result (string_bytes text.new ≡ string_bytes text.old ++ queue_lines catalogue.now object queues.now) }
+{
+    let Some((queue, others)) = queues.split_first() else {
+        return Ok(());
+    };
+    let line = queue_line(alloc, catalogue, object, queue.callers())?;
+    text.push_str(line.as_str())?;
+    // No host has so many objects that their numbers end.
+    let Some(next) = object.checked_add(1) else {
+        return Err(AllocError);
+    };
+    put_queues(text, alloc, catalogue, next, others)
+}
+
+// Who waits on a suspension object; nothing where nobody does.
+fn waiter_line(
+    alloc: Global,
     catalogue: &Catalogue,
     object: usize,
     waiter: Option<usize>,
-) -> Result<(), AllocError> {
+) -> Result<String, AllocError>
+    ensures { IfOk result (λ line. string_bytes line ≡ waiter_line catalogue.now object waiter) }
+{
     let Some(actor) = waiter else {
-        return Ok(());
+        return Ok(String::new(alloc));
     };
-    text.push_str("suspended on")?;
-    put_object(text, catalogue, object)?;
-    text.push_str(":")?;
-    put_actor(text, catalogue, actor)?;
-    text.push_str("\n")
+    let name = object_name(alloc, catalogue, object)?;
+    let name = name.as_str();
+    let who = catalogue.who(actor);
+    format!(in alloc; "suspended on {name}: {who}\n")
 }
 
-// Adds the clock, the journal and the list.
-fn put_host(text: &mut String, view: &View) -> Result<(), AllocError> {
+// Adds who waits on suspension objects, of objects the first of which has this number.
+fn put_waiters(
+    text: &mut String,
+    alloc: Global,
+    catalogue: &Catalogue,
+    object: usize,
+    waiters: &[Option<usize>],
+) -> Result<(), AllocError>
+    ensures { OnOk result (string_bytes text.new ≡ string_bytes text.old ++ waiter_lines catalogue.now object waiters.now) }
+{
+    let Some((waiter, others)) = waiters.split_first() else {
+        return Ok(());
+    };
+    let line = waiter_line(alloc, catalogue, object, *waiter)?;
+    text.push_str(line.as_str())?;
+    // No host has so many objects that their numbers end.
+    let Some(next) = object.checked_add(1) else {
+        return Err(AllocError);
+    };
+    put_waiters(text, alloc, catalogue, next, others)
+}
+
+// The clock, the room and the list.
+fn head_text(alloc: Global, view: &View) -> Result<String, AllocError>
+    ensures { IfOk result (λ text. string_bytes text ≡ head_text view.now) }
+{
     let clock = view.clock();
     let halted = if view.is_halted() { ", halted" } else { "" };
-    let used = view.used();
-    let capacity = view.capacity();
     let room = view.room();
     let version = view.version();
     let lines = view.list().len();
-    write!(
-        text,
-        "clock {clock}{halted}\njournal {used} of {capacity} entries, room for {room} more\nlist version {version}, {lines} lines\n"
+    format!(in alloc;
+        "clock {clock}{halted}\nroom for {room} entries beside those that are owed\nlist version {version}, lines {lines}\n"
     )
 }
 
-// Adds what the tasks are at.
-fn put_tasks(text: &mut String, catalogue: &Catalogue, view: &View) -> Result<(), AllocError> {
-    let mut actor = FIRST_TASK;
-    for mode in view.modes() {
-        put_task(text, catalogue, actor, *mode)?;
-        actor = actor.saturating_add(1);
-    }
-    Ok(())
-}
-
-// Adds who waits in queues.
-fn put_queues(text: &mut String, catalogue: &Catalogue, view: &View) -> Result<(), AllocError> {
-    let mut object: usize = 1;
-    for queue in view.queues() {
-        put_queue(text, catalogue, object, queue.callers())?;
-        object = object.saturating_add(1);
-    }
-    Ok(())
-}
-
-// Adds who waits on suspension objects.
-fn put_waiters(text: &mut String, catalogue: &Catalogue, view: &View) -> Result<(), AllocError> {
-    let mut object: usize = 1;
-    for waiter in view.waiters() {
-        put_waiter(text, catalogue, object, *waiter)?;
-        object = object.saturating_add(1);
-    }
-    Ok(())
-}
-
-// Adds how many entries are whose.
-fn put_counts(
+// Adds what the tasks are at, and who waits where.
+fn put_actors_of(
     text: &mut String,
+    alloc: Global,
     catalogue: &Catalogue,
-    tally: &Tally,
-) -> Result<(), AllocError> {
-    let operator = tally.of_operator();
-    let lines = tally.of_lines();
-    write!(text, "entries: operator {operator}, lines {lines}")?;
-    let mut number: usize = 1;
-    for shape in catalogue.shapes() {
-        let name = shape.name();
-        let count = tally.of_unit(number);
-        write!(text, ", {name} {count}")?;
-        number = number.saturating_add(1);
-    }
-    text.push_str("\n")
+    view: &View,
+) -> Result<(), AllocError>
+    ensures { OnOk result (string_bytes text.new ≡ string_bytes text.old ++ actors_text catalogue.now view.now) }
+{
+    put_tasks(text, alloc, catalogue, FIRST_TASK, view.modes())?;
+    put_queues(text, alloc, catalogue, 1, view.queues())?;
+    put_waiters(text, alloc, catalogue, 1, view.waiters())
 }
 
-/// What the host is at: its clock, its journal, its list, each task, who waits where, and how many entries are whose. Err where
-/// memory was refused.
+/// What the host is at: its clock, its room, its list, each task, who waits where, and how many entries the tasks of each
+/// unit have added. Err where memory was refused.
 pub fn status_text(
     alloc: Global,
     catalogue: &Catalogue,
     view: &View,
     tally: &Tally,
-) -> Result<String, AllocError> {
-    let mut text = String::new(alloc);
-    put_host(&mut text, view)?;
-    put_tasks(&mut text, catalogue, view)?;
-    put_queues(&mut text, catalogue, view)?;
-    put_waiters(&mut text, catalogue, view)?;
-    put_counts(&mut text, catalogue, tally)?;
+) -> Result<String, AllocError>
+    ensures { (entries : List Entry) → length entries < 2 ^ 64 → IsTally entries tally.now
+        → IfOk result (λ text. string_bytes text ≡ status_text catalogue.now entries view.now) }
+{
+    let mut text = head_text(alloc, view)?;
+    put_actors_of(&mut text, alloc, catalogue, view)?;
+    let room = room_line(alloc, catalogue, tally, view.capacity(), view.used())?;
+    text.push_str(room.as_str())?;
     Ok(text)
 }

@@ -12,7 +12,7 @@ use Rattle.rv_run.specs.Staging.{Fails, ReadsNothing, Stage}
 abbrev pub Wrote : {X E : Type 0} → Result X E → Served → Type 0
 Wrote written result = MatchResult written (λ x. result ≡ Ok tt) (λ e. Fails result)
 
-starts_so : {X E : Type 0} (v w : Staffed) (old new : Known) (written : Result X E) (result : Served)
+pub starts_so : {X E : Type 0} (v w : Staffed) (old new : Known) (written : Result X E) (result : Served)
     → Starts v w old new written → Wrote written result → Starts v w old new result
 starts_so v w old new (Ok x) result starts is = subst (λ (r : Served). Starts v w old new r) (sym is) starts
 starts_so v w old new (Err e) (Ok y) starts is = absurd is

@@ -6,4 +6,6 @@ pub mod Preparing
 pub mod Running
 pub mod Ticking
 pub mod Rooming
+pub mod Chores
+pub mod Attending
 pub mod KeepingRuns

@@ -9,6 +9,8 @@ use Rattle.rv_event.specs.declared.entry.Answer.TheVariants.{OutOfMemory}
 use Rattle.rv_port.specs.Controls.{Told}
 use Rattle.rv_port.specs.Traces.{Passing}
 use Rattle.rv_tally.specs.Denying.{GivesDenial}
+use Rattle.rv_tally.specs.declared.guard.Due.{Due}
+use Rattle.rv_tally.specs.declared.guard.Due.TheVariants as Dues
 use Rattle.rv_turn.specs.Passes.{IsWorn}
 use Rattle.rv_turn.specs.declared.pass.Worn.{Worn}
 
@@ -19,3 +21,8 @@ DeniesUnit v w place (Ok answer) =
     ((line : Words) × GivesDenial (catalogue_of v.seen) place (Ok line) × Told v (Ask.Change (changes.Append line)) answer w)
     ⊎ ((w ≡ v) × (answer ≡ OutOfMemory))
 DeniesUnit v w place (Err worn) = IsWorn v w
+
+-- what is due is done: a unit is denied everything, and for all else nothing is asked
+abbrev pub DoesDue : Due → Passing → Passing → Type 0
+DoesDue (Dues.Deny place) v w = (answer : Result Answer Worn) × DeniesUnit v w place answer
+DoesDue due v w = w ≡ v

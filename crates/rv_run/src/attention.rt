@@ -1,5 +1,14 @@
 //! What is asked of an attended run.
 
+/// How the commands of a console come.
+#[derive(Clone, Copy, Debug, PartialEq, Eq, Drop)]
+pub enum Typing {
+    /// Somebody types them at a terminal, which shows them.
+    Shown,
+    /// They come from elsewhere, and are echoed.
+    Echoed,
+}
+
 /// What is asked of an attended run.
 #[derive(Clone, Copy, Drop)]
 pub struct Attention {
@@ -11,4 +20,6 @@ pub struct Attention {
     pub halt_below: Option<u32>,
     /// Whether notes are told.
     pub tells: bool,
+    /// How commands come, where there is a console.
+    pub console: Option<Typing>,
 }

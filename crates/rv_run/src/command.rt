@@ -177,8 +177,11 @@ fn after_fault<W: Write>(fault: LineFault, writer: &mut W) -> Result<Goes, Failu
     }
 }
 
-// What comes after a command line that did this.
-fn after<W: Write>(next: Result<Next, LineFault>, writer: &mut W) -> Result<Goes, Failure>
+/// What comes after a command line that did this.
+pub(crate) fn after<W: Write>(
+    next: Result<Next, LineFault>,
+    writer: &mut W,
+) -> Result<Goes, Failure>
     ensures { Behind (W.contents writer.old) (W.contents writer.new) next result }
 {
     match next {

@@ -5,6 +5,7 @@
 mod attention;
 mod coming;
 mod command;
+mod console;
 mod devices;
 mod following;
 mod journal;
@@ -16,6 +17,6 @@ pub mod run;
 mod telling;
 mod ticking;
 
-pub use attention::Attention;
+pub use attention::{Attention, Typing};
 pub use following::{Follower, KeptFailure};
 pub use kept::Outputs;

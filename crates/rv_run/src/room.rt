@@ -1,8 +1,9 @@
 //! What is done as a journal fills: the room left is told, units are denied everything, or the run ends.
 
+ghost use Rattle.std.specs.Prelude.{◌≡◌};
 ghost use Rattle.rv_behind.specs.Events.{catalogue_of};
-ghost use Rattle.rv_follow.specs.Following.{Later};
-ghost use Rattle.rv_run.specs.Rooming.{DeniesUnit};
+ghost use Rattle.rv_run.specs.Chores.{Chores};
+ghost use Rattle.rv_run.specs.Rooming.{DeniesUnit, DoesDue};
 
 use crate::attention::Attention;
 use crate::command::Goes;
@@ -171,7 +172,8 @@ fn ask_denial<T: Wait>(
     session: &mut Session,
     place: usize,
 ) -> Result<Answer, Worn>
-    ensures { DeniesUnit session.old.staff.control session.new.staff.control place result }
+    ensures denies { DeniesUnit session.old.staff.control session.new.staff.control place result }
+    ensures crew { session.new.staff.crew ≡ session.old.staff.crew }
 {
     match denial_of(alloc, session.staff.catalogue(), place) {
         Ok(line) => session.staff.append_line(rt, line),
@@ -188,7 +190,8 @@ fn do_due<T: Wait, E: Write>(
     used: usize,
     errors: &mut E,
 ) -> Then
-    ensures { Later session.old.staff.control session.new.staff.control }
+    ensures does { DoesDue due session.old.staff.control session.new.staff.control }
+    ensures crew { session.new.staff.crew ≡ session.old.staff.crew }
 {
     match due {
         Due::Nothing => Then::Rest,
@@ -216,7 +219,8 @@ pub(crate) fn keep_room<T: Wait + Clock, E: Write>(
     used: usize,
     errors: &mut E,
 ) -> Goes
-    ensures { Later session.old.staff.control session.new.staff.control }
+    ensures chores { Chores session.old.staff.control session.new.staff.control }
+    ensures crew { session.new.staff.crew ≡ session.old.staff.crew }
 {
     if !room.is_due(rt) {
         return Goes::On;

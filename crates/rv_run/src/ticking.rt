@@ -1,8 +1,8 @@
 //! The host's clock follows a real one.
 
-ghost use Rattle.std.specs.Prelude.{◌≤◌};
+ghost use Rattle.std.specs.Prelude.{◌≡◌, ◌≤◌};
 ghost use Rattle.std.specs.Time.{instant_nanos};
-ghost use Rattle.rv_follow.specs.Following.{Later};
+ghost use Rattle.rv_run.specs.Chores.{Chores};
 ghost use Rattle.rv_run.specs.Ticking.{AsksOf, Begins, KeepsPace, Ticks};
 
 use rv_pace::Pace;
@@ -13,14 +13,16 @@ use std::time::{Clock, Duration, Instant};
 // Asks so many ticks. What is answered is for nobody: at a full or halted host they are refused.
 fn ask<T: Wait>(rt: &T, staff: &mut Staff, ticks: u64)
     requires { ticks ≤ 1_000_000 }
-    ensures { AsksOf ticks staff.old.control staff.new.control }
+    ensures asks { AsksOf ticks staff.old.control staff.new.control }
+    ensures crew { staff.new.crew ≡ staff.old.crew }
 {
     let _ = staff.tick(rt, ticks as i64);
 }
 
 // Asks the ticks that are due at a moment.
 fn tick<T: Wait>(rt: &T, staff: &mut Staff, pace: &mut Pace, now: Instant)
-    ensures { Ticks staff.old.control staff.new.control pace.old pace.new (instant_nanos now) }
+    ensures ticks { Ticks staff.old.control staff.new.control pace.old pace.new (instant_nanos now) }
+    ensures crew { staff.new.crew ≡ staff.old.crew }
 {
     loop {
         let ticks = pace.step(now);
@@ -52,7 +54,8 @@ pub(crate) fn keep_pace<T: Wait + Clock>(
     pace: &mut Option<Pace>,
 )
     ensures ticks { KeepsPace staff.old.control staff.new.control period pace.old pace.new }
-    ensures later { Later staff.old.control staff.new.control }
+    ensures chores { Chores staff.old.control staff.new.control }
+    ensures crew { staff.new.crew ≡ staff.old.crew }
 {
     match pace {
         Some(pace) => match Instant::now(rt) {

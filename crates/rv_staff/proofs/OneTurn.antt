@@ -1,15 +1,23 @@
 -- Threads stay of one turn.
 use Rattle.std.proofs.Common.{◌≡◌, List, [], ◌++◌, ◌∷◌, Ok, Err, inl, inr, refl, sym, ap, ◌∙◌, subst, MatchResult, ℕ, zero, suc, Option, Some, None, IfSome}
-use Rattle.std.specs.Prelude.{Result}
+use Rattle.std.specs.Prelude.{IfErr, IfOk, Result}
 use Rattle.atomic_table.specs.Seated.{TableId}
 use Rattle.rv_code.specs.declared.body.UnitBodies.{UnitBodies}
 use Rattle.rv_shape.specs.Shape.{Shape}
 use Rattle.rv_event.specs.declared.entry.Answer.{Answer}
 use Rattle.rv_event.specs.declared.entry.Request.TheVariants as asks
-use Rattle.rv_turn.specs.Passes.{IsWorn}
+use Rattle.rv_turn.specs.Passes.{Acted, IsWorn}
 use Rattle.rv_turn.specs.declared.pass.Worn.{Worn as Spent}
 use Rattle.rv_port.specs.Traces.{Passing}
 use Rattle.rv_port.specs.Ports.{Porting}
+use Rattle.rv_behind.specs.Acting.{Does}
+use Rattle.rv_behind.specs.Events.{by}
+use Rattle.rv_behind.specs.declared.event.Reply.TheVariants as Gives
+use Rattle.rv_console.specs.Console.{Looks}
+use Rattle.rv_port.specs.Viewing.{NotViewed}
+use Rattle.rv_port.specs.declared.fault.PageFault.{PageFault}
+use Rattle.rv_port.specs.declared.fault.PageFault.TheVariants as PageFaults
+use Rattle.rv_view.specs.Views.{Shown}
 use Rattle.rv_follow.specs.Following.{Reads, ReadsOn}
 use Rattle.rv_port.specs.Controls.{IsGiven, LoadTold, Told}
 use Rattle.rv_crew.specs.Teams.{Team, IsOfTurn}
@@ -55,6 +63,17 @@ reads_on_stay (suc count) v w reads = ap (λ (p : Passing). p.turn) reads.4.same
 
 pub reads_stay : (v w : Passing) → Reads v w → w.turn ≡ v.turn
 reads_stay v w reads = reads_on_stay reads.0 v w reads.1
+
+-- and where the console looks
+pub answers_stay : (v w : Passing) → Looks v w → w.turn ≡ v.turn
+answers_stay v w (inl same) = ap (λ (p : Passing). p.turn) same
+answers_stay v w (inr look) = ap (λ (p : Passing). p.turn) look.3.same
+
+pub views_stay : (v w : Passing) (r : Result Shown PageFault) → IfOk r (λ view. Acted by Does v Ask.View (Gives.Viewed view) w)
+    → IfErr r (λ fault. NotViewed v fault w) → w.turn ≡ v.turn
+views_stay v w (Ok view) told none = ap (λ (p : Passing). p.turn) told.same
+views_stay v w (Err PageFaults.NoMemory) told none = ap (λ (p : Passing). p.turn) none.same
+views_stay v w (Err PageFaults.Worn) told none = ap (λ (p : Passing). p.turn) none.1
 
 -- a port that is given is of the same turn
 pub given_stays : (v w : Passing) (actor : ℕ) (port : Passing) → IsGiven v actor w port → w.turn ≡ v.turn

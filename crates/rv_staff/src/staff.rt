@@ -1,13 +1,19 @@
 //! A host that runs: its operator and the crew of its threads, which are of one turn.
 
-ghost use Rattle.std.specs.Prelude.{◌≡◌, [], Err, IfErr, IfOk, IfSome, MatchResult};
+ghost use Rattle.std.specs.Prelude.{◌≡◌, ◌<◌, ◌^◌, [], Err, IfErr, IfOk, IfSome, List, MatchResult, length};
 ghost use Rattle.rv_text.specs.Words.{words};
-ghost use Rattle.rv_turn.specs.Passes.{IsWorn};
-ghost use Rattle.rv_behind.specs.Events.{catalogue_of};
+ghost use Rattle.rv_turn.specs.Passes.{Acted, IsWorn};
+ghost use Rattle.rv_behind.specs.Acting.{Does};
+ghost use Rattle.rv_behind.specs.Events.{by, catalogue_of};
 ghost use Rattle.rv_port.specs.Ports.{pass_of};
 ghost use Rattle.rv_access.specs.declared.change.Change.TheVariants as changes;
 ghost use Rattle.rv_behind.specs.declared.event.Ask.{Ask};
+ghost use Rattle.rv_behind.specs.declared.event.Reply.{Reply};
+ghost use Rattle.rv_console.specs.Console.{Answers as ShowsWord, Looks};
+ghost use Rattle.rv_event.specs.declared.entry.Entry.{Entry};
 ghost use Rattle.rv_event.specs.declared.entry.Request.TheVariants as asks;
+ghost use Rattle.rv_port.specs.Viewing.{NotViewed};
+ghost use Rattle.rv_tally.specs.Tallying.{IsTally};
 ghost use Rattle.rv_port.specs.Controls.{Brings, IsGiven, IsPortFault, LoadTold, Told};
 ghost use Rattle.rv_follow.specs.Following.{IsKept, Looked, Reads};
 ghost use Rattle.rv_keep.specs.Keeping.{Known};
@@ -23,17 +29,19 @@ use crate::hires::{HireFault, Hires};
 use crate::work::Work;
 use rv_access::Line;
 use rv_code::Unit;
+use rv_console::{Console, Word};
 use rv_crew::crew::{Closed, Crew};
 use rv_event::entry::Answer;
 use rv_follow::{Found, follow};
 use rv_keep::{KeepFault, Keeper};
 use rv_port::control::Control;
-use rv_port::fault::PortFault;
+use rv_port::fault::{PageFault, PortFault};
 use rv_port::port::Port;
 use rv_shape::catalogue::Catalogue;
 use rv_shell::{LineFault, Next, Shell};
 use rv_tally::Tally;
 use rv_turn::Worn;
+use rv_view::View;
 use std::alloc::Global;
 use std::io::Write;
 use std::marker::Model;
@@ -126,6 +134,37 @@ impl Staff {
         ensures crew { self.new.crew ≡ self.old.crew }
     {
         shell.line(rt, &mut self.control, line, writer)
+    }
+
+    /// Answers a word of the console; entries by unit are those of the tally.
+    #[tactic(auto, using(crate::proofs::OneTurn::moved, crate::proofs::OneTurn::answers_stay))]
+    pub fn show<R: Wait, W: Write>(
+        &mut self,
+        rt: &R,
+        console: &mut Console,
+        tally: &Tally,
+        word: Word,
+        writer: &mut W,
+    ) -> Result<Next, LineFault>
+        ensures shows { (entries : List Entry) → length entries < 2 ^ 64 → IsTally entries tally.now
+            → ShowsWord (W.contents writer.old) (W.contents writer.new) self.old.control self.new.control console.old entries word result }
+        ensures looks { Looks self.old.control self.new.control }
+        ensures crew { self.new.crew ≡ self.old.crew }
+    {
+        console.show(rt, &mut self.control, tally, word, writer)
+    }
+
+    /// What is shown of the host. It adds no entry.
+    ///
+    /// # Errors
+    /// `NoMemory` where memory was refused, `Worn` where no act is left.
+    #[tactic(auto, using(crate::proofs::OneTurn::moved, crate::proofs::OneTurn::views_stay))]
+    pub fn view<R: Wait>(&mut self, rt: &R) -> Result<View, PageFault>
+        ensures ok { IfOk result (λ view. Acted by Does self.old.control Ask.View (Reply.Viewed view) self.new.control) }
+        ensures err { IfErr result (λ fault. NotViewed self.old.control fault self.new.control) }
+        ensures crew { self.new.crew ≡ self.old.crew }
+    {
+        self.control.view(rt)
     }
 
     /// Loads a unit as a text gives it.

@@ -1,5 +1,6 @@
 -- What whoever looks at a host is shown of its history. (own)
-use Rattle.std.specs.Prelude.{ℕ, Bool, List, Option, length, map, range_with_len}
+use Rattle.std.specs.Prelude.{ℕ, Bool, List, Option, length, map}
+use Rattle.std.specs.List.{range_with_len}
 use Rattle.rv_access.specs.Words.{Words}
 use Rattle.rv_shape.specs.Shape.{Shape}
 use Rattle.rv_shape.specs.Catalogue.{all_objects, all_tasks, first_task}

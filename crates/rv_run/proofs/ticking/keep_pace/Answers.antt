@@ -1,5 +1,6 @@
-use Rattle.rv_run.proofs.Growing.{ticks_later}
+use Rattle.std.proofs.Common.{refl}
+use Rattle.rv_run.proofs.Chores.{no_chores, ticks_chores}
 use Rattle.rv_run.proofs.ticking.keep_pace.Goals as goal
 
-pub returns-in-Ok-clause-later : goal.returns-in-Ok-clause-later
-returns-in-Ok-clause-later g c = ticks_later _ _ _ _ _ c.tick.ensures
+pub returns-in-Ok-clause-chores : goal.returns-in-Ok-clause-chores
+returns-in-Ok-clause-chores g c = ticks_chores _ _ _ _ _ c.tick.ensures.ticks

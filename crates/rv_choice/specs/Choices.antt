@@ -1,0 +1,268 @@
+-- The command line (own): `play`, which may be given `--all`, `check`, which may be given `--script`, and `run`, which may be
+-- given `--journal FILE` and, with it, `--sync HOW`, `--halt-below N`, `--quota N`, `--tick MS`, `--stop-by PIPE` and `--console`,
+-- all three with `--notes WHEN` and `--warnings-are-errors`; and `audit`, which
+-- may be given `--journal FILE` and, with it, `--torn`. Each may be given `--explain` and `--color WHEN`. What words come to is what
+-- `clap` says of this command.
+use Rattle.std.specs.Prelude.{◌≡◌, ◌⊎◌, ℕ, Bool, true, false, ◌&&◌, nat_le, nat_lt, if◌then◌else◌, List, [], ◌∷◌, Option, Some, None, codes}
+use Rattle.std.specs.Str.{bytes_eq}
+use Rattle.clap.specs.Words.{App, Row, Rule, new_app, new_rule, subcommand_of, with_rule, with_subcommand}
+use Rattle.clap.specs.Simple.{on_top}
+use Rattle.clap.specs.Walk.{Text, first_of, one_of}
+use Rattle.clap.specs.declared.builder.action.ArgAction.TheVariants.{Set, SetTrue}
+use Rattle.rv_text.specs.Numbers.{natural_of}
+use Rattle.rv_choice.specs.declared.chosen.Choice.{Choice}
+use Rattle.rv_choice.specs.declared.chosen.Choice.TheVariants.{Play, Check, Run, Audit, AuditFile}
+use Rattle.rv_choice.specs.declared.chosen.When.{When}
+use Rattle.rv_choice.specs.declared.chosen.When.TheVariants.{Auto, Always}
+use Rattle.rv_choice.specs.declared.chosen.When.TheVariants as Whens
+use Rattle.rv_choice.specs.declared.chosen.Sync.{Sync}
+use Rattle.rv_choice.specs.declared.chosen.Sync.TheVariants.{Each, Second, Never}
+use Rattle.rv_choice.specs.declared.chosen.Unchosen.{Unchosen}
+use Rattle.rv_choice.specs.declared.chosen.Unchosen.TheVariants.{Usage, Unknown, NoMemory}
+
+-- a flag
+abbrev pub flag_rule : Text → Rule
+flag_rule name = record (new_rule name) { long = Some name; action = Some SetTrue }
+
+-- what asks for explanations
+abbrev pub explain_rule : Rule
+explain_rule = flag_rule (codes "explain")
+
+-- when notes are told
+abbrev pub notes_rule : Rule
+notes_rule = record (new_rule (codes "notes")) { long = Some (codes "notes"); action = Some Set; value_names = 1 }
+
+-- a flag with a value
+abbrev pub value_rule : Text → Rule
+value_rule name = record (new_rule name) { long = Some name; action = Some Set; value_names = 1 }
+
+-- what looks at lists may be told when notes are told, and that they are errors
+abbrev pub with_notes : App → App
+with_notes app = with_rule (with_rule app notes_rule) (flag_rule (codes "warnings-are-errors"))
+
+-- each may be told when there are colours
+abbrev pub with_color : App → App
+with_color app = with_rule app (value_rule (codes "color"))
+
+abbrev pub playing : App
+playing = with_color (with_notes (with_rule (with_rule (new_app (codes "play")) (flag_rule (codes "all"))) explain_rule))
+
+abbrev pub checked : App
+checked = with_color (with_notes (with_rule (with_rule (new_app (codes "check")) explain_rule) (flag_rule (codes "script"))))
+
+-- the name of a file, and when it is synced
+abbrev pub file_rule : Rule
+file_rule = record (new_rule (codes "journal")) { long = Some (codes "journal"); action = Some Set; value_names = 1 }
+
+abbrev pub sync_rule : Rule
+sync_rule = record (new_rule (codes "sync")) { long = Some (codes "sync"); action = Some Set; value_names = 1 }
+
+-- `run`, which may keep its journal in a file
+abbrev pub keeping : App
+keeping = with_rule (with_rule (with_rule (new_app (codes "run")) file_rule) sync_rule) explain_rule
+
+-- which may be told what to do as its journal fills
+abbrev pub guarding : App
+guarding = with_rule (with_rule keeping (value_rule (codes "halt-below"))) (value_rule (codes "quota"))
+
+-- whose clock may follow a real one, and which may be ended from outside
+abbrev pub attending : App
+attending = with_rule (with_rule guarding (value_rule (codes "tick"))) (value_rule (codes "stop-by"))
+
+-- which may serve a person by a console
+abbrev pub consoled : App
+consoled = with_rule attending (flag_rule (codes "console"))
+
+abbrev pub running : App
+running = with_color (with_notes consoled)
+
+-- `audit`, which may be given the name of a file, and two flags
+abbrev pub judging : App
+judging = with_rule (with_rule (new_app (codes "audit")) file_rule) (flag_rule (codes "torn"))
+
+abbrev pub audited : App
+audited = with_color (with_rule judging explain_rule)
+
+-- the program, of which one subcommand must be named
+abbrev pub versioned : App
+versioned = on_top (λ s. record s { has_version = true }) (new_app (codes "ravenhost"))
+
+abbrev pub alone : App
+alone = on_top (λ s. record s { subcommand_required = true }) versioned
+
+abbrev pub program : App
+program = with_subcommand (with_subcommand (with_subcommand (with_subcommand alone playing.top) checked.top) running.top)
+    audited.top
+
+-- the text of a flag, as a flag
+abbrev pub IsFlag : Option Text → Bool → Type 0
+IsFlag text flag = (text ≡ Some (codes "true") → flag ≡ true)
+    × (text ≡ Some (codes "false") → flag ≡ false)
+
+-- a subcommand with what it was given is a choice
+abbrev pub Names : Text × List Row → Choice → Type 0
+Names found (Play all) = (found.0 ≡ codes "play") × IsFlag (one_of (codes "all") found.1) all
+Names found (Check whole) = (found.0 ≡ codes "check") × IsFlag (one_of (codes "script") found.1) whole
+Names found Run = found.0 ≡ codes "run"
+Names found Audit = (found.0 ≡ codes "audit") × IsFlag (one_of (codes "torn") found.1) false × (first_of (codes "journal") found.1 ≡ None)
+Names found (AuditFile torn) = (found.0 ≡ codes "audit") × IsFlag (one_of (codes "torn") found.1) torn × (first_of (codes "journal") found.1 ≡ None → ⊥)
+
+-- the file that was named, for `audit` alone
+abbrev pub IsJournal : Text × List Row → Option Text → Type 0
+IsJournal found None = found.0 ≡ codes "audit" → first_of (codes "journal") found.1 ≡ None
+IsJournal found (Some file) = (found.0 ≡ codes "audit") × (first_of (codes "journal") found.1 ≡ Some file)
+
+-- when something is told or shown, by the word that is given, if it is one of these
+abbrev pub when_of : Option Text → Option When
+when_of None = Some Auto
+when_of (Some word) =
+    if bytes_eq word (codes "auto") then Some Auto
+    else if bytes_eq word (codes "always") then Some Always
+    else if bytes_eq word (codes "never") then Some Whens.Never
+    else None
+
+-- when they are told, and whether they are errors, by what a subcommand was given
+abbrev pub Tells : List Row → When → Bool → Type 0
+Tells rows notes errors = (when_of (first_of (codes "notes") rows) ≡ Some notes) × IsFlag (one_of (codes "warnings-are-errors") rows) errors
+
+-- the same, for `play`, `check` and `run`
+abbrev pub IsNoted : Text × List Row → Choice → When → Bool → Type 0
+IsNoted found (Play all) notes errors = Tells found.1 notes errors
+IsNoted found (Check whole) notes errors = Tells found.1 notes errors
+IsNoted found Run notes errors = Tells found.1 notes errors
+IsNoted found choice notes errors = errors ≡ false
+
+-- whether a script's fault, or for `audit` the ends of bodies, are explained
+abbrev pub IsExplaining : Text × List Row → Bool → Type 0
+IsExplaining found explains = IsFlag (one_of (codes "explain") found.1) explains
+
+-- when a file is synced, by the word that is given, if it is one of these
+abbrev pub sync_of : Option Text → Option Sync
+sync_of None = Some Second
+sync_of (Some word) =
+    if bytes_eq word (codes "each") then Some Each
+    else if bytes_eq word (codes "second") then Some Second
+    else if bytes_eq word (codes "never") then Some Never
+    else None
+
+-- the file of this name that a journal is kept in, and when it is synced, by the word that is given; without a file no word says when
+abbrev pub KeepsAs : Option Text → Option Text → Option (Text × Sync) → Type 0
+KeepsAs name word None = (name ≡ None) × (word ≡ None)
+KeepsAs name word (Some kept) = (name ≡ Some kept.0) × (sync_of word ≡ Some kept.1)
+
+-- the word that says when is another, or there is no file
+abbrev pub HasNoFileAs : Option Text → Option Text → Type 0
+HasNoFileAs name word = (sync_of word ≡ None) ⊎ ((name ≡ None) × (word ≡ None → ⊥))
+
+-- both by what `run` is given
+abbrev pub Keeps : List Row → Option (Text × Sync) → Type 0
+Keeps rows kept = KeepsAs (first_of (codes "journal") rows) (first_of (codes "sync") rows) kept
+
+abbrev pub HasNoFile : List Row → Type 0
+HasNoFile rows = HasNoFileAs (first_of (codes "journal") rows) (first_of (codes "sync") rows)
+
+-- a number from 1 up to a greatest
+abbrev pub counted : ℕ → Option ℕ → Option (Option ℕ)
+counted most None = None
+counted most (Some number) = if nat_lt 0 number && nat_le number most then Some (Some number) else None
+
+-- by the word that is given, if it is one of these
+abbrev pub number_of : ℕ → Option Text → Option (Option ℕ)
+number_of most None = Some None
+number_of most (Some word) = counted most (natural_of word)
+
+-- the longest time between two ticks, an hour of milliseconds; and the most entries of a journal
+abbrev pub longest_period : ℕ
+longest_period = 3600000
+
+abbrev pub most_entries : ℕ
+most_entries = 1048576
+
+-- What a run does beside its commands: the file that its journal is kept in, the milliseconds between two ticks, the room of the
+-- journal below which it ends, how many entries a unit's tasks may add, the pipe whose end ends it, and whether it has a console.
+pub record RunWords : Type 0 where
+  pub kept : Option (Text × Sync)
+  pub tick : Option ℕ
+  pub halt_below : Option ℕ
+  pub quota : Option ℕ
+  pub stop : Option Text
+  pub console : Bool
+
+-- by what `run` is given
+abbrev pub IsRun : List Row → RunWords → Type 0
+IsRun rows run =
+    Keeps rows run.kept × (number_of longest_period (first_of (codes "tick") rows) ≡ Some run.tick)
+    × (number_of most_entries (first_of (codes "halt-below") rows) ≡ Some run.halt_below)
+    × (number_of most_entries (first_of (codes "quota") rows) ≡ Some run.quota) × (run.stop ≡ first_of (codes "stop-by") rows)
+    × IsFlag (one_of (codes "console") rows) run.console
+
+-- a word is another, or a file is missing
+abbrev pub HasNoRun : List Row → Type 0
+HasNoRun rows =
+    HasNoFile rows ⊎ (number_of longest_period (first_of (codes "tick") rows) ≡ None)
+    ⊎ (number_of most_entries (first_of (codes "halt-below") rows) ≡ None) ⊎ (number_of most_entries (first_of (codes "quota") rows) ≡ None)
+
+-- nothing of that
+abbrev pub no_run : RunWords
+no_run = record { kept = None; tick = None; halt_below = None; quota = None; stop = None; console = false }
+
+-- the same, for `run` alone
+abbrev pub IsRunning : Text × List Row → Choice → RunWords → Type 0
+IsRunning found Run run = IsRun found.1 run
+IsRunning found choice run = run ≡ no_run
+
+-- the word that was given for notes, or for colours, is another
+abbrev pub HasNoNotes : List Row → Type 0
+HasNoNotes rows = when_of (first_of (codes "notes") rows) ≡ None
+
+abbrev pub HasNoColor : List Row → Type 0
+HasNoColor rows = when_of (first_of (codes "color") rows) ≡ None
+
+abbrev pub HasNoWord : List Row → Type 0
+HasNoWord rows = HasNoNotes rows ⊎ HasNoColor rows
+
+-- what `audit` comes to: a flag without a file chooses nothing
+abbrev pub audit_of : Bool → Bool → Option Choice
+audit_of true torn = Some (AuditFile torn)
+audit_of false true = None
+audit_of false false = Some Audit
+
+-- a flag of `audit` stands without a file
+abbrev pub LacksFile : List Row → Type 0
+LacksFile rows = IsFlag (one_of (codes "torn") rows) true × (first_of (codes "journal") rows ≡ None)
+
+-- no choice has the name of what was found, or notes or colours have another word, or a file is missing
+abbrev pub NamesNone : Text × List Row → Type 0
+NamesNone found = (found.0 ≡ codes "play" → HasNoWord found.1) × (found.0 ≡ codes "check" → HasNoWord found.1) × (found.0 ≡ codes "run" → HasNoWord found.1 ⊎ HasNoRun found.1)
+    × (found.0 ≡ codes "audit" → LacksFile found.1 ⊎ HasNoColor found.1)
+
+-- a subcommand with what it was given is a choice, with a file that is judged where there is one, what becomes of notes, when there
+-- are colours, whether there are explanations, and what a run does beside its commands
+abbrev pub IsSelection : Text × List Row → Choice → Option Text → When → Bool → When → Bool → RunWords → Type 0
+IsSelection found choice file notes errors color explains run =
+    Names found choice × IsJournal found file × IsNoted found choice notes errors × IsExplaining found explains
+    × IsRunning found choice run × (when_of (first_of (codes "color") found.1) ≡ Some color)
+
+-- the words name such a choice
+abbrev pub Chooses : List Text → Choice → Option Text → When → Bool → When → Bool → RunWords → Type 0
+Chooses words choice file notes errors color explains run =
+    (found : Text × List Row) × (subcommand_of program words ≡ Some found)
+    × IsSelection found choice file notes errors color explains run
+
+-- where `clap` takes the words, nothing is chosen only for want of memory, or where its matches name no choice
+abbrev pub Lacks : List Text → Unchosen → Type 0
+Lacks words NoMemory = Unit {0}
+Lacks words Unknown =
+    (found : Text × List Row) → subcommand_of program words ≡ Some found → NamesNone found
+Lacks words (Usage error) = ⊥
+
+-- a plain line of each choice, behind the program's name; a file is named J
+abbrev pub line_of : Choice → List Text
+line_of (Play false) = codes "play" ∷ []
+line_of (Play true) = codes "play" ∷ codes "--all" ∷ []
+line_of (Check false) = codes "check" ∷ []
+line_of (Check true) = codes "check" ∷ codes "--script" ∷ []
+line_of Run = codes "run" ∷ []
+line_of Audit = codes "audit" ∷ []
+line_of (AuditFile false) = codes "audit" ∷ codes "--journal" ∷ codes "J" ∷ []
+line_of (AuditFile true) = codes "audit" ∷ codes "--journal" ∷ codes "J" ∷ codes "--torn" ∷ []

@@ -1,0 +1,3 @@
+mod Paging
+pub mod Looking
+mod Turning

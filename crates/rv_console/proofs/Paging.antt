@@ -1,0 +1,31 @@
+-- A command that is no word of its own asks for no page.
+use Rattle.std.proofs.Common.{◌≡◌, ◌∙◌, ap, refl, List, ℕ, Ok, Err}
+use Rattle.std.specs.Prelude.{Option, Some, None}
+use Rattle.rv_shape.specs.Items.{◌>>=◌}
+use Rattle.rv_shell.specs.Orders.{of_step, or_stepped, order_of, own_order}
+use Rattle.rv_shell.specs.declared.order.Order.{Order}
+use Rattle.rv_step.specs.StepText.{asked_of}
+use Rattle.rv_step.specs.declared.step.Asked.{Asked}
+use Rattle.rv_step.specs.declared.step.Asked.TheVariants as Asks
+use Rattle.rv_console.specs.Console.{page_of}
+
+one : (asked : Asked) → page_of (of_step asked) ≡ None
+one (Asks.Call object operation values) = refl
+one (Asks.Complete scalars exit) = refl
+one Asks.Settle = refl
+one Asks.Resume = refl
+one (Asks.DelayUntil time) = refl
+one Asks.Clock = refl
+one Asks.Fire = refl
+one Asks.Quit = refl
+one (Asks.Tick ticks) = refl
+one Asks.Halt = refl
+one (Asks.Go count) = refl
+one (Asks.Change change number) = refl
+
+stepped : (asked : Option Asked) → page_of (asked >>= of_step) ≡ None
+stepped None = refl
+stepped (Some asked) = one asked
+
+pub no_page : (words : List (List ℕ)) → own_order words ≡ None → page_of (order_of words) ≡ None
+no_page words none = ap (λ (o : Option Order). page_of (or_stepped o words)) none ∙ stepped (asked_of words)

@@ -1,0 +1,111 @@
+-- What the console shows of a host. (own)
+use Rattle.std.specs.Prelude.{ℕ, ◌+◌, Bool, true, false, List, [], ◌∷◌, ◌++◌, codes, length, Option, Some, None}
+use Rattle.std.specs.Fmt.{decimal}
+use Rattle.rv_access.specs.Text.{line_text}
+use Rattle.rv_access.specs.Words.{Words}
+use Rattle.rv_event.specs.declared.entry.Entry.{Entry}
+use Rattle.rv_event.specs.declared.entry.Mode.{Mode}
+use Rattle.rv_event.specs.declared.entry.Mode.TheVariants.{Idle, InBody, Queued, Settling, Handed, Dropped, Suspended, Delayed, Ended}
+use Rattle.rv_shape.specs.Catalogue.{UnitObject, dotted, first_task, place, who}
+use Rattle.rv_shape.specs.Fits.{object_name as own_name}
+use Rattle.rv_shape.specs.Printed.{actor_text}
+use Rattle.rv_shape.specs.Shape.{Shape}
+use Rattle.rv_tally.specs.Wording.{room_line}
+use Rattle.rv_view.specs.Views.{Shown}
+
+-- The list
+
+-- a line of a list behind its number
+abbrev pub numbered_line : ℕ → Words → List ℕ
+numbered_line number line = decimal number ++ 32 ∷ (line_text line ++ 10 ∷ [])
+
+-- lines of a list, the first of which has this number
+abbrev pub numbered_lines : ℕ → List Words → List ℕ
+numbered_lines number [] = []
+numbered_lines number (line ∷ lines) = numbered_line number line ++ numbered_lines (number + 1) lines
+
+-- the version of the list in force, and its lines as `remove` and `replace` count them
+abbrev pub list_text : Shown → List ℕ
+list_text view = (codes "version " ++ (decimal view.version ++ 10 ∷ [])) ++ numbered_lines 1 view.list
+
+-- The status
+
+-- what a mode is called
+abbrev pub mode_word : Mode → List ℕ
+mode_word Idle = codes "idle"
+mode_word InBody = codes "in a body"
+mode_word Queued = codes "queued"
+mode_word Settling = codes "to settle an object"
+mode_word Handed = codes "handed an object"
+mode_word Dropped = codes "dropped from a queue"
+mode_word Suspended = codes "suspended"
+mode_word Delayed = codes "delayed"
+mode_word Ended = codes "ended"
+
+-- what a task is at
+abbrev pub task_line : List Shape → ℕ → Mode → List ℕ
+task_line shapes actor mode = codes "task " ++ (actor_text (who shapes actor) ++ (codes ": " ++ (mode_word mode ++ 10 ∷ [])))
+
+-- tasks, the first of which is this actor
+abbrev pub task_lines : List Shape → ℕ → List Mode → List ℕ
+task_lines shapes actor [] = []
+task_lines shapes actor (mode ∷ modes) = task_line shapes actor mode ++ task_lines shapes (actor + 1) modes
+
+abbrev pub name_at : Option UnitObject → List ℕ
+name_at None = codes "?"
+name_at (Some at) = dotted at.unit (own_name at.object)
+
+-- the whole name of an object
+abbrev pub object_name : List Shape → ℕ → List ℕ
+object_name shapes object = name_at (place shapes object)
+
+-- an actor behind a mark
+abbrev pub marked_actor : List Shape → List ℕ → ℕ → List ℕ
+marked_actor shapes mark actor = mark ++ actor_text (who shapes actor)
+
+-- actors one behind another, with this mark before the first, and commas between them
+abbrev pub actor_names : List Shape → List ℕ → List ℕ → List ℕ
+actor_names shapes mark [] = []
+actor_names shapes mark (actor ∷ actors) = marked_actor shapes mark actor ++ actor_names shapes (codes ", ") actors
+
+-- who waits in the queue of an object, if somebody does
+abbrev pub queue_line : List Shape → ℕ → List ℕ → List ℕ
+queue_line shapes object [] = []
+queue_line shapes object (caller ∷ callers) =
+    ((codes "queue of " ++ (object_name shapes object ++ codes ":")) ++ actor_names shapes (codes " ") (caller ∷ callers)) ++ 10 ∷ []
+
+-- objects, the first of which has this number
+abbrev pub queue_lines : List Shape → ℕ → List (List ℕ) → List ℕ
+queue_lines shapes object [] = []
+queue_lines shapes object (queue ∷ queues) = queue_line shapes object queue ++ queue_lines shapes (object + 1) queues
+
+-- who waits on a suspension object, if somebody does
+abbrev pub waiter_line : List Shape → ℕ → Option ℕ → List ℕ
+waiter_line shapes object None = []
+waiter_line shapes object (Some actor) =
+    codes "suspended on " ++ (object_name shapes object ++ (codes ": " ++ (actor_text (who shapes actor) ++ 10 ∷ [])))
+
+abbrev pub waiter_lines : List Shape → ℕ → List (Option ℕ) → List ℕ
+waiter_lines shapes object [] = []
+waiter_lines shapes object (waiter ∷ waiters) = waiter_line shapes object waiter ++ waiter_lines shapes (object + 1) waiters
+
+abbrev pub halted_word : Bool → List ℕ
+halted_word true = codes ", halted"
+halted_word false = []
+
+-- the clock, the room and the list
+abbrev pub head_text : Shown → List ℕ
+head_text view =
+    codes "clock " ++ (decimal view.clock ++ (halted_word view.halted ++ (codes "\nroom for " ++ (decimal view.room
+    ++ (codes " entries beside those that are owed\nlist version " ++ (decimal view.version ++ (codes ", lines " ++ (decimal (length view.list) ++ 10 ∷ []))))))))
+
+-- what the tasks are at, and who waits where
+abbrev pub actors_text : List Shape → Shown → List ℕ
+actors_text shapes view =
+    task_lines shapes first_task view.modes ++ (queue_lines shapes 1 view.queues ++ waiter_lines shapes 1 view.waiters)
+
+-- The clock, the room, the list, the tasks, who waits where, and, of the entries that were counted, how many the tasks of each
+-- unit have added.
+abbrev pub status_text : List Shape → List Entry → Shown → List ℕ
+status_text shapes entries view =
+    (head_text view ++ actors_text shapes view) ++ room_line shapes entries view.capacity view.used
