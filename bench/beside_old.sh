@@ -4,30 +4,33 @@
 # optimised, with the checks of a trial: so both sides say what they are to each other, and not what a proved program takes.
 # It is no test.
 #
-#     bench/beside_old.sh [--rounds N] [--only step|ports|check|count] [OLD [BETWEEN..]]
+#     bench/beside_old.sh [--rounds N] [--only step|ports|check|count|build] [--programs FOLDER] [OLD [BETWEEN..]]
 #
 # OLD is the commit to be compared with, by default the last before one type stood for one thing (fb21be4). For each commit
-# BETWEEN the instructions of a step are counted too, so that it is seen what came with what. It needs rt, git and python3;
-# trials of two programs, each twice, take a quarter of an hour of one core. Statuses: 0 done, 1 something wasn't built or
-# done, 2 usage, 127 a tool is missing.
+# BETWEEN the instructions of a step are counted too, so that it is seen what came with what. The programs stay in FOLDER,
+# where one is named, and a program that is there isn't built again: so they may be built (`--only build`) before a machine is
+# idle. It needs rt, git and python3; all trials take a quarter of an hour of one core. Statuses: 0 done, 1 something wasn't
+# built or done, 2 usage, 127 a tool is missing.
 set -eu
 
 bench=$(dirname "$(readlink -f "$0")")
 . "$bench/shared/measuring.sh"
 needs rt git python3 nproc cut tar
 top=$(dirname "$bench")
-rounds=5 only="step ports check count"
+rounds=5 only="step ports check count" programs=
 while [ $# -gt 0 ]; do
     case $1 in
         --rounds) rounds=$2 && shift 2 ;;
         --only) only=$2 && shift 2 ;;
-        -*) echo "usage: bench/beside_old.sh [--rounds N] [--only PART] [OLD [BETWEEN..]]" >&2 && exit 2 ;;
+        --programs) mkdir -p "$2" && programs=$(readlink -f "$2") && shift 2 ;;
+        -*) echo "usage: bench/beside_old.sh [--rounds N] [--only PART] [--programs FOLDER] [OLD [BETWEEN..]]" >&2 && exit 2 ;;
         *) break ;;
     esac
 done
 [ $# -gt 0 ] || set -- fb21be4
 old=$1
 take_folder
+if [ -z "$programs" ]; then programs=$folder/programs && mkdir "$programs"; fi
 
 # A kit that differs in two things: its clang optimises trials, and the linked program is copied to the place that kit/kept
 # names (a trial's tools get no environment).
@@ -55,7 +58,8 @@ exec "$kit/toolchain/bin/clang" "\${words[@]}"
 WRAPPER
     cat >"$folder/kit/toolchain/bin/ld.lld" <<WRAPPER
 #!/usr/bin/env bash
-"$kit/toolchain/bin/ld.lld" "\$@" || exit
+# (valgrind doesn't read what the kit's clang tells a debugger)
+"$kit/toolchain/bin/ld.lld" --strip-debug "\$@" || exit
 made=
 for word in "\$@"; do
     [ "\$made" != -o ] || cp "\$word" "\$(cat "$folder/kit/kept")"
@@ -81,9 +85,10 @@ lay_sources() {
     fi
 }
 
-# Builds a program of sources that were laid: build SOURCES CRATE.
+# Builds a program of sources that were laid, where it isn't there: build SOURCES CRATE.
 build() {
-    local kept=$folder/$1.$2
+    local kept=$programs/$1.$2
+    [ ! -x "$kept" ] || return 0
     echo "building $2 of $1, as a trial" >&2
     echo "$kept" >"$folder/kit/kept"
     (cd "$folder/$1/crates/$2" && "$folder/kit/bin/rt" try --steps 1 -- usage) >"$folder/log" 2>&1 </dev/null || true
@@ -95,9 +100,9 @@ bench_of() {
     if [ -d "$folder/$1/crates/rv_bench" ]; then echo rv_bench; else echo "$2_bench"; fi
 }
 
-# Where a part was asked for.
+# Where a part was asked for. All of them are built for.
 is_asked() {
-    case " $only " in *" $1 "*) ;; *) return 1 ;; esac
+    case " $only " in *" $1 "* | *" build "*) ;; *) return 1 ;; esac
 }
 
 lay_kit
@@ -107,20 +112,22 @@ for sources in now "$@"; do
 done
 for sources in now "$old"; do
     name=$(bench_of "$sources" port)
-    if is_asked ports && [ ! -e "$folder/$sources.$name" ]; then build "$sources" "$name"; fi
+    if is_asked ports; then build "$sources" "$name"; fi
     if is_asked check; then build "$sources" ravenhost; fi
 done
 
+case " $only " in *" build "*) exit 0 ;; esac
+
 machine
-python3 - "$folder" "$rounds" "$only" "$@" <<'EOF'
+python3 - "$folder" "$programs" "$rounds" "$only" "$@" <<'EOF'
 import os, re, shutil, subprocess, sys
-folder, rounds, only, *commits = sys.argv[1:]
+folder, programs, rounds, only, *commits = sys.argv[1:]
 rounds, only, old = int(rounds), only.split(), commits[0]
 
 
 def program(sources, part):
     for name in ("rv_bench", f"{part}_bench"):
-        path = f"{folder}/{sources}.{name}"
+        path = f"{programs}/{sources}.{name}"
         if os.path.exists(path):
             return path, name == "rv_bench"
     sys.exit(f"bench/beside_old.sh: no bench of {sources}")
@@ -156,9 +163,6 @@ def in_turn(what, measure):
 
 
 def instructions(path, times):
-    ran = subprocess.run(["valgrind", "--tool=none", "--log-file=/dev/null", "true"], check=False)
-    if ran.returncode:
-        sys.exit("bench/beside_old.sh: valgrind doesn't run")
     out = f"{folder}/callgrind.out"
     told = subprocess.run(["valgrind", "--tool=callgrind", f"--callgrind-out-file={out}", path, "step", str(times)],
                           stdout=subprocess.DEVNULL, stderr=subprocess.PIPE, check=True, text=True).stderr
@@ -181,5 +185,5 @@ elif "count" in only:
 EOF
 if is_asked check; then
     echo "check, now beside $old:"
-    "$bench/check_text.sh" "$folder/now.ravenhost" "$folder/$old.ravenhost" || echo "(over an aim, by trials)"
+    "$bench/check_text.sh" "$programs/now.ravenhost" "$programs/$old.ravenhost" || echo "(over an aim, by trials)"
 fi
