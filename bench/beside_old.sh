@@ -32,15 +32,17 @@ old=$1
 take_folder
 if [ -z "$programs" ]; then programs=$folder/programs && mkdir "$programs"; fi
 
-# A kit that differs in two things: its clang optimises trials, and the linked program is copied to the place that kit/kept
-# names (a trial's tools get no environment).
+# A kit that differs in three things: its clang optimises trials, they are linked without a sanitizer, and the linked program
+# is copied to the place that kit/kept names (a trial's tools get no environment).
 lay_kit() {
     local kit part
     kit=$(dirname "$(readlink -f "$(rt doc)")")
-    mkdir -p "$folder/kit/bin" "$folder/kit/toolchain/bin"
+    mkdir -p "$folder/kit/bin" "$folder/kit/c" "$folder/kit/toolchain/bin"
     for part in "$kit"/*; do
-        case ${part##*/} in bin | toolchain) ;; *) ln -s "$part" "$folder/kit/" ;; esac
+        case ${part##*/} in bin | c | toolchain) ;; *) ln -s "$part" "$folder/kit/" ;; esac
     done
+    for part in "$kit"/c/*; do ln -s "$part" "$folder/kit/c/"; done
+    rm "$folder/kit/c/asan.a" && printf '!<arch>\n' >"$folder/kit/c/asan.a"
     for part in "$kit"/toolchain/*; do [ "${part##*/}" = bin ] || ln -s "$part" "$folder/kit/toolchain/"; done
     for part in "$kit"/toolchain/bin/*; do ln -s "$part" "$folder/kit/toolchain/bin/"; done
     for part in "$kit"/bin/*; do ln -s "$part" "$folder/kit/bin/"; done
