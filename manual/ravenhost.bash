@@ -5,10 +5,10 @@
 _ravenhost_flags() {
     case $1 in
         "") echo "-h --help -V --version" ;;
-        play) echo "--all --explain --notes --warnings-are-errors -h --help" ;;
-        check) echo "--explain --script --notes --warnings-are-errors -h --help" ;;
-        run) echo "--journal --sync --explain --halt-below --quota --tick --stop-by --console --notes --warnings-are-errors -h --help" ;;
-        audit) echo "--journal --torn --explain -h --help" ;;
+        play) echo "--all --explain --notes --warnings-are-errors --color -h --help" ;;
+        check) echo "--explain --script --notes --warnings-are-errors --color -h --help" ;;
+        run) echo "--journal --sync --explain --halt-below --quota --tick --stop-by --console --notes --warnings-are-errors --color -h --help" ;;
+        audit) echo "--journal --torn --explain --color -h --help" ;;
     esac
 }
 
@@ -25,6 +25,7 @@ _ravenhost_value() {
     case $1 in
         --install) echo "folders" ;;
         --notes) echo "auto always never" ;;
+        --color) echo "auto always never" ;;
         --journal) echo "files" ;;
         --sync) echo "each second never" ;;
         --halt-below) echo "100 1000 10000" ;;

@@ -6,10 +6,10 @@ use Rattle.clap.specs.Walk.{Row, Text, first_of, one_of}
 use Rattle.clap.proofs.OnLiterals.{clap_on_literals}
 use Rattle.rv_choice.specs.declared.chosen.Choice.{Choice}
 use Rattle.rv_choice.specs.declared.chosen.Choice.TheVariants.{Play, Check, Run, Audit, AuditFile}
-use Rattle.rv_choice.specs.declared.chosen.Notes.{Notes}
-use Rattle.rv_choice.specs.declared.chosen.Notes.TheVariants.{Auto}
+use Rattle.rv_choice.specs.declared.chosen.When.{When}
+use Rattle.rv_choice.specs.declared.chosen.When.TheVariants.{Auto}
 use Rattle.rv_choice.specs.declared.chosen.Sync.TheVariants.{Second}
-use Rattle.rv_choice.specs.Choices.{HasNoFile, HasNoRun, HasNoWord, IsFlag, IsJournal, IsNoted, IsRunning, LacksFile, Names, NamesNone, audit_of, line_of, longest_period, most_entries, no_run, notes_of, number_of, program, sync_of}
+use Rattle.rv_choice.specs.Choices.{HasNoColor, HasNoFile, HasNoNotes, HasNoRun, HasNoWord, IsFlag, IsJournal, IsNoted, IsRunning, LacksFile, Names, NamesNone, audit_of, line_of, longest_period, most_entries, no_run, number_of, program, sync_of, when_of}
 
 -- The plain lines.
 
@@ -109,12 +109,34 @@ run_notes : (name : Text) → notes_in (subcommand_of program (name ∷ line_of 
 unfolding clap_on_literals
 run_notes name = refl
 
+-- no word for colours
+abbrev color_in : Option (Text × List Row) → Option (Option Text)
+color_in = option_map (λ (p : Text × List Row). first_of (codes "color") p.1)
+
+any_color : (name : Text) (choice : Choice) → color_in (subcommand_of program (name ∷ line_of choice)) ≡ Some None
+unfolding clap_on_literals
+any_color name (Play true) = refl
+any_color name (Play false) = refl
+any_color name (Check true) = refl
+any_color name (Check false) = refl
+any_color name Run = refl
+any_color name Audit = refl
+any_color name (AuditFile true) = refl
+any_color name (AuditFile false) = refl
+
 -- which is none that is wrong
-has_word : (q : Option (Text × List Row)) (found : Text × List Row) → q ≡ Some found → notes_in q ≡ Some None → HasNoWord found.1 → ⊥
-has_word q found e f none =
-    let is : first_of (codes "notes") found.1 ≡ None = ap (λ (o : Option (Option Text)). unwrap_or o None) (sym (ap notes_in e) ∙ f) in
-    let both : Some Auto ≡ None = sym (ap notes_of is) ∙ none in
+has_color : (q : Option (Text × List Row)) (found : Text × List Row) → q ≡ Some found → color_in q ≡ Some None → HasNoColor found.1 → ⊥
+has_color q found e f none =
+    let is : first_of (codes "color") found.1 ≡ None = ap (λ (o : Option (Option Text)). unwrap_or o None) (sym (ap color_in e) ∙ f) in
+    let both : Some Auto ≡ None = sym (ap when_of is) ∙ none in
     absurd cc
+
+has_word : (q : Option (Text × List Row)) (found : Text × List Row) → q ≡ Some found → notes_in q ≡ Some None → color_in q ≡ Some None → HasNoWord found.1 → ⊥
+has_word q found e f g (inl none) =
+    let is : first_of (codes "notes") found.1 ≡ None = ap (λ (o : Option (Option Text)). unwrap_or o None) (sym (ap notes_in e) ∙ f) in
+    let both : Some Auto ≡ None = sym (ap when_of is) ∙ none in
+    absurd cc
+has_word q found e f g (inr none) = has_color q found e g none
 
 -- no word for syncs
 abbrev sync_in : Option (Text × List Row) → Option (Option Text)
@@ -245,23 +267,28 @@ names_it name choice other found e n =
 -- what is found of a plain line is a choice's
 none_chosen : (name : Text) (choice : Choice) (m : Option (Text × List Row)) → m ≡ subcommand_of program (name ∷ line_of choice) → ((found : Text × List Row) → m ≡ Some found → NamesNone found)
     → (found : Text × List Row) → m ≡ Some found → found.0 ≡ word_of choice → ⊥
-none_chosen name (Play all) m e none found is w = has_word _ found (sym e ∙ is) (play_notes name all) ((none found is).0 w)
-none_chosen name (Check whole) m e none found is w = has_word _ found (sym e ∙ is) (check_notes name whole) ((none found is).1 w)
+none_chosen name (Play all) m e none found is w = has_word _ found (sym e ∙ is) (play_notes name all) (any_color name (Play all)) ((none found is).0 w)
+none_chosen name (Check whole) m e none found is w = has_word _ found (sym e ∙ is) (check_notes name whole) (any_color name (Check whole)) ((none found is).1 w)
 none_chosen name Run m e none found is w = no_wrong ((none found is).2 w)
   where
     no_wrong : HasNoWord found.1 ⊎ HasNoRun found.1 → ⊥
-    no_wrong (inl word) = has_word _ found (sym e ∙ is) (run_notes name) word
+    no_wrong (inl word) = has_word _ found (sym e ∙ is) (run_notes name) (any_color name Run) word
     no_wrong (inr (inl file)) = has_file _ found (sym e ∙ is) (run_sync name) file
     no_wrong (inr (inr (inl tick))) = has_number longest_period (codes "tick") _ found (sym e ∙ is) (run_tick name) tick
     no_wrong (inr (inr (inr (inl halt)))) = has_number most_entries (codes "halt-below") _ found (sym e ∙ is) (run_halt name) halt
     no_wrong (inr (inr (inr (inr quota)))) = has_number most_entries (codes "quota") _ found (sym e ∙ is) (run_quota name) quota
-none_chosen name Audit m e none found is w =
-    let n = (none found is).3 w in
-    true≢false (n.0.1 (row_found (codes "torn") (Some (flag_text false)) _ found (sym e ∙ is) (no_torn name)))
-none_chosen name (AuditFile torn) m e none found is w =
-    let n = (none found is).3 w in
-    let file : None ≡ Some (codes "J") = sym n.1 ∙ file_found (Some (codes "J")) _ found (sym e ∙ is) (some_file name torn) in
-    absurd cc
+none_chosen name Audit m e none found is w = no_wrong ((none found is).3 w)
+  where
+    no_wrong : LacksFile found.1 ⊎ HasNoColor found.1 → ⊥
+    no_wrong (inl n) = true≢false (n.0.1 (row_found (codes "torn") (Some (flag_text false)) _ found (sym e ∙ is) (no_torn name)))
+    no_wrong (inr color) = has_color _ found (sym e ∙ is) (any_color name Audit) color
+none_chosen name (AuditFile torn) m e none found is w = no_wrong ((none found is).3 w)
+  where
+    no_wrong : LacksFile found.1 ⊎ HasNoColor found.1 → ⊥
+    no_wrong (inl n) =
+        let file : None ≡ Some (codes "J") = sym n.1 ∙ file_found (Some (codes "J")) _ found (sym e ∙ is) (some_file name torn) in
+        absurd cc
+    no_wrong (inr color) = has_color _ found (sym e ∙ is) (any_color name (AuditFile torn)) color
 
 -- what is found of a plain line names its choice
 pub line_named : (name : Text) (choice other : Choice) (m : Option (Text × List Row)) → m ≡ subcommand_of program (name ∷ line_of choice) → (found : Text × List Row) → m ≡ Some found → Names found other → other ≡ choice
@@ -305,7 +332,7 @@ flag_alone found None n false is flag e = absurd cc
 flag_alone found (Some f) n torn is flag e = absurd cc
 
 -- what `audit` chooses looks at no lists
-pub unnoted : (found : Text × List Row) (choice : Choice) (notes : Notes) (errors : Bool) → found.0 ≡ codes "audit" → Names found choice → errors ≡ false → IsNoted found choice notes errors
+pub unnoted : (found : Text × List Row) (choice : Choice) (notes : When) (errors : Bool) → found.0 ≡ codes "audit" → Names found choice → errors ≡ false → IsNoted found choice notes errors
 unnoted found (Play all) notes errors w n e = absurd (no_audit (sym n.0 ∙ w))
 unnoted found (Check whole) notes errors w n e = absurd (check_no_audit (sym n.0 ∙ w))
 unnoted found Run notes errors w n e = absurd (run_no_audit (sym n ∙ w))

@@ -1,7 +1,8 @@
 -- The command line (own): `play`, which may be given `--all`, `check`, which may be given `--script`, and `run`, which may be
--- given `--journal FILE` and, with it, `--sync HOW`, `--halt-below N`, `--quota N`, `--tick MS`, `--stop-by PIPE` and `--console`, all three with `--notes WHEN` and `--warnings-are-errors`; and `audit`, which
--- may be given `--journal FILE` and, with it, `--torn`. Each may be given `--explain`. What words come to is what `clap` says of
--- this command.
+-- given `--journal FILE` and, with it, `--sync HOW`, `--halt-below N`, `--quota N`, `--tick MS`, `--stop-by PIPE` and `--console`,
+-- all three with `--notes WHEN` and `--warnings-are-errors`; and `audit`, which
+-- may be given `--journal FILE` and, with it, `--torn`. Each may be given `--explain` and `--color WHEN`. What words come to is what
+-- `clap` says of this command.
 use Rattle.std.specs.Prelude.{◌≡◌, ◌⊎◌, ℕ, Bool, true, false, ◌&&◌, nat_le, nat_lt, if◌then◌else◌, List, [], ◌∷◌, Option, Some, None, codes}
 use Rattle.std.specs.Str.{bytes_eq}
 use Rattle.clap.specs.Words.{App, Row, Rule, new_app, new_rule, subcommand_of, with_rule, with_subcommand}
@@ -11,9 +12,9 @@ use Rattle.clap.specs.declared.builder.action.ArgAction.TheVariants.{Set, SetTru
 use Rattle.rv_text.specs.Numbers.{natural_of}
 use Rattle.rv_choice.specs.declared.chosen.Choice.{Choice}
 use Rattle.rv_choice.specs.declared.chosen.Choice.TheVariants.{Play, Check, Run, Audit, AuditFile}
-use Rattle.rv_choice.specs.declared.chosen.Notes.{Notes}
-use Rattle.rv_choice.specs.declared.chosen.Notes.TheVariants.{Auto, Always}
-use Rattle.rv_choice.specs.declared.chosen.Notes.TheVariants as NotesWords
+use Rattle.rv_choice.specs.declared.chosen.When.{When}
+use Rattle.rv_choice.specs.declared.chosen.When.TheVariants.{Auto, Always}
+use Rattle.rv_choice.specs.declared.chosen.When.TheVariants as Whens
 use Rattle.rv_choice.specs.declared.chosen.Sync.{Sync}
 use Rattle.rv_choice.specs.declared.chosen.Sync.TheVariants.{Each, Second, Never}
 use Rattle.rv_choice.specs.declared.chosen.Unchosen.{Unchosen}
@@ -31,15 +32,23 @@ explain_rule = flag_rule (codes "explain")
 abbrev pub notes_rule : Rule
 notes_rule = record (new_rule (codes "notes")) { long = Some (codes "notes"); action = Some Set; value_names = 1 }
 
+-- a flag with a value
+abbrev pub value_rule : Text → Rule
+value_rule name = record (new_rule name) { long = Some name; action = Some Set; value_names = 1 }
+
 -- what looks at lists may be told when notes are told, and that they are errors
 abbrev pub with_notes : App → App
 with_notes app = with_rule (with_rule app notes_rule) (flag_rule (codes "warnings-are-errors"))
 
+-- each may be told when there are colours
+abbrev pub with_color : App → App
+with_color app = with_rule app (value_rule (codes "color"))
+
 abbrev pub playing : App
-playing = with_notes (with_rule (with_rule (new_app (codes "play")) (flag_rule (codes "all"))) explain_rule)
+playing = with_color (with_notes (with_rule (with_rule (new_app (codes "play")) (flag_rule (codes "all"))) explain_rule))
 
 abbrev pub checked : App
-checked = with_notes (with_rule (with_rule (new_app (codes "check")) explain_rule) (flag_rule (codes "script")))
+checked = with_color (with_notes (with_rule (with_rule (new_app (codes "check")) explain_rule) (flag_rule (codes "script"))))
 
 -- the name of a file, and when it is synced
 abbrev pub file_rule : Rule
@@ -47,10 +56,6 @@ file_rule = record (new_rule (codes "journal")) { long = Some (codes "journal");
 
 abbrev pub sync_rule : Rule
 sync_rule = record (new_rule (codes "sync")) { long = Some (codes "sync"); action = Some Set; value_names = 1 }
-
--- a flag with a value
-abbrev pub value_rule : Text → Rule
-value_rule name = record (new_rule name) { long = Some name; action = Some Set; value_names = 1 }
 
 -- `run`, which may keep its journal in a file
 abbrev pub keeping : App
@@ -69,14 +74,14 @@ abbrev pub consoled : App
 consoled = with_rule attending (flag_rule (codes "console"))
 
 abbrev pub running : App
-running = with_notes consoled
+running = with_color (with_notes consoled)
 
 -- `audit`, which may be given the name of a file, and two flags
 abbrev pub judging : App
 judging = with_rule (with_rule (new_app (codes "audit")) file_rule) (flag_rule (codes "torn"))
 
 abbrev pub audited : App
-audited = with_rule judging explain_rule
+audited = with_color (with_rule judging explain_rule)
 
 -- the program, of which one subcommand must be named
 abbrev pub versioned : App
@@ -107,21 +112,21 @@ abbrev pub IsJournal : Text × List Row → Option Text → Type 0
 IsJournal found None = found.0 ≡ codes "audit" → first_of (codes "journal") found.1 ≡ None
 IsJournal found (Some file) = (found.0 ≡ codes "audit") × (first_of (codes "journal") found.1 ≡ Some file)
 
--- when notes are told, by the word that is given, if it is one of these
-abbrev pub notes_of : Option Text → Option Notes
-notes_of None = Some Auto
-notes_of (Some word) =
+-- when something is told or shown, by the word that is given, if it is one of these
+abbrev pub when_of : Option Text → Option When
+when_of None = Some Auto
+when_of (Some word) =
     if bytes_eq word (codes "auto") then Some Auto
     else if bytes_eq word (codes "always") then Some Always
-    else if bytes_eq word (codes "never") then Some NotesWords.Never
+    else if bytes_eq word (codes "never") then Some Whens.Never
     else None
 
 -- when they are told, and whether they are errors, by what a subcommand was given
-abbrev pub Tells : List Row → Notes → Bool → Type 0
-Tells rows notes errors = (notes_of (first_of (codes "notes") rows) ≡ Some notes) × IsFlag (one_of (codes "warnings-are-errors") rows) errors
+abbrev pub Tells : List Row → When → Bool → Type 0
+Tells rows notes errors = (when_of (first_of (codes "notes") rows) ≡ Some notes) × IsFlag (one_of (codes "warnings-are-errors") rows) errors
 
 -- the same, for `play`, `check` and `run`
-abbrev pub IsNoted : Text × List Row → Choice → Notes → Bool → Type 0
+abbrev pub IsNoted : Text × List Row → Choice → When → Bool → Type 0
 IsNoted found (Play all) notes errors = Tells found.1 notes errors
 IsNoted found (Check whole) notes errors = Tells found.1 notes errors
 IsNoted found Run notes errors = Tells found.1 notes errors
@@ -206,9 +211,15 @@ abbrev pub IsRunning : Text × List Row → Choice → RunWords → Type 0
 IsRunning found Run run = IsRun found.1 run
 IsRunning found choice run = run ≡ no_run
 
--- the word that was given is another
+-- the word that was given for notes, or for colours, is another
+abbrev pub HasNoNotes : List Row → Type 0
+HasNoNotes rows = when_of (first_of (codes "notes") rows) ≡ None
+
+abbrev pub HasNoColor : List Row → Type 0
+HasNoColor rows = when_of (first_of (codes "color") rows) ≡ None
+
 abbrev pub HasNoWord : List Row → Type 0
-HasNoWord rows = notes_of (first_of (codes "notes") rows) ≡ None
+HasNoWord rows = HasNoNotes rows ⊎ HasNoColor rows
 
 -- what `audit` comes to: a flag without a file chooses nothing
 abbrev pub audit_of : Bool → Bool → Option Choice
@@ -220,23 +231,23 @@ audit_of false false = Some Audit
 abbrev pub LacksFile : List Row → Type 0
 LacksFile rows = IsFlag (one_of (codes "torn") rows) true × (first_of (codes "journal") rows ≡ None)
 
--- no choice has the name of what was found, or notes have another word, or a file is missing
+-- no choice has the name of what was found, or notes or colours have another word, or a file is missing
 abbrev pub NamesNone : Text × List Row → Type 0
 NamesNone found = (found.0 ≡ codes "play" → HasNoWord found.1) × (found.0 ≡ codes "check" → HasNoWord found.1) × (found.0 ≡ codes "run" → HasNoWord found.1 ⊎ HasNoRun found.1)
-    × (found.0 ≡ codes "audit" → LacksFile found.1)
+    × (found.0 ≡ codes "audit" → LacksFile found.1 ⊎ HasNoColor found.1)
 
--- a subcommand with what it was given is a choice, with a file that is judged where there is one, what becomes of notes, whether
--- there are explanations, and what a run does beside its commands
-abbrev pub IsSelection : Text × List Row → Choice → Option Text → Notes → Bool → Bool → RunWords → Type 0
-IsSelection found choice file notes errors explains run =
+-- a subcommand with what it was given is a choice, with a file that is judged where there is one, what becomes of notes, when there
+-- are colours, whether there are explanations, and what a run does beside its commands
+abbrev pub IsSelection : Text × List Row → Choice → Option Text → When → Bool → When → Bool → RunWords → Type 0
+IsSelection found choice file notes errors color explains run =
     Names found choice × IsJournal found file × IsNoted found choice notes errors × IsExplaining found explains
-    × IsRunning found choice run
+    × IsRunning found choice run × (when_of (first_of (codes "color") found.1) ≡ Some color)
 
 -- the words name such a choice
-abbrev pub Chooses : List Text → Choice → Option Text → Notes → Bool → Bool → RunWords → Type 0
-Chooses words choice file notes errors explains run =
+abbrev pub Chooses : List Text → Choice → Option Text → When → Bool → When → Bool → RunWords → Type 0
+Chooses words choice file notes errors color explains run =
     (found : Text × List Row) × (subcommand_of program words ≡ Some found)
-    × IsSelection found choice file notes errors explains run
+    × IsSelection found choice file notes errors color explains run
 
 -- where `clap` takes the words, nothing is chosen only for want of memory, or where its matches name no choice
 abbrev pub Lacks : List Text → Unchosen → Type 0

@@ -6,7 +6,7 @@ ghost use Rattle.clap.specs.Matches.{found_of};
 ghost use Rattle.clap.specs.Walk.{Row, Text, first_of, one_of, rows_of};
 ghost use Rattle.clap.specs.declared.builder.command.Command.TheViews.{out-Command as fields_of};
 ghost use Rattle.rv_choice.specs.declared.chosen.Unchosen.TheVariants as Unchosen;
-ghost use Rattle.rv_choice.specs.Choices.{Chooses, HasNoFile, HasNoFileAs, HasNoRun, HasNoWord, IsFlag, IsRun, IsSelection, Keeps, KeepsAs, Lacks, LacksFile, NamesNone, Tells, attending, audit_of, audited, checked, consoled, file_rule, flag_rule, guarding, judging, keeping, line_of, notes_of, notes_rule, playing, program, running, number_of, sync_of, sync_rule, value_rule, with_notes};
+ghost use Rattle.rv_choice.specs.Choices.{Chooses, HasNoFile, HasNoColor, HasNoFileAs, HasNoNotes, HasNoRun, HasNoWord, IsFlag, IsRun, IsSelection, Keeps, KeepsAs, Lacks, LacksFile, NamesNone, Tells, attending, audit_of, audited, checked, consoled, file_rule, flag_rule, guarding, judging, keeping, line_of, notes_rule, playing, program, running, number_of, sync_of, sync_rule, value_rule, when_of, with_color, with_notes};
 
 use clap::error::ErrorKind;
 use clap::{Arg, ArgAction, ArgMatches, Command, Error};
@@ -29,9 +29,9 @@ pub enum Choice {
     AuditFile(bool),
 }
 
-/// When notes on lists are told, on standard error.
+/// When notes are told, or colours shown, on standard error.
 #[derive(Clone, Copy, Debug, Drop, PartialEq, Eq)]
-pub enum Notes {
+pub enum When {
     /// Where standard error is a terminal.
     Auto,
     Always,
@@ -96,7 +96,9 @@ pub struct Selection<'a> {
     /// What the program is to do.
     pub choice: Choice,
     /// When notes on the lists of a script are told.
-    pub notes: Notes,
+    pub notes: When,
+    /// When standard error has colours.
+    pub color: When,
     /// Whether such a note ends the program before the first step.
     pub are_errors: bool,
     /// The name of the file that holds a journal, where one is given.
@@ -160,6 +162,20 @@ fn notes_flag<'a>(alloc: Global) -> Arg<'a>
         .action(ArgAction::Set)
 }
 
+// When standard error has colours.
+fn color_flag<'a>(alloc: Global) -> Arg<'a>
+    ensures rule { rule_of result ≡ value_rule (codes "color") }
+    ensures local { result.global ≡ false }
+{
+    Arg::new(alloc, "color")
+        .long("color")
+        .value_name("WHEN")
+        .help(
+            "Show colours on standard error: auto (at a terminal, unless NO_COLOR is set), always or never",
+        )
+        .action(ArgAction::Set)
+}
+
 // The name of a journal's file.
 fn file_arg<'a>(alloc: Global, help: &'a str) -> Arg<'a>
     ensures rule { rule_of result ≡ file_rule }
@@ -200,6 +216,15 @@ fn noted<'a>(alloc: Global, command: Command<'a>) -> Result<Command<'a>, AllocEr
     command.arg(notes_flag(alloc))?.arg(are_errors)
 }
 
+// A subcommand that may be told when standard error has colours.
+fn coloured<'a>(alloc: Global, command: Command<'a>) -> Result<Command<'a>, AllocError>
+    requires { (fields_of command).has_globals ≡ false }
+    ensures app { IfOk result (λ c. app_of c ≡ with_color (app_of command.entry)) }
+    ensures local { IfOk result (λ c. (fields_of c).has_globals ≡ false) }
+{
+    command.arg(color_flag(alloc))
+}
+
 // An argument with a value that has a name.
 fn valued<'a>(alloc: Global, name: &'a str, value: &'a str, help: &'a str) -> Arg<'a>
     ensures rule { rule_of result ≡ value_rule name.now }
@@ -231,7 +256,8 @@ fn play_subcommand<'a>(alloc: Global) -> Result<Command<'a>, AllocError>
         .after_help("Example: ravenhost play --all < examples/first.raven")
         .arg(all)?
         .arg(explain_flag(alloc, FAULT_HELP))?;
-    noted(alloc, command)
+    let command = noted(alloc, command)?;
+    coloured(alloc, command)
 }
 
 // The subcommand `check`, which may explain a fault, and look at whole scripts.
@@ -249,7 +275,8 @@ fn check_subcommand<'a>(alloc: Global) -> Result<Command<'a>, AllocError>
         .after_help("Example: ravenhost check --script --explain < examples/first.raven")
         .arg(explain_flag(alloc, FAULT_HELP))?
         .arg(whole)?;
-    noted(alloc, command)
+    let command = noted(alloc, command)?;
+    coloured(alloc, command)
 }
 
 // The subcommand `run`, which may keep its journal in a file, and explain a fault.
@@ -330,7 +357,8 @@ fn run_subcommand<'a>(alloc: Global) -> Result<Command<'a>, AllocError>
     ensures local { IfOk result (λ c. (fields_of c).has_globals ≡ false) }
 {
     let command = consoled_subcommand(alloc)?;
-    noted(alloc, command)
+    let command = noted(alloc, command)?;
+    coloured(alloc, command)
 }
 
 // The subcommand `audit`, which may be given a file and a flag that goes with it.
@@ -365,7 +393,8 @@ fn audit_subcommand<'a>(alloc: Global) -> Result<Command<'a>, AllocError>
         alloc,
         "Also say whether each body ended as its text means on the entries since it started",
     );
-    judging_subcommand(alloc)?.arg(explain)
+    let command = judging_subcommand(alloc)?.arg(explain)?;
+    coloured(alloc, command)
 }
 
 // The command line that the program takes.
@@ -399,34 +428,41 @@ fn audit_of(has_journal: bool, takes_torn: bool) -> Option<Choice>
     Some(Choice::Audit)
 }
 
-// When notes are told, by the word that was given; none for another word.
-fn notes_of(word: Option<&str>) -> Option<Notes>
-    ensures { result ≡ notes_of (option_map (λ w. w.now) word.entry) }
+// When something is told or shown, by the word that was given; none for another word.
+fn when_of(word: Option<&str>) -> Option<When>
+    ensures { result ≡ when_of (option_map (λ w. w.now) word.entry) }
 {
     let Some(word) = word else {
-        return Some(Notes::Auto);
+        return Some(When::Auto);
     };
     if word == "auto" {
-        return Some(Notes::Auto);
+        return Some(When::Auto);
     }
     if word == "always" {
-        return Some(Notes::Always);
+        return Some(When::Always);
     }
     if word == "never" {
-        return Some(Notes::Never);
+        return Some(When::Never);
     }
     None
 }
 
 // When notes are told, and whether they are errors, by what a subcommand was given; none where the word is another.
-fn telling_of(words: &ArgMatches<'_>) -> Option<(Notes, bool)>
+fn telling_of(words: &ArgMatches<'_>) -> Option<(When, bool)>
     ensures some { IfSome result (λ t. Tells (rows_of (found_of words.now)) t.0 t.1) }
-    ensures none { IfNone result (HasNoWord (rows_of (found_of words.now))) }
+    ensures none { IfNone result (HasNoNotes (rows_of (found_of words.now))) }
 {
-    match notes_of(words.get_str("notes")) {
+    match when_of(words.get_str("notes")) {
         Some(notes) => Some((notes, words.get_flag("warnings-are-errors"))),
         None => None,
     }
+}
+
+// When standard error has colours, by what a subcommand was given; none where the word is another.
+fn color_of(words: &ArgMatches<'_>) -> Option<When>
+    ensures { result ≡ when_of (first_of (codes "color") (rows_of (found_of words.now))) }
+{
+    when_of(words.get_str("color"))
 }
 
 // When a file is synced, by the word that was given; none for another word.
@@ -552,10 +588,10 @@ const NO_RUN: RunWords<'static> = RunWords {
     console: false,
 };
 
-// What `play` chooses by what it was given; none where notes have another word.
+// What `play` chooses by what it was given; none where notes or colours have another word.
 fn play_chosen<'a>(words: &ArgMatches<'a>) -> Option<Selection<'a>>
     ensures some { IfSome result (λ chosen. IsSelection (codes "play", rows_of (found_of words.now)) chosen.choice
-        (option_map (λ s. s.now) chosen.journal) chosen.notes chosen.are_errors chosen.explains
+        (option_map (λ s. s.now) chosen.journal) chosen.notes chosen.are_errors chosen.color chosen.explains
         (record {
           kept = option_map (λ k. (k.name.now, k.sync)) chosen.run.kept;
           tick = chosen.run.tick;
@@ -566,10 +602,16 @@ fn play_chosen<'a>(words: &ArgMatches<'a>) -> Option<Selection<'a>>
         })) }
     ensures none { IfNone result (HasNoWord (rows_of (found_of words.now))) }
 {
-    let told = telling_of(words)?;
+    let Some(told) = telling_of(words) else {
+        return None;
+    };
+    let Some(color) = color_of(words) else {
+        return None;
+    };
     Some(Selection {
         choice: Choice::Play(words.get_flag("all")),
         notes: told.0,
+        color,
         are_errors: told.1,
         journal: None,
         explains: words.get_flag("explain"),
@@ -577,10 +619,10 @@ fn play_chosen<'a>(words: &ArgMatches<'a>) -> Option<Selection<'a>>
     })
 }
 
-// What `check` chooses; none where notes have another word.
+// What `check` chooses; none where notes or colours have another word.
 fn check_chosen<'a>(words: &ArgMatches<'a>) -> Option<Selection<'a>>
     ensures some { IfSome result (λ chosen. IsSelection (codes "check", rows_of (found_of words.now)) chosen.choice
-        (option_map (λ s. s.now) chosen.journal) chosen.notes chosen.are_errors chosen.explains
+        (option_map (λ s. s.now) chosen.journal) chosen.notes chosen.are_errors chosen.color chosen.explains
         (record {
           kept = option_map (λ k. (k.name.now, k.sync)) chosen.run.kept;
           tick = chosen.run.tick;
@@ -591,10 +633,16 @@ fn check_chosen<'a>(words: &ArgMatches<'a>) -> Option<Selection<'a>>
         })) }
     ensures none { IfNone result (HasNoWord (rows_of (found_of words.now))) }
 {
-    let told = telling_of(words)?;
+    let Some(told) = telling_of(words) else {
+        return None;
+    };
+    let Some(color) = color_of(words) else {
+        return None;
+    };
     Some(Selection {
         choice: Choice::Check(words.get_flag("script")),
         notes: told.0,
+        color,
         are_errors: told.1,
         journal: None,
         explains: words.get_flag("explain"),
@@ -605,7 +653,7 @@ fn check_chosen<'a>(words: &ArgMatches<'a>) -> Option<Selection<'a>>
 // What `run` chooses; none where a flag has another word, or a sync has no file.
 fn run_chosen<'a>(words: &ArgMatches<'a>) -> Option<Selection<'a>>
     ensures some { IfSome result (λ chosen. IsSelection (codes "run", rows_of (found_of words.now)) chosen.choice
-        (option_map (λ s. s.now) chosen.journal) chosen.notes chosen.are_errors chosen.explains
+        (option_map (λ s. s.now) chosen.journal) chosen.notes chosen.are_errors chosen.color chosen.explains
         (record {
           kept = option_map (λ k. (k.name.now, k.sync)) chosen.run.kept;
           tick = chosen.run.tick;
@@ -616,11 +664,19 @@ fn run_chosen<'a>(words: &ArgMatches<'a>) -> Option<Selection<'a>>
         })) }
     ensures none { IfNone result (HasNoWord (rows_of (found_of words.now)) ⊎ HasNoRun (rows_of (found_of words.now))) }
 {
-    let told = telling_of(words)?;
-    let run = run_words(words)?;
+    let Some(told) = telling_of(words) else {
+        return None;
+    };
+    let Some(color) = color_of(words) else {
+        return None;
+    };
+    let Some(run) = run_words(words) else {
+        return None;
+    };
     Some(Selection {
         choice: Choice::Run,
         notes: told.0,
+        color,
         are_errors: told.1,
         journal: None,
         explains: words.get_flag("explain"),
@@ -628,10 +684,10 @@ fn run_chosen<'a>(words: &ArgMatches<'a>) -> Option<Selection<'a>>
     })
 }
 
-// What `audit` chooses; none where a flag has no file.
+// What `audit` chooses; none where a flag has no file, or colours have another word.
 fn audit_chosen<'a>(words: &ArgMatches<'a>) -> Option<Selection<'a>>
     ensures some { IfSome result (λ chosen. IsSelection (codes "audit", rows_of (found_of words.now)) chosen.choice
-        (option_map (λ s. s.now) chosen.journal) chosen.notes chosen.are_errors chosen.explains
+        (option_map (λ s. s.now) chosen.journal) chosen.notes chosen.are_errors chosen.color chosen.explains
         (record {
           kept = option_map (λ k. (k.name.now, k.sync)) chosen.run.kept;
           tick = chosen.run.tick;
@@ -640,13 +696,17 @@ fn audit_chosen<'a>(words: &ArgMatches<'a>) -> Option<Selection<'a>>
           stop = option_map (λ s. s.now) chosen.run.stop_by;
           console = chosen.run.console;
         })) }
-    ensures none { IfNone result (LacksFile (rows_of (found_of words.now))) }
+    ensures none { IfNone result (LacksFile (rows_of (found_of words.now)) ⊎ HasNoColor (rows_of (found_of words.now))) }
 {
     let journal = words.get_str("journal");
     let choice = audit_of(journal.is_some(), words.get_flag("torn"))?;
+    let Some(color) = color_of(words) else {
+        return None;
+    };
     Some(Selection {
         choice,
-        notes: Notes::Never,
+        notes: When::Never,
+        color,
         are_errors: false,
         journal,
         explains: words.get_flag("explain"),
@@ -658,7 +718,7 @@ fn audit_chosen<'a>(words: &ArgMatches<'a>) -> Option<Selection<'a>>
 fn choice_of<'a>(matches: &ArgMatches<'a>) -> Option<Selection<'a>>
     ensures found { IfSome result (λ chosen. (found : Text × List Row) × (subcommand_rows_of matches.now ≡ Some found)
         × IsSelection found chosen.choice (option_map (λ s. s.now) chosen.journal) chosen.notes chosen.are_errors
-        chosen.explains
+        chosen.color chosen.explains
         (record {
           kept = option_map (λ k. (k.name.now, k.sync)) chosen.run.kept;
           tick = chosen.run.tick;
@@ -689,7 +749,7 @@ fn choice_of<'a>(matches: &ArgMatches<'a>) -> Option<Selection<'a>>
 /// What the words of a command line choose, the first of which is the program's name.
 pub fn chosen<'a>(alloc: Global, words: &'a [&'a str]) -> Result<Selection<'a>, Unchosen>
     ensures ok { IfOk result (λ chosen. Chooses (map (λ w. w.now) words.now) chosen.choice
-        (option_map (λ s. s.now) chosen.journal) chosen.notes chosen.are_errors chosen.explains
+        (option_map (λ s. s.now) chosen.journal) chosen.notes chosen.are_errors chosen.color chosen.explains
         (record {
           kept = option_map (λ k. (k.name.now, k.sync)) chosen.run.kept;
           tick = chosen.run.tick;

@@ -67,7 +67,10 @@ pub fn put<W: Write>(writer: &mut W, text: &str) -> Result<Next, LineFault>
 ///
 /// # Errors
 /// `NoMemory` where there was none, `Write` where writing fails.
-pub fn put_made<W: Write>(writer: &mut W, text: Result<String, AllocError>) -> Result<Next, LineFault>
+pub fn put_made<W: Write>(
+    writer: &mut W,
+    text: Result<String, AllocError>,
+) -> Result<Next, LineFault>
     ensures { (bytes : List ℕ) → IfOk text (λ t. string_bytes t ≡ bytes)
         → Writes (W.contents writer.old) (W.contents writer.new) bytes result }
 {

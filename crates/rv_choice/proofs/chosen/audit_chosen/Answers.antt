@@ -1,4 +1,4 @@
-use Rattle.std.proofs.Common.{◌≡◌, ◌∙◌, codes, refl, sym, Some, None}
+use Rattle.std.proofs.Common.{◌≡◌, ◌∙◌, codes, inl, inr, refl, sym, Some, None}
 use Rattle.std.specs.Prelude.{is_some}
 use Rattle.clap.specs.Matches.{found_of}
 use Rattle.clap.specs.Walk.{rows_of}
@@ -20,6 +20,7 @@ returns-clause-some c =
       unnoted (codes "audit", rows_of given) c.in_ok-choice.choice _ _ refl named.0 refl,
       (λ e. c.get_flag-2.ensures.value (one_text-rows given (codes "explain") ∙ e), λ e. c.get_flag-2.ensures.other (one_text-rows given (codes "explain") ∙ e)),
       unrun (codes "audit", rows_of given) c.in_ok-choice.choice refl named.0,
+      sym c.color_of.ensures ∙ c.in-Some.is,
     )
 
 pub returns-in_err-choice-clause-none : goal.returns-in_err-choice-clause-none
@@ -31,4 +32,7 @@ returns-in_err-choice-clause-none c =
     let none = flag_alone (codes "audit", rows_of given) c.get_str-journal.result (λ s. s.now) torn is
     (λ e. c.get_flag.ensures.value (one_text-rows given (codes "torn") ∙ e), λ e. c.get_flag.ensures.other (one_text-rows given (codes "torn") ∙ e))
     (sym (c.get_str-journal.ensures ∙ first_value-rows given (codes "journal"))) in
-    rw c.from_residual.ensures none
+    rw c.from_residual.ensures (inl none)
+
+pub returns-in_default-clause-none : goal.returns-in_default-clause-none
+returns-in_default-clause-none c = inr (sym c.color_of.ensures ∙ c.in_default.is)

@@ -1,4 +1,4 @@
-use Rattle.std.proofs.Common.{◌∙◌, codes, refl}
+use Rattle.std.proofs.Common.{◌∙◌, codes, refl, sym}
 use Rattle.clap.specs.Matches.{found_of}
 use Rattle.clap.proofs.WalkLemmas.{one_text-rows}
 use Rattle.rv_choice.proofs.Choosing.{not_audit_play}
@@ -9,7 +9,8 @@ returns-clause-some c =
     let given = found_of c.args.words.now in (
       (refl, (λ e. c.get_flag.ensures.value (one_text-rows given (codes "all") ∙ e), λ e. c.get_flag.ensures.other (one_text-rows given (codes "all") ∙ e))),
       λ e. absurd (not_audit_play _ refl e),
-      c.in_ok-told.ensures.some,
+      c.in-Some.ensures.some,
       (λ e. c.get_flag-2.ensures.value (one_text-rows given (codes "explain") ∙ e), λ e. c.get_flag-2.ensures.other (one_text-rows given (codes "explain") ∙ e)),
       refl,
+      sym c.color_of.ensures ∙ c.in-Some-color_of.is,
     )
