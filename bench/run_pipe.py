@@ -648,8 +648,9 @@ class Typed:
             came = os.read(self.reads, 65536)
         except OSError:
             return False
-        # At a terminal notes stand between the answers; how the task ended is none of the console's.
-        self.seen = re.sub(r"task Post\.Guard ended: .*\n", "", (self.seen + came.decode()).replace("\r\n", "\n"))
+        # At a terminal notes stand between the answers, in colour; how the task ended is none of the console's.
+        plain = re.sub(r"\x1b\[\d*m", "", (self.seen + came.decode()).replace("\r\n", "\n"))
+        self.seen = re.sub(r"task Post\.Guard ended: .*\n", "", plain)
         return bool(came)
 
     def prompted(self):
