@@ -3,7 +3,7 @@
 
     bench/audit_damage.py [--all] [--program PATH]    # the six rows below, or all rows that the model can play
     bench/audit_damage.py [--all] --write FOLDER      # a file for each case instead, NAME and NAME.stdout, with NAME.args
-    bench/audit_damage.py --rows                      # the files of the six rows and of one of its own that crates/audit_rows plays
+    bench/audit_damage.py --rows                      # the files of the six rows and of one of its own that crates/host_rows plays
 
 Each entry is taken out, doubled and exchanged with its neighbour, with the numbers as they were and numbered anew; each digit is
 changed; each word is doubled; each letter is put into the other case; a carriage return is put before each line feed and into the
@@ -30,13 +30,13 @@ from audit import Auditor, audit, read_settings_of, section_text  # noqa: E402
 from play import Fault, Outcome, play, sections_of  # noqa: E402
 
 ROWS = TOP / "crates/rv_rows/data"
-AUDITS = TOP / "crates/audit_rows/data"
+AUDITS = TOP / "crates/host_rows/data"
 PROGRAM = TOP / "crates/ravenhost/out/ravenhost"
 USUAL = (
     "last_line_decides", "second_caller_while_procedure_runs", "grant_taken_away_while_queued", "full_journal_and_halt",
     "go_two_units", "call_without_a_list",
 )
-# Rows of crates/audit_rows that are damaged there.
+# Rows of crates/host_rows that are damaged there.
 OWN = ("queue_of_two",)
 # The units of `go_two_units`, whose texts the model can't read, as shapes (own: written down by hand from the texts).
 INTEGER = f"{-2**31} {2**31 - 1}"
@@ -208,7 +208,7 @@ def verdict_lines(sections: str, journal: str) -> Iterator[str]:
 
 
 def sections_and_journal(name: str) -> tuple[str, str]:
-    """Those of a usual row, or of a row of crates/audit_rows alone."""
+    """Those of a usual row, or of a row of crates/host_rows alone."""
     if name in USUAL:
         _, sections, journal = judged_alone(name)
         return sections, journal
@@ -217,7 +217,7 @@ def sections_and_journal(name: str) -> tuple[str, str]:
 
 
 def write_rows() -> int:
-    """Writes what crates/audit_rows plays of the usual rows, and the damages of its own."""
+    """Writes what crates/host_rows plays of the usual rows, and the damages of its own."""
     for name in (*USUAL, *OWN):
         sections, journal = sections_and_journal(name)
         (AUDITS / f"{name}.raven").write_text(f"{sections}@journal\n{journal}")

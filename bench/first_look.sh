@@ -153,7 +153,8 @@ ending() {
 started() {
     local program=$folder/clone/crates/ravenhost/out/ravenhost
     mkdir -p "${program%/*}"
-    printf '#!/bin/sh\necho proved "$@"\n' >"$program"
+    # (`run` is given words of the launcher's own behind its first)
+    printf '#!/bin/sh\necho proved "$1"\n' >"$program"
     chmod +x "$program"
     echo "rattle-kit" >"$program.kit"
     : >"$folder/in"

@@ -1,9 +1,10 @@
 //! Compares the host that keeps fields with one that looks back over its entries at each request, over commands
 //! drawn from fixed seeds: each answer, and at the end each entry. It ends with status 1 at the first difference,
 //! which it prints, or where a kind of answer never came, and with status 3 where memory is refused. It also prints
-//! pages of a long journal, and which limits of queues a host takes.
+//! pages of a long journal, and which limits of queues a host takes; and then judges the journals of files (`audits`).
 #![tactic(auto)]
 
+mod audits;
 mod compared;
 mod counts;
 mod drawn;
@@ -162,8 +163,17 @@ fn compare<R: Print>(rt: &R, alloc: Global) -> io::Result<bool> {
     Ok(true)
 }
 
+// Compares, and then judges the journals of files. False where something differed, or a kind of answer never came.
+fn run(rt: &HostRuntime) -> io::Result<bool> {
+    if !compare(rt, rt.alloc())? {
+        return Ok(false);
+    }
+    audits::tell_all(rt)?;
+    Ok(true)
+}
+
 fn main(rt: HostRuntime) -> io::Result<ExitCode> {
-    match compare(&rt, rt.alloc()) {
+    match run(&rt) {
         Ok(true) => Ok(ExitCode::SUCCESS),
         Ok(false) => Ok(ExitCode::from(1)),
         Err(e) if e.kind() == io::ErrorKind::OutOfMemory => {

@@ -9,7 +9,7 @@ use Rattle.rv_choice.specs.declared.chosen.Choice.TheVariants.{Play, Check, Run,
 use Rattle.rv_choice.specs.declared.chosen.When.{When}
 use Rattle.rv_choice.specs.declared.chosen.When.TheVariants.{Auto}
 use Rattle.rv_choice.specs.declared.chosen.Sync.TheVariants.{Second}
-use Rattle.rv_choice.specs.Choices.{HasNoColor, HasNoFile, HasNoNotes, HasNoRun, HasNoWord, IsFlag, IsJournal, IsNoted, IsRunning, LacksFile, Names, NamesNone, audit_of, line_of, longest_period, most_entries, no_run, number_of, program, sync_of, when_of}
+use Rattle.rv_choice.specs.Choices.{HasNoColor, HasNoFile, HasNoRun, HasNoWord, IsFlag, IsJournal, IsNoted, IsRunning, LacksFile, Names, NamesNone, audit_of, line_of, longest_period, most_entries, no_run, number_of, program, sync_of, when_of}
 
 -- The plain lines.
 

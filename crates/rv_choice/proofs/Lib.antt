@@ -1,1 +1,2 @@
+mod Adding
 mod Choosing

@@ -1,12 +1,12 @@
 //! The command line: what the program is to do.
 
-ghost use Rattle.std.specs.Prelude.{◌≡◌, ◌||◌, is_some, ◌∷◌, ◌⊎◌, List, true, false, Some, None, IfSome, IfNone, IfOk, IfErr, codes, map, option_map};
-ghost use Rattle.clap.specs.Words.{app_of, new_app, rule_of, subcommand_rows_of, takes, with_rule};
+ghost use Rattle.std.specs.Prelude.{◌≡◌, ◌||◌, is_some, ◌∷◌, ◌⊎◌, List, true, false, Some, None, IfSome, IfNone, IfOk, IfErr, IsOkAnd, codes, map, option_map};
+ghost use Rattle.clap.specs.Words.{app_of, new_app, rule_of, subcommand_rows_of, takes, with_rule, with_subcommand};
 ghost use Rattle.clap.specs.Matches.{found_of};
 ghost use Rattle.clap.specs.Walk.{Row, Text, first_of, one_of, rows_of};
 ghost use Rattle.clap.specs.declared.builder.command.Command.TheViews.{out-Command as fields_of};
 ghost use Rattle.rv_choice.specs.declared.chosen.Unchosen.TheVariants as Unchosen;
-ghost use Rattle.rv_choice.specs.Choices.{Chooses, HasNoFile, HasNoColor, HasNoFileAs, HasNoNotes, HasNoRun, HasNoWord, IsFlag, IsRun, IsSelection, Keeps, KeepsAs, Lacks, LacksFile, NamesNone, Tells, attending, audit_of, audited, checked, consoled, file_rule, flag_rule, guarding, judging, keeping, line_of, notes_rule, playing, program, running, number_of, sync_of, sync_rule, value_rule, when_of, with_color, with_notes};
+ghost use Rattle.rv_choice.specs.Choices.{Chooses, HasNoFile, HasNoColor, HasNoFileAs, HasNoNotes, HasNoRun, HasNoWord, IsFlag, IsRun, IsSelection, Keeps, KeepsAs, Lacks, LacksFile, NamesNone, Tells, alone, attending, audit_of, audited, checked, consoled, file_rule, flag_rule, guarding, judging, keeping, line_of, notes_rule, playing, program, running, number_of, sync_of, sync_rule, value_rule, when_of, with_color, with_notes};
 
 use clap::error::ErrorKind;
 use clap::{Arg, ArgAction, ArgMatches, Command, Error};
@@ -265,16 +265,16 @@ fn check_subcommand<'a>(alloc: Global) -> Result<Command<'a>, AllocError>
     ensures app { IfOk result (λ c. app_of c ≡ checked) }
     ensures local { IfOk result (λ c. (fields_of c).has_globals ≡ false) }
 {
+    let command = Command::new(alloc, "check")
+        .about("Say of each section of a script from standard input whether it is well formed")
+        .after_help("Example: ravenhost check --script --explain < examples/first.raven")
+        .arg(explain_flag(alloc, FAULT_HELP))?;
     let whole = flag(
         alloc,
         "script",
         "Look at a whole script of play, run or audit, also at its steps, its commands or its journal",
     );
-    let command = Command::new(alloc, "check")
-        .about("Say of each section of a script from standard input whether it is well formed")
-        .after_help("Example: ravenhost check --script --explain < examples/first.raven")
-        .arg(explain_flag(alloc, FAULT_HELP))?
-        .arg(whole)?;
+    let command = command.arg(whole)?;
     let command = noted(alloc, command)?;
     coloured(alloc, command)
 }
@@ -303,19 +303,22 @@ fn guarding_subcommand<'a>(alloc: Global) -> Result<Command<'a>, AllocError>
     ensures app { IfOk result (λ c. app_of c ≡ guarding) }
     ensures local { IfOk result (λ c. (fields_of c).has_globals ≡ false) }
 {
+    // An argument is made when nothing can fail any more before it is added.
+    let command = keeping_subcommand(alloc)?;
     let halt_below = valued(
         alloc,
         "halt-below",
         "N",
         "End as by quit when the journal has room for fewer than N entries",
     );
+    let command = command.arg(halt_below)?;
     let quota = valued(
         alloc,
         "quota",
         "N",
         "Deny a unit everything whose tasks have added more than N entries, by a line at the end of the list",
     );
-    keeping_subcommand(alloc)?.arg(halt_below)?.arg(quota)
+    command.arg(quota)
 }
 
 // The same, whose clock may follow a real one, and which may be ended from outside.
@@ -323,19 +326,21 @@ fn attending_subcommand<'a>(alloc: Global) -> Result<Command<'a>, AllocError>
     ensures app { IfOk result (λ c. app_of c ≡ attending) }
     ensures local { IfOk result (λ c. (fields_of c).has_globals ≡ false) }
 {
+    let command = guarding_subcommand(alloc)?;
     let tick = valued(
         alloc,
         "tick",
         "MS",
         "Have the clock follow the real one, a tick a millisecond: every MS milliseconds one tick MS",
     );
+    let command = command.arg(tick)?;
     let stop_by = valued(
         alloc,
         "stop-by",
         "PIPE",
         "End as at the end of input once this pipe has a byte or ends; the script ./ravenhost gives it, for signals",
     );
-    guarding_subcommand(alloc)?.arg(tick)?.arg(stop_by)
+    command.arg(stop_by)
 }
 
 // The same, which may serve a person by a console.
@@ -343,12 +348,13 @@ fn consoled_subcommand<'a>(alloc: Global) -> Result<Command<'a>, AllocError>
     ensures app { IfOk result (λ c. app_of c ≡ consoled) }
     ensures local { IfOk result (λ c. (fields_of c).has_globals ≡ false) }
 {
+    let command = attending_subcommand(alloc)?;
     let console = flag(
         alloc,
         "console",
         "Serve a person: a prompt before each command, and help, list, status and journal alone beside the commands",
     );
-    attending_subcommand(alloc)?.arg(console)
+    command.arg(console)
 }
 
 // The same, which may be told of notes.
@@ -370,18 +376,18 @@ fn judging_subcommand<'a>(alloc: Global) -> Result<Command<'a>, AllocError>
         alloc,
         "Judge the journal in this file, of any length, instead of one in the script",
     );
+    let command = Command::new(alloc, "audit")
+        .about(
+            "Judge the journal of a script from standard input: whether each of its entries was due",
+        )
+        .after_help("Example: ravenhost audit --journal JOURNAL < UNITS")
+        .arg(journal)?;
     let torn = flag(
         alloc,
         "torn",
         "With --journal: take a last line without its line feed as cut off by a crash",
     );
-    Command::new(alloc, "audit")
-        .about(
-            "Judge the journal of a script from standard input: whether each of its entries was due",
-        )
-        .after_help("Example: ravenhost audit --journal JOURNAL < UNITS")
-        .arg(journal)?
-        .arg(torn)
+    command.arg(torn)
 }
 
 // The same, which may be told to explain ends.
@@ -389,30 +395,48 @@ fn audit_subcommand<'a>(alloc: Global) -> Result<Command<'a>, AllocError>
     ensures app { IfOk result (λ c. app_of c ≡ audited) }
     ensures local { IfOk result (λ c. (fields_of c).has_globals ≡ false) }
 {
+    let command = judging_subcommand(alloc)?;
     let explain = explain_flag(
         alloc,
         "Also say whether each body ended as its text means on the entries since it started",
     );
-    let command = judging_subcommand(alloc)?.arg(explain)?;
+    let command = command.arg(explain)?;
     coloured(alloc, command)
+}
+
+// The program, of which no subcommand is named yet.
+fn program_alone<'a>(alloc: Global) -> Command<'a>
+    ensures { app_of result ≡ alone }
+{
+    Command::new(alloc, "ravenhost")
+        .about("Protected objects of several units under an access list, in the profile Ravenscar")
+        .version(VERSION)
+        .subcommand_required(true)
+}
+
+// A command with a subcommand, where memory for that wasn't refused. Who adds one holds nothing else that has to be let go.
+fn with_added<'a>(
+    command: Command<'a>,
+    added: Result<Command<'a>, AllocError>,
+) -> Result<Command<'a>, AllocError>
+    requires { IfOk added (λ s. (fields_of s).has_globals ≡ false) }
+    ensures { IfOk result (λ c. IsOkAnd added.entry (λ s. app_of c ≡ with_subcommand (app_of command.entry) (app_of s).top)) }
+{
+    match added {
+        Ok(subcommand) => command.subcommand(subcommand),
+        Err(e) => Err(e),
+    }
 }
 
 // The command line that the program takes.
 fn command<'a>(alloc: Global) -> Result<Command<'a>, AllocError>
     ensures { IfOk result (λ c. app_of c ≡ program) }
 {
-    let play = play_subcommand(alloc)?;
-    let check = check_subcommand(alloc)?;
-    let run = run_subcommand(alloc)?;
-    let audit = audit_subcommand(alloc)?;
-    Command::new(alloc, "ravenhost")
-        .about("Protected objects of several units under an access list, in the profile Ravenscar")
-        .version(VERSION)
-        .subcommand_required(true)
-        .subcommand(play)?
-        .subcommand(check)?
-        .subcommand(run)?
-        .subcommand(audit)
+    let command = program_alone(alloc);
+    let command = with_added(command, play_subcommand(alloc))?;
+    let command = with_added(command, check_subcommand(alloc))?;
+    let command = with_added(command, run_subcommand(alloc))?;
+    with_added(command, audit_subcommand(alloc))
 }
 
 // What `audit` with its file and its flag chooses; a flag without a file chooses nothing.

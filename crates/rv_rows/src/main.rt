@@ -167,7 +167,7 @@ fn first_difference(given: &[u8], wanted: &[u8]) -> usize {
     number
 }
 
-/// What has to be written for a script, before its fault.
+/// What stands beside a script: all that has to be written, and which files that is.
 #[derive(Drop)]
 struct Wanted {
     bytes: Vec<u8>,
@@ -176,6 +176,10 @@ struct Wanted {
     is_audited: bool,
     // Whether the ends in a journal that is judged are explained.
     is_explained: bool,
+    is_refused: bool,
+    // Whether its fault is explained.
+    is_told: bool,
+    has_notes: bool,
 }
 
 // How many reads and writes of a script are made to fail at most.
@@ -238,39 +242,37 @@ fn failures_told(rt: &HostRuntime, name: &str) -> io::Result<String> {
     }
 }
 
-// What stands beside a script as what has to be written.
-fn wanted_for(rt: &HostRuntime, name: &str) -> io::Result<Wanted> {
-    let said = bytes_of(rt, name, "said")?;
-    let verdict = bytes_of(rt, name, "verdict")?;
-    let whole = bytes_of(rt, name, "whole")?;
-    let is_checked = said.is_some();
-    let is_whole = whole.is_some();
-    let is_audited = verdict.is_some();
-    let ends = if is_audited {
-        bytes_of(rt, name, "ends")?
-    } else {
-        None
-    };
-    let is_explained = ends.is_some();
-    let mut bytes = Vec::new(rt.alloc());
-    for part in [
-        said,
-        whole,
-        verdict,
-        ends,
-        bytes_of(rt, name, "journal")?,
-        bytes_of(rt, name, "fault")?,
-    ] {
-        if let Some(part) = part {
+// Adds what stands beside a script in a file of this ending. Whether it is there.
+fn add_file(rt: &HostRuntime, name: &str, ending: &str, bytes: &mut Vec<u8>) -> io::Result<bool> {
+    match bytes_of(rt, name, ending)? {
+        Some(part) => {
             bytes.extend_from_slice(part.as_slice())?;
+            Ok(true)
         }
+        None => Ok(false),
     }
+}
+
+// What stands beside a script.
+fn wanted_for(rt: &HostRuntime, name: &str) -> io::Result<Wanted> {
+    let mut bytes = Vec::new(rt.alloc());
+    let is_checked = add_file(rt, name, "said", &mut bytes)?;
+    let is_whole = add_file(rt, name, "whole", &mut bytes)?;
+    let is_audited = add_file(rt, name, "verdict", &mut bytes)?;
+    let is_explained = is_audited && add_file(rt, name, "ends", &mut bytes)?;
+    let _is_played = add_file(rt, name, "journal", &mut bytes)?;
+    let is_refused = add_file(rt, name, "fault", &mut bytes)?;
+    let is_told = add_file(rt, name, "explained", &mut bytes)?;
+    let has_notes = add_file(rt, name, "notes", &mut bytes)?;
     Ok(Wanted {
         bytes,
         is_checked,
         is_whole,
         is_audited,
         is_explained,
+        is_refused,
+        is_told,
+        has_notes,
     })
 }
 
@@ -324,11 +326,6 @@ fn deed_for<'a>(wanted: &Wanted, file: &'a Option<Vec<u8>>) -> Deed<'a> {
     }
 }
 
-// Whether there is more beside a script than its journal: a fault or notes.
-fn has_more(rt: &HostRuntime, name: &str) -> io::Result<bool> {
-    Ok(bytes_of(rt, name, "fault")?.is_some() || bytes_of(rt, name, "notes")?.is_some())
-}
-
 // How what is given differs from what is wanted, in words; where it doesn't, what is said of ends other than is due.
 fn difference(
     rt: &HostRuntime,
@@ -343,38 +340,46 @@ fn difference(
         return Ok(Some(format!(in alloc; "differs at line {line}")?));
     }
     let is_played = !wanted.is_checked && !wanted.is_whole && !wanted.is_audited;
-    if !is_played || has_more(rt, name)? {
+    if !is_played || wanted.is_refused || wanted.has_notes {
         return Ok(None);
     }
     other_ends(rt, name, script, given)
 }
 
+// What is told of the lists of a script, as it is checked.
+fn notes_of(alloc: Global, script: &[u8], wanted: &Wanted) -> Result<Warnings, Failure> {
+    if wanted.is_whole {
+        whole_warnings_of(alloc, script)
+    } else {
+        warnings_of(alloc, script)
+    }
+}
+
+// What a script gives, with what is told of its lists.
+fn all_given(rt: &HostRuntime, name: &str, script: &[u8], wanted: &Wanted) -> io::Result<Vec<u8>> {
+    let alloc = rt.alloc();
+    let file = bytes_of(rt, name, "file")?;
+    let mut bytes = given(alloc, script, deed_for(wanted, &file), wanted.is_told)?;
+    if wanted.has_notes {
+        add_notes(notes_of(alloc, script, wanted), &mut bytes)?;
+    }
+    Ok(bytes)
+}
+
+// Whether a script that was read gives what stands beside it, in words.
+fn told_beside(rt: &HostRuntime, name: &str, script: &[u8], wanted: &Wanted) -> io::Result<String> {
+    let given = all_given(rt, name, script, wanted)?;
+    match difference(rt, name, script, given.as_slice(), wanted)? {
+        Some(words) => Ok(format!(in rt.alloc(); "{name}: {words}")?),
+        None => Ok(format!(in rt.alloc(); "{name}: ok")?),
+    }
+}
+
 /// Whether a script gives what stands beside it, in words.
 fn told(rt: &HostRuntime, name: &str) -> io::Result<String> {
-    let alloc = rt.alloc();
-    let script = bytes_of(rt, name, "raven")?.unwrap_or(Vec::new(alloc));
-    let mut wanted = wanted_for(rt, name)?;
-    let explained = bytes_of(rt, name, "explained")?;
-    let is_explained = explained.is_some();
-    if let Some(explained) = explained {
-        wanted.bytes.extend_from_slice(explained.as_slice())?;
-    }
-    let file = bytes_of(rt, name, "file")?;
-    let deed = deed_for(&wanted, &file);
-    let mut given = given(alloc, script.as_slice(), deed, is_explained)?;
-    if let Some(notes) = bytes_of(rt, name, "notes")? {
-        wanted.bytes.extend_from_slice(notes.as_slice())?;
-        let warnings = if wanted.is_whole {
-            whole_warnings_of(alloc, script.as_slice())
-        } else {
-            warnings_of(alloc, script.as_slice())
-        };
-        add_notes(warnings, &mut given)?;
-    }
-    match difference(rt, name, script.as_slice(), given.as_slice(), &wanted)? {
-        Some(words) => Ok(format!(in alloc; "{name}: {words}")?),
-        None => Ok(format!(in alloc; "{name}: ok")?),
-    }
+    let script = bytes_of(rt, name, "raven")?.unwrap_or(Vec::new(rt.alloc()));
+    let wanted = wanted_for(rt, name)?;
+    told_beside(rt, name, script.as_slice(), &wanted)
 }
 
 /// Whether what is told of the lists that stand before the commands of a run is what stands beside them, in words.

@@ -3,21 +3,21 @@
 mod caller;
 mod changes;
 mod crowd;
+mod games;
+mod given_up;
 mod journal;
 mod judged;
 mod notes;
 mod plant;
-mod starts;
 mod storm;
-mod texts;
 mod threads;
-mod three_calls;
 pub mod told_revoke;
 pub mod two_readers;
 mod waiting;
 
 use crate::hands::Hands;
 pub use caller::{Caller, call_valve};
+use games::{CALLS_BACK, DEVICE_CALLS_THREE, NO_CALL, SECOND_START_FAILS, TWO_TASKS};
 use journal::Journal;
 use judged::explained_ends;
 use rv_crew::crew::Closed;
@@ -25,7 +25,6 @@ use std::alloc::Global;
 use std::io;
 use std::sync::Wait;
 use std::thread::Threads;
-use texts::CALLS_BACK;
 
 // Tells of actors, each in a line.
 fn tell_each<R: Print>(rt: &R, word: &str, actors: &[u64]) -> io::Result<()> {
@@ -79,9 +78,9 @@ fn tell_called_back<R: Threads + Wait + AllocGlobal + Print>(
     rt: &R,
     hands: &Hands,
 ) -> io::Result<()> {
-    let closed = texts::play(rt, hands, &CALLS_BACK, false);
+    let closed = games::play(rt, hands, &CALLS_BACK);
     let ends = match &closed {
-        Some(closed) => explained_ends(rt.alloc(), &CALLS_BACK, &closed.host),
+        Some(closed) => explained_ends(rt.alloc(), &CALLS_BACK.scene, &closed.host),
         None => None,
     };
     tell(rt, "row_11_on_a_thread", closed)?;
@@ -90,14 +89,30 @@ fn tell_called_back<R: Threads + Wait + AllocGlobal + Print>(
 
 /// Plays all games.
 pub fn play_all<R: Threads + Wait + AllocGlobal + Print>(rt: &R, hands: &Hands) -> io::Result<()> {
-    tell(rt, "device_calls_three", three_calls::play(rt, hands))?;
+    tell(
+        rt,
+        "device_calls_three",
+        games::play(rt, hands, &DEVICE_CALLS_THREE),
+    )?;
     tell(rt, "two_readers_at_once", two_readers::play(rt, hands))?;
     tell(rt, "told_revoke_is_seen", told_revoke::play(rt, hands))?;
-    tell(rt, "second_start_fails", starts::second_fails(rt, hands))?;
-    tell(rt, "given_up_port_is_lost", starts::given_up(rt))?;
-    tell(rt, "finishes_without_a_call", starts::no_call(rt, hands))?;
+    tell(
+        rt,
+        "second_start_fails",
+        games::play(rt, hands, &SECOND_START_FAILS),
+    )?;
+    tell(rt, "given_up_port_is_lost", given_up::play(rt))?;
+    tell(
+        rt,
+        "finishes_without_a_call",
+        games::play(rt, hands, &NO_CALL),
+    )?;
     tell_called_back(rt, hands)?;
-    tell_explained(rt, "units_on_two_threads", texts::play_often(rt, hands))?;
+    tell_explained(
+        rt,
+        "units_on_two_threads",
+        games::play_often(rt, hands, &TWO_TASKS),
+    )?;
     tell_explained(rt, "a_crowd_at_one_entry", crowd::play_often(rt, hands))?;
     tell_storm(rt, hands)
 }

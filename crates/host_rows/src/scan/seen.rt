@@ -11,7 +11,6 @@ use std::alloc::{AllocError, Global};
 /// A history: how many callers a queue takes, its entries, the oldest first, what was loaded and the list in force,
 /// with the bodies that are under way, the calls that wait and the bodies whose objects are unsettled after them, the
 /// oldest first.
-#[derive(Drop)]
 pub struct Seen<'a> {
     pub limit: usize,
     pub catalogue: &'a Catalogue,
@@ -20,6 +19,21 @@ pub struct Seen<'a> {
     pub bodies: Vec<Body>,
     pub waiting: Vec<Body>,
     pub unsettled: Vec<Body>,
+}
+
+impl Drop for Seen<'_> {
+    // A function of its own: a derived one is written out wherever what was seen is let go, and proved there.
+    fn drop(self) {
+        let Seen {
+            limit: _,
+            catalogue: _,
+            entries: _,
+            list: _,
+            bodies: _,
+            waiting: _,
+            unsettled: _,
+        } = self;
+    }
 }
 
 impl<'a> Seen<'a> {

@@ -2,12 +2,11 @@
 //! Who ends a body serves the queue on: a denied caller is dropped, and the next is judged in an entry of its own.
 
 ghost use Rattle.std.specs.Prelude.{◌≡◌};
-ghost use Rattle.rv_crew.specs.Teams.{IsOfTurn};
 
 use crate::crews::changes::append;
+use crate::crews::games::{Part, TIMES, begin_all};
 use crate::crews::judged::explained_ends;
 use crate::crews::plant::{Scene, with_scene};
-use crate::crews::texts::{TIMES, begin_text};
 use crate::crews::threads::close;
 use crate::crews::waiting::LOOKS;
 use crate::hands::Hands;
@@ -69,25 +68,27 @@ end Sea;
 const CROWD: Scene = Scene {
     units: &[("@unit", PLANT), ("@unit", NAV), ("@unit", SEA)],
     list: "allow * * *\n",
+    later: &[],
     queue: 8,
 };
 
-// How many callers wait.
-const CALLERS: u64 = 8;
+// Those who wait.
+const CALLERS: [(u64, Part); 8] = [
+    (12, Part::Text),
+    (13, Part::Text),
+    (14, Part::Text),
+    (15, Part::Text),
+    (16, Part::Text),
+    (17, Part::Text),
+    (18, Part::Text),
+    (19, Part::Text),
+];
+
+// Who opens the gate.
+const OPENER: [(u64, Part); 1] = [(11, Part::Text)];
 
 // How many entries there are once all of them wait: three loads, a list, and their calls.
 const WAITING: usize = 12;
-
-// Starts the threads of all callers.
-fn begin_callers(hands: &Hands, control: &mut Control, crew: &mut Crew) -> Option<()>
-    requires { IsOfTurn control.old.turn crew.old }
-    ensures { IsOfTurn control.new.turn crew.new }
-{
-    for number in 0..CALLERS {
-        begin_text(hands, control, crew, number + 1)?;
-    }
-    Some(())
-}
 
 // Reads the journal from this entry on.
 fn read<R: Wait>(rt: &R, control: &mut Control, from: usize, page: &mut Page) -> bool
@@ -130,9 +131,9 @@ fn play<R: Threads + Wait + AllocGlobal>(rt: &R, hands: &Hands) -> Option<Closed
     let alloc = rt.alloc();
     let mut control = with_scene(rt, alloc, &CROWD)?;
     let mut crew = Crew::new(alloc);
-    begin_callers(hands, &mut control, &mut crew)?;
+    begin_all(hands, &mut control, &mut crew, &CALLERS)?;
     deny(rt, alloc, &mut control)?;
-    begin_text(hands, &mut control, &mut crew, 0)?;
+    begin_all(hands, &mut control, &mut crew, &OPENER)?;
     close(rt, crew, control)
 }
 

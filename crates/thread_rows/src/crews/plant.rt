@@ -1,7 +1,7 @@
 //! What the games of crews are played on: units, whose bodies come from their texts, and the list over them.
 
 use crate::host::new_control;
-use crate::units::{UnitSection, load_section, load_shape, set_list};
+use crate::units::{UnitSection, load_section, set_list};
 use row_files::texts::{NAV, PLANT};
 use rv_port::control::Control;
 use std::alloc::Global;
@@ -13,11 +13,12 @@ pub const FIRST: u64 = 11;
 /// The number of line 4.
 pub const LINE: u64 = 5;
 
-/// The units of a game, the list over them, and how many callers may wait in a queue.
+/// The units of a game, the list over them, the units that are loaded behind it, and how many callers may wait in a queue.
 #[derive(Clone, Copy, Drop)]
 pub struct Scene {
     pub units: &'static [UnitSection],
     pub list: &'static str,
+    pub later: &'static [UnitSection],
     pub queue: usize,
 }
 
@@ -27,6 +28,7 @@ const ALL: &str = "allow * * *\n";
 pub const TASKS: Scene = Scene {
     units: &[("@unit", PLANT), ("@unit", NAV)],
     list: ALL,
+    later: &[],
     queue: 1,
 };
 
@@ -40,6 +42,7 @@ handler Trip 4
 pub const TASKS_AND_A_LINE: Scene = Scene {
     units: &[("@unit", PLANT), ("@unit", NAV), ("@shape", ALARM)],
     list: ALL,
+    later: &[],
     queue: 1,
 };
 
@@ -59,31 +62,39 @@ task Eight 15
 pub const EIGHT_TASKS: Scene = Scene {
     units: &[("@unit", PLANT), ("@shape", STORM)],
     list: ALL,
-    queue: 1,
-};
-
-const ALONE: Scene = Scene {
-    units: &[("@unit", PLANT)],
-    list: ALL,
+    later: &[],
     queue: 1,
 };
 
 // Task 11.
-const DEVICE: &str = "unit Dev\ntask Main 15\n";
+const MAIN: &str = "unit Dev\ntask Main 15\n";
+
+/// The plant, and a device that is loaded behind the list.
+pub const DEVICE: Scene = Scene {
+    units: &[("@unit", PLANT)],
+    list: ALL,
+    later: &[("@shape", MAIN)],
+    queue: 1,
+};
+
+// Loads units.
+fn load_all<R: Wait>(
+    rt: &R,
+    alloc: Global,
+    control: &mut Control,
+    units: &[UnitSection],
+) -> Option<()> {
+    for section in units {
+        load_section(rt, alloc, control, section)?;
+    }
+    Some(())
+}
 
 /// The units of a scene, under its list.
 pub fn with_scene<R: Wait>(rt: &R, alloc: Global, scene: &Scene) -> Option<Control> {
     let mut control = new_control(alloc, scene.queue)?;
-    for section in scene.units {
-        load_section(rt, alloc, &mut control, section)?;
-    }
+    load_all(rt, alloc, &mut control, scene.units)?;
     set_list(rt, alloc, &mut control, scene.list)?;
-    Some(control)
-}
-
-/// The plant, and a device that is loaded behind the list.
-pub fn with_device<R: Wait>(rt: &R, alloc: Global) -> Option<Control> {
-    let mut control = with_scene(rt, alloc, &ALONE)?;
-    load_shape(rt, alloc, &mut control, DEVICE)?;
+    load_all(rt, alloc, &mut control, scene.later)?;
     Some(control)
 }

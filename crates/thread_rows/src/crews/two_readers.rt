@@ -1,4 +1,5 @@
-//! Two readers of one object at once: the body of the first is held open until the second has read, and is done.
+//! Two readers of one object at once: the body of the first is held open until the second has read, and is done. What they read
+//! stands in the journal.
 
 ghost use Rattle.std.specs.Prelude.{◌≡◌};
 
@@ -13,7 +14,6 @@ use rv_crew::crew::{Closed, Crew};
 use rv_port::control::Control;
 use rv_port::gate::Gate;
 use rv_port::port::{Finished, Port};
-use rv_port::reached::Reached;
 use rv_value::Args;
 use std::alloc::Global;
 use std::sync::Wait;
@@ -24,7 +24,6 @@ use std::thread::Threads;
 pub struct FirstReader {
     inside: Sender<u8>,
     answered: Receiver<u8>,
-    reply: Sender<Reached>,
 }
 
 /// What the other one has.
@@ -32,33 +31,18 @@ pub struct FirstReader {
 pub struct SecondReader {
     inside: Receiver<u8>,
     answered: Sender<u8>,
-    reply: Sender<Reached>,
-}
-
-// What the test has: where the reply of each comes.
-#[derive(Drop)]
-struct Replies {
-    first: Receiver<Reached>,
-    second: Receiver<Reached>,
 }
 
 // Both readers. None where there is no memory.
-fn readers(alloc: Global) -> Option<(FirstReader, SecondReader, Replies)> {
+fn readers(alloc: Global) -> Option<(FirstReader, SecondReader)> {
     let (inside, comes) = unbounded(alloc).ok()?;
     let (answers, answered) = unbounded(alloc).ok()?;
-    let (first_reply, first) = unbounded(alloc).ok()?;
-    let (second_reply, second) = unbounded(alloc).ok()?;
-    let one = FirstReader {
-        inside,
-        answered,
-        reply: first_reply,
-    };
+    let one = FirstReader { inside, answered };
     let other = SecondReader {
         inside: comes,
         answered: answers,
-        reply: second_reply,
     };
-    Some((one, other, Replies { first, second }))
+    Some((one, other))
 }
 
 /// The gate says that a body has run, and opens when the call of the other reader was answered.
@@ -69,21 +53,12 @@ impl<R: Wait> Gate<R> for FirstReader {
     }
 }
 
-// Tells what a call came to. A reader whose port was refused the bodies tells nothing.
-fn reply<R: Wait>(rt: &R, finished: &Finished, sender: &Sender<Reached>, reached: Reached) {
-    if !finished.is_refused() {
-        let _ = sender.send(rt, reached);
-    }
-}
-
 /// The job of the reader whose body is held open.
 pub fn read_first<R: Wait>(rt: &R, mut port: Port, reader: FirstReader) -> Finished
     ensures { (result.turn ≡ port.turn) × (result.actor ≡ port.actor) }
 {
-    let reached = port.call_gated(rt, VALVE, GET, Args::new(), &reader);
-    let finished = port.finish(rt);
-    reply(rt, &finished, &reader.reply, reached);
-    finished
+    let _ = port.call_gated(rt, VALVE, GET, Args::new(), &reader);
+    port.finish(rt)
 }
 
 /// The job of the other one, which reads meanwhile.
@@ -91,23 +66,13 @@ pub fn read_second<R: Wait>(rt: &R, mut port: Port, reader: SecondReader) -> Fin
     ensures { (result.turn ≡ port.turn) × (result.actor ≡ port.actor) }
 {
     let _ = receive(rt, &reader.inside);
-    let reached = call(rt, &mut port, GET);
+    let _ = call(rt, &mut port, GET);
     let finished = port.finish(rt);
-    reply(rt, &finished, &reader.reply, reached);
     let _ = reader.answered.send(rt, 1);
     finished
 }
 
-// Whether a reader has read 0.
-fn has_read<R: Wait>(rt: &R, comes: &Receiver<Reached>) -> bool {
-    let zero = Reached::Returned(Args::from_slice(&[0]));
-    match receive(rt, comes) {
-        Some(reached) => reached == zero,
-        None => false,
-    }
-}
-
-// Lets both read, each from a thread of its own, and closes the crew once both have read 0.
+// Lets both read, each from a thread of its own, and closes the crew.
 fn read<R: Threads + Wait + AllocGlobal>(
     rt: &R,
     hands: &Hands,
@@ -117,12 +82,12 @@ fn read<R: Threads + Wait + AllocGlobal>(
     requires first { ports.0.turn ≡ control.turn }
     requires second { ports.1.turn ≡ control.turn }
 {
-    let (one, other, replies) = readers(rt.alloc())?;
+    let (one, other) = readers(rt.alloc())?;
     let (port, second) = ports;
     let mut crew = Crew::new(rt.alloc());
     let begun = begin(hands, &mut crew, port, Role::FirstReader(one));
     let both = begin(hands, &mut crew, second, Role::SecondReader(other));
-    if begun && both && has_read(rt, &replies.first) && has_read(rt, &replies.second) {
+    if begun && both {
         return close(rt, crew, control);
     }
     None

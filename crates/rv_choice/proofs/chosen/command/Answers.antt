@@ -1,19 +1,21 @@
-use Rattle.std.proofs.Common.{◌≡◌, ◌∙◌, true, ap, ap₂, codes}
+use Rattle.std.proofs.Common.{◌≡◌, ◌∙◌, ap, ap₂}
 use Rattle.std.proofs.lemmas.Result.{IfOk-weaker}
-use Rattle.clap.specs.Words.{App, app_of, new_app, with_subcommand}
-use Rattle.clap.specs.Simple.{app_of_fields, on_top}
-use Rattle.rv_choice.specs.Choices.{alone, checked, playing, running, versioned}
+use Rattle.clap.specs.Words.{App, app_of, with_subcommand}
+use Rattle.rv_choice.specs.Choices.{alone, checked, playing, running}
+use Rattle.rv_choice.proofs.Adding.{both}
 use Rattle.rv_choice.proofs.chosen.command.Goals as goal
 
 pub returns : goal.returns
 returns c =
-    let top : app_of c.about.result ≡ new_app (codes "ravenhost") = ap app_of_fields c.about.ensures ∙ c.new.ensures.app in
-    let version : app_of c.version.result ≡ versioned = ap app_of_fields c.version.ensures ∙ ap (on_top (λ s. record s { has_version = true })) top in
-    let top_is : app_of c.subcommand_required.result ≡ alone = ap app_of_fields c.subcommand_required.ensures ∙ ap (on_top (λ s. record s { subcommand_required = true })) version in
-    let one : app_of c.in_ok-subcommand.field-0 ≡ with_subcommand alone playing.top =
-    c.in_ok-subcommand.ensures.shape c.in_ok-play.ensures.local ∙ ap₂ with_subcommand top_is (ap (λ (a : App). a.top) c.in_ok-play.ensures.app) in
-    let two : app_of c.in_ok-subcommand-2.field-0 ≡ with_subcommand (with_subcommand alone playing.top) checked.top =
-    c.in_ok-subcommand-2.ensures.shape c.in_ok-check.ensures.local ∙ ap₂ with_subcommand one (ap (λ (a : App). a.top) c.in_ok-check.ensures.app) in
-    let three : app_of c.in_ok-subcommand-3.field-0 ≡ with_subcommand (with_subcommand (with_subcommand alone playing.top) checked.top) running.top =
-    c.in_ok-subcommand-3.ensures.shape c.in_ok-run.ensures.local ∙ ap₂ with_subcommand two (ap (λ (a : App). a.top) c.in_ok-run.ensures.app) in
-    IfOk-weaker c.subcommand-4.result _ _ (λ r h. h.shape c.in_ok-audit.ensures.local ∙ ap₂ with_subcommand three (ap (λ (a : App). a.top) c.in_ok-audit.ensures.app)) c.subcommand-4.ensures
+    let one : app_of c.in_ok-command.command ≡ with_subcommand alone playing.top =
+    both c.play_subcommand.result _ _ _ c.in_ok-command.ensures c.play_subcommand.ensures.app
+    (λ s p q. p ∙ ap₂ with_subcommand c.program_alone-command.ensures (ap (λ (a : App). a.top) q)) in
+    let two : app_of c.in_ok-command-2.command ≡ with_subcommand (with_subcommand alone playing.top) checked.top =
+    both c.check_subcommand.result _ _ _ c.in_ok-command-2.ensures c.check_subcommand.ensures.app
+    (λ s p q. p ∙ ap₂ with_subcommand one (ap (λ (a : App). a.top) q)) in
+    let three : app_of c.in_ok-command-3.command ≡ with_subcommand (with_subcommand (with_subcommand alone playing.top) checked.top) running.top =
+    both c.run_subcommand.result _ _ _ c.in_ok-command-3.ensures c.run_subcommand.ensures.app
+    (λ s p q. p ∙ ap₂ with_subcommand two (ap (λ (a : App). a.top) q)) in
+    IfOk-weaker c.with_added-4.result _ _
+    (λ r h. both c.audit_subcommand.result _ _ _ h c.audit_subcommand.ensures.app
+    (λ s p q. p ∙ ap₂ with_subcommand three (ap (λ (a : App). a.top) q))) c.with_added-4.ensures

@@ -1,5 +1,5 @@
-//! Worked rows of audits: judges the journal of each script of the folder that it is run in, and says of each whether
-//! it found what stands beside it.
+//! Worked rows of audits: judges the journal of each script of the folder that the program is run in, and says of each
+//! whether it found what stands beside it.
 //!
 //! `NAME.raven` is a script of shapes and a journal, behind a capacity where it isn't 4,096 and a limit of queues where it
 //! isn't 1; `NAME.said` is the verdict.
@@ -8,22 +8,21 @@
 //! Where there is a `NAME.damaged`, the journal of `NAME.raven` is damaged in each way at each place, and judged: the
 //! file has a line `WAY PLACE -> VERDICT` or `WAY FIRST..LAST -> VERDICT` for the places of a way, numbered from 1, that
 //! are neighbours and have one verdict (`bench/audit_damage.py --rows` writes it, by a model of its own).
-#![tactic(auto)]
 
 mod damage;
 mod script;
 mod told;
 
-use damage::{WAYS, Way, damaged};
+use crate::audits::damage::{WAYS, Way, damaged};
+use crate::audits::script::{Script, script_of};
+use crate::audits::told::{Told, first_other};
 use row_files::{bytes_of, names_before};
 use rv_audit::audit::Audit;
 use rv_audit::verdict::Verdict;
 use rv_event::text::text_of_answer;
 use rv_reading::entry::read_entry;
-use script::{Script, script_of};
 use std::alloc::Global;
 use std::io;
-use told::{Told, first_other};
 
 // What a verdict says, with the names of what the journal loaded.
 fn said(alloc: Global, audit: &Audit, verdict: &Verdict) -> io::Result<String> {
@@ -127,9 +126,10 @@ fn tell(rt: &HostRuntime, name: &str) -> io::Result<()> {
     Ok(())
 }
 
-fn main(rt: HostRuntime) -> io::Result<()> {
-    for name in names_before(&rt, ".raven")? {
-        tell(&rt, name.as_str())?;
+/// Tells of each script.
+pub fn tell_all(rt: &HostRuntime) -> io::Result<()> {
+    for name in names_before(rt, ".raven")? {
+        tell(rt, name.as_str())?;
     }
     Ok(())
 }
