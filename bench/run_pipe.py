@@ -648,8 +648,9 @@ class Typed:
             came = os.read(self.reads, 65536)
         except OSError:
             return False
-        # At a terminal notes stand between the answers; how the task ended is none of the console's.
-        self.seen = re.sub(r"task Post\.Guard ended: .*\n", "", (self.seen + came.decode()).replace("\r\n", "\n"))
+        # At a terminal notes stand between the answers, in colour; how the task ended is none of the console's.
+        plain = re.sub(r"\x1b\[\d*m", "", (self.seen + came.decode()).replace("\r\n", "\n"))
+        self.seen = re.sub(r"task Post\.Guard ended: .*\n", "", plain)
         return bool(came)
 
     def prompted(self):
@@ -680,7 +681,8 @@ def converse(console, name, note):
     begun = console.prompted()
     expect_that(f"{name}: what stands before the first prompt", begun in ("", script), begun)
     waits = "task Post.Guard: queued\nqueue of Post.Gate: Post.Guard\n"
-    status = until(f"{name}: a caller in a queue", lambda: next(filter(lambda said: waits in said, [console.ask("status")]), None))
+    # Its entry may come between the look that counts and the one that is shown.
+    status = until(f"{name}: a caller in a queue", lambda: next(filter(lambda said: waits in said and "Post 1" in said, [console.ask("status")]), None))
     due = (r"status\nclock 0\nroom for \d+ entries beside those that are owed\nlist version 1, lines 1\n" + re.escape(waits)
            + r"journal: 4,093 of 4,096 entries left; Post 1\n")
     expect_that(f"{name}: status", status and re.fullmatch(due, status), status)

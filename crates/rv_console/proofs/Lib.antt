@@ -1,3 +1,4 @@
 mod Paging
 pub mod Looking
 mod Turning
+mod Writing

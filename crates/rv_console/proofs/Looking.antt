@@ -1,10 +1,9 @@
 -- The console only looks.
-use Rattle.std.proofs.Common.{◌≡◌, ℕ, inl, inr, refl, Ok, Err}
-use Rattle.std.specs.Prelude.{Result, ◌⊎◌}
+use Rattle.std.proofs.Common.{ℕ, inl, inr, refl, Ok, Err}
+use Rattle.std.specs.Prelude.{Result}
 use Rattle.rv_behind.specs.Acting.{Does}
 use Rattle.rv_behind.specs.Events.{by}
 use Rattle.rv_behind.specs.declared.event.Ask.{Ask}
-use Rattle.rv_behind.specs.declared.event.Reply.{Reply}
 use Rattle.rv_behind.specs.declared.event.Reply.TheVariants as Gives
 use Rattle.rv_port.specs.Traces.{Passing}
 use Rattle.rv_port.specs.Viewing.{NotViewed}
@@ -16,7 +15,7 @@ use Rattle.rv_shell.specs.declared.shell.LineFault.TheVariants.{NoMemory, Write,
 use Rattle.rv_shell.specs.declared.shell.Next.{Next}
 use Rattle.rv_turn.specs.Passes.{Acted}
 use Rattle.rv_view.specs.Views.{Shown}
-use Rattle.rv_console.specs.Console.{IsLook, Looks}
+use Rattle.rv_console.specs.Console.{Looks}
 
 pub none_looks : (v : Passing) → Looks v v
 none_looks v = inl refl

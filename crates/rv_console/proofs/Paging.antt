@@ -1,5 +1,5 @@
 -- A command that is no word of its own asks for no page.
-use Rattle.std.proofs.Common.{◌≡◌, ◌∙◌, ap, refl, List, ℕ, Ok, Err}
+use Rattle.std.proofs.Common.{◌≡◌, ◌∙◌, ap, refl, List, ℕ}
 use Rattle.std.specs.Prelude.{Option, Some, None}
 use Rattle.rv_shape.specs.Items.{◌>>=◌}
 use Rattle.rv_shell.specs.Orders.{of_step, or_stepped, order_of, own_order}

@@ -1,5 +1,5 @@
 -- A page that was read is turned, whatever comes of its text.
-use Rattle.std.proofs.Common.{◌≡◌, ℕ, inr, List, Ok, Err}
+use Rattle.std.proofs.Common.{ℕ, inr, List, Ok, Err}
 use Rattle.std.specs.Prelude.{Result}
 use Rattle.rv_port.specs.Traces.{Passing}
 use Rattle.rv_shell.specs.Serving.{Writes, Written}

@@ -93,11 +93,19 @@ abbrev pub halted_word : Bool → List ℕ
 halted_word true = codes ", halted"
 halted_word false = []
 
+abbrev pub clock_line : Shown → List ℕ
+clock_line view = codes "clock " ++ (decimal view.clock ++ (halted_word view.halted ++ 10 ∷ []))
+
+-- how many entries may still come
+abbrev pub place_line : Shown → List ℕ
+place_line view = codes "room for " ++ (decimal view.room ++ codes " entries beside those that are owed\n")
+
+abbrev pub list_line : Shown → List ℕ
+list_line view = codes "list version " ++ (decimal view.version ++ (codes ", lines " ++ (decimal (length view.list) ++ 10 ∷ [])))
+
 -- the clock, the room and the list
 abbrev pub head_text : Shown → List ℕ
-head_text view =
-    codes "clock " ++ (decimal view.clock ++ (halted_word view.halted ++ (codes "\nroom for " ++ (decimal view.room
-    ++ (codes " entries beside those that are owed\nlist version " ++ (decimal view.version ++ (codes ", lines " ++ (decimal (length view.list) ++ 10 ∷ []))))))))
+head_text view = (clock_line view ++ place_line view) ++ list_line view
 
 -- what the tasks are at, and who waits where
 abbrev pub actors_text : List Shape → Shown → List ℕ

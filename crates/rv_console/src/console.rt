@@ -123,7 +123,6 @@ impl Console {
     }
 
     // The page of the journal that begins at a number.
-    #[tactic(auto, using(crate::proofs::Turning::turned))]
     fn page<R: Wait, W: Write>(
         &mut self,
         rt: &R,

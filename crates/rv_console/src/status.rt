@@ -1,7 +1,7 @@
 //! What the host is at, as the console shows it.
 
-ghost use Rattle.std.specs.Prelude.{◌≡◌, ◌++◌, ◌<◌, ◌^◌, IfOk, List, OnOk, codes, length, option_map, string_bytes};
-ghost use Rattle.rv_console.specs.Texts.{actor_names, actors_text, head_text, marked_actor, mode_word, object_name, queue_line, queue_lines, status_text, task_line, task_lines, waiter_line, waiter_lines};
+ghost use Rattle.std.specs.Prelude.{◌≡◌, ◌++◌, ◌<◌, ◌^◌, IfOk, List, OnOk, codes, length, string_bytes};
+ghost use Rattle.rv_console.specs.Texts.{actor_names, actors_text, clock_line, halted_word, head_text, list_line, marked_actor, place_line, mode_word, object_name, queue_line, queue_lines, status_text, task_line, task_lines, waiter_line, waiter_lines};
 ghost use Rattle.rv_event.specs.declared.entry.Entry.{Entry};
 ghost use Rattle.rv_tally.specs.Tallying.{IsTally};
 
@@ -192,18 +192,47 @@ fn put_waiters(
     put_waiters(text, alloc, catalogue, next, others)
 }
 
+// What is said of a host that is halted.
+fn halted_word(is_halted: bool) -> &'static str
+    ensures { result.now ≡ halted_word is_halted }
+{
+    if is_halted { ", halted" } else { "" }
+}
+
+// What the clock says.
+fn clock_line(alloc: Global, view: &View) -> Result<String, AllocError>
+    ensures { IfOk result (λ line. string_bytes line ≡ clock_line view.now) }
+{
+    let clock = view.clock();
+    let halted = halted_word(view.is_halted());
+    format!(in alloc; "clock {clock}{halted}\n")
+}
+
+// How many entries may still come.
+fn place_line(alloc: Global, view: &View) -> Result<String, AllocError>
+    ensures { IfOk result (λ line. string_bytes line ≡ place_line view.now) }
+{
+    let room = view.room();
+    format!(in alloc; "room for {room} entries beside those that are owed\n")
+}
+
+// Which list is in force.
+fn list_line(alloc: Global, view: &View) -> Result<String, AllocError>
+    ensures { IfOk result (λ line. string_bytes line ≡ list_line view.now) }
+{
+    let version = view.version();
+    let lines = view.list().len();
+    format!(in alloc; "list version {version}, lines {lines}\n")
+}
+
 // The clock, the room and the list.
 fn head_text(alloc: Global, view: &View) -> Result<String, AllocError>
     ensures { IfOk result (λ text. string_bytes text ≡ head_text view.now) }
 {
-    let clock = view.clock();
-    let halted = if view.is_halted() { ", halted" } else { "" };
-    let room = view.room();
-    let version = view.version();
-    let lines = view.list().len();
-    format!(in alloc;
-        "clock {clock}{halted}\nroom for {room} entries beside those that are owed\nlist version {version}, lines {lines}\n"
-    )
+    let mut text = clock_line(alloc, view)?;
+    text.push_str(place_line(alloc, view)?.as_str())?;
+    text.push_str(list_line(alloc, view)?.as_str())?;
+    Ok(text)
 }
 
 // Adds what the tasks are at, and who waits where.

@@ -1,5 +1,5 @@
 -- Chores, one after another.
-use Rattle.std.proofs.Common.{◌≡◌, ◌∙◌, ℕ, zero, suc, ◌+◌, Ok, Err, inl, inr, refl, subst}
+use Rattle.std.proofs.Common.{◌≡◌, ◌∙◌, ℕ, zero, suc, ◌+◌, Ok, Err, inl, inr, refl, sym, subst}
 use Rattle.std.specs.Prelude.{IfErr, IfOk, Result, pos}
 use Rattle.rv_access.specs.declared.change.Change.TheVariants as changes
 use Rattle.rv_behind.specs.Acting.{Does}
@@ -36,7 +36,7 @@ chore_told : (v w : Passing) (ask : Ask) (answer : Answer) → IsChore ask → T
 chore_told v w ask answer is told = chore v w ask told.0 is told.2
 
 on : (count : ℕ) (v u w : Passing) → Chores v u → ChoresOn count u w → Chores v w
-on zero v u w before same = subst (λ (x : Passing). Chores v x) (λ k. same (~ k)) before
+on zero v u w before same = subst (λ (x : Passing). Chores v x) (sym same) before
 on (suc count) v u w before more =
     let so_far = on count v u more.0 before more.3 in (suc so_far.0, (more.0, more.1, more.2, so_far.1, more.4, more.5))
 
