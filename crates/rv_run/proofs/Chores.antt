@@ -1,9 +1,9 @@
 -- Chores, one after another.
-use Rattle.std.proofs.Common.{◌≡◌, ◌∙◌, ℕ, zero, suc, ◌+◌, Ok, Err, inl, inr, refl, sym, subst}
+use Rattle.std.proofs.Common.{◌≡◌, ℕ, zero, suc, Ok, Err, inl, inr, refl, sym, subst}
 use Rattle.std.specs.Prelude.{IfErr, IfOk, Result, pos}
 use Rattle.rv_access.specs.declared.change.Change.TheVariants as changes
 use Rattle.rv_behind.specs.Acting.{Does}
-use Rattle.rv_behind.specs.Events.{by, catalogue_of}
+use Rattle.rv_behind.specs.Events.{by}
 use Rattle.rv_behind.specs.declared.event.Ask.{Ask}
 use Rattle.rv_behind.specs.declared.event.Reply.{Reply}
 use Rattle.rv_behind.specs.declared.event.Reply.TheVariants as Gives
@@ -20,7 +20,7 @@ use Rattle.rv_turn.specs.Passes.{Acted}
 use Rattle.rv_turn.specs.declared.pass.Worn.{Worn as Spent}
 use Rattle.rv_run.specs.Chores.{Chores, ChoresOn, IsChore}
 use Rattle.rv_run.specs.Rooming.{DeniesUnit, DoesDue}
-use Rattle.rv_run.specs.Ticking.{AsksInAll, AsksOf, KeepsPace, Ticks}
+use Rattle.rv_run.specs.Ticking.{AsksInAll, AsksOf, Ticks}
 use Rattle.rv_run.proofs.Growing.{acted_later, later_on, same_later}
 use Rattle.rv_view.specs.Views.{Shown}
 use Rattle.rv_tally.specs.declared.guard.Due.{Due}

@@ -1,5 +1,4 @@
-use Rattle.std.proofs.Common.{refl}
-use Rattle.rv_run.proofs.Chores.{no_chores, ticks_chores}
+use Rattle.rv_run.proofs.Chores.{ticks_chores}
 use Rattle.rv_run.proofs.ticking.keep_pace.Goals as goal
 
 pub returns-in-Ok-clause-chores : goal.returns-in-Ok-clause-chores
