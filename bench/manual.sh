@@ -56,7 +56,7 @@ stored_help() {
     python3 - <<'END'
 import glob, re
 pages = " ".join(" ".join(open(page).read() for page in sorted(glob.glob("crates/ravenhost/usage/help*"))).split())
-source = re.sub(r"^\s*(//|ghost ).*$", "", open("crates/ravenhost/src/chosen.rt").read(), flags=re.M)
+source = re.sub(r"^\s*(//|ghost ).*$", "", open("crates/rv_choice/src/chosen.rt").read(), flags=re.M)
 told = [words for words in re.findall(r'"([^"\n]*)"', source) if " " in words]
 assert len(told) > 8, told
 missing = [words for words in told if " ".join(words.split()) not in pages]
