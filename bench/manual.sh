@@ -101,7 +101,7 @@ examples() {
 }
 
 # The rows of the tests beside what the program says of them. Names that are left out have carriage returns in some lines
-# only, another rubbish in a journal that a later one takes the place of.
+# only, others rubbish in a journal that a later one takes the place of, or behind `quit`.
 rows() {
     printf '%s\n' "$PWD"/crates/rv_rows/data/*.raven >"$folder/files"
     shown errors && python3 - "$folder/shown" <<'END'
@@ -111,10 +111,12 @@ errors = collections.defaultdict(set)
 for line in open(sys.argv[1]):
     file, number = line.rstrip("\n").rsplit(":", 1)
     errors[os.path.basename(file)[:-len(".raven")]].add(int(number))
-# Faults of a line's own words, but where a number is the fault, or a section that another command serves.
+# Faults of a line's own words, but where a number is the fault, a word of the console, or a section that another command serves.
 told = ("BadStep", "BadSection", "list BadWord", "list BadName", "lex BadCharacter", "lex NotAscii")
 not_told = {"go_zero_times", "go_below_zero_times", "step_calls_with_5_values", "step_operator_without_request",
-            "step_raises_with_a_letter_past_ascii", "step_without_request", "list_name_ends_in_underscore"}
+            "step_raises_with_a_letter_past_ascii", "step_without_request", "list_name_ends_in_underscore", "cause_command_journal",
+            "cause_command_raise", "cause_load_of_a_section", "cause_step_33_components", "cause_step_alone", "cause_step_go",
+            "cause_step_values_5", "whole_load_without_end", "cause_command_unknown", "whole_bad_command"}
 served = {b"@unit", b"@shape", b"@list", b"@steps", b"@run", b"@journal", b"@host.toml"}
 count, wrong = collections.Counter(), 0
 for file in sorted(os.listdir(data)):
@@ -127,7 +129,7 @@ for file in sorted(os.listdir(data)):
     with open(f"{data}/{file}", "rb") as script:
         text = script.read()
     lines = text.split(b"\n")
-    if b"\r" in text or name == "audit_two_journals":
+    if b"\r" in text or name in ("audit_two_journals", "whole_commands"):
         continue
     fault, verdict = stored(".fault"), stored(".verdict")
     if not fault and (not verdict or verdict.startswith("legal")):

@@ -115,7 +115,7 @@ syntax match ravenChanged contained /-\=\d\{1,18}\ze\s/ nextgroup=@ravenLine,rav
 " Behind @run: the operator's commands, and unit texts between load and @end.
 syntax cluster ravenCommands contains=ravenLoad,ravenCommand,ravenChange,ravenCommandError
 syntax match ravenCommandError contained /\S.*/
-syntax match ravenCommand contained /^\s*\zs\%(halt\|quit\)\ze\s*$/
+syntax match ravenCommand contained /^\s*\zs\%(halt\|quit\|help\|list\|status\|journal\)\ze\s*$/
 syntax match ravenCommand contained /^\s*\zs\%(tick\|journal\|raise\)\ze\s/ nextgroup=ravenLastNumber,ravenRequestError skipwhite
 syntax match ravenChange contained /^\s*\zsappend\ze\s/ nextgroup=@ravenLine,ravenListError skipwhite
 syntax match ravenChange contained /^\s*\zsremove\ze\s/ nextgroup=ravenLastNumber,ravenRequestError skipwhite
