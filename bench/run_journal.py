@@ -18,7 +18,7 @@ import tempfile
 import time
 
 import run_pipe
-from run_pipe import LIMIT, PLANT, TOP, Run, expect, expect_that, looper, unit, until
+from run_pipe import LIMIT, PLANT, TOP, Run, expect, expect_that, free, looper, unit, until
 
 SEED = 20261127
 OWN = "@run\ntick 5\nappend allow * * *\njournal 1\nquit\n"
@@ -236,16 +236,26 @@ def synced(program, folder):
     expect_that("answers and syncs in the trace", answers > 0 and syncs > 0, (answers, syncs))
 
 
+def filled_in(program, words):
+    """How long it takes, in seconds, until calls of four tasks have added a million entries."""
+    units = "".join(unit(free(name)) for name in ("Aa", "Bb", "Cc", "Dd"))
+    script = "@host.toml\ncapacity = 1048576\nbudget = 1000000\n" + unit(PLANT) + units + "@list\nallow * * *\n@run\n"
+    begun = time.monotonic()
+    run = Run(program, script, words=("--halt-below", "5000", *words))
+    out, err = run.process.stdout.read(), run.process.stderr.read()
+    expect_that("the end of a run whose cost is measured", out.startswith(b"entries 10") and not err and run.process.wait(timeout=LIMIT) == 0, (out, err))
+    run.process.stdin.close()
+    return time.monotonic() - begun
+
+
 def cost(program, folder):
-    """How many entries calls of tasks add in a second, without a file and with one."""
-    script, counts = "@host.toml\ncapacity = 1048576\nbudget = 1000000\n" + FREE + "@run\n", []
-    for words in ((), ("--journal", os.path.join(folder, "cost"))):
-        run = Run(program, script, words=words)
-        time.sleep(1)
-        out, err, status = run.end()
-        expect("the end of a run whose cost is measured", (err, status), ("", 0))
-        counts.append(int(re.search(r"entries (\d+)\n$", out)[1]))
-    print(f"entries in a second: {counts[0]} without a file, {counts[1]} with one")
+    """What a file costs: a million entries with it, beside as many without it."""
+    file, without, kept = os.path.join(folder, "cost"), [], []
+    for _ in range(3):
+        without.append(filled_in(program, ()))
+        kept.append(filled_in(program, ("--journal", file)))
+        os.remove(file)
+    print(f"a million entries take {min(without):.2f} s without a file, and {min(kept) / min(without):.2f} times as long with one")
 
 
 def main():
