@@ -5,7 +5,8 @@
 #
 # Operator: write commands to the pipe, one a line, as in  echo 'append deny Feed Plant.Tank Fill' >FOLDER/commands
 # The answers come on standard output, notes on standard error; under systemd:  journalctl -fu ravenhost-plant
-# The journal:  tail -f FOLDER/journal.*; judged by  ravenhost audit --journal FOLDER/journal.DATE <FOLDER/plant.raven
+# The journal:  tail -f FOLDER/journal.*; judged over the units, without the list:
+#     sed '/^@list/,$d' FOLDER/plant.raven | ravenhost audit --journal FOLDER/journal.DATE
 # The end: SIGTERM (systemctl stop), or  echo quit >FOLDER/commands  . It ends also where this script is killed.
 # RAVENHOST names the program, where it isn't on PATH.
 set -u
