@@ -56,7 +56,8 @@ stored_help() {
     python3 - <<'END'
 import glob, re
 pages = " ".join(" ".join(open(page).read() for page in sorted(glob.glob("crates/ravenhost/usage/help*"))).split())
-source = re.sub(r"^\s*(//|ghost ).*$", "", open("crates/rv_choice/src/chosen.rt").read(), flags=re.M)
+source = "".join(open(file).read() for file in sorted(glob.glob("crates/rv_choice/src/*.rt")))
+source = re.sub(r"^\s*(//|ghost ).*$", "", source, flags=re.M)
 told = [words for words in re.findall(r'"([^"\n]*)"', source) if " " in words]
 assert len(told) > 8, told
 missing = [words for words in told if " ".join(words.split()) not in pages]

@@ -4,11 +4,11 @@ use Rattle.std.specs.Prelude.{◌==◌, ◌⊎◌, is_some, option_map, unwrap_o
 use Rattle.clap.specs.Words.{is_simple, subcommand_of, takes}
 use Rattle.clap.specs.Walk.{Row, Text, first_of, one_of}
 use Rattle.clap.proofs.OnLiterals.{clap_on_literals}
-use Rattle.rv_choice.specs.declared.chosen.Choice.{Choice}
-use Rattle.rv_choice.specs.declared.chosen.Choice.TheVariants.{Play, Check, Run, Audit, AuditFile}
-use Rattle.rv_choice.specs.declared.chosen.When.{When}
-use Rattle.rv_choice.specs.declared.chosen.When.TheVariants.{Auto}
-use Rattle.rv_choice.specs.declared.chosen.Sync.TheVariants.{Second}
+use Rattle.rv_choice.specs.declared.selection.Choice.{Choice}
+use Rattle.rv_choice.specs.declared.selection.Choice.TheVariants.{Play, Check, Run, Audit, AuditFile}
+use Rattle.rv_choice.specs.declared.selection.When.{When}
+use Rattle.rv_choice.specs.declared.selection.When.TheVariants.{Auto}
+use Rattle.rv_choice.specs.declared.selection.Sync.TheVariants.{Second}
 use Rattle.rv_choice.specs.Choices.{HasNoColor, HasNoFile, HasNoRun, HasNoWord, IsFlag, IsJournal, IsNoted, IsRunning, LacksFile, Names, NamesNone, audit_of, line_of, longest_period, most_entries, no_run, number_of, program, sync_of, when_of}
 
 -- The plain lines.

@@ -10,13 +10,13 @@ use Rattle.clap.specs.Simple.{on_top}
 use Rattle.clap.specs.Walk.{Text, first_of, one_of}
 use Rattle.clap.specs.declared.builder.action.ArgAction.TheVariants.{Set, SetTrue}
 use Rattle.rv_text.specs.Numbers.{natural_of}
-use Rattle.rv_choice.specs.declared.chosen.Choice.{Choice}
-use Rattle.rv_choice.specs.declared.chosen.Choice.TheVariants.{Play, Check, Run, Audit, AuditFile}
-use Rattle.rv_choice.specs.declared.chosen.When.{When}
-use Rattle.rv_choice.specs.declared.chosen.When.TheVariants.{Auto, Always}
-use Rattle.rv_choice.specs.declared.chosen.When.TheVariants as Whens
-use Rattle.rv_choice.specs.declared.chosen.Sync.{Sync}
-use Rattle.rv_choice.specs.declared.chosen.Sync.TheVariants.{Each, Second, Never}
+use Rattle.rv_choice.specs.declared.selection.Choice.{Choice}
+use Rattle.rv_choice.specs.declared.selection.Choice.TheVariants.{Play, Check, Run, Audit, AuditFile}
+use Rattle.rv_choice.specs.declared.selection.When.{When}
+use Rattle.rv_choice.specs.declared.selection.When.TheVariants.{Auto, Always}
+use Rattle.rv_choice.specs.declared.selection.When.TheVariants as Whens
+use Rattle.rv_choice.specs.declared.selection.Sync.{Sync}
+use Rattle.rv_choice.specs.declared.selection.Sync.TheVariants.{Each, Second, Never}
 use Rattle.rv_choice.specs.declared.chosen.Unchosen.{Unchosen}
 use Rattle.rv_choice.specs.declared.chosen.Unchosen.TheVariants.{Usage, Unknown, NoMemory}
 

@@ -1,4 +1,11 @@
 //! The command line of the program: what its words choose.
 #![tactic(auto)]
 
+mod args;
 pub mod chosen;
+mod command;
+mod run_words;
+mod running;
+pub mod selection;
+mod subcommands;
+mod words;

@@ -1,7 +1,7 @@
 use Rattle.std.proofs.Common.{◌∙◌, codes}
 use Rattle.clap.specs.Matches.{found_of}
 use Rattle.clap.proofs.WalkLemmas.{first_value-rows}
-use Rattle.rv_choice.proofs.chosen.kept_of.Goals as goal
+use Rattle.rv_choice.proofs.run_words.kept_of.Goals as goal
 
 pub returns-clause-some : goal.returns-clause-some
 returns-clause-some c =

@@ -2,7 +2,7 @@ use Rattle.std.proofs.Common.{◌∙◌, codes, ap, sym}
 use Rattle.clap.specs.Matches.{found_of}
 use Rattle.clap.proofs.WalkLemmas.{first_value-rows, one_text-rows}
 use Rattle.rv_choice.specs.Choices.{when_of}
-use Rattle.rv_choice.proofs.chosen.telling_of.Goals as goal
+use Rattle.rv_choice.proofs.words.telling_of.Goals as goal
 
 pub returns-in-Some-clause-some : goal.returns-in-Some-clause-some
 returns-in-Some-clause-some c =

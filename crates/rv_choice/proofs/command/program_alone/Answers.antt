@@ -2,7 +2,7 @@ use Rattle.std.proofs.Common.{◌≡◌, ◌∙◌, true, ap, codes}
 use Rattle.clap.specs.Words.{app_of, new_app}
 use Rattle.clap.specs.Simple.{app_of_fields, on_top}
 use Rattle.rv_choice.specs.Choices.{versioned}
-use Rattle.rv_choice.proofs.chosen.program_alone.Goals as goal
+use Rattle.rv_choice.proofs.command.program_alone.Goals as goal
 
 pub returns : goal.returns
 returns c =

@@ -1,7 +1,7 @@
 use Rattle.std.proofs.Common.{◌∙◌, codes}
 use Rattle.clap.specs.Matches.{found_of}
 use Rattle.clap.proofs.WalkLemmas.{one_text-rows}
-use Rattle.rv_choice.proofs.chosen.has_console.Goals as goal
+use Rattle.rv_choice.proofs.run_words.has_console.Goals as goal
 
 pub returns : goal.returns
 returns c =

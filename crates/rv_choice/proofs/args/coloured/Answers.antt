@@ -1,7 +1,7 @@
 use Rattle.std.proofs.Common.{◌∙◌, ap}
 use Rattle.std.proofs.lemmas.Result.{IfOk-weaker}
 use Rattle.clap.specs.Words.{app_of, with_rule}
-use Rattle.rv_choice.proofs.chosen.coloured.Goals as goal
+use Rattle.rv_choice.proofs.args.coloured.Goals as goal
 
 pub returns-clause-app : goal.returns-clause-app
 returns-clause-app c =

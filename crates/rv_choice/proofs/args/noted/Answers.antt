@@ -2,7 +2,7 @@ use Rattle.std.proofs.Common.{◌≡◌, ◌∙◌, ap, ap₂}
 use Rattle.std.proofs.lemmas.Result.{IfOk-weaker}
 use Rattle.clap.specs.Words.{app_of, with_rule}
 use Rattle.rv_choice.specs.Choices.{notes_rule}
-use Rattle.rv_choice.proofs.chosen.noted.Goals as goal
+use Rattle.rv_choice.proofs.args.noted.Goals as goal
 
 pub returns-clause-app : goal.returns-clause-app
 returns-clause-app c =

@@ -3,7 +3,7 @@ use Rattle.std.proofs.lemmas.Result.{IfOk-weaker}
 use Rattle.clap.specs.Words.{App, app_of, with_subcommand}
 use Rattle.rv_choice.specs.Choices.{alone, checked, playing, running}
 use Rattle.rv_choice.proofs.Adding.{both}
-use Rattle.rv_choice.proofs.chosen.command.Goals as goal
+use Rattle.rv_choice.proofs.command.command.Goals as goal
 
 pub returns : goal.returns
 returns c =

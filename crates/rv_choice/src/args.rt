@@ -1,0 +1,121 @@
+//! The arguments that subcommands share.
+
+ghost use Rattle.std.specs.Prelude.{◌≡◌, false, IfOk, codes};
+ghost use Rattle.clap.specs.Words.{app_of, rule_of};
+ghost use Rattle.clap.specs.declared.builder.command.Command.TheViews.{out-Command as fields_of};
+ghost use Rattle.rv_choice.specs.Choices.{file_rule, flag_rule, notes_rule, sync_rule, value_rule, with_color, with_notes};
+
+use clap::{Arg, ArgAction, Command};
+use std::alloc::{AllocError, Global};
+
+/// A flag.
+pub fn flag<'a>(alloc: Global, name: &'a str, help: &'a str) -> Arg<'a>
+    ensures rule { rule_of result ≡ flag_rule name.now }
+    ensures local { result.global ≡ false }
+{
+    Arg::new(alloc, name)
+        .long(name)
+        .help(help)
+        .action(ArgAction::SetTrue)
+}
+
+/// The flag that asks for explanations.
+pub fn explain_flag<'a>(alloc: Global, help: &'a str) -> Arg<'a>
+    ensures rule { rule_of result ≡ flag_rule (codes "explain") }
+    ensures local { result.global ≡ false }
+{
+    flag(alloc, "explain", help)
+}
+
+// When notes on lists are told.
+fn notes_flag<'a>(alloc: Global) -> Arg<'a>
+    ensures rule { rule_of result ≡ notes_rule }
+    ensures local { result.global ≡ false }
+{
+    Arg::new(alloc, "notes")
+        .long("notes")
+        .value_name("WHEN")
+        .help(
+            "Tell of misspelt names and covered lines in lists, on standard error: auto (at a terminal), always or never",
+        )
+        .action(ArgAction::Set)
+}
+
+// When standard error has colours.
+fn color_flag<'a>(alloc: Global) -> Arg<'a>
+    ensures rule { rule_of result ≡ value_rule (codes "color") }
+    ensures local { result.global ≡ false }
+{
+    Arg::new(alloc, "color")
+        .long("color")
+        .value_name("WHEN")
+        .help(
+            "Show colours on standard error: auto (at a terminal, unless NO_COLOR is set), always or never",
+        )
+        .action(ArgAction::Set)
+}
+
+/// The name of a journal's file.
+pub fn file_arg<'a>(alloc: Global, help: &'a str) -> Arg<'a>
+    ensures rule { rule_of result ≡ file_rule }
+    ensures local { result.global ≡ false }
+{
+    Arg::new(alloc, "journal")
+        .long("journal")
+        .value_name("FILE")
+        .help(help)
+        .action(ArgAction::Set)
+}
+
+/// When the file of a journal is synced.
+pub fn sync_arg<'a>(alloc: Global) -> Arg<'a>
+    ensures rule { rule_of result ≡ sync_rule }
+    ensures local { result.global ≡ false }
+{
+    Arg::new(alloc, "sync")
+        .long("sync")
+        .value_name("HOW")
+        .help(
+            "With --journal: when the file is synced with its disk: each (before each answer), second or never",
+        )
+        .action(ArgAction::Set)
+}
+
+/// A subcommand that looks at lists: it may be told when notes on them are told, and that they are errors.
+pub fn noted<'a>(alloc: Global, command: Command<'a>) -> Result<Command<'a>, AllocError>
+    requires { (fields_of command).has_globals ≡ false }
+    ensures app { IfOk result (λ c. app_of c ≡ with_notes (app_of command.entry)) }
+    ensures local { IfOk result (λ c. (fields_of c).has_globals ≡ false) }
+{
+    let are_errors = flag(
+        alloc,
+        "warnings-are-errors",
+        "End with status 1 before the first step or thread where such a note is due",
+    );
+    command.arg(notes_flag(alloc))?.arg(are_errors)
+}
+
+/// A subcommand that may be told when standard error has colours.
+pub fn coloured<'a>(alloc: Global, command: Command<'a>) -> Result<Command<'a>, AllocError>
+    requires { (fields_of command).has_globals ≡ false }
+    ensures app { IfOk result (λ c. app_of c ≡ with_color (app_of command.entry)) }
+    ensures local { IfOk result (λ c. (fields_of c).has_globals ≡ false) }
+{
+    command.arg(color_flag(alloc))
+}
+
+/// An argument with a value that has a name.
+pub fn valued<'a>(alloc: Global, name: &'a str, value: &'a str, help: &'a str) -> Arg<'a>
+    ensures rule { rule_of result ≡ value_rule name.now }
+    ensures local { result.global ≡ false }
+{
+    Arg::new(alloc, name)
+        .long(name)
+        .value_name(value)
+        .help(help)
+        .action(ArgAction::Set)
+}
+
+/// What is explained of a refused script.
+pub const FAULT_HELP: &str =
+    "Below a fault, show the line with its place, and say what the fault means";

@@ -1,0 +1,98 @@
+//! The subcommand `run`, flag by flag.
+
+ghost use Rattle.std.specs.Prelude.{◌≡◌, false, IfOk};
+ghost use Rattle.clap.specs.Words.{app_of};
+ghost use Rattle.clap.specs.declared.builder.command.Command.TheViews.{out-Command as fields_of};
+ghost use Rattle.rv_choice.specs.Choices.{attending, consoled, guarding, keeping, running};
+
+use crate::args::{FAULT_HELP, coloured, explain_flag, file_arg, flag, noted, sync_arg, valued};
+use clap::Command;
+use std::alloc::{AllocError, Global};
+
+// The subcommand `run`, which may keep its journal in a file, and explain a fault.
+fn keeping_subcommand<'a>(alloc: Global) -> Result<Command<'a>, AllocError>
+    ensures app { IfOk result (λ c. app_of c ≡ keeping) }
+    ensures local { IfOk result (λ c. (fields_of c).has_globals ≡ false) }
+{
+    let journal = file_arg(
+        alloc,
+        "Write the journal into this file as it comes; the file must be new or empty",
+    );
+    Command::new(alloc, "run")
+        .about(
+            "Run the host of a script from standard input, and serve the commands that follow its line @run",
+        )
+        .after_help("Example: ravenhost run < examples/plant.raven")
+        .arg(journal)?
+        .arg(sync_arg(alloc))?
+        .arg(explain_flag(alloc, FAULT_HELP))
+}
+
+// The same, which may be told what to do as its journal fills.
+fn guarding_subcommand<'a>(alloc: Global) -> Result<Command<'a>, AllocError>
+    ensures app { IfOk result (λ c. app_of c ≡ guarding) }
+    ensures local { IfOk result (λ c. (fields_of c).has_globals ≡ false) }
+{
+    // An argument is made when nothing can fail any more before it is added.
+    let command = keeping_subcommand(alloc)?;
+    let halt_below = valued(
+        alloc,
+        "halt-below",
+        "N",
+        "End as by quit when the journal has room for fewer than N entries",
+    );
+    let command = command.arg(halt_below)?;
+    let quota = valued(
+        alloc,
+        "quota",
+        "N",
+        "Deny a unit everything whose tasks have added more than N entries, by a line at the end of the list",
+    );
+    command.arg(quota)
+}
+
+// The same, whose clock may follow a real one, and which may be ended from outside.
+fn attending_subcommand<'a>(alloc: Global) -> Result<Command<'a>, AllocError>
+    ensures app { IfOk result (λ c. app_of c ≡ attending) }
+    ensures local { IfOk result (λ c. (fields_of c).has_globals ≡ false) }
+{
+    let command = guarding_subcommand(alloc)?;
+    let tick = valued(
+        alloc,
+        "tick",
+        "MS",
+        "Have the clock follow the real one, a tick a millisecond: every MS milliseconds one tick MS",
+    );
+    let command = command.arg(tick)?;
+    let stop_by = valued(
+        alloc,
+        "stop-by",
+        "PIPE",
+        "End as at the end of input once this pipe has a byte or ends; the script ./ravenhost gives it, for signals",
+    );
+    command.arg(stop_by)
+}
+
+// The same, which may serve a person by a console.
+fn consoled_subcommand<'a>(alloc: Global) -> Result<Command<'a>, AllocError>
+    ensures app { IfOk result (λ c. app_of c ≡ consoled) }
+    ensures local { IfOk result (λ c. (fields_of c).has_globals ≡ false) }
+{
+    let command = attending_subcommand(alloc)?;
+    let console = flag(
+        alloc,
+        "console",
+        "Serve a person: a prompt before each command, and help, list, status and journal alone beside the commands",
+    );
+    command.arg(console)
+}
+
+/// The same, which may be told of notes.
+pub fn run_subcommand<'a>(alloc: Global) -> Result<Command<'a>, AllocError>
+    ensures app { IfOk result (λ c. app_of c ≡ running) }
+    ensures local { IfOk result (λ c. (fields_of c).has_globals ≡ false) }
+{
+    let command = consoled_subcommand(alloc)?;
+    let command = noted(alloc, command)?;
+    coloured(alloc, command)
+}

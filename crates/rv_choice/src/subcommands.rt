@@ -1,0 +1,85 @@
+//! The subcommands `play`, `check` and `audit`.
+
+ghost use Rattle.std.specs.Prelude.{◌≡◌, false, IfOk};
+ghost use Rattle.clap.specs.Words.{app_of};
+ghost use Rattle.clap.specs.declared.builder.command.Command.TheViews.{out-Command as fields_of};
+ghost use Rattle.rv_choice.specs.Choices.{audited, checked, judging, playing};
+
+use crate::args::{FAULT_HELP, coloured, explain_flag, file_arg, flag, noted};
+use clap::Command;
+use std::alloc::{AllocError, Global};
+
+/// The subcommand `play`, which may print more, and explain a fault.
+pub fn play_subcommand<'a>(alloc: Global) -> Result<Command<'a>, AllocError>
+    ensures app { IfOk result (λ c. app_of c ≡ playing) }
+    ensures local { IfOk result (λ c. (fields_of c).has_globals ≡ false) }
+{
+    let all = flag(
+        alloc,
+        "all",
+        "Print unrecorded answers too, as lines that begin with -",
+    );
+    let command = Command::new(alloc, "play")
+        .about("Carry out a script from standard input, and print its journal")
+        .after_help("Example: ravenhost play --all < examples/first.raven")
+        .arg(all)?
+        .arg(explain_flag(alloc, FAULT_HELP))?;
+    let command = noted(alloc, command)?;
+    coloured(alloc, command)
+}
+
+/// The subcommand `check`, which may explain a fault, and look at whole scripts.
+pub fn check_subcommand<'a>(alloc: Global) -> Result<Command<'a>, AllocError>
+    ensures app { IfOk result (λ c. app_of c ≡ checked) }
+    ensures local { IfOk result (λ c. (fields_of c).has_globals ≡ false) }
+{
+    let command = Command::new(alloc, "check")
+        .about("Say of each section of a script from standard input whether it is well formed")
+        .after_help("Example: ravenhost check --script --explain < examples/first.raven")
+        .arg(explain_flag(alloc, FAULT_HELP))?;
+    let whole = flag(
+        alloc,
+        "script",
+        "Look at a whole script of play, run or audit, also at its steps, its commands or its journal",
+    );
+    let command = command.arg(whole)?;
+    let command = noted(alloc, command)?;
+    coloured(alloc, command)
+}
+
+// The subcommand `audit`, which may be given a file and a flag that goes with it.
+fn judging_subcommand<'a>(alloc: Global) -> Result<Command<'a>, AllocError>
+    ensures app { IfOk result (λ c. app_of c ≡ judging) }
+    ensures local { IfOk result (λ c. (fields_of c).has_globals ≡ false) }
+{
+    let journal = file_arg(
+        alloc,
+        "Judge the journal in this file, of any length, instead of one in the script",
+    );
+    let command = Command::new(alloc, "audit")
+        .about(
+            "Judge the journal of a script from standard input: whether each of its entries was due",
+        )
+        .after_help("Example: ravenhost audit --journal JOURNAL < UNITS")
+        .arg(journal)?;
+    let torn = flag(
+        alloc,
+        "torn",
+        "With --journal: take a last line without its line feed as cut off by a crash",
+    );
+    command.arg(torn)
+}
+
+/// The same, which may be told to explain ends.
+pub fn audit_subcommand<'a>(alloc: Global) -> Result<Command<'a>, AllocError>
+    ensures app { IfOk result (λ c. app_of c ≡ audited) }
+    ensures local { IfOk result (λ c. (fields_of c).has_globals ≡ false) }
+{
+    let command = judging_subcommand(alloc)?;
+    let explain = explain_flag(
+        alloc,
+        "Also say whether each body ended as its text means on the entries since it started",
+    );
+    let command = command.arg(explain)?;
+    coloured(alloc, command)
+}
