@@ -3,7 +3,7 @@
 -- all three with `--notes WHEN` and `--warnings-are-errors`; and `audit`, which
 -- may be given `--journal FILE` and, with it, `--torn`. Each may be given `--explain` and `--color WHEN`. What words come to is what
 -- `clap` says of this command.
-use Rattle.std.specs.Prelude.{◌≡◌, ◌⊎◌, ℕ, Bool, true, false, ◌&&◌, nat_le, nat_lt, if◌then◌else◌, List, [], ◌∷◌, Option, Some, None, codes}
+use Rattle.std.specs.Prelude.{◌≡◌, ◌⊎◌, ℕ, Bool, true, false, ◌&&◌, nat_le, nat_lt, if◌then◌else◌, List, [], ◌∷◌, Option, Some, None, codes, option_map}
 use Rattle.std.specs.Str.{bytes_eq}
 use Rattle.clap.specs.Words.{App, Row, Rule, new_app, new_rule, subcommand_of, with_rule, with_subcommand}
 use Rattle.clap.specs.Simple.{on_top}
@@ -17,6 +17,8 @@ use Rattle.rv_choice.specs.declared.selection.When.TheVariants.{Auto, Always}
 use Rattle.rv_choice.specs.declared.selection.When.TheVariants as Whens
 use Rattle.rv_choice.specs.declared.selection.Sync.{Sync}
 use Rattle.rv_choice.specs.declared.selection.Sync.TheVariants.{Each, Second, Never}
+use Rattle.rv_choice.specs.declared.selection.RunWords.{RunWords as GivenWords}
+use Rattle.rv_choice.specs.declared.selection.Selection.{Selection}
 use Rattle.rv_choice.specs.declared.chosen.Unchosen.{Unchosen}
 use Rattle.rv_choice.specs.declared.chosen.Unchosen.TheVariants.{Usage, Unknown, NoMemory}
 
@@ -188,6 +190,17 @@ pub record RunWords : Type 0 where
   pub stop : Option Text
   pub console : Bool
 
+-- the same, of the program's own
+abbrev pub words_of : GivenWords → RunWords
+words_of run = record {
+  kept = option_map (λ k. (k.name.now, k.sync)) run.kept;
+  tick = run.tick;
+  halt_below = run.halt_below;
+  quota = run.quota;
+  stop = option_map (λ s. s.now) run.stop_by;
+  console = run.console;
+}
+
 -- by what `run` is given
 abbrev pub IsRun : List Row → RunWords → Type 0
 IsRun rows run =
@@ -236,18 +249,17 @@ abbrev pub NamesNone : Text × List Row → Type 0
 NamesNone found = (found.0 ≡ codes "play" → HasNoWord found.1) × (found.0 ≡ codes "check" → HasNoWord found.1) × (found.0 ≡ codes "run" → HasNoWord found.1 ⊎ HasNoRun found.1)
     × (found.0 ≡ codes "audit" → LacksFile found.1 ⊎ HasNoColor found.1)
 
--- a subcommand with what it was given is a choice, with a file that is judged where there is one, what becomes of notes, when there
--- are colours, whether there are explanations, and what a run does beside its commands
-abbrev pub IsSelection : Text × List Row → Choice → Option Text → When → Bool → When → Bool → RunWords → Type 0
-IsSelection found choice file notes errors color explains run =
-    Names found choice × IsJournal found file × IsNoted found choice notes errors × IsExplaining found explains
-    × IsRunning found choice run × (when_of (first_of (codes "color") found.1) ≡ Some color)
+-- a subcommand with what it was given is selected: a choice, with a file that is judged where there is one, what becomes of notes,
+-- when there are colours, whether there are explanations, and what a run does beside its commands
+abbrev pub IsSelection : Text × List Row → Selection → Type 0
+IsSelection found chosen =
+    Names found chosen.choice × IsJournal found (option_map (λ name. name.now) chosen.journal)
+    × IsNoted found chosen.choice chosen.notes chosen.are_errors × IsExplaining found chosen.explains
+    × IsRunning found chosen.choice (words_of chosen.run) × (when_of (first_of (codes "color") found.1) ≡ Some chosen.color)
 
 -- the words name such a choice
-abbrev pub Chooses : List Text → Choice → Option Text → When → Bool → When → Bool → RunWords → Type 0
-Chooses words choice file notes errors color explains run =
-    (found : Text × List Row) × (subcommand_of program words ≡ Some found)
-    × IsSelection found choice file notes errors color explains run
+abbrev pub Chooses : List Text → Selection → Type 0
+Chooses words chosen = (found : Text × List Row) × (subcommand_of program words ≡ Some found) × IsSelection found chosen
 
 -- where `clap` takes the words, nothing is chosen only for want of memory, or where its matches name no choice
 abbrev pub Lacks : List Text → Unchosen → Type 0

@@ -1,6 +1,6 @@
 //! What the words of a command line choose.
 
-ghost use Rattle.std.specs.Prelude.{◌≡◌, ◌∷◌, ◌⊎◌, List, true, Some, IfSome, IfNone, IfOk, IfErr, codes, map, option_map};
+ghost use Rattle.std.specs.Prelude.{◌≡◌, ◌∷◌, ◌⊎◌, List, true, Some, IfSome, IfNone, IfOk, IfErr, codes, map};
 ghost use Rattle.clap.specs.Words.{subcommand_rows_of, takes};
 ghost use Rattle.clap.specs.Matches.{found_of};
 ghost use Rattle.clap.specs.Walk.{Row, Text, rows_of};
@@ -28,16 +28,7 @@ pub enum Unchosen {
 
 // What `play` chooses by what it was given; none where notes or colours have another word.
 fn play_chosen<'a>(words: &ArgMatches<'a>) -> Option<Selection<'a>>
-    ensures some { IfSome result (λ chosen. IsSelection (codes "play", rows_of (found_of words.now)) chosen.choice
-        (option_map (λ s. s.now) chosen.journal) chosen.notes chosen.are_errors chosen.color chosen.explains
-        (record {
-          kept = option_map (λ k. (k.name.now, k.sync)) chosen.run.kept;
-          tick = chosen.run.tick;
-          halt_below = chosen.run.halt_below;
-          quota = chosen.run.quota;
-          stop = option_map (λ s. s.now) chosen.run.stop_by;
-          console = chosen.run.console;
-        })) }
+    ensures some { IfSome result (λ chosen. IsSelection (codes "play", rows_of (found_of words.now)) chosen) }
     ensures none { IfNone result (HasNoWord (rows_of (found_of words.now))) }
 {
     let Some(told) = telling_of(words) else {
@@ -59,16 +50,7 @@ fn play_chosen<'a>(words: &ArgMatches<'a>) -> Option<Selection<'a>>
 
 // What `check` chooses; none where notes or colours have another word.
 fn check_chosen<'a>(words: &ArgMatches<'a>) -> Option<Selection<'a>>
-    ensures some { IfSome result (λ chosen. IsSelection (codes "check", rows_of (found_of words.now)) chosen.choice
-        (option_map (λ s. s.now) chosen.journal) chosen.notes chosen.are_errors chosen.color chosen.explains
-        (record {
-          kept = option_map (λ k. (k.name.now, k.sync)) chosen.run.kept;
-          tick = chosen.run.tick;
-          halt_below = chosen.run.halt_below;
-          quota = chosen.run.quota;
-          stop = option_map (λ s. s.now) chosen.run.stop_by;
-          console = chosen.run.console;
-        })) }
+    ensures some { IfSome result (λ chosen. IsSelection (codes "check", rows_of (found_of words.now)) chosen) }
     ensures none { IfNone result (HasNoWord (rows_of (found_of words.now))) }
 {
     let Some(told) = telling_of(words) else {
@@ -90,16 +72,7 @@ fn check_chosen<'a>(words: &ArgMatches<'a>) -> Option<Selection<'a>>
 
 // What `run` chooses; none where a flag has another word, or a sync has no file.
 fn run_chosen<'a>(words: &ArgMatches<'a>) -> Option<Selection<'a>>
-    ensures some { IfSome result (λ chosen. IsSelection (codes "run", rows_of (found_of words.now)) chosen.choice
-        (option_map (λ s. s.now) chosen.journal) chosen.notes chosen.are_errors chosen.color chosen.explains
-        (record {
-          kept = option_map (λ k. (k.name.now, k.sync)) chosen.run.kept;
-          tick = chosen.run.tick;
-          halt_below = chosen.run.halt_below;
-          quota = chosen.run.quota;
-          stop = option_map (λ s. s.now) chosen.run.stop_by;
-          console = chosen.run.console;
-        })) }
+    ensures some { IfSome result (λ chosen. IsSelection (codes "run", rows_of (found_of words.now)) chosen) }
     ensures none { IfNone result (HasNoWord (rows_of (found_of words.now)) ⊎ HasNoRun (rows_of (found_of words.now))) }
 {
     let Some(told) = telling_of(words) else {
@@ -124,16 +97,7 @@ fn run_chosen<'a>(words: &ArgMatches<'a>) -> Option<Selection<'a>>
 
 // What `audit` chooses; none where a flag has no file, or colours have another word.
 fn audit_chosen<'a>(words: &ArgMatches<'a>) -> Option<Selection<'a>>
-    ensures some { IfSome result (λ chosen. IsSelection (codes "audit", rows_of (found_of words.now)) chosen.choice
-        (option_map (λ s. s.now) chosen.journal) chosen.notes chosen.are_errors chosen.color chosen.explains
-        (record {
-          kept = option_map (λ k. (k.name.now, k.sync)) chosen.run.kept;
-          tick = chosen.run.tick;
-          halt_below = chosen.run.halt_below;
-          quota = chosen.run.quota;
-          stop = option_map (λ s. s.now) chosen.run.stop_by;
-          console = chosen.run.console;
-        })) }
+    ensures some { IfSome result (λ chosen. IsSelection (codes "audit", rows_of (found_of words.now)) chosen) }
     ensures none { IfNone result (LacksFile (rows_of (found_of words.now)) ⊎ HasNoColor (rows_of (found_of words.now))) }
 {
     let journal = words.get_str("journal");
@@ -155,16 +119,7 @@ fn audit_chosen<'a>(words: &ArgMatches<'a>) -> Option<Selection<'a>>
 // What a command line that was read chooses.
 fn choice_of<'a>(matches: &ArgMatches<'a>) -> Option<Selection<'a>>
     ensures found { IfSome result (λ chosen. (found : Text × List Row) × (subcommand_rows_of matches.now ≡ Some found)
-        × IsSelection found chosen.choice (option_map (λ s. s.now) chosen.journal) chosen.notes chosen.are_errors
-        chosen.color chosen.explains
-        (record {
-          kept = option_map (λ k. (k.name.now, k.sync)) chosen.run.kept;
-          tick = chosen.run.tick;
-          halt_below = chosen.run.halt_below;
-          quota = chosen.run.quota;
-          stop = option_map (λ s. s.now) chosen.run.stop_by;
-          console = chosen.run.console;
-        })) }
+        × IsSelection found chosen) }
     ensures none { IfNone result ((found : Text × List Row) → subcommand_rows_of matches.now ≡ Some found
         → NamesNone found) }
 {
@@ -186,16 +141,7 @@ fn choice_of<'a>(matches: &ArgMatches<'a>) -> Option<Selection<'a>>
 
 /// What the words of a command line choose, the first of which is the program's name.
 pub fn chosen<'a>(alloc: Global, words: &'a [&'a str]) -> Result<Selection<'a>, Unchosen>
-    ensures ok { IfOk result (λ chosen. Chooses (map (λ w. w.now) words.now) chosen.choice
-        (option_map (λ s. s.now) chosen.journal) chosen.notes chosen.are_errors chosen.color chosen.explains
-        (record {
-          kept = option_map (λ k. (k.name.now, k.sync)) chosen.run.kept;
-          tick = chosen.run.tick;
-          halt_below = chosen.run.halt_below;
-          quota = chosen.run.quota;
-          stop = option_map (λ s. s.now) chosen.run.stop_by;
-          console = chosen.run.console;
-        })) }
+    ensures ok { IfOk result (λ chosen. Chooses (map (λ w. w.now) words.now) chosen) }
     ensures taken { takes program (map (λ w. w.now) words.now) ≡ true
         → IfErr result (Lacks (map (λ w. w.now) words.now)) }
     ensures line { (name : Text) → (choice : Choice) → map (λ w. w.now) words.now ≡ name ∷ line_of choice

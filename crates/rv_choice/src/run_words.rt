@@ -3,7 +3,7 @@
 ghost use Rattle.std.specs.Prelude.{◌≡◌, IfSome, IfNone, codes, option_map};
 ghost use Rattle.clap.specs.Matches.{found_of};
 ghost use Rattle.clap.specs.Walk.{first_of, one_of, rows_of};
-ghost use Rattle.rv_choice.specs.Choices.{HasNoFile, HasNoFileAs, HasNoRun, IsFlag, IsRun, Keeps, KeepsAs, number_of, sync_of};
+ghost use Rattle.rv_choice.specs.Choices.{HasNoFile, HasNoFileAs, HasNoRun, IsFlag, IsRun, Keeps, KeepsAs, number_of, sync_of, words_of};
 
 use crate::selection::{KeptFile, RunWords, Sync};
 use clap::ArgMatches;
@@ -95,15 +95,7 @@ fn has_console(words: &ArgMatches<'_>) -> bool
 
 /// What a run does beside its commands, by what it was given; none where a word is another, or a sync has no file.
 pub fn run_words<'a>(words: &ArgMatches<'a>) -> Option<RunWords<'a>>
-    ensures some { IfSome result (λ run. IsRun (rows_of (found_of words.now))
-        (record {
-          kept = option_map (λ k. (k.name.now, k.sync)) run.kept;
-          tick = run.tick;
-          halt_below = run.halt_below;
-          quota = run.quota;
-          stop = option_map (λ s. s.now) run.stop_by;
-          console = run.console;
-        })) }
+    ensures some { IfSome result (λ run. IsRun (rows_of (found_of words.now)) (words_of run)) }
     ensures none { IfNone result (HasNoRun (rows_of (found_of words.now))) }
 {
     let Some(kept) = kept_of(words) else {
