@@ -1,10 +1,5 @@
 pub mod Commanded
-pub mod Attended
 pub mod Ended
 pub mod Served
 pub mod Opened
 pub mod Prepared
-pub mod Growing
-pub mod Ticked
-pub mod Chores
-pub mod Keeping

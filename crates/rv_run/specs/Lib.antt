@@ -4,8 +4,3 @@ pub mod ServingLines
 pub mod Finishing
 pub mod Preparing
 pub mod Running
-pub mod Ticking
-pub mod Rooming
-pub mod Chores
-pub mod Attending
-pub mod KeepingRuns

@@ -20,7 +20,7 @@ const NO_LINE: usize = 0;
 
 /// Whether the run goes on.
 #[derive(Clone, Copy, Debug, PartialEq, Eq, Drop)]
-pub(crate) enum Goes {
+pub enum Goes {
     /// The next command is read.
     On,
     /// No command is read any more.
@@ -28,7 +28,7 @@ pub(crate) enum Goes {
 }
 
 /// The failure of a write. Want of memory is told as such.
-pub(crate) fn of_write(error: io::Error) -> Failure
+pub fn of_write(error: io::Error) -> Failure
     ensures { IsNoFault result }
 {
     if error.kind() == ErrorKind::OutOfMemory {
@@ -50,7 +50,7 @@ fn said(written: io::Result<()>) -> Result<Goes, Failure>
 }
 
 /// The failure of an input.
-pub(crate) fn of_input(fault: InputFault) -> Failure
+pub fn of_input(fault: InputFault) -> Failure
     ensures { IsNoFault result }
 {
     match fault {
@@ -178,7 +178,7 @@ fn after_fault<W: Write>(fault: LineFault, writer: &mut W) -> Result<Goes, Failu
 }
 
 /// What comes after a command line that did this.
-pub(crate) fn after<W: Write>(
+pub fn after<W: Write>(
     next: Result<Next, LineFault>,
     writer: &mut W,
 ) -> Result<Goes, Failure>
@@ -191,7 +191,7 @@ pub(crate) fn after<W: Write>(
 }
 
 /// Carries out a command line.
-pub(crate) fn command<T: Wait, H: Hires, R: Read, W: Write>(
+pub fn command<T: Wait, H: Hires, R: Read, W: Write>(
     rt: &T,
     hires: &H,
     session: &mut Session,

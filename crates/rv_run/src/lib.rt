@@ -2,21 +2,12 @@
 //! operator are served until the run ends.
 #![tactic(auto)]
 
-mod attention;
-mod coming;
 mod command;
-mod console;
 mod devices;
-mod following;
 mod journal;
-pub mod kept;
 mod loads;
 mod opening;
-mod room;
 pub mod run;
-mod telling;
-mod ticking;
 
-pub use attention::{Attention, Typing};
-pub use following::{Follower, KeptFailure};
-pub use kept::Outputs;
+pub use command::{Goes, after, command, of_input, of_write};
+pub use run::{MOST_COMMANDS, say_entries, session_on, wrote};

@@ -1,0 +1,6 @@
+pub mod Attended
+pub mod Growing
+pub mod Ticked
+pub mod Chores
+pub mod Keeping
+pub mod Lasting

@@ -1,0 +1,73 @@
+-- One request for ticks after another.
+use Rattle.std.proofs.Common.{◌≡◌, ◌∙◌, ◌<◌, ◌≤◌, ◌+◌, ◌-◌, ℕ, suc, min, arith, inl, inr, refl, sym, ap, subst, Ok, Err, MatchResult}
+use Rattle.std.specs.Prelude.{Result, ℤ, pos}
+use Rattle.rv_behind.specs.declared.event.Ask.{Ask}
+use Rattle.rv_event.specs.declared.entry.Answer.{Answer}
+use Rattle.rv_event.specs.declared.entry.Request.TheVariants as asks
+use Rattle.rv_pace.specs.Pacing.{Pacing, due, missed}
+use Rattle.rv_port.specs.Controls.{Told}
+use Rattle.rv_port.specs.Traces.{Passing}
+use Rattle.rv_turn.specs.Passes.{IsWorn}
+use Rattle.rv_turn.specs.declared.pass.Worn.{Worn as Spent}
+use Rattle.rv_attend.specs.Ticking.{AsksInAll, AsksOf, Ticks}
+
+-- a request, as the control takes it
+pub asked_of : (ticks : ℕ) (number : ℤ) (v w : Passing) (r : Result Answer Spent) → number ≡ pos ticks
+    → MatchResult r (λ a. Told v (Ask.Step (asks.Tick number)) a w) (λ x. IsWorn v w) → AsksOf ticks v w
+asked_of ticks number v w (Ok a) is told = inl (a, subst (λ (n : ℤ). Told v (Ask.Step (asks.Tick n)) a w) is told)
+asked_of ticks number v w (Err x) is worn = inr worn
+
+-- so many requests were made, and the ticks that are left are those that weren't asked
+pub record SoFar (v w : Passing) (old new : Pacing) (now : ℕ) : Type 0 where
+  pub count : ℕ
+  pub ticks : ℕ
+  pub asks : AsksInAll count ticks v w
+  pub asked : new ≡ record old { asked = old.asked + ticks }
+  pub left : ticks + missed new now ≡ missed old now
+
+nothing_asked : (p : Pacing) → p ≡ record p { asked = p.asked + 0 }
+nothing_asked p = ap (λ (n : ℕ). record p { asked = n }) (omega arith)
+
+pub at_first : (v : Passing) (p : Pacing) (now : ℕ) → SoFar v v p p now
+at_first v p now = record { count = 0; ticks = 0; asks = (refl, refl); asked = nothing_asked p; left = omega arith }
+
+rest_of : (all gone ticks : ℕ) → ticks ≡ min 1_000_000 (all - gone) → ticks + (all - (gone + ticks)) ≡ all - gone
+rest_of all gone ticks is = omega (arith, is)
+
+most_of : (left ticks : ℕ) → ticks ≡ min 1_000_000 left → ticks ≤ 1_000_000
+most_of left ticks is = omega (arith, is)
+
+stepped : (p : Pacing) (now ticks : ℕ) → ticks ≡ min 1_000_000 (missed p now) → ticks + missed (record p { asked = p.asked + ticks }) now ≡ missed p now
+stepped p now ticks is = rest_of (due p now) p.asked ticks is
+
+pub fewer : (p q : Pacing) (now ticks : ℕ) → ticks ≡ min 1_000_000 (missed p now) → q ≡ record p { asked = p.asked + ticks } → (ticks ≡ 0 → ⊥) → missed q now < missed p now
+fewer p q now ticks is next some =
+    subst (λ (r : Pacing). missed r now < missed p now) (sym next) (omega (arith, stepped p now ticks is, some))
+
+asked_on : (old mid next : Pacing) (ticks more : ℕ) → mid ≡ record old { asked = old.asked + ticks } → next ≡ record mid { asked = mid.asked + more }
+    → next ≡ record old { asked = old.asked + (ticks + more) }
+asked_on old mid next ticks more first second =
+    second ∙ ap (λ (p : Pacing). record p { asked = p.asked + more }) first ∙ ap (λ (n : ℕ). record old { asked = n }) (omega arith)
+
+pub one_further : (v u w : Passing) (old mid next : Pacing) (now more : ℕ) → SoFar v u old mid now → more ≡ min 1_000_000 (missed mid now)
+    → next ≡ record mid { asked = mid.asked + more } → (more ≡ 0 → ⊥) → AsksOf more u w → SoFar v w old next now
+one_further v u w old mid next now more so_far is second some asks = record {
+  count = suc so_far.count;
+  ticks = so_far.ticks + more;
+  asks = (u, so_far.ticks, more, so_far.asks, asks, omega (arith, some), most_of (missed mid now) more is, refl);
+  asked = asked_on old mid next so_far.ticks more so_far.asked second;
+  left = subst (λ (p : Pacing). so_far.ticks + more + missed p now ≡ missed old now) (sym second) (omega (arith, so_far.left, stepped mid now more is));
+}
+
+none_left : (left ticks : ℕ) → ticks ≡ min 1_000_000 left → ticks ≡ 0 → left ≡ 0
+none_left left ticks is none = omega (arith, is, none)
+
+pub whole : (v w : Passing) (old mid next : Pacing) (now more : ℕ) → SoFar v w old mid now → more ≡ min 1_000_000 (missed mid now)
+    → next ≡ record mid { asked = mid.asked + more } → more ≡ 0 → Ticks v w old next now
+whole v w old mid next now more so_far is second none =
+    let all : so_far.ticks ≡ missed old now = omega (arith, so_far.left, none_left (missed mid now) more is none) in
+    record {
+      count = so_far.count;
+      asks = subst (λ (n : ℕ). AsksInAll so_far.count n v w) all so_far.asks;
+      asked = asked_on old mid next so_far.ticks more so_far.asked second ∙ ap (λ (n : ℕ). record old { asked = old.asked + n }) (omega (arith, all, none));
+    }

@@ -1,0 +1,6 @@
+pub mod Ticking
+pub mod Rooming
+pub mod Chores
+pub mod Attending
+pub mod KeepingRuns
+pub mod Lasting

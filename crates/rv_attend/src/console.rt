@@ -1,0 +1,107 @@
+//! What a console says beside the answers: a prompt, and what its words show.
+
+ghost use Rattle.std.specs.Prelude.{◌≡◌, IfNone, None, Ok};
+ghost use Rattle.rv_follow.specs.Following.{Later};
+ghost use Rattle.rv_run.specs.declared.command.Goes.TheVariants.{Out};
+
+use crate::attention::{Attention, Typing};
+use crate::follower::Follower;
+use rv_console::{Word, word_of};
+use rv_fault::Failure;
+use rv_run::{Goes, after, wrote};
+use rv_staff::{Session, say};
+use std::io;
+use std::io::Write;
+use std::sync::Wait;
+
+// What stands before each command.
+const PROMPT: &str = "> ";
+
+/// Writes a prompt, where there is a console and the run goes on.
+pub(crate) fn prompt<W: Write>(asked: &Attention, goes: Goes, writer: &mut W) -> io::Result<()>
+    ensures { asked.now.console ≡ None → W.contents writer.new ≡ W.contents writer.old }
+{
+    match asked.console {
+        Some(_) if goes == Goes::On => say(writer, PROMPT),
+        _ => Ok(()),
+    }
+}
+
+// Ends the line of a prompt behind which no command comes.
+fn end_prompt<W: Write>(asked: &Attention, writer: &mut W) -> io::Result<()>
+    ensures { asked.now.console ≡ None → W.contents writer.new ≡ W.contents writer.old }
+{
+    match asked.console {
+        Some(_) => say(writer, "\n"),
+        None => Ok(()),
+    }
+}
+
+/// Ends a run behind its prompt.
+pub(crate) fn leave<W: Write>(asked: &Attention, writer: &mut W) -> Result<Goes, Failure>
+    ensures silent { asked.now.console ≡ None → W.contents writer.new ≡ W.contents writer.old }
+    ensures out { asked.now.console ≡ None → result ≡ Ok Out }
+{
+    match wrote(end_prompt(asked, writer)) {
+        Ok(()) => Ok(Goes::Out),
+        Err(failure) => Err(failure),
+    }
+}
+
+// Writes a command behind its prompt, where no terminal shows it.
+fn echo<W: Write>(typing: Typing, line: &str, writer: &mut W) -> io::Result<()> {
+    match typing {
+        Typing::Echoed => {
+            say(writer, line)?;
+            say(writer, "\n")
+        }
+        Typing::Shown => Ok(()),
+    }
+}
+
+// Answers a word of the console.
+#[tactic(auto, using(crate::proofs::Growing::looks_later))]
+fn show<T: Wait, W: Write, F>(
+    rt: &T,
+    session: &mut Session,
+    follower: &mut Follower<'_, T, F>,
+    word: Word,
+    writer: &mut W,
+) -> Result<Goes, Failure>
+    ensures later { Later session.old.staff.control session.new.staff.control }
+    ensures input { follower.new.input ≡ follower.old.input }
+    ensures keeper { follower.new.keeper ≡ follower.old.keeper }
+    ensures asked { follower.new.asked ≡ follower.old.asked }
+{
+    let tally = &follower.room.tally;
+    let shown = session
+        .staff
+        .show(rt, &mut follower.console, tally, word, writer);
+    after(shown, writer)
+}
+
+/// Answers a line that comes at a console, where it is a word of that. None where it is to be carried out as a command.
+#[tactic(auto, using(crate::proofs::Growing::same_later))]
+pub(crate) fn answer_word<T: Wait, W: Write, F>(
+    rt: &T,
+    session: &mut Session,
+    follower: &mut Follower<'_, T, F>,
+    line: &str,
+    writer: &mut W,
+) -> Option<Result<Goes, Failure>>
+    ensures plain { follower.old.asked.console ≡ None → (result ≡ None) × (W.contents writer.new ≡ W.contents writer.old) }
+    ensures none { IfNone result (session.new.staff ≡ session.old.staff) }
+    ensures later { Later session.old.staff.control session.new.staff.control }
+    ensures input { follower.new.input ≡ follower.old.input }
+    ensures keeper { follower.new.keeper ≡ follower.old.keeper }
+    ensures asked { follower.new.asked ≡ follower.old.asked }
+{
+    let typing = follower.asked.console?;
+    match wrote(echo(typing, line, writer)) {
+        Ok(()) => {
+            let word = word_of(session.alloc, line)?;
+            Some(show(rt, session, follower, word, writer))
+        }
+        Err(failure) => Some(Err(failure)),
+    }
+}

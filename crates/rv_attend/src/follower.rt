@@ -1,0 +1,82 @@
+//! What an attended run has beside its host.
+
+ghost use Rattle.std.specs.Prelude.{◌≡◌};
+
+use crate::attention::Attention;
+use crate::explaining::Given;
+use crate::room::Room;
+use crossbeam_channel::Receiver;
+use rv_console::Console;
+use rv_crew::notice::Notice;
+use rv_fault::Failure;
+use rv_feed::Listening;
+use rv_input::Input;
+use rv_keep::Keeper;
+use rv_pace::Pace;
+use std::alloc::Global;
+use std::io;
+
+/// What an attended run has beside its host: the input that a thread reads, the file, and the clock that is followed.
+#[derive(Drop)]
+pub struct Follower<'a, T, F> {
+    /// Where memory is taken from.
+    pub alloc: Global,
+    /// The input, of which some may have been read.
+    pub input: Input,
+    /// Whence more of it comes.
+    pub source: Listening<'a, T>,
+    /// The file.
+    pub keeper: Keeper<F>,
+    /// What is asked of the run.
+    pub asked: Attention,
+    // The ticks that a real clock makes due, once it is looked at.
+    pub(crate) pace: Option<Pace>,
+    pub(crate) room: Room,
+    // What is shown a person, where there is a console.
+    pub(crate) console: Console,
+    // What threads tell of their ends, where notes are told.
+    pub(crate) notices: Option<Receiver<Notice>>,
+    // What the input gave so far, where what is refused is explained.
+    pub(crate) given: Given,
+}
+
+impl<'a, T, F> Follower<'a, T, F> {
+    /// Before the run.
+    pub fn new(
+        alloc: Global,
+        source: Listening<'a, T>,
+        keeper: Keeper<F>,
+        asked: Attention,
+    ) -> Follower<'a, T, F>
+        ensures { result.keeper ≡ keeper }
+    {
+        Follower {
+            alloc,
+            input: Input::new(alloc),
+            source,
+            keeper,
+            asked,
+            pace: None,
+            room: Room::new(alloc, &asked),
+            console: Console::new(alloc, asked.columns),
+            notices: None,
+            given: Given::new(alloc),
+        }
+    }
+}
+
+/// Why a run that keeps its journal ends before its work is done.
+#[derive(Drop)]
+pub enum KeptFailure {
+    /// As a run without a file.
+    Run(Failure),
+    /// A write to the file, or its sync, failed.
+    File(io::Error),
+}
+
+/// What is written to the operator, and what is told beside that.
+#[derive(Drop)]
+pub struct Outputs<W, E> {
+    pub writer: W,
+    pub errors: E,
+}

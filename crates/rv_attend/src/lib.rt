@@ -1,0 +1,21 @@
+//! An attended run: as `rv_run`'s, and between its commands what is due is done, its journal is kept in a file, and a person is
+//! served at a console.
+#![tactic(auto)]
+
+mod attention;
+mod coming;
+mod console;
+mod due;
+mod explaining;
+mod follower;
+mod kept;
+mod notes;
+mod room;
+mod serving;
+mod telling;
+mod ticking;
+mod waiting;
+
+pub use attention::{Attention, Typing};
+pub use follower::{Follower, KeptFailure, Outputs};
+pub use kept::run_kept;

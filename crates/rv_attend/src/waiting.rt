@@ -1,0 +1,159 @@
+//! Waiting for a command.
+
+ghost use Rattle.std.specs.Prelude.{◌≡◌};
+ghost use Rattle.rv_attend.specs.Attending.{Grows};
+ghost use Rattle.rv_attend.specs.Lasting.{Tends, at};
+
+use crate::coming::{has_command, has_command_now};
+use crate::due::do_chores;
+use crate::follower::{Follower, KeptFailure};
+use crate::ticking::until_tick;
+use rv_fault::Failure;
+use rv_feed::{Came, Listening};
+use rv_follow::Found;
+use rv_input::Input;
+use rv_pace::Pace;
+use rv_run::{Goes, of_input};
+use rv_staff::Session;
+use std::io::Write;
+use std::sync::Wait;
+use std::time::{Clock, Duration};
+
+// The shortest and the longest wait between two looks, in milliseconds.
+const SHORTEST: u64 = 1;
+
+const LONGEST: u64 = 16;
+
+// What was found of the input.
+#[derive(Clone, Copy, Drop)]
+enum Heard {
+    // No whole command yet, and nothing more in time.
+    Nothing,
+    // More of it.
+    More,
+    // A command, or the end of the input.
+    Command,
+}
+
+// How long is waited for the input: until the next tick at most, and for longer each time that nothing came.
+fn next_wait<T: Clock>(rt: &T, pace: &Option<Pace>, millis: u64) -> Duration {
+    let wait = Duration::from_millis(millis);
+    match until_tick(rt, pace) {
+        Some(until) => wait.min(until),
+        None => wait,
+    }
+}
+
+// Waits for more of the input.
+fn hear<T: Wait + Clock>(
+    source: &mut Listening<'_, T>,
+    input: &mut Input,
+    most: Duration,
+) -> Result<Heard, Failure>
+    ensures { Grows input.old input.new }
+{
+    let before = input.ahead().len();
+    match source.hear(input, most) {
+        Ok(Came::Bytes) if has_command_now(input.ahead(), before) => Ok(Heard::Command),
+        Ok(Came::Bytes) => Ok(Heard::More),
+        Ok(Came::Over) => Ok(Heard::Command),
+        Ok(Came::Nothing) => Ok(Heard::Nothing),
+        Err(fault) => Err(of_input(fault)),
+    }
+}
+
+// How long the next wait is, in milliseconds, behind one of this length.
+fn longer(found: Found, heard: Heard, millis: u64) -> u64 {
+    match heard {
+        Heard::Nothing if found == Found::Nothing => millis.saturating_mul(2).min(LONGEST),
+        _ => SHORTEST,
+    }
+}
+
+// Whether the run goes on: it was not ended from outside.
+fn unless_stopped<T: Wait + Clock>(source: &Listening<'_, T>, goes: Goes) -> Goes {
+    if source.is_stopped() { Goes::Out } else { goes }
+}
+
+// Waits once, and then does what is due. Gives whether the run goes on, once that is known.
+fn wait_once<T: Wait + Clock, E: Write, F: Write>(
+    rt: &T,
+    session: &mut Session,
+    follower: &mut Follower<'_, T, F>,
+    errors: &mut E,
+    millis: &mut u64,
+) -> Result<Option<Goes>, KeptFailure>
+    ensures tends { Tends (at session.old.staff (F.contents follower.old.keeper.file) follower.old.keeper.next follower.old.asked)
+        (at session.new.staff (F.contents follower.new.keeper.file) follower.new.keeper.next follower.new.asked) result }
+    ensures heard { Grows follower.old.input follower.new.input }
+{
+    let most = next_wait(rt, &follower.pace, *millis);
+    match hear(&mut follower.source, &mut follower.input, most) {
+        Ok(Heard::Command) => Ok(Some(Goes::On)),
+        Ok(heard) => match do_chores(rt, session, follower, errors) {
+            Ok(round) => {
+                *millis = longer(round.found, heard, *millis);
+                Ok(unless_on(unless_stopped(&follower.source, round.goes)))
+            }
+            Err(failure) => Err(failure),
+        },
+        Err(failure) => Err(KeptFailure::Run(failure)),
+    }
+}
+
+// The end of a run, or nothing yet.
+fn unless_on(goes: Goes) -> Option<Goes> {
+    match goes {
+        Goes::On => None,
+        Goes::Out => Some(Goes::Out),
+    }
+}
+
+/// Waits until the next command has come, or none comes any more, and meanwhile does what is due. Gives whether the run goes on:
+/// no command is served where it was ended from outside.
+pub(crate) fn wait_command<T: Wait + Clock, E: Write, F: Write>(
+    rt: &T,
+    session: &mut Session,
+    follower: &mut Follower<'_, T, F>,
+    errors: &mut E,
+) -> Result<Goes, KeptFailure>
+    ensures tends { Tends (at session.old.staff (F.contents follower.old.keeper.file) follower.old.keeper.next follower.old.asked)
+        (at session.new.staff (F.contents follower.new.keeper.file) follower.new.keeper.next follower.new.asked) result }
+    ensures heard { Grows follower.old.input follower.new.input }
+{
+    if has_command(follower.input.ahead()) {
+        return Ok(unless_stopped(&follower.source, Goes::On));
+    }
+    let mut millis = SHORTEST;
+    for _ in rt.forever() {
+        match wait_once(rt, session, follower, errors, &mut millis) {
+            Ok(None) => {}
+            Ok(Some(goes)) => return Ok(unless_stopped(&follower.source, goes)),
+            Err(failure) => return Err(failure),
+        }
+    }
+    unreachable!()
+}
+
+/// Waits until the next command has come, or none comes any more. At a console what is due is done behind that too: so it tells of
+/// entries that came while nobody typed.
+pub(crate) fn wait_caught_up<T: Wait + Clock, E: Write, F: Write>(
+    rt: &T,
+    session: &mut Session,
+    follower: &mut Follower<'_, T, F>,
+    errors: &mut E,
+) -> Result<Goes, KeptFailure>
+    ensures tends { Tends (at session.old.staff (F.contents follower.old.keeper.file) follower.old.keeper.next follower.old.asked)
+        (at session.new.staff (F.contents follower.new.keeper.file) follower.new.keeper.next follower.new.asked) result }
+    ensures heard { Grows follower.old.input follower.new.input }
+{
+    match wait_command(rt, session, follower, errors) {
+        Ok(Goes::On) if follower.asked.console.is_some() => {
+            match do_chores(rt, session, follower, errors) {
+                Ok(round) => Ok(round.goes),
+                Err(failure) => Err(failure),
+            }
+        }
+        waited => waited,
+    }
+}

@@ -1,6 +1,0 @@
-use Rattle.std.specs.Prelude.{◌≡◌}
-use Rattle.rv_run.specs.Chores.{Chores}
-use Rattle.rv_run.proofs.room.keep_room.Given as goal
-
-abbrev pub invariant-loop : goal.invariant-loop
-invariant-loop g l = Chores l.fn.session.staff.control l.session.staff.control × (l.session.staff.crew ≡ l.fn.session.staff.crew)
