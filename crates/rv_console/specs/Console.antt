@@ -21,7 +21,9 @@ use Rattle.rv_shell.specs.declared.shell.LineFault.TheVariants.{NoMemory, Write,
 use Rattle.rv_shell.specs.declared.shell.Next.{Next}
 use Rattle.rv_shell.specs.declared.shell.Next.TheVariants.{Go}
 use Rattle.rv_view.specs.Views.{Shown}
+use Rattle.rv_console.specs.Cut.{cut_text}
 use Rattle.rv_console.specs.Help.{help_text}
+use Rattle.rv_console.specs.Screen.{Screen}
 use Rattle.rv_console.specs.Texts.{list_text, status_text}
 use Rattle.rv_console.specs.declared.word.Word.{Word}
 use Rattle.rv_console.specs.declared.word.Word.TheVariants.{Blank, Help, Lines, Status, Journal, Page}
@@ -94,11 +96,12 @@ Turns old new v w Journal result = TurnsPage old old v w new result
 Turns old new v w (Page from) result = TurnsPage old from v w new result
 Turns old new v w word result = new ≡ old
 
--- What a word does; the next page begins with the entry of this number, and these entries were counted.
-abbrev pub Answers : Written → Written → Passing → Passing → ℕ → List Entry → Word → Result Next LineFault → Type 0
-Answers old new v w next entries Blank result = TellsCaller old new v w Go result
-Answers old new v w next entries Help result = WritesOnly old new v w help_text result
-Answers old new v w next entries Lines result = ShowsOrWorn list_text old new v w result
-Answers old new v w next entries Status result = ShowsOrWorn (status_text (catalogue_of w.seen) entries) old new v w result
-Answers old new v w next entries Journal result = ReadsOrWorn old new v w next result
-Answers old new v w next entries (Page from) result = ReadsOrWorn old new v w from result
+-- What a word does at such a console, where these entries were counted. The list and the status are cut to its columns.
+abbrev pub Answers : Written → Written → Passing → Passing → Screen → List Entry → Word → Result Next LineFault → Type 0
+Answers old new v w screen entries Blank result = TellsCaller old new v w Go result
+Answers old new v w screen entries Help result = WritesOnly old new v w help_text result
+Answers old new v w screen entries Lines result = ShowsOrWorn (λ view. cut_text screen.columns (list_text view)) old new v w result
+Answers old new v w screen entries Status result =
+    ShowsOrWorn (λ view. cut_text screen.columns (status_text (catalogue_of w.seen) entries view)) old new v w result
+Answers old new v w screen entries Journal result = ReadsOrWorn old new v w screen.next result
+Answers old new v w screen entries (Page from) result = ReadsOrWorn old new v w from result

@@ -1,17 +1,19 @@
 //! The console's side of a run.
 
-ghost use Rattle.std.specs.Prelude.{◌≡◌, IfErr, IfOk, List, length, ◌<◌, ◌^◌};
+ghost use Rattle.std.specs.Prelude.{◌≡◌, IfErr, IfOk, List, ℕ, length, string_bytes, ◌<◌, ◌^◌};
 ghost use Rattle.rv_behind.specs.Acting.{Does};
 ghost use Rattle.rv_behind.specs.Events.{by, catalogue_of};
 ghost use Rattle.rv_behind.specs.declared.event.Ask.{Ask};
 ghost use Rattle.rv_behind.specs.declared.event.Reply.{Reply};
 ghost use Rattle.rv_console.specs.Console.{Answers, Looks, NotShown, ShowsOrWorn, Turns, TurnsPage};
+ghost use Rattle.rv_console.specs.Cut.{cut_text};
 ghost use Rattle.rv_console.specs.Texts.{list_text, status_text};
 ghost use Rattle.rv_event.specs.declared.entry.Entry.{Entry};
-ghost use Rattle.rv_shell.specs.Serving.{ReadsOrWorn};
+ghost use Rattle.rv_shell.specs.Serving.{ReadsOrWorn, Writes};
 ghost use Rattle.rv_tally.specs.Tallying.{IsTally};
 ghost use Rattle.rv_turn.specs.Passes.{Acted};
 
+use crate::cut::cut_text;
 use crate::list::list_text;
 use crate::status::status_text;
 use crate::word::Word;
@@ -22,7 +24,7 @@ use rv_port::fault::PageFault;
 use rv_shell::{LineFault, Next, put, put_made};
 use rv_tally::Tally;
 use rv_view::View;
-use std::alloc::Global;
+use std::alloc::{AllocError, Global};
 use std::io::Write;
 use std::marker::Model;
 use std::sync::Wait;
@@ -43,28 +45,52 @@ halt            nothing new starts
 quit            the run ends
 ";
 
-/// What `run` shows a person. Contracts see the number of the entry that the next page begins with.
+/// What `run` shows a person. Contracts see the number of the entry that the next page begins with, and how many columns
+/// there are.
 #[derive(Drop)]
 pub struct Console {
     alloc: Global,
     // The number of the entry that the next page begins with.
     next: usize,
+    // How many columns a line of the list or the status may take; any number where there are none.
+    columns: Option<usize>,
 }
 
 impl Model for Console {
-    ghost use Rattle.std.specs.Prelude.{ℕ};
+    ghost use Rattle.rv_console.specs.Screen.{Screen};
 
-    ghost Value = { ℕ };
+    ghost Value = { Screen };
 
-    ghost view = { λ c. c.next };
+    ghost view = { λ c. record { next = c.next; columns = c.columns } };
 }
 
 impl Console {
-    /// A console, whose next page is the first.
-    pub fn new(alloc: Global) -> Console
-        ensures { result ≡ 1 }
+    /// A console, whose next page is the first. With columns, 1 or more, each line of the list and the status that is wider is
+    /// cut to them; no column counts as one.
+    pub fn new(alloc: Global, columns: Option<usize>) -> Console
+        ensures next { result.next ≡ 1 }
+        ensures columns { result.columns ≡ columns }
     {
-        Console { alloc, next: 1 }
+        Console {
+            alloc,
+            next: 1,
+            columns,
+        }
+    }
+
+    // Writes a text that there was memory for, cut to the columns.
+    fn put_cut<W: Write>(
+        &self,
+        writer: &mut W,
+        text: Result<String, AllocError>,
+    ) -> Result<Next, LineFault>
+        ensures { (bytes : List ℕ) → IfOk text (λ t. string_bytes t ≡ bytes)
+            → Writes (W.contents writer.old) (W.contents writer.new) (cut_text self.now.columns bytes) result }
+    {
+        match text {
+            Ok(text) => put_made(writer, cut_text(self.alloc, self.columns, text)),
+            Err(_) => Err(LineFault::NoMemory),
+        }
     }
 
     // What is shown of the host.
@@ -88,13 +114,13 @@ impl Console {
         control: &mut Control,
         writer: &mut W,
     ) -> Result<Next, LineFault>
-        ensures shows { ShowsOrWorn list_text (W.contents writer.old) (W.contents writer.new) control.old control.new result }
+        ensures shows { ShowsOrWorn (λ view. cut_text self.now.columns (list_text view)) (W.contents writer.old) (W.contents writer.new) control.old control.new result }
         ensures looks { Looks control.old control.new }
     {
         match Console::look(rt, control) {
             Ok(view) => {
                 let text = list_text(self.alloc, &view);
-                put_made(writer, text)
+                self.put_cut(writer, text)
             }
             Err(fault) => Err(fault),
         }
@@ -109,14 +135,14 @@ impl Console {
         writer: &mut W,
     ) -> Result<Next, LineFault>
         ensures shows { (entries : List Entry) → length entries < 2 ^ 64 → IsTally entries tally.now
-            → ShowsOrWorn (status_text (catalogue_of control.new.seen) entries) (W.contents writer.old) (W.contents writer.new)
+            → ShowsOrWorn (λ view. cut_text self.now.columns (status_text (catalogue_of control.new.seen) entries view)) (W.contents writer.old) (W.contents writer.new)
             control.old control.new result }
         ensures looks { Looks control.old control.new }
     {
         match Console::look(rt, control) {
             Ok(view) => {
                 let text = status_text(self.alloc, control.catalogue(), &view, tally);
-                put_made(writer, text)
+                self.put_cut(writer, text)
             }
             Err(fault) => Err(fault),
         }
@@ -131,7 +157,8 @@ impl Console {
         writer: &mut W,
     ) -> Result<Next, LineFault>
         ensures reads { ReadsOrWorn (W.contents writer.old) (W.contents writer.new) control.old control.new from result }
-        ensures turns { TurnsPage self.old from control.old control.new self.new result }
+        ensures turns { TurnsPage self.old.next from control.old control.new self.new.next result }
+        ensures columns { self.new.columns ≡ self.old.columns }
     {
         let mut page = Page::new(self.alloc);
         match control.entries(rt, from, &mut page) {
@@ -162,7 +189,8 @@ impl Console {
     ) -> Result<Next, LineFault>
         ensures answers { (entries : List Entry) → length entries < 2 ^ 64 → IsTally entries tally.now
             → Answers (W.contents writer.old) (W.contents writer.new) control.old control.new self.old entries word result }
-        ensures turns { Turns self.old self.new control.old control.new word result }
+        ensures turns { Turns self.old.next self.new.next control.old control.new word result }
+        ensures columns { self.new.columns ≡ self.old.columns }
         ensures looks { Looks control.old control.new }
     {
         match word {

@@ -2,9 +2,11 @@
 #![tactic(auto)]
 
 mod console;
+mod cut;
 mod list;
 mod status;
 mod word;
 
 pub use console::{Console, HELP};
+pub use cut::cut_text;
 pub use word::{Word, word_of};
