@@ -2,18 +2,22 @@
 """Drives the built `ravenhost run` over an open pipe as a person would: commands one by one, each answer read before the
 next is written. Says what it saw that the documents don't allow, and ends with 1 then. Needs nothing but Python.
 
-    bench/run_pipe.py [PROGRAM]        the program is crates/ravenhost/out/ravenhost where none is named
-    bench/run_pipe.py --signals [LAUNCHER]     signals alone, through the script ./ravenhost, which asks for the proved program
+    bench/run_pipe.py [PROGRAM]            the program is crates/ravenhost/out/ravenhost where none is named
+    bench/run_pipe.py --signals [LAUNCHER] signals and a terminal's width alone, through the script ./ravenhost, which asks for
+                                           the proved program
 """
+import fcntl
 import os
 import pty
 import re
 import resource
 import select
 import signal
+import struct
 import subprocess
 import sys
 import tempfile
+import termios
 import threading
 import time
 
@@ -631,7 +635,7 @@ def reasons(program):
 
 PROMPT = "> "
 MISSPELT = "append allow Post Post.Gaet Pass"
-NOTE = "warning: list line 2, names Post.Gaet; Post has Gate\n"
+NOTE = "warning: list line 2 names Post.Gaet; Post has Gate\n"
 
 
 class Typed:
@@ -724,9 +728,73 @@ def console(program):
         expect_that("the end of a console at a terminal", re.search(due, out) and status == 0, (out, status))
 
 
+# A run whose list, status and page have lines that are wider than 100 columns, 40, and 100; no task changes it.
+WIDE_RUN = f"@list\nallow {'A' * 64} Post.{'G' * 64} * from 10 until 1000000000\n@run\n"
+SHOWS = ("list", "status", "journal", "help")
+
+
+def cut(text, columns):
+    """A text as so many columns show it: of a line that is wider the last is `>`."""
+    return re.sub(rf"(?m)^(.{{{columns - 1}}})..+$", r"\1>", text)
+
+
+def answers_of(console):
+    """What a console without tasks shows, behind each command's own line."""
+    console.send(WIDE_RUN)
+    console.prompted()
+    return {command: console.ask(command).removeprefix(command + "\n") for command in SHOWS}
+
+
+def at_terminal(program, columns, size=None):
+    """What a console shows at a terminal, with this COLUMNS, if any, in its environment, and of this many columns, if given."""
+    process, end = pty.fork()
+    if process == 0:
+        if size is not None:
+            fcntl.ioctl(1, termios.TIOCSWINSZ, struct.pack("HHHH", 24, size, 0, 0))
+        environment = os.environ | ({"COLUMNS": columns} if columns else {})
+        os.execve(program, [program, "run", "--console", "--notes", "never"], environment)
+    console = Typed(end, end)
+    answers = answers_of(console)
+    console.send("quit\n")
+    out = console.rest()
+    status = os.waitstatus_to_exitcode(os.waitpid(process, 0)[1])
+    os.close(end)
+    expect_that(f"quit at a terminal, COLUMNS {columns}", re.fullmatch(r"quit\nentries \d+\n", out) and status == 0, (out, status))
+    return answers
+
+
+def whole_answers(program):
+    """The same through a pipe, where nothing is cut, whatever COLUMNS says."""
+    run = Run(program, "", ("--console", "--notes", "never"), bufsize=0, env={**os.environ, "COLUMNS": "40"})
+    answers = answers_of(Typed(run.process.stdout.fileno(), run.process.stdin.fileno()))
+    out, err, status = run.end("quit\n")
+    expect_that("quit of a wide console", re.fullmatch(r"quit\nentries \d+\n", out) and (err, status) == ("", 0), (out, err, status))
+    for command, width in (("list", 100), ("status", 40), ("journal", 100), ("help", 40)):
+        lines = answers[command].splitlines()
+        expect_that(f"{command} through a pipe is whole", max(map(len, lines), default=0) > width and not any(map(lambda l: l.endswith(">"), lines)), lines)
+    return answers
+
+
+def expect_cut(name, seen, whole, columns):
+    """The list and the status are cut to so many columns, and nothing else is."""
+    for command in SHOWS:
+        due = cut(whole[command], columns) if command in ("list", "status") else whole[command]
+        expect(f"{name}: {command}", seen[command], due)
+    lines = (seen["list"] + seen["status"]).splitlines()
+    expect_that(f"{name}: no line is wider", max(map(len, lines)) == columns and any(line.endswith(">") for line in lines), lines)
+
+
+def columns(program):
+    """At a terminal tables of a console are cut to COLUMNS."""
+    whole = whole_answers(program)
+    for width in (40, 7):
+        expect_cut(f"COLUMNS {width}", at_terminal(program, str(width)), whole, width)
+    expect("without COLUMNS", at_terminal(program, None), whole)
+
+
 def notes_at_commands(program):
     """Lines of the list that commands bring are judged, and taken all the same."""
-    due = [NOTE, "warning: list line 2, names Pots.Gate; Post is loaded\n", "warning: list line 1, decides no call, since later lines cover it\n"]
+    due = [NOTE, "warning: list line 2 names Pots.Gate; Post is loaded\n", "warning: list line 1 decides no call, since later lines cover it\n"]
     for words, told in ((("--notes", "always"), due), ((), []), (("--tick", "3600000"), []), (("--tick", "3600000", "--notes", "never"), [])):
         run = Run(program, unit(POST) + "@list\nallow Post Post.Gate Pass\n@run\n", words)
         for command in (MISSPELT, "replace 2 allow Post Pots.Gate Pass", "replace 2 deny * * *", "remove 1", "replace 7 allow a a.b c"):
@@ -810,14 +878,24 @@ def terminal(launcher):
     expect_that("Ctrl-C at a terminal", b"entries 2" in seen and status == 0, (seen, status))
 
 
+def widths(launcher):
+    """The launcher says how wide its terminal is, unless COLUMNS does: 80 where it doesn't know."""
+    whole = whole_answers(launcher)
+    for size, given, due in ((40, None, 40), (0, None, 80), (40, "30", 30), (40, "wide", 40), (40, "0", 40)):
+        expect_cut(f"a terminal of {size} columns, COLUMNS {given}", at_terminal(launcher, given, size), whole, due)
+
+
 def main():
+    os.environ.pop("COLUMNS", None)
     if sys.argv[1:2] == ["--signals"]:
-        signals(os.path.abspath(sys.argv[2]) if sys.argv[2:] else os.path.join(TOP, "ravenhost"))
+        launcher = os.path.abspath(sys.argv[2]) if sys.argv[2:] else os.path.join(TOP, "ravenhost")
+        signals(launcher)
+        widths(launcher)
         print(f"{len(faults)} faults")
         return 1 if faults else 0
     program = os.path.abspath(sys.argv[1]) if sys.argv[1:] else os.path.join(TOP, "crates/ravenhost/out/ravenhost")
     for part in (commands, row, device, two_devices, deepest, deepest_of_all, live, no_thread, refused, closed, edges, ticks, usage, prompt,
-                 stops, all_flags, quota, halt_below, unread, reasons, console):
+                 stops, all_flags, quota, halt_below, unread, reasons, console, columns, notes_at_commands):
         try:
             part(program)
         except BrokenPipeError:

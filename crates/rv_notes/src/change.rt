@@ -1,15 +1,16 @@
 //! The notes on a change of one line of a list.
 
-ghost use Rattle.std.specs.Prelude.{◌≡◌, true, false, IfOk, List};
+ghost use Rattle.std.specs.Prelude.{◌≡◌, true, false, IfOk, List, string_bytes};
 ghost use Rattle.std.specs.List.{Contains};
 ghost use Rattle.rv_notes.specs.Changes.{AreChangeNotes, AreNew, IsNew, changed, line_changed};
 ghost use Rattle.rv_notes.specs.Notes.{AreNotes};
+ghost use Rattle.rv_notes.specs.Telling.{TellsChange};
 ghost use Rattle.rv_shape.specs.Shape.{Shape};
 ghost use Rattle.rv_access.specs.Words.{Words};
 
 use crate::judge::{notes, tell};
 use crate::note::Note;
-use crate::words::words_of;
+use crate::telling::put_notes;
 use rv_access::{AccessList, Change, MOST_LINES};
 use rv_shape::catalogue::Catalogue;
 use std::alloc::{AllocError, Global};
@@ -101,25 +102,21 @@ pub fn change_notes(
     )
 }
 
-/// What is told of a change of one line, a line each: `warning: list line 3, names Plant.Vlave; Plant has Valve`. Err where
+/// What is told of a change of one line, a line each: `warning: list line 3 names Plant.Vlave; Plant has Valve`. Err where
 /// memory was refused.
 pub fn change_text(
     alloc: Global,
     catalogue: &Catalogue,
     before: &AccessList,
     change: &Change,
-) -> Result<String, AllocError> {
+) -> Result<String, AllocError>
+    ensures { IfOk result (λ text. TellsChange catalogue.now before.now change.now (string_bytes text)) }
+{
     let mut text = String::new(alloc);
     let Some(after) = changed(before, change)? else {
         return Ok(text);
     };
     let told = change_notes(alloc, catalogue, before, change)?;
-    for note in told.as_slice() {
-        let number = note.line();
-        let words = words_of(alloc, catalogue, &after, *note)?;
-        let words = words.as_str();
-        let line = format!(in alloc; "warning: list line {number}, {words}\n")?;
-        text.push_str(line.as_str())?;
-    }
+    put_notes(&mut text, alloc, catalogue, &after, told.as_slice())?;
     Ok(text)
 }

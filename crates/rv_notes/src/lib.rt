@@ -8,6 +8,7 @@ mod judge;
 mod names;
 mod note;
 mod spans;
+mod telling;
 mod words;
 
 pub use change::{change_notes, change_text};

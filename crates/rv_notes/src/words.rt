@@ -1,5 +1,8 @@
 //! What notes say, for people.
 
+ghost use Rattle.std.specs.Prelude.{IfOk, string_bytes};
+ghost use Rattle.rv_notes.specs.Telling.{Names, Says};
+
 use crate::names::INTERRUPTS;
 use crate::note::Note;
 use rv_access::{AccessList, Line};
@@ -8,6 +11,9 @@ use rv_shape::catalogue::Catalogue;
 use rv_shape::object::Object;
 use rv_text::dotted_parts;
 use std::alloc::{AllocError, Global};
+
+// How many names a sentence holds at most.
+const MOST_NAMES: usize = 5;
 
 // Adds the names of the operations of an object. Err where memory was refused.
 fn add_operations<'a>(names: &mut Vec<&'a str>, object: &'a Object) -> Result<(), AllocError> {
@@ -44,11 +50,8 @@ fn all_operations(alloc: Global, catalogue: &Catalogue) -> Result<Vec<&str>, All
     Ok(names)
 }
 
-// The name that is nearest to a word, or all of them; `none` where there are none. Err where memory was refused.
-fn near_or_all(alloc: Global, word: &str, names: &[&str]) -> Result<String, AllocError> {
-    if let Some(near) = nearest(alloc, word, names)? {
-        return String::from_str(alloc, near);
-    }
+// Names with commas between them; `none` where there are none. Err where memory was refused.
+fn joined(alloc: Global, names: &[&str]) -> Result<String, AllocError> {
     let mut text = String::new(alloc);
     for name in names {
         if !text.is_empty() {
@@ -62,13 +65,36 @@ fn near_or_all(alloc: Global, word: &str, names: &[&str]) -> Result<String, Allo
     Ok(text)
 }
 
+// The first of names, and how many more there are, where they are too many for a sentence; else all. Err where memory was
+// refused.
+fn first_or_all(alloc: Global, names: &[&str]) -> Result<String, AllocError> {
+    if names.len() <= MOST_NAMES {
+        return joined(alloc, names);
+    }
+    let (first, others) = names.split_at(MOST_NAMES - 1);
+    let text = joined(alloc, first)?;
+    let text = text.as_str();
+    let more = others.len();
+    format!(in alloc; "{text} and {more} more")
+}
+
+// The name that is nearest to a word, or all of them; `none` where there are none. Err where memory was refused.
+fn near_or_all(alloc: Global, word: &str, names: &[&str]) -> Result<String, AllocError> {
+    match nearest(alloc, word, names)? {
+        Some(near) => String::from_str(alloc, near),
+        None => first_or_all(alloc, names),
+    }
+}
+
 // That a unit isn't loaded which a word names, and which is.
 fn of_unit(
     alloc: Global,
     catalogue: &Catalogue,
     word: &str,
     unit: &str,
-) -> Result<String, AllocError> {
+) -> Result<String, AllocError>
+    ensures { IfOk result (λ words. Names word.now (string_bytes words)) }
+{
     let names = units(alloc, catalogue)?;
     let near = near_or_all(alloc, unit, names.as_slice())?;
     let near = near.as_str();
@@ -76,7 +102,9 @@ fn of_unit(
 }
 
 // That there is no such caller, and which there is.
-fn of_caller(alloc: Global, catalogue: &Catalogue, word: &str) -> Result<String, AllocError> {
+fn of_caller(alloc: Global, catalogue: &Catalogue, word: &str) -> Result<String, AllocError>
+    ensures { IfOk result (λ words. Names word.now (string_bytes words)) }
+{
     if nearest(alloc, word, &[INTERRUPTS])?.is_some() {
         return format!(in alloc; "names {word}; lines call as Interrupts");
     }
@@ -90,7 +118,9 @@ fn of_object<'a>(
     word: &str,
     unit: &'a str,
     name: &str,
-) -> Result<String, AllocError> {
+) -> Result<String, AllocError>
+    ensures { IfOk result (λ words. Names word.now (string_bytes words)) }
+{
     let mut names = Vec::new(alloc);
     let mut home = unit;
     if let Some(number) = catalogue.find_unit(unit) {
@@ -107,7 +137,9 @@ fn of_object<'a>(
 }
 
 // That an object that is loaded, or all of them, have no such operation, and which there are.
-fn of_operation(alloc: Global, catalogue: &Catalogue, line: &Line) -> Result<String, AllocError> {
+fn of_operation(alloc: Global, catalogue: &Catalogue, line: &Line) -> Result<String, AllocError>
+    ensures { IfOk result (λ words. Names line.now.operation (string_bytes words)) }
+{
     let word = line.operation();
     let Some(number) = catalogue.find_object(line.object()) else {
         let names = all_operations(alloc, catalogue)?;
@@ -136,7 +168,9 @@ pub fn words_of(
     catalogue: &Catalogue,
     list: &AccessList,
     note: Note,
-) -> Result<String, AllocError> {
+) -> Result<String, AllocError>
+    ensures { IfOk result (λ words. Says list.now note (string_bytes words)) }
+{
     let Some(line) = list.line(note.line()) else {
         return Ok(String::new(alloc));
     };

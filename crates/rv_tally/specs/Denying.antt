@@ -7,14 +7,13 @@ use Rattle.rv_event.specs.declared.entry.Answer.TheVariants.{Accepted, BadLine, 
 use Rattle.rv_shape.specs.Shape.{Shape}
 use Rattle.rv_tally.specs.Wording.{grouped}
 use Rattle.rv_tally.specs.declared.denial.DenyFault.{DenyFault}
-use Rattle.rv_tally.specs.declared.denial.DenyFault.TheVariants.{NoUnit, NoMemory, Worn}
+use Rattle.rv_tally.specs.declared.denial.DenyFault.TheVariants.{NoUnit, NoMemory}
 
 -- the line of the unit at a place, if there is one and memory for it
 abbrev pub GivesDenial : List Shape → ℕ → Result Words DenyFault → Type 0
 GivesDenial shapes place (Ok line) = (shape : Shape) × (slice_get shapes place ≡ Some shape) × (line ≡ denial shape.name)
 GivesDenial shapes place (Err NoUnit) = slice_get shapes place ≡ None
 GivesDenial shapes place (Err NoMemory) = Unit {0}
-GivesDenial shapes place (Err Worn) = ⊥
 
 -- no line is left in the list, or no room in the journal
 abbrev pub ends_run : Answer → Bool

@@ -16,8 +16,6 @@ pub enum DenyFault {
     NoUnit,
     /// Memory was refused.
     NoMemory,
-    /// The control has no act left.
-    Worn,
 }
 
 /// The line `deny UNIT * *` of the unit at a place of the catalogue, from 0.

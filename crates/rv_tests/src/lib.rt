@@ -3,6 +3,8 @@
 #![tactic(auto)]
 
 #[cfg(test)]
+mod consoles;
+#[cfg(test)]
 mod journals;
 #[cfg(test)]
 mod keepers;
