@@ -304,15 +304,6 @@ line_unnamed name choice m e none = by_found m refl (ap name_in e ∙ name_is na
 
 -- What `audit` chooses.
 
-pub not_audit_play : (word : Text) → word ≡ codes "play" → word ≡ codes "audit" → ⊥
-not_audit_play word e f = no_audit (sym e ∙ f)
-
-pub not_audit_check : (word : Text) → word ≡ codes "check" → word ≡ codes "audit" → ⊥
-not_audit_check word e f = check_no_audit (sym e ∙ f)
-
-pub not_audit_run : (word : Text) → word ≡ codes "run" → word ≡ codes "audit" → ⊥
-not_audit_run word e f = run_no_audit (sym e ∙ f)
-
 -- with its file and its flag
 pub audit_named : {X : Type 0} (found : Text × List Row) (file : Option X) (n : X → Text) (torn : Bool) (choice : Choice) → found.0 ≡ codes "audit" → audit_of (is_some file) torn ≡ Some choice → IsFlag (one_of (codes "torn") found.1) torn
     → first_of (codes "journal") found.1 ≡ option_map n file → Names found choice × IsJournal found (option_map n file)

@@ -1,7 +1,7 @@
 //! The arguments that subcommands share.
 
 ghost use Rattle.std.specs.Prelude.{◌≡◌, false, IfOk, codes};
-ghost use Rattle.clap.specs.Words.{app_of, rule_of};
+ghost use Rattle.clap.specs.Words.{app_of, rule_of, with_rule};
 ghost use Rattle.clap.specs.declared.builder.command.Command.TheViews.{out-Command as fields_of};
 ghost use Rattle.rv_choice.specs.Choices.{file_rule, flag_rule, notes_rule, sync_rule, value_rule, with_color, with_notes};
 
@@ -19,6 +19,18 @@ pub fn flag<'a>(alloc: Global, name: &'a str, help: &'a str) -> Arg<'a>
         .action(ArgAction::SetTrue)
 }
 
+// An argument with a value that has a name.
+fn valued<'a>(alloc: Global, name: &'a str, value: &'a str, help: &'a str) -> Arg<'a>
+    ensures rule { rule_of result ≡ value_rule name.now }
+    ensures local { result.global ≡ false }
+{
+    Arg::new(alloc, name)
+        .long(name)
+        .value_name(value)
+        .help(help)
+        .action(ArgAction::Set)
+}
+
 /// The flag that asks for explanations.
 pub fn explain_flag<'a>(alloc: Global, help: &'a str) -> Arg<'a>
     ensures rule { rule_of result ≡ flag_rule (codes "explain") }
@@ -32,13 +44,12 @@ fn notes_flag<'a>(alloc: Global) -> Arg<'a>
     ensures rule { rule_of result ≡ notes_rule }
     ensures local { result.global ≡ false }
 {
-    Arg::new(alloc, "notes")
-        .long("notes")
-        .value_name("WHEN")
-        .help(
-            "Tell of misspelt names and covered lines in lists, on standard error: auto (at a terminal), always or never",
-        )
-        .action(ArgAction::Set)
+    valued(
+        alloc,
+        "notes",
+        "WHEN",
+        "Tell of misspelt names and covered lines in lists, on standard error: auto (at a terminal), always or never",
+    )
 }
 
 // When standard error has colours.
@@ -46,13 +57,12 @@ fn color_flag<'a>(alloc: Global) -> Arg<'a>
     ensures rule { rule_of result ≡ value_rule (codes "color") }
     ensures local { result.global ≡ false }
 {
-    Arg::new(alloc, "color")
-        .long("color")
-        .value_name("WHEN")
-        .help(
-            "Show colours on standard error: auto (at a terminal, unless NO_COLOR is set), always or never",
-        )
-        .action(ArgAction::Set)
+    valued(
+        alloc,
+        "color",
+        "WHEN",
+        "Show colours on standard error: auto (at a terminal, unless NO_COLOR is set), always or never",
+    )
 }
 
 /// The name of a journal's file.
@@ -60,11 +70,7 @@ pub fn file_arg<'a>(alloc: Global, help: &'a str) -> Arg<'a>
     ensures rule { rule_of result ≡ file_rule }
     ensures local { result.global ≡ false }
 {
-    Arg::new(alloc, "journal")
-        .long("journal")
-        .value_name("FILE")
-        .help(help)
-        .action(ArgAction::Set)
+    valued(alloc, "journal", "FILE", help)
 }
 
 /// When the file of a journal is synced.
@@ -72,13 +78,27 @@ pub fn sync_arg<'a>(alloc: Global) -> Arg<'a>
     ensures rule { rule_of result ≡ sync_rule }
     ensures local { result.global ≡ false }
 {
-    Arg::new(alloc, "sync")
-        .long("sync")
-        .value_name("HOW")
-        .help(
-            "With --journal: when the file is synced with its disk: each (before each answer), second or never",
-        )
-        .action(ArgAction::Set)
+    valued(
+        alloc,
+        "sync",
+        "HOW",
+        "With --journal: when the file is synced with its disk: each (before each answer), second or never",
+    )
+}
+
+/// A subcommand that may be given a value by a flag of this name.
+pub fn with_value<'a>(
+    alloc: Global,
+    command: Command<'a>,
+    name: &'a str,
+    value: &'a str,
+    help: &'a str,
+) -> Result<Command<'a>, AllocError>
+    requires { (fields_of command).has_globals ≡ false }
+    ensures app { IfOk result (λ c. app_of c ≡ with_rule (app_of command.entry) (value_rule name.now)) }
+    ensures local { IfOk result (λ c. (fields_of c).has_globals ≡ false) }
+{
+    command.arg(valued(alloc, name, value, help))
 }
 
 /// A subcommand that looks at lists: it may be told when notes on them are told, and that they are errors.
@@ -102,18 +122,6 @@ pub fn coloured<'a>(alloc: Global, command: Command<'a>) -> Result<Command<'a>, 
     ensures local { IfOk result (λ c. (fields_of c).has_globals ≡ false) }
 {
     command.arg(color_flag(alloc))
-}
-
-/// An argument with a value that has a name.
-pub fn valued<'a>(alloc: Global, name: &'a str, value: &'a str, help: &'a str) -> Arg<'a>
-    ensures rule { rule_of result ≡ value_rule name.now }
-    ensures local { result.global ≡ false }
-{
-    Arg::new(alloc, name)
-        .long(name)
-        .value_name(value)
-        .help(help)
-        .action(ArgAction::Set)
 }
 
 /// What is explained of a refused script.

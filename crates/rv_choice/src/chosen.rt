@@ -1,15 +1,15 @@
 //! What the words of a command line choose.
 
-ghost use Rattle.std.specs.Prelude.{◌≡◌, ◌∷◌, ◌⊎◌, List, true, Some, IfSome, IfNone, IfOk, IfErr, codes, map};
+ghost use Rattle.std.specs.Prelude.{◌≡◌, ◌∷◌, ◌⊎◌, List, true, Some, None, IfSome, IfNone, IfOk, IfErr, codes, map};
 ghost use Rattle.clap.specs.Words.{subcommand_rows_of, takes};
 ghost use Rattle.clap.specs.Matches.{found_of};
-ghost use Rattle.clap.specs.Walk.{Row, Text, rows_of};
+ghost use Rattle.clap.specs.Walk.{Row, Text, first_of, one_of, rows_of};
 ghost use Rattle.rv_choice.specs.declared.chosen.Unchosen.TheVariants as Unchosen;
-ghost use Rattle.rv_choice.specs.Choices.{Chooses, HasNoColor, HasNoRun, HasNoWord, IsSelection, Lacks, LacksFile, NamesNone, line_of, program};
+ghost use Rattle.rv_choice.specs.Choices.{Chooses, HasNoColor, HasNoRun, HasNoWord, IsFlag, IsSelection, Lacks, LacksFile, NamesNone, Tells, line_of, program, when_of, words_of};
 
 use crate::command::command;
 use crate::run_words::run_words;
-use crate::selection::{Choice, NO_RUN, Selection, When};
+use crate::selection::{Choice, NO_RUN, RunWords, Selection, When};
 use crate::words::{audit_of, color_of, telling_of};
 use clap::error::ErrorKind;
 use clap::{ArgMatches, Error};
@@ -26,9 +26,17 @@ pub enum Unchosen {
     NoMemory,
 }
 
-// What `play` chooses by what it was given; none where notes or colours have another word.
-fn play_chosen<'a>(words: &ArgMatches<'a>) -> Option<Selection<'a>>
-    ensures some { IfSome result (λ chosen. IsSelection (codes "play", rows_of (found_of words.now)) chosen) }
+// What a subcommand over a script chooses: this, with this beside its commands, and what its words say of notes, colours
+// and explanations; none where notes or colours have another word.
+fn script_chosen<'a>(
+    words: &ArgMatches<'a>,
+    choice: Choice,
+    run: RunWords<'a>,
+) -> Option<Selection<'a>>
+    ensures given { IfSome result (λ chosen. (chosen.choice ≡ choice) × (chosen.journal ≡ None) × (words_of chosen.run ≡ words_of run.entry)) }
+    ensures told { IfSome result (λ chosen. Tells (rows_of (found_of words.now)) chosen.notes chosen.are_errors) }
+    ensures explained { IfSome result (λ chosen. IsFlag (one_of (codes "explain") (rows_of (found_of words.now))) chosen.explains) }
+    ensures coloured { IfSome result (λ chosen. when_of (first_of (codes "color") (rows_of (found_of words.now))) ≡ Some chosen.color) }
     ensures none { IfNone result (HasNoWord (rows_of (found_of words.now))) }
 {
     let Some(told) = telling_of(words) else {
@@ -38,54 +46,7 @@ fn play_chosen<'a>(words: &ArgMatches<'a>) -> Option<Selection<'a>>
         return None;
     };
     Some(Selection {
-        choice: Choice::Play(words.get_flag("all")),
-        notes: told.0,
-        color,
-        are_errors: told.1,
-        journal: None,
-        explains: words.get_flag("explain"),
-        run: NO_RUN,
-    })
-}
-
-// What `check` chooses; none where notes or colours have another word.
-fn check_chosen<'a>(words: &ArgMatches<'a>) -> Option<Selection<'a>>
-    ensures some { IfSome result (λ chosen. IsSelection (codes "check", rows_of (found_of words.now)) chosen) }
-    ensures none { IfNone result (HasNoWord (rows_of (found_of words.now))) }
-{
-    let Some(told) = telling_of(words) else {
-        return None;
-    };
-    let Some(color) = color_of(words) else {
-        return None;
-    };
-    Some(Selection {
-        choice: Choice::Check(words.get_flag("script")),
-        notes: told.0,
-        color,
-        are_errors: told.1,
-        journal: None,
-        explains: words.get_flag("explain"),
-        run: NO_RUN,
-    })
-}
-
-// What `run` chooses; none where a flag has another word, or a sync has no file.
-fn run_chosen<'a>(words: &ArgMatches<'a>) -> Option<Selection<'a>>
-    ensures some { IfSome result (λ chosen. IsSelection (codes "run", rows_of (found_of words.now)) chosen) }
-    ensures none { IfNone result (HasNoWord (rows_of (found_of words.now)) ⊎ HasNoRun (rows_of (found_of words.now))) }
-{
-    let Some(told) = telling_of(words) else {
-        return None;
-    };
-    let Some(color) = color_of(words) else {
-        return None;
-    };
-    let Some(run) = run_words(words) else {
-        return None;
-    };
-    Some(Selection {
-        choice: Choice::Run,
+        choice,
         notes: told.0,
         color,
         are_errors: told.1,
@@ -93,6 +54,33 @@ fn run_chosen<'a>(words: &ArgMatches<'a>) -> Option<Selection<'a>>
         explains: words.get_flag("explain"),
         run,
     })
+}
+
+// What `play` chooses by what it was given; none where notes or colours have another word.
+fn play_chosen<'a>(words: &ArgMatches<'a>) -> Option<Selection<'a>>
+    ensures some { IfSome result (λ chosen. IsSelection (codes "play", rows_of (found_of words.now)) chosen) }
+    ensures none { IfNone result (HasNoWord (rows_of (found_of words.now))) }
+{
+    script_chosen(words, Choice::Play(words.get_flag("all")), NO_RUN)
+}
+
+// What `check` chooses; none where notes or colours have another word.
+fn check_chosen<'a>(words: &ArgMatches<'a>) -> Option<Selection<'a>>
+    ensures some { IfSome result (λ chosen. IsSelection (codes "check", rows_of (found_of words.now)) chosen) }
+    ensures none { IfNone result (HasNoWord (rows_of (found_of words.now))) }
+{
+    script_chosen(words, Choice::Check(words.get_flag("script")), NO_RUN)
+}
+
+// What `run` chooses; none where a flag has another word, or a sync has no file.
+fn run_chosen<'a>(words: &ArgMatches<'a>) -> Option<Selection<'a>>
+    ensures some { IfSome result (λ chosen. IsSelection (codes "run", rows_of (found_of words.now)) chosen) }
+    ensures none { IfNone result (HasNoWord (rows_of (found_of words.now)) ⊎ HasNoRun (rows_of (found_of words.now))) }
+{
+    match run_words(words) {
+        Some(run) => script_chosen(words, Choice::Run, run),
+        None => None,
+    }
 }
 
 // What `audit` chooses; none where a flag has no file, or colours have another word.

@@ -5,7 +5,9 @@ ghost use Rattle.clap.specs.Words.{app_of};
 ghost use Rattle.clap.specs.declared.builder.command.Command.TheViews.{out-Command as fields_of};
 ghost use Rattle.rv_choice.specs.Choices.{attending, consoled, guarding, keeping, running};
 
-use crate::args::{FAULT_HELP, coloured, explain_flag, file_arg, flag, noted, sync_arg, valued};
+use crate::args::{
+    FAULT_HELP, coloured, explain_flag, file_arg, flag, noted, sync_arg, with_value,
+};
 use clap::Command;
 use std::alloc::{AllocError, Global};
 
@@ -33,22 +35,20 @@ fn guarding_subcommand<'a>(alloc: Global) -> Result<Command<'a>, AllocError>
     ensures app { IfOk result (λ c. app_of c ≡ guarding) }
     ensures local { IfOk result (λ c. (fields_of c).has_globals ≡ false) }
 {
-    // An argument is made when nothing can fail any more before it is added.
-    let command = keeping_subcommand(alloc)?;
-    let halt_below = valued(
+    let command = with_value(
         alloc,
+        keeping_subcommand(alloc)?,
         "halt-below",
         "N",
         "End as by quit when the journal has room for fewer than N entries",
-    );
-    let command = command.arg(halt_below)?;
-    let quota = valued(
+    )?;
+    with_value(
         alloc,
+        command,
         "quota",
         "N",
         "Deny a unit everything whose tasks have added more than N entries, by a line at the end of the list",
-    );
-    command.arg(quota)
+    )
 }
 
 // The same, whose clock may follow a real one, and which may be ended from outside.
@@ -56,21 +56,20 @@ fn attending_subcommand<'a>(alloc: Global) -> Result<Command<'a>, AllocError>
     ensures app { IfOk result (λ c. app_of c ≡ attending) }
     ensures local { IfOk result (λ c. (fields_of c).has_globals ≡ false) }
 {
-    let command = guarding_subcommand(alloc)?;
-    let tick = valued(
+    let command = with_value(
         alloc,
+        guarding_subcommand(alloc)?,
         "tick",
         "MS",
         "Have the clock follow the real one, a tick a millisecond: every MS milliseconds one tick MS",
-    );
-    let command = command.arg(tick)?;
-    let stop_by = valued(
+    )?;
+    with_value(
         alloc,
+        command,
         "stop-by",
         "PIPE",
         "End as at the end of input once this pipe has a byte or ends; the script ./ravenhost gives it, for signals",
-    );
-    command.arg(stop_by)
+    )
 }
 
 // The same, which may serve a person by a console.

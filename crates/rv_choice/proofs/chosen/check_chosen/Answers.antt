@@ -1,16 +1,13 @@
-use Rattle.std.proofs.Common.{◌∙◌, codes, refl, sym}
+use Rattle.std.proofs.Common.{rules, ◌∙◌, codes}
 use Rattle.clap.specs.Matches.{found_of}
+use Rattle.clap.specs.Walk.{one_of, rows_of}
 use Rattle.clap.proofs.WalkLemmas.{one_text-rows}
-use Rattle.rv_choice.proofs.Choosing.{not_audit_check}
+use Rattle.rv_choice.specs.Choices.{IsFlag}
 use Rattle.rv_choice.proofs.chosen.check_chosen.Goals as goal
 
 pub returns-clause-some : goal.returns-clause-some
 returns-clause-some c =
-    let given = found_of c.args.words.now in (
-      (refl, (λ e. c.get_flag.ensures.value (one_text-rows given (codes "script") ∙ e), λ e. c.get_flag.ensures.other (one_text-rows given (codes "script") ∙ e))),
-      λ e. absurd (not_audit_check _ refl e),
-      c.in-Some.ensures.some,
-      (λ e. c.get_flag-2.ensures.value (one_text-rows given (codes "explain") ∙ e), λ e. c.get_flag-2.ensures.other (one_text-rows given (codes "explain") ∙ e)),
-      refl,
-      sym c.color_of.ensures ∙ c.in-Some-color_of.is,
-    )
+    let given = found_of c.args.words.now in
+    let is : IsFlag (one_of (codes "script") (rows_of given)) c.get_flag.result =
+    (λ e. c.get_flag.ensures.value (one_text-rows given (codes "script") ∙ e), λ e. c.get_flag.ensures.other (one_text-rows given (codes "script") ∙ e)) in
+    search rules

@@ -1,0 +1,103 @@
+//! The threads that read and write beside a run.
+
+use crate::status::Stop;
+use rv_fault::Failure;
+use rv_feed::{Feed, Speaker};
+use rv_outlet::{Drain, Outlet};
+use std::alloc::Global;
+use std::rt::Files;
+use std::sync::Wait;
+use std::{fs, io};
+
+/// What a thread does beside a run.
+#[derive(Drop)]
+pub enum Errand {
+    /// Reads standard input to its end.
+    Input(Speaker),
+    /// Waits until the pipe of this name has a byte or ends.
+    Pipe(Speaker, String),
+    /// Writes what is to be written to standard output.
+    Output(Drain),
+}
+
+// Waits for a pipe. What stands against it is said, and is as its end.
+fn wait_for<R: Files + Eprint>(rt: &R, speaker: Speaker, name: &str) {
+    match fs::open(rt, name) {
+        Ok(mut pipe) => speaker.read_once(&mut pipe),
+        Err(e) => {
+            let _ = eprintln!(rt; "ravenhost: {name}: {e}");
+        }
+    }
+}
+
+/// Does what is done beside a run.
+pub fn run_errand<R: Wait + Files + Input + Print + Eprint>(rt: &R, errand: Errand) {
+    match errand {
+        Errand::Input(speaker) => speaker.read_all(rt, &mut rt.reader()),
+        Errand::Pipe(speaker, name) => wait_for(rt, speaker, name.as_str()),
+        Errand::Output(drain) => drain.write_all(rt, &mut io::writer(rt)),
+    }
+}
+
+/// Starts the threads of errands, by a closure of `main`, where the runtime is.
+#[derive(Drop)]
+pub struct Aides {
+    /// The closure, which says whether a thread was started.
+    pub begin: Box<dyn Fn(Errand) -> bool + Send>,
+    pub ghost callable: { (errand : _) → pre begin errand },
+}
+
+// Starts the thread of an errand.
+fn begun<R: Eprint>(rt: &R, aides: &Aides, errand: Errand) -> Result<(), Stop> {
+    if (aides.begin)(errand) {
+        return Ok(());
+    }
+    let _ = eprintln!(rt; "ravenhost: no thread can be started");
+    Err(Stop::NoThread)
+}
+
+/// The input of a run, which a thread reads.
+pub fn input_of<R: Eprint>(rt: &R, alloc: Global, aides: &Aides) -> Result<Feed, Stop> {
+    let Ok((speaker, feed)) = rv_feed::ends(alloc) else {
+        return Err(Stop::Failed(Failure::Memory));
+    };
+    begun(rt, aides, Errand::Input(speaker))?;
+    Ok(feed)
+}
+
+/// The pipe whose end ends a run, where one is named: what stands against it is said.
+pub fn stop_of<R: Files + Eprint>(
+    rt: &R,
+    alloc: Global,
+    aides: &Aides,
+    name: Option<&str>,
+) -> Result<Option<Feed>, Stop> {
+    let Some(name) = name else {
+        return Ok(None);
+    };
+    if let Err(e) = fs::metadata(rt, name) {
+        let _ = eprintln!(rt; "ravenhost: {name}: {e}");
+        return Err(Stop::Unkept);
+    }
+    let Ok(owned) = String::from_str(alloc, name) else {
+        return Err(Stop::Failed(Failure::Memory));
+    };
+    let Ok((speaker, feed)) = rv_feed::ends(alloc) else {
+        return Err(Stop::Failed(Failure::Memory));
+    };
+    begun(rt, aides, Errand::Pipe(speaker, owned))?;
+    Ok(Some(feed))
+}
+
+/// The output of a run, which a thread writes.
+pub fn outlet_of<'a, R: Eprint>(
+    rt: &'a R,
+    alloc: Global,
+    aides: &Aides,
+) -> Result<Outlet<'a, R>, Stop> {
+    let Ok((outlet, drain)) = rv_outlet::ends(rt, alloc) else {
+        return Err(Stop::Failed(Failure::Memory));
+    };
+    begun(rt, aides, Errand::Output(drain))?;
+    Ok(outlet)
+}

@@ -1,0 +1,64 @@
+//! The words of the command line, and what they choose.
+
+use crate::status::Stop;
+use clap::Error;
+use clap::error::ErrorKind;
+use rv_choice::chosen::{Unchosen, chosen};
+use rv_choice::selection::Selection;
+use rv_fault::Failure;
+use std::alloc::Global;
+use std::rt::Env;
+use std::{env, io};
+
+// What is told of a line that chooses no subcommand: the version on standard output, and usage or help
+// on standard error.
+fn told<R: Print + Eprint>(rt: &R, error: &Error) -> Stop {
+    if error.kind() == ErrorKind::DisplayVersion {
+        return match print!(rt; "{error}") {
+            Ok(()) => Stop::Told,
+            Err(e) => Stop::Failed(Failure::Io(e)),
+        };
+    }
+    let _ = eprint!(rt; "{error}");
+    Stop::Usage
+}
+
+/// The words of the command line.
+pub fn words_of<R: Env + AllocGlobal + Eprint>(rt: &R, alloc: Global) -> Result<Vec<String>, Stop> {
+    let args = match env::args(rt) {
+        Ok(args) => args,
+        Err(e) if e.kind() == io::ErrorKind::OutOfMemory => {
+            return Err(Stop::Failed(Failure::Memory));
+        }
+        Err(_) => {
+            let _ = eprintln!(rt; "ravenhost: a word of the command line isn't UTF-8");
+            return Err(Stop::Usage);
+        }
+    };
+    let mut words: Vec<String> = Vec::new(alloc);
+    for word in args {
+        if words.push(word).is_err() {
+            return Err(Stop::Failed(Failure::Memory));
+        }
+    }
+    Ok(words)
+}
+
+/// What the words of the command line choose.
+pub fn choice<'a, R: Print + Eprint>(
+    rt: &R,
+    alloc: Global,
+    words: &'a [&'a str],
+) -> Result<Selection<'a>, Stop> {
+    match chosen(alloc, words) {
+        Ok(chosen) => Ok(chosen),
+        Err(Unchosen::NoMemory) => Err(Stop::Failed(Failure::Memory)),
+        Err(Unchosen::Usage(e)) => Err(told(rt, &e)),
+        Err(Unchosen::Unknown) => {
+            let _ = eprintln!(rt;
+                "ravenhost: no such command, another word than a flag takes (--notes, --color, --sync; --tick: 1 to 3600000; --quota, --halt-below: 1 to 1048576), or --torn or --sync without --journal; --help lists them"
+            );
+            Err(Stop::Usage)
+        }
+    }
+}

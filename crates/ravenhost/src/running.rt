@@ -1,0 +1,160 @@
+//! The subcommand `run`: alone, or with what is done beside its commands.
+
+use crate::attending::{attend, drained, unless_unkept};
+use crate::commands::{read_before, run, run_warnings};
+use crate::errands::{input_of, outlet_of, stop_of};
+use crate::errors::StandardError;
+use crate::keeping::{journal_file, syncing_of};
+use crate::means::Means;
+use crate::status::Stop;
+use crate::telling::{Telling, ended, warn};
+use rv_choice::selection::RunWords;
+use rv_fault::Failure;
+use rv_feed::Listening;
+use rv_input::{Before, Input};
+use rv_keep::{Keeper, Syncing};
+use rv_attend::{Attention, Follower, Typing};
+use rv_staff::Hires;
+use std::alloc::Global;
+use std::io;
+use std::io::{Read, Write};
+use std::rt::Files;
+use std::sync::Wait;
+use std::thread::Threads;
+use std::time::Clock;
+
+// What had to be read of a run's input so that its notes could be told, which is done, and its fault explained.
+fn told_before<R: Eprint, I: Read>(
+    rt: &R,
+    alloc: Global,
+    telling: Telling,
+    reader: &mut I,
+) -> Result<Before, Stop> {
+    if !telling.is_shown && !telling.are_errors && !telling.explains {
+        return Ok(Before {
+            sections: Vec::new(alloc),
+            rest: Vec::new(alloc),
+        });
+    }
+    match read_before(alloc, reader) {
+        Ok(before) => {
+            warn(rt, telling, run_warnings(alloc, before.sections.as_slice()))?;
+            Ok(before)
+        }
+        Err(failure) => Err(Stop::Failed(failure)),
+    }
+}
+
+/// Runs the host of a script, after its notes were told.
+pub fn run_script<R: Threads + Wait + Eprint, H: Hires, I: Read, W: Write>(
+    rt: &R,
+    hires: &H,
+    alloc: Global,
+    telling: Telling,
+    reader: &mut I,
+    writer: &mut W,
+) -> Result<(), Stop> {
+    let mut errors = StandardError {
+        rt,
+        is_coloured: telling.is_coloured,
+    };
+    let before = told_before(rt, alloc, telling, reader)?;
+    let script = before.sections.as_slice();
+    let read = script.chain(before.rest.as_slice());
+    let mut whole = read.chain(reader);
+    let done = run(rt, hires, alloc, &mut whole, writer, &mut errors);
+    ended(rt, alloc, telling, script, done)
+}
+
+// Puts what was read of a run's input where the run begins.
+fn put_back(input: &mut Input, before: &Before) -> Result<(), Stop> {
+    if input.put(before.sections.as_slice()).is_err() {
+        return Err(Stop::Failed(Failure::Memory));
+    }
+    match input.put(before.rest.as_slice()) {
+        Ok(()) => Ok(()),
+        Err(_) => Err(Stop::Failed(Failure::Memory)),
+    }
+}
+
+// What is asked of an attended run.
+fn attention_of(words: &RunWords<'_>, telling: Telling, is_typed: bool) -> Attention {
+    let typing = if is_typed {
+        Typing::Shown
+    } else {
+        Typing::Echoed
+    };
+    Attention {
+        period: words.tick.map(|millis| millis as u64),
+        quota: words.quota,
+        halt_below: words.halt_below,
+        tells: telling.tells,
+        console: if words.console { Some(typing) } else { None },
+    }
+}
+
+// Runs the host of a script, after its notes were told, and attends to it; its journal goes where a keeper writes it.
+fn run_with<R, H, F>(
+    rt: &R,
+    means: Means<'_, H>,
+    telling: Telling,
+    words: RunWords<'_>,
+    keeper: Keeper<F>,
+) -> Result<(), Stop>
+where
+    R: Threads + Wait + Files + Clock + Eprint,
+    H: Hires,
+    F: Write + Drop,
+{
+    let alloc = means.alloc;
+    let stop = stop_of(rt, alloc, means.aides, words.stop_by)?;
+    let feed = input_of(rt, alloc, means.aides)?;
+    let mut source = Listening { rt, feed, stop };
+    let before = told_before(rt, alloc, telling, &mut source)?;
+    let mut follower = Follower::new(
+        alloc,
+        source,
+        keeper,
+        attention_of(&words, telling, means.terminals.input),
+    );
+    put_back(&mut follower.input, &before)?;
+    let mut outlet = outlet_of(rt, alloc, means.aides)?;
+    let (done, flushed) = attend(
+        rt,
+        means.hires,
+        telling.is_coloured,
+        &mut follower,
+        &mut outlet,
+    );
+    let flushed = drained(&outlet, &done, flushed);
+    let name = match words.kept {
+        Some(kept) => kept.name,
+        None => "the journal",
+    };
+    let done = unless_unkept(rt, done, name)?;
+    ended(rt, alloc, telling, before.sections.as_slice(), done)?;
+    match flushed {
+        Ok(()) => Ok(()),
+        Err(e) => Err(Stop::Failed(Failure::Io(e))),
+    }
+}
+
+/// Runs the host of a script, and attends to it; its journal is kept in a file, where one is named.
+pub fn run_attended<R: Threads + Wait + Files + Clock + Eprint, H: Hires>(
+    rt: &R,
+    means: Means<'_, H>,
+    telling: Telling,
+    words: RunWords<'_>,
+) -> Result<(), Stop> {
+    match words.kept {
+        Some(kept) => {
+            let file = journal_file(rt, kept.name)?;
+            let keeper = Keeper::new(means.alloc, file, syncing_of(kept.sync));
+            run_with(rt, means, telling, words, keeper)
+        }
+        None => {
+            let keeper = Keeper::new(means.alloc, io::sink(), Syncing::Never);
+            run_with(rt, means, telling, words, keeper)
+        }
+    }
+}
