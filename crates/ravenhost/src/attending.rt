@@ -3,10 +3,10 @@
 use crate::commands::run_kept;
 use crate::errors::StandardError;
 use crate::status::Stop;
+use rv_attend::{Follower, KeptFailure, Outputs};
 use rv_fault::Failure;
 use rv_keep::Held;
 use rv_outlet::{Outlet, is_unread};
-use rv_attend::{Follower, KeptFailure, Outputs};
 use rv_staff::Hires;
 use std::io;
 use std::io::Write;

@@ -8,11 +8,11 @@ ghost use Rattle.rv_play.specs.Scripted.{outcome_of};
 ghost use Rattle.rv_check.specs.Checks.{KeepsRefused, outcome_of as checked};
 ghost use Rattle.rv_check.specs.Scripts.{outcome_of as judged};
 
+use rv_attend::{Follower, KeptFailure, Outputs};
 use rv_check::warnings::{Warnings, run_warnings_of, warnings_of, whole_warnings_of};
 use rv_fault::Failure;
 use rv_input::{Before, InputFault};
 use rv_play::counts::Counts;
-use rv_attend::{Follower, KeptFailure, Outputs};
 use rv_script::read_script;
 use rv_staff::Hires;
 use rv_verdict::{Audited, Explained, Watch};

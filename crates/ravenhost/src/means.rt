@@ -1,24 +1,40 @@
 //! What the program works by: memory, threads and terminals.
 
+use crate::columns::read_columns;
 use crate::errands::Aides;
 use crate::status::NO_MEANS;
 use std::alloc::Global;
 use std::io::IsTerminal;
+use std::rt::Env;
 
-/// Which of the standard streams are terminals.
+/// Which of the standard streams are terminals, and how wide.
 #[derive(Clone, Copy)]
 pub struct Terminals {
     /// Standard input: somebody types what is read.
     pub input: bool,
+    /// How many columns standard output has, where it is a terminal and COLUMNS says so.
+    pub columns: Option<usize>,
     /// Standard error: somebody waits there.
     pub errors: bool,
 }
 
 impl Terminals {
     /// Those of these streams.
-    pub fn of<I: IsTerminal, E: IsTerminal>(input: &I, errors: &E) -> Terminals {
+    pub fn of<R, I, O, E>(rt: &R, input: &I, output: &O, errors: &E) -> Terminals
+    where
+        R: Env + AllocGlobal,
+        I: IsTerminal,
+        O: IsTerminal,
+        E: IsTerminal,
+    {
+        let columns = if output.is_terminal() {
+            read_columns(rt)
+        } else {
+            None
+        };
         Terminals {
             input: input.is_terminal(),
+            columns,
             errors: errors.is_terminal(),
         }
     }

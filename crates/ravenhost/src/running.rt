@@ -5,15 +5,15 @@ use crate::commands::{read_before, run, run_warnings};
 use crate::errands::{input_of, outlet_of, stop_of};
 use crate::errors::StandardError;
 use crate::keeping::{journal_file, syncing_of};
-use crate::means::Means;
+use crate::means::{Means, Terminals};
 use crate::status::Stop;
 use crate::telling::{Telling, ended, warn};
+use rv_attend::{Attention, Follower, Typing};
 use rv_choice::selection::RunWords;
 use rv_fault::Failure;
 use rv_feed::Listening;
 use rv_input::{Before, Input};
 use rv_keep::{Keeper, Syncing};
-use rv_attend::{Attention, Follower, Typing};
 use rv_staff::Hires;
 use std::alloc::Global;
 use std::io;
@@ -78,8 +78,8 @@ fn put_back(input: &mut Input, before: &Before) -> Result<(), Stop> {
 }
 
 // What is asked of an attended run.
-fn attention_of(words: &RunWords<'_>, telling: Telling, is_typed: bool) -> Attention {
-    let typing = if is_typed {
+fn attention_of(words: &RunWords<'_>, telling: Telling, terminals: Terminals) -> Attention {
+    let typing = if terminals.input {
         Typing::Shown
     } else {
         Typing::Echoed
@@ -89,7 +89,9 @@ fn attention_of(words: &RunWords<'_>, telling: Telling, is_typed: bool) -> Atten
         quota: words.quota,
         halt_below: words.halt_below,
         tells: telling.tells,
+        explains: telling.explains,
         console: if words.console { Some(typing) } else { None },
+        columns: terminals.columns,
     }
 }
 
@@ -115,7 +117,7 @@ where
         alloc,
         source,
         keeper,
-        attention_of(&words, telling, means.terminals.input),
+        attention_of(&words, telling, means.terminals),
     );
     put_back(&mut follower.input, &before)?;
     let mut outlet = outlet_of(rt, alloc, means.aides)?;
