@@ -792,6 +792,29 @@ def columns(program):
     expect("without COLUMNS", at_terminal(program, None), whole)
 
 
+# What a run refuses, with its answer: a line of a list, a command, a unit text behind a command, and the same over a unit that one brought.
+REFUSED = (
+    ("append allow Plant\n", "list BadWord at line 1\n"),
+    ("tick 1\ntick many\n", "accepted 0\nbad command\n"),
+    ("load\npackage Nav is\n   procedur X;\nend Nav;\n@end\n", "parse Unexpected at 27\n"),
+    ("load\n" + PLANT + "@end\ntick 1\nload\npackage Nav is\n   Last : Integer := Plan.Valve.Get;\nend Nav;\n@end\n", None),
+)
+
+
+def explains(program):
+    """With --explain a run says, before its answer, what `check --script --explain` says of the same input."""
+    for commands, due in REFUSED:
+        script = "@list\nallow * * *\n@run\n" + commands
+        check = subprocess.run([program, "check", "--script", "--explain"], input=script.encode(), capture_output=True, timeout=LIMIT)
+        run = Run(program, script, ("--explain",))
+        out, err, status = run.end()
+        expect_that(f"the answer to {commands!r}", status == 0 and (due is None or out.startswith(due)), (out, status))
+        expect_that(f"{commands!r} is refused", check.returncode == 1 and b"\n  = " in check.stderr, check.stderr)
+        expect(f"the explanation of {commands!r}", err, check.stderr.decode())
+        plain = Run(program, script, ()).end()
+        expect(f"without the flag {commands!r}", plain, (out, "", 0))
+
+
 def notes_at_commands(program):
     """Lines of the list that commands bring are judged, and taken all the same."""
     due = [NOTE, "warning: list line 2 names Pots.Gate; Post is loaded\n", "warning: list line 1 decides no call, since later lines cover it\n"]
@@ -895,7 +918,7 @@ def main():
         return 1 if faults else 0
     program = os.path.abspath(sys.argv[1]) if sys.argv[1:] else os.path.join(TOP, "crates/ravenhost/out/ravenhost")
     for part in (commands, row, device, two_devices, deepest, deepest_of_all, live, no_thread, refused, closed, edges, ticks, usage, prompt,
-                 stops, all_flags, quota, halt_below, unread, reasons, console, columns, notes_at_commands):
+                 stops, all_flags, quota, halt_below, unread, reasons, console, columns, notes_at_commands, explains):
         try:
             part(program)
         except BrokenPipeError:
