@@ -3,4 +3,3 @@ pub mod Growing
 pub mod Ticked
 pub mod Chores
 pub mod Keeping
-pub mod Lasting

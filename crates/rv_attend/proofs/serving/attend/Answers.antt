@@ -3,11 +3,15 @@ use Rattle.rv_keep.proofs.Keeping.{keeps_itself}
 use Rattle.rv_attend.specs.declared.attention.Attention.{Attention}
 use Rattle.rv_attend.proofs.Attended.{attends, grows_on, grows_same, keeps_silent}
 use Rattle.rv_attend.proofs.Chores.{chores_on}
-use Rattle.rv_attend.proofs.Lasting.{tends_on}
 use Rattle.rv_attend.proofs.serving.attend.Goals as goal
 
 pub returns-in-On-clause-tends : goal.returns-in-On-clause-tends
-returns-in-On-clause-tends g c = tends_on _ _ _ _ _ c.in-Ok.ensures.tends c.wait_prompted.ensures.tends
+returns-in-On-clause-tends g c = (
+  λ opened kept. c.wait_prompted.ensures.tends.0 opened (c.in-Ok.ensures.tends.0 opened kept),
+  chores_on _ _ _ c.do_chores.ensures.tends.1 c.wait_prompted.ensures.tends.1,
+  c.wait_prompted.ensures.tends.2 ∙ c.do_chores.ensures.tends.2,
+  c.wait_prompted.ensures.tends.3 ∙ c.do_chores.ensures.tends.3,
+)
 
 pub returns-in-On-clause-attends : goal.returns-in-On-clause-attends
 returns-in-On-clause-attends g c = λ plain.
