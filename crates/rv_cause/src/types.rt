@@ -6,7 +6,7 @@ use crate::cause::Cause;
 use crate::declared::{Declared, Sort, is_a};
 use crate::handlers::bad_attachment;
 use crate::known::{Group, Known};
-use crate::words::{Words, is_literal};
+use crate::words::{Words, is_among, is_literal};
 use std::alloc::{AllocError, Global};
 
 const CONDITION: &str = "a condition is Boolean; what begins with {0} isn't (5.3)";
@@ -149,7 +149,7 @@ fn divides_by_zero(words: &Words<'_, '_>) -> bool {
         if word == ";" {
             return false;
         }
-        is_divided = word == "/" || words.is(behind, "mod") || words.is(behind, "rem");
+        is_divided = is_among(word, "/|mod|rem");
     }
     false
 }

@@ -3,11 +3,10 @@
 use crate::around::Around;
 use crate::cases::{Case, Within, first_of};
 use crate::cause::Cause;
-use crate::known::{Group, Known};
+use crate::known::{Group, Known, near_among};
 use crate::library;
 use crate::names::is_body;
 use crate::words::Words;
-use rv_near::nearest;
 use std::alloc::{AllocError, Global};
 
 // What is said of an attribute, and of a body that has no declaration.
@@ -111,14 +110,6 @@ fn dotted<'a>(
     simple(alloc, words, around, known)
 }
 
-// The predefined name that is nearest to a word; empty where none is near.
-fn near_predefined(alloc: Global, word: &str) -> Result<&'static str, AllocError> {
-    match nearest(alloc, word, &library::NAMES)? {
-        Some(near) => Ok(near),
-        None => Ok(""),
-    }
-}
-
 // The name that is seen, or the predefined one, that is nearest to a word; empty where none is near.
 fn near_name<'a>(
     alloc: Global,
@@ -127,7 +118,7 @@ fn near_name<'a>(
     known: &Known<'a>,
 ) -> Result<&'a str, AllocError> {
     match known.near(alloc, word, Group::seen(around))? {
-        "" => near_predefined(alloc, word),
+        "" => near_among(alloc, word, &library::NAMES),
         near => Ok(near),
     }
 }
