@@ -341,9 +341,9 @@ pub fn unknown_key<'a>(alloc: Global, entries: &[Entry<'a>]) -> Result<Cause<'a>
     Ok(Cause::plain(0, "the keys are capacity, budget, queue_limit and device"))
 }
 
-// Whether a key of a device stands among its lines, which begin here.
-fn has_key(entries: &[Entry<'_>], key: &str) -> bool {
-    for entry in entries {
+// Whether a key of a device stands among its lines, which begin with this one.
+fn has_key(entries: &[Entry<'_>], from: usize, key: &str) -> bool {
+    for entry in entries.iter().skip(from) {
         if entry.key.is_empty() {
             return false;
         }
@@ -354,10 +354,10 @@ fn has_key(entries: &[Entry<'_>], key: &str) -> bool {
     false
 }
 
-// The first key that a device lacks whose lines begin here.
-fn missing_key(entries: &[Entry<'_>]) -> Option<&'static str> {
+// The first key that a device lacks whose lines begin with this one.
+fn missing_key(entries: &[Entry<'_>], from: usize) -> Option<&'static str> {
     for key in &DEVICE_KEYS {
-        if !has_key(entries, key) {
+        if !has_key(entries, from, key) {
             return Some(*key);
         }
     }
@@ -368,8 +368,7 @@ fn missing_key(entries: &[Entry<'_>]) -> Option<&'static str> {
 fn lacking<'a>(entries: &[Entry<'a>]) -> Option<Cause<'a>> {
     for (opening, entry) in entries.iter().enumerate() {
         if entry.key.is_empty() && entry.table == Table::Device {
-            let behind = entries.get(opening.saturating_add(1)..).unwrap_or(&[]);
-            if let Some(key) = missing_key(behind) {
+            if let Some(key) = missing_key(entries, opening.saturating_add(1)) {
                 return Some(Cause::of(entry.at, "this device lacks the key {0}", key));
             }
         }

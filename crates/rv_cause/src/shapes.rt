@@ -362,13 +362,12 @@ fn is_taken(lines: &[Line<'_>], interrupt: &str) -> bool {
 
 // That the last handler has a line that is taken.
 fn last_taken<'a>(lines: &[Line<'a>]) -> Cause<'a> {
-    let mut cause = Cause::plain(0, "an interrupt line has a handler already (C.3.1)");
-    for line in lines {
+    for line in lines.iter().rev() {
         if line.is(0, "handler") {
-            cause = line.cause(2, TAKEN);
+            return line.cause(2, TAKEN);
         }
     }
-    cause
+    Cause::plain(0, "an interrupt line has a handler already (C.3.1)")
 }
 
 /// Which line of interrupts has a handler already.

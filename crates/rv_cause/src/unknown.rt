@@ -110,6 +110,11 @@ fn dotted<'a>(
     simple(alloc, words, around, known)
 }
 
+// The predefined name that is nearest to a word; empty where none is near.
+fn near_predefined(alloc: Global, word: &str) -> Result<&'static str, AllocError> {
+    near_among(alloc, word, &library::NAMES)
+}
+
 // The name that is seen, or the predefined one, that is nearest to a word; empty where none is near.
 fn near_name<'a>(
     alloc: Global,
@@ -118,7 +123,7 @@ fn near_name<'a>(
     known: &Known<'a>,
 ) -> Result<&'a str, AllocError> {
     match known.near(alloc, word, Group::seen(around))? {
-        "" => near_among(alloc, word, &library::NAMES),
+        "" => near_predefined(alloc, word),
         near => Ok(near),
     }
 }

@@ -116,33 +116,23 @@ impl<'t, 'a> Words<'t, 'a> {
         is_same_name(self.back(count), word)
     }
 
-    // Whether the words from this one on are those of a pattern.
-    fn begin_with(&self, pattern: &str) -> bool {
-        for (count, word) in pattern.split(' ').enumerate() {
+    /// Whether the words around are those of a pattern, with blanks between them, in which `^` stands before this word. Its
+    /// words are as `is|begin`, either of these, `NAME`, an identifier, `NUMBER`, digits, and `_`, any or none.
+    pub fn fit(&self, pattern: &str) -> bool {
+        let Some((before, behind)) = pattern.split_once('^') else {
+            return false;
+        };
+        for (count, word) in behind.split(' ').enumerate() {
             if !is_among(self.word(count), word) {
                 return false;
             }
         }
-        true
-    }
-
-    // Whether the words before this one are those of a pattern, which ends with a blank, or is empty.
-    fn follow(&self, pattern: &str) -> bool {
-        for (count, word) in pattern.rsplit(' ').enumerate() {
+        for (count, word) in before.rsplit(' ').enumerate() {
             if count > 0 && !is_among(self.back(count), word) {
                 return false;
             }
         }
         true
-    }
-
-    /// Whether the words around are those of a pattern, with blanks between them, in which `^` stands before this word. Its
-    /// words are as `is|begin`, either of these, `NAME`, an identifier, `NUMBER`, digits, and `_`, any or none.
-    pub fn fit(&self, pattern: &str) -> bool {
-        match pattern.split_once('^') {
-            Some((before, behind)) => self.begin_with(behind) && self.follow(before),
-            None => false,
-        }
     }
 
     /// What is said of the word that stands so many behind, from 0.
