@@ -113,11 +113,7 @@ impl<'a> Around<'a> {
     fn begin_home(&mut self, word: &Words<'_, 'a>) {
         let is_body = word.is(1, "body");
         let is_second = is_body || word.is(1, "type");
-        self.home = if is_second {
-            word.word(2)
-        } else {
-            word.word(1)
-        };
+        self.home = word.word(if is_second { 2 } else { 1 });
         self.is_body = is_body;
         self.is_private = false;
         self.is_task = word.is(0, "task");

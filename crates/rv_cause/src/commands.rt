@@ -3,8 +3,10 @@
 use crate::cause::Cause;
 use crate::line::{Form, Line, said_of};
 
+const ENDING: &str = "nothing may stand behind halt, nor behind quit";
+
 // What a command takes, by its word.
-const COMMANDS: [Form; 8] = [
+const COMMANDS: [Form; 9] = [
     Form {
         word: "append",
         said: "append takes a line of a list",
@@ -34,8 +36,12 @@ const COMMANDS: [Form; 8] = [
         said: "load stands alone; behind it come a unit text and a line @end",
     },
     Form {
-        word: "halt|quit",
-        said: "nothing may stand behind halt, nor behind quit",
+        word: "halt",
+        said: ENDING,
+    },
+    Form {
+        word: "quit",
+        said: ENDING,
     },
 ];
 

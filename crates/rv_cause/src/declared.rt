@@ -121,6 +121,11 @@ impl<'a> Declared<'a> {
     }
 }
 
+/// One of two words: the first where something is so.
+pub(crate) fn either<'a>(is_so: bool, first: &'a str, second: &'a str) -> &'a str {
+    if is_so { first } else { second }
+}
+
 /// That a name is of a sort, and what follows from that.
 pub fn phrase<'a>(at: usize, name: &'a str, sort: &'a str, behind: &'a str) -> Cause<'a> {
     Cause::new(at, "{0} is {1}{2}", [name, sort, behind])

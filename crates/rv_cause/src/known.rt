@@ -1,7 +1,7 @@
 //! All that the units of a script declare, and which of it a name means.
 
 use crate::around::Around;
-use crate::declared::{Declared, Sort};
+use crate::declared::{Declared, Sort, either};
 use crate::line::is_listed;
 use crate::words::Words;
 use rv_lex::token::Token;
@@ -198,7 +198,7 @@ fn declared_as<'a>(words: &Words<'_, 'a>, around: &Around<'a>) -> Option<(Sort, 
 // What a word declares in a package, with its mark.
 fn outer<'a>(words: &Words<'_, 'a>) -> Option<(Sort, &'a str)> {
     let sort = sort_among(&OUTER, words)?;
-    Some((sort, if words.was(1, "type") { "type" } else { "" }))
+    Some((sort, either(words.was(1, "type"), "type", "")))
 }
 
 // What a word declares.
@@ -216,12 +216,8 @@ fn declaration<'a>(words: &Words<'_, 'a>, around: &Around<'a>) -> Option<Declare
     let is_in_operation = !is_outer && !sort.is_operation();
     Some(Declared {
         unit: around.unit,
-        home: if is_outer { "" } else { around.home },
-        operation: if is_in_operation {
-            around.operation
-        } else {
-            ""
-        },
+        home: either(is_outer, "", around.home),
+        operation: either(is_in_operation, around.operation, ""),
         name,
         sort,
         mark,
@@ -393,7 +389,11 @@ impl<'a> Known<'a> {
 }
 
 // Of names the one that is nearest to a word; empty where none is near.
-fn near_among<'a>(alloc: Global, word: &str, names: &[&'a str]) -> Result<&'a str, AllocError> {
+pub(crate) fn near_among<'a>(
+    alloc: Global,
+    word: &str,
+    names: &[&'a str],
+) -> Result<&'a str, AllocError> {
     match nearest(alloc, word, names)? {
         Some(name) => Ok(name),
         None => Ok(""),

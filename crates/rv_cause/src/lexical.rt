@@ -76,7 +76,12 @@ fn has_fraction(word: &str) -> bool {
 
 // Whether an underscore stands beside another or at the end.
 fn has_stray_underscore(word: &str) -> bool {
-    word.ends_with("_") || word.contains("__") || word.contains("_#") || word.contains("#_")
+    for stray in &["__", "_#", "#_"] {
+        if word.contains(*stray) {
+            return true;
+        }
+    }
+    word.ends_with("_")
 }
 
 // The first byte that is neither a digit nor an underscore; 0 where there is none.

@@ -8,6 +8,7 @@ pub mod cause;
 pub mod commands;
 pub mod declared;
 pub mod grammar;
+pub mod handlers;
 pub mod known;
 pub mod lexical;
 pub mod library;

@@ -1,6 +1,5 @@
 //! What the predefined library packages declare.
 
-use crate::line::Form;
 use crate::words::is_among;
 
 /// The predefined names that are near to a word's spelling, to look among.
@@ -24,87 +23,94 @@ pub const NAMES: [&str; 17] = [
     "Suspend_Until_True",
 ];
 
+// What is said of names, with `|` between them.
+#[derive(Clone, Copy)]
+struct Names {
+    names: &'static str,
+    said: &'static str,
+}
+
 // The names that library packages declare which need a `with`.
-const HOMES: [Form; 5] = [
-    Form {
-        word: "Time|Time_Span|Clock|Milliseconds",
+const HOMES: [Names; 5] = [
+    Names {
+        names: "Time|Time_Span|Clock|Milliseconds",
         said: "Ada.Real_Time",
     },
-    Form {
-        word: "Suspension_Object|Set_True|Set_False|Current_State|Suspend_Until_True",
+    Names {
+        names: "Suspension_Object|Set_True|Set_False|Current_State|Suspend_Until_True",
         said: "Ada.Synchronous_Task_Control",
     },
-    Form {
-        word: "Int_0|Int_1|Int_2|Int_3|Int_4|Int_5|Int_6|Int_7|Int_8|Int_9",
+    Names {
+        names: "Int_0|Int_1|Int_2|Int_3|Int_4|Int_5|Int_6|Int_7|Int_8|Int_9",
         said: "Ada.Interrupts.Names",
     },
-    Form {
-        word: "Priority|Interrupt_Priority|Any_Priority|Default_Priority",
+    Names {
+        names: "Priority|Interrupt_Priority|Any_Priority|Default_Priority",
         said: "System",
     },
-    Form {
-        word: "Access_Denied",
+    Names {
+        names: "Access_Denied",
         said: "Host",
     },
 ];
 
 // The words that names of library packages end with.
-const ENDS: [Form; 5] = [
-    Form {
-        word: "Real_Time",
+const ENDS: [Names; 5] = [
+    Names {
+        names: "Real_Time",
         said: "Ada.Real_Time",
     },
-    Form {
-        word: "Synchronous_Task_Control",
+    Names {
+        names: "Synchronous_Task_Control",
         said: "Ada.Synchronous_Task_Control",
     },
-    Form {
-        word: "Interrupts|Names",
+    Names {
+        names: "Interrupts|Names",
         said: "Ada.Interrupts.Names",
     },
-    Form {
-        word: "System",
+    Names {
+        names: "System",
         said: "System",
     },
-    Form {
-        word: "Host",
+    Names {
+        names: "Host",
         said: "Host",
     },
 ];
 
 // What predefined names of the language denote.
-const SORTS: [Form; 6] = [
-    Form {
-        word: "Constraint_Error|Program_Error|Access_Denied",
+const SORTS: [Names; 6] = [
+    Names {
+        names: "Constraint_Error|Program_Error|Access_Denied",
         said: "an exception",
     },
-    Form {
-        word: "True|False|Default_Priority",
+    Names {
+        names: "True|False|Default_Priority",
         said: "a constant",
     },
-    Form {
-        word: "Int_0|Int_1|Int_2|Int_3|Int_4|Int_5|Int_6|Int_7|Int_8|Int_9",
+    Names {
+        names: "Int_0|Int_1|Int_2|Int_3|Int_4|Int_5|Int_6|Int_7|Int_8|Int_9",
         said: "a constant",
     },
-    Form {
-        word: "Clock|Milliseconds|Current_State",
+    Names {
+        names: "Clock|Milliseconds|Current_State",
         said: "a function",
     },
-    Form {
-        word: "Set_True|Set_False|Suspend_Until_True",
+    Names {
+        names: "Set_True|Set_False|Suspend_Until_True",
         said: "a procedure",
     },
-    Form {
-        word: "Integer|Natural|Positive|Boolean|Time|Time_Span|Priority|Interrupt_Priority|Any_Priority",
+    Names {
+        names: "Integer|Natural|Positive|Boolean|Time|Time_Span|Priority|Interrupt_Priority|Any_Priority",
         said: "a subtype",
     },
 ];
 
 // What is said of a name, case ignored.
-fn said_of_name(forms: &[Form], name: &str) -> Option<&'static str> {
-    for form in forms {
-        if is_among(name, form.word) {
-            return Some(form.said);
+fn said_of_name(all: &[Names], name: &str) -> Option<&'static str> {
+    for one in all {
+        if is_among(name, one.names) {
+            return Some(one.said);
         }
     }
     None

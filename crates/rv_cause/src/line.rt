@@ -22,7 +22,6 @@ pub struct Line<'a> {
 /// What is said of a line by its first word.
 #[derive(Clone, Copy)]
 pub struct Form {
-    /// The word, or several with `|` between them.
     pub word: &'static str,
     pub said: &'static str,
 }
@@ -30,10 +29,8 @@ pub struct Form {
 /// What the first form says that has this word, letter for letter.
 pub fn said_of(forms: &[Form], word: &str) -> Option<&'static str> {
     for form in forms {
-        for one in form.word.split('|') {
-            if one == word {
-                return Some(form.said);
-            }
+        if form.word == word {
+            return Some(form.said);
         }
     }
     None

@@ -1,10 +1,9 @@
 //! What a script's shapes declare, and steps that name nothing that is loaded.
 
 use crate::cause::Cause;
-use crate::declared::{Declared, Sort};
-use crate::known::{Group, Known};
+use crate::declared::{Declared, Sort, either};
+use crate::known::{Group, Known, near_among};
 use crate::line::Line;
-use rv_near::nearest;
 use rv_text::{dotted_parts, is_same_name, next_line};
 use std::alloc::{AllocError, Global};
 
@@ -37,12 +36,12 @@ fn declared<'a>(words: &Line<'a>, unit: &'a str, object: &'a str) -> Option<Decl
     let sort = sort_of(words.word(0))?;
     let name = words.word(1);
     Some(Declared {
-        unit: if sort == Sort::Unit { name } else { unit },
-        home: if sort.is_operation() { object } else { "" },
+        unit: either(sort == Sort::Unit, name, unit),
+        home: either(sort.is_operation(), object, ""),
         operation: "",
         name,
         sort,
-        mark: if sort == Sort::Object { SUSPENSION } else { "" },
+        mark: either(sort == Sort::Object, SUSPENSION, ""),
         at: 0,
         is_hidden: false,
         is_declaration: true,
@@ -74,9 +73,9 @@ pub fn add_shape<'a>(
 
 // The operation of a suspension object that is nearest to a word, or all, in words.
 fn near_signal(alloc: Global, word: &str) -> Result<&'static str, AllocError> {
-    match nearest(alloc, word, &SIGNALS)? {
-        Some(near) => Ok(near),
-        None => Ok("Set_True, Set_False, Current_State, Suspend_Until_True"),
+    match near_among(alloc, word, &SIGNALS)? {
+        "" => Ok("Set_True, Set_False, Current_State, Suspend_Until_True"),
+        near => Ok(near),
     }
 }
 

@@ -4,9 +4,10 @@ use crate::around::Around;
 use crate::cases::{Case, Within, first_of, told};
 use crate::cause::Cause;
 use crate::declared::{Declared, Sort, is_a, phrase};
+use crate::handlers::is_attached;
 use crate::known::{Group, Known};
 use crate::library;
-use crate::words::Words;
+use crate::words::{Words, is_among};
 use rv_lex::token::Token;
 use rv_text::is_same_name;
 
@@ -224,35 +225,69 @@ fn bad_body<'a>(words: &Words<'_, 'a>, around: &Around<'a>, known: &Known<'a>) -
     }
 }
 
+const VALUE: &str = "; a value has to stand here (4.4)";
+
+// Where a name stands that denotes something of the wrong sort: the words around its first part, and the word behind its last.
+#[derive(Clone, Copy)]
+struct Place {
+    words: &'static str,
+    next: &'static str,
+    said: &'static str,
+}
+
+const PLACES: [Place; 5] = [
+    Place {
+        words: ":|constant|in|out|is ^_",
+        next: "_",
+        said: "; a subtype has to stand here (3.2.2)",
+    },
+    Place {
+        words: "^_",
+        next: ":=",
+        said: "; what is assigned is a variable or a component (5.2)",
+    },
+    Place {
+        words: "raise ^_",
+        next: "_",
+        said: "; what is raised is an exception (11.3)",
+    },
+    Place {
+        words: ";|begin|then|else|loop|=> ^_",
+        next: "_",
+        said: "; a statement calls a procedure or an entry (6.4)",
+    },
+    Place {
+        words: "^_",
+        next: "(",
+        said: "; an expression calls a function (6.4)",
+    },
+];
+
 // What would have to stand where a name stands whose last part is so many words behind.
-fn wanted<'w>(words: &Words<'_, '_>, behind: usize) -> &'w str {
+fn wanted<'w>(words: &Words<'_, '_>, around: &Around<'_>, behind: usize) -> &'w str {
+    if is_attached(words) {
+        return "; a pragma attaches a procedure to a line (J.15.7)";
+    }
+    if around.is_in_head && words.fit("=> ^_") {
+        return VALUE;
+    }
     let next = words.word(behind.saturating_add(1));
-    if words.fit(":|constant|in|out|is ^_") {
-        return "; a subtype has to stand here (3.2.2)";
+    for place in &PLACES {
+        if is_among(next, place.next) && words.fit(place.words) {
+            return place.said;
+        }
     }
-    if next == ":=" {
-        return "; what is assigned is a variable or a component (5.2)";
-    }
-    if words.was(1, "raise") {
-        return "; what is raised is an exception (11.3)";
-    }
-    if words.fit(";|begin|then|else|loop|=> ^_") {
-        return "; a statement calls a procedure or an entry (6.4)";
-    }
-    if next == "(" {
-        return "; an expression calls a function (6.4)";
-    }
-    "; a value has to stand here (4.4)"
+    VALUE
 }
 
 // That what a name denotes can't stand here.
 fn bad_sort<'a>(words: &Words<'_, 'a>, around: &Around<'a>, known: &Known<'a>) -> Cause<'a> {
     if let Some((item, behind)) = known.denoted(words, around) {
-        return is_a(words.place(behind), item, wanted(words, behind));
+        return is_a(words.place(behind), item, wanted(words, around, behind));
     }
     let word = words.word(0);
     match library::words_of(word) {
-        Some(sort) => phrase(words.place(0), word, sort, wanted(words, 0)),
+        Some(sort) => phrase(words.place(0), word, sort, wanted(words, around, 0)),
         None => words.cause(0, "{0} denotes nothing that can stand here (8.6)"),
     }
 }

@@ -147,33 +147,21 @@ fn entry_of<'a>(table: Table, line: &'a str, at: usize) -> Option<Entry<'a>> {
         return None;
     }
     if let Some(table) = opened(word) {
-        return Some(Entry {
-            table,
-            key: "",
-            value: word,
-            whole: word,
-            at,
-        });
+        return Some(Entry::new(table, "", word, at));
     }
     if word.starts_with("{") {
-        return Some(Entry {
-            table,
-            key: "device",
-            value: word,
-            whole: line,
-            at,
-        });
+        return Some(Entry::new(table, "device", line, at));
     }
     let (left, right) = line.split_once('=')?;
-    let (key, _) = next_word(left)?;
-    let (value, _) = next_word(right)?;
-    Some(Entry {
-        table,
-        key,
-        value,
-        whole: right,
-        at,
-    })
+    let key = first_word(left)?;
+    let _ = first_word(right)?;
+    Some(Entry::new(table, key, right, at))
+}
+
+// The first word of a line, if it has one.
+fn first_word(line: &str) -> Option<&str> {
+    let (word, _) = next_word(line)?;
+    Some(word)
 }
 
 /// The lines of settings, comments and blank ones left out. Err where memory was refused.
@@ -203,6 +191,17 @@ fn table_of(word: &str) -> Option<Table> {
 }
 
 impl<'a> Entry<'a> {
+    // A key, empty where the line opens a table, with its whole value.
+    fn new(table: Table, key: &'a str, whole: &'a str, at: usize) -> Entry<'a> {
+        Entry {
+            table,
+            key,
+            value: first_word(whole).unwrap_or(""),
+            whole,
+            at,
+        }
+    }
+
     // Whether its key is one of its table.
     fn is_key(&self) -> bool {
         match table_of(self.key) {
@@ -295,8 +294,18 @@ fn key_within(part: &str) -> Option<&str> {
         Some((_, behind)) => behind,
         None => left,
     };
-    let (key, _) = next_word(key)?;
-    Some(key)
+    first_word(key)
+}
+
+// The first key in a device that is written in one line that devices don't have.
+fn other_key(device: &str) -> Option<&str> {
+    for part in device.split(',') {
+        let key = key_within(part).unwrap_or("unit");
+        if table_of(key) != Some(Table::Device) {
+            return Some(key);
+        }
+    }
+    None
 }
 
 // Which key a device doesn't have that is written in one line, if it is that.
@@ -304,19 +313,13 @@ fn unknown_within<'a>(alloc: Global, entry: &Entry<'a>) -> Result<Option<Cause<'
     if entry.key != "device" {
         return Ok(None);
     }
-    for part in entry.whole.split(',') {
-        let within = Entry {
-            table: Table::Device,
-            key: key_within(part).unwrap_or("unit"),
-            value: "",
-            whole: "",
-            at: entry.at,
-        };
-        if !within.is_key() {
-            return Ok(Some(unknown(alloc, &within)?));
+    match other_key(entry.whole) {
+        Some(key) => {
+            let within = Entry::new(Table::Device, key, "", entry.at);
+            Ok(Some(unknown(alloc, &within)?))
         }
+        None => Ok(None),
     }
-    Ok(None)
 }
 
 /// Which key settings don't have. Err where memory was refused.

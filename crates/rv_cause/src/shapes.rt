@@ -215,10 +215,15 @@ pub fn unit_name<'a>(at: usize, name: &'a str, known: &Known<'_>) -> Option<Caus
     None
 }
 
-// Whether the name of a line stands before it, within the object or, of a task or an object, within the unit.
-fn is_before(lines: &[Line<'_>], end: usize, line: &Line<'_>) -> bool {
+// The first lines, so many.
+fn front<'l, 'a>(lines: &'l [Line<'a>], count: usize) -> &'l [Line<'a>] {
+    lines.get(..count).unwrap_or(lines)
+}
+
+// Whether the name of a line stands on those before it, within the object or, of a task or an object, within the unit.
+fn is_before(lines: &[Line<'_>], line: &Line<'_>) -> bool {
     let mut is_found = false;
-    for before in lines.iter().take(end) {
+    for before in lines {
         if is_part(line) && (before.is(0, "protected") || before.is(0, "suspension")) {
             is_found = false;
         }
@@ -239,7 +244,7 @@ pub fn name_taken<'a>(lines: &[Line<'a>], known: &Known<'_>) -> Cause<'a> {
             if let Some(cause) = unit_name(line.at(1), line.word(1), known) {
                 return cause;
             }
-        } else if !line.is(0, "scalar") && is_before(lines, number, line) {
+        } else if !line.is(0, "scalar") && is_before(front(lines, number), line) {
             return line.cause(1, "{0} stands here already; give one another name");
         }
     }
@@ -345,9 +350,9 @@ pub fn ceiling_too_low<'a>(lines: &[Line<'a>]) -> Cause<'a> {
     )
 }
 
-// Whether a handler before a line has an interrupt line.
-fn is_taken(lines: &[Line<'_>], end: usize, interrupt: &str) -> bool {
-    for before in lines.iter().take(end) {
+// Whether a handler on one of these lines has an interrupt line.
+fn is_taken(lines: &[Line<'_>], interrupt: &str) -> bool {
+    for before in lines {
         if before.is(0, "handler") && is_same_name(before.word(2), interrupt) {
             return true;
         }
@@ -368,7 +373,7 @@ fn last_taken<'a>(lines: &[Line<'a>]) -> Cause<'a> {
 /// Which line of interrupts has a handler already.
 pub fn line_taken<'a>(lines: &[Line<'a>]) -> Cause<'a> {
     for (number, line) in lines.iter().enumerate() {
-        if line.is(0, "handler") && is_taken(lines, number, line.word(2)) {
+        if line.is(0, "handler") && is_taken(front(lines, number), line.word(2)) {
             return line.cause(2, TAKEN);
         }
     }

@@ -13,9 +13,17 @@ const EXCEPTIONS: [&str; 3] = ["Constraint_Error", "Program_Error", "Host.Access
 const NUMBERED: &str = "{0} takes one number";
 
 // What is said of a request that takes something else than it has, by its word.
-const REQUESTS: [Form; 4] = [
+const REQUESTS: [Form; 6] = [
     Form {
-        word: "delay|tick|remove",
+        word: "delay",
+        said: NUMBERED,
+    },
+    Form {
+        word: "tick",
+        said: NUMBERED,
+    },
+    Form {
+        word: "remove",
         said: NUMBERED,
     },
     Form {

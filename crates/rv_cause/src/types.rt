@@ -4,14 +4,15 @@ use crate::around::Around;
 use crate::cases::{Case, Within, first_of, told};
 use crate::cause::Cause;
 use crate::declared::{Declared, Sort, is_a};
+use crate::handlers::bad_attachment;
 use crate::known::{Group, Known};
-use crate::words::{Words, is_literal};
+use crate::words::{Words, is_among, is_literal};
 use std::alloc::{AllocError, Global};
 
 const CONDITION: &str = "a condition is Boolean; what begins with {0} isn't (5.3)";
 
 // What is wrong from what stands before an expression.
-const BEFORE: [Case; 6] = [
+const BEFORE: [Case; 8] = [
     Case {
         within: Within::Anywhere,
         words: "exit when ^_",
@@ -26,6 +27,16 @@ const BEFORE: [Case; 6] = [
         within: Within::Anywhere,
         words: "if|elsif|while ^_",
         said: CONDITION,
+    },
+    Case {
+        within: Within::Head,
+        words: "with|, ^Priority",
+        said: "the aspect {0} takes a number: write {0} => 20 (D.1)",
+    },
+    Case {
+        within: Within::Anywhere,
+        words: "pragma ^Priority|Interrupt_Priority",
+        said: "the pragma {0} takes one number (J.15.11)",
     },
     Case {
         within: Within::Anywhere,
@@ -138,7 +149,7 @@ fn divides_by_zero(words: &Words<'_, '_>) -> bool {
         if word == ";" {
             return false;
         }
-        is_divided = word == "/" || words.is(behind, "mod") || words.is(behind, "rem");
+        is_divided = is_among(word, "/|mod|rem");
     }
     false
 }
@@ -252,6 +263,9 @@ fn constant_at<'k, 'a>(
 
 /// Why a type, or a number of arguments, doesn't fit at a word.
 pub fn mismatch<'a>(words: &Words<'_, 'a>, around: &Around<'a>, known: &Known<'a>) -> Cause<'a> {
+    if let Some(cause) = bad_attachment(words, around, known) {
+        return cause;
+    }
     if let Some(item) = constant_at(words, around, known) {
         return item.cause(
             words.place(0),

@@ -3,11 +3,10 @@
 use crate::around::Around;
 use crate::cases::{Case, Within, first_of};
 use crate::cause::Cause;
-use crate::known::{Group, Known};
+use crate::known::{Group, Known, near_among};
 use crate::library;
 use crate::names::is_body;
 use crate::words::Words;
-use rv_near::nearest;
 use std::alloc::{AllocError, Global};
 
 // What is said of an attribute, and of a body that has no declaration.
@@ -113,10 +112,7 @@ fn dotted<'a>(
 
 // The predefined name that is nearest to a word; empty where none is near.
 fn near_predefined(alloc: Global, word: &str) -> Result<&'static str, AllocError> {
-    match nearest(alloc, word, &library::NAMES)? {
-        Some(near) => Ok(near),
-        None => Ok(""),
-    }
+    near_among(alloc, word, &library::NAMES)
 }
 
 // The name that is seen, or the predefined one, that is nearest to a word; empty where none is near.

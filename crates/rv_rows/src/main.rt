@@ -1,7 +1,8 @@
 //! Worked rows: plays, checks or audits each script of the folder that it is run in, and says of each whether
 //! it gave what stands beside it.
 //!
-//! `NAME.raven` is a script. Where there is a `NAME.said` it is checked, and that is what has to be said; where there is a
+//! `NAME.raven` is a script; one that is too large for a file is `NAME.grown`, of lines `TIMES LINE`: each LINE stands there so
+//! many times. Where there is a `NAME.said` it is checked, and that is what has to be said; where there is a
 //! `NAME.whole` it is checked whole, as the command takes it that it is for, and that is what has to be said;
 //! where there is a `NAME.verdict` its journal is judged, and that is the verdict; else it is played, with answers that
 //! aren't recorded, and `NAME.journal` is what has to be written. A journal that is judged may stand in a file of its own,
@@ -26,10 +27,12 @@
 mod cut;
 mod ends;
 mod fronts;
+mod grown;
 
 use cut::{Ends, Share};
 use ends::{all_are_explained, ends_said, has_texts};
 use fronts::fronts_of;
+use grown::grown;
 use row_files::failing::{FailingReader, FailingWriter};
 use row_files::{bytes_of, names_before};
 use rv_check::check::check;
@@ -382,6 +385,14 @@ fn told(rt: &HostRuntime, name: &str) -> io::Result<String> {
     told_beside(rt, name, script.as_slice(), &wanted)
 }
 
+/// The same of a script that is too large for a file.
+fn told_grown(rt: &HostRuntime, name: &str) -> io::Result<String> {
+    let file = bytes_of(rt, name, "grown")?.unwrap_or(Vec::new(rt.alloc()));
+    let script = grown(rt.alloc(), file.as_slice())?;
+    let wanted = wanted_for(rt, name)?;
+    told_beside(rt, name, script.as_slice(), &wanted)
+}
+
 /// Whether what is told of the lists that stand before the commands of a run is what stands beside them, in words.
 fn told_of_run(rt: &HostRuntime, name: &str) -> io::Result<String> {
     let alloc = rt.alloc();
@@ -447,6 +458,10 @@ fn tell_all(rt: &HostRuntime) -> io::Result<()> {
             let line = fronts_told(rt, name.as_str(), due.as_slice())?;
             println!(rt; "{line}")?;
         }
+    }
+    for name in names_before(rt, ".grown")? {
+        let line = told_grown(rt, name.as_str())?;
+        println!(rt; "{line}")?;
     }
     for name in names_before(rt, ".before")? {
         let line = told_of_run(rt, name.as_str())?;
