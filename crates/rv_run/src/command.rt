@@ -178,10 +178,7 @@ fn after_fault<W: Write>(fault: LineFault, writer: &mut W) -> Result<Goes, Failu
 }
 
 /// What comes after a command line that did this.
-pub fn after<W: Write>(
-    next: Result<Next, LineFault>,
-    writer: &mut W,
-) -> Result<Goes, Failure>
+pub fn after<W: Write>(next: Result<Next, LineFault>, writer: &mut W) -> Result<Goes, Failure>
     ensures { Behind (W.contents writer.old) (W.contents writer.new) next result }
 {
     match next {
