@@ -7,7 +7,7 @@ ghost use Rattle.rv_attend.specs.Rooming.{DeniesUnit, DoesDue};
 
 use crate::attention::Attention;
 use rv_event::entry::Answer;
-use rv_run::Goes;
+use rv_run::command::Goes;
 use rv_shape::catalogue::MOST_UNITS;
 use rv_staff::{Session, say};
 use rv_tally::{

@@ -13,7 +13,7 @@ use rv_feed::{Came, Listening};
 use rv_follow::Found;
 use rv_input::Input;
 use rv_pace::Pace;
-use rv_run::{Goes, of_input};
+use rv_run::command::{Goes, of_input};
 use rv_staff::Session;
 use std::io::Write;
 use std::sync::Wait;

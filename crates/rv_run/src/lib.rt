@@ -2,12 +2,9 @@
 //! operator are served until the run ends.
 #![tactic(auto)]
 
-mod command;
+pub mod command;
 mod devices;
 mod journal;
 mod loads;
 mod opening;
 pub mod run;
-
-pub use command::{Goes, after, command, of_input, of_write};
-pub use run::{MOST_COMMANDS, say_entries, session_on, wrote};
