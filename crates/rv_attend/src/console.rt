@@ -28,22 +28,15 @@ pub(crate) fn prompt<W: Write>(asked: &Attention, goes: Goes, writer: &mut W) ->
     }
 }
 
-// Ends the line of a prompt behind which no command comes.
-fn end_prompt<W: Write>(asked: &Attention, writer: &mut W) -> io::Result<()>
-    ensures { asked.now.console ≡ None → W.contents writer.new ≡ W.contents writer.old }
-{
-    match asked.console {
-        Some(_) => say(writer, "\n"),
-        None => Ok(()),
-    }
-}
-
-/// Ends a run behind its prompt.
+/// Ends a run, and where there is a console the line of its prompt, behind which no command comes.
 pub(crate) fn leave<W: Write>(asked: &Attention, writer: &mut W) -> Result<Goes, Failure>
     ensures silent { asked.now.console ≡ None → W.contents writer.new ≡ W.contents writer.old }
     ensures out { asked.now.console ≡ None → result ≡ Ok Out }
 {
-    match wrote(end_prompt(asked, writer)) {
+    if asked.console.is_none() {
+        return Ok(Goes::Out);
+    }
+    match wrote(say(writer, "\n")) {
         Ok(()) => Ok(Goes::Out),
         Err(failure) => Err(failure),
     }

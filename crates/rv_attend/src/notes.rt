@@ -48,8 +48,42 @@ fn tell_change<T: Wait, E: Write>(
     }
 }
 
-/// Tells the notes on a command, where notes are told, and explains what stands against it, where that is asked for.
+// The same, where notes are told.
 #[tactic(auto, using(crate::proofs::Chores::no_chores))]
+fn tell_if<T: Wait, E: Write>(
+    rt: &T,
+    tells: bool,
+    session: &mut Session,
+    line: &str,
+    errors: &mut E,
+)
+    ensures chores { Chores session.old.staff.control session.new.staff.control }
+    ensures crew { session.new.staff.crew ≡ session.old.staff.crew }
+{
+    if tells {
+        tell_change(rt, session.alloc, &mut session.staff, line, errors);
+    }
+}
+
+// Explains what stands against a command, where that is asked for.
+fn explain_if<E: Write, T, F>(
+    session: &Session,
+    follower: &mut Follower<'_, T, F>,
+    line: &str,
+    errors: &mut E,
+)
+    ensures input { follower.new.input ≡ follower.old.input }
+    ensures keeper { follower.new.keeper ≡ follower.old.keeper }
+    ensures asked { follower.new.asked ≡ follower.old.asked }
+{
+    if follower.asked.explains {
+        let behind = follower.input.ahead();
+        let catalogue = session.staff.catalogue();
+        follower.given.explain(catalogue, line, behind, errors);
+    }
+}
+
+/// Tells the notes on a command, where notes are told, and explains what stands against it, where that is asked for.
 pub(crate) fn tell_before<T: Wait, E: Write, F>(
     rt: &T,
     session: &mut Session,
@@ -63,12 +97,6 @@ pub(crate) fn tell_before<T: Wait, E: Write, F>(
     ensures keeper { follower.new.keeper ≡ follower.old.keeper }
     ensures asked { follower.new.asked ≡ follower.old.asked }
 {
-    if follower.asked.tells {
-        tell_change(rt, session.alloc, &mut session.staff, line, errors);
-    }
-    if follower.asked.explains {
-        let behind = follower.input.ahead();
-        let catalogue = session.staff.catalogue();
-        follower.given.explain(catalogue, line, behind, errors);
-    }
+    tell_if(rt, follower.asked.tells, session, line, errors);
+    explain_if(session, follower, line, errors);
 }

@@ -7,10 +7,10 @@ returns-in-Ok-session_on g c = λ first.
     inl record {
       bytes = c.as_slice.result.now;
       runs = c.in-Ok.before.runs;
-      input = c.preamble-before.new.input;
+      input = c.preamble.new.input;
       first = c.in-Ok-session_on.session.staff;
       opens = c.in-Ok-session_on.ensures.opened;
-      keeps = rw (← c.in-Ok-session_on.ensures.silent, ← c.keep_given.ensures.input, ← c.keep_given.ensures.asked)
+      keeps = rw (← c.in-Ok-session_on.ensures.silent)
           (c.run_session.ensures (g.F.Write.contents c.args.follower.now.keeper.file) (nothing_kept _ _ c.in-Ok-session_on.session.staff.control _ refl first));
     }
 
