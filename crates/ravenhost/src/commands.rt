@@ -4,15 +4,13 @@ ghost use Rattle.std.specs.Prelude.{◌≡◌, ◌+◌, ◌++◌, take, IfErr, I
 ghost use Rattle.std.specs.Io.KnownBytes.{Consumes};
 ghost use Rattle.rv_script.specs.Whole.{most_bytes};
 ghost use Rattle.rv_fault.specs.Written.{WritesScript};
-ghost use Rattle.rv_play.specs.Scripted.{outcome_of};
 ghost use Rattle.rv_check.specs.Checks.{KeepsRefused, outcome_of as checked};
-ghost use Rattle.rv_check.specs.Scripts.{outcome_of as judged};
+ghost use Rattle.rv_check.specs.Scripts.{outcome_of_whole as judged};
 
 use rv_attend::{Follower, KeptFailure, Outputs};
 use rv_check::warnings::{Warnings, run_warnings_of, warnings_of, whole_warnings_of};
 use rv_fault::Failure;
 use rv_input::{Before, InputFault};
-use rv_play::counts::Counts;
 use rv_script::read_script;
 use rv_staff::Hires;
 use rv_verdict::{Audited, Explained, Watch};
@@ -57,21 +55,6 @@ pub fn read_before<R: Read>(alloc: Global, reader: &mut R) -> Result<Before, Fai
 /// What is told of the lists that stand before the commands of a run.
 pub fn run_warnings(alloc: Global, before: &[u8]) -> Result<Warnings, Failure> {
     run_warnings_of(alloc, before)
-}
-
-/// Carries out the script that a reader gives, and writes its journal: the line of each entry and, where all is asked for, of
-/// each answer that isn't recorded. Gives how many answers there were, and which of them the journal doesn't have.
-pub fn play_counted<R: Read, W: Write>(
-    alloc: Global,
-    reader: &mut R,
-    writer: &mut W,
-    all: bool,
-    counts: &mut Counts,
-) -> Result<(), Failure>
-    ensures { IfSome (R.remaining reader.old) (λ script.
-        WritesScript (W.contents writer.old) (W.contents writer.new) (outcome_of all) script result) }
-{
-    rv_play::play::play_counted(alloc, reader, writer, all, counts)
 }
 
 /// Looks at the sections of the script that a reader gives, in order, and writes a line for each that is well formed, but

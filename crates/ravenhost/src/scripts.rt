@@ -1,11 +1,12 @@
 //! The subcommands that take a script alone: `play` and `check`.
 
 use crate::colours::tell;
-use crate::commands::{check_kept, check_whole, play_counted, read, warnings, whole_warnings};
+use crate::commands::{check_kept, check_whole, read, warnings, whole_warnings};
 use crate::status::Stop;
 use crate::telling::{Telling, ended, warn};
 use rv_fault::Failure;
 use rv_play::counts::Counts;
+use rv_play::play::play_counted;
 use std::alloc::Global;
 use std::io::{Read, Write};
 

@@ -1,6 +1,6 @@
 //! What an attended run has beside its host.
 
-ghost use Rattle.std.specs.Prelude.{◌≡◌};
+ghost use Rattle.std.specs.Prelude.{◌≡◌, []};
 
 use crate::attention::Attention;
 use crate::explaining::Given;
@@ -41,14 +41,16 @@ pub struct Follower<'a, T, F> {
 }
 
 impl<'a, T, F> Follower<'a, T, F> {
-    /// Before the run.
+    /// Before the run, of whose input nothing was read.
     pub fn new(
         alloc: Global,
         source: Listening<'a, T>,
         keeper: Keeper<F>,
         asked: Attention,
     ) -> Follower<'a, T, F>
-        ensures { result.keeper ≡ keeper }
+        ensures keeper { result.keeper ≡ keeper }
+        ensures asked { result.asked ≡ asked }
+        ensures input { result.input ≡ record { ahead = []; given = 0 } }
     {
         Follower {
             alloc,

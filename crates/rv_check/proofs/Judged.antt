@@ -24,7 +24,7 @@ use Rattle.rv_check.specs.DeviceFaults.{LoadsAll, devices_fault, with_devices}
 use Rattle.rv_check.specs.declared.purpose.Part.{Part}
 use Rattle.rv_check.specs.Purposes.{part_in, purpose_of}
 use Rattle.rv_check.specs.ScriptLines.{lines_behind}
-use Rattle.rv_check.specs.Scripts.{BeginsJudged, JudgesOpened, OfPart, OfRun, OfSteps, as_given, commands_line, fitted, judging, outcome_of}
+use Rattle.rv_check.specs.Scripts.{BeginsJudged, JudgesOpened, OfPart, OfRun, OfSteps, as_given, commands_line, fitted, judging, outcome_of_whole}
 use Rattle.rv_check.specs.StepFaults.{CountsSteps}
 use Rattle.rv_check.proofs.Checked.{nothing_told}
 
@@ -116,22 +116,22 @@ commands_told line devices shapes after section others old Memory loaded h = inl
 commands_told line devices shapes after section others old (Io error) loaded h = absurd h
 
 -- text before the first section
-pub front_told : (script : List ℕ) (old : Option (List ℕ)) (line : ℕ) → opened script ≡ Err line → let r : Result (Unit {0}) Failure = Err (Refused (record { line = line; what = Whats.BadSection })) in Writes old old (outcome_of script) r
+pub front_told : (script : List ℕ) (old : Option (List ℕ)) (line : ℕ) → opened script ≡ Err line → let r : Result (Unit {0}) Failure = Err (Refused (record { line = line; what = Whats.BadSection })) in Writes old old (outcome_of_whole script) r
 front_told script old line e =
     let told : Option ScriptFault = Some (record { line = line; what = Whats.BadSection }) in
     record { text = []; is = subst (λ (o : Result OpenedText ℕ). JudgesOpened o [] told) (sym e) (refl, refl); written = keeps_nothing old }
 
 -- settings that were refused, or not read
 pub settings_told : (script : List ℕ) (old : Option (List ℕ)) (whole : OpenedText) (e : Failure) → opened script ≡ Ok whole → (let read : Result SettingsText Failure = Err e in Reads (line_of whole.settings) (GivesSettings whole.settings) read)
-    → let r : Result (Unit {0}) Failure = Err e in Writes old old (outcome_of script) r
+    → let r : Result (Unit {0}) Failure = Err e in Writes old old (outcome_of_whole script) r
 settings_told script old whole (Refused told) is h =
     record { text = []; is = subst (λ (o : Result OpenedText ℕ). JudgesOpened o [] (Some told)) (sym is) (inr (told, h.0, h.1, refl, refl)); written = keeps_nothing old }
-settings_told script old whole Memory is h = nothing_told outcome_of script old (inl refl)
+settings_told script old whole Memory is h = nothing_told outcome_of_whole script old (inl refl)
 settings_told script old whole (Io error) is h = absurd h
 
 -- the sections behind the settings
 as_judged : (script : List ℕ) (old new : Option (List ℕ)) (whole : OpenedText) (settings : SettingsText) (r : Result (Unit {0}) Failure) → opened script ≡ Ok whole → GivesSettings whole.settings (Ok settings)
-    → TellsAll (judging (purpose_of whole.sections) (line_of whole.settings) settings.devices) old new whole.sections r → Writes old new (outcome_of script) r
+    → TellsAll (judging (purpose_of whole.sections) (line_of whole.settings) settings.devices) old new whole.sections r → Writes old new (outcome_of_whole script) r
 as_judged script old new whole settings (Ok x) is given h =
     record { text = h.0; is = subst (λ (o : Result OpenedText ℕ). JudgesOpened o h.0 None) (sym is) (inl (settings, given, h.1)); written = h.2 }
 as_judged script old new whole settings (Err (Refused told)) is given h =
@@ -142,7 +142,7 @@ as_judged script old new whole settings (Err (Io error)) is given h =
     record { text = h.0; begins = inr (subst (λ (o : Result OpenedText ℕ). BeginsJudged o h.0) (sym is) (settings, given, h.1)); written = h.2 }
 
 pub sections_told : (script : List ℕ) (old new : Option (List ℕ)) (whole : OpenedText) (settings : SettingsText) (purpose : Purpose) (line : ℕ) (devices : List DeviceText) (r : Result (Unit {0}) Failure) → opened script ≡ Ok whole → GivesSettings whole.settings (Ok settings)
-    → purpose ≡ purpose_of whole.sections → line ≡ line_of whole.settings → devices ≡ settings.devices → TellsAll (judging purpose line devices) old new whole.sections r → Writes old new (outcome_of script) r
+    → purpose ≡ purpose_of whole.sections → line ≡ line_of whole.settings → devices ≡ settings.devices → TellsAll (judging purpose line devices) old new whole.sections r → Writes old new (outcome_of_whole script) r
 sections_told script old new whole settings purpose line devices r is given p l d h =
     as_judged script old new whole settings r is given
     (subst (λ (x : Purpose). TellsAll (judging x (line_of whole.settings) settings.devices) old new whole.sections r) p

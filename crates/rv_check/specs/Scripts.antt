@@ -105,8 +105,8 @@ BeginsJudged (Ok script) said =
 BeginsJudged (Err line) said = ⊥
 
 -- what there is to write of a whole script; before a failure nothing or what is said of some first sections
-abbrev pub outcome_of : List ℕ → Outcome
-outcome_of script = record {
+abbrev pub outcome_of_whole : List ℕ → Outcome
+outcome_of_whole script = record {
   Is = λ said told. JudgesOpened (opened script) said told;
   Begins = λ said. (said ≡ []) ⊎ BeginsJudged (opened script) said;
 }

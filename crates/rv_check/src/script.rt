@@ -9,7 +9,7 @@ ghost use Rattle.rv_fault.specs.Written.{Writes, WritesScript};
 ghost use Rattle.rv_script.specs.Openings.{AreNumbered};
 ghost use Rattle.rv_check.specs.Checks.{KeepsRefused, TellsAll, WritesOne};
 ghost use Rattle.rv_check.specs.Purposes.{is_last};
-ghost use Rattle.rv_check.specs.Scripts.{OfJournal, OfPart, OfRun, OfSteps, as_given, commands_line, fitted, journal_line, judging, outcome_of, steps_line};
+ghost use Rattle.rv_check.specs.Scripts.{OfJournal, OfPart, OfRun, OfSteps, as_given, commands_line, fitted, journal_line, judging, outcome_of_whole, steps_line};
 
 use crate::commands::count_commands;
 use crate::devices::load_devices;
@@ -209,7 +209,7 @@ fn settings_line(settings: &Option<Section<'_>>) -> usize
 
 // Looks at the text of a script.
 fn check_script_text<W: Write>(alloc: Global, writer: &mut W, text: &str) -> Result<(), Failure>
-    ensures { Writes (W.contents writer.old) (W.contents writer.new) (outcome_of text.now) result }
+    ensures { Writes (W.contents writer.old) (W.contents writer.new) (outcome_of_whole text.now) result }
 {
     let script = match open(text) {
         Ok(script) => script,
@@ -232,7 +232,7 @@ fn check_script_text<W: Write>(alloc: Global, writer: &mut W, text: &str) -> Res
 
 // Looks at the script that bytes are, if they are text.
 fn check_script_bytes<W: Write>(alloc: Global, writer: &mut W, bytes: &[u8]) -> Result<(), Failure>
-    ensures { WritesScript (W.contents writer.old) (W.contents writer.new) outcome_of bytes.now result }
+    ensures { WritesScript (W.contents writer.old) (W.contents writer.new) outcome_of_whole bytes.now result }
 {
     match text_of(bytes) {
         Ok(text) => check_script_text(alloc, writer, text),
@@ -250,7 +250,7 @@ pub fn check_script_kept<R: Read, W: Write>(
     writer: &mut W,
 ) -> (Vec<u8>, Result<(), Failure>)
     ensures told { IfSome (R.remaining reader.old) (λ script.
-        WritesScript (W.contents writer.old) (W.contents writer.new) outcome_of script result.1) }
+        WritesScript (W.contents writer.old) (W.contents writer.new) outcome_of_whole script result.1) }
     ensures kept { IfErr result.1 (λ failure. KeepsRefused (R.remaining reader.old) result.0.items failure) }
 {
     match read_script(alloc, reader) {

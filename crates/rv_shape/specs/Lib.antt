@@ -1,3 +1,4 @@
+pub mod ObjectTypes
 pub mod Objects
 pub mod Shape
 pub mod Limits

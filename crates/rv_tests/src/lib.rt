@@ -13,6 +13,8 @@ mod rooms;
 #[cfg(test)]
 mod scripts;
 #[cfg(test)]
+mod sheets;
+#[cfg(test)]
 mod trees;
 #[cfg(test)]
 mod turns;

@@ -1,10 +1,6 @@
 -- The tree of an expression, without where it lies in memory.
 use Rattle.std.specs.Prelude.{ℕ, List, [], ◌∷◌}
-use Rattle.rv_tree.specs.declared.expression.LogicalOperator.{LogicalOperator}
-use Rattle.rv_tree.specs.declared.expression.RelationalOperator.{RelationalOperator}
-use Rattle.rv_tree.specs.declared.expression.AddingOperator.{AddingOperator}
-use Rattle.rv_tree.specs.declared.expression.MultiplyingOperator.{MultiplyingOperator}
-use Rattle.rv_tree.specs.declared.expression.HighestOperator.{HighestOperator}
+use Rattle.rv_tree.specs.Operators.{LogicalOperator, RelationalOperator, AddingOperator, MultiplyingOperator, HighestOperator}
 use Rattle.rv_tree.specs.Names.{Identifier, Name}
 
 mutual

@@ -1,3 +1,4 @@
+pub mod Operators
 pub mod Phrases
 pub mod Names
 pub mod NameGrammar

@@ -1,7 +1,7 @@
 use Rattle.std.proofs.Common.{◌≡◌, ℕ, List, take, inl, refl, sym, subst}
 use Rattle.std.specs.Prelude.{IfSome}
 use Rattle.rv_fault.proofs.Scripts.{script_read}
-use Rattle.rv_check.specs.Scripts.{outcome_of}
+use Rattle.rv_check.specs.Scripts.{outcome_of_whole}
 use Rattle.rv_check.proofs.Checked.{failed_unread, keeps_none}
 use Rattle.rv_check.proofs.script.check_script_kept.Goals as goal
 
@@ -13,7 +13,7 @@ returns-in-Ok-clause-told g c =
     script_read _ _ known _ c.as_slice.result.now _ read c.check_script_bytes-done.ensures
 
 pub returns-in-Err-clause-told : goal.returns-in-Err-clause-told
-returns-in-Err-clause-told g c = failed_unread outcome_of (g.W.Write.contents c.args.writer.now) _ c.in-Err.error c.from.result (λ script. inl refl) c.from.ensures
+returns-in-Err-clause-told g c = failed_unread outcome_of_whole (g.W.Write.contents c.args.writer.now) _ c.in-Err.error c.from.result (λ script. inl refl) c.from.ensures
 
 pub returns-in-Err-clause-kept : goal.returns-in-Err-clause-kept
 returns-in-Err-clause-kept g c = keeps_none _ _ c.in-Err.error c.from.result c.from.ensures
