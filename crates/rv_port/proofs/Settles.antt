@@ -20,7 +20,7 @@ use Rattle.rv_behind.specs.declared.event.Begun.{Begun}
 use Rattle.rv_behind.specs.declared.event.Event.{Event}
 use Rattle.rv_behind.specs.declared.event.Event.TheVariants.{Asks}
 use Rattle.rv_behind.specs.declared.event.Lent.{Lent}
-use Rattle.rv_port.specs.Traces.{Passing, limits_in, told, asks_on, noted, noted_if, drops, SettledBy, SettlesBehind, Tells, WoreOut, Went, Asked, Replied}
+use Rattle.rv_port.specs.Traces.{Passing, limits_in, told, asks_on, noted, noted_if, drops, SettledBy, SettlesBehind, SettlesIf, Tells, WoreOut, Went, Asked, Replied}
 use Rattle.rv_port.specs.Calls.{AreSettles}
 use Rattle.rv_port.proofs.Asking.{told_recorded, noted_one, in_vain_later, asked_later}
 use Rattle.rv_port.proofs.Gets.{of_end, settle_gets}
@@ -197,12 +197,15 @@ answer_told v u w q r t b lent plain x n is s = subst (λ (z : Answer). Went v (
 
 -- Settles so far, and those that follow
 
-abbrev pub SettlesIf : Bool → Passing → Passing → Type 0
-SettlesIf is_dropped v w = (answers : List Answer) × SettledBy is_dropped answers v w
-
 pub none_dropped : (b : Bool) (v : Passing) → b ≡ false → SettlesIf b v v
 none_dropped true v e = absurd (cc e)
 none_dropped false v e = ([], refl)
+
+pub kept_behind : (r : Answer) (v : Passing) → drops r ≡ false → SettlesBehind r v v
+kept_behind r v e = none_dropped (drops r) v e
+
+pub dropped_behind : (r : Answer) (v w : Passing) → drops r ≡ true → SettlesIf true v w → SettlesBehind r v w
+dropped_behind r v w e s = subst (λ (b : Bool). SettlesIf b v w) (sym e) s
 
 pub worn_settle : (b : Bool) (v w : Passing) → b ≡ true → WoreOut v Settle w → SettlesIf b v w
 worn_settle true v w e t = ([], t)

@@ -128,9 +128,13 @@ SettledBy false (r ∷ rs) v w = ⊥
 SettledBy true [] v w = WoreOut v Settle w
 SettledBy true (r ∷ rs) v w = (u : Passing) × Asked v Settle r u × SettledBy (drops r) rs u w
 
--- what a port asks by itself behind an answer: only where a caller was dropped, and then until the object is settled (own)
+-- what a port asks by itself: only where a caller was dropped, and then until the object is settled (own)
+abbrev pub SettlesIf : (is_dropped : Bool) → Passing → Passing → Type 0
+SettlesIf is_dropped v w = (answers : List Answer) × SettledBy is_dropped answers v w
+
+-- the same behind an answer (own)
 abbrev pub SettlesBehind : Answer → Passing → Passing → Type 0
-SettlesBehind r v w = (answers : List Answer) × SettledBy (drops r) answers v w
+SettlesBehind r v w = SettlesIf (drops r) v w
 
 -- a body is told an answer, behind which the port settles; or Full where no act is left (own)
 abbrev pub Tells : Passing → Request → Answer → Passing → Type 0

@@ -10,7 +10,7 @@ ghost use Rattle.rv_behind.specs.Acting.{BodiesFit};
 ghost use Rattle.rv_behind.specs.Events.{by, catalogue_of};
 ghost use Rattle.rv_port.specs.Composing.{MayGo};
 ghost use Rattle.rv_port.specs.Endings.{RunsCourse};
-ghost use Rattle.rv_port.specs.Traces.{RepliedOnce, Settled, SettlesBehind, WoreOut, IsTold, told, asks_on, drops};
+ghost use Rattle.rv_port.specs.Traces.{RepliedOnce, Settled, SettlesBehind, SettlesIf, WoreOut, IsTold, told, asks_on, drops};
 
 use crate::bell::Bell;
 use crate::ended::{Course, Ending, stop_of};
@@ -122,13 +122,12 @@ impl Asker {
         unreachable!()
     }
 
-    /// Settles the object of a body whose end was answered so: while a queued caller is dropped, one more is
-    /// served (9.5.3). Where no act is left the object stays unsettled.
-    pub(crate) fn settle<R: Wait>(&mut self, rt: &R, answer: &Answer)
-        ensures settles { SettlesBehind answer.now self.old.pass self.new.pass }
+    // Settles the object that dropped a queued caller: while one more is dropped, one more is served (9.5.3).
+    fn settle_dropped<R: Wait>(&mut self, rt: &R)
+        ensures settles { SettlesIf true self.old.pass self.new.pass }
         ensures mark { self.new.is_refused ≡ self.old.is_refused }
     {
-        let mut is_dropped = drops(answer);
+        let mut is_dropped = true;
         for _ in rt.forever() {
             if !is_dropped {
                 return;
@@ -140,6 +139,18 @@ impl Asker {
             is_dropped = drops(&letter.answer);
         }
         unreachable!()
+    }
+
+    /// Settles the object of a body whose end was answered so, where it dropped a queued caller. Where no act is left the object
+    /// stays unsettled. The letter is made in a function of its own, so that an end that drops nobody doesn't pay for one.
+    #[tactic(auto, using(crate::proofs::Settles::kept_behind, crate::proofs::Settles::dropped_behind))]
+    pub(crate) fn settle<R: Wait>(&mut self, rt: &R, answer: &Answer)
+        ensures settles { SettlesBehind answer.now self.old.pass self.new.pass }
+        ensures mark { self.new.is_refused ≡ self.old.is_refused }
+    {
+        if drops(answer) {
+            self.settle_dropped(rt);
+        }
     }
 
     // Asks for a body, and settles: Full in place of Misuse, and where no act is left.

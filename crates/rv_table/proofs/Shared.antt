@@ -1,13 +1,15 @@
 -- The marks that two rows share.
-use Rattle.std.proofs.Common.{◌≡◌, ◌≢◌, ℕ, ◌+◌, ◌-◌, ◌*◌, ◌/◌, ◌%◌, ◌<◌, ◌≤◌, List, length, get_or, set, Bool, true, false, arith, ap, sym, ◌∙◌, refl}
+use Rattle.std.proofs.Common.{◌≡◌, ◌≢◌, ℕ, ◌+◌, ◌-◌, ◌*◌, ◌/◌, ◌%◌, ◌<◌, ◌≤◌, List, [], length, get_or, set, Bool, true, false, Option, Some, None, arith, ap, sym, ◌∙◌, refl}
 use Rattle.std.specs.Prelude.{◌==◌, ◌&&◌, bit_and, min, nat_lt}
 use Rattle.std.specs.Int.{bit_at}
 use Rattle.std.proofs.lemmas.Bool.Decides.{nat_tests}
 use Rattle.std.proofs.lemmas.Grind.{get_or-set_at}
 use Rattle.std.proofs.lemmas.List.{get_or-set_other, length-set}
 use Rattle.std.proofs.lemmas.Nat.Bits.{bit_at_and}
-use Rattle.rv_access.specs.Words.{Words}
-use Rattle.rv_table.specs.Rows.{has, one, IsRow, passes_both}
+use Rattle.rv_access.specs.Words.{WindowWords, Words}
+use Rattle.rv_access.specs.Windows.{is_open}
+use Rattle.rv_table.specs.Rows.{has, one, IsRow, is_open_at, passes_both}
+use Rattle.rv_table.specs.Spans.{AreEnds, HasEnds}
 
 abbrev pub anded : List ℕ → List ℕ → ℕ → List ℕ
 anded ws ts w = set ws w (bit_and (get_or ws w 0) (get_or ts w 0))
@@ -74,3 +76,19 @@ shared_row list first second us ts ws few h ours theirs = record {
     by_side j past false is =
         let outside : 64 * 8 ≤ j = grind (arith, nat_tests) in
         h.left j outside ∙ ours.behind j past
+
+-- no line has a window: all lines are open
+
+always_open : (window : Option WindowWords) (tick : ℕ) → HasEnds [] window → is_open window tick ≡ true
+always_open None tick h = refl
+always_open (Some w) tick h = absurd (omega (arith, h.0.1))
+
+and_true : (a b : Bool) → b ≡ true → one a ≡ one (a && b)
+and_true true b e = ap one (sym e)
+and_true false b e = refl
+
+pub plain_row : (list : List Words) (first : Words → Bool) (tick : ℕ) (ws : List ℕ) → AreEnds [] list → IsRow first list ws → IsRow (passes_both first (is_open_at tick)) list ws
+plain_row list first tick ws plain ours = record {
+  lines = λ d i within. ours.lines d i within ∙ and_true (first (get_or list i d)) (is_open_at tick (get_or list i d)) (always_open (get_or list i d).window tick (plain i d within));
+  behind = ours.behind;
+}

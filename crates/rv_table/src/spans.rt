@@ -1,14 +1,14 @@
 //! The spans of ticks between the ends of the windows of a list, with a row of the lines that are open in each.
 
-ghost use Rattle.std.specs.Prelude.{◌≡◌, ◌≤◌, ◌∷◌, ℕ, List, length, IfOk, OnOk};
+ghost use Rattle.std.specs.Prelude.{◌≡◌, ◌≤◌, ◌∷◌, ℕ, Bool, List, length, IfOk, OnOk};
 ghost use Rattle.std.specs.List.{All, AllZip};
 ghost use Rattle.std.specs.List.Sorted.{IsNonDecreasing};
 ghost use Rattle.rv_access.specs.Limits.{most_lines};
 ghost use Rattle.rv_access.specs.Words.{Words};
-ghost use Rattle.rv_table.specs.Rows.{IsRow, is_open_at};
+ghost use Rattle.rv_table.specs.Rows.{IsRow, is_open_at, passes_both};
 ghost use Rattle.rv_table.specs.Spans.{AreEnds, HasEnds, IsOpenRow, IsSpan, IsSpans};
 
-use crate::row::{Row, open_row};
+use crate::row::{Row, open_row, shared};
 use crate::rows::copy_rows;
 use rv_access::{AccessList, Line};
 use std::alloc::{AllocError, Global};
@@ -102,10 +102,21 @@ impl Spans {
         Ok(Spans { ends, rows })
     }
 
-    /// The lines that are open at a tick.
-    pub fn row(&self, tick: u64) -> &Row
+    // The lines that are open at a tick.
+    fn row(&self, tick: u64) -> &Row
         ensures { (list : List Words) → IsSpans list self.now → IsRow (is_open_at tick) list result.now }
     {
         &self.rows[span_of(&self.ends, tick)]
+    }
+    /// Those of the lines of a row that are open at a tick. Where no line has a window, they are all.
+    pub fn open_of(&self, ours: &Row, tick: u64) -> Row
+        ensures { (list : List Words) (first : Words → Bool) → length list ≤ most_lines → IsSpans list self.now
+            → IsRow first list ours.now → IsRow (passes_both first (is_open_at tick)) list result }
+    {
+        if self.ends.is_empty() {
+            *ours
+        } else {
+            shared(ours, self.row(tick))
+        }
     }
 }

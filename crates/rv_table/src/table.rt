@@ -8,7 +8,7 @@ ghost use Rattle.rv_shape.specs.Catalogue.{target};
 ghost use Rattle.rv_shape.specs.Shape.{Shape};
 ghost use Rattle.rv_table.specs.Tables.{IsCaller, IsTable, allowed, decided, decided_at, granted, granted_at, row_of};
 
-use crate::row::{Row, allowing_row, caller_row, deciding, is_marked, shared};
+use crate::row::{Row, allowing_row, caller_row, deciding, is_marked};
 use crate::rows::{ObjectRows, caller_rows, callers_with, object_rows, objects_with};
 use crate::spans::Spans;
 use rv_access::{AccessList, MOST_LINES};
@@ -147,7 +147,7 @@ impl Table {
         let Some(theirs) = self.site(object, operation) else {
             return (false, 0);
         };
-        let open = shared(ours, self.spans.row(tick));
+        let open = self.spans.open_of(ours, tick);
         let number = deciding(&open, theirs, self.lines);
         (self.allows(number), number)
     }

@@ -19,7 +19,7 @@ returns-clause-line c = λ list shapes caller is mine.
     let there : row_of c.args.self.now.objects c.args.object c.args.operation ≡ Some c.in-Some.theirs.now = sym c.in-Some.ensures in
     let at = found list shapes c.args.self.now c.args.object c.args.operation c.in-Some.theirs.now is there in
     let count : c.self.inside.lines ≡ length list = first_of (search (rules, is.count), grind (arith, is.count)) in
-    let open_now : IsRow (passes_both (of_caller caller) (is_open_at c.args.tick)) list c.shared-open.result = c.shared-open.ensures list (of_caller caller) (is_open_at c.args.tick) is.few mine (c.row.ensures list (subst (λ (marks : Marks). IsSpans list marks.spans) (sym c.self.view_is) is.spans)) in
+    let open_now : IsRow (passes_both (of_caller caller) (is_open_at c.args.tick)) list c.open_of-open.result = c.open_of-open.ensures list (of_caller caller) is.few (subst (λ (marks : Marks). IsSpans list marks.spans) (sym c.self.view_is) is.spans) mine in
     c.deciding-number.ensures list caller at.site at.name c.args.tick count is.few open_now at.is_row ∙ sym (at.line caller c.args.tick)
 
 pub returns-clause-granted : goal.returns-clause-granted
@@ -27,7 +27,7 @@ returns-clause-granted c = λ list shapes caller is mine.
     let there : row_of c.args.self.now.objects c.args.object c.args.operation ≡ Some c.in-Some.theirs.now = sym c.in-Some.ensures in
     let at = found list shapes c.args.self.now c.args.object c.args.operation c.in-Some.theirs.now is there in
     let count : c.self.inside.lines ≡ length list = first_of (search (rules, is.count), grind (arith, is.count)) in
-    let open_now : IsRow (passes_both (of_caller caller) (is_open_at c.args.tick)) list c.shared-open.result = c.shared-open.ensures list (of_caller caller) (is_open_at c.args.tick) is.few mine (c.row.ensures list (subst (λ (marks : Marks). IsSpans list marks.spans) (sym c.self.view_is) is.spans)) in
+    let open_now : IsRow (passes_both (of_caller caller) (is_open_at c.args.tick)) list c.open_of-open.result = c.open_of-open.ensures list (of_caller caller) is.few (subst (λ (marks : Marks). IsSpans list marks.spans) (sym c.self.view_is) is.spans) mine in
     let number : c.deciding-number.result ≡ decides list caller at.site at.name c.args.tick = c.deciding-number.ensures list caller at.site at.name c.args.tick count is.few open_now at.is_row in
     let few : c.deciding-number.result ≤ length list = omega (arith, number, decides_few list caller at.site at.name c.args.tick) in
     c.allows.ensures list shapes is few ∙ ap (allowed list) number ∙ sym (at.grant caller c.args.tick)
