@@ -1,5 +1,5 @@
 -- The marks that two rows share.
-use Rattle.std.proofs.Common.{◌≡◌, ◌≢◌, ℕ, ◌+◌, ◌-◌, ◌*◌, ◌/◌, ◌%◌, ◌<◌, ◌≤◌, List, [], length, get_or, set, Bool, true, false, Option, Some, None, arith, ap, sym, ◌∙◌, refl}
+use Rattle.std.proofs.Common.{◌≡◌, ◌≢◌, ℕ, ◌+◌, ◌-◌, ◌*◌, ◌/◌, ◌%◌, ◌<◌, ◌≤◌, List, [], ◌∷◌, length, get_or, set, Bool, true, false, Option, Some, None, arith, ap, sym, ◌∙◌, refl}
 use Rattle.std.specs.Prelude.{◌==◌, ◌&&◌, bit_and, min, nat_lt}
 use Rattle.std.specs.Int.{bit_at}
 use Rattle.std.proofs.lemmas.Bool.Decides.{nat_tests}
@@ -87,8 +87,9 @@ and_true : (a b : Bool) → b ≡ true → one a ≡ one (a && b)
 and_true true b e = ap one (sym e)
 and_true false b e = refl
 
-pub plain_row : (list : List Words) (first : Words → Bool) (tick : ℕ) (ws : List ℕ) → AreEnds [] list → IsRow first list ws → IsRow (passes_both first (is_open_at tick)) list ws
-plain_row list first tick ws plain ours = record {
+pub plain_row : (list : List Words) (first : Words → Bool) (tick : ℕ) (ends ws : List ℕ) → length ends ≡ 0 → AreEnds ends list → IsRow first list ws → IsRow (passes_both first (is_open_at tick)) list ws
+plain_row list first tick [] ws none plain ours = record {
   lines = λ d i within. ours.lines d i within ∙ and_true (first (get_or list i d)) (is_open_at tick (get_or list i d)) (always_open (get_or list i d).window tick (plain i d within));
   behind = ours.behind;
 }
+plain_row list first tick (end ∷ ends) ws none plain ours = absurd (omega (arith, none))
