@@ -3,7 +3,11 @@ use Rattle.std.proofs.Common.{◌≡◌, ◌≤◌, inl, inr, ℕ, zero, suc, Bo
 use Rattle.rv_lex.specs.declared.kind.Kind.TheVariants as k
 use Rattle.rv_lex.specs.Lexes.{Lexeme}
 use Rattle.rv_lex.specs.Literals.{value_of}
-use Rattle.rv_tree.specs.Operators.{LogicalOperator, RelationalOperator, AddingOperator, MultiplyingOperator, HighestOperator}
+use Rattle.rv_tree.specs.declared.expression.LogicalOperator.{LogicalOperator}
+use Rattle.rv_tree.specs.declared.expression.RelationalOperator.{RelationalOperator}
+use Rattle.rv_tree.specs.declared.expression.AddingOperator.{AddingOperator}
+use Rattle.rv_tree.specs.declared.expression.MultiplyingOperator.{MultiplyingOperator}
+use Rattle.rv_tree.specs.declared.expression.HighestOperator.{HighestOperator}
 use Rattle.rv_tree.specs.Phrases.{Phrase, ◌⨾◌, Is, IsAt, When}
 use Rattle.rv_tree.specs.NameGrammar.{IsIdentifier, IsName}
 use Rattle.rv_tree.specs.Expressions as t

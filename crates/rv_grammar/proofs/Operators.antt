@@ -3,11 +3,15 @@ use Rattle.std.proofs.Common.{◌≡◌, inl, inr, Bool, true, false, cond, List
 use Rattle.rv_lex.specs.declared.kind.Kind.{Kind}
 use Rattle.rv_lex.specs.declared.kind.Kind.TheVariants as k
 use Rattle.rv_lex.specs.Lexes.{Lexeme}
-use Rattle.rv_tree.specs.Operators.{LogicalOperator, RelationalOperator, AddingOperator, MultiplyingOperator, HighestOperator}
+use Rattle.rv_tree.specs.declared.expression.LogicalOperator.{LogicalOperator}
 use Rattle.rv_tree.specs.declared.expression.LogicalOperator.TheVariants as logic
+use Rattle.rv_tree.specs.declared.expression.RelationalOperator.{RelationalOperator}
 use Rattle.rv_tree.specs.declared.expression.RelationalOperator.TheVariants as relates
+use Rattle.rv_tree.specs.declared.expression.AddingOperator.{AddingOperator}
 use Rattle.rv_tree.specs.declared.expression.AddingOperator.TheVariants as adds
+use Rattle.rv_tree.specs.declared.expression.MultiplyingOperator.{MultiplyingOperator}
 use Rattle.rv_tree.specs.declared.expression.MultiplyingOperator.TheVariants as multiplies
+use Rattle.rv_tree.specs.declared.expression.HighestOperator.{HighestOperator}
 use Rattle.rv_tree.specs.declared.expression.HighestOperator.TheVariants as before
 use Rattle.rv_tree.specs.Phrases.{Phrase, ◌⨾◌, Is, IsAt, Nothing}
 use Rattle.rv_tree.specs.ExpressionGrammar.{IsLogical, relational, adding, multiplying, highest_word}

@@ -3,11 +3,15 @@ use Rattle.std.specs.Prelude.{ℕ, zero, suc, Bool, true, false, if◌then◌els
 use Rattle.rv_lex.specs.declared.kind.Kind.{Kind}
 use Rattle.rv_lex.specs.declared.kind.Kind.TheVariants as k
 use Rattle.rv_lex.specs.Lexes.{Lexeme}
-use Rattle.rv_tree.specs.Operators.{LogicalOperator, RelationalOperator, AddingOperator, MultiplyingOperator, HighestOperator}
+use Rattle.rv_tree.specs.declared.expression.LogicalOperator.{LogicalOperator}
 use Rattle.rv_tree.specs.declared.expression.LogicalOperator.TheVariants as logic
+use Rattle.rv_tree.specs.declared.expression.RelationalOperator.{RelationalOperator}
 use Rattle.rv_tree.specs.declared.expression.RelationalOperator.TheVariants as relates
+use Rattle.rv_tree.specs.declared.expression.AddingOperator.{AddingOperator}
 use Rattle.rv_tree.specs.declared.expression.AddingOperator.TheVariants as adds
+use Rattle.rv_tree.specs.declared.expression.MultiplyingOperator.{MultiplyingOperator}
 use Rattle.rv_tree.specs.declared.expression.MultiplyingOperator.TheVariants as multiplies
+use Rattle.rv_tree.specs.declared.expression.HighestOperator.{HighestOperator}
 use Rattle.rv_tree.specs.declared.expression.HighestOperator.TheVariants as before
 use Rattle.rv_tree.specs.Expressions as t
 use Rattle.rv_grammar.specs.Reading.{Parser, unexpected, too_deep, ◌>>=◌, ◌>>◌, pure, refuse, sees, next, place, value, kind, of_kind, eat, expect}

@@ -10,8 +10,15 @@ use Rattle.rv_shape.specs.Catalogue.{OperationNumber, Who, Operator, Line, Task,
 use Rattle.rv_event.specs.Past.{under_way, unsettled, is_unsettled, innermost, to_settle, left_by, held, waiting, queue, queued_by, next_of, named_in, joined, left, begun, fired, without, last_queued, stance, mode, mode_by}
 use Rattle.rv_event.specs.declared.entry.Stance.{Stance}
 use Rattle.rv_event.specs.declared.entry.Stance.TheVariants.{Free, InQueue, HandedOver, DroppedBy, WaitsOn, WaitsUntil, Gone}
-use Rattle.rv_event.specs.EntryTypes.{Body, Entry, Exit, Next, Nothing, HandedTo, Dropped, Request, Call, Complete, Settle, Resume, DelayUntil, Clock, Fire, Quit, Tick, Halt, Recorded}
+use Rattle.rv_event.specs.declared.entry.Body.{Body}
+use Rattle.rv_event.specs.declared.entry.Entry.{Entry}
 use Rattle.rv_event.specs.declared.entry.Entry.TheVariants.{Asked, Load, ListChange}
+use Rattle.rv_event.specs.declared.entry.Exit.{Exit}
+use Rattle.rv_event.specs.declared.entry.Next.{Next}
+use Rattle.rv_event.specs.declared.entry.Next.TheVariants.{Nothing, HandedTo, Dropped}
+use Rattle.rv_event.specs.declared.entry.Request.{Request}
+use Rattle.rv_event.specs.declared.entry.Request.TheVariants.{Call, Complete, Settle, Resume, DelayUntil, Clock, Fire, Quit, Tick, Halt}
+use Rattle.rv_event.specs.declared.entry.Recorded.{Recorded}
 use Rattle.rv_event.specs.declared.entry.Recorded.TheVariants.{Started, Queued, Done}
 use Rattle.rv_event.proofs.Matching.{by}
 use Rattle.rv_history.specs.declared.limits.Limits.{Limits}

@@ -10,8 +10,15 @@ use Rattle.rv_shape.specs.Catalogue.{OperationNumber, place, target, shares, is_
 use Rattle.rv_event.specs.Past.{under_way, unsettled, is_unsettled, to_settle, left_by, waiting, queue, queued_by, next_of, named_in, joined, left, begun, handed, fired, without, innermost, writes, scalars, halted, halts}
 use Rattle.rv_shape.specs.declared.kind.Kind.{Kind}
 use Rattle.rv_shape.specs.declared.kind.Kind.TheVariants.{Function, Procedure, Entry as EntryKind, Handler}
-use Rattle.rv_event.specs.EntryTypes.{Body, Entry, Exit, Next, Nothing, HandedTo, Dropped, Request, Call, Complete, Settle, Resume, DelayUntil, Clock, Fire, Quit, Tick, Halt, Recorded}
+use Rattle.rv_event.specs.declared.entry.Body.{Body}
+use Rattle.rv_event.specs.declared.entry.Entry.{Entry}
 use Rattle.rv_event.specs.declared.entry.Entry.TheVariants.{Asked, Load, ListChange}
+use Rattle.rv_event.specs.declared.entry.Exit.{Exit}
+use Rattle.rv_event.specs.declared.entry.Next.{Next}
+use Rattle.rv_event.specs.declared.entry.Next.TheVariants.{Nothing, HandedTo, Dropped}
+use Rattle.rv_event.specs.declared.entry.Request.{Request}
+use Rattle.rv_event.specs.declared.entry.Request.TheVariants.{Call, Complete, Settle, Resume, DelayUntil, Clock, Fire, Quit, Tick, Halt}
+use Rattle.rv_event.specs.declared.entry.Recorded.{Recorded}
 use Rattle.rv_event.specs.declared.entry.Recorded.TheVariants.{Started, Queued, Done}
 use Rattle.rv_shape.proofs.Stay.{object_stays}
 use Rattle.rv_history.specs.declared.limits.Limits.{Limits}

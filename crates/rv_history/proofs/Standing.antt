@@ -8,8 +8,15 @@ use Rattle.rv_shape.specs.Shape.{Shape}
 use Rattle.rv_shape.specs.Catalogue.{first_of}
 use Rattle.rv_event.specs.Recorded.{recorded}
 use Rattle.rv_event.specs.Past.{held, if_named, innermost, joined, left, left_by, mode, mode_by, named_in, next_of, or_else, queue, queued_by, stance, stance_of, to_settle, under_way, unsettled, waiting, without}
-use Rattle.rv_event.specs.EntryTypes.{Body, Entry, Exit, Next, Nothing, HandedTo, Dropped, Request, Call, Complete, Settle, Resume, DelayUntil, Clock, Fire, Quit, Tick, Halt, Recorded}
+use Rattle.rv_event.specs.declared.entry.Body.{Body}
+use Rattle.rv_event.specs.declared.entry.Entry.{Entry}
 use Rattle.rv_event.specs.declared.entry.Entry.TheVariants.{Asked, Load, ListChange}
+use Rattle.rv_event.specs.declared.entry.Exit.{Exit}
+use Rattle.rv_event.specs.declared.entry.Next.{Next}
+use Rattle.rv_event.specs.declared.entry.Next.TheVariants.{Nothing, HandedTo, Dropped}
+use Rattle.rv_event.specs.declared.entry.Request.{Request}
+use Rattle.rv_event.specs.declared.entry.Request.TheVariants.{Call, Complete, Settle, Resume, DelayUntil, Clock, Fire, Quit, Tick, Halt}
+use Rattle.rv_event.specs.declared.entry.Recorded.{Recorded}
 use Rattle.rv_event.specs.declared.entry.Recorded.TheVariants.{Started, Queued, Refused, Done, Suspended, Delayed, Woken, Accepted}
 use Rattle.rv_event.specs.declared.entry.Stance.{Stance}
 use Rattle.rv_event.specs.declared.entry.Stance.TheVariants.{Free, InQueue, HandedOver, DroppedBy}

@@ -2,11 +2,15 @@
 -- none where a type, a number of arguments or a static value doesn't fit.
 use Rattle.std.specs.Prelude.{ℕ, ℤ, pos, Bool, true, false, ◌&&◌, not, if◌then◌else◌, List, [], ◌∷◌, ◌++◌, Option, Some, None}
 use Rattle.rv_tree.specs.Expressions.{Expression, literal, name, attribute, call, parenthesized, highest, product, signed, sum, relation, logical, Expressions, no_expressions, and_expression, Factors, no_factors, and_factor, Terms, no_terms, and_term}
+use Rattle.rv_tree.specs.declared.expression.HighestOperator.{HighestOperator}
 use Rattle.rv_tree.specs.declared.expression.HighestOperator.TheVariants as highest_operator
+use Rattle.rv_tree.specs.declared.expression.AddingOperator.{AddingOperator}
 use Rattle.rv_tree.specs.declared.expression.AddingOperator.TheVariants.{Plus, Minus}
+use Rattle.rv_tree.specs.declared.expression.MultiplyingOperator.{MultiplyingOperator}
 use Rattle.rv_tree.specs.declared.expression.MultiplyingOperator.TheVariants as multiplying
+use Rattle.rv_tree.specs.declared.expression.RelationalOperator.{RelationalOperator}
 use Rattle.rv_tree.specs.declared.expression.RelationalOperator.TheVariants as relational
-use Rattle.rv_tree.specs.Operators.{LogicalOperator, RelationalOperator, AddingOperator, MultiplyingOperator, HighestOperator}
+use Rattle.rv_tree.specs.declared.expression.LogicalOperator.{LogicalOperator}
 use Rattle.rv_tree.specs.declared.expression.LogicalOperator.TheVariants as logical_operator
 use Rattle.rv_shape.specs.declared.kind.Range.{Range}
 use Rattle.rv_shape.specs.declared.kind.Parameter.{Parameter}
