@@ -4,8 +4,8 @@ ghost use Rattle.std.specs.Prelude.{◌≡◌, ◌+◌, ◌++◌, take, IfErr, I
 ghost use Rattle.std.specs.Io.KnownBytes.{Consumes};
 ghost use Rattle.rv_script.specs.Whole.{most_bytes};
 ghost use Rattle.rv_fault.specs.Written.{WritesScript};
-ghost use Rattle.rv_check.specs.Checks.{KeepsRefused, outcome_of as checked};
-ghost use Rattle.rv_check.specs.Scripts.{outcome_of_whole as judged};
+ghost use Rattle.rv_check.specs.Checks.{KeepsRefused};
+ghost use Rattle.rv_check.specs.Scripts.{outcome_when};
 
 use rv_attend::{Follower, KeptFailure, Outputs};
 use rv_check::warnings::{Warnings, run_warnings_of, warnings_of, whole_warnings_of};
@@ -57,31 +57,19 @@ pub fn run_warnings(alloc: Global, before: &[u8]) -> Result<Warnings, Failure> {
     run_warnings_of(alloc, before)
 }
 
-/// Looks at the sections of the script that a reader gives, in order, and writes a line for each that is well formed, but
-/// none for settings. It stops at the first fault. Gives back what was read of the script.
+/// Looks at the script that a reader gives, whole or section by section, and writes a line for each section that is well
+/// formed, but none for settings. It stops at the first fault. Gives back what was read of the script.
 pub fn check_kept<R: Read, W: Write>(
     alloc: Global,
     reader: &mut R,
     writer: &mut W,
+    is_whole: bool,
 ) -> (Vec<u8>, Result<(), Failure>)
     ensures told { IfSome (R.remaining reader.old) (λ script.
-        WritesScript (W.contents writer.old) (W.contents writer.new) checked script result.1) }
+        WritesScript (W.contents writer.old) (W.contents writer.new) (outcome_when is_whole) script result.1) }
     ensures kept { IfErr result.1 (λ failure. KeepsRefused (R.remaining reader.old) result.0.items failure) }
 {
-    rv_check::check::check_kept(alloc, reader, writer)
-}
-
-/// Looks at a whole script as the command takes it that it is for, and gives back what was read of it.
-pub fn check_whole<R: Read, W: Write>(
-    alloc: Global,
-    reader: &mut R,
-    writer: &mut W,
-) -> (Vec<u8>, Result<(), Failure>)
-    ensures told { IfSome (R.remaining reader.old) (λ script.
-        WritesScript (W.contents writer.old) (W.contents writer.new) judged script result.1) }
-    ensures kept { IfErr result.1 (λ failure. KeepsRefused (R.remaining reader.old) result.0.items failure) }
-{
-    rv_check::script::check_script_kept(alloc, reader, writer)
+    rv_check::reading::check_kept(alloc, reader, writer, is_whole)
 }
 
 /// Judges the journal that a script brings in a section, and writes one line that says what was found. Gives whether it

@@ -1,7 +1,7 @@
 //! The subcommands that take a script alone: `play` and `check`.
 
 use crate::colours::tell;
-use crate::commands::{check_kept, check_whole, read, warnings, whole_warnings};
+use crate::commands::{check_kept, read, warnings, whole_warnings};
 use crate::status::Stop;
 use crate::telling::{Telling, ended, warn};
 use rv_fault::Failure;
@@ -77,10 +77,6 @@ pub fn check_script<R: Eprint, I: Read, W: Write>(
 ) -> Result<(), Stop> {
     let script = noted(rt, alloc, telling, is_whole, reader)?;
     let mut bytes = script.as_slice();
-    let (kept, done) = if is_whole {
-        check_whole(alloc, &mut bytes, writer)
-    } else {
-        check_kept(alloc, &mut bytes, writer)
-    };
+    let (kept, done) = check_kept(alloc, &mut bytes, writer, is_whole);
     ended(rt, alloc, telling, kept.as_slice(), done)
 }

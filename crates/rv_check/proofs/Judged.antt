@@ -1,5 +1,5 @@
 -- What is told of the sections of a whole script.
-use Rattle.std.proofs.Common.{◌≡◌, ◌≤◌, ◌+◌, ◌^◌, inl, inr, ℕ, List, [], ◌∷◌, ◌++◌, Some, None, Option, Ok, Err, Result, length, refl, sym, ap, ◌∙◌, subst}
+use Rattle.std.proofs.Common.{◌≡◌, ◌≤◌, ◌+◌, ◌^◌, inl, inr, ℕ, Bool, true, false, List, [], ◌∷◌, ◌++◌, Some, None, Option, Ok, Err, Result, length, refl, sym, ap, ◌∙◌, subst}
 use Rattle.std.specs.Str.Lines.{lines}
 use Rattle.rv_text.specs.Sections.{SectionText}
 use Rattle.rv_shape.specs.Shape.{Shape}
@@ -24,7 +24,7 @@ use Rattle.rv_check.specs.DeviceFaults.{LoadsAll, devices_fault, with_devices}
 use Rattle.rv_check.specs.declared.purpose.Part.{Part}
 use Rattle.rv_check.specs.Purposes.{part_in, purpose_of}
 use Rattle.rv_check.specs.ScriptLines.{lines_behind}
-use Rattle.rv_check.specs.Scripts.{BeginsJudged, JudgesOpened, OfPart, OfRun, OfSteps, as_given, commands_line, fitted, judging, outcome_of_whole}
+use Rattle.rv_check.specs.Scripts.{BeginsJudged, JudgesOpened, OfPart, OfRun, OfSteps, as_given, commands_line, fitted, judging, outcome_of_whole, outcome_when}
 use Rattle.rv_check.specs.StepFaults.{CountsSteps}
 use Rattle.rv_check.proofs.Checked.{nothing_told}
 
@@ -148,3 +148,8 @@ sections_told script old new whole settings purpose line devices r is given p l 
     (subst (λ (x : Purpose). TellsAll (judging x (line_of whole.settings) settings.devices) old new whole.sections r) p
     (subst (λ (x : ℕ). TellsAll (judging purpose x settings.devices) old new whole.sections r) l
     (subst (λ (x : List DeviceText). TellsAll (judging purpose line x) old new whole.sections r) d h)))
+
+-- nothing is written yet
+pub nothing_begins : (is_whole : Bool) (script : List ℕ) → (outcome_when is_whole script).Begins []
+nothing_begins true script = inl refl
+nothing_begins false script = inl refl

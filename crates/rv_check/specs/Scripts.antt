@@ -1,6 +1,6 @@
 -- A whole script that is looked at, its steps, its commands or its journal too: what is said of its sections, and what stands
 -- against them (own).
-use Rattle.std.specs.Prelude.{◌≡◌, ◌⊎◌, ℕ, ◌+◌, List, [], ◌∷◌, ◌++◌, length, codes, Option, Some, None, Result, Ok, Err}
+use Rattle.std.specs.Prelude.{◌≡◌, ◌⊎◌, Bool, true, false, ℕ, ◌+◌, List, [], ◌∷◌, ◌++◌, length, codes, Option, Some, None, Result, Ok, Err}
 use Rattle.std.specs.Fmt.{decimal}
 use Rattle.std.specs.Str.Lines.{lines}
 use Rattle.rv_text.specs.Sections.{SectionText}
@@ -15,7 +15,7 @@ use Rattle.rv_fault.specs.Sections.{GivesSettings, line_of}
 use Rattle.rv_fault.specs.declared.fault.What.TheVariants as Whats
 use Rattle.rv_fault.specs.declared.fault.ScriptFault.{ScriptFault}
 use Rattle.rv_fault.specs.Written.{Outcome}
-use Rattle.rv_check.specs.Checks.{Checks, ChecksSome, Judging, OfSection, Telling, at_line, shape_line}
+use Rattle.rv_check.specs.Checks.{Checks, ChecksSome, Judging, OfSection, Telling, at_line, outcome_of, shape_line}
 use Rattle.rv_check.specs.CommandLines.{TakesAll, before_commands}
 use Rattle.rv_check.specs.ScriptLines.{lines_behind}
 use Rattle.rv_check.specs.DeviceFaults.{devices_fault, with_devices}
@@ -110,3 +110,8 @@ outcome_of_whole script = record {
   Is = λ said told. JudgesOpened (opened script) said told;
   Begins = λ said. (said ≡ []) ⊎ BeginsJudged (opened script) said;
 }
+
+-- of a script that is looked at whole, or else section by section
+abbrev pub outcome_when : Bool → List ℕ → Outcome
+outcome_when true = outcome_of_whole
+outcome_when false = outcome_of

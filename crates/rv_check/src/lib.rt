@@ -1,12 +1,13 @@
 //! Checking a script: its sections are looked at one by one, and each that is well formed is told.
 #![tactic(auto)]
 
-pub mod check;
+mod check;
 mod commands;
 mod devices;
 mod lines;
 mod purpose;
-pub mod script;
+pub mod reading;
+mod script;
 mod sections;
 mod steps;
 pub mod warnings;

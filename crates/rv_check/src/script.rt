@@ -1,13 +1,13 @@
 //! Looks at a whole script, as the command that it is for takes it: at its steps, its commands or its journal too.
 
-ghost use Rattle.std.specs.Prelude.{◌≡◌, ◌≤◌, ◌+◌, ◌^◌, length, false, IfErr, IfOk, IfSome, OnOk, option_map, string_bytes};
+ghost use Rattle.std.specs.Prelude.{◌≡◌, ◌≤◌, ◌+◌, ◌^◌, length, false, IfOk, OnOk, option_map, string_bytes};
 ghost use Rattle.std.specs.Str.Lines.{lines};
 ghost use Rattle.rv_shape.specs.Fits.{fault};
 ghost use Rattle.rv_shape.specs.ShapeText.{shape_of};
 ghost use Rattle.rv_fault.specs.Sections.{line_of};
-ghost use Rattle.rv_fault.specs.Written.{Writes, WritesScript};
+ghost use Rattle.rv_fault.specs.Written.{Writes};
 ghost use Rattle.rv_script.specs.Openings.{AreNumbered};
-ghost use Rattle.rv_check.specs.Checks.{KeepsRefused, TellsAll, WritesOne};
+ghost use Rattle.rv_check.specs.Checks.{TellsAll, WritesOne};
 ghost use Rattle.rv_check.specs.Purposes.{is_last};
 ghost use Rattle.rv_check.specs.Scripts.{OfJournal, OfPart, OfRun, OfSteps, as_given, commands_line, fitted, journal_line, judging, outcome_of_whole, steps_line};
 
@@ -17,13 +17,13 @@ use crate::purpose::{Part, Purpose, is_last, part_of, purpose_in};
 use crate::sections::{check_section, say, shape_line};
 use crate::steps::count_steps;
 use rv_fault::{Failure, What, refused, settings_of, shape_of};
-use rv_script::{open, read_script, text_of};
+use rv_script::open;
 use rv_settings::Device;
 use rv_shape::catalogue::Catalogue;
 use rv_shape::shape::UnitShape;
 use rv_text::{Section, Sections, next_line};
 use std::alloc::{AllocError, Global};
-use std::io::{Read, Write};
+use std::io::Write;
 
 // The line that is said of steps.
 fn steps_line(alloc: Global, count: usize) -> Result<String, AllocError>
@@ -207,8 +207,12 @@ fn settings_line(settings: &Option<Section<'_>>) -> usize
     }
 }
 
-// Looks at the text of a script.
-fn check_script_text<W: Write>(alloc: Global, writer: &mut W, text: &str) -> Result<(), Failure>
+/// Looks at the text of a script as the command takes it that it is for.
+pub(crate) fn check_script_text<W: Write>(
+    alloc: Global,
+    writer: &mut W,
+    text: &str,
+) -> Result<(), Failure>
     ensures { Writes (W.contents writer.old) (W.contents writer.new) (outcome_of_whole text.now) result }
 {
     let script = match open(text) {
@@ -228,36 +232,4 @@ fn check_script_text<W: Write>(alloc: Global, writer: &mut W, text: &str) -> Res
         settings.devices(),
         script.sections,
     )
-}
-
-// Looks at the script that bytes are, if they are text.
-fn check_script_bytes<W: Write>(alloc: Global, writer: &mut W, bytes: &[u8]) -> Result<(), Failure>
-    ensures { WritesScript (W.contents writer.old) (W.contents writer.new) outcome_of_whole bytes.now result }
-{
-    match text_of(bytes) {
-        Ok(text) => check_script_text(alloc, writer, text),
-        Err(error) => Err(refused(1, What::of_bytes(error))),
-    }
-}
-
-/// Looks at a whole script as the command takes it that it is for: `play`, `run` or `audit`. The first section that one of
-/// them alone takes tells which; without one it is for `play`. Writes a line for each section that is well formed, its steps,
-/// commands and journal too, and stops at the first fault. That each load is accepted is taken for granted. Gives back what was
-/// read of the script, at most its first `MOST_BYTES` + 1 bytes, so that a fault can be explained.
-pub fn check_script_kept<R: Read, W: Write>(
-    alloc: Global,
-    reader: &mut R,
-    writer: &mut W,
-) -> (Vec<u8>, Result<(), Failure>)
-    ensures told { IfSome (R.remaining reader.old) (λ script.
-        WritesScript (W.contents writer.old) (W.contents writer.new) outcome_of_whole script result.1) }
-    ensures kept { IfErr result.1 (λ failure. KeepsRefused (R.remaining reader.old) result.0.items failure) }
-{
-    match read_script(alloc, reader) {
-        Ok(bytes) => {
-            let done = check_script_bytes(alloc, writer, bytes.as_slice());
-            (bytes, done)
-        }
-        Err(error) => (Vec::new(alloc), Err(Failure::from(error))),
-    }
 }

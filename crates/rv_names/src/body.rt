@@ -1,26 +1,20 @@
 //! The names that blocks and bodies use.
 
-ghost use Rattle.std.specs.Prelude.{◌≡◌, OnOk, IfOk, map};
-ghost use Rattle.rv_tree.specs.NameView.{identifier_view, identifiers_view, name_view};
-ghost use Rattle.rv_tree.specs.ExpressionView.{expression_view, range_view};
-ghost use Rattle.rv_tree.specs.DeclarationView.{maybe, parameter_view};
+ghost use Rattle.std.specs.Prelude.{◌≡◌, OnOk, map};
 ghost use Rattle.rv_tree.specs.BodyView.{local_view, exception_choice_view, handler_view, block_view};
 ghost use Rattle.rv_scope.specs.Bound.{judged};
-ghost use Rattle.rv_scope.specs.Scope.{OnlyDeclares, declaring_all, hiding_all};
-ghost use Rattle.rv_scope.specs.ExpressionUses.{◌▷◌, value_uses, maybe_uses, range_uses};
+ghost use Rattle.rv_scope.specs.Scope.{OnlyDeclares};
 ghost use Rattle.rv_scope.specs.UnitUses.{local_form as form_of_local, local_uses, with_local, locals_uses, with_locals, exception_uses, exceptions_uses, handlers_uses, block_uses};
 
-use crate::expression::{maybe_range, maybe_value, name, refuse};
+use crate::expression::{name, refuse};
 use crate::fault::Faults;
+use crate::object::objects;
 use crate::pragma::stray_pragma;
 use crate::statement::statements;
-use rv_scope::declare::{Form, declare_all};
-use rv_scope::members::hide_all;
+use rv_scope::declare::Form;
 use rv_scope::scope::Scope;
 use rv_scope::wanted::Wanted;
 use rv_tree::body::{Block, ExceptionChoice, Handler, Local};
-use rv_tree::expression::{Expression, RangeConstraint};
-use rv_tree::name::{Identifier, Name};
 use std::alloc::AllocError;
 
 fn local_form(is_constant: bool) -> Form
@@ -31,30 +25,6 @@ fn local_form(is_constant: bool) -> Form
     } else {
         Form::Variable
     }
-}
-
-fn objects(
-    names: &Vec<Identifier>,
-    is_constant: bool,
-    mark: &Name,
-    part: &Option<RangeConstraint>,
-    initial: &Option<Expression>,
-    scope: &mut Scope,
-    faults: &mut Faults,
-) -> Result<(), AllocError>
-    ensures faults { OnOk result (faults.new
-        ≡ (judged (hiding_all (identifiers_view names.now.items) scope.old) Wanted.Subtype (name_view mark.now)
-        ▷ maybe_uses (range_uses judged (hiding_all (identifiers_view names.now.items) scope.old)) (maybe range_view part.now)
-        ▷ maybe_uses (value_uses judged (hiding_all (identifiers_view names.now.items) scope.old)) (maybe expression_view initial.now)) faults.old) }
-    ensures scope { OnOk result (scope.new
-        ≡ declaring_all (form_of_local is_constant) (identifiers_view names.now.items) (hiding_all (identifiers_view names.now.items) scope.old)) }
-    ensures only { OnOk result (OnlyDeclares scope.old scope.new) }
-{
-    hide_all(names, scope)?;
-    name(mark, Wanted::Subtype, scope, faults);
-    maybe_range(part, scope, faults);
-    maybe_value(initial, scope, faults);
-    declare_all(names, local_form(is_constant), scope)
 }
 
 fn local(one: &Local, scope: &mut Scope, faults: &mut Faults) -> Result<(), AllocError>
@@ -69,7 +39,15 @@ fn local(one: &Local, scope: &mut Scope, faults: &mut Faults) -> Result<(), Allo
             mark,
             range: part,
             value: initial,
-        } => objects(names, *is_constant, mark, part, initial, scope, faults),
+        } => objects(
+            names,
+            local_form(*is_constant),
+            mark,
+            part,
+            initial,
+            scope,
+            faults,
+        ),
         Local::Pragma(pragma) => {
             stray_pragma(pragma, faults);
             Ok(())

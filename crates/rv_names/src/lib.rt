@@ -16,6 +16,7 @@ mod firsts;
 mod jumps;
 mod missing;
 mod nonconforming;
+mod object;
 mod operation_body;
 mod pragma;
 mod protected;

@@ -2,15 +2,15 @@
 
 ghost use Rattle.std.specs.Prelude.{◌≡◌, OnOk, map};
 ghost use Rattle.rv_tree.specs.NameView.{identifier_view, identifiers_view, name_view};
-ghost use Rattle.rv_tree.specs.ExpressionView.{expression_view, range_view};
 ghost use Rattle.rv_tree.specs.DeclarationView.{maybe, aspect_view, parameter_view, operation_view, element_view, protected_unit_view};
 ghost use Rattle.rv_scope.specs.Bound.{judged};
 ghost use Rattle.rv_scope.specs.Scope.{OnlyDeclares, declaring_all, hiding_all, hiding, entered, within_unit};
-ghost use Rattle.rv_scope.specs.ExpressionUses.{◌▷◌, value_uses, maybe_uses, range_uses};
+ghost use Rattle.rv_scope.specs.ExpressionUses.{◌▷◌, maybe_uses};
 ghost use Rattle.rv_scope.specs.DeclarationUses.{aspects_uses, parameters_uses, with_parameters, declaring_operation, operation_uses, with_operation, operations_uses, with_operations, element_uses, with_element, elements_uses, with_elements, private_uses, with_private, with_members, parts_uses, protected_unit_uses, declaring_protected_unit};
 
-use crate::expression::{maybe_range, maybe_value, name};
+use crate::expression::name;
 use crate::fault::Faults;
+use crate::object::objects;
 use crate::pragma::{aspects, pragma, procedure_rules, protected_rules};
 use rv_scope::declare::{Form, declare_all};
 use rv_scope::declared::OperationKind;
@@ -20,7 +20,6 @@ use rv_scope::wanted::Wanted;
 use rv_tree::declaration::{
     Aspect, OperationDeclaration, Parameter, ProtectedElement, ProtectedUnit,
 };
-use rv_tree::expression::{Expression, RangeConstraint};
 use rv_tree::name::{Identifier, Name};
 use std::alloc::AllocError;
 
@@ -181,29 +180,6 @@ fn operations(
     Ok(())
 }
 
-fn component(
-    names: &Vec<Identifier>,
-    mark: &Name,
-    part: &Option<RangeConstraint>,
-    start: &Option<Expression>,
-    scope: &mut Scope,
-    faults: &mut Faults,
-) -> Result<(), AllocError>
-    ensures faults { OnOk result (faults.new
-        ≡ (judged (hiding_all (identifiers_view names.now.items) scope.old) Wanted.Subtype (name_view mark.now)
-        ▷ maybe_uses (range_uses judged (hiding_all (identifiers_view names.now.items) scope.old)) (maybe range_view part.now)
-        ▷ maybe_uses (value_uses judged (hiding_all (identifiers_view names.now.items) scope.old)) (maybe expression_view start.now)) faults.old) }
-    ensures scope { OnOk result (scope.new
-        ≡ declaring_all Form.Component (identifiers_view names.now.items) (hiding_all (identifiers_view names.now.items) scope.old)) }
-    ensures only { OnOk result (OnlyDeclares scope.old scope.new) }
-{
-    hide_all(names, scope)?;
-    name(mark, Wanted::Subtype, scope, faults);
-    maybe_range(part, scope, faults);
-    maybe_value(start, scope, faults);
-    declare_all(names, Form::Component, scope)
-}
-
 fn element(one: &ProtectedElement, scope: &mut Scope, faults: &mut Faults) -> Result<(), AllocError>
     ensures faults { OnOk result (faults.new ≡ element_uses judged scope.old (element_view one.now) faults.old) }
     ensures scope { OnOk result (scope.new ≡ with_element (element_view one.now) scope.old) }
@@ -216,7 +192,7 @@ fn element(one: &ProtectedElement, scope: &mut Scope, faults: &mut Faults) -> Re
             mark,
             range: part,
             value: start,
-        } => component(names, mark, part, start, scope, faults),
+        } => objects(names, Form::Component, mark, part, start, scope, faults),
     }
 }
 

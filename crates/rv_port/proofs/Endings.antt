@@ -88,7 +88,8 @@ stops_final Answers.Unattached e = absurd (cc e)
 stops_final Answers.BadLine e = absurd (cc e)
 stops_final Answers.OutOfMemory e = absurd (cc e)
 
-body_final : (v w : Passing) (q : Request) (r : Answer) → StopsBody v q r w → is_final r ≡ true
+-- what stopped a body was told Halted or Full
+pub body_final : (v w : Passing) (q : Request) (r : Answer) → StopsBody v q r w → is_final r ≡ true
 body_final v w q r t = ⊎_elim (λ k. ap is_final k.1) (λ k. ap is_final k.2 ∙ stops_final k.0 k.3) t
 
 final_noted : (c d : Course) (v w : Passing) (q : Request) (r : Answer) → TellsWhy c v q r d w → is_final r ≡ true → is_some d.stop ≡ true

@@ -2,7 +2,6 @@
 use Rattle.std.proofs.Common.{◌≡◌, inl, inr, ⊎_elim, List, [], ◌∷◌, ◌++◌, Bool, true, false, refl, ap, ◌∙◌}
 use Rattle.rv_event.specs.declared.entry.Request.{Request}
 use Rattle.rv_event.specs.declared.entry.Answer.{Answer}
-use Rattle.rv_event.specs.declared.entry.Answer.TheVariants as Answers
 use Rattle.rv_exec.specs.Stops.{is_final, IsUnfit, IsUnfitWoken, unwinds, Unwinds}
 use Rattle.rv_fits.specs.Fits.{callee_fits}
 use Rattle.rv_turn.specs.Histories.{StartsWith}
@@ -10,33 +9,12 @@ use Rattle.rv_turn.specs.Prefixes.{starts_both}
 use Rattle.rv_meant.specs.Nested.{StraysWaiting, Strays}
 use Rattle.rv_behind.specs.Events.{catalogue_of}
 use Rattle.rv_behind.specs.declared.event.Event.{Event}
-use Rattle.rv_port.specs.Traces.{Passing, Trace, told, Tells, Steps}
-use Rattle.rv_port.specs.Calls.{stops_within, StopsBody, StoppedAt}
+use Rattle.rv_port.specs.Traces.{Passing, Trace, Tells, Steps}
+use Rattle.rv_port.specs.Calls.{StoppedAt}
 use Rattle.rv_meant.specs.Settles.{is_settle, NeverSettles}
+use Rattle.rv_port.proofs.Endings.{body_final}
 use Rattle.rv_port.proofs.Settles.{tells_later}
 use Rattle.rv_port.proofs.Stopped.{stop_at}
-
-within_final : (d : Answer) → stops_within d ≡ true → is_final (told d) ≡ true
-within_final Answers.Halted e = refl
-within_final Answers.Full e = refl
-within_final Answers.Misuse e = refl
-within_final (Answers.Started s) e = absurd (cc e)
-within_final Answers.Queued e = absurd (cc e)
-within_final (Answers.Refused rule line version) e = absurd (cc e)
-within_final (Answers.Done n) e = absurd (cc e)
-within_final Answers.Suspended e = absurd (cc e)
-within_final Answers.Delayed e = absurd (cc e)
-within_final (Answers.Woken s) e = absurd (cc e)
-within_final (Answers.Accepted n) e = absurd (cc e)
-within_final Answers.Busy e = absurd (cc e)
-within_final Answers.Waiting e = absurd (cc e)
-within_final Answers.Unattached e = absurd (cc e)
-within_final Answers.BadLine e = absurd (cc e)
-within_final Answers.OutOfMemory e = absurd (cc e)
-
--- what stopped a body was told Halted or Full
-stop_final : (v w : Passing) (q : Request) (r : Answer) → StopsBody v q r w → is_final r ≡ true
-stop_final v w q r s = ⊎_elim (λ x. ap is_final x.1) (λ x. ap is_final x.2 ∙ within_final x.0 x.3) s
 
 abbrev pair_or : Request × Answer → Trace → Request × Answer
 pair_or x [] = x
@@ -54,7 +32,7 @@ none_there x (y ∷ before) behind e = cc e
 one_final : (u : Passing) (pair : Request × Answer) → StoppedAt u (pair ∷ []) → is_final pair.1 ≡ true
 one_final u pair s = by_before s.before s.asked_is where
   by_before : (before : Trace) → pair ∷ [] ≡ before ++ (s.request, s.answer) ∷ s.behind → is_final pair.1 ≡ true
-  by_before [] e = ap (λ (l : Trace). is_final (pair_or pair l).1) e ∙ stop_final s.asker s.after s.request s.answer s.reason
+  by_before [] e = ap (λ (l : Trace). is_final (pair_or pair l).1) e ∙ body_final s.asker s.after s.request s.answer s.reason
   by_before (y ∷ before) e = absurd (none_there (s.request, s.answer) before s.behind (ap (λ (l : Trace). rest_of l) e))
 
 -- of two, the second of which is no end, it is the second
@@ -66,7 +44,7 @@ two_final u first second n s = by_before s.before s.asked_is where
 
   by_before : (before : Trace) → first ∷ second ∷ [] ≡ before ++ (s.request, s.answer) ∷ s.behind → is_final second.1 ≡ true
   by_before [] e = absurd (cc (unwinding s.behind (ap (λ (l : Trace). rest_of l) e) s.unwinds, n))
-  by_before (y ∷ []) e = ap (λ (l : Trace). is_final (pair_or second (rest_of l)).1) e ∙ stop_final s.asker s.after s.request s.answer s.reason
+  by_before (y ∷ []) e = ap (λ (l : Trace). is_final (pair_or second (rest_of l)).1) e ∙ body_final s.asker s.after s.request s.answer s.reason
   by_before (y ∷ z ∷ before) e = absurd (none_there (s.request, s.answer) before s.behind (ap (λ (l : Trace). rest_of (rest_of l)) e))
 
 unlike : {X : Type 0} (b : Bool) → b ≡ true → b ≡ false → X

@@ -1,6 +1,6 @@
 //! Scripts that are cut short or damaged: each has to get a verdict, and to be looked at and played to its end.
 
-use rv_check::check::check;
+use rv_check::reading::check;
 use rv_fault::Failure;
 use rv_play::play::play;
 use std::alloc::{AllocError, Global};

@@ -1,6 +1,6 @@
 //! The fronts of a script, which is cut at every byte: what is said of each when it is checked, in lines.
 
-use rv_check::check::check;
+use rv_check::reading::check;
 use rv_fault::Failure;
 use std::alloc::{AllocError, Global};
 use std::io;

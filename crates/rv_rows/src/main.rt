@@ -35,8 +35,7 @@ use fronts::fronts_of;
 use grown::grown;
 use row_files::failing::{FailingReader, FailingWriter};
 use row_files::{bytes_of, names_before};
-use rv_check::check::check;
-use rv_check::script::check_script_kept;
+use rv_check::reading::{check, check_kept};
 use rv_check::warnings::{Warnings, run_warnings_of, warnings_of, whole_warnings_of};
 use rv_exec::machine::STACK_BYTES;
 use rv_explain::explain;
@@ -81,7 +80,7 @@ fn carry_out<R: io::Read, W: io::Write>(
         Deed::Play => play(alloc, reader, written, true),
         Deed::Check => check(alloc, reader, written),
         Deed::CheckScript => {
-            let (_, done) = check_script_kept(alloc, reader, written);
+            let (_, done) = check_kept(alloc, reader, written, true);
             done
         }
         Deed::Audit => {

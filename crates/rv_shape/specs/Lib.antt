@@ -1,4 +1,3 @@
-pub mod ObjectTypes
 pub mod Objects
 pub mod Shape
 pub mod Limits

@@ -1,7 +1,7 @@
 //! What becomes of scripts at the limits that no file should hold. Failed reads and writes are shown by rows with a
 //! `NAME.fails`.
 
-use rv_check::check::check;
+use rv_check::reading::check;
 use rv_fault::Failure;
 use rv_play::play::play;
 use rv_script::MOST_BYTES;

@@ -146,13 +146,9 @@ fn print_else(statements: &Vec<Statement>, out: &mut Printer) -> Result<(), Allo
 {
     match statements.as_slice() {
         [] => Ok(()),
-        [first, more @ ..] => {
+        [_, ..] => {
             out.kind(Kind::Else)?;
-            print_statement(first, out)?;
-            for statement in more {
-                print_statement(statement, out)?;
-            }
-            Ok(())
+            print_statements(statements, out)
         }
     }
 }
@@ -168,12 +164,9 @@ fn print_accept_body(
 {
     match statements.as_slice() {
         [] => Ok(()),
-        [first, more @ ..] => {
+        [_, ..] => {
             out.kind(Kind::Do)?;
-            print_statement(first, out)?;
-            for statement in more {
-                print_statement(statement, out)?;
-            }
+            print_statements(statements, out)?;
             out.kind(Kind::End)?;
             out.maybe(end_name)
         }
@@ -187,14 +180,10 @@ fn print_then_abort(statements: &Vec<Statement>, out: &mut Printer) -> Result<()
 {
     match statements.as_slice() {
         [] => Ok(()),
-        [first, more @ ..] => {
+        [_, ..] => {
             out.kind(Kind::Then)?;
             out.kind(Kind::Abort)?;
-            print_statement(first, out)?;
-            for statement in more {
-                print_statement(statement, out)?;
-            }
-            Ok(())
+            print_statements(statements, out)
         }
     }
 }

@@ -19,21 +19,6 @@ invariant-print_alternatives-loop-alternative l =
     alternatives_onto (alternatives_of (alternatives_view (drop l.alternative-index l.alternative-items))) l.out
     ≡ alternatives_onto (alternatives_of (alternatives_view l.alternative-items)) l.initial.out
 
-abbrev pub invariant-print_else-loop-statement : goal.invariant-print_else-loop-statement
-invariant-print_else-loop-statement l =
-    statements_onto (statements_of (statements_view (drop l.statement-index l.more))) l.out
-    ≡ statements_onto (statements_of (statements_view l.more)) l.initial.out
-
-abbrev pub invariant-print_accept_body-loop-statement : goal.invariant-print_accept_body-loop-statement
-invariant-print_accept_body-loop-statement l =
-    statements_onto (statements_of (statements_view (drop l.statement-index l.more))) l.out
-    ≡ statements_onto (statements_of (statements_view l.more)) l.initial.out
-
-abbrev pub invariant-print_then_abort-loop-statement : goal.invariant-print_then_abort-loop-statement
-invariant-print_then_abort-loop-statement l =
-    statements_onto (statements_of (statements_view (drop l.statement-index l.more))) l.out
-    ≡ statements_onto (statements_of (statements_view l.more)) l.initial.out
-
 abbrev pub invariant-print_selectives-loop-alternative : goal.invariant-print_selectives-loop-alternative
 invariant-print_selectives-loop-alternative l =
     more_selectives_onto (selectives_of (selectives_view (drop l.alternative-index l.more))) l.out

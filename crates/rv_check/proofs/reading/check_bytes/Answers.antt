@@ -2,7 +2,7 @@ use Rattle.std.proofs.Common.{ap, ◌∙◌}
 use Rattle.rv_fault.specs.declared.failure.Failure.TheVariants.{Refused}
 use Rattle.rv_fault.specs.declared.fault.What.{What}
 use Rattle.rv_fault.proofs.Scripts.{script_refused}
-use Rattle.rv_check.proofs.script.check_script_bytes.Goals as goal
+use Rattle.rv_check.proofs.reading.check_bytes.Goals as goal
 
 pub returns-in-Err : goal.returns-in-Err
 returns-in-Err g c =
