@@ -8,6 +8,7 @@ ghost use Rattle.rv_distinct.specs.Regions.{are_distinct};
 
 use indexmap::IndexSet;
 use rv_shape::name::Name;
+use rv_text::is_same_name;
 use rv_tree::name::Identifier;
 use std::alloc::{AllocError, Global};
 use std::marker::Model;
@@ -57,8 +58,19 @@ impl<'a> Region<'a> {
     }
 
     /// The place of the first identifier whose name an earlier one has. Err where memory was refused.
-    #[tactic(auto, using(crate::proofs::Again::new_are_distinct))]
     fn again(&self, alloc: Global) -> Result<Option<usize>, AllocError>
+        ensures { IfOk result (λ at. is_none at ≡ are_distinct self.now) }
+    {
+        match self.declared.as_slice() {
+            [] | [_] => Ok(None),
+            [first, second] => Ok(same_again(first, second)),
+            _ => self.again_of_many(alloc),
+        }
+    }
+
+    // The same, by a set of the names so far.
+    #[tactic(auto, using(crate::proofs::Again::new_are_distinct))]
+    fn again_of_many(&self, alloc: Global) -> Result<Option<usize>, AllocError>
         ensures { IfOk result (λ at. is_none at ≡ are_distinct self.now) }
     {
         let mut names: IndexSet<Name> = IndexSet::new(alloc);
@@ -70,6 +82,17 @@ impl<'a> Region<'a> {
             }
         }
         Ok(None)
+    }
+}
+
+// The place of the second of two identifiers, if it has the name of the first.
+fn same_again(first: &Identifier, second: &Identifier) -> Option<usize>
+    ensures { is_none result ≡ are_distinct (identifier_view first.now ∷ identifier_view second.now ∷ []) }
+{
+    if is_same_name(second.text.as_str(), first.text.as_str()) {
+        Some(second.at)
+    } else {
+        None
     }
 }
 
