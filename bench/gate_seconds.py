@@ -26,7 +26,7 @@ def kind_of(words: list[str]) -> str:
     tool = os.path.basename(words[0])
     if tool != "rattle":
         return "programs"
-    if any("rt-edits-" in word for word in words):
+    if any(re.search(r"/rt-edits?-", word) for word in words):
         return "edits"
     return "tests" if "--test" in words else "proof"
 
