@@ -14,6 +14,9 @@ pub const MOST_UNIT_BYTES: usize = 262_144;
 pub fn unit_text(alloc: Global, text: &str) -> Result<String, AllocError>
     ensures { IfOk result (λ kept. string_bytes kept ≡ without_returns text.now) }
 {
+    if !text.as_bytes().contains(&b'\r') {
+        return String::from_str(alloc, text);
+    }
     let mut kept = String::new(alloc);
     let mut rest = text;
     while let Some((line, after)) = rest.split_once('\n') {

@@ -3,5 +3,6 @@ pub mod PrintsName
 pub mod PrintsExpression
 pub mod PrintsDeclaration
 pub mod PrintsStatement
+pub mod PrintsSome
 pub mod PrintsUnit
 pub mod Begins

@@ -1,4 +1,4 @@
-use Rattle.std.proofs.Common.{◌≡◌, ◌<◌, ◌^◌, length, ap, sym, subst, rules}
+use Rattle.std.proofs.Common.{◌<◌, ◌^◌, length, ap, sym, subst, rules}
 use Rattle.rv_script.specs.Openings.{OpenedText, AreNumbered}
 use Rattle.rv_script.proofs.Numbered.{opened_numbered}
 use Rattle.rv_script.proofs.opening.open.Goals as goal

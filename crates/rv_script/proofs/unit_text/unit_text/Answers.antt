@@ -1,8 +1,9 @@
-use Rattle.std.proofs.Common.{◌≡◌, ℕ, List, [], ◌∷◌, ◌++◌, Some, None, sym, ap, ◌∙◌, arith, rules}
+use Rattle.std.proofs.Common.{◌≡◌, ℕ, false, List, [], ◌∷◌, ◌++◌, Some, None, sym, ap, ◌∙◌, arith, eqb, rules}
+use Rattle.std.specs.List.{list_any}
 use Rattle.std.specs.Prelude.{string_bytes}
 use Rattle.std.proofs.lemmas.Str.Pattern.{split_once_first}
 use Rattle.rv_script.specs.UnitTexts.{without_returns}
-use Rattle.rv_script.proofs.Returns.{returns_last, kept_more}
+use Rattle.rv_script.proofs.Returns.{none_stripped, returns_last, kept_more}
 use Rattle.rv_script.proofs.unit_text.unit_text.Goals as goal
 
 pub loop-line-preserved : goal.loop-line-preserved
@@ -21,3 +22,8 @@ returns c =
     let none = split_once_first 10 c.loop-line.rest.now None c.in_default.ensures.cases (omega arith) in
     let kept = string_bytes c.loop-line.kept in
     c.in_ok-push_str-3.ensures.bytes ∙ ap (λ (t : List ℕ). kept ++ t) (sym (returns_last c.loop-line.rest.now none)) ∙ c.loop-line.invariant.1
+
+pub returns-then-not-contains : goal.returns-then-not-contains
+returns-then-not-contains c =
+    let none : list_any (λ b. eqb b 13) c.args.text.now ≡ false = search rules in
+    search (rules, none_stripped c.args.text.now none)
