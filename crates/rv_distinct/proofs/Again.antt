@@ -1,6 +1,6 @@
 -- Identifiers that are noted one by one are distinct where each is new.
 use Rattle.std.specs.Prelude.{ℕ, Bool, true, false, ◌&&◌, ◌||◌, not, List, [], ◌∷◌, ◌++◌}
-use Rattle.std.proofs.Common.{◌≡◌, ◌∙◌, ap, sym, refl}
+use Rattle.std.proofs.Common.{◌≡◌, ◌∙◌, ◌<◌, length, ap, sym, refl, arith}
 use Rattle.std.specs.List.{list_all, list_any}
 use Rattle.std.proofs.lemmas.List.Folds.{list_any-append}
 use Rattle.rv_text.specs.Names.{is_same_name}
@@ -61,3 +61,9 @@ none_noted (x ∷ xs) = none_noted xs
 
 pub new_are_distinct : (xs : List Identifier) → are_new [] xs ≡ are_distinct xs
 new_are_distinct xs = new_from [] xs ∙ ap (λ (b : Bool). b && are_distinct xs) (none_noted xs)
+
+-- fewer than two are
+pub few_are_distinct : (xs : List Identifier) → length xs < 2 → true ≡ are_distinct xs
+few_are_distinct [] few = refl
+few_are_distinct (x ∷ []) few = refl
+few_are_distinct (x ∷ y ∷ xs) few = absurd (omega arith)
