@@ -5,7 +5,7 @@
 # - `play --all`, on examples and on a row with settings: calls, hand-overs, drops, changes of the list, bodies by `go`;
 # - `audit`, on rows: journals that are legal and that aren't, over shapes, unit texts and devices;
 # - `audit --journal`, with and without `--torn`, on rows whose journal is a file;
-# - `run`, on commands to a host without threads, and on examples/plant.raven.
+# - `run`, on commands to a host without threads, on a device, a raised line and a loaded task, and on examples/plant.raven.
 # Of all but `run` each must end with status 3, want of memory, and must have written a front of the whole output; where only the
 # explanation of a fault wants memory, the fault is told with status 1. A `run` must
 # end in a minute, with status 3, or with 0 and its last line. Each line must be an answer, `nomemory` among them; and `audit`
@@ -212,7 +212,56 @@ wait
 journal 1
 quit
 RAVEN
+    cat >"$folder/manned.raven" <<'RAVEN'
+@host.toml
+capacity = 64
+[[device]]
+unit = "Dev"
+task = "Main"
+priority = 15
+object = "Plant.Valve"
+operation = "Get"
+calls = 1
+@unit
+with Ada.Interrupts.Names;
+package Plant is
+   protected Valve with Priority => 20 is
+      function Get return Integer;
+   private
+      Level : Integer := 0;
+   end Valve;
+   protected Alarm with Interrupt_Priority => 35 is
+      procedure Trip with Attach_Handler => Ada.Interrupts.Names.Int_4;
+   private
+      Trips : Integer := 0;
+   end Alarm;
+end Plant;
+package body Plant is
+   protected body Valve is
+      function Get return Integer is begin return Level; end Get;
+   end Valve;
+   protected body Alarm is
+      procedure Trip is begin Trips := Trips + 1; end Trip;
+   end Alarm;
+end Plant;
+@list
+allow * * *
+@run
+tick 1
+raise 4
+append deny Nav Plant.Valve Get
+load
+package Nav is
+   task Pilot;
+end Nav;
+package body Nav is
+   task body Pilot is begin null; end Pilot;
+end Nav;
+@end
+quit
+RAVEN
     refuse_each_of_run "$folder/quiet.raven" without_threads
+    refuse_each_of_run "$folder/manned.raven"
     refuse_each_of_run examples/plant.raven
     tell run "status 3, or nomemory and the last line, and a legal journal"
 }

@@ -1,9 +1,8 @@
 //! An attended run up to the end of what it writes.
 
-use crate::commands::run_kept;
 use crate::errors::StandardError;
 use crate::status::Stop;
-use rv_attend::{Follower, KeptFailure, Outputs};
+use rv_attend::{Follower, KeptFailure, Outputs, run_kept};
 use rv_fault::Failure;
 use rv_keep::Held;
 use rv_outlet::{Outlet, is_unread};

@@ -1,9 +1,9 @@
 //! The subcommand `audit`.
 
-use crate::commands::{audit, audit_explained, audit_file, audit_file_explained};
 use crate::progress::Progress;
 use crate::status::Stop;
 use rv_fault::Failure;
+use rv_verdict::{audit, audit_explained, audit_file, audit_file_explained};
 use std::alloc::Global;
 use std::fs;
 use std::io::{Read, Write};

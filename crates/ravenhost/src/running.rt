@@ -1,19 +1,21 @@
 //! The subcommand `run`: alone, or with what is done beside its commands.
 
 use crate::attending::{attend, drained, unless_unkept};
-use crate::commands::{read_before, run, run_warnings};
 use crate::errands::{input_of, outlet_of, stop_of};
 use crate::errors::StandardError;
 use crate::keeping::{journal_file, syncing_of};
 use crate::means::{Means, Terminals};
+use crate::reading::read_before;
 use crate::status::Stop;
 use crate::telling::{Telling, ended, warn};
 use rv_attend::{Attention, Follower, Typing};
+use rv_check::warnings::run_warnings_of;
 use rv_choice::selection::RunWords;
 use rv_fault::Failure;
 use rv_feed::Listening;
 use rv_input::{Before, Input};
 use rv_keep::{Keeper, Syncing};
+use rv_run::run::run;
 use rv_staff::Hires;
 use std::alloc::Global;
 use std::io;
@@ -38,7 +40,7 @@ fn told_before<R: Eprint, I: Read>(
     }
     match read_before(alloc, reader) {
         Ok(before) => {
-            warn(rt, telling, run_warnings(alloc, before.sections.as_slice()))?;
+            warn(rt, telling, run_warnings_of(alloc, before.sections.as_slice()))?;
             Ok(before)
         }
         Err(failure) => Err(Stop::Failed(failure)),

@@ -1,9 +1,11 @@
 //! The subcommands that take a script alone: `play` and `check`.
 
 use crate::colours::tell;
-use crate::commands::{check_kept, read, warnings, whole_warnings};
+use crate::reading::read;
 use crate::status::Stop;
 use crate::telling::{Telling, ended, warn};
+use rv_check::reading::check_kept;
+use rv_check::warnings::{warnings_of, whole_warnings_of};
 use rv_fault::Failure;
 use rv_play::counts::Counts;
 use rv_play::play::play_counted;
@@ -26,9 +28,9 @@ fn noted<R: Eprint, I: Read>(
         return Ok(script);
     }
     let found = if is_whole {
-        whole_warnings(alloc, script.as_slice())
+        whole_warnings_of(alloc, script.as_slice())
     } else {
-        warnings(alloc, script.as_slice())
+        warnings_of(alloc, script.as_slice())
     };
     warn(rt, telling, found)?;
     Ok(script)

@@ -16,7 +16,6 @@ pub mod Calling
 pub mod Empty
 -- The next entry of a legal history
 pub mod Ready
-pub mod Ticks
 pub mod Settling
 -- Loads
 pub mod Growing
