@@ -2,9 +2,6 @@
 use Rattle.std.proofs.Common.{◌≡◌, ◌∙◌, ◌<◌, ◌+◌, Bool, ℕ, List, [], ◌++◌, Ok, Err, arith, inl, inr, refl, sym, ap, subst, add-one, append-nil, append_assoc, le_of_lt}
 use Rattle.std.specs.Prelude.{Result}
 use Rattle.std.specs.Io.KnownBytes.{Keeps}
-use Rattle.rv_feed.specs.Hearing.{Hears}
-use Rattle.rv_feed.specs.declared.feed.Came.{Came}
-use Rattle.rv_feed.specs.declared.feed.Came.TheVariants.{Bytes, Nothing, Over}
 use Rattle.rv_input.specs.Coming.{Reading}
 use Rattle.rv_staff.specs.Giving.{Starts}
 use Rattle.rv_staff.specs.Saying.{Known}
@@ -29,12 +26,6 @@ grows_on r p q first second = (
   first.0 ++ second.0,
   second.1 ∙ ap (λ (x : Reading). record x { ahead = x.ahead ++ second.0 }) first.1 ∙ ap (λ (l : List ℕ). record r { ahead = l }) (append_assoc r.ahead first.0 second.0),
 )
-
-pub hears_grow : {E : Type 0} (r q : Reading) (result : Result Came E) → Hears r q result → Grows r q
-hears_grow r q (Ok Bytes) hears = hears
-hears_grow r q (Ok Nothing) same = grows_same r q same
-hears_grow r q (Ok Over) same = grows_same r q same
-hears_grow r q (Err fault) same = grows_same r q same
 
 -- Between two commands
 

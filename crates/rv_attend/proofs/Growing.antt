@@ -34,7 +34,6 @@ use Rattle.rv_turn.specs.Histories.{StartsWith}
 use Rattle.rv_turn.specs.Passes.{Acted, IsWorn}
 use Rattle.rv_turn.specs.declared.pass.Worn.{Worn as Spent}
 use Rattle.rv_run.specs.Commanding.{Commands, Follows, LoadsIn, LoadsNext, LoadsText, StartsOn}
-use Rattle.rv_run.specs.ServingLines.{ServesNext}
 use Rattle.rv_run.specs.Staging.{Outcome, Stage}
 use Rattle.rv_run.specs.declared.command.Goes.TheVariants.{On, Out}
 
@@ -146,11 +145,6 @@ commands_later s t line result commands =
     later_on s.staff.control commands.asked t.staff.control
     (serves_later s.written commands.said s.staff.control commands.asked (words line) commands.next commands.served)
     (follows_later (record s { staff = record s.staff { control = commands.asked }; written = commands.said }) t commands.next result commands.follows)
-
-pub serves_next_later : (s t : Stage) (result : Outcome) → ServesNext s t result → Later s.staff.control t.staff.control
-serves_next_later s t result (inl line) = commands_later (record s { input = line.read; left = line.left }) t line.line result line.commands
-serves_next_later s t result (inr (inl none)) = same_later _ _ (ap (λ (x : Staffed). x.control) none.nothing.staff)
-serves_next_later s t result (inr (inr fails)) = same_later _ _ (ap (λ (x : Staffed). x.control) fails.nothing.staff)
 
 -- The console
 

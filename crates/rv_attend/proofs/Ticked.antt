@@ -1,5 +1,5 @@
 -- One request for ticks after another.
-use Rattle.std.proofs.Common.{◌≡◌, ◌∙◌, ◌<◌, ◌≤◌, ◌+◌, ◌-◌, ℕ, suc, min, arith, inl, inr, refl, sym, ap, subst, Ok, Err, MatchResult}
+use Rattle.std.proofs.Common.{◌≡◌, ◌∙◌, ◌≤◌, ◌+◌, ◌-◌, ℕ, suc, min, arith, inl, inr, refl, sym, ap, subst, Ok, Err, MatchResult}
 use Rattle.std.specs.Prelude.{Result, ℤ, pos}
 use Rattle.rv_behind.specs.declared.event.Ask.{Ask}
 use Rattle.rv_event.specs.declared.entry.Answer.{Answer}
@@ -25,12 +25,6 @@ pub record SoFar (v w : Passing) (old new : Pacing) (now : ℕ) : Type 0 where
   pub asked : new ≡ record old { asked = old.asked + ticks }
   pub left : ticks + missed new now ≡ missed old now
 
-nothing_asked : (p : Pacing) → p ≡ record p { asked = p.asked + 0 }
-nothing_asked p = ap (λ (n : ℕ). record p { asked = n }) (omega arith)
-
-pub at_first : (v : Passing) (p : Pacing) (now : ℕ) → SoFar v v p p now
-at_first v p now = record { count = 0; ticks = 0; asks = (refl, refl); asked = nothing_asked p; left = omega arith }
-
 rest_of : (all gone ticks : ℕ) → ticks ≡ min 1_000_000 (all - gone) → ticks + (all - (gone + ticks)) ≡ all - gone
 rest_of all gone ticks is = omega (arith, is)
 
@@ -39,10 +33,6 @@ most_of left ticks is = omega (arith, is)
 
 stepped : (p : Pacing) (now ticks : ℕ) → ticks ≡ min 1_000_000 (missed p now) → ticks + missed (record p { asked = p.asked + ticks }) now ≡ missed p now
 stepped p now ticks is = rest_of (due p now) p.asked ticks is
-
-pub fewer : (p q : Pacing) (now ticks : ℕ) → ticks ≡ min 1_000_000 (missed p now) → q ≡ record p { asked = p.asked + ticks } → (ticks ≡ 0 → ⊥) → missed q now < missed p now
-fewer p q now ticks is next some =
-    subst (λ (r : Pacing). missed r now < missed p now) (sym next) (omega (arith, stepped p now ticks is, some))
 
 asked_on : (old mid next : Pacing) (ticks more : ℕ) → mid ≡ record old { asked = old.asked + ticks } → next ≡ record mid { asked = mid.asked + more }
     → next ≡ record old { asked = old.asked + (ticks + more) }

@@ -13,10 +13,9 @@ use Rattle.rv_script.specs.declared.read.ReadError.TheVariants as Reads
 use Rattle.rv_fault.specs.Faults.{of_read}
 use Rattle.rv_fault.specs.declared.failure.Failure.{Failure}
 use Rattle.rv_fault.specs.declared.failure.Failure.TheVariants.{Refused, Memory, Io}
-use Rattle.rv_fault.specs.declared.fault.What.TheVariants as Whats
 use Rattle.rv_fault.specs.declared.fault.ScriptFault.{ScriptFault}
 use Rattle.rv_fault.specs.Written.{Outcome, WritesSome, Writes, WritesScript, refused_bytes}
-use Rattle.rv_check.specs.Checks.{Finding, Judging, WritesOne, WritesPart, Tells, TellsAll, OfSection, Checks, ChecksSome, AreSettings, OfSettings, ChecksOpened, BeginsOpened, KeepsRefused, at_line, by_last, checking, outcome_of}
+use Rattle.rv_check.specs.Checks.{Finding, Judging, WritesOne, WritesPart, Tells, TellsAll, OfSection, Checks, ChecksSome, OfSettings, ChecksOpened, KeepsRefused, at_line, by_last, checking, outcome_of}
 
 -- what a section is told as whose fault is told at its line
 pub told_at : (old new : Option (List ℕ)) (line : ℕ) (finds : Finding) (r : Result (Unit {0}) Failure) → Tells old new line finds r → WritesOne old new (at_line line finds) r
@@ -166,12 +165,6 @@ rest_told by old now new shapes section left others all (Err (Refused told)) f e
 rest_told by old now new shapes section left others all (Err Memory) f e so h = rest_part by old now new shapes section left others all f e so h
 rest_told by old now new shapes section left others all (Err (Io error)) f e so h = rest_part by old now new shapes section left others all f e so h
 
--- text before the first section
-pub front_told : (script : List ℕ) (old : Option (List ℕ)) (line : ℕ) → opened script ≡ Err line → let r : Result (Unit {0}) Failure = Err (Refused (record { line = line; what = Whats.BadSection })) in Writes old old (outcome_of script) r
-front_told script old line e =
-    let told : Option ScriptFault = Some (record { line = line; what = Whats.BadSection }) in
-    record { text = []; is = subst (λ (o : Result OpenedText ℕ). ChecksOpened o [] told) (sym e) (refl, refl); written = keeps_nothing old }
-
 -- nothing is written of a script
 pub nothing_told : (outcome : List ℕ → Outcome) (script : List ℕ) (old : Option (List ℕ)) → (outcome script).Begins [] → WritesSome old old (outcome script).Begins
 nothing_told outcome script old begins = record { text = []; begins = begins; written = nothing_yet old [] }
@@ -182,17 +175,6 @@ settings_told script old whole (Refused told) is settings =
     record { text = []; is = subst (λ (o : Result OpenedText ℕ). ChecksOpened o [] (Some told)) (sym is) (inr (told, settings, refl, refl)); written = keeps_nothing old }
 settings_told script old whole Memory is settings = nothing_told outcome_of script old (inl refl)
 settings_told script old whole (Io error) is settings = absurd settings
-
--- the sections behind the settings
-pub sections_told : (script : List ℕ) (old new : Option (List ℕ)) (whole : OpenedText) (r : Result (Unit {0}) Failure) → opened script ≡ Ok whole → AreSettings whole.settings None → TellsAll checking old new whole.sections r → Writes old new (outcome_of script) r
-sections_told script old new whole (Ok x) is settings h =
-    record { text = h.0; is = subst (λ (o : Result OpenedText ℕ). ChecksOpened o h.0 None) (sym is) (inl (settings, h.1)); written = h.2 }
-sections_told script old new whole (Err (Refused told)) is settings h =
-    record { text = h.0; is = subst (λ (o : Result OpenedText ℕ). ChecksOpened o h.0 (Some told)) (sym is) (inl (settings, h.1)); written = h.2 }
-sections_told script old new whole (Err Memory) is settings h =
-    record { text = h.0; begins = inr (subst (λ (o : Result OpenedText ℕ). BeginsOpened o h.0) (sym is) (settings, h.1)); written = h.2 }
-sections_told script old new whole (Err (Io error)) is settings h =
-    record { text = h.0; begins = inr (subst (λ (o : Result OpenedText ℕ). BeginsOpened o h.0) (sym is) (settings, h.1)); written = h.2 }
 
 -- nothing is a prefix of what is told of bytes that are no script
 none_told : (old : Option (List ℕ)) (error : TextError) → WritesSome old old (refused_bytes error).Begins

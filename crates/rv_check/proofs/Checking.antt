@@ -1,8 +1,6 @@
 -- What is told of a section that was looked at.
-use Rattle.std.proofs.Common.{◌≡◌, ◌≢◌, ◌≤◌, ℕ, List, [], ◌∷◌, ◌++◌, Some, None, Option, Ok, Err, Result, length, refl, sym, ap, ◌∙◌, subst, inl, inr}
-use Rattle.rv_text.specs.Sections.{SectionText}
+use Rattle.std.proofs.Common.{◌≡◌, ◌≢◌, ◌≤◌, ℕ, List, [], ◌∷◌, ◌++◌, Some, None, Option, Ok, Err, Result, length, refl, sym, ◌∙◌, subst, inl, inr}
 use Rattle.rv_script.specs.UnitTexts.{most_unit_bytes}
-use Rattle.rv_settings.specs.Settings.{SettingsText}
 use Rattle.rv_code.specs.Bodies.{UnitBodies}
 use Rattle.rv_unit.specs.Compiles.{IsUnit, IsCompiled}
 use Rattle.rv_code.specs.declared.unit.Unit.{Unit as Compiled}
@@ -10,8 +8,7 @@ use Rattle.rv_fault.specs.declared.failure.Failure.{Failure}
 use Rattle.rv_fault.specs.declared.failure.Failure.TheVariants.{Refused, Memory, Io}
 use Rattle.rv_fault.specs.declared.fault.What.TheVariants as Whats
 use Rattle.rv_fault.specs.declared.fault.What.{What}
-use Rattle.rv_fault.specs.declared.fault.ScriptFault.{ScriptFault}
-use Rattle.rv_fault.specs.Sections.{GivesUnit, GivesSettings, Just, Reads, if_list, if_shape, line_of}
+use Rattle.rv_fault.specs.Sections.{GivesUnit, Just, Reads, if_list, if_shape}
 use Rattle.rv_fault.specs.Written.{Puts}
 use Rattle.rv_access.specs.Words.{Words}
 use Rattle.rv_access.specs.Reading.{list_of}
@@ -21,7 +18,7 @@ use Rattle.rv_shape.specs.ShapeText.{shape_of}
 use Rattle.rv_shape.specs.Fits.{fault}
 use Rattle.rv_shape.specs.declared.fault.ShapeFault.{ShapeFault}
 use Rattle.rv_shape.specs.declared.fault.ShapeFault.TheVariants as Shapes
-use Rattle.rv_check.specs.Checks.{Finding, Tells, Adds, OfUnit, OfShape, OfList, AreSettings, OfSettings, as_list, as_shape, fitting, list_line, shape_line, shape_failure}
+use Rattle.rv_check.specs.Checks.{Finding, Tells, Adds, OfUnit, OfShape, OfList, as_list, as_shape, fitting, list_line, shape_line, shape_failure}
 
 -- a line that is said tells what was found
 pub said_tells : (old new : Option (List ℕ)) (line : ℕ) (finds : Finding) (said : List ℕ) (r : Result (Unit {0}) Failure) → finds said None → Puts old new said r → Tells old new line finds r
@@ -122,32 +119,3 @@ shape_refused shapes after text shape old line told h found memory = by_fault (f
     by_fault : (o : Option ShapeFault) → fault shapes shape ≡ o → Refusal told
     by_fault None e = subst Refusal (sym (memory e)) (inl refl)
     by_fault (Some f) e = by_told told (found (λ none. let both : Some f ≡ None = sym e ∙ none in absurd cc))
-
--- a finding with a fact beside it
-pub tells_with : (P : Type 0) (old new : Option (List ℕ)) (line : ℕ) (finds : Finding) (r : Result (Unit {0}) Failure) → P → Tells old new line finds r → Tells old new line (λ said what. finds said what × P) r
-tells_with P old new line finds (Ok x) p h = (h.0, (h.1, p), h.2)
-tells_with P old new line finds (Err (Refused told)) p h = ((h.0, p), h.1, h.2)
-tells_with P old new line finds (Err Memory) p (inl e) = inl e
-tells_with P old new line finds (Err Memory) p (inr h) = inr (h.0, (h.1, p), h.2)
-tells_with P old new line finds (Err (Io error)) p (inl e) = inl e
-tells_with P old new line finds (Err (Io error)) p (inr h) = inr (h.0, (h.1, p), h.2)
-
--- settings that were read
-pub settings_read : (settings : Option SectionText) (found : SettingsText) → GivesSettings settings (Ok found) → AreSettings settings None
-settings_read None found given = refl
-settings_read (Some section) found given = (found, given)
-
--- what stands against settings is told
-pub settings_unread : (settings : Option SectionText) (failure : Failure) → (let read : Result SettingsText Failure = Err failure in Reads (line_of settings) (GivesSettings settings) read)
-    → let r : Result (Unit {0}) Failure = Err failure in OfSettings settings r
-settings_unread settings Memory h = tt
-settings_unread settings (Io error) h = absurd h
-settings_unread None (Refused told) h = let given = h.0 in absurd cc
-settings_unread (Some section) (Refused told) h = by_what told.what h.0 refl
-  where
-    as_told : (what : What) → told.what ≡ what → told ≡ record { line = section.line; what = what }
-    as_told what e = ap (λ (n : ℕ). let f : ScriptFault = record { line = n; what = told.what } in f) h.1 ∙ ap (λ (w : What). let f : ScriptFault = record { line = section.line; what = w } in f) e
-
-    by_what : (what : What) → GivesSettings (Some section) (Err what) → told.what ≡ what → AreSettings (Some section) (Some told)
-    by_what (Whats.Settings why) given e = (why, given.0, given.1, as_told (Whats.Settings why) e)
-    by_what _ given e = absurd given

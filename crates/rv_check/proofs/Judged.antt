@@ -1,5 +1,5 @@
 -- What is told of the sections of a whole script.
-use Rattle.std.proofs.Common.{◌≡◌, ◌≤◌, ◌+◌, ◌^◌, inl, inr, ℕ, Bool, true, false, List, [], ◌∷◌, ◌++◌, Some, None, Option, Ok, Err, Result, length, refl, sym, ap, ◌∙◌, subst}
+use Rattle.std.proofs.Common.{◌≡◌, ◌+◌, inl, inr, ℕ, Bool, true, false, List, [], ◌∷◌, ◌++◌, Some, None, Option, Ok, Err, Result, refl, sym, ap, ◌∙◌, subst}
 use Rattle.std.specs.Str.Lines.{lines}
 use Rattle.rv_text.specs.Sections.{SectionText}
 use Rattle.rv_shape.specs.Shape.{Shape}
@@ -35,23 +35,10 @@ said_one old new tells said (Err (Refused told)) t h = absurd h
 said_one old new tells said (Err Memory) t h = inr (said, t, h)
 said_one old new tells said (Err (Io error)) t h = inr (said, t, h)
 
--- a fact beside what is told
-pub one_with : (P : Type 0) (old new : Option (List ℕ)) (tells : Telling) (r : Result (Unit {0}) Failure) → P → WritesOne old new tells r → WritesOne old new (λ said told. tells said told × P) r
-one_with P old new tells (Ok x) p h = (h.0, (h.1, p), h.2)
-one_with P old new tells (Err (Refused told)) p h = ((h.0, p), h.1)
-one_with P old new tells (Err Memory) p (inl e) = inl e
-one_with P old new tells (Err Memory) p (inr h) = inr (h.0, (h.1, p), h.2)
-one_with P old new tells (Err (Io error)) p (inl e) = inl e
-one_with P old new tells (Err (Io error)) p (inr h) = inr (h.0, (h.1, p), h.2)
-
 -- what is told of a section as this part, as that which its opening makes it
 pub as_part : (old new : Option (List ℕ)) (part : Part) (purpose : Purpose) (shapes after : List Shape) (section : SectionText) (r : Result (Unit {0}) Failure) → part ≡ part_in purpose section → WritesOne old new (OfPart part shapes after section) r
     → WritesOne old new (OfPart (part_in purpose section) shapes after section) r
 as_part old new part purpose shapes after section r e h = subst (λ (p : Part). WritesOne old new (OfPart p shapes after section) r) e h
-
--- the lines of the first section, and of those behind it
-pub numbered_first : (section : SectionText) (left others : List SectionText) → left ≡ section ∷ others → AreNumbered left → section.line + length section.text ≤ 2 ^ 63
-numbered_first section left others e h = (subst AreNumbered e h).0
 
 pub numbered_others : (section : SectionText) (left others : List SectionText) → left ≡ section ∷ others → AreNumbered left → AreNumbered others
 numbered_others section left others e h = (subst AreNumbered e h).1

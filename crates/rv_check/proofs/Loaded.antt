@@ -1,6 +1,6 @@
 -- Devices that are loaded one after another.
 use Rattle.std.proofs.Common.{◌≡◌, ◌<◌, ◌+◌, ℕ, suc, length, get_or, drop, drop-cons, add-one, List, [], ◌∷◌, ◌++◌, map, Some, None, Option, Err, Result, sym, ap, ◌∙◌, subst, append_assoc, append-nil}
-use Rattle.std.specs.Prelude.{Bool, true, false, if◌then◌else◌, option_map}
+use Rattle.std.specs.Prelude.{Bool, true, if◌then◌else◌, option_map}
 use Rattle.rv_shape.specs.Shape.{Shape}
 use Rattle.rv_shape.specs.Fits.{fault}
 use Rattle.rv_shape.specs.declared.fault.ShapeFault.{ShapeFault}
@@ -20,16 +20,6 @@ by_call shapes device found call fits =
 -- its unit doesn't fit
 pub device_clashes : (shapes : List Shape) (device : DeviceText) (shape : Shape) (told : ShapeFault) → is_callable shapes device ≡ true → shape ≡ device_shape device → fault shapes shape ≡ Some told → device_fault shapes device ≡ Some (Whats.Shape told)
 device_clashes shapes device shape told call is clash = by_call shapes device (Some told) call (ap (fault shapes) (sym is) ∙ clash)
-
--- it is loaded
-pub device_loads : (shapes after : List Shape) (device : DeviceText) (shape : Shape) → is_callable shapes device ≡ true → shape ≡ device_shape device → fault shapes shape ≡ None → after ≡ shapes ++ shape ∷ []
-    → (device_fault shapes device ≡ None) × (after ≡ shapes ++ device_shape device ∷ [])
-device_loads shapes after device shape call is fits e =
-    (by_call shapes device None call (ap (fault shapes) (sym is) ∙ fits), e ∙ ap (λ (s : Shape). shapes ++ s ∷ []) is)
-
--- what a device calls isn't loaded
-pub device_unknown : (shapes : List Shape) (device : DeviceText) → is_callable shapes device ≡ false → device_fault shapes device ≡ Some Whats.UnknownName
-device_unknown shapes device call = ap (λ (b : Bool). if b then option_map Whats.Shape (fault shapes (device_shape device)) else Some Whats.UnknownName) call
 
 -- the next of those that are left
 pub next_device : (all : List DeviceText) (i : ℕ) (device : DeviceText) → i < length all → device ≡ get_or all i device → drop i all ≡ device ∷ drop (i + 1) all

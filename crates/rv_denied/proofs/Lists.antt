@@ -1,5 +1,5 @@
 -- A list that denies a unit everything grants it nothing.
-use Rattle.std.proofs.Common.{◌≡◌, ◌∙◌, ◌+◌, ◌-◌, ◌==◌, ◌&&◌, ◌||◌, ℕ, Bool, true, false, if◌then◌else◌, List, [], ◌∷◌, ◌++◌, ap, sym, refl, arith, codes, None, slice_get, true≢false, ◌⊎◌, inl, inr, add-one}
+use Rattle.std.proofs.Common.{◌≡◌, ◌∙◌, ◌+◌, ◌-◌, ◌==◌, ◌&&◌, ◌||◌, ℕ, Bool, true, false, if◌then◌else◌, List, [], ◌∷◌, ◌++◌, ap, sym, refl, arith, codes, slice_get, true≢false, ◌⊎◌, inl, inr, add-one}
 use Rattle.std.proofs.lemmas.Bool.Decides.{nat_tests}
 use Rattle.std.specs.List.{list_any}
 use Rattle.std.specs.Str.{bytes_eq}
@@ -86,10 +86,6 @@ none_grants (line ∷ lines) unit object operation tick none =
     let two = either (may_grant unit line) (list_any (may_grant unit) lines) none in
     in_front line lines (matches line unit object operation tick) (decides lines unit object operation tick)
     (none_grants lines unit object operation tick two.1) (not_granting line unit object operation tick two.0)
-
-all_match : (word unit object operation : List ℕ) (tick : ℕ) → fits word unit ≡ true
-    → matches (record { allow = false; unit = word; object = codes "*"; operation = codes "*"; window = None }) unit object operation tick ≡ true
-all_match word unit object operation tick e = ap (λ (t : Bool). ((t && true) && true) && true) e
 
 -- a denial matches each call of its unit
 denial_matches : (line : Words) (unit object operation : List ℕ) (tick : ℕ) → IsDenial unit line

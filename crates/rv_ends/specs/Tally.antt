@@ -18,9 +18,6 @@ use Rattle.rv_ends.specs.declared.meaning.Meaning.TheVariants as meaning
 use Rattle.rv_ends.specs.declared.tally.Found.{Found}
 use Rattle.rv_ends.specs.declared.tally.Tally.{Tally}
 
-abbrev pub nothing_found : Found
-nothing_found = record { explained = 0; without_text = 0; other = None }
-
 -- one more, where a number can count it; no journal has as many entries
 abbrev pub one_more : ℕ → ℕ
 one_more count = min (count + 1) (2 ^ 64 - 1)

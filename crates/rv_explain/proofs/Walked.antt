@@ -5,7 +5,7 @@ use Rattle.std.specs.List.{slice_split}
 use Rattle.std.specs.Str.Lines.{lines, lines_of_parts, strip_carriage_return}
 use Rattle.rv_text.specs.Sections.{SectionText}
 use Rattle.rv_script.specs.UnitTexts.{joined, without_returns}
-use Rattle.rv_explain.specs.Spots.{lines_of, total, StandsAt, IsLine}
+use Rattle.rv_explain.specs.Spots.{lines_of, total, StandsAt}
 
 -- this line was passed, and so many bytes are left to the place, over the lines behind
 pub record Ahead (section : SectionText) (at number : ℕ) (line : List ℕ) (offset : ℕ) (rest : List (List ℕ)) (left : ℕ) : Type 0 where
@@ -14,9 +14,6 @@ pub record Ahead (section : SectionText) (at number : ℕ) (line : List ℕ) (of
   pub counted : number ≡ section.line + length before
   pub whole : offset ≡ length line
   pub placed : total before + (length line + 1) + left ≡ length section.opening + 1 + at
-
-pub at_first : (section : SectionText) (at : ℕ) → Ahead section at section.line section.opening (length section.opening) (lines section.text) at
-at_first section at = record { before = []; among = refl; counted = omega arith; whole = refl; placed = omega arith }
 
 total_more : (before : List (List ℕ)) (line : List ℕ) → total (before ++ line ∷ []) ≡ total before + (length line + 1)
 total_more [] line = omega arith
@@ -106,24 +103,3 @@ pub record Passed (script : List ℕ) (next : ℕ) (rest : List (List ℕ)) : Ty
   pub before : List (List ℕ)
   pub among : lines script ≡ before ++ rest
   pub counted : next ≡ length before + 1
-
-pub none_passed : (script : List ℕ) → Passed script 1 (lines script)
-none_passed script = record { before = []; among = refl; counted = refl }
-
-pub one_passed : (script : List ℕ) (next : ℕ) (rest : List (List ℕ)) (line : List ℕ) (others : List (List ℕ)) → Passed script next rest → rest ≡ line ∷ others → Passed script (next + 1) others
-one_passed script next rest line others passed e =
-    let count = counted_more passed.before line in
-    let counted = passed.counted in
-    record {
-      before = passed.before ++ line ∷ [];
-      among = passed.among ∙ ap (λ (l : List (List ℕ)). passed.before ++ l) e ∙ sym (append_assoc passed.before (line ∷ []) others);
-      counted = omega arith;
-    }
-
-pub is_line : (script : List ℕ) (next : ℕ) (rest : List (List ℕ)) (line : List ℕ) (others : List (List ℕ)) → Passed script next rest → rest ≡ line ∷ others → IsLine script next line
-is_line script next rest line others passed e = record {
-  before = passed.before;
-  behind = others;
-  among = passed.among ∙ ap (λ (l : List (List ℕ)). passed.before ++ l) e;
-  counted = passed.counted;
-}

@@ -6,12 +6,12 @@ use Rattle.std.proofs.lemmas.List.{take_all}
 use Rattle.rv_script.specs.Whole.{IsScript, IsRefused, most_bytes}
 use Rattle.rv_script.specs.declared.read.TextError.{TextError}
 use Rattle.rv_script.specs.declared.read.TextError.TheVariants.{TooLong, NotText}
-use Rattle.rv_script.proofs.Wrote.{keeps_nothing, nothing_yet}
+use Rattle.rv_script.proofs.Wrote.{keeps_nothing}
 use Rattle.rv_fault.specs.declared.failure.Failure.{Failure}
-use Rattle.rv_fault.specs.declared.failure.Failure.TheVariants.{Refused, Memory, Io}
+use Rattle.rv_fault.specs.declared.failure.Failure.TheVariants.{Refused, Io}
 use Rattle.rv_fault.specs.declared.fault.ScriptFault.{ScriptFault}
 use Rattle.rv_fault.specs.Faults.{of_bytes}
-use Rattle.rv_fault.specs.Written.{Outcome, Writes, WritesScript, refused_bytes}
+use Rattle.rv_fault.specs.Written.{Outcome, Writes, WritesScript}
 
 not_both : (bytes : List ℕ) (error : TextError) → IsScript bytes → IsRefused bytes error → ⊥
 not_both bytes TooLong script refused = let short = script.short in absurd (omega arith)
@@ -72,12 +72,3 @@ script_refused old outcome bytes told failure refused e =
         written = keeps_nothing old;
       };
     })
-
--- where nothing was read, nothing is written
-pub unwritten : (old : Option (List ℕ)) (outcome : List ℕ → Outcome) (bytes : List ℕ) (failure : Failure) → (let r : Result (Unit {0}) Failure = Err failure in Writes old old (outcome bytes) r)
-    → ((error : TextError) → let r : Result (Unit {0}) Failure = Err failure in Writes old old (refused_bytes error) r) → WritesScript old old outcome bytes (Err failure)
-unwritten old outcome bytes failure text refused = record { text = λ _. text; refused = λ error _. refused error }
-
--- nothing is a prefix of what there is to write of bytes that are none
-pub none_written : (old : Option (List ℕ)) (error : TextError) → let r : Result (Unit {0}) Failure = Err Memory in Writes old old (refused_bytes error) r
-none_written old error = record { text = []; begins = refl; written = nothing_yet old [] }

@@ -169,10 +169,6 @@ abbrev pub Begins : ℕ → List Lexeme → Type 0
 Begins n [] = ⊥
 Begins n (x ∷ ts) = begins_at x.kind ≤ n
 
-begins_less : (m n : ℕ) (ts : List Lexeme) → m ≤ n → Begins m ts → Begins n ts
-begins_less m n [] le h = h
-begins_less m n (x ∷ ts) le h = omega arith
-
 begins_is : (n : ℕ) (what : Kind) (ts a : List Lexeme) → Is what ts a → begins_at what ≤ n → Begins n ts
 begins_is n what ts a h low = subst (λ us. Begins n us) (sym h.1) (subst (λ w. begins_at w ≤ n) (sym h.2) low)
 

@@ -30,14 +30,6 @@ sees_second_none what [] h = refl
 sees_second_none what (a ∷ []) h = refl
 sees_second_none what (a ∷ b ∷ ts) h = absurd (omega arith)
 
-pub place_at : (ts : List Token) (t : Token) → slice_get ts 0 ≡ Some t → IsPlace (lexemes ts) t.place
-place_at [] t h = absurd cc
-place_at (a ∷ ts) t h = let e : a ≡ t = cc in ap (λ (x : Token). x.place) (sym e)
-
-pub place_none : (ts : List Token) (at : ℕ) → slice_get ts 0 ≡ None → IsPlace (lexemes ts) at
-place_none [] at h = tt
-place_none (a ∷ ts) at h = absurd cc
-
 pub at_token : (ts : List Token) (t : Token) → slice_get ts 0 ≡ Some t → t.place ≡ place (lexemes ts)
 unfolding place
 at_token [] t h = absurd cc

@@ -7,7 +7,7 @@ use Rattle.rv_grammar.specs.declared.fault.ParseFault.{ParseFault}
 use Rattle.rv_grammar.specs.declared.fault.ParseFault.TheVariants as parse
 use Rattle.rv_grammar.specs.Reading.{Outcome}
 use Rattle.rv_grammar.specs.Contract.{Refuses}
-use Rattle.rv_grammar.specs.Words.{ReadsTree, HasWords}
+use Rattle.rv_grammar.specs.Words.{ReadsTree}
 use Rattle.rv_grammar.specs.UnitRules.{unit}
 use Rattle.rv_grammar.proofs.UnitSound.{unit_sound}
 use Rattle.rv_grammar.proofs.Forward.{Answers}
@@ -34,9 +34,3 @@ refused ts parse.NoMemory tree h d = tt
 refused ts (parse.TooDeep at) tree h d = tt
 refused ts (parse.Unexpected at) tree h d = let P : Outcome UnitTree → Type 0 = λ o. Answers o tree [] in subst P h (unit_it tree ts [] d)
 refused ts (parse.Lex fault) tree h d = absurd h
-
-pub has_words : (ts : List Lexeme) (fault : ParseFault) → Refuses fault (unit ts) → HasWords (Err fault)
-has_words ts parse.NoMemory h = tt
-has_words ts (parse.TooDeep at) h = tt
-has_words ts (parse.Unexpected at) h = tt
-has_words ts (parse.Lex fault) h = h

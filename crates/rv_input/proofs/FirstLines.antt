@@ -1,5 +1,5 @@
 -- The first line of what comes.
-use Rattle.std.proofs.Common.{◌≡◌, ℕ, zero, suc, ◌+◌, ◌-◌, ◌<◌, ◌≤◌, Bool, true, false, Option, Some, None, inl, inr, List, [], ◌∷◌, ◌++◌, length, take, drop, get_or, not, refl, sym, ap, ◌∙◌, arith, append_assoc, append-nil, take-append-drop, length-take-le, length-append}
+use Rattle.std.proofs.Common.{◌≡◌, ℕ, zero, suc, ◌+◌, ◌-◌, ◌<◌, ◌≤◌, Bool, true, false, Option, Some, None, inl, inr, List, [], ◌∷◌, ◌++◌, length, take, drop, get_or, not, refl, sym, ap, ◌∙◌, arith, take-append-drop, length-take-le, length-append}
 use Rattle.std.specs.Prelude.{◌==◌}
 use Rattle.std.specs.List.{position_or_len, before_first, after_first}
 use Rattle.std.specs.Str.Lines.{lines, strip_carriage_return}
@@ -25,19 +25,6 @@ feed_at : (front rest : List ℕ) → NoFeed front → position_or_len is_line_f
 feed_at [] rest h = refl
 feed_at (x ∷ xs) rest h = feed_behind x xs rest (feed_at xs rest) h (is_line_feed x) refl
 
-none_behind : (x y : ℕ) (xs : List ℕ) → (NoFeed xs → NoFeed (xs ++ y ∷ [])) → NoFeed (x ∷ xs) → (b : Bool) → is_line_feed x ≡ b → NoFeed ((x ∷ xs) ++ y ∷ [])
-none_behind x y xs more h true e = absurd (grind (arith, e, h))
-none_behind x y xs more h false e = let n : NoFeed xs = grind (arith, e, h) in let m = more n in grind (arith, e, m)
-
-one_none : (y : ℕ) (b : Bool) → is_line_feed y ≡ b → b ≡ false → NoFeed (y ∷ [])
-one_none y true e n = absurd (cc n)
-one_none y false e n = grind (arith, e)
-
--- a byte more that is none
-pub none_more : (line : List ℕ) (y : ℕ) → NoFeed line → is_line_feed y ≡ false → NoFeed (line ++ y ∷ [])
-none_more [] y h e = one_none y (is_line_feed y) refl e
-none_more (x ∷ xs) y h e = none_behind x y xs (λ n. none_more xs y n e) h (is_line_feed x) refl
-
 -- a line with its line feed is taken
 pub takes_fed : (front rest : List ℕ) → NoFeed front → Takes (front ++ 10 ∷ []) (front ++ 10 ∷ rest) rest
 takes_fed front rest h = (
@@ -50,10 +37,6 @@ none_left zero [] h = refl
 none_left zero (x ∷ xs) h = absurd (omega (arith, h))
 none_left (suc n) [] h = refl
 none_left (suc n) (x ∷ xs) h = none_left n xs (omega (arith, h))
-
--- the last line is taken, which has none
-pub takes_last : (line : List ℕ) → NoFeed line → Takes line line []
-takes_last line h = (sym (take_all _ line (omega (arith, h))), sym (none_left _ line (omega (arith, h))))
 
 content_fed : (front : List ℕ) (x : ℕ) → is_line_feed x ≡ true → content (front ++ x ∷ []) ≡ strip_carriage_return front
 content_fed front x e =
@@ -130,16 +113,3 @@ line_ends a b c line whole byte h ten is p q =
     let is_ten : whole ≡ line ++ 10 ∷ [] = is ∙ ap (λ (n : ℕ). line ++ n ∷ []) ten in
     let all : x ≡ line ++ 10 ∷ z = first ∙ ap (λ (l : List ℕ). line ++ l) (next ∙ ap (λ (n : ℕ). n ∷ z) ten) in
     let t = takes_fed line z h in (is_ten ∙ (t.0 ∙ ap (λ (l : List ℕ). take (position_or_len is_line_feed l + 1) l) (sym all)), t.1 ∙ ap (after_first is_line_feed) (sym all))) p q
-
--- another byte comes
-pub line_grows : (a b c : Option (List ℕ)) (line whole : List ℕ) (byte : ℕ) → whole ≡ line ++ byte ∷ [] → IfTold a b (λ old new. old ≡ line ++ new) → IfTold b c (GivesByte (Some byte)) → IfTold a c (λ old new. old ≡ whole ++ new)
-line_grows a b c line whole byte is p q =
-    told_both (λ old new. old ≡ line ++ new) (GivesByte (Some byte)) (λ old new. old ≡ whole ++ new) a b c (λ x y z first next.
-    first ∙ (ap (λ (l : List ℕ). line ++ l) next ∙ (sym (append_assoc line (byte ∷ []) z) ∙ ap (λ (l : List ℕ). l ++ z) (sym is)))) p q
-
--- the input ends behind a line
-pub line_last : (a b c : Option (List ℕ)) (line : List ℕ) → NoFeed line → IfTold a b (λ old new. old ≡ line ++ new) → IfTold b c (GivesByte None) → IfTold a c (Takes line)
-line_last a b c line h p q =
-    told_both (λ old new. old ≡ line ++ new) (GivesByte None) (Takes line) a b c (λ x y z first next.
-    let all : x ≡ line = first ∙ (ap (λ (l : List ℕ). line ++ l) next.0 ∙ append-nil line) in
-    let t = takes_last line h in (t.0 ∙ ap (λ (l : List ℕ). take (position_or_len is_line_feed l + 1) l) (sym all), next.1 ∙ (t.1 ∙ ap (after_first is_line_feed) (sym all)))) p q

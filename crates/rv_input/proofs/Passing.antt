@@ -1,9 +1,9 @@
 -- Lines that are passed one after another.
-use Rattle.std.proofs.Common.{◌≡◌, ℕ, ◌<◌, Bool, true, false, Option, Some, None, inl, inr, List, [], ◌∷◌, ◌++◌, length, refl, sym, ap, ◌∙◌, subst, append_assoc, append-nil}
+use Rattle.std.proofs.Common.{◌≡◌, ℕ, ◌<◌, Bool, true, false, Option, Some, None, inl, inr, List, [], ◌∷◌, ◌++◌, length, refl, sym, ap, ◌∙◌, append_assoc, append-nil}
 use Rattle.std.specs.Str.Lines.{lines}
-use Rattle.rv_input.specs.Coming.{IfTold, Takes, GivesLine, NonePass, BeforeRun, GivesBefore, GivesText, NoEnd, UpToEnd, content, is_run, is_end, text_of}
-use Rattle.rv_input.proofs.Told.{told_both, told_none}
-use Rattle.rv_input.proofs.FirstLines.{takes_content, takes_none, takes_front}
+use Rattle.rv_input.specs.Coming.{IfTold, Takes, GivesLine, NonePass, BeforeRun, GivesBefore, GivesText, NoEnd, content, is_run, is_end, text_of}
+use Rattle.rv_input.proofs.Told.{told_both}
+use Rattle.rv_input.proofs.FirstLines.{takes_content, takes_front}
 
 one_more : (test : List ℕ → Bool) (before : List (List ℕ)) (line : List ℕ) → NonePass test before → test line ≡ false → NonePass test (before ++ line ∷ [])
 one_more test [] line n e = (e, tt)
@@ -15,9 +15,6 @@ pub record Passed (bytes old new : List ℕ) : Type 0 where
   pub whole : old ≡ bytes ++ new
   pub lines_whole : lines old ≡ before ++ lines new
   pub first : NonePass is_run before
-
-pub none_passed : (a : Option (List ℕ)) → IfTold a a (Passed [])
-none_passed a = told_none (Passed []) a (λ x. record { before = []; whole = refl; lines_whole = refl; first = tt })
 
 passed : (bytes line whole old mid new : List ℕ) → Passed bytes old mid → Takes line mid new → 0 < length line → is_run (content line) ≡ false → whole ≡ bytes ++ line → Passed whole old new
 passed bytes line whole old mid new p t some e is = record {
@@ -45,28 +42,12 @@ run_found bytes line old mid new p t some e = record {
 pub run_comes : (a b c : Option (List ℕ)) (bytes line : List ℕ) → 0 < length line → is_run (content line) ≡ true → IfTold a b (Passed bytes) → IfTold b c (Takes line) → IfTold a c (GivesBefore bytes true)
 run_comes a b c bytes line some e p q = told_both (Passed bytes) (Takes line) (GivesBefore bytes true) a b c (λ x y z first next. run_found bytes line x y z first next some e) p q
 
-run_missed : (bytes old mid new : List ℕ) → Passed bytes old mid → Takes [] mid new → GivesBefore bytes false old new
-run_missed bytes old mid new p t =
-    let none = takes_none mid new t in (
-      p.whole ∙ (ap (λ (l : List ℕ). bytes ++ l) none.0 ∙ append-nil bytes),
-      none.1,
-      subst (NonePass is_run) (sym (p.lines_whole ∙ (ap (λ (l : List ℕ). p.before ++ lines l) none.0 ∙ append-nil p.before))) p.first,
-    )
-
--- the end without it
-pub no_run_comes : (a b c : Option (List ℕ)) (bytes line : List ℕ) → line ≡ [] → IfTold a b (Passed bytes) → IfTold b c (Takes line) → IfTold a c (GivesBefore bytes false)
-no_run_comes a b c bytes line e p q =
-    told_both (Passed bytes) (Takes line) (GivesBefore bytes false) a b c (λ x y z first next. run_missed bytes x y z first (subst (λ (l : List ℕ). Takes l y z) e next)) p q
-
 -- lines of a unit text were passed
 pub record Kept (bytes old new : List ℕ) : Type 0 where
   pub body : List (List ℕ)
   pub whole : lines old ≡ body ++ lines new
   pub first : NonePass is_end body
   pub text : bytes ≡ text_of body
-
-pub none_kept : (a : Option (List ℕ)) (bytes : List ℕ) → bytes ≡ [] → IfTold a a (Kept bytes)
-none_kept a bytes e = told_none (Kept bytes) a (λ x. record { body = []; whole = refl; first = tt; text = e })
 
 text_more : (body : List (List ℕ)) (line : List ℕ) → text_of (body ++ line ∷ []) ≡ text_of body ++ (line ++ 10 ∷ [])
 text_more [] line = refl
@@ -83,13 +64,6 @@ kept given bytes line whole old mid new p t e is = record {
 -- a line more
 pub one_kept : (given : ℕ) (a b c : Option (List ℕ)) (bytes line whole : List ℕ) → is_end line ≡ false → whole ≡ bytes ++ (line ++ 10 ∷ []) → IfTold a b (Kept bytes) → IfTold b c (GivesLine given (Some line)) → IfTold a c (Kept whole)
 one_kept given a b c bytes line whole e is p q = told_both (Kept bytes) (GivesLine given (Some line)) (Kept whole) a b c (λ x y z first next. kept given bytes line whole x y z first next e is) p q
-
-end_found : (given : ℕ) (bytes line old mid new : List ℕ) → Kept bytes old mid → GivesLine given (Some line) mid new → is_end line ≡ true → UpToEnd bytes old new
-end_found given bytes line old mid new p t e = record { body = p.body; last = line; whole = p.whole ∙ ap (λ (l : List (List ℕ)). p.body ++ l) t.0; end = e; first = p.first; text = p.text }
-
--- the line `@end`
-pub end_comes : (given : ℕ) (a b c : Option (List ℕ)) (bytes line : List ℕ) → is_end line ≡ true → IfTold a b (Kept bytes) → IfTold b c (GivesLine given (Some line)) → IfTold a c (GivesText given (Some bytes))
-end_comes given a b c bytes line e p q = told_both (Kept bytes) (GivesLine given (Some line)) (GivesText given (Some bytes)) a b c (λ x y z first next. end_found given bytes line x y z first next e) p q
 
 end_missed : (given : ℕ) (bytes old mid new : List ℕ) → Kept bytes old mid → GivesLine given None mid new → NoEnd given old new
 end_missed given bytes old mid new p (inl (none, end)) =

@@ -1,5 +1,5 @@
 -- What calls tell of what comes.
-use Rattle.std.proofs.Common.{◌≡◌, ℕ, zero, suc, ◌+◌, ◌-◌, ◌<◌, ◌≤◌, Bool, List, [], ◌∷◌, ◌++◌, Option, Some, None, MatchOption, IfSome, length, take, drop, refl, sym, ap, ◌∙◌, subst, arith, append_assoc, length-drop}
+use Rattle.std.proofs.Common.{◌≡◌, ℕ, zero, suc, ◌+◌, ◌-◌, ◌<◌, Bool, List, [], ◌∷◌, ◌++◌, Option, Some, None, MatchOption, IfSome, length, take, drop, refl, sym, ap, ◌∙◌, subst, arith, append_assoc, length-drop}
 use Rattle.std.specs.Io.KnownBytes.{Consumes, IsAtEnd, Keeps, prepend_known}
 use Rattle.rv_input.specs.Coming.{Reading, IfTold, GivesBefore, GivesByte, IsBefore, coming, most_before}
 
@@ -28,23 +28,10 @@ told_as P Q (Some x) (Some y) f p = f x y p
 pub told_is : {X : Type 0} (F : X → List ℕ → List ℕ → Type 0) (a b : Option (List ℕ)) (o p : X) → o ≡ p → IfTold a b (F o) → IfTold a b (F p)
 told_is F a b o p e t = subst (λ z. IfTold a b (F z)) e t
 
--- nothing was done
-pub told_none : (P : List ℕ → List ℕ → Type 0) (a : Option (List ℕ)) → ((x : List ℕ) → P x x) → IfTold a a P
-told_none P None f = tt
-told_none P (Some x) f = f x
-
-none_taken : (n : ℕ) (xs : List ℕ) → n ≡ 0 → take n xs ≡ []
-none_taken n xs e = rw e refl
-
 of_none : (n : ℕ) (xs : List ℕ) → xs ≡ [] → take n xs ≡ []
 of_none zero xs e = refl
 of_none (suc n) [] e = refl
 of_none (suc n) (x ∷ xs) e = absurd (cc e)
-
--- past the greatest length nothing comes
-pub past_most : (most : ℕ) (v : Reading) (r : Option (List ℕ)) → most ≤ v.given → IfTold (coming most v r) (coming most v r) (GivesByte None)
-past_most most v None h = tt
-past_most most v (Some bs) h = let none : most - v.given ≡ 0 = omega (arith, h) in (none_taken _ _ none, none_taken _ _ none)
 
 -- at the end nothing comes
 pub at_end : (most : ℕ) (v w : Reading) (r s : Option (List ℕ)) → Keeps (prepend_known v.ahead r) (prepend_known w.ahead s) → w.ahead ≡ [] → IsAtEnd s → IfTold (coming most v r) (coming most w s) (GivesByte None)

@@ -143,10 +143,6 @@ given_begins : (k : Bool) (values : List ℤ) → begins_at_once (cond k (gives 
 given_begins true values = refl
 given_begins false values = refl
 
-given_waits : (k : Bool) (values : List ℤ) → waits (cond k (gives values) (stops true)) ≡ false
-given_waits true values = refl
-given_waits false values = refl
-
 accepted_begins : (c : Callee) (value : ℤ) → begins_at_once (accepted c value) ≡ false
 accepted_begins callee.Clock value = refl
 accepted_begins (callee.CurrentState object) value = given_begins (int_le (pos 0) value && int_le value (pos 1)) (value ∷ [])
@@ -158,18 +154,6 @@ accepted_begins (callee.Internal operation) value = refl
 accepted_begins (callee.Function object operation) value = refl
 accepted_begins (callee.Procedure object operation) value = refl
 accepted_begins (callee.Entry object operation) value = refl
-
-pub accepted_waits : (c : Callee) (value : ℤ) → waits (accepted c value) ≡ false
-accepted_waits callee.Clock value = refl
-accepted_waits (callee.CurrentState object) value = given_waits (int_le (pos 0) value && int_le value (pos 1)) (value ∷ [])
-accepted_waits (callee.SetTrue object) value = given_waits (is_zero value) []
-accepted_waits (callee.SetFalse object) value = given_waits (is_zero value) []
-accepted_waits (callee.SuspendUntilTrue object) value = given_waits (is_zero value) []
-accepted_waits callee.DelayUntil value = given_waits (is_zero value) []
-accepted_waits (callee.Internal operation) value = refl
-accepted_waits (callee.Function object operation) value = refl
-accepted_waits (callee.Procedure object operation) value = refl
-accepted_waits (callee.Entry object operation) value = refl
 
 pub started_waits : (c : Callee) (components : List ℤ) → waits (started c components) ≡ false
 started_waits (callee.Function object operation) components = refl

@@ -1,5 +1,5 @@
 -- The notes on a change are those that are new.
-use Rattle.std.proofs.Common.{◌≡◌, ℕ, ◌+◌, ◌<◌, ◌⊎◌, inl, inr, List, [], ◌∷◌, ◌++◌, length, take, get_or, Bool, true, false, refl, sym, subst, arith}
+use Rattle.std.proofs.Common.{◌≡◌, ℕ, ◌+◌, ◌<◌, ◌⊎◌, inl, inr, List, [], ◌∷◌, ◌++◌, length, take, get_or, Bool, true, false, refl, sym, subst}
 use Rattle.std.specs.List.{All, Contains}
 use Rattle.std.proofs.lemmas.List.{take_more}
 use Rattle.std.proofs.lemmas.List.Elements.{All-contains, All-get_or, All-push, Contains-append_left, Contains-push, Contains-push_cases}
@@ -28,12 +28,6 @@ not_new shapes before number note old are other among (inr none) = none (All-con
 pub record NewSoFar (shapes : List Shape) (before after : List Words) (number : ℕ) (done notes : List Note) : Type 0 where
   pub due : All (λ note. Due shapes after note × IsNew shapes before number note) notes
   pub all : (note : Note) → Contains done note → IsNew shapes before number note → Contains notes note
-
-pub none_new : (shapes : List Shape) (before after : List Words) (number : ℕ) → NewSoFar shapes before after number [] []
-none_new shapes before after number = record {
-  due = λ k d less. absurd (omega (arith, less));
-  all = λ note there new. absurd (omega (arith, there.1));
-}
 
 one_more : (shapes : List Shape) (before after : List Words) (number : ℕ) (done notes : List Note) (note : Note) (b : Bool) → Due shapes after note
     → (b ≡ true → IsNew shapes before number note) → (b ≡ false → IsNew shapes before number note → ⊥)

@@ -1,46 +1,14 @@
 -- Spans of ticks, one by one.
 use Rattle.std.proofs.Common.{◌≡◌, ℕ, ◌+◌, ◌<◌, ◌≤◌, List, [], ◌∷◌, ◌++◌, length, get_or, take, Bool, true, false, refl, ap, sym, ◌∙◌, arith}
-use Rattle.std.specs.Prelude.{◌&&◌, ◌||◌, ◌↔◌, nat_le, nat_lt, Some, None, IsTrue}
-use Rattle.std.proofs.lemmas.Bool.{ltb-true, leb-true, and_parts, and_from, both_ways}
+use Rattle.std.specs.Prelude.{◌&&◌, ◌||◌, nat_le, nat_lt, Some, None}
+use Rattle.std.proofs.lemmas.Bool.{leb-true, and_parts}
 use Rattle.std.proofs.lemmas.Bool.Decides.{nat_tests}
 use Rattle.std.proofs.lemmas.List.Folds.{list_any-append, list_any_at, list_any_more}
 use Rattle.rv_access.specs.Limits.{most_tick}
 use Rattle.rv_access.specs.Words.{WindowWords, Words}
 use Rattle.rv_access.specs.Windows.{IsWindow, end_tick, first_tick, is_open}
 use Rattle.rv_text.specs.Numbers.{is_natural}
-use Rattle.rv_notes.specs.Covered.{AreHeld, IsSpanned, Span, is_held, is_in, is_spanned_at, is_wider}
-
--- Ticks
-
--- a span that holds a tick holds those up to its end
-pub held_to_end : (spans : List Span) (i : ℕ) (span : Span) (tick : ℕ) → i < length spans → span ≡ get_or spans i span → span.0 ≤ tick → AreHeld spans tick span.1
-held_to_end spans i span tick there is begun later past before =
-    let le : tick ≤ later = leb-true tick later past in
-    let lt : later < span.1 = ltb-true later span.1 before in
-    let in' : is_in later span ≡ true = and_from (nat_le span.0 later) (nat_lt later span.1) (grind (arith, nat_tests)) before in
-    list_any_at (is_in later) spans i span there (ap (is_in later) (sym is) ∙ in')
-
-pub not_in : (tick : ℕ) (span : Span) → (nat_le span.0 tick && nat_lt tick span.1) ≡ false → is_in tick span ≡ false
-not_in tick span e = e
-
--- ticks that are held up to one, and from there on
-pub held_on : (spans : List Span) (first middle end : ℕ) → AreHeld spans first middle → AreHeld spans middle end → AreHeld spans first end
-held_on spans first middle end one other tick past before = by_test (nat_lt tick middle) refl
-  where
-    by_test : (b : Bool) → nat_lt tick middle ≡ b → is_held spans tick ≡ true
-    by_test true e = one tick past e
-    by_test false e = other tick (grind (arith, nat_tests)) before
-
-pub held_none : (spans : List Span) (first : ℕ) → AreHeld spans first first
-held_none spans first tick past before =
-    let le : first ≤ tick = leb-true first tick past in
-    let lt : tick < first = ltb-true tick first before in
-    absurd (omega arith)
-
-pub held_less : (spans : List Span) (first end less : ℕ) → less ≤ end → AreHeld spans first end → AreHeld spans first less
-held_less spans first end less le held tick past before =
-    let lt : tick < less = ltb-true tick less before in
-    held tick past (grind (arith, nat_tests))
+use Rattle.rv_notes.specs.Covered.{Span, is_held, is_in, is_spanned_at, is_wider}
 
 -- Windows
 
@@ -96,23 +64,3 @@ pub past_added : (spans : List Span) (window : WindowWords) → IsWindow window 
 past_added spans window is none =
     let here = past_window window is in
     list_any-append (is_in most_tick) spans (span_of window ∷ []) ∙ (λ j. none j || (here j || false))
-
--- What a line comes to
-
-pub in_window : (lines : List Words) (line : Words) (window : WindowWords) (spans : List Span) (r : Bool) → line.window ≡ Some window → ((tick : ℕ) → is_spanned_at lines line tick ≡ is_held spans tick)
-    → (IsTrue r ↔ AreHeld spans (first_tick window) (end_tick window)) → (IsTrue r ↔ IsSpanned lines line)
-in_window lines line window spans r is same both = (to, from)
-  where
-    to : r ≡ true → IsSpanned lines line
-    to t tick opened =
-        let within : (nat_le (first_tick window) tick && nat_lt tick (end_tick window)) ≡ true = sym (ap (λ w. is_open w tick) is) ∙ opened in
-        let parts = and_parts (nat_le (first_tick window) tick) (nat_lt tick (end_tick window)) within in
-        same tick ∙ both.0 t tick parts.0 parts.1
-
-    from : IsSpanned lines line → r ≡ true
-    from spanned = both.1 (λ tick past before.
-        sym (same tick) ∙ spanned tick (ap (λ w. is_open w tick) is ∙ and_from (nat_le (first_tick window) tick) (nat_lt tick (end_tick window)) past before))
-
-pub without_window : (lines : List Words) (line : Words) (spans : List Span) → line.window ≡ None → ((tick : ℕ) → is_spanned_at lines line tick ≡ is_held spans tick) → is_held spans most_tick ≡ false → IsSpanned lines line → ⊥
-without_window lines line spans none same past spanned =
-    both_ways (is_spanned_at lines line most_tick) (same most_tick ∙ past) (spanned most_tick (ap (λ w. is_open w most_tick) none))

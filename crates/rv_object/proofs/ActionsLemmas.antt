@@ -1,5 +1,5 @@
 -- What the state of an object says of the actions under way.
-use Rattle.std.proofs.Common.{◌≡◌, ℕ, zero, suc, ◌<◌, [], ◌∷◌, length, Bool, true, false, refl, sym, ap, arith}
+use Rattle.std.proofs.Common.{◌≡◌, ℕ, zero, suc, [], ◌∷◌, length, Bool, true, false, refl, sym, ap, arith}
 use Rattle.std.specs.Prelude.{drop, replicate}
 use Rattle.std.proofs.lemmas.Bool.Decides.{nat_tests}
 use Rattle.std.proofs.lemmas.List.{length-replicate}
@@ -12,10 +12,6 @@ use Rattle.rv_object.specs.Actions.{IsCounted, actions_of, excludes, is_under_wa
 pub excludes-shared : (n : ℕ) → excludes (replicate n Shared) Shared ≡ false
 excludes-shared zero = refl
 excludes-shared (suc n) = excludes-shared n
-
-pub excludes-exclusive : (n actor : ℕ) → 0 < n → excludes (replicate n Shared) (Exclusive actor) ≡ true
-excludes-exclusive zero actor some = absurd (omega arith)
-excludes-exclusive (suc n) actor some = refl
 
 -- where an exclusive action may start, nothing is under way
 pub actions_of-free : (state : State) (actor : ℕ) → IsCounted state → excludes (actions_of state) (Exclusive actor) ≡ false → actions_of state ≡ []

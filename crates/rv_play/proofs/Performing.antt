@@ -146,13 +146,6 @@ no_step a p line (word ∷ others) failure some none is =
     (subst (λ (step : Option StepWords). Carries a a p p (acts_of line step) (Err refused)) (sym none)
     (fails_act a p (Stops line Whats.BadStep) refused (Whats.BadStep, refl, refl)))
 
--- a line that is a step
-pub step_performed : (a b : Known) (p q : Playing) (line : ℕ) (ws : List (List ℕ)) (step : StepWords) (result : Ended) → is_some_word ws ≡ true → step_of ws ≡ Some step
-    → Carries a b p q (asked_acts line step.asker step.asked) result → Carries a b p q (line_acts line ws) result
-step_performed a b p q line [] step result some is carries = absurd cc
-step_performed a b p q line (word ∷ others) step result some is carries =
-    subst (λ (found : Option StepWords). Carries a b p q (acts_of line found) result) (sym is) carries
-
 -- memory was refused
 pub line_unread : (a : Known) (p : Playing) (line : ℕ) (ws : List (List ℕ)) → (let r : Ended = Err Memory in Carries a a p p (line_acts line ws) r)
 line_unread a p line ws = nothing_done a p (line_acts line ws)

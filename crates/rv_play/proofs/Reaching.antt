@@ -1,5 +1,5 @@
 -- `go`s along a run of a text.
-use Rattle.std.proofs.Common.{◌≡◌, ℕ, ◌+◌, ◌-◌, ◌<◌, ◌≤◌, Bool, true, false, List, [], ◌∷◌, ◌++◌, replicate, Some, None, Option, Ok, Err, Result, refl, sym, ap, ◌∙◌, subst, arith, append_assoc, append-nil}
+use Rattle.std.proofs.Common.{◌≡◌, ℕ, ◌+◌, ◌-◌, ◌<◌, Bool, true, false, List, [], ◌∷◌, ◌++◌, replicate, Some, None, Option, Ok, Err, Result, refl, sym, ap, ◌∙◌, subst, arith, append_assoc, append-nil}
 use Rattle.std.specs.Prelude.{is_some}
 use Rattle.std.proofs.lemmas.List.{replicate-append-replicate}
 use Rattle.rv_shape.specs.Shape.{Shape}
@@ -22,7 +22,7 @@ use Rattle.rv_play.specs.Deeds.{ComesToDeed, goes, if_known, ◌>>◌}
 use Rattle.rv_play.specs.Scripted.{Playing}
 use Rattle.rv_play.specs.Carried.{Carries}
 use Rattle.rv_play.specs.declared.going.Paused.{Paused}
-use Rattle.rv_play.specs.Going.{Going, going, settled, asked_behind, IsGo, GoesOn, GoesSome, GoesWhile, LeavesSome, Leaves, Live, rest_of, going_in, settled_in, end_in, Reached, Reaches, Steps, Went}
+use Rattle.rv_play.specs.Going.{Going, going, asked_behind, IsGo, GoesSome, GoesWhile, LeavesSome, Leaves, Live, rest_of, going_in, settled_in, end_in, Reached, Reaches, Steps, Went}
 use Rattle.rv_play.proofs.Carrying.{carries_nothing, carries_then, carries_stop}
 
 -- Acts in a row
@@ -49,13 +49,6 @@ leaves_then a b c p q r act count left (Ok fewer) first next = record {
     three : (x y z : ℕ) → x + (y + z) ≡ (x + y) + z
     three x y z = omega arith
 leaves_then a b c p q r act count left (Err failure) first next = row_all a b c p q r act count first.done left (Err failure) first.all first.carried next
-
--- none was carried out
-pub leaves_all : (a : Known) (p : Playing) (act : Act) (count : ℕ) → LeavesSome a a p p act count count
-leaves_all a p act count = record { done = 0; all = none count; carried = carries_nothing a p }
-  where
-    none : (n : ℕ) → n ≡ 0 + n
-    none n = omega arith
 
 -- Outsides
 
@@ -112,14 +105,6 @@ reaches_all act s t given (pair ∷ trace) none is at follows went =
     (subst (λ (g : Going). Follows (asked_behind g) (given ++ pair.1 ∷ []) trace) (sym (first.at e).0) follows.1) went.2)
 
 -- One request
-
-over_step : (o : Option Ended) (s : Live) (pair : Request × Answer) → is_some o ≡ true → Steps o s pair s
-over_step None s pair e = absurd cc
-over_step (Some end) s pair e = refl
-
--- where they are over
-pub over_one : (s : Live) (request : Request) (answer : Answer) → is_some s.over ≡ true → Went s ((request, answer) ∷ []) s
-over_one s request answer e = (s, over_step s.over s (request, answer) e, refl)
 
 live_step : (o : Option Ended) (s t : Live) (pair : Request × Answer) → is_some o ≡ false → Reaches s pair.0 pair.1 t → Steps o s pair t
 live_step None s t pair e reaches = reaches
@@ -181,9 +166,6 @@ abbrev pub While : Live → Known → Playing → Request → Result Paused Fail
 While s k p q result =
     (act : Act) → IsGo act (going_in s) → Some q ≡ asked_behind (going_in s) (settled_in s) → GoesWhile s.known k s.playing p act s.actor s.left result
 
-parts : (n m : ℕ) → m ≤ n → n ≡ m + (n - m)
-parts n m e = omega (arith, e)
-
 all_of_them : (n : ℕ) → n ≡ n + 0
 all_of_them n = omega arith
 
@@ -192,25 +174,6 @@ settles_here s given rest at = at ∙ ap (λ (z : List Answer). given ++ z) rest
 
 asked_here : (s : Live) (q : Request) (given : List Answer) → settled_in s ≡ given → asked_behind (going_in s) given ≡ Some q → Some q ≡ asked_behind (going_in s) (settled_in s)
 asked_here s q given here asked = sym asked ∙ ap (asked_behind (going_in s)) (sym here)
-
-pub goes_on : (s : Live) (k : Known) (p : Playing) (q : Request) (r : Answer) (paused : Paused) → s.rest ≡ [] → s.over ≡ None → paused.answer ≡ Some r → While s k p q (Ok paused)
-    → Reaches s q r (record s { known = k; playing = p; left = s.left - paused.done })
-goes_on s k p q r paused rest none e while act given is at asked =
-    let here : settled_in s ≡ given = settles_here s given rest at in
-    let some = while act is (asked_here s q given here asked) in
-    let heard : settled s.actor p.stage ≡ settled_in s ++ r ∷ [] = subst (GoesOn s.actor s.playing.stage p.stage) e some.heard in
-    record {
-      done = paused.done;
-      all = parts s.left paused.done some.within;
-      carried = subst (λ (o : Option Ended). Carries s.known k s.playing p (replicate paused.done act) (end_in o)) (sym none) some.carried;
-      at = λ n. (some.same, heard ∙ ap (λ (z : List Answer). z ++ r ∷ []) here ∙ sym (append-nil (given ++ r ∷ [])) ∙ ap (λ (z : List Answer). (given ++ r ∷ []) ++ z) (sym rest));
-    }
-
-pub goes_out : (s : Live) (k : Known) (p : Playing) (q : Request) (r : Answer) (paused : Paused) → s.rest ≡ [] → While s k p q (Ok paused)
-    → Reaches s q r (record s { known = k; playing = p; left = s.left - paused.done; over = Some (Ok tt) })
-goes_out s k p q r paused rest while act given is at asked =
-    let some = while act is (asked_here s q given (settles_here s given rest at) asked) in
-    record { done = paused.done; all = parts s.left paused.done some.within; carried = some.carried; at = λ n. absurd (never (Some (Ok tt)) (Ok tt) refl n) }
 
 pub goes_wrong : (s : Live) (k : Known) (p : Playing) (q : Request) (r : Answer) (failure : Failure) → s.rest ≡ [] → While s k p q (Err failure)
     → Reaches s q r (record s { known = k; playing = p; left = 0; over = Some (Err failure) })
@@ -288,9 +251,3 @@ one_stops a b p q act left failure e carries =
     let one : 1 + (left - 1) ≡ left = omega (arith, e) in
     subst (λ (acts : List Act). Carries a b p q acts (Err failure)) (replicate-append-replicate 1 (left - 1) act ∙ ap (λ (n : ℕ). replicate n act) one)
     (carries_stop a b p q q (act ∷ []) (replicate (left - 1) act) failure carries)
-
--- all were carried out
-pub none_left : (a b : Known) (p q : Playing) (act : Act) (count left : ℕ) → LeavesSome a b p q act count left → left ≡ 0 → Carries a b p q (replicate count act) (Ok tt)
-none_left a b p q act count left some e =
-    let all : some.done ≡ count = omega (arith, some.all, e) in
-    subst (λ (n : ℕ). Carries a b p q (replicate n act) (Ok tt)) all some.carried

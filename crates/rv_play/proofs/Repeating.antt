@@ -1,5 +1,5 @@
 -- `go`s one after another, while the actor's text asks the same.
-use Rattle.std.proofs.Common.{◌≡◌, ℕ, ◌+◌, ◌-◌, ◌<◌, ◌≤◌, false, List, [], ◌∷◌, ◌++◌, replicate, Some, None, Option, Ok, Err, Result, refl, sym, ap, ◌∙◌, subst, arith}
+use Rattle.std.proofs.Common.{◌≡◌, ℕ, ◌+◌, ◌-◌, ◌<◌, ◌≤◌, false, List, [], ◌∷◌, ◌++◌, replicate, Some, None, Option, Ok, Err, Result, sym, ap, ◌∙◌, subst, arith}
 use Rattle.rv_event.specs.declared.entry.Answer.{Answer}
 use Rattle.rv_event.specs.declared.entry.Request.{Request}
 use Rattle.rv_exec.specs.Next.{settling}
@@ -16,16 +16,13 @@ use Rattle.rv_play.specs.declared.going.Paused.{Paused}
 use Rattle.rv_play.specs.Going.{Going, asks_fire, heard_of, going, settled, asked_behind, IsGo, GoesSome, GoesWhile}
 use Rattle.rv_play.proofs.Asked.{comes, once_same, once_unheard, once_heard}
 use Rattle.rv_play.proofs.Performing.{does_act, one_more, others_left}
-use Rattle.rv_play.proofs.Carrying.{carries_nothing, carries_then, carries_fails}
+use Rattle.rv_play.proofs.Carrying.{carries_then, carries_fails}
 
 -- so many were carried out, and the text goes on by none of their answers
 pub record Repeated (a b : Known) (p q : Playing) (actor : ℕ) (next : Option Request) (count : ℕ) : Type 0 where
   pub texts : q.stage.texts ≡ p.stage.texts
   pub same : going actor q.stage ≡ going actor p.stage
   pub carried : (act : Act) → IsGo act (going actor p.stage) → next ≡ asked_behind (going actor p.stage) (settled actor p.stage) → Carries a b p q (replicate count act) (Ok tt)
-
-pub repeated_none : (a : Known) (p : Playing) (actor : ℕ) (next : Option Request) → Repeated a a p p actor next 0
-repeated_none a p actor next = record { texts = refl; same = refl; carried = λ act is e. carries_nothing a p }
 
 -- one more is the act
 one_act : (a b c : Known) (p q r : Playing) (act : Act) (actor count : ℕ) (next request : Option Request) (end : Result (Unit {0}) Failure) → Repeated a b p q actor next count → request ≡ asks_beside next q.stage.history actor

@@ -277,10 +277,6 @@ pub settled : {T : Type 0} (v u w : Passing) (q p : Request) (r : Answer) (b : B
 settled v u w q p r b lent sent done before same x is e =
     (subst (λ (z : Request). Replied v z r b lent w) same (replied_after v u w p r b lent (subst (λ (z : Request). InVain v z u) (sym same) before) (once_of u w p r b lent sent done x is).0), e)
 
--- no act is left to make it again
-pub wore_out : (v u w : Passing) (q : Request) → InVain v q u → IsWorn u w → WoreOut v q w
-wore_out v u w q before x = subst (λ (z : Passing). WoreOut v q z) (sym x.1) (before, x.0)
-
 -- the answer that was handed on
 pub sent_of : {T : Type 0} (v w : Passing) (q p : Request) (r : Answer) (b : Begun) (lent : Option Lent) (sent : Result T Worn) (done : T) → MatchResult sent (λ _. Settled v p r b lent w) (λ _. WoreOut v p w) → p ≡ q → sent ≡ Ok done
     → Settled v q r b lent w

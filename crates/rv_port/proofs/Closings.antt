@@ -26,9 +26,6 @@ each_back P (x ∷ xs) t = subst (λ (l : List Passing). Each P l) (sym (reverse
 pub each_forth : (P : Passing → Type 0) (xs ys : List Passing) → ys ≡ reverse xs → Each P ys → Each P xs
 each_forth P xs ys is t = subst (λ (l : List Passing). Each P l) (reverse-reverse xs) (each_back P (reverse xs) (subst (λ (l : List Passing). Each P l) is t))
 
-pub each_more : (P : Passing → Type 0) (xs : List Passing) (x : Passing) → Each P xs → P x → Each P (xs ++ x ∷ [])
-each_more P xs x t p = each_both P xs (x ∷ []) t (p, tt)
-
 -- one more was taken over
 pub taken : (all left less passes : List Passing) (x : Passing) → all ≡ left ++ reverse passes → left ≡ less ++ x ∷ [] → all ≡ less ++ reverse (passes ++ x ∷ [])
 taken all left less passes x is e =
@@ -42,16 +39,6 @@ both_each turn (x ∷ xs) t u = ((t.0.0, u.0), both_each turn xs t.1 u.1)
 pub each_pass : (turn : TableId) (ports : List Porting) → Each (λ p. p.turn ≡ turn) ports → Each (λ p. p.turn ≡ turn) (map pass_of ports)
 each_pass turn [] t = tt
 each_pass turn (p ∷ ps) t = (t.0, each_pass turn ps t.1)
-
-map_last : (ports less : List Porting) (p : Porting) → ports ≡ less ++ p ∷ [] → map pass_of ports ≡ map pass_of less ++ pass_of p ∷ []
-map_last ports less p is = ap (map pass_of) is ∙ of_both less where
-  of_both : (xs : List Porting) → map pass_of (xs ++ p ∷ []) ≡ map pass_of xs ++ pass_of p ∷ []
-  of_both [] = refl
-  of_both (x ∷ xs) = ap (λ (l : List Passing). pass_of x ∷ l) (of_both xs)
-
-pub port_taken : (all : List Passing) (left less : List Porting) (passes : List Passing) (p : Porting) → all ≡ map pass_of left ++ reverse passes → left ≡ less ++ p ∷ []
-    → all ≡ map pass_of less ++ reverse (passes ++ pass_of p ∷ [])
-port_taken all left less passes p is e = taken all (map pass_of left) (map pass_of less) passes (pass_of p) is (map_last left less p e)
 
 -- the passes are of the turn, and none is the first
 pub others : (turn : TableId) (finished passes : List Passing) → passes ≡ reverse finished → Each (λ p. (p.first ≡ false) × (p.base ≡ [])) passes → Each (λ p. p.turn ≡ turn) finished

@@ -60,9 +60,6 @@ act_kept turn v w given catalogue ask reply k n a =
     (at_catalogue turn v given catalogue a.at k a.owned ∙ sym (due_catalogue a.about a.at v.actor ask reply w.seen n a.answer.2))
     (stay_fit a.about a.at v.actor ask reply w.seen a.answer)
 
-pub told_kept : (turn : TableId) (v w : Passing) (given : List ℕ) (catalogue : List Shape) (ask : Ask) (r : Answer) → IsControl turn v given catalogue → LoadsNothing ask → Told v ask r w → IsControl turn w given catalogue
-told_kept turn v w given catalogue ask r k n t = act_kept turn v w given catalogue ask t.0 k n t.2
-
 pub worn_kept : (turn : TableId) (v w : Passing) (given : List ℕ) (catalogue : List Shape) → IsControl turn v given catalogue → IsWorn v w → IsControl turn w given catalogue
 worn_kept turn v w given catalogue k t = subst (λ (z : Passing). IsControl turn z given catalogue) (sym t.1) k
 
@@ -116,12 +113,6 @@ brings_given shapes shape given unit e is = subst (λ (b : Bool). BringsIf b sha
 pub brings_none : (shapes : List Shape) (shape : Shape) (given unit : UnitBodies) → are_of shapes shape (unit_view given) ≡ false → unit_view unit ≡ no_bodies_of shape → Brings shapes shape given unit
 brings_none shapes shape given unit e is = subst (λ (b : Bool). BringsIf b shape given unit) (sym e) is
 
--- a load that there is no memory for
-pub none_or_worn : (v w : Passing) (shape : Shape) (P : UnitBodies → Type 0) (answer : Result Answer Worn)
-    → MatchResult answer (λ r. Told v (Wants.LoadWithoutMemory shape) r w) (λ _. IsWorn v w) → MatchResult answer (λ r. LoadTold v shape P r w) (λ _. IsWorn v w)
-none_or_worn v w shape P (Ok r) t = inr t
-none_or_worn v w shape P (Err e) t = t
-
 -- a port is given
 pub port_kept : (turn : TableId) (v w p : Passing) (given : List ℕ) (catalogue : List Shape) (actor acts : ℕ) → IsControl turn v given catalogue → Parted by v actor acts w p → IsControl turn w (actor ∷ given) catalogue
 port_kept turn v w p given catalogue actor acts k t =
@@ -138,11 +129,6 @@ port_kept turn v w p given catalogue actor acts k t =
       catalogue_is = k.catalogue_is ∙ same_catalogue v.seen w.seen (k.owns ∙ sym owned);
       fit = same_fit v.seen w.seen (k.owns ∙ sym owned) k.fit;
     }
-
-pub told_or_worn : (turn : TableId) (v w : Passing) (given : List ℕ) (catalogue : List Shape) (ask : Ask) (answer : Result Answer Worn) → IsControl turn v given catalogue → LoadsNothing ask
-    → MatchResult answer (λ r. Told v ask r w) (λ _. IsWorn v w) → IsControl turn w given catalogue
-told_or_worn turn v w given catalogue ask (Ok r) k n t = told_kept turn v w given catalogue ask r k n t
-told_or_worn turn v w given catalogue ask (Err e) k n t = worn_kept turn v w given catalogue k t
 
 pub act_or_worn : (turn : TableId) (v w : Passing) (given : List ℕ) (catalogue : List Shape) (ask : Ask) (answer : Result Reply Worn) → IsControl turn v given catalogue → LoadsNothing ask
     → MatchResult answer (λ r. Acted by Does v ask r w) (λ _. IsWorn v w) → IsControl turn w given catalogue

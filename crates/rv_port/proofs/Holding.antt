@@ -134,10 +134,6 @@ past_few n held r false e = more_few n held r e
 act_taken : (v w : Passing) (q : Request) (r : Answer) → Asked v q r w → w.left + 1 ≤ v.left
 act_taken v w q r x = let act : w.left + 1 ≡ x.before.left = x.act in let acts : x.before.left + length x.in_vain.times ≡ v.left = x.in_vain.acts in omega (arith, act, acts)
 
-pub one_more : (v w : Passing) (q : Request) (r : Answer) (begun : Begun) (lent : Option Lent) (result : Result Unit Worn) (held most : ℕ) → MatchResult result (λ _. RepliedOnce v q r begun lent w) (λ _. IsWorn v w) → held + v.left < most → result ≡ Ok tt → held + 1 < most
-one_more v w q r begun lent (Ok u) held most x few is = let less : w.left + 1 ≤ v.left = act_taken v w q r x.0.asked in omega (arith, few, less)
-one_more v w q r begun lent (Err u) held most x few is = absurd (cc is)
-
 pub few_replied : (v w : Passing) (q : Request) (r : Answer) (begun : Begun) (lent : Option Lent) (result : Result Unit Worn) (held after most : ℕ) → MatchResult result (λ _. RepliedOnce v q r begun lent w) (λ _. IsWorn v w) → held + v.left < most
     → result ≡ Ok tt → after ≡ held_past q held r → after + w.left < most
 few_replied v w q r begun lent (Ok u) held after most x few is e =

@@ -207,10 +207,6 @@ kept_behind r v e = none_dropped (drops r) v e
 pub dropped_behind : (r : Answer) (v w : Passing) → drops r ≡ true → SettlesIf true v w → SettlesBehind r v w
 dropped_behind r v w e s = subst (λ (b : Bool). SettlesIf b v w) (sym e) s
 
-pub worn_settle : (b : Bool) (v w : Passing) → b ≡ true → WoreOut v Settle w → SettlesIf b v w
-worn_settle true v w e t = ([], t)
-worn_settle false v w e t = absurd (cc e)
-
 pub one_more : (b c : Bool) (v u w : Passing) (r : Answer) → b ≡ true → c ≡ drops r → Asked v Settle r u → SettlesIf c u w → SettlesIf b v w
 one_more true c v u w r e d x s = (r ∷ s.0, (u, x, subst (λ (z : Bool). SettledBy z s.0 u w) d s.1))
 one_more false c v u w r e d x s = absurd (cc e)

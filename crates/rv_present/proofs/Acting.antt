@@ -18,14 +18,6 @@ use Rattle.rv_present.specs.Holdings.{actions_on, action_of, idle}
 use Rattle.rv_present.specs.Bodies.{AreActions}
 use Rattle.rv_present.proofs.Arrays.{at_set}
 
-pub actions_begin : (shapes : List Shape) (bs : List Body) (objects : List ObjectView) (b : Body) (x : ObjectView) → b.object < length objects → AreActions shapes bs objects →
-    x.actions ≡ action_of shapes b ∷ (get_or objects b.object idle).actions → AreActions shapes (b ∷ bs) (set objects b.object x)
-actions_begin shapes bs objects b x some are is =
-    at_set objects b.object x idle (λ j y. y.actions ≡ actions_on shapes j (b ∷ bs)) some
-    (is ∙ ap (λ rest. action_of shapes b ∷ rest) (are b.object)
-    ∙ sym (ap (λ t. map (action_of shapes) (cond t (b ∷ filter (is_on b.object) bs) (filter (is_on b.object) bs))) (itself b.object)))
-    (λ j h. are j ∙ sym (ap (λ t. map (action_of shapes) (cond t (b ∷ filter (is_on j) bs) (filter (is_on j) bs))) (another b.object j h)))
-
 -- an end on another object
 pub kept : (p : Body → Bool) (a : ℕ) (c : Body) (bs : List Body) → slice_get (filter (by a) bs) 0 ≡ Some c → p c ≡ false → filter p (without a bs) ≡ filter p bs
 kept p a c [] h e = absurd (cc)

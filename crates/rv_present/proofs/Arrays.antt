@@ -17,3 +17,16 @@ at_set xs i x d P some here others j = by_test (j == i) refl
     by_test false is =
         let other : j ≢ i = grind (arith, nat_tests) in
         subst (P j) (sym (get_or-set_other xs i j x d other)) (others j other)
+
+-- a place is the written one, which there is, or as it was
+pub set_at : (ss : List Stance) (a j : ℕ) (s : Stance) → (a ≡ j → j < length ss) → get_or (set ss a s) j Free ≡ (if a == j then s else get_or ss j Free)
+set_at ss a j s some = by_test (a == j) refl
+  where
+    by_test : (t : Bool) → (a == j) ≡ t → get_or (set ss a s) j Free ≡ (if t then s else get_or ss j Free)
+    by_test true is =
+        let same : j ≡ a = sym (same_number a j is) in
+        let there : a < length ss = subst (λ n. n < length ss) same (some (sym same)) in
+        get_or-set_at ss a j s Free same there
+    by_test false is =
+        let other : j ≢ a = grind (arith, nat_tests) in
+        get_or-set_other ss a j s Free other

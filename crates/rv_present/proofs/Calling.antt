@@ -1,5 +1,5 @@
 -- The last queued calls after one more entry.
-use Rattle.std.proofs.Common.{◌≡◌, ◌≢◌, ℕ, ◌<◌, List, ◌∷◌, length, get_or, set, Some, None, Option, Bool, true, false, arith, ap, subst, sym, ◌∙◌, refl}
+use Rattle.std.proofs.Common.{◌≡◌, ◌≢◌, ◌<◌, List, ◌∷◌, length, get_or, set, Some, None, Option, Bool, true, false, arith, ap, sym, ◌∙◌, refl}
 use Rattle.std.specs.Prelude.{◌==◌, if◌then◌else◌}
 use Rattle.std.proofs.lemmas.Bool.Decides.{nat_tests}
 use Rattle.std.proofs.lemmas.Grind.{get_or-set_at}
@@ -8,23 +8,11 @@ use Rattle.rv_shape.specs.Catalogue.{first_of}
 use Rattle.rv_event.specs.Past.{queued_by, if_of, last_queued}
 use Rattle.rv_event.specs.declared.entry.Body.{Body}
 use Rattle.rv_event.specs.declared.entry.Entry.{Entry}
-use Rattle.rv_event.specs.declared.entry.Entry.TheVariants.{Asked, Load, ListChange}
-use Rattle.rv_history.proofs.Stances.{queued_actor, same_number}
+use Rattle.rv_history.proofs.Stances.{same_number}
 use Rattle.rv_present.specs.Calls.{AreCalls}
-use Rattle.rv_present.specs.Known.{AreBelow}
-
-call_or : (t : Bool) (c : Body) (u : Option Body) → (if t then Some c else u) ≡ first_of (if t then Some c else None) u
-call_or true c u = refl
-call_or false c u = refl
 
 pub calls_kept : (past : List Entry) (e : Entry) (calls : List (Option Body)) → queued_by e ≡ None → AreCalls past calls → AreCalls (e ∷ past) calls
 calls_kept past e calls none are a = are a ∙ sym (ap (λ q. first_of (if_of a q) (last_queued a past)) none)
-
--- who queues is known
-pub caller_known : (e : Entry) (c : Body) (n : ℕ) → queued_by e ≡ Some c → AreBelow n e → c.actor < n
-caller_known Load c n is known = absurd (cc)
-caller_known ListChange c n is known = absurd (cc)
-caller_known (Asked a r w) c n is known = subst (λ m. m < n) (sym (queued_actor a r w c is)) known.0
 
 pub calls_set : (past : List Entry) (e : Entry) (calls : List (Option Body)) (c : Body) → queued_by e ≡ Some c → c.actor < length calls → AreCalls past calls → AreCalls (e ∷ past) (set calls c.actor (Some c))
 calls_set past e calls c is some are a = by_test (c.actor == a) refl ∙ sym (ap (λ q. first_of (if_of a q) (last_queued a past)) is)

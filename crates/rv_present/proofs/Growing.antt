@@ -282,10 +282,3 @@ pub load_grown : (c : Limits) (past : List Entry) (shapes : List Shape) (lists :
 load_grown c past shapes lists p q l k g =
     subst (λ ss. IsPresent ss past q) (sym l.2)
     (grown (record { limits = c; past = past; shapes = l.0; lists = lists }) (l.1 ∷ []) p q l.3 k (subst (λ ss. HasGrown ss p q) l.2 g))
-
--- there are no fewer objects
-pub more_objects : (c : Limits) (past : List Entry) (shapes : List Shape) (lists : List (List Words)) (l : IsLegal c (Load ∷ past) shapes lists) → length (all_objects l.0) ≤ length (all_objects shapes)
-more_objects c past shapes lists l =
-    let all : length (all_objects shapes) ≡ length (all_objects (l.0 ++ l.1 ∷ [])) = ap (λ ss. length (all_objects ss)) l.2 in
-    let split : length (all_objects (l.0 ++ l.1 ∷ [])) ≡ length (all_objects l.0 ++ all_objects (l.1 ∷ [])) = ap (λ ps. length ps) (objects_append l.0 (l.1 ∷ [])) in
-    omega (arith, all, split, length-append (all_objects l.0) (all_objects (l.1 ∷ [])))

@@ -1,5 +1,5 @@
 -- What an actor holds, as a body starts or ends.
-use Rattle.std.proofs.Common.{◌≡◌, ◌≢◌, ℕ, ◌<◌, List, [], ◌∷◌, length, get_or, set, map, max, drop, Some, None, Option, Bool, true, false, cond, ap, sym, ◌∙◌, refl}
+use Rattle.std.proofs.Common.{◌≡◌, ℕ, ◌<◌, List, [], ◌∷◌, length, get_or, set, map, max, drop, Some, None, Option, Bool, true, false, cond, ap, sym, ◌∙◌, refl}
 use Rattle.std.specs.Prelude.{◌==◌, ◌||◌, slice_get}
 use Rattle.std.specs.List.{filter, list_any}
 use Rattle.rv_prio.specs.Priority.{greatest, active_priority}
@@ -9,27 +9,14 @@ use Rattle.rv_shape.specs.Catalogue.{ceiling}
 use Rattle.rv_event.specs.Past.{without}
 use Rattle.rv_event.specs.declared.entry.Body.{Body}
 use Rattle.rv_event.proofs.Matching.{by, filter_without, filter_others}
-use Rattle.rv_history.proofs.Stances.{itself, another, same_number}
+use Rattle.rv_history.proofs.Stances.{same_number}
 use Rattle.rv_present.specs.Holdings.{holdings, held_of}
 use Rattle.rv_present.specs.Bodies.{AreStacks}
 use Rattle.rv_present.proofs.Arrays.{at_set}
 
-begins_own : (shapes : List Shape) (b : Body) (bs : List Body) → holdings shapes b.actor (b ∷ bs) ≡ held_of shapes b ∷ holdings shapes b.actor bs
-begins_own shapes b bs = ap (λ t. map (held_of shapes) (cond t (b ∷ filter (by b.actor) bs) (filter (by b.actor) bs))) (itself b.actor)
-
-begins_other : (shapes : List Shape) (b : Body) (bs : List Body) (j : ℕ) → j ≢ b.actor → holdings shapes j (b ∷ bs) ≡ holdings shapes j bs
-begins_other shapes b bs j h = ap (λ t. map (held_of shapes) (cond t (b ∷ filter (by j) bs) (filter (by j) bs))) (another b.actor j h)
-
 map_drop : (shapes : List Shape) (bs : List Body) → map (held_of shapes) (drop 1 bs) ≡ drop 1 (map (held_of shapes) bs)
 map_drop shapes [] = refl
 map_drop shapes (b ∷ bs) = refl
-
-pub stacks_begin : (shapes : List Shape) (bs : List Body) (stacks : List (List Held)) (b : Body) → b.actor < length stacks → AreStacks shapes bs stacks →
-    AreStacks shapes (b ∷ bs) (set stacks b.actor (held_of shapes b ∷ get_or stacks b.actor []))
-stacks_begin shapes bs stacks b some are =
-    at_set stacks b.actor (held_of shapes b ∷ get_or stacks b.actor []) [] (λ j x. x ≡ holdings shapes j (b ∷ bs)) some
-    (ap (λ hs. held_of shapes b ∷ hs) (are b.actor) ∙ sym (begins_own shapes b bs))
-    (λ j h. are j ∙ sym (begins_other shapes b bs j h))
 
 pub stacks_end : (shapes : List Shape) (bs : List Body) (stacks : List (List Held)) (a : ℕ) → a < length stacks → AreStacks shapes bs stacks →
     AreStacks shapes (without a bs) (set stacks a (drop 1 (get_or stacks a [])))

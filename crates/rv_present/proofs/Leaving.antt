@@ -1,5 +1,5 @@
 -- The bodies that left their objects unsettled, as one settles its object or leaves one so.
-use Rattle.std.proofs.Common.{◌≡◌, ℕ, suc, ◌+◌, ◌-◌, ◌<◌, ◌≤◌, List, [], ◌∷◌, length, get_or, set, map, drop, Some, None, Option, Bool, true, false, cond, arith, ap, subst, sym, ◌∙◌, refl}
+use Rattle.std.proofs.Common.{◌≡◌, ℕ, ◌-◌, ◌<◌, ◌≤◌, List, [], ◌∷◌, length, get_or, set, map, drop, Some, None, Option, Bool, true, false, cond, arith, ap, subst, sym, ◌∙◌, refl}
 use Rattle.std.specs.Prelude.{◌==◌, ◌||◌, slice_get}
 use Rattle.std.specs.List.{filter, list_any}
 use Rattle.std.proofs.lemmas.List.{length-set}
@@ -14,7 +14,7 @@ use Rattle.rv_history.proofs.Stances.{another, first_actor, itself}
 use Rattle.rv_present.specs.declared.bodies.Bodies.{Bodies}
 use Rattle.rv_present.specs.Bodies.{IsBodies, IsKnown}
 use Rattle.rv_present.specs.Holdings.{action_of, actions_on, idle}
-use Rattle.rv_present.specs.Unsettled.{AreAlike, AreUnsettled, CanLeave, Leavers, counted, one_or_none}
+use Rattle.rv_present.specs.Unsettled.{AreAlike, AreUnsettled, Leavers, counted, one_or_none}
 use Rattle.rv_present.proofs.Acting.{kept}
 use Rattle.rv_present.proofs.Arrays.{at_set}
 use Rattle.rv_present.proofs.UnderWay.{gone, none_ends}
@@ -89,48 +89,6 @@ settled_kept left u objects a b x is settled k =
 pub nothing_settled : (left : List Body) (u : Leavers) (objects : List ObjectView) (a : ℕ) → get_or u.bodies a None ≡ None → AreUnsettled left u objects → AreUnsettled (without a left) u objects
 nothing_settled left u objects a is k =
     subst (λ bs. AreUnsettled bs u objects) (sym (none_ends a left (own_first left u objects a None is k))) k
-
--- An object is left unsettled
-
-no_other : (q : Option Body) (bs : List Body) → bs ≡ one_or_none q → [] ≡ one_or_none q → bs ≡ []
-no_other None bs is none = is
-no_other (Some b) bs is none = is ∙ sym none
-
-pub left_kept : (left others : List Body) (u : Leavers) (objects : List ObjectView) (b : Body) (x : ObjectView) → x.unsettled ≡ true → CanLeave others u objects b → AreUnsettled left u objects →
-    AreUnsettled (b ∷ left) (record { bodies = set u.bodies b.actor (Some b); number = u.number + 1 }) (set objects b.object x)
-left_kept left others u objects b x unsettled can k =
-    let none : filter (by b.actor) left ≡ [] = no_other (get_or u.bodies b.actor None) (filter (by b.actor) left) (k.own b.actor) (sym can.first ∙ can.sound.own b.actor) in
-    let free : length (filter (is_on b.object) left) ≡ 0 = k.on b.object ∙ sym (can.sound.on b.object) ∙ can.alone in
-    record {
-      own =
-          at_set u.bodies b.actor (Some b) None (λ j q. filter (by j) (b ∷ left) ≡ one_or_none q) can.actor
-          (ap (λ t. cond t (b ∷ filter (by b.actor) left) (filter (by b.actor) left)) (itself b.actor) ∙ ap (λ bs. b ∷ bs) none)
-          (λ j h. ap (λ t. cond t (b ∷ filter (by j) left) (filter (by j) left)) (another b.actor j h) ∙ k.own j);
-      on =
-          at_set objects b.object x idle (λ o y. length (filter (is_on o) (b ∷ left)) ≡ counted y.unsettled) can.object
-          (ap (λ t. length (cond t (b ∷ filter (is_on b.object) left) (filter (is_on b.object) left))) (itself b.object) ∙ ap suc free ∙ ap counted (sym unsettled))
-          (λ o h. ap (λ t. length (cond t (b ∷ filter (is_on o) left) (filter (is_on o) left))) (another b.object o h) ∙ k.on o);
-      known =
-          known_as (length (set u.bodies b.actor (Some b))) (length (set objects b.object x)) (length u.bodies) (length objects) (b ∷ left) (length-set u.bodies b.actor (Some b)) (length-set objects b.object x)
-          ((can.actor, can.object), k.known);
-      count = omega (arith, k.count);
-    }
-
--- Nothing else changes
-
-pub alike_set : (objects : List ObjectView) (o : ℕ) (x : ObjectView) → o < length objects → x.actions ≡ (get_or objects o idle).actions → x.scalars ≡ (get_or objects o idle).scalars → AreAlike objects (set objects o x)
-alike_set objects o x some actions scalars = record {
-  long = length-set objects o x;
-  actions = at_set objects o x idle (λ j y. y.actions ≡ (get_or objects j idle).actions) some actions (λ j h. refl);
-  scalars = at_set objects o x idle (λ j y. y.scalars ≡ (get_or objects j idle).scalars) some scalars (λ j h. refl);
-}
-
-pub alike_self : (objects : List ObjectView) → AreAlike objects objects
-alike_self objects = record { long = refl; actions = λ o. refl; scalars = λ o. refl }
-
--- what is written elsewhere leaves an object as settled as it was
-pub flags_stay : (objects : List ObjectView) (i : ℕ) (x : ObjectView) → i < length objects → x.unsettled ≡ (get_or objects i idle).unsettled → (o : ℕ) → (get_or (set objects i x) o idle).unsettled ≡ (get_or objects o idle).unsettled
-flags_stay objects i x some same = at_set objects i x idle (λ j y. y.unsettled ≡ (get_or objects j idle).unsettled) some same (λ j h. refl)
 
 -- How many there are
 

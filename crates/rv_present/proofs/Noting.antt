@@ -17,19 +17,7 @@ use Rattle.rv_present.specs.Known.{AreBelow, IsNamedBelow}
 use Rattle.rv_history.specs.Owed.{each, dues}
 use Rattle.rv_history.proofs.Sums.{each_same}
 use Rattle.rv_present.specs.Stances.{AreStances, due_at, due_by, dues_by, noted, settled}
-
--- a place is the written one, which there is, or as it was
-set_at : (ss : List Stance) (a j : ℕ) (s : Stance) → (a ≡ j → j < length ss) → get_or (set ss a s) j Free ≡ (if a == j then s else get_or ss j Free)
-set_at ss a j s some = by_test (a == j) refl
-  where
-    by_test : (t : Bool) → (a == j) ≡ t → get_or (set ss a s) j Free ≡ (if t then s else get_or ss j Free)
-    by_test true is =
-        let same : j ≡ a = sym (same_number a j is) in
-        let there : a < length ss = subst (λ n. n < length ss) same (some (sym same)) in
-        get_or-set_at ss a j s Free same there
-    by_test false is =
-        let other : j ≢ a = grind (arith, nat_tests) in
-        get_or-set_other ss a j s Free other
+use Rattle.rv_present.proofs.Arrays.{set_at}
 
 own_or : (t : Bool) (s u : Stance) → (if t then s else u) ≡ or_else (if t then Some s else None) u
 own_or true s u = refl

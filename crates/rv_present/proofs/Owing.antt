@@ -11,6 +11,7 @@ use Rattle.rv_history.specs.Owed.{each, dues, surcharge, unfinished}
 use Rattle.rv_history.proofs.Sums.{each_change, each_same}
 use Rattle.rv_history.proofs.Stances.{same_number}
 use Rattle.rv_present.specs.Stances.{AreStances, due_at, due_by, dues_by}
+use Rattle.rv_present.proofs.Arrays.{set_at}
 
 due_some : (s : Stance) (low : Bool) → surcharge s + (if low then 0 else unfinished s) ≤ 3
 due_some Free true = omega arith
@@ -63,16 +64,7 @@ pub due_past : (ss : List Stance) (n a : ℕ) (s : Stance) → n ≤ a → dues_
 due_past ss n a s out = each_same n (due_by (set ss a s)) (due_by ss) (λ j less. ap (due_at j) (get_or-set_other ss a j s Free (λ is. omega (arith, less, is, out))))
 
 pub set_one : (ss : List Stance) (a j : ℕ) (s : Stance) → j < length ss → get_or (set ss a s) j Free ≡ (if a == j then s else get_or ss j Free)
-set_one ss a j s less = by_test (a == j) refl
-  where
-    by_test : (t : Bool) → (a == j) ≡ t → get_or (set ss a s) j Free ≡ (if t then s else get_or ss j Free)
-    by_test true is =
-        let same : j ≡ a = sym (same_number a j is) in
-        let some : a < length ss = omega (arith, same, less) in
-        get_or-set_at ss a j s Free same some
-    by_test false is =
-        let other : j ≢ a = grind (arith, nat_tests) in
-        get_or-set_other ss a j s Free other
+set_one ss a j s less = set_at ss a j s (λ same. less)
 
 -- what they owe by their stances is what they owe after the past
 pub dues_are : (past : List Entry) (ss : List Stance) (n : ℕ) → AreStances past ss → dues_by ss n ≡ each n (dues past)

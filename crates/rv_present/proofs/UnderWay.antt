@@ -17,11 +17,11 @@ use Rattle.rv_history.specs.Orderly.{Each}
 use Rattle.rv_history.proofs.Bodies.{each_without}
 use Rattle.rv_history.proofs.Stances.{same_number, some_is}
 use Rattle.rv_present.specs.Ends.{left_by}
-use Rattle.rv_present.specs.Holdings.{held_of, action_of, idle}
+use Rattle.rv_present.specs.Holdings.{action_of, idle}
 use Rattle.rv_present.specs.Bodies.{IsBodies, IsKnown}
 use Rattle.rv_present.specs.declared.bodies.Bodies.{Bodies}
-use Rattle.rv_present.proofs.Acting.{actions_begin, actions_end}
-use Rattle.rv_present.proofs.Holding.{stacks_begin, stacks_end}
+use Rattle.rv_present.proofs.Acting.{actions_end}
+use Rattle.rv_present.proofs.Holding.{stacks_end}
 
 pub none_ends : (a : ℕ) (bs : List Body) → slice_get (filter (by a) bs) 0 ≡ None → without a bs ≡ bs
 none_ends a [] h = refl
@@ -49,20 +49,6 @@ gone a b (x ∷ bs) e = by_test (x.actor == a) (gone a b bs) e
     by_test : (t : Bool) → (slice_get (filter (by a) bs) 0 ≡ Some b → length (without a bs) + 1 ≡ length bs) → slice_get (cond t (x ∷ filter (by a) bs) (filter (by a) bs)) 0 ≡ Some b → length (if t then bs else x ∷ without a bs) + 1 ≡ suc (length bs)
     by_test true rest f = omega arith
     by_test false rest f = omega (arith, rest f)
-
--- A body starts
-
-pub begin_kept : (shapes : List Shape) (bs : List Body) (f : Bodies) (b : Body) (x : ObjectView) → b.actor < length f.stacks → b.object < length f.objects →
-    x.actions ≡ action_of shapes b ∷ (get_or f.objects b.object idle).actions → IsBodies shapes bs f →
-    IsBodies shapes (b ∷ bs) (record { stacks = set f.stacks b.actor (held_of shapes b ∷ get_or f.stacks b.actor []); objects = set f.objects b.object x; number = f.number + 1 })
-begin_kept shapes bs f b x someone something is k = record {
-  stacks = stacks_begin shapes bs f.stacks b someone k.stacks;
-  actions = actions_begin shapes bs f.objects b x something k.actions is;
-  known =
-      subst (λ n. Each (IsKnown n (length (set f.objects b.object x))) (b ∷ bs)) (sym (length-set f.stacks b.actor (held_of shapes b ∷ get_or f.stacks b.actor [])))
-      (subst (λ n. Each (IsKnown (length f.stacks) n) (b ∷ bs)) (sym (length-set f.objects b.object x)) ((someone, something), k.known));
-  count = omega (arith, k.count);
-}
 
 -- A body ends
 

@@ -1,15 +1,12 @@
 -- One section after another.
-use Rattle.std.proofs.Common.{◌≡◌, ◌<◌, ◌+◌, ℕ, suc, length, get_or, drop, drop-cons, add-one, List, [], ◌∷◌, Some, Ok, Err, inl, inr, refl, sym, subst}
+use Rattle.std.proofs.Common.{◌≡◌, ◌<◌, ◌+◌, ℕ, suc, length, get_or, drop, drop-cons, add-one, List, [], ◌∷◌, Ok, Err, inl, inr, refl, sym, subst}
 use Rattle.rv_fault.specs.declared.failure.Failure.{Failure}
 use Rattle.rv_port.specs.Traces.{Passing}
 use Rattle.rv_text.specs.Sections.{SectionText}
 use Rattle.rv_event.specs.declared.entry.Answer.{Answer}
 use Rattle.rv_event.specs.declared.entry.Answer.TheVariants.{OutOfMemory}
-use Rattle.rv_fault.specs.declared.fault.What.TheVariants as Whats
-use Rattle.rv_script.specs.declared.opening.Opening.{Opening}
-use Rattle.rv_script.specs.declared.opening.Opening.TheVariants.{UnitText, AccessList}
 use Rattle.rv_settings.specs.Settings.{DeviceText}
-use Rattle.rv_run.specs.Preparing.{AsksNothing, CarriesOut, CarriesOutAll, CarriesOutAs, Done, HeardAnswer, KeptAnswer, LoadsDevice, LoadsDevices, at_line}
+use Rattle.rv_run.specs.Preparing.{CarriesOut, CarriesOutAll, Done, HeardAnswer, KeptAnswer, LoadsDevice, LoadsDevices}
 
 -- what is left to carry out makes the whole
 abbrev pub SoFar : Passing → Passing → List SectionText → List SectionText → Type 0
@@ -76,11 +73,3 @@ heard_else answer other = refl
 pub kept_else : (answer : Answer) → (answer ≡ OutOfMemory → ⊥) → KeptAnswer answer (Ok tt)
 kept_else OutOfMemory other = absurd (other refl)
 kept_else answer other = inl refl
-
--- another opening than that of a unit or a list
-pub carries_no_other : (opening : Opening) (v w : Passing) (section : SectionText) (result : Done)
-    → (opening ≡ UnitText → ⊥) → (opening ≡ AccessList → ⊥) → AsksNothing v w (at_line section.line Whats.BadSection) result
-    → CarriesOutAs (Some opening) v w section result
-carries_no_other UnitText v w section result unit list nothing = absurd (unit refl)
-carries_no_other AccessList v w section result unit list nothing = absurd (list refl)
-carries_no_other opening v w section result unit list nothing = nothing

@@ -1,6 +1,6 @@
 -- The names that expressions use, each with what is declared there and what it is wanted for, in the order of the text
 -- (ISO/IEC 8652:2012, 4.4, 8.6).
-use Rattle.std.specs.Prelude.{ℕ, Bool, List, [], ◌∷◌, Option, Some, None}
+use Rattle.std.specs.Prelude.{ℕ, Bool, [], Option, Some, None}
 use Rattle.rv_tree.specs.Names.{Identifier, Name}
 use Rattle.rv_tree.specs.Expressions.{Expression, literal, name, attribute, call, parenthesized, highest, product, signed, sum, relation, logical, Expressions, no_expressions, and_expression, Factors, no_factors, and_factor, Terms, no_terms, and_term, RangeConstraint}
 use Rattle.rv_scope.specs.declared.wanted.Wanted.{Wanted}
@@ -62,11 +62,6 @@ value_uses at_use scope e = expression_uses at_use scope w.Value e
 abbrev pub maybe_uses : {A P : Type 0} → (P → A → A) → Option P → A → A
 maybe_uses uses None = nothing
 maybe_uses uses (Some part) = uses part
-
--- those of all parts
-abbrev pub each_uses : {A P : Type 0} → (P → A → A) → List P → A → A
-each_uses uses [] = nothing
-each_uses uses (part ∷ parts) = uses part ▷ each_uses uses parts
 
 abbrev pub range_uses : {A : Type 0} → Use A → ScopeView → RangeConstraint → A → A
 range_uses at_use scope range = value_uses at_use scope range.low ▷ value_uses at_use scope range.high

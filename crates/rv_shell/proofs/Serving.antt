@@ -1,5 +1,5 @@
 -- What is told and written makes what a line does.
-use Rattle.std.proofs.Common.{subst, sym, MatchResult, ◌≡◌, ℕ, List, Ok, Err, Option, Some, None, inl, inr, ap}
+use Rattle.std.proofs.Common.{subst, sym, MatchResult, ◌≡◌, ℕ, List, Ok, Err, inr}
 use Rattle.std.specs.Prelude.{Result}
 use Rattle.rv_event.specs.declared.entry.Answer.{Answer}
 use Rattle.rv_host.specs.Pages.{Item}
@@ -10,15 +10,11 @@ use Rattle.rv_port.specs.Controls.{Told}
 use Rattle.rv_behind.specs.Events.{by, catalogue_of}
 use Rattle.rv_port.specs.Traces.{Passing}
 use Rattle.rv_behind.specs.declared.event.Ask.{Ask}
-use Rattle.rv_behind.specs.declared.event.Reply.{Reply}
 use Rattle.rv_behind.specs.declared.event.Reply.TheVariants as Gives
 use Rattle.rv_shell.specs.declared.shell.Next.{Next}
 use Rattle.rv_shell.specs.declared.shell.LineFault.{LineFault}
 use Rattle.rv_shell.specs.declared.shell.LineFault.TheVariants.{NoMemory, Write, Worn}
-use Rattle.rv_shell.specs.declared.order.Order.{Order}
-use Rattle.rv_shell.specs.declared.order.Order.TheVariants as Orders
-use Rattle.rv_shell.specs.Orders.{order_of}
-use Rattle.rv_shell.specs.Serving.{Written, Writes, RequestsOrWorn, ReadsOrWorn, Obeys, Carries, Serves, answer_line}
+use Rattle.rv_shell.specs.Serving.{Written, Writes, RequestsOrWorn, ReadsOrWorn, answer_line}
 use Rattle.rv_keep.specs.PageText.{page_text}
 
 -- a request was told, and its answer is written
@@ -46,39 +42,3 @@ pages_by old new v w from page (Ok next) told written = record { page = page; to
 pages_by old new v w from page (Err (Write error)) told written = record { page = page; told = told; written = written }
 pages_by old new v w from page (Err NoMemory) told written = inr record { page = page; told = told; written = written }
 pages_by old new v w from page (Err Worn) told written = absurd written
-
--- The turn stays
-
-pub acted_turn : (v w : Passing) (ask : Ask) (reply : Reply) → Acted by Does v ask reply w → w.turn ≡ v.turn
-acted_turn v w ask reply acted = ap (λ (p : Passing). p.turn) acted.same
-
-pub asks_turn : (old new : Written) (v w : Passing) (ask : Ask) (result : Result Next LineFault) → RequestsOrWorn old new v w ask result → w.turn ≡ v.turn
-asks_turn old new v w ask (Ok next) asks = acted_turn v w ask asks.told.0 asks.told.2
-asks_turn old new v w ask (Err (Write error)) asks = acted_turn v w ask asks.told.0 asks.told.2
-asks_turn old new v w ask (Err NoMemory) asks = acted_turn v w ask asks.told.0 asks.told.2
-asks_turn old new v w ask (Err Worn) asks = ap (λ (p : Passing). p.turn) asks.0.1
-
-pub pages_turn : (old new : Written) (v w : Passing) (from : ℕ) (result : Result Next LineFault) → ReadsOrWorn old new v w from result → w.turn ≡ v.turn
-pages_turn old new v w from (Ok next) pages = acted_turn v w (Ask.Read from) (Gives.Read pages.page) pages.told
-pages_turn old new v w from (Err (Write error)) pages = acted_turn v w (Ask.Read from) (Gives.Read pages.page) pages.told
-pages_turn old new v w from (Err NoMemory) (inl none) = acted_turn v w (Ask.Read from) Gives.Unread none.0
-pages_turn old new v w from (Err NoMemory) (inr pages) = acted_turn v w (Ask.Read from) (Gives.Read pages.page) pages.told
-pages_turn old new v w from (Err Worn) pages = ap (λ (p : Passing). p.turn) pages.0.1
-
-pub obeys_turn : (old new : Written) (v w : Passing) (order : Order) (result : Result Next LineFault) → Obeys old new v w order result → w.turn ≡ v.turn
-obeys_turn old new v w (Orders.Change (Ok change)) result obeys = asks_turn old new v w _ result obeys
-obeys_turn old new v w (Orders.Change (Err fault)) result obeys = ap (λ (p : Passing). p.turn) obeys.0
-obeys_turn old new v w (Orders.Tick ticks) result obeys = asks_turn old new v w _ result obeys
-obeys_turn old new v w Orders.Halt result obeys = asks_turn old new v w _ result obeys
-obeys_turn old new v w (Orders.Raise line) result obeys = ap (λ (p : Passing). p.turn) obeys.0
-obeys_turn old new v w Orders.Load result obeys = ap (λ (p : Passing). p.turn) obeys.0
-obeys_turn old new v w (Orders.Journal from) result obeys = pages_turn old new v w from result obeys
-obeys_turn old new v w Orders.Quit result obeys = ap (λ (p : Passing). p.turn) obeys.0
-
-carries_turn : (old new : Written) (v w : Passing) (order : Option Order) (result : Result Next LineFault) → Carries old new v w order result → w.turn ≡ v.turn
-carries_turn old new v w (Some order) result obeys = obeys_turn old new v w order result obeys
-carries_turn old new v w None result says = ap (λ (p : Passing). p.turn) says.0
-
-pub serves_turn : (old new : Written) (v w : Passing) (words : List (List ℕ)) (result : Result Next LineFault) → Serves old new v w words result → w.turn ≡ v.turn
-serves_turn old new v w words result (inl none) = ap (λ (p : Passing). p.turn) none.0
-serves_turn old new v w words result (inr carries) = carries_turn old new v w (order_of words) result carries

@@ -3,7 +3,7 @@ use Rattle.std.proofs.Common.{◌≡◌, ℕ, ◌+◌, ◌<◌, List, [], ◌∷
 use Rattle.std.specs.List.{AllZip, Contains}
 use Rattle.std.specs.List.Sorted.{IsPermutation}
 use Rattle.std.proofs.lemmas.List.{take_more}
-use Rattle.std.proofs.lemmas.List.Elements.{All-push, Contains-append_left, Contains-push}
+use Rattle.std.proofs.lemmas.List.Elements.{All-push}
 use Rattle.std.proofs.lemmas.List.Sorted.{Contains-permutation}
 use Rattle.rv_access.specs.Words.{WindowWords, Words}
 use Rattle.rv_access.specs.Windows.{end_tick, first_tick}
@@ -20,16 +20,6 @@ has_more ends more (Some w) holds h = (holds (first_tick w) h.0, holds (end_tick
 
 are_more : (ends more : List ℕ) (lines : List Words) → Holds more ends → AreEnds ends lines → AreEnds more lines
 are_more ends more lines holds h = λ k d less. has_more ends more (get_or lines k d).window holds (h k d less)
-
--- both ends of a window
-abbrev pub with_both : List ℕ → WindowWords → List ℕ
-with_both ends w = (ends ++ first_tick w ∷ []) ++ end_tick w ∷ []
-
-pub both_added : (ends : List ℕ) (w : WindowWords) (lines : List Words) → AreEnds ends lines → AreEnds (with_both ends w) lines × HasEnds (with_both ends w) (Some w)
-both_added ends w lines h = (
-  are_more ends (with_both ends w) lines (λ end there. Contains-append_left (ends ++ first_tick w ∷ []) (end_tick w ∷ []) end (Contains-append_left ends (first_tick w ∷ []) end there)) h,
-  (Contains-append_left (ends ++ first_tick w ∷ []) (end_tick w ∷ []) (first_tick w) (Contains-push ends (first_tick w)), Contains-push (ends ++ first_tick w ∷ []) (end_tick w)),
-)
 
 pub one_more : (ends : List ℕ) (lines : List Words) (i : ℕ) (line : Words) → i < length lines → line ≡ get_or lines i line → AreEnds ends (take i lines) → HasEnds ends line.window → AreEnds ends (take (i + 1) lines)
 one_more ends lines i line within is all last =

@@ -48,12 +48,6 @@ none_more us ts w before zero j less = by_test (j / 64 == w) refl
 pub word_of : (w t : ℕ) → t < 64 → (64 * w + t) / 64 ≡ w
 word_of w t less = omega (arith, less)
 
-pub place_in : (w t : ℕ) → t < 64 → (64 * w + t) % 64 ≡ t
-place_in w t less = omega (arith, less)
-
-pub has_at : (us : List ℕ) (w t : ℕ) → t < 64 → has us (64 * w + t) ≡ bit_at (get_or us w 0) t
-has_at us w t less = λ i. bit_at (get_or us (word_of w t less i) 0) (place_in w t less i)
-
 pub both_one : (x y : ℕ) → x < 2 → y < 2 → min x y ≡ 1 → (x ≡ 1) × (y ≡ 1)
 both_one x y p q e = (omega (arith, p, q, e), omega (arith, p, q, e))
 

@@ -9,12 +9,6 @@ zip_push R [] (z ∷ ys) x y all last = absurd all
 zip_push R (w ∷ xs) [] x y all last = absurd all
 zip_push R (w ∷ xs) (z ∷ ys) x y all last = (all.0, zip_push R xs ys x y all.1 last)
 
-pub zip_append : {A B : Type 0} (R : A → B → Type 0) (xs xs' : List A) (ys ys' : List B) → AllZip R xs ys → AllZip R xs' ys' → AllZip R (xs ++ xs') (ys ++ ys')
-zip_append R [] xs' [] ys' all more = more
-zip_append R [] xs' (z ∷ ys) ys' all more = absurd all
-zip_append R (w ∷ xs) xs' [] ys' all more = absurd all
-zip_append R (w ∷ xs) xs' (z ∷ ys) ys' all more = (all.0, zip_append R xs xs' ys ys' all.1 more)
-
 pub map_push : {A B : Type 0} (f : A → B) (xs : List A) (x : A) → map f (xs ++ x ∷ []) ≡ map f xs ++ f x ∷ []
 map_push f [] x = refl
 map_push f (y ∷ xs) x = ap (λ ys. f y ∷ ys) (map_push f xs x)

@@ -63,16 +63,3 @@ denied_once quota halt_below tells later earlier place most shapes entries withi
     set_there (noted_all first earlier).denied place (omega (arith, long, within)) in
     ap (λ (flag : Option Bool). not (or_true flag) && exceeds most shapes entries (slice_get shapes place))
     (stays first later (Deny place ∷ earlier) place there)
-
--- the first place that passes
-pub first_more : (passes : ℕ → Bool) (place : ℕ) → ((earlier : ℕ) → earlier < place → passes earlier ≡ false) → passes place ≡ false
-    → (earlier : ℕ) → earlier < place + 1 → passes earlier ≡ false
-first_more passes place before here earlier lt = by (earlier == place) refl
-  where
-    by : (t : Bool) → (earlier == place) ≡ t → passes earlier ≡ false
-    by true same =
-        let e : earlier ≡ place = grind (arith, nat_tests) in
-        ap passes e ∙ here
-    by false differs =
-        let e : earlier ≢ place = grind (arith, nat_tests) in
-        before earlier (omega (arith, lt, e))

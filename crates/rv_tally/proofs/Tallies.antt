@@ -1,17 +1,15 @@
 -- Counts of entries.
-use Rattle.std.proofs.Common.{◌≡◌, ◌≢◌, ◌∙◌, ◌+◌, ◌-◌, ◌<◌, ◌≤◌, ◌^◌, ◌==◌, ◌&&◌, ℕ, Bool, true, false, if◌then◌else◌, List, [], ◌∷◌, ◌++◌, ap, sym, refl, arith, length, min, replicate, cond, slice_get, slice_index, slice_set, nat_lt, None, take, subst, get_or, append_assoc, length-append}
+use Rattle.std.proofs.Common.{◌≡◌, ◌≢◌, ◌∙◌, ◌+◌, ◌-◌, ◌<◌, ◌≤◌, ◌^◌, ◌==◌, ◌&&◌, ℕ, Bool, true, false, if◌then◌else◌, List, [], ◌∷◌, ap, sym, refl, arith, length, min, replicate, cond, slice_get, slice_index, slice_set, nat_lt, None}
 use Rattle.std.specs.List.{count_by}
 use Rattle.std.proofs.lemmas.Bool.Decides.{nat_tests}
 use Rattle.std.proofs.lemmas.Grind.{get_or-set_at}
-use Rattle.std.proofs.Math.Seq.{take_all}
-use Rattle.std.proofs.lemmas.List.{append-nil, get_or-replicate, get_or-set_other, length-map, length-take-le, map-append, take_more}
-use Rattle.std.proofs.lemmas.List.Sums.{count_by-le-length, sum_by-append, sum_by-cons}
+use Rattle.std.proofs.lemmas.List.{get_or-replicate, get_or-set_other}
+use Rattle.std.proofs.lemmas.List.Sums.{count_by-le-length, sum_by-cons}
 use Rattle.std.proofs.lemmas.Option.{slice_get_past}
 use Rattle.rv_event.specs.declared.entry.Entry.{Entry}
-use Rattle.rv_host.specs.Pages.{Item}
 use Rattle.rv_shape.specs.Catalogue.{all_tasks, first_task}
 use Rattle.rv_shape.specs.Shape.{Shape}
-use Rattle.rv_tally.specs.Tallying.{IsTally, Notes, added, adder, entries_of, is_in, is_task_of, more_of, most_actors, task_count, times}
+use Rattle.rv_tally.specs.Tallying.{IsTally, Notes, added, adder, is_in, is_task_of, more_of, most_actors, task_count, times}
 
 -- one where a test holds
 abbrev bit : Bool → ℕ
@@ -53,59 +51,8 @@ notes_one counts actor count within is = record { counts = λ other lt. by other
         let f : actor ≢ other = λ d. e (sym d) in
         get_or-set_other counts actor other count 0 e ∙ sym (if_other actor other (slice_index counts other) f)
 
--- an entry more behind others
-times_more : (actor : ℕ) (before : List Entry) (entry : Entry) → length before < 2 ^ 64 - 1
-    → more_of (adder entry) actor (times actor before) ≡ times actor (before ++ entry ∷ [])
-times_more actor before entry few =
-    let one : times actor (entry ∷ []) ≡ bit (adder entry == actor) + 0 = sum_by-cons (λ e. bit (adder e == actor)) entry [] in
-    let all : times actor (before ++ entry ∷ []) ≡ times actor before + times actor (entry ∷ []) =
-    sum_by-append (λ e. bit (adder e == actor)) before (entry ∷ []) in
-    by (adder entry == actor) refl ∙ sym (all ∙ ap (λ (n : ℕ). times actor before + n) one)
-  where
-    by : (t : Bool) → (adder entry == actor) ≡ t
-        → more_of (adder entry) actor (times actor before) ≡ times actor before + (bit (adder entry == actor) + 0)
-    by true same =
-        let le : times actor before ≤ length before = count_by-le-length (λ e. adder e == actor) before in
-        let one : bit (adder entry == actor) ≡ 1 = ap bit same in
-        if_same (adder entry) actor (times actor before) true same refl ∙ omega (arith, le, few, one)
-    by false other =
-        let none : bit (adder entry == actor) ≡ 0 = ap bit other in
-        ap (λ (t : Bool). if t then min (times actor before + 1) (2 ^ 64 - 1) else times actor before) other ∙ omega (arith, none)
-
-pub tally_more : (before : List Entry) (entry : Entry) (old new : List ℕ) → length before < 2 ^ 64 - 1 → IsTally before old
-    → Notes old (adder entry) new → IsTally (before ++ entry ∷ []) new
-tally_more before entry old new few t n = record {
-  counted = λ actor lt. n.counts actor lt ∙ ap (more_of (adder entry) actor) (t.counted actor lt) ∙ times_more actor before entry few;
-}
-
 pub tally_none : IsTally [] (replicate 75 0)
 tally_none = record { counted = λ actor lt. get_or-replicate 75 actor 0 0 lt }
-
--- the entries of a page
-pub page_none : (before : List Entry) (items : List Item) (counts : List ℕ) → IsTally before counts
-    → IsTally (before ++ entries_of (take 0 items)) counts
-page_none before items counts t = subst (λ (es : List Entry). IsTally es counts) (sym (append-nil before)) t
-
-pub page_whole : (before : List Entry) (items : List Item) (place : ℕ) (counts : List ℕ) → length items ≤ place
-    → IsTally (before ++ entries_of (take place items)) counts → IsTally (before ++ entries_of items) counts
-page_whole before items place counts end t =
-    subst (λ (is : List Item). IsTally (before ++ entries_of is) counts) (take_all place items end) t
-
-pub page_more : (before : List Entry) (items : List Item) (place : ℕ) (item : Item) (old new : List ℕ) → place < length items
-    → item ≡ get_or items place item → length before + length items < 2 ^ 64
-    → IsTally (before ++ entries_of (take place items)) old → Notes old (adder item.entry) new
-    → IsTally (before ++ entries_of (take (place + 1) items)) new
-page_more before items place item old new some is few t n =
-    let front : List Entry = before ++ entries_of (take place items) in
-    let long : length front ≡ length before + place =
-    length-append before (entries_of (take place items))
-    ∙ ap (λ (m : ℕ). length before + m) (length-map (take place items) (λ (i : Item). i.entry) ∙ length-take-le place items (omega (arith, some))) in
-    let more : take (place + 1) items ≡ take place items ++ item ∷ [] = take_more items place item some ∙ ap (λ (x : Item). take place items ++ x ∷ []) (sym is) in
-    let all : before ++ entries_of (take (place + 1) items) ≡ front ++ item.entry ∷ [] =
-    ap (λ (is : List Item). before ++ entries_of is) more
-    ∙ ap (λ (es : List Entry). before ++ es) (map-append (λ (i : Item). i.entry) (take place items) (item ∷ []))
-    ∙ sym (append_assoc before (entries_of (take place items)) (item.entry ∷ [])) in
-    subst (λ (es : List Entry). IsTally es new) (sym all) (tally_more front item.entry old new (omega (arith, long, some, few)) t n)
 
 -- The tasks of a unit
 

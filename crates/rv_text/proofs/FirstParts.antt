@@ -39,14 +39,6 @@ lines_last (b ∷ bs) some h = ap lines_of_parts (split_whole (λ b. eqb b 10) (
 pub words_cut : (bs : List ℕ) → position_or_len is_blank bs < length bs → words bs ≡ filter is_word (before_first is_blank bs ∷ slice_split is_blank (after_first is_blank bs))
 words_cut bs h = ap (filter is_word) (slice_split_first is_blank bs 0 h)
 
--- a blank at the front
-pub words_gap : (bs : List ℕ) → position_or_len is_blank bs < length bs → length (before_first is_blank bs) ≡ 0 → words bs ≡ words (after_first is_blank bs)
-words_gap bs h e = words_cut bs h ∙ gap (before_first is_blank bs) (slice_split is_blank (after_first is_blank bs)) e
-  where
-    gap : (x : List ℕ) (parts : List (List ℕ)) → length x ≡ 0 → filter is_word (x ∷ parts) ≡ filter is_word parts
-    gap [] parts e = refl
-    gap (x ∷ xs) parts e = absurd (omega arith)
-
 word_more : (x : List ℕ) (parts : List (List ℕ)) → 0 < length x → filter is_word (x ∷ parts) ≡ x ∷ filter is_word parts
 word_more [] parts e = absurd (omega arith)
 word_more (x ∷ xs) parts e = refl

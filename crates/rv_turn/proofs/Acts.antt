@@ -1,12 +1,12 @@
 -- What one act leaves, put together from its steps.
-use Rattle.std.proofs.Common.{◌≡◌, ℕ, zero, suc, ◌+◌, ◌-◌, ◌<◌, ◌≤◌, Bool, true, false, List, [], ◌∷◌, ◌++◌, length, Option, Some, None, sym, refl, ap, ◌∙◌, subst, inl, inr, ⊎_elim, arith, length-append, append_assoc}
+use Rattle.std.proofs.Common.{◌≡◌, ℕ, zero, suc, ◌+◌, ◌-◌, ◌<◌, ◌≤◌, Bool, true, false, List, [], ◌∷◌, ◌++◌, length, Option, Some, None, sym, refl, ap, ◌∙◌, subst, inl, inr, arith, append_assoc}
 use Rattle.rv_turn.specs.declared.view.View.{View}
-use Rattle.rv_turn.specs.Histories.{mine, Adds, StartsWith}
+use Rattle.rv_turn.specs.Histories.{mine, StartsWith}
 use Rattle.rv_turn.proofs.KeptBySteps.{mine_more, starts}
 use Rattle.atomic_table.specs.Table.{Me, Final, Seen, opening}
 use Rattle.atomic_table.specs.Seated.{TableId}
 use Rattle.rv_turn.specs.Views.{queued, turned, grown, served, opening_view, spare}
-use Rattle.rv_turn.specs.Acts.{ActedAt, Holds, Changes, Releases}
+use Rattle.rv_turn.specs.Acts.{ActedAt, Holds, Releases}
 use Rattle.rv_turn.specs.Passes.{Acted, known_of}
 use Rattle.rv_turn.specs.Rules.{Kept, TookTurn, acts_left}
 use mathlib.Core.Option.{some, some-injective, some-ne-none}
@@ -59,15 +59,6 @@ module _ {E A Q R : Type 0} (by : E → ℕ) (answers : A → List E → ℕ →
     some_left = some_left;
     same = λ i. record { turn = here i; actor = a.same.0 i; left = n - 1; first = a.same.1 i; seen = w.seen; own = w.own; base = a.same.2 i; given = a.same.3 i; about = a.same.4 i };
   }
-
--- an act of as many entries as before left the history as it was
-pub none_added : {E : Type 0} (by : E → ℕ) (a : ℕ) (before after : List E) → Adds by before a after → length after ≡ length before → after ≡ before
-none_added by a before after adds same = ⊎_elim (λ is. is) (λ more. absurd (omega (arith, ap length more.1, length-append before (more.0 ∷ [])))) adds
-
--- the change of the history, as its length tells it
-pub change_of : {E A : Type 0} (by : E → ℕ) (v : View E A) (after : List E) (more : Bool) → Adds by v.seen v.actor after → (more ≡ true → length after ≡ length v.seen → ⊥) → (more ≡ false → length after ≡ length v.seen) → Changes by v after more
-change_of by v after true adds other same = ⊎_elim (λ is. absurd (other refl (ap length is))) (λ m. m) adds
-change_of by v after false adds other same = none_added by v.actor v.seen after adds (same refl)
 
 abbrev pick : {C : Type 0} → C → List (ℕ × Option C) → C
 pick d [] = d

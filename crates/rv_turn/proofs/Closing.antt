@@ -18,20 +18,6 @@ each_front f Q (x ∷ xs) ys e = (e.0, each_front f Q xs ys e.1)
 pub each_given : {A B : Type 0} (f : A → B) (Q : B → Type 0) (xs : List A) (ys zs : List B) → zs ≡ map f xs ++ ys → Each Q zs → Each (λ x. Q (f x)) xs
 each_given f Q xs ys zs is e = each_front f Q xs ys (subst (λ l. Each Q l) is e)
 
--- one more is taken in, from the back
-pub took_more : {A B : Type 0} (f : A → B) (xs old : List A) (x : A) (kept : List B) → old ≡ xs ++ x ∷ [] → map f xs ++ (f x ∷ kept) ≡ map f old ++ kept
-took_more f xs old x kept is = at xs ∙ ap (λ l. map f l ++ kept) (sym is) where
-  at : (xs : List _) → map f xs ++ (f x ∷ kept) ≡ map f (xs ++ x ∷ []) ++ kept
-  at [] = refl
-  at (y ∷ ys) = ap (λ l. f y ∷ l) (at ys)
-
--- a fact of each holds of the last, and of those before it
-pub each_last : {A : Type 0} (P : A → Type 0) (xs old : List A) (x : A) → old ≡ xs ++ x ∷ [] → Each P old → Each P xs × P x
-each_last P xs old x is e = at xs (subst (Each P) is e) where
-  at : (xs : List _) → Each P (xs ++ x ∷ []) → Each P xs × P x
-  at [] e = (tt, e.0)
-  at (y ∷ ys) e = let t = at ys e.1 in ((e.0, t.0), t.1)
-
 module _ {C E A : Type 0} (history : C → List E) (about : C → A) (by : E → ℕ) where
   -- the first pass in the value that it took out
   pub closed_first : (turn : TableId) (v : View E A) (n : ℕ) (p : Known E A) (x : C) (m : Me (Option C) (View E A)) → known_of turn v n ≡ p → Holds history about by v x m → StandsIn by (history x) p

@@ -1,5 +1,5 @@
 -- What the tests need of lists of passes.
-use Rattle.std.proofs.Common.{ℕ, ◌+◌, ◌≤◌, List, [], ◌∷◌, ◌++◌, ⊎_elim, arith}
+use Rattle.std.proofs.Common.{ℕ, ◌+◌, ◌≤◌, List, [], ◌∷◌, ⊎_elim, arith}
 use Rattle.rv_turn.specs.Histories.{Has, Each}
 
 -- a number above all of a list doesn't stand in it
@@ -11,8 +11,3 @@ not_among n (x ∷ xs) e h = ⊎_elim (λ is. let le = e.0 in absurd (omega (ari
 pub each_below : (n : ℕ) (l : List ℕ) → Each (λ a. a ≤ n) l → Each (λ a. a ≤ n + 1) l
 each_below n [] e = tt
 each_below n (x ∷ xs) e = (let le = e.0 in omega (arith, le), each_below n xs e.1)
-
--- a fact of each, with one element more
-pub each_more : {X : Type 0} (P : X → Type 0) (xs : List X) (x : X) → Each P xs → P x → Each P (xs ++ x ∷ [])
-each_more P [] x e p = (p, tt)
-each_more P (y ∷ ys) x e p = (e.0, each_more P ys x e.1 p)

@@ -1,5 +1,5 @@
 -- What sections give, one after another.
-use Rattle.std.proofs.Common.{◌≡◌, ℕ, List, [], ◌∷◌, ◌++◌, Some, None, Option, Ok, Err, Result, true, false, refl, sym, ap, subst, inl, inr}
+use Rattle.std.proofs.Common.{◌≡◌, ℕ, List, [], ◌∷◌, ◌++◌, Some, None, Option, Ok, Err, Result, refl, sym, ap, subst, inl, inr}
 use Rattle.std.specs.Prelude.{Bool, OnOk}
 use Rattle.rv_text.specs.Sections.{SectionText}
 use Rattle.rv_shape.specs.Shape.{Shape}
@@ -7,7 +7,6 @@ use Rattle.rv_shape.specs.Fits.{fault}
 use Rattle.rv_shape.specs.declared.fault.ShapeFault.{ShapeFault}
 use Rattle.rv_shape.specs.declared.fault.ShapeFault.TheVariants.{NoMemory}
 use Rattle.rv_code.specs.declared.unit.Unit.{Unit as Compiled}
-use Rattle.rv_script.specs.Openings.{opening_of}
 use Rattle.rv_script.specs.UnitTexts.{without_returns}
 use Rattle.rv_script.specs.declared.opening.Opening.{Opening}
 use Rattle.rv_script.specs.declared.opening.Opening.TheVariants as Openings
@@ -15,7 +14,7 @@ use Rattle.rv_fault.specs.declared.fault.ScriptFault.{ScriptFault}
 use Rattle.rv_fault.specs.declared.failure.Failure.{Failure}
 use Rattle.rv_fault.specs.declared.failure.Failure.TheVariants.{Refused, Memory, Io}
 use Rattle.rv_fault.specs.Sections.{GivesUnit, Reads}
-use Rattle.rv_verdict.specs.Given.{GivenText, Holds, Takes, TakesOne, Gathers, GivesAll, takes_in, is_journal, fits_then, nothing, with_unit}
+use Rattle.rv_verdict.specs.Given.{GivenText, Holds, Takes, TakesOne, Gathers, GivesAll, fits_then, nothing}
 
 -- Units that fit
 
@@ -41,27 +40,6 @@ pub unit_held : (line : ℕ) (fitting : List Shape) (text : List ℕ) (opening :
     → let r : Result Shape Failure = Ok unit.shape in Reads line (Holds fitting text opening) r
 unit_held line fitting text opening unit e given =
     subst (λ (o : Option Opening). let r : Result Shape Failure = Ok unit.shape in Reads line (Holds fitting text o) r) (sym e) (unit, given, refl)
-
--- a journal is taken
-pub journal_taken : (has_journal : Bool) (given : GivenText) (section : SectionText) → is_journal has_journal (opening_of section.opening) ≡ true → Takes has_journal given section (Ok (record given { journal = section.text }))
-journal_taken has_journal given section e = subst (λ (b : Bool). takes_in b given section (Ok (record given { journal = section.text }))) (sym e) refl
-
--- a unit is taken, or memory was refused
-pub unit_taken : (has_journal : Bool) (given after : GivenText) (section : SectionText) (shape : Shape) (r : Result (Unit {0}) Failure) → is_journal has_journal (opening_of section.opening) ≡ false
-    → Holds given.fitting section.text (opening_of section.opening) (Ok shape) → ((x : Unit {0}) → r ≡ Ok x → after ≡ with_unit given shape) → ((failure : Failure) → r ≡ Err failure → failure ≡ Memory) → TakesOne has_journal given after section r
-unit_taken has_journal given after section shape (Ok x) e holds ok err =
-    subst (λ (b : Bool). takes_in b given section (Ok after)) (sym e) (shape, holds, ok x refl)
-unit_taken has_journal given after section shape (Err Memory) e holds ok err = tt
-unit_taken has_journal given after section shape (Err (Refused told)) e holds ok err = let no = err (Refused told) refl in absurd cc
-unit_taken has_journal given after section shape (Err (Io error)) e holds ok err = let no = err (Io error) refl in absurd cc
-
--- what stands against a section
-pub unit_untaken : (has_journal : Bool) (given after : GivenText) (section : SectionText) (failure : Failure) → is_journal has_journal (opening_of section.opening) ≡ false
-    → (let read : Result Shape Failure = Err failure in Reads section.line (Holds given.fitting section.text (opening_of section.opening)) read) → let r : Result (Unit {0}) Failure = Err failure in TakesOne has_journal given after section r
-unit_untaken has_journal given after section Memory e h = tt
-unit_untaken has_journal given after section (Io error) e h = absurd h
-unit_untaken has_journal given after section (Refused told) e h =
-    (subst (λ (b : Bool). takes_in b given section (Err told.what)) (sym e) h.0, h.1)
 
 -- All sections
 
