@@ -41,6 +41,7 @@ use Rattle.rv_meant.specs.Settles.{is_settle}
 use Rattle.rv_meant.proofs.Settles.{ask_is, none_asked}
 use Rattle.rv_accounts.proofs.Giving.{resumes_give}
 use Rattle.rv_accounts.proofs.Queued.{own_asks, quiet}
+use Rattle.rv_behind.specs.Events.{first_or, rest_of}
 
 -- Stances
 
@@ -164,20 +165,12 @@ no_last : {X : Type 0} (xs : List X) (x : X) → [] ≡ xs ++ x ∷ [] → ⊥
 no_last [] x e = cc e
 no_last (y ∷ xs) x e = cc e
 
-head_or : {X : Type 0} → X → List X → X
-head_or x [] = x
-head_or x (y ∷ ys) = y
-
-tail_of : {X : Type 0} → List X → List X
-tail_of [] = []
-tail_of (y ∷ ys) = ys
-
 last_same : {X : Type 0} (xs ys : List X) (x y : X) → xs ++ x ∷ [] ≡ ys ++ y ∷ [] → x ≡ y
-unfolding head_or tail_of
-last_same [] [] x y e = ap (head_or x) e
-last_same [] (z ∷ ys) x y e = absurd (no_last ys y (ap tail_of e))
-last_same (z ∷ xs) [] x y e = absurd (no_last xs x (sym (ap tail_of e)))
-last_same (z ∷ xs) (w ∷ ys) x y e = last_same xs ys x y (ap tail_of e)
+unfolding first_or rest_of
+last_same [] [] x y e = ap (first_or x) e
+last_same [] (z ∷ ys) x y e = absurd (no_last ys y (ap rest_of e))
+last_same (z ∷ xs) [] x y e = absurd (no_last xs x (sym (ap rest_of e)))
+last_same (z ∷ xs) (w ∷ ys) x y e = last_same xs ys x y (ap rest_of e)
 
 -- its entry, the newest of its own that is no settle
 record LastOwn (a : ℕ) (past : List Entry) (q : Request) (r : Answer) : Type 0 where

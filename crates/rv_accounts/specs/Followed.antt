@@ -7,14 +7,13 @@ use Rattle.rv_event.specs.declared.entry.Exit.{Exit}
 use Rattle.rv_event.specs.declared.entry.Request.{Request}
 use Rattle.rv_exec.specs.Asking.{Trace, Along}
 use Rattle.rv_exec.specs.Bodies.{task_of}
-use Rattle.rv_exec.specs.Stops.{is_final}
+use Rattle.rv_exec.specs.Stops.{is_final, stops_bodies}
 use Rattle.rv_exec.specs.Tasks.{task_run}
 use Rattle.rv_history.specs.declared.limits.Limits.{Limits}
 use Rattle.rv_history.specs.Due.{out}
 use Rattle.rv_history.specs.Legal.{Legal}
 use Rattle.rv_turn.specs.Histories.{StartsWith, mine}
 use Rattle.rv_meant.specs.Asks.{recorded_of}
-use Rattle.rv_meant.specs.Explained.{stops_bodies}
 use Rattle.rv_behind.specs.Acting.{BodiesFit}
 use Rattle.rv_behind.specs.Events.{by, bodies_at, history_at}
 use Rattle.rv_behind.specs.declared.event.Event.{Event}

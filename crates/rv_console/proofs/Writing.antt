@@ -2,13 +2,11 @@
 use Rattle.std.proofs.Common.{ℕ, inr, List, Ok, Err}
 use Rattle.std.specs.Prelude.{Result}
 use Rattle.rv_behind.specs.Acting.{Does}
-use Rattle.rv_behind.specs.Events.{by, catalogue_of}
+use Rattle.rv_behind.specs.Events.{by}
 use Rattle.rv_behind.specs.declared.event.Ask.{Ask}
 use Rattle.rv_behind.specs.declared.event.Reply.TheVariants as Gives
-use Rattle.rv_host.specs.Pages.{Item}
-use Rattle.rv_keep.specs.PageText.{page_text}
 use Rattle.rv_port.specs.Traces.{Passing}
-use Rattle.rv_shell.specs.Serving.{ReadsOrWorn, Writes, Written}
+use Rattle.rv_shell.specs.Serving.{Writes, Written}
 use Rattle.rv_shell.specs.declared.shell.LineFault.{LineFault}
 use Rattle.rv_shell.specs.declared.shell.LineFault.TheVariants.{NoMemory, Write, Worn}
 use Rattle.rv_shell.specs.declared.shell.Next.{Next}
@@ -22,10 +20,3 @@ shows_by text old new v w view (Ok next) told written = record { view = view; to
 shows_by text old new v w view (Err (Write error)) told written = record { view = view; told = told; written = written }
 shows_by text old new v w view (Err NoMemory) told written = inr record { view = view; told = told; written = written }
 shows_by text old new v w view (Err Worn) told written = absurd written
-
-pub reads_by : (old new : Written) (v w : Passing) (from : ℕ) (page : List Item) (result : Result Next LineFault)
-    → Acted by Does v (Ask.Read from) (Gives.Read page) w → Writes old new (page_text (catalogue_of w.seen) from page) result → ReadsOrWorn old new v w from result
-reads_by old new v w from page (Ok next) told written = record { page = page; told = told; written = written }
-reads_by old new v w from page (Err (Write error)) told written = record { page = page; told = told; written = written }
-reads_by old new v w from page (Err NoMemory) told written = inr record { page = page; told = told; written = written }
-reads_by old new v w from page (Err Worn) told written = absurd written

@@ -21,9 +21,11 @@ use Rattle.rv_history.specs.Steps.{MayLackMemory}
 use Rattle.rv_history.specs.declared.limits.Limits.{Limits}
 use Rattle.rv_ends.specs.Afoot.{Afoot, AreAfoot, answered, open_view}
 use Rattle.rv_ends.specs.Ends.{AllStopped, IsWhole, afoot_of, left_stops, of_others, texts_after}
-use Rattle.rv_ends.specs.Explained.{IsFront, IsStopped, is_stop, unwinds, leaves_open}
+use Rattle.rv_ends.specs.Explained.{IsFront, IsStopped, unwinds, leaves_open}
 use Rattle.rv_ends.specs.declared.ends.Ends.{Ends}
 use Rattle.rv_ends.specs.declared.ends.Stop.{Stop}
+use Rattle.rv_exec.specs.Stops.{stops_bodies}
+use Rattle.rv_exec.proofs.Finals.{stop_none}
 
 -- One more entry
 
@@ -190,7 +192,7 @@ whole_by_list e n list answer w host afoot_is stops_is = by_test (is_some (recor
 
 -- Stops
 
-pub stopped_here : (h : History) (actor : ℕ) (ask : Request) → Legal h → is_settling (mode h.shapes actor h.past) ≡ false → is_stop (out h actor ask) ≡ true → IsStopped h actor ask
+pub stopped_here : (h : History) (actor : ℕ) (ask : Request) → Legal h → is_settling (mode h.shapes actor h.past) ≡ false → stops_bodies (out h actor ask) ≡ true → IsStopped h actor ask
 stopped_here h actor ask legal settled is = record {
   front = h;
   later = [];
@@ -206,29 +208,10 @@ stopped_here h actor ask legal settled is = record {
   stops = is;
 }
 
--- behind such an answer nothing is recorded
-unrecorded : (a : Answer) → is_stop a ≡ true → recorded a ≡ None
-unrecorded (answers.Started x) e = absurd cc
-unrecorded answers.Queued e = absurd cc
-unrecorded (answers.Refused x y z) e = absurd cc
-unrecorded (answers.Done x) e = absurd cc
-unrecorded answers.Suspended e = absurd cc
-unrecorded answers.Delayed e = absurd cc
-unrecorded (answers.Woken x) e = absurd cc
-unrecorded (answers.Accepted x) e = absurd cc
-unrecorded answers.Misuse e = refl
-unrecorded answers.Halted e = refl
-unrecorded answers.Full e = refl
-unrecorded answers.Busy e = absurd cc
-unrecorded answers.Waiting e = absurd cc
-unrecorded answers.Unattached e = absurd cc
-unrecorded answers.BadLine e = absurd cc
-unrecorded answers.OutOfMemory e = absurd cc
-
-pub stopped_now : (h k : History) (actor : ℕ) (ask : Request) (answer : Answer) → Legal h → is_settling (mode h.shapes actor h.past) ≡ false → answer ≡ out h actor ask → is_stop answer ≡ true → k ≡ after h actor ask (out h actor ask) → IsStopped k actor ask
+pub stopped_now : (h k : History) (actor : ℕ) (ask : Request) (answer : Answer) → Legal h → is_settling (mode h.shapes actor h.past) ≡ false → answer ≡ out h actor ask → stops_bodies answer ≡ true → k ≡ after h actor ask (out h actor ask) → IsStopped k actor ask
 stopped_now h k actor ask answer legal settled due stops is =
-    let here : is_stop (out h actor ask) ≡ true = ap is_stop (sym due) ∙ stops in
-    let same : k ≡ h = is ∙ ap (entered h actor ask) (unrecorded (out h actor ask) here) in
+    let here : stops_bodies (out h actor ask) ≡ true = ap stops_bodies (sym due) ∙ stops in
+    let same : k ≡ h = is ∙ ap (entered h actor ask) (stop_none (out h actor ask) here) in
     subst (λ (x : History). IsStopped x actor ask) (sym same) (stopped_here h actor ask legal settled here)
 
 pub whole_stopped : (e n : Ends) (stop : Stop) → IsWhole e → IsStopped e.host stop.actor stop.ask → n.host ≡ e.host → afoot_of n ≡ afoot_of e → n.stops.items ≡ e.stops.items ++ stop ∷ [] → IsWhole n

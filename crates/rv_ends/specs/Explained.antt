@@ -7,7 +7,7 @@ use Rattle.rv_shape.specs.Catalogue.{Target, OnProtected, target}
 use Rattle.rv_code.specs.Bodies.{UnitBodies, Body}
 use Rattle.rv_event.specs.Past.{mode}
 use Rattle.rv_event.specs.declared.entry.Answer.{Answer}
-use Rattle.rv_event.specs.declared.entry.Answer.TheVariants.{Started, Done, Refused, Full, Halted, Misuse}
+use Rattle.rv_event.specs.declared.entry.Answer.TheVariants.{Started, Done, Refused}
 use Rattle.rv_event.specs.declared.entry.Entry.{Entry}
 use Rattle.rv_event.specs.declared.entry.Entry.TheVariants.{Asked}
 use Rattle.rv_event.specs.declared.entry.Exit.{Exit}
@@ -18,6 +18,7 @@ use Rattle.rv_event.specs.declared.entry.Rule.TheVariants.{Reentry}
 use Rattle.rv_exec.specs.Asking.{Trace, Along, stands}
 use Rattle.rv_exec.specs.Blocks.{operation_run_at}
 use Rattle.rv_exec.specs.Bodies.{operation_of}
+use Rattle.rv_exec.specs.Stops.{stops_bodies}
 use Rattle.rv_history.specs.Due.{out}
 use Rattle.rv_history.specs.Fitting.{is_settling}
 use Rattle.rv_history.specs.History.{History}
@@ -97,13 +98,6 @@ Ends bodies start trace request =
 
 -- Stops (own)
 
--- behind these answers nothing goes on
-abbrev pub is_stop : Answer → Bool
-is_stop Halted = true
-is_stop Full = true
-is_stop Misuse = true
-is_stop answer = false
-
 -- the requests by which the bodies of a stopped actor end, one behind another: ends by stopped, and settles behind them
 abbrev pub unwinds : Request → Bool
 unwinds (Complete components Stopped) = true
@@ -135,7 +129,7 @@ pub record IsStopped (h : History) (actor : ℕ) (other : Request) : Type 0 wher
   pub is_front : IsFront front h later
   pub since : AllLeaveOpen actor later
   pub settled : is_settling (mode front.shapes actor front.past) ≡ false
-  pub stops : is_stop (out front actor other) ≡ true
+  pub stops : stops_bodies (out front actor other) ≡ true
 
 -- What explains an end
 

@@ -3,6 +3,7 @@
 ghost use Rattle.std.specs.Prelude.{◌≡◌, ◌≤◌, ◌^◌, false, true, Some, IfOk, OnOk};
 ghost use Rattle.rv_code.specs.BodyView.{unit_view};
 ghost use Rattle.rv_exec.specs.Bodies.{no_bodies};
+ghost use Rattle.rv_exec.specs.Stops.{stops_bodies};
 ghost use Rattle.rv_event.specs.Past.{mode};
 ghost use Rattle.rv_history.specs.Due.{out};
 ghost use Rattle.rv_history.specs.Fitting.{is_settling};
@@ -13,7 +14,7 @@ ghost use Rattle.rv_history.specs.Owed.{IsSolvent};
 ghost use Rattle.rv_history.specs.Steps.{MayLackMemory};
 ghost use Rattle.rv_history.specs.History.{History};
 ghost use Rattle.rv_ends.specs.Ends.{AllStopped, IsFoundStop, IsMeaning, IsWhole, afoot_of, history_of, is_settled, left_stops, of_others, texts_after, texts_of};
-ghost use Rattle.rv_ends.specs.Explained.{IsStopped, is_stop, unwinds};
+ghost use Rattle.rv_ends.specs.Explained.{IsStopped, unwinds};
 
 use crate::afoot::{OpenBody, QueuedCall};
 use crate::answered::{begin, close, hear_all, innermost, queue, started};
@@ -50,8 +51,8 @@ pub struct Ends {
 }
 
 // Whether behind such an answer nothing goes on.
-fn is_stop(answer: &Answer) -> bool
-    ensures { result ≡ is_stop answer.now }
+fn stops_bodies(answer: &Answer) -> bool
+    ensures { result ≡ stops_bodies answer.now }
 {
     match answer {
         Answer::Halted | Answer::Full | Answer::Misuse => true,
@@ -281,7 +282,7 @@ impl Ends {
             return Ok(false);
         }
         let answer = self.ask(actor, ask)?;
-        if !is_stop(&answer) {
+        if !stops_bodies(&answer) {
             return Ok(false);
         }
         self.keep_stop(actor, ask)?;

@@ -13,4 +13,5 @@ pub mod KeptValues
 pub mod KeptStatements
 pub mod KeptBodies
 pub mod Stopping
+pub mod Finals
 pub mod StoppedBodies

@@ -24,6 +24,13 @@ is_final answer.Halted = true
 is_final answer.Full = true
 is_final other = false
 
+-- the answers behind which no body goes on: the host is halted, has no room, or the request doesn't fit
+abbrev pub stops_bodies : Answer → Bool
+stops_bodies answer.Halted = true
+stops_bodies answer.Full = true
+stops_bodies answer.Misuse = true
+stops_bodies other = false
+
 abbrev pub is_stopped : Asked → Bool
 is_stopped (asked.Abandoned (cause.Stopped is_idle)) = true
 is_stopped other = false

@@ -13,17 +13,17 @@ use Rattle.rv_fault.specs.declared.fault.ScriptFault.{ScriptFault}
 use Rattle.rv_fault.specs.Faults.{of_bytes}
 use Rattle.rv_fault.specs.Written.{Outcome, Writes, WritesScript}
 
-not_both : (bytes : List ℕ) (error : TextError) → IsScript bytes → IsRefused bytes error → ⊥
+pub not_both : (bytes : List ℕ) (error : TextError) → IsScript bytes → IsRefused bytes error → ⊥
 not_both bytes TooLong script refused = let short = script.short in absurd (omega arith)
 not_both bytes NotText script refused = refused.1 script.text
 
 -- it is too long where more was asked for than a script may have
-still_long : (bytes script : List ℕ) → bytes ≡ take 16777217 script → 16777216 < length script → 16777216 < length bytes
+pub still_long : (bytes script : List ℕ) → bytes ≡ take 16777217 script → 16777216 < length script → 16777216 < length bytes
 still_long bytes script e long =
     let same : length bytes ≡ min 16777217 (length script) = ap length e ∙ length-take 16777217 script in
     omega arith
 
-refused_read : (bytes script : List ℕ) (error : TextError) → bytes ≡ take 16777217 script → IsRefused script error → IsRefused bytes error
+pub refused_read : (bytes script : List ℕ) (error : TextError) → bytes ≡ take 16777217 script → IsRefused script error → IsRefused bytes error
 refused_read bytes script TooLong e refused = still_long bytes script e refused
 refused_read bytes script NotText e refused =
     subst (λ (l : List ℕ). IsRefused l NotText) (sym (e ∙ take_all 16777217 script (omega (arith, refused.0)))) refused
@@ -45,7 +45,7 @@ script_read old new None outcome bytes r e written = tt
 script_read old new (Some script) outcome bytes r e written = written_read old new outcome bytes script r e written
 
 -- bytes are refused for one reason
-same_reason : (bytes : List ℕ) (error told : TextError) → IsRefused bytes told → IsRefused bytes error → error ≡ told
+pub same_reason : (bytes : List ℕ) (error told : TextError) → IsRefused bytes told → IsRefused bytes error → error ≡ told
 same_reason bytes TooLong TooLong x y = refl
 same_reason bytes NotText NotText x y = refl
 same_reason bytes TooLong NotText x y = let few = x.0 in absurd (omega (arith, y))
@@ -58,7 +58,7 @@ script_written old new outcome bytes text r is written =
       refused = λ error refused. absurd (not_both bytes error is.1 refused);
     }
 
-abbrev fault_of : TextError → ScriptFault
+abbrev pub fault_of : TextError → ScriptFault
 fault_of error = record { line = 1; what = of_bytes error }
 
 pub script_refused : (old : Option (List ℕ)) (outcome : List ℕ → Outcome) (bytes : List ℕ) (told : TextError) (failure : Failure) → IsRefused bytes told → failure ≡ Refused (fault_of told) → WritesScript old old outcome bytes (Err failure)

@@ -17,6 +17,12 @@ Known = Option (List ℕ)
 abbrev pub Ended : Type 0
 Ended = Result (Unit {0}) Failure
 
+-- nothing that the script is refused for: memory or a call failed
+abbrev pub IsNoFault : Failure → Type 0
+IsNoFault (Refused told) = ⊥
+IsNoFault Memory = Unit {0}
+IsNoFault (Io error) = Unit {0}
+
 -- a text is written, or, where memory or a write failed, a prefix of it
 abbrev pub Puts : Known → Known → List ℕ → Ended → Type 0
 Puts old new text (Ok x) = Appends old new text

@@ -7,6 +7,7 @@ use Rattle.rv_shape.specs.Catalogue.{target, shares}
 use Rattle.rv_event.specs.Past.{begun, without, left}
 use Rattle.rv_event.specs.declared.entry.Body.{Body}
 use Rattle.rv_event.proofs.Matching.{by}
+use Rattle.rv_event.proofs.Unnamed.{filter_append}
 use Rattle.rv_history.specs.Exclusion.{conflicts}
 use Rattle.rv_history.specs.Orderly.{is_on, is_exclusive_on, IsShared, IsProtected, Each}
 use Rattle.rv_history.proofs.Answered.{and_true, and_false}
@@ -74,14 +75,6 @@ any_same p q (b ∷ bs) same = λ i. same b i || any_same p q bs same i
 
 pub at_most_one : (p : Body → Bool) (b : Body) (bs : List Body) → length (filter p bs) ≡ 0 → length (filter p (b ∷ bs)) ≤ 1
 at_most_one p b bs e = grind arith
-
-pub filter_append : (p : Body → Bool) (xs ys : List Body) → filter p (xs ++ ys) ≡ filter p xs ++ filter p ys
-filter_append p [] ys = refl
-filter_append p (x ∷ xs) ys = by_test (p x) (filter_append p xs ys)
-  where
-    by_test : (t : Bool) → filter p (xs ++ ys) ≡ filter p xs ++ filter p ys → cond t (x ∷ filter p (xs ++ ys)) (filter p (xs ++ ys)) ≡ cond t (x ∷ filter p xs) (filter p xs) ++ filter p ys
-    by_test true h = ap (λ zs. x ∷ zs) h
-    by_test false h = h
 
 -- the first that passes a test passes it
 head : Body → List Body → Body

@@ -27,7 +27,7 @@ no_length [] e = refl
 no_length (x ∷ xs) e = absurd (omega (arith, e))
 
 -- an end of a body that fails the test
-filter_kept : (p : Body → Bool) (a : ℕ) (c : Body) (bs : List Body) → slice_get (filter (by a) bs) 0 ≡ Some c → p c ≡ false → filter p (without a bs) ≡ filter p bs
+pub filter_kept : (p : Body → Bool) (a : ℕ) (c : Body) (bs : List Body) → slice_get (filter (by a) bs) 0 ≡ Some c → p c ≡ false → filter p (without a bs) ≡ filter p bs
 filter_kept p a c [] h e = absurd (cc)
 filter_kept p a c (x ∷ bs) h e = by_actor (x.actor == a) h (filter_kept p a c bs)
   where

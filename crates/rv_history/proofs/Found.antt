@@ -28,7 +28,7 @@ use Rattle.rv_history.proofs.Answered.{off}
 
 -- Each shape fitted when it was loaded
 
-gate_open : (fits shut : Bool) (x : Answer) → gate fits shut x ≡ nothing_more → fits ≡ true
+pub gate_open : (fits shut : Bool) (x : Answer) → gate fits shut x ≡ nothing_more → fits ≡ true
 gate_open true shut x e = refl
 gate_open false shut x e = absurd (cc)
 

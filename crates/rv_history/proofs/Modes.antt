@@ -67,7 +67,7 @@ waits_at (Some b) m e = absurd (off e)
 
 -- whom a settle fits has
 
-never_settling : (bs : List Body) (s : Stance) → is_settling (mode_by bs s) ≡ false
+pub never_settling : (bs : List Body) (s : Stance) → is_settling (mode_by bs s) ≡ false
 never_settling [] Free = refl
 never_settling (b ∷ bs) Free = refl
 never_settling bs InQueue = refl

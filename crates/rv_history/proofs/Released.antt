@@ -213,11 +213,11 @@ outcome c (Asked b r w ∷ past) shapes lists a o l at = by_tests (names a (Aske
 
 -- A Set_True since then releases it
 
-or_more : (b c : Bool) → c ≡ true → (b || c) ≡ true
+pub or_more : (b c : Bool) → c ≡ true → (b || c) ≡ true
 or_more true c e = refl
 or_more false c e = e
 
-set_releases : (a o : ℕ) (later : List Entry) (set : Entry) (earlier : List Entry) → list_all (is_apart a) (later ++ set ∷ []) ≡ true → touch o set ≡ Sets → released a o (later ++ set ∷ earlier) ≡ true
+pub set_releases : (a o : ℕ) (later : List Entry) (set : Entry) (earlier : List Entry) → list_all (is_apart a) (later ++ set ∷ []) ≡ true → touch o set ≡ Sets → released a o (later ++ set ∷ earlier) ≡ true
 set_releases a o [] set earlier silent sets =
     released_more a o set earlier (all_parts (is_apart a) set [] silent).0 ∙ ap (λ t. is_set t || released a o earlier) sets
 set_releases a o (e ∷ later) set earlier silent sets =

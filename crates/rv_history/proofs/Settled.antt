@@ -20,6 +20,7 @@ use Rattle.rv_event.specs.declared.entry.Request.{Request}
 use Rattle.rv_event.specs.declared.entry.Request.TheVariants.{Call, Complete, Settle, Resume, DelayUntil, Clock, Fire, Quit, Tick, Halt}
 use Rattle.rv_event.specs.declared.entry.Recorded.{Recorded}
 use Rattle.rv_event.specs.declared.entry.Recorded.TheVariants.{Started, Queued, Done}
+use Rattle.rv_event.proofs.Unnamed.{filter_append}
 use Rattle.rv_shape.proofs.Stay.{object_stays}
 use Rattle.rv_history.specs.declared.limits.Limits.{Limits}
 use Rattle.rv_history.specs.History.{History}
@@ -34,7 +35,7 @@ use Rattle.rv_history.proofs.Answered.{off, and_false}
 use Rattle.rv_history.proofs.Loaded.{left_stays, way_stays, scalars_stay, protected_place}
 use Rattle.rv_history.proofs.Stances.{itself, same_number}
 use Rattle.rv_history.proofs.Waits.{joins, Waits}
-use Rattle.rv_history.proofs.Bodies.{any_kept, count_left, each_filter, exclusive_more, filter_append}
+use Rattle.rv_history.proofs.Bodies.{any_kept, count_left, each_filter, exclusive_more}
 use Rattle.rv_history.proofs.Ending.{Ends, Settling, ends, settling, head_waits, head_on}
 use Rattle.rv_history.proofs.Serving.{drop_leaves, left_then, other_left}
 use Rattle.rv_history.proofs.Standing.{Standing, legal_standing, queue_served}

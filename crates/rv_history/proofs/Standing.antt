@@ -21,6 +21,7 @@ use Rattle.rv_event.specs.declared.entry.Recorded.TheVariants.{Started, Queued, 
 use Rattle.rv_event.specs.declared.entry.Stance.{Stance}
 use Rattle.rv_event.specs.declared.entry.Stance.TheVariants.{Free, InQueue, HandedOver, DroppedBy}
 use Rattle.rv_event.proofs.Matching.{by}
+use Rattle.rv_event.proofs.Unnamed.{filter_append}
 use Rattle.rv_history.specs.declared.limits.Limits.{Limits}
 use Rattle.rv_history.specs.Due.{out}
 use Rattle.rv_history.specs.Fitting.{end_fits, in_body}
@@ -29,7 +30,7 @@ use Rattle.rv_history.specs.Legal.{IsLegal}
 use Rattle.rv_history.specs.Orderly.{Each, is_on}
 use Rattle.rv_history.specs.Owed.{actors}
 use Rattle.rv_history.proofs.Answered.{off, both, Answered, answered}
-use Rattle.rv_history.proofs.Bodies.{count_filter, count_left, each_begun, each_both, each_first, each_map, each_other, each_without, filter_append, filter_swap}
+use Rattle.rv_history.proofs.Bodies.{count_filter, count_left, each_begun, each_both, each_first, each_map, each_other, each_without, filter_swap}
 use Rattle.rv_history.proofs.Ending.{head_waits, names_at}
 use Rattle.rv_history.proofs.Loaded.{left_stays, way_stays}
 use Rattle.rv_history.proofs.Modes.{ends_at, free_in, settler_free}

@@ -60,7 +60,7 @@ legal_after (Commands.Ask actor request) h legal = legal_request (recorded (out 
 legal_after (Commands.Load shape) h legal = legal_load (is_some (recorded (out_load h shape))) h shape refl legal
 legal_after (Commands.Change change) h legal = legal_list (changed (force h) change) (is_some (recorded (out_list h (changed (force h) change)))) h refl legal
 
-is_due : (c : Command) (h : History) → IsAnswer h c (due_command h c)
+pub is_due : (c : Command) (h : History) → IsAnswer h c (due_command h c)
 is_due (Commands.Ask actor request) h = refl
 is_due (Commands.Load shape) h = inl refl
 is_due (Commands.Change change) h = inl refl

@@ -17,6 +17,7 @@ use Rattle.rv_event.specs.declared.entry.Request.{Request}
 use Rattle.rv_event.specs.declared.entry.Request.TheVariants.{Call, Complete, Settle, Resume, DelayUntil, Clock, Fire, Quit, Tick, Halt}
 use Rattle.rv_event.specs.declared.entry.Recorded.{Recorded}
 use Rattle.rv_event.specs.declared.entry.Recorded.TheVariants.{Started, Queued, Refused, Done, Suspended, Delayed, Woken, Accepted}
+use Rattle.rv_event.proofs.Unnamed.{filter_append}
 use Rattle.rv_history.specs.declared.limits.Limits.{Limits}
 use Rattle.rv_history.specs.Due.{out}
 use Rattle.rv_history.specs.Exclusion.{barrier_at, opens_on}
@@ -27,7 +28,7 @@ use Rattle.rv_history.specs.Orderly.{is_on}
 use Rattle.rv_history.specs.Settling.{is_any}
 use Rattle.rv_history.proofs.Answered.{off}
 use Rattle.rv_history.proofs.Apart.{IsApart, held_settled, left_alone}
-use Rattle.rv_history.proofs.Bodies.{any_kept, any_less, filter_append}
+use Rattle.rv_history.proofs.Bodies.{any_kept, any_less}
 use Rattle.rv_history.proofs.Ending.{ends, head_on, names_at, settling}
 use Rattle.rv_history.proofs.Frame.{other_actor}
 use Rattle.rv_history.proofs.HandOver.{leaves}

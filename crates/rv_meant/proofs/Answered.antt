@@ -73,43 +73,31 @@ plain_held n answer.Unattached e = refl
 plain_held n answer.BadLine e = refl
 plain_held n answer.OutOfMemory e = refl
 
+-- what is so of the answers that start a body is so of each that does
+pub by_start : (P : Answer → Type 0) → ((s : List ℤ) → P (answer.Started s)) → ((s : List ℤ) → P (answer.Woken (Some s))) → (r : Answer) → is_start r ≡ true → P r
+by_start P at_once later (answer.Started s) e = at_once s
+by_start P at_once later (answer.Woken (Some s)) e = later s
+by_start P at_once later (answer.Woken None) e = no_more e
+by_start P at_once later (answer.Done next) e = no_more e
+by_start P at_once later answer.Queued e = no_more e
+by_start P at_once later (answer.Refused rule line version) e = no_more e
+by_start P at_once later answer.Suspended e = no_more e
+by_start P at_once later answer.Delayed e = no_more e
+by_start P at_once later (answer.Accepted value) e = no_more e
+by_start P at_once later answer.Halted e = no_more e
+by_start P at_once later answer.Full e = no_more e
+by_start P at_once later answer.Busy e = no_more e
+by_start P at_once later answer.Waiting e = no_more e
+by_start P at_once later answer.Misuse e = no_more e
+by_start P at_once later answer.Unattached e = no_more e
+by_start P at_once later answer.BadLine e = no_more e
+by_start P at_once later answer.OutOfMemory e = no_more e
+
 start_held : (n : ℕ) (r : Answer) → is_start r ≡ true → held_after n r ≡ suc n
-start_held n (answer.Started s) e = refl
-start_held n (answer.Woken None) e = no_more e
-start_held n (answer.Woken (Some s)) e = refl
-start_held n (answer.Done next) e = no_more e
-start_held n answer.Queued e = no_more e
-start_held n (answer.Refused rule line version) e = no_more e
-start_held n answer.Suspended e = no_more e
-start_held n answer.Delayed e = no_more e
-start_held n (answer.Accepted value) e = no_more e
-start_held n answer.Halted e = no_more e
-start_held n answer.Full e = no_more e
-start_held n answer.Busy e = no_more e
-start_held n answer.Waiting e = no_more e
-start_held n answer.Misuse e = no_more e
-start_held n answer.Unattached e = no_more e
-start_held n answer.BadLine e = no_more e
-start_held n answer.OutOfMemory e = no_more e
+start_held n = by_start (λ (r : Answer). held_after n r ≡ suc n) (λ s. refl) (λ s. refl)
 
 start_recorded : (r : Answer) → is_start r ≡ true → is_some (recorded r) ≡ true
-start_recorded (answer.Started s) e = refl
-start_recorded (answer.Woken None) e = refl
-start_recorded (answer.Woken (Some s)) e = refl
-start_recorded (answer.Done next) e = refl
-start_recorded answer.Queued e = refl
-start_recorded (answer.Refused rule line version) e = refl
-start_recorded answer.Suspended e = refl
-start_recorded answer.Delayed e = refl
-start_recorded (answer.Accepted value) e = refl
-start_recorded answer.Halted e = no_more e
-start_recorded answer.Full e = no_more e
-start_recorded answer.Busy e = no_more e
-start_recorded answer.Waiting e = no_more e
-start_recorded answer.Misuse e = no_more e
-start_recorded answer.Unattached e = no_more e
-start_recorded answer.BadLine e = no_more e
-start_recorded answer.OutOfMemory e = no_more e
+start_recorded = by_start (λ (r : Answer). is_some (recorded r) ≡ true) (λ s. refl) (λ s. refl)
 
 final_plain : (r : Answer) → is_final r ≡ true → is_plain r ≡ true
 final_plain answer.Halted e = refl
@@ -522,22 +510,8 @@ started_protected callee.DelayUntil components e = no_more e
 started_protected callee.Clock components e = no_more e
 
 begun_protected : (c : Callee) (r : Answer) → begins_at_once (replied c r) ≡ true → is_protected c ≡ true
-begun_protected c (answer.Started s) e = started_protected c s e
-begun_protected c answer.Queued e = no_more (sym (queued_begins c) ∙ e)
-begun_protected c (answer.Refused rule line version) e = no_more (sym (refused_begins (can_refuse c rule) rule) ∙ e)
-begun_protected c answer.Suspended e = no_more (sym (suspended_begins c) ∙ e)
-begun_protected c answer.Delayed e = no_more (sym (delayed_begins c) ∙ e)
-begun_protected c (answer.Accepted value) e = no_more (sym (accepted_begins c value) ∙ e)
-begun_protected c (answer.Woken s) e = no_more e
-begun_protected c (answer.Done next) e = no_more e
-begun_protected c answer.Halted e = no_more e
-begun_protected c answer.Full e = no_more e
-begun_protected c answer.Busy e = no_more e
-begun_protected c answer.Waiting e = no_more e
-begun_protected c answer.Misuse e = no_more e
-begun_protected c answer.Unattached e = no_more e
-begun_protected c answer.BadLine e = no_more e
-begun_protected c answer.OutOfMemory e = no_more e
+begun_protected c r e =
+    by_start (λ (r : Answer). begins_at_once (replied c r) ≡ true → is_protected c ≡ true) (started_protected c) (λ s b. no_more b) r (begun_starts c r e) e
 
 woken_protected : (c : Callee) (components : List ℤ) → begins (woken c (Some components)) ≡ true → is_protected c ≡ true
 woken_protected (callee.Entry object operation) components e = refl
@@ -552,23 +526,8 @@ woken_protected (callee.CurrentState object) components e = no_more e
 woken_protected callee.Clock components e = no_more e
 
 resumed_protected : (c : Callee) (r : Answer) → begins (resumed c r) ≡ true → is_protected c ≡ true
-resumed_protected c (answer.Woken (Some s)) e = woken_protected c s e
-resumed_protected c (answer.Woken None) e = no_more (sym (woken_begins c) ∙ e)
-resumed_protected c (answer.Refused rule line version) e = no_more (sym (dropped_begins c rule) ∙ e)
-resumed_protected c (answer.Started s) e = no_more e
-resumed_protected c answer.Queued e = no_more e
-resumed_protected c answer.Suspended e = no_more e
-resumed_protected c answer.Delayed e = no_more e
-resumed_protected c (answer.Accepted value) e = no_more e
-resumed_protected c (answer.Done next) e = no_more e
-resumed_protected c answer.Halted e = no_more e
-resumed_protected c answer.Full e = no_more e
-resumed_protected c answer.Busy e = no_more e
-resumed_protected c answer.Waiting e = no_more e
-resumed_protected c answer.Misuse e = no_more e
-resumed_protected c answer.Unattached e = no_more e
-resumed_protected c answer.BadLine e = no_more e
-resumed_protected c answer.OutOfMemory e = no_more e
+resumed_protected c r e =
+    by_start (λ (r : Answer). begins (resumed c r) ≡ true → is_protected c ≡ true) (λ s b. no_more b) (woken_protected c) r (resumed_starts c r e) e
 
 resume_protected : (c : Callee) (trace : Trace) (what : Asked) → Along (asking request.Resume (λ r. ended (resumed c r))) trace what → begins what ≡ true → is_protected c ≡ true
 resume_protected c [] what h b = absurd h

@@ -15,14 +15,15 @@ use Rattle.rv_code.specs.Bodies.{UnitBodies}
 use Rattle.rv_fits.specs.Fits.{callee_fits}
 use Rattle.rv_fits.proofs.Keeps.{callee_keeps}
 use Rattle.rv_exec.specs.Asking.{Trace, Along}
-use Rattle.rv_exec.specs.Stops.{is_final}
+use Rattle.rv_exec.specs.Stops.{is_final, stops_bodies}
 use Rattle.rv_history.specs.Due.{out}
 use Rattle.rv_history.specs.History.{History}
 use Rattle.rv_exec.specs.Blocks.{operation_run_at}
+use Rattle.rv_exec.proofs.Finals.{final_none}
 use Rattle.rv_meant.specs.Asks.{held_after, held_behind, IsWhole, HoldsMore, AreRecorded, recorded_if, recorded_of, AreStoppedEnds, IsCutOff, IsCourse}
 use Rattle.rv_meant.specs.Nested.{by_stopped, Strays, ClosesBody, IsLeftInside}
 use Rattle.rv_meant.specs.Histories.{asks_of, without_last}
-use Rattle.rv_meant.specs.Explained.{StartsBody, stops_bodies, on_protected, Stopped, Recounts, MeantEnd}
+use Rattle.rv_meant.specs.Explained.{StartsBody, on_protected, Stopped, Recounts, MeantEnd}
 use Rattle.rv_meant.specs.Told.{HasAsked, FitBehind, InnerEndsAreExplained, OuterEndsAreExplained, TaskEndsAreExplained}
 use Rattle.rv_meant.proofs.Nesting.{Place, place_of, none_there, rest_same, held_both, recorded_both}
 use Rattle.rv_meant.proofs.NestedBodies.{bodies_nest, tasks_nest}
@@ -47,22 +48,7 @@ ends_recorded [] e = tt
 ends_recorded (pair ∷ p) e = (e.1, ends_recorded p e.2)
 
 final_unrecorded : (r : Answer) → is_final r ≡ true → is_some (recorded r) ≡ false
-final_unrecorded answer.Halted e = refl
-final_unrecorded answer.Full e = refl
-final_unrecorded (answer.Started s) e = absurd (cc e)
-final_unrecorded answer.Queued e = absurd (cc e)
-final_unrecorded (answer.Refused rule line version) e = absurd (cc e)
-final_unrecorded (answer.Done next) e = absurd (cc e)
-final_unrecorded answer.Suspended e = absurd (cc e)
-final_unrecorded answer.Delayed e = absurd (cc e)
-final_unrecorded (answer.Woken s) e = absurd (cc e)
-final_unrecorded (answer.Accepted value) e = absurd (cc e)
-final_unrecorded answer.Busy e = absurd (cc e)
-final_unrecorded answer.Waiting e = absurd (cc e)
-final_unrecorded answer.Misuse e = absurd (cc e)
-final_unrecorded answer.Unattached e = absurd (cc e)
-final_unrecorded answer.BadLine e = absurd (cc e)
-final_unrecorded answer.OutOfMemory e = absurd (cc e)
+final_unrecorded r e = ap is_some (final_none r e)
 
 unrecorded_held : (n : ℕ) (r : Answer) → is_some (recorded r) ≡ false → held_after n r ≡ n
 unrecorded_held n (answer.Started s) e = absurd (cc e)

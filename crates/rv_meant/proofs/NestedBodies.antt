@@ -163,11 +163,11 @@ course_end : (trace : Trace) (q : Request) (next : Next) (stopped : Bool) → is
 course_end trace q next true e g = cut_end trace q next e g
 course_end trace q next false e g = recorded_both trace ((q, answer.Done next) ∷ []) g (refl, tt)
 
-abbrev scalars_in : Request → List ℤ
+abbrev pub scalars_in : Request → List ℤ
 scalars_in (request.Complete scalars x) = scalars
 scalars_in other = []
 
-abbrev exit_in : Request → Exit
+abbrev pub exit_in : Request → Exit
 exit_in (request.Complete scalars x) = x
 exit_in other = exit.Stopped
 

@@ -19,7 +19,7 @@ use Rattle.rv_exec.specs.declared.end.Reply.TheVariants as reply
 use Rattle.rv_exec.specs.Asking.{Trace, ended, asking, Along}
 use Rattle.rv_exec.specs.Calls.{request_of, can_refuse, started, woken, replied, resumed, settled, asks}
 use Rattle.rv_meant.specs.Explained.{on_protected}
-use Rattle.rv_meant.proofs.Answered.{begins, begins_at_once, begun_starts, refused_waits, resumed_starts, waits}
+use Rattle.rv_meant.proofs.Answered.{begins, begins_at_once, begun_starts, refused_waits, resumed_starts, waits, by_start}
 
 no_way : {X : Type 0} → false ≡ true → X
 no_way e = absurd (cc e)
@@ -83,43 +83,18 @@ woken_call callee.Clock components e = no_way e
 -- The first answer
 
 first_start : (c : Callee) (r : Answer) → begins_at_once (replied c r) ≡ true → (s : List ℤ) × (r ≡ answer.Started s) × StartOf c (in_reply (replied c r)) s
-first_start c (answer.Started s) e = (s, refl, started_call c s e)
-first_start c answer.Queued e = no_way (begun_starts c answer.Queued e)
-first_start c (answer.Refused rule line version) e = no_way (begun_starts c (answer.Refused rule line version) e)
-first_start c answer.Suspended e = no_way (begun_starts c answer.Suspended e)
-first_start c answer.Delayed e = no_way (begun_starts c answer.Delayed e)
-first_start c (answer.Accepted value) e = no_way (begun_starts c (answer.Accepted value) e)
-first_start c (answer.Woken s) e = no_way e
-first_start c (answer.Done next) e = no_way e
-first_start c answer.Halted e = no_way e
-first_start c answer.Full e = no_way e
-first_start c answer.Busy e = no_way e
-first_start c answer.Waiting e = no_way e
-first_start c answer.Misuse e = no_way e
-first_start c answer.Unattached e = no_way e
-first_start c answer.BadLine e = no_way e
-first_start c answer.OutOfMemory e = no_way e
+first_start c r e =
+    by_start (λ (r : Answer). begins_at_once (replied c r) ≡ true → (s : List ℤ) × (r ≡ answer.Started s) × StartOf c (in_reply (replied c r)) s)
+    (λ s b. (s, refl, started_call c s b)) (λ s b. no_way b) r (begun_starts c r e) e
 
 -- The answer to a resume, and the one before it
 
 resumed_start : (c : Callee) (r : Answer) → begins (resumed c r) ≡ true → (s : List ℤ) × (r ≡ answer.Woken (Some s)) × (object : ℕ) × (operation : ℕ) × (c ≡ callee.Entry object operation) × (resumed c r ≡ asked.Started object operation false s)
-resumed_start c (answer.Woken (Some s)) e = let w = woken_call c s e in (s, refl, w.0, w.1, w.2, w.3)
-resumed_start c (answer.Woken None) e = no_way (resumed_starts c (answer.Woken None) e)
-resumed_start c (answer.Refused rule line version) e = no_way (resumed_starts c (answer.Refused rule line version) e)
-resumed_start c (answer.Started s) e = no_way e
-resumed_start c answer.Queued e = no_way e
-resumed_start c answer.Suspended e = no_way e
-resumed_start c answer.Delayed e = no_way e
-resumed_start c (answer.Accepted value) e = no_way e
-resumed_start c (answer.Done next) e = no_way e
-resumed_start c answer.Halted e = no_way e
-resumed_start c answer.Full e = no_way e
-resumed_start c answer.Busy e = no_way e
-resumed_start c answer.Waiting e = no_way e
-resumed_start c answer.Misuse e = no_way e
-resumed_start c answer.Unattached e = no_way e
-resumed_start c answer.BadLine e = no_way e
-resumed_start c answer.OutOfMemory e = no_way e
+resumed_start c r e =
+    by_start
+    (λ (r : Answer). begins (resumed c r) ≡ true
+        → (s : List ℤ) × (r ≡ answer.Woken (Some s)) × (object : ℕ) × (operation : ℕ) × (c ≡ callee.Entry object operation) × (resumed c r ≡ asked.Started object operation false s))
+    (λ s b. no_way b) (λ s b. let w = woken_call c s b in (s, refl, w.0, w.1, w.2, w.3)) r (resumed_starts c r e) e
 
 entry_waits : (object operation : ℕ) (r : Answer) → waits (replied (callee.Entry object operation) r) ≡ true → r ≡ answer.Queued
 entry_waits object operation answer.Queued e = refl

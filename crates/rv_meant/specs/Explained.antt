@@ -5,12 +5,12 @@ use Rattle.rv_shape.specs.Shape.{Shape}
 use Rattle.rv_shape.specs.Catalogue.{Target, Nowhere, OnProtected, OnSuspension, target, shares, handler}
 use Rattle.rv_code.specs.Bodies.{UnitBodies}
 use Rattle.rv_event.specs.declared.entry.Answer.{Answer}
-use Rattle.rv_event.specs.declared.entry.Answer.TheVariants.{Started, Queued, Woken, Halted, Full, Misuse}
+use Rattle.rv_event.specs.declared.entry.Answer.TheVariants.{Started, Queued, Woken}
 use Rattle.rv_event.specs.declared.entry.Exit.{Exit}
 use Rattle.rv_event.specs.declared.entry.Request.{Request}
 use Rattle.rv_event.specs.declared.entry.Request.TheVariants.{Call, Fire, Resume}
 use Rattle.rv_exec.specs.Asking.{Trace, Along}
-use Rattle.rv_exec.specs.Stops.{is_final}
+use Rattle.rv_exec.specs.Stops.{is_final, stops_bodies}
 use Rattle.rv_history.specs.Due.{out}
 use Rattle.rv_history.specs.History.{History}
 use Rattle.rv_exec.specs.Blocks.{operation_run_at}
@@ -33,13 +33,6 @@ StartsBody shapes actor opening object operation values components =
     ⊎ ((opening ≡ (Fire, Started components) ∷ []) × Handles shapes actor object operation × (values ≡ [])))
 
 -- Stops (own)
-
--- behind these answers no body goes on
-abbrev pub stops_bodies : Answer → Bool
-stops_bodies Halted = true
-stops_bodies Full = true
-stops_bodies Misuse = true
-stops_bodies answer = false
 
 -- On a front of a history, on which its actor had asked all this, and of these ends some, one more ask of it is due Halted, Full or
 -- Misuse.

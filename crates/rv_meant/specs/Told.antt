@@ -11,7 +11,7 @@ use Rattle.rv_event.specs.declared.entry.Next.{Next}
 use Rattle.rv_event.specs.declared.entry.Request.{Request}
 use Rattle.rv_event.specs.declared.entry.Request.TheVariants as request
 use Rattle.rv_exec.specs.Asking.{Trace, Along}
-use Rattle.rv_exec.specs.Stops.{is_final}
+use Rattle.rv_exec.specs.Stops.{is_final, stops_bodies}
 use Rattle.rv_exec.specs.Tasks.{task_run}
 use Rattle.rv_history.specs.Due.{out}
 use Rattle.rv_history.specs.History.{History}
@@ -19,7 +19,7 @@ use Rattle.rv_exec.specs.Blocks.{operation_run_at}
 use Rattle.rv_meant.specs.Asks.{held_behind, HoldsMore, AreRecorded, recorded_of}
 use Rattle.rv_meant.specs.Nested.{Strays}
 use Rattle.rv_meant.specs.Histories.{asks_of, without_last}
-use Rattle.rv_meant.specs.Explained.{StartsBody, stops_bodies, on_protected, MeantEnd}
+use Rattle.rv_meant.specs.Explained.{StartsBody, on_protected, MeantEnd}
 
 -- In a history an actor asked first this, and then what of these asks has entries. Of the others, one that was answered Halted or
 -- Full was due Halted, Full or Misuse on a front of the history, on which the actor had asked just what stands before it.

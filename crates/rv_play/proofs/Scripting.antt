@@ -1,14 +1,13 @@
 -- What is told of scripts are steps of the host, which lead to legal histories.
-use Rattle.std.proofs.Common.{◌≡◌, ◌≤◌, ℕ, List, [], ◌∷◌, Some, None, Option, Ok, Err, Result, true, refl, sym, ap, subst, inl, arith}
+use Rattle.std.proofs.Common.{◌≡◌, ◌≤◌, ℕ, List, [], ◌∷◌, Some, None, Option, Ok, Err, Result, true, refl, sym, ap, subst, arith}
 use Rattle.std.proofs.lemmas.Bool.Decides.{nat_tests}
 use Rattle.rv_event.specs.declared.entry.Answer.{Answer}
 use Rattle.rv_history.specs.declared.command.Command.{Command}
 use Rattle.rv_history.specs.History.{History}
 use Rattle.rv_history.specs.Legal.{Legal, empty}
 use Rattle.rv_history.specs.Limits.{is_queue_limit, limits_with}
-use Rattle.rv_history.specs.declared.command.Command.TheVariants as Commands
-use Rattle.rv_history.specs.Steps.{Steps, IsAnswer, due_command}
-use Rattle.rv_history.proofs.Stepping.{legal_after}
+use Rattle.rv_history.specs.Steps.{Steps}
+use Rattle.rv_history.proofs.Stepping.{legal_after, is_due}
 use Rattle.rv_text.specs.Sections.{SectionText}
 use Rattle.rv_script.specs.Openings.{OpenedText, opened}
 use Rattle.rv_fault.specs.declared.fault.ScriptFault.{ScriptFault}
@@ -19,11 +18,6 @@ use Rattle.rv_play.specs.Stages.{Stage, due_answer, history_after, start}
 use Rattle.rv_play.specs.Scripted.{Told, Run, tell, IsLimits, default_limits, Plays, PlaysActs, PlaysOpened, PlaysScript}
 
 -- Steps
-
-is_due : (c : Command) (h : History) → IsAnswer h c (due_command h c)
-is_due (Commands.Ask actor request) h = refl
-is_due (Commands.Load shape) h = inl refl
-is_due (Commands.Change change) h = inl refl
 
 one_step : (stage : Stage) (o : Option Command) (cs : List Command) (given : List Answer) (k : History) → Steps (history_after stage.history o (due_answer stage o)) cs given k
     → Steps stage.history (commands_onto o cs) (answers_onto o (due_answer stage o) given) k

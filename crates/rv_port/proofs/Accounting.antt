@@ -6,25 +6,25 @@ use Rattle.rv_event.specs.declared.entry.Request.{Request}
 use Rattle.rv_event.specs.declared.entry.Answer.{Answer}
 use Rattle.rv_event.specs.declared.entry.Answer.TheVariants as Answers
 use Rattle.rv_event.specs.declared.entry.Recorded.{Recorded}
-use Rattle.rv_exec.specs.Stops.{is_final}
+use Rattle.rv_exec.specs.Stops.{is_final, stops_bodies}
 use Rattle.rv_history.specs.declared.limits.Limits.{Limits}
 use Rattle.rv_history.specs.Due.{out}
 use Rattle.rv_turn.specs.Histories.{mine, StartsWith}
 use Rattle.rv_turn.specs.Prefixes.{starts_both, mine-append}
 use Rattle.rv_meant.specs.Asks.{recorded_if, recorded_of}
-use Rattle.rv_meant.specs.Explained.{stops_bodies}
 use Rattle.rv_meant.specs.Histories.{ask_of}
 use Rattle.rv_meant.specs.Settles.{is_settle, NeverSettles}
 use Rattle.rv_meant.proofs.Settles.{ask_is}
 use Rattle.rv_behind.specs.Events.{by, history_at}
 use Rattle.rv_behind.specs.Acting.{entered, grown}
 use Rattle.rv_behind.specs.declared.event.Event.{Event}
-use Rattle.rv_behind.specs.declared.event.Event.TheVariants.{Asks, Loads, Lists}
+use Rattle.rv_behind.specs.declared.event.Event.TheVariants.{Asks}
 use Rattle.rv_accounts.specs.Seen.{asked_at, but_settles}
 use Rattle.rv_accounts.specs.WithoutSettles.{but_settles-append}
 use Rattle.rv_accounts.proofs.Growing.{asks_grow, asks_stay}
 use Rattle.rv_port.specs.Traces.{Trace, told, noted, noted_if, IsAnswered, IsWorn, EachAnswered}
 use Rattle.rv_port.specs.Composing.{noted-append}
+use Rattle.rv_port.proofs.Asked.{none_there, request_in, word_in}
 
 -- Histories that one begins with
 
@@ -75,42 +75,6 @@ told_recorded Answers.Unattached word e = refl
 told_recorded Answers.BadLine word e = refl
 told_recorded Answers.OutOfMemory word e = refl
 
-pub final_stops : (d : Answer) → is_final (told d) ≡ true → stops_bodies d ≡ true
-final_stops Answers.Halted e = refl
-final_stops Answers.Full e = refl
-final_stops Answers.Misuse e = refl
-final_stops (Answers.Started s) e = e
-final_stops Answers.Queued e = e
-final_stops (Answers.Refused rule line version) e = e
-final_stops (Answers.Done n) e = e
-final_stops Answers.Suspended e = e
-final_stops Answers.Delayed e = e
-final_stops (Answers.Woken s) e = e
-final_stops (Answers.Accepted n) e = e
-final_stops Answers.Busy e = e
-final_stops Answers.Waiting e = e
-final_stops Answers.Unattached e = e
-final_stops Answers.BadLine e = e
-final_stops Answers.OutOfMemory e = e
-
-pub final_none : (r : Answer) → is_final r ≡ true → recorded r ≡ None
-final_none Answers.Halted e = refl
-final_none Answers.Full e = refl
-final_none (Answers.Started s) e = absurd (cc e)
-final_none Answers.Queued e = absurd (cc e)
-final_none (Answers.Refused rule line version) e = absurd (cc e)
-final_none (Answers.Done n) e = absurd (cc e)
-final_none Answers.Suspended e = absurd (cc e)
-final_none Answers.Delayed e = absurd (cc e)
-final_none (Answers.Woken s) e = absurd (cc e)
-final_none (Answers.Accepted n) e = absurd (cc e)
-final_none Answers.Misuse e = absurd (cc e)
-final_none Answers.Busy e = absurd (cc e)
-final_none Answers.Waiting e = absurd (cc e)
-final_none Answers.Unattached e = absurd (cc e)
-final_none Answers.BadLine e = absurd (cc e)
-final_none Answers.OutOfMemory e = absurd (cc e)
-
 -- The asks of a trace, in what was seen
 
 module _ (limits : Limits) (a : ℕ) (seen later : List Event) (left : ℕ) where
@@ -156,20 +120,6 @@ module _ (limits : Limits) (a : ℕ) (seen later : List Event) (left : ℕ) wher
 
 -- An end of the actor in what was seen later
 
-none_there : (e : Event) (before after : List Event) → [] ≡ before ++ e ∷ after → ⊥
-none_there e [] after h = cc h
-none_there e (d ∷ before) after h = cc h
-
-abbrev request_or : Request → Event → Request
-request_or other (Asks b q w) = q
-request_or other (Loads s u) = other
-request_or other (Lists l) = other
-
-abbrev word_or : Recorded → Event → Recorded
-word_or other (Asks b q w) = w
-word_or other (Loads s u) = other
-word_or other (Lists l) = other
-
 pub record FoundIn (a : ℕ) (xs : Trace) (m : List Event) (q : Request) (word : Recorded) : Type 0 where
   pub before : Trace
   pub answer : Answer
@@ -189,8 +139,8 @@ found_by a p r xs [] rest q word (Some w) is go e =
       before = [];
       answer = r;
       after = xs;
-      trace_is = ap (λ (k : Request). (k, r) ∷ xs) (ap (λ (d : Event). request_or p d) one);
-      word_is = is ∙ ap (λ (d : Event). Some (word_or w d)) one;
+      trace_is = ap (λ (k : Request). (k, r) ∷ xs) (ap (λ (d : Event). request_in p d) one);
+      word_is = is ∙ ap (λ (d : Event). Some (word_in w d)) one;
       noted_is = refl;
     }
 found_by a p r xs (d ∷ m) rest q word (Some w) is go e =

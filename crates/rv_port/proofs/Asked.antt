@@ -51,7 +51,7 @@ use Rattle.rv_port.proofs.Since.{done_is}
 
 -- One event more
 
-none_there : (e : Event) (before after : List Event) → [] ≡ before ++ e ∷ after → ⊥
+pub none_there : (e : Event) (before after : List Event) → [] ≡ before ++ e ∷ after → ⊥
 none_there e [] after h = cc h
 none_there e (d ∷ before) after h = cc h
 
@@ -60,12 +60,12 @@ one_end [] e c [] after h = (refl, ap (λ (l : List Event). first_or e l) h)
 one_end [] e c (d ∷ ds) after h = absurd (none_there c ds after (ap (λ (l : List Event). rest_of l) h))
 one_end (x ∷ at) e c rest after h = one_end at e c rest after (ap (λ (l : List Event). rest_of l) h)
 
-abbrev request_in : Request → Event → Request
+abbrev pub request_in : Request → Event → Request
 request_in other (Asks b q w) = q
 request_in other (Loads s u) = other
 request_in other (Lists l) = other
 
-abbrev word_in : Recorded → Event → Recorded
+abbrev pub word_in : Recorded → Event → Recorded
 word_in other (Asks b q w) = w
 word_in other (Loads s u) = other
 word_in other (Lists l) = other

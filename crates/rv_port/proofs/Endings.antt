@@ -8,7 +8,7 @@ use Rattle.rv_event.specs.declared.entry.Exit.{Exit}
 use Rattle.rv_event.specs.declared.entry.Exit.TheVariants as Exits
 use Rattle.rv_event.specs.declared.entry.Request.{Request}
 use Rattle.rv_exec.specs.Bodies.{task_of}
-use Rattle.rv_exec.specs.Stops.{is_final}
+use Rattle.rv_exec.specs.Stops.{is_final, stops_bodies}
 use Rattle.rv_turn.specs.Passes.{Acted}
 use Rattle.rv_behind.specs.Acting.{Does, lent_view}
 use Rattle.rv_behind.specs.Events.{by}
@@ -19,12 +19,13 @@ use Rattle.rv_behind.specs.declared.event.Reply.TheVariants as Gives
 use Rattle.rv_port.specs.declared.ended.Course.{Course}
 use Rattle.rv_port.specs.declared.ended.Ending.{Ending}
 use Rattle.rv_port.specs.declared.ended.Ending.TheVariants as Endings
-use Rattle.rv_port.specs.Calls.{marked, StopsBody, StoppedAt, stops_within}
+use Rattle.rv_port.specs.Calls.{marked, StopsBody, StoppedAt}
 use Rattle.rv_port.specs.Endings.{stop_of, stop_or, first_of, past, fresh, ending_of, TellsWhy, RunsCourse, EndsBy, OwnEnds, LentEnds, OwnGoes, LentGoes, TextEnded}
 use Rattle.rv_port.specs.Held.{held_by}
 use Rattle.rv_port.specs.Texts.{TextRuns, TextLent, TextRan, TextStops}
 use Rattle.rv_port.specs.Traces.{Passing, Trace, Went, WoreOut, Settled, SettlesBehind, told}
 use Rattle.rv_port.proofs.Texts.{lent_run}
+use Rattle.rv_port.proofs.Finals.{final_is}
 
 -- One request
 
@@ -52,49 +53,31 @@ stop_stays c d v w (x ∷ xs) t e = stop_stays t.0 d t.1 w xs t.3
     (⊎_elim (λ k. ap (λ (z : Course). is_some z.stop) k.6 ∙ some_first c.stop (stop_of k.0) e)
     (λ k. ap (λ (z : Course). is_some z.stop) k.2 ∙ some_first c.stop (Some Endings.Worn) e) t.2)
 
-final_stops : (d : Answer) → is_final (told d) ≡ true → is_some (stop_of d) ≡ true
-final_stops Answers.Full e = refl
-final_stops Answers.Halted e = refl
-final_stops Answers.Misuse e = refl
-final_stops (Answers.Started s) e = absurd (cc e)
-final_stops Answers.Queued e = absurd (cc e)
-final_stops (Answers.Refused rule line version) e = absurd (cc e)
-final_stops (Answers.Done next) e = absurd (cc e)
-final_stops Answers.Suspended e = absurd (cc e)
-final_stops Answers.Delayed e = absurd (cc e)
-final_stops (Answers.Woken s) e = absurd (cc e)
-final_stops (Answers.Accepted n) e = absurd (cc e)
-final_stops Answers.Busy e = absurd (cc e)
-final_stops Answers.Waiting e = absurd (cc e)
-final_stops Answers.Unattached e = absurd (cc e)
-final_stops Answers.BadLine e = absurd (cc e)
-final_stops Answers.OutOfMemory e = absurd (cc e)
-
-stops_final : (d : Answer) → stops_within d ≡ true → is_final (told d) ≡ true
-stops_final Answers.Full e = refl
-stops_final Answers.Halted e = refl
-stops_final Answers.Misuse e = refl
-stops_final (Answers.Started s) e = absurd (cc e)
-stops_final Answers.Queued e = absurd (cc e)
-stops_final (Answers.Refused rule line version) e = absurd (cc e)
-stops_final (Answers.Done next) e = absurd (cc e)
-stops_final Answers.Suspended e = absurd (cc e)
-stops_final Answers.Delayed e = absurd (cc e)
-stops_final (Answers.Woken s) e = absurd (cc e)
-stops_final (Answers.Accepted n) e = absurd (cc e)
-stops_final Answers.Busy e = absurd (cc e)
-stops_final Answers.Waiting e = absurd (cc e)
-stops_final Answers.Unattached e = absurd (cc e)
-stops_final Answers.BadLine e = absurd (cc e)
-stops_final Answers.OutOfMemory e = absurd (cc e)
+stop_some : (d : Answer) → is_some (stop_of d) ≡ stops_bodies d
+stop_some Answers.Halted = refl
+stop_some Answers.Full = refl
+stop_some Answers.Misuse = refl
+stop_some (Answers.Started s) = refl
+stop_some Answers.Queued = refl
+stop_some (Answers.Refused rule line version) = refl
+stop_some (Answers.Done next) = refl
+stop_some Answers.Suspended = refl
+stop_some Answers.Delayed = refl
+stop_some (Answers.Woken s) = refl
+stop_some (Answers.Accepted value) = refl
+stop_some Answers.Busy = refl
+stop_some Answers.Waiting = refl
+stop_some Answers.Unattached = refl
+stop_some Answers.BadLine = refl
+stop_some Answers.OutOfMemory = refl
 
 -- what stopped a body was told Halted or Full
 pub body_final : (v w : Passing) (q : Request) (r : Answer) → StopsBody v q r w → is_final r ≡ true
-body_final v w q r t = ⊎_elim (λ k. ap is_final k.1) (λ k. ap is_final k.2 ∙ stops_final k.0 k.3) t
+body_final v w q r t = ⊎_elim (λ k. ap is_final k.1) (λ k. ap is_final k.2 ∙ final_is k.0 ∙ k.3) t
 
 final_noted : (c d : Course) (v w : Passing) (q : Request) (r : Answer) → TellsWhy c v q r d w → is_final r ≡ true → is_some d.stop ≡ true
 final_noted c d v w q r t e =
-    ⊎_elim (λ k. ap (λ (z : Course). is_some z.stop) k.6 ∙ some_other c.stop (stop_of k.0) (final_stops k.0 (sym (ap is_final k.4) ∙ e)))
+    ⊎_elim (λ k. ap (λ (z : Course). is_some z.stop) k.6 ∙ some_other c.stop (stop_of k.0) (stop_some k.0 ∙ sym (final_is k.0) ∙ sym (ap is_final k.4) ∙ e))
     (λ k. ap (λ (z : Course). is_some z.stop) k.2 ∙ some_other c.stop (Some Endings.Worn) refl) t
 
 final_stopped : (c d : Course) (v w : Passing) (before : Trace) (q : Request) (r : Answer) (behind : Trace) → RunsCourse c v (before ++ (q, r) ∷ behind) d w → is_final r ≡ true → is_some d.stop ≡ true

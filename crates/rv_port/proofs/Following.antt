@@ -11,8 +11,9 @@ use Rattle.rv_event.specs.declared.entry.Request.{Request}
 use Rattle.rv_event.specs.declared.entry.Request.TheVariants.{Call, Complete, Settle, Resume, DelayUntil, Clock, Fire, Quit, Tick, Halt}
 use Rattle.rv_exec.specs.Asking.{Along}
 use Rattle.rv_exec.specs.Bodies.{task_of}
-use Rattle.rv_exec.specs.Stops.{is_final}
+use Rattle.rv_exec.specs.Stops.{is_final, stops_bodies}
 use Rattle.rv_exec.specs.Tasks.{task_run}
+use Rattle.rv_exec.proofs.Finals.{final_none}
 use Rattle.rv_history.specs.declared.limits.Limits.{Limits}
 use Rattle.rv_history.specs.Due.{out, due, gate, within, enough, goes_on, nothing_more}
 use Rattle.rv_history.specs.Fitting.{fits}
@@ -21,7 +22,6 @@ use Rattle.rv_history.specs.Legal.{Legal}
 use Rattle.rv_turn.specs.Histories.{mine, StartsWith}
 use Rattle.rv_turn.specs.Prefixes.{starts_self, starts_both}
 use Rattle.rv_meant.specs.Asks.{recorded_if, recorded_of}
-use Rattle.rv_meant.specs.Explained.{stops_bodies}
 use Rattle.rv_behind.specs.Acting.{entered}
 use Rattle.rv_behind.specs.Events.{by, bodies_at, catalogue_of, history_at}
 use Rattle.rv_behind.specs.declared.event.Event.{Event}
@@ -34,7 +34,7 @@ use Rattle.rv_accounts.proofs.Growing.{others_stay}
 use Rattle.rv_port.specs.Actors.{HasHandler}
 use Rattle.rv_port.specs.Held.{Owns}
 use Rattle.rv_port.specs.Traces.{Passing, Trace, limits_in, told, noted, noted_if, asks_on, IsAnswered, EachAnswered, Tells, Steps, Went}
-use Rattle.rv_port.proofs.Accounting.{each_at, so_far, final_none}
+use Rattle.rv_port.proofs.Accounting.{each_at, so_far}
 use Rattle.rv_port.proofs.Actors.{handler_later}
 use Rattle.rv_port.proofs.Gets.{of_first, of_end, of_resume, first_gets, end_gets, resume_gets, settle_gets}
 use Rattle.rv_port.proofs.Ends.{IsLentBy}

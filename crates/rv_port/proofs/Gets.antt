@@ -28,6 +28,7 @@ use Rattle.rv_event.specs.declared.entry.Mode.{Mode}
 use Rattle.rv_port.specs.Actors.{HasHandler}
 use Rattle.rv_history.specs.Due.{out, due, table, gate, within, enough, goes_on, judged, suspended, performed, due_call, due_fire, due_delay, due_end, due_settle, end_of, due_resume, or_waiting}
 use Rattle.rv_port.specs.Reaching.{Performs}
+use Rattle.rv_replies.proofs.Goes.{within_goes, and_not}
 
 -- a call of an operation
 abbrev pub calls : Request → Bool
@@ -82,10 +83,6 @@ gate_gets P false shut r m h p = m
 open_gets : (P : Answer → Bool) (fit : Bool) (r : Answer) → P Answers.Misuse ≡ true → P r ≡ true → P (gate fit false r) ≡ true
 open_gets P true r m p = p
 open_gets P false r m p = m
-
-within_gets : (P : Answer → Bool) (room : Bool) (r : Answer) → P Answers.Full ≡ true → P r ≡ true → P (within room r) ≡ true
-within_gets P true r f p = p
-within_gets P false r f p = f
 
 judged_gets : (o p : ℕ) (vs : List ℤ) (number line : ℕ) (values : List ℤ) (denied blocking reentry above busy barred full : Bool)
     → of_first (Call o p vs) (judged number line values denied blocking reentry above busy barred full) ≡ true
@@ -160,7 +157,7 @@ delay_gets h time false false = refl
 -- what is due to a request that performs something, before the room is asked
 shut_gets : (h : History) (a : ℕ) (q : Request) → of_first q (table h a q) ≡ true → of_first q (out h a q) ≡ true
 shut_gets h a q t =
-    within_gets (of_first q) (enough h a q (recorded (due h a q))) (due h a q) refl
+    within_goes (of_first q) (enough h a q (recorded (due h a q))) (due h a q) refl
     (gate_gets (of_first q) (fits h a q) (halted h.past && not (goes_on q)) (table h a q) refl refl t)
 
 -- who is no line can't fire
@@ -172,10 +169,6 @@ misuse_gets : (room : Bool) (shut : Bool) (r : Answer) (fit : Bool) → fit ≡ 
 misuse_gets true shut r false e = refl
 misuse_gets false shut r false e = refl
 misuse_gets room shut r true e = absurd (cc e)
-
-and_not : (b c : Bool) → c ≡ false → (b && c) ≡ false
-and_not true c e = e
-and_not false c e = refl
 
 who_fires : (h : History) (a : ℕ) (m : Mode) → nat_lt a 11 ≡ false → idle_line (who h.shapes a) m ≡ false
 who_fires h a m e = by_zero (eqb a 0) refl where
@@ -220,7 +213,7 @@ and_false false = refl
 
 pub end_gets : (h : History) (a : ℕ) (vs : List ℤ) (x : Exit) → of_end (out h a (Complete vs x)) ≡ true
 end_gets h a vs x = let q : Request = Complete vs x in
-    within_gets of_end (enough h a q (recorded (due h a q))) (due h a q) refl
+    within_goes of_end (enough h a q (recorded (due h a q))) (due h a q) refl
     (ap (λ (b : Bool). of_end (gate (fits h a q) b (table h a q))) (and_false (halted h.past))
     ∙ open_gets of_end (fits h a q) (table h a q) refl (due_end_gets h vs (innermost h.shapes a h.past)))
 
@@ -230,7 +223,7 @@ due_settle_gets h (Some b) = refl
 
 pub settle_gets : (h : History) (a : ℕ) → of_end (out h a Settle) ≡ true
 settle_gets h a =
-    within_gets of_end (enough h a Settle (recorded (due h a Settle))) (due h a Settle) refl
+    within_goes of_end (enough h a Settle (recorded (due h a Settle))) (due h a Settle) refl
     (ap (λ (b : Bool). of_end (gate (fits h a Settle) b (table h a Settle))) (and_false (halted h.past))
     ∙ open_gets of_end (fits h a Settle) (table h a Settle) refl (due_settle_gets h (to_settle h.shapes a h.past)))
 
@@ -249,5 +242,5 @@ due_resume_gets h a Gone = refl
 
 pub resume_gets : (h : History) (a : ℕ) → of_resume (out h a Resume) ≡ true
 resume_gets h a =
-    within_gets of_resume (enough h a Resume (recorded (due h a Resume))) (due h a Resume) refl
+    within_goes of_resume (enough h a Resume (recorded (due h a Resume))) (due h a Resume) refl
     (gate_gets of_resume (fits h a Resume) (halted h.past && false) (table h a Resume) refl refl (due_resume_gets h a (stance a h.past)))

@@ -28,7 +28,7 @@ use Rattle.rv_behind.specs.declared.event.Event.TheVariants.{Asks, Loads, Lists}
 
 -- Lists
 
-lists-append : (xs ys : List Event) → lists_of (xs ++ ys) ≡ lists_of ys ++ lists_of xs
+pub lists-append : (xs ys : List Event) → lists_of (xs ++ ys) ≡ lists_of ys ++ lists_of xs
 lists-append [] ys = sym (append-nil (lists_of ys))
 lists-append (Asks a q w ∷ xs) ys = lists-append xs ys
 lists-append (Loads s u ∷ xs) ys = lists-append xs ys

@@ -7,6 +7,7 @@ pub mod Settlers
 pub mod Later
 pub mod Resuming
 pub mod Performing
+pub mod Finals
 pub mod Stopped
 pub mod Opening
 pub mod Ending

@@ -6,7 +6,8 @@ use Rattle.rv_event.specs.declared.entry.Exit.{Exit}
 use Rattle.rv_event.specs.declared.entry.Next.{Next}
 use Rattle.rv_event.specs.declared.entry.Recorded.{Recorded}
 use Rattle.rv_event.specs.declared.entry.Request.{Request}
-use Rattle.rv_exec.specs.Stops.{is_final}
+use Rattle.rv_exec.specs.Stops.{is_final, stops_bodies}
+use Rattle.rv_exec.proofs.Finals.{final_none}
 use Rattle.rv_history.specs.declared.limits.Limits.{Limits}
 use Rattle.rv_history.specs.Due.{out}
 use Rattle.rv_history.specs.History.{History}
@@ -15,7 +16,7 @@ use Rattle.rv_turn.specs.Histories.{mine, StartsWith}
 use Rattle.rv_turn.specs.Prefixes.{starts_self, starts_both}
 use Rattle.rv_meant.specs.Asks.{held_behind, HoldsMore, recorded_of}
 use Rattle.rv_meant.specs.Histories.{asks_of, without_last}
-use Rattle.rv_meant.specs.Explained.{StartsBody, stops_bodies}
+use Rattle.rv_meant.specs.Explained.{StartsBody}
 use Rattle.rv_meant.specs.Told.{HasAsked}
 use Rattle.rv_meant.specs.Settles.{NeverSettles}
 use Rattle.rv_meant.proofs.Explaining.{outer_ends}
@@ -29,8 +30,9 @@ use Rattle.rv_port.specs.Traces.{Passing, Trace, limits_in, noted, IsAnswered, E
 use Rattle.rv_port.specs.Composing.{each_both, never_first, owned_then}
 use Rattle.rv_port.proofs.Actors.{catalogue-append}
 use Rattle.rv_port.proofs.Ends.{RanSo, given_at}
-use Rattle.rv_port.proofs.Accounting.{each_at, so_far, final_stops, final_none}
+use Rattle.rv_port.proofs.Accounting.{each_at, so_far}
 use Rattle.rv_port.proofs.Straying.{no_strays}
+use Rattle.rv_port.proofs.Finals.{final_is}
 
 no_act : (n m k t : ℕ) → n + 1 ≡ m → m + t ≡ k → k ≡ 0 → ⊥
 no_act n m k t e f g = omega (arith, e, f, g)
@@ -77,7 +79,7 @@ module _ (u body w : Passing) (trace : Trace) (log : List Event) (early opening 
         let same : without_last (length (reverse to_at.0)) (history_at limits x.at) ≡ history_at limits y.at = ap (λ (l : List Event). without_last (length (reverse to_at.0)) (history_at limits l)) to_at.1 ∙ without_later limits y.at to_at.0 in (
           length (reverse to_at.0),
           ap (λ (h : History). asks_of a h) same ∙ so_far limits a u.seen x.at body.left own u.seen y.at done ((q, r) ∷ (behind ++ [])) (never_first done ((q, r) ∷ behind) (subst (λ (l : Trace). NeverSettles l) split k.went.asks)) here from_start (ap but_settles k.lent.owns) to_at y.own_is,
-          ap (λ (h : History). stops_bodies (out h a q)) same ∙ final_stops (out (history_at limits y.at) a q) (ap is_final (sym y.due_is) ∙ final),
+          ap (λ (h : History). stops_bodies (out h a q)) same ∙ sym (final_is (out (history_at limits y.at) a q)) ∙ ap is_final (sym y.due_is) ∙ final,
         )
 
     is_due : IsDue done q

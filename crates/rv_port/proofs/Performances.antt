@@ -9,7 +9,6 @@ use Rattle.rv_event.specs.Recorded.{recorded}
 use Rattle.rv_event.specs.declared.entry.Answer.{Answer}
 use Rattle.rv_event.specs.declared.entry.Answer.TheVariants as Answers
 use Rattle.rv_event.specs.declared.entry.Exit.{Exit}
-use Rattle.rv_event.specs.declared.entry.Exit.TheVariants as Exits
 use Rattle.rv_event.specs.declared.entry.Next.{Next}
 use Rattle.rv_event.specs.declared.entry.Recorded.TheVariants as Words
 use Rattle.rv_event.specs.declared.entry.Request.{Request}
@@ -24,6 +23,7 @@ use Rattle.rv_turn.specs.Prefixes.{starts_both}
 use Rattle.rv_meant.specs.Asks.{held_behind, AreRecorded}
 use Rattle.rv_meant.specs.Explained.{Handles, StartsBody, on_protected}
 use Rattle.rv_meant.proofs.Nesting.{recorded_both}
+use Rattle.rv_meant.proofs.NestedBodies.{scalars_in, exit_in}
 use Rattle.rv_behind.specs.Acting.{IsLent}
 use Rattle.rv_behind.specs.Events.{bodies_at, catalogue_of, called, begun_by_handler, history_at}
 use Rattle.rv_behind.specs.declared.event.Begun.{Begun}
@@ -62,14 +62,6 @@ pub record Start (u : Passing) (log : List Event) (b : Begun) (arguments scalars
   pub loaded : on_protected (target (catalogue_of log) b.object b.operation) ≡ true
   pub shared : b.is_function ≡ shares (target (catalogue_of log) b.object b.operation)
   pub starts : (at : List Event) → StartsWith at log → StartsBody (catalogue_of at) u.actor opening b.object b.operation arguments scalars
-
-abbrev scalars_in : Request → List ℤ
-scalars_in (Complete scalars x) = scalars
-scalars_in other = []
-
-abbrev exit_in : Request → Exit
-exit_in (Complete scalars x) = x
-exit_in other = Exits.Stopped
 
 -- the target in a later catalogue
 pub same_target : (log at : List Event) (o p : ℕ) → StartsWith at log → on_protected (target (catalogue_of log) o p) ≡ true → target (catalogue_of at) o p ≡ target (catalogue_of log) o p

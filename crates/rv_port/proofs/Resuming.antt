@@ -1,5 +1,5 @@
 -- One that waits and asks nothing else: what it is at, and what its resume can be answered.
-use Rattle.std.proofs.Common.{◌≡◌, ℕ, ◌<◌, Bool, true, false, eqb, if◌then◌else◌, List, [], ◌∷◌, ◌++◌, length, reverse, Option, Some, None, refl, sym, ap, ◌∙◌, subst, arith, length-append}
+use Rattle.std.proofs.Common.{◌≡◌, ℕ, Bool, true, false, eqb, if◌then◌else◌, List, [], ◌∷◌, ◌++◌, length, reverse, Option, Some, None, refl, sym, ap, ◌∙◌, subst, arith, length-append}
 use Rattle.std.specs.Prelude.{ℤ, ◌&&◌, ◌||◌, not, nat_lt, int_le, pos}
 use Rattle.std.specs.List.{list_any}
 use Rattle.std.proofs.lemmas.Bool.Decides.{nat_tests}
@@ -28,6 +28,7 @@ use Rattle.rv_history.specs.Due.{out, due, table, gate, within, enough, goes_on,
 use Rattle.rv_history.proofs.Frame.{stance_stays}
 use Rattle.rv_history.proofs.Silent.{is_queued, apart_while, known_actor}
 use Rattle.rv_history.proofs.Standing.{legal_standing, none_left as nothing_left}
+use Rattle.rv_history.proofs.Resumes.{to_test}
 use Rattle.rv_accounts.proofs.Queued.{in_queue, own_now, still_in_queue}
 use Rattle.rv_turn.specs.Histories.{mine, StartsWith}
 use Rattle.rv_turn.specs.Prefixes.{mine-append}
@@ -171,9 +172,6 @@ awaits_at bodies (DroppedBy line) e = refl
 awaits_at bodies (WaitsOn object) e = refl
 awaits_at bodies (WaitsUntil time) e = refl
 awaits_at bodies Gone e = absurd (cc e)
-
-to_test : (n m : ℕ) → n < m → nat_lt n m ≡ true
-to_test n m less = grind (arith, nat_tests)
 
 both_true : (b c : Bool) → b ≡ true → c ≡ true → (b && c) ≡ true
 both_true true c e f = f

@@ -21,8 +21,6 @@ use Rattle.rv_event.specs.declared.entry.Recorded.{Recorded}
 use Rattle.rv_event.specs.declared.entry.Recorded.TheVariants as Words_of
 use Rattle.rv_event.specs.declared.entry.Request.{Request}
 use Rattle.rv_event.specs.declared.entry.Request.TheVariants.{Call, Complete, Settle, Resume, DelayUntil, Clock, Fire, Quit, Tick, Halt}
-use Rattle.rv_event.specs.declared.entry.Stance.{Stance}
-use Rattle.rv_event.specs.declared.entry.Stance.TheVariants.{Free, InQueue, HandedOver, DroppedBy, WaitsOn, WaitsUntil, Gone}
 use Rattle.rv_history.specs.declared.limits.Limits.{Limits}
 use Rattle.rv_history.specs.Due.{out}
 use Rattle.rv_history.specs.Fitting.{end_fits, in_body, is_settling}
@@ -37,6 +35,7 @@ use Rattle.rv_history.proofs.Room.{from_room, legal_solvent}
 use Rattle.rv_history.proofs.Serving.{left_handed, left_nothing, served_actor}
 use Rattle.rv_history.proofs.Settling.{halted_settles, has_to_settle, serves_first}
 use Rattle.rv_history.proofs.Stances.{left_is, same_number}
+use Rattle.rv_history.proofs.Modes.{never_settling}
 use Rattle.rv_behind.specs.Events.{history_at, history_back}
 use Rattle.rv_behind.specs.declared.event.Event.{Event}
 use Rattle.rv_behind.specs.declared.event.Event.TheVariants.{Asks}
@@ -228,16 +227,6 @@ settled_none false (r ∷ rs) u w none t = absurd t
 settled_none true [] u w none t = inl t.1
 settled_none true (r ∷ rs) u w none t =
     settled_none (drops r) rs t.0 w (λ calm. settle_none u t.0 r (ap of_end t.1.due_is ∙ settle_gets (history_at (limits_in u.about) t.1.at) u.actor) t.1 calm) t.2
-
-never_settling : (bs : List Body) (s : Stance) → is_settling (mode_by bs s) ≡ false
-never_settling [] Free = refl
-never_settling (b ∷ bs) Free = refl
-never_settling bs InQueue = refl
-never_settling bs HandedOver = refl
-never_settling bs (DroppedBy line) = refl
-never_settling bs (WaitsOn object) = refl
-never_settling bs (WaitsUntil time) = refl
-never_settling bs Gone = refl
 
 none_mode : (w : Passing) → NoneAt w w.seen → is_settling (mode_seen w) ≡ false
 none_mode w none =

@@ -12,7 +12,7 @@ use Rattle.rv_event.specs.declared.entry.Request.{Request}
 use Rattle.rv_event.specs.declared.entry.Request.TheVariants.{Complete}
 use Rattle.rv_fits.specs.Fits.{callee_fits}
 use Rattle.rv_exec.specs.Asking.{Along}
-use Rattle.rv_exec.specs.Stops.{is_final}
+use Rattle.rv_exec.specs.Stops.{is_final, stops_bodies}
 use Rattle.rv_exec.specs.Tasks.{task_run}
 use Rattle.rv_history.specs.declared.limits.Limits.{Limits}
 use Rattle.rv_history.specs.Due.{out}
@@ -21,11 +21,12 @@ use Rattle.rv_history.specs.Legal.{Legal}
 use Rattle.rv_turn.specs.Histories.{mine, StartsWith}
 use Rattle.rv_turn.specs.Prefixes.{starts_both, mine-append}
 use Rattle.rv_exec.specs.Blocks.{operation_run_at}
+use Rattle.rv_exec.proofs.Finals.{final_none}
 use Rattle.rv_meant.specs.Asks.{recorded_of}
 use Rattle.rv_meant.specs.Nested.{Strays}
 use Rattle.rv_meant.specs.Settles.{NeverSettles}
 use Rattle.rv_meant.specs.Histories.{asks_of, without_last}
-use Rattle.rv_meant.specs.Explained.{stops_bodies, MeantEnd}
+use Rattle.rv_meant.specs.Explained.{MeantEnd}
 use Rattle.rv_meant.specs.Told.{HasAsked, FitBehind}
 use Rattle.rv_meant.proofs.Explaining.{inner_ends, task_ends}
 use Rattle.rv_behind.specs.Acting.{entered}
@@ -42,8 +43,9 @@ use Rattle.rv_port.proofs.Actors.{catalogue-append}
 use Rattle.rv_port.specs.Held.{asked_so_far, held_by, Owns}
 use Rattle.rv_port.proofs.Ends.{IsLentBy, EndsSinceAreExplained}
 use Rattle.rv_port.proofs.Fronts.{same_behind, at_own, each_own, before_noted, legal_before}
-use Rattle.rv_port.proofs.Accounting.{first_or, compared, FoundIn, each_at, so_far, final_stops, final_none}
+use Rattle.rv_port.proofs.Accounting.{first_or, compared, FoundIn, each_at, so_far}
 use Rattle.rv_port.proofs.Straying.{no_strays}
+use Rattle.rv_port.proofs.Finals.{final_is}
 
 -- An end that is recorded was answered Done
 
@@ -175,7 +177,7 @@ module _ (v w : Passing) (trace : Trace) (log : List Event) (k : IsLentBy v log)
           let same : without_last (length (reverse at_before.0)) (history_at limits before) ≡ history_at limits x.at = ap (λ (l : List Event). without_last (length (reverse at_before.0)) (history_at limits l)) at_before.1 ∙ without_later limits x.at at_before.0 in (
             length (reverse at_before.0),
             ap (λ (h : History). asks_of a h) same ∙ so_far limits a v.seen w.seen w.left own v.seen x.at done ((q, r) ∷ others) never_done here went.later (ap but_settles k.owns) to_at x.own_is,
-            ap (λ (h : History). stops_bodies (out h a q)) same ∙ final_stops (out (history_at limits x.at) a q) (ap is_final (sym x.due_is) ∙ final),
+            ap (λ (h : History). stops_bodies (out h a q)) same ∙ sym (final_is (out (history_at limits x.at) a q)) ∙ ap is_final (sym x.due_is) ∙ final,
           )
 
     is_due : IsDue done q

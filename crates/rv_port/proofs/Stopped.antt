@@ -33,12 +33,12 @@ use Rattle.rv_event.specs.declared.entry.Answer.TheVariants as Answers
 use Rattle.rv_exec.specs.Asking.{stands, Along}
 use Rattle.rv_exec.specs.Calls.{can_refuse, done, refusal, replied, request_of, resumed}
 use Rattle.rv_exec.specs.Blocks.{operation_run_at}
-use Rattle.rv_exec.specs.Stops.{is_final, is_stopped, stops_at_once, IsUnfit, IsUnfitWoken, EndsNot, Stops, Unwinds, StopsWaiting, StopsIn}
+use Rattle.rv_exec.specs.Stops.{is_final, is_stopped, stops_at_once, IsUnfit, IsUnfitWoken, EndsNot, Stops, Unwinds, StopsWaiting, StopsIn, stops_bodies}
 use Rattle.rv_exec.proofs.StoppedBodies.{bodies_stop_by, tasks_stop_by}
 use Rattle.rv_port.specs.declared.body.Ended.{Ended}
 use Rattle.rv_behind.specs.declared.event.Begun.{Begun}
 use Rattle.rv_port.specs.Bodies.{Runs}
-use Rattle.rv_port.specs.Calls.{stops_within, StopsBody, StoppedAt}
+use Rattle.rv_port.specs.Calls.{StopsBody, StoppedAt}
 use Rattle.rv_port.specs.Texts.{TextRuns, TextStops}
 use Rattle.rv_port.specs.Composing.{went_none, went_both}
 use Rattle.rv_behind.specs.Acting.{IsLent}
@@ -47,6 +47,7 @@ use Rattle.rv_behind.specs.Events.{catalogue_of, history_at}
 use Rattle.rv_port.specs.Traces.{Passing, Trace, limits_in, told, asks_on, drops, SettlesBehind, Asked, WoreOut, Tells, Steps, Went}
 use Rattle.rv_port.proofs.Actors.{catalogue-append}
 use Rattle.rv_meant.specs.Settles.{is_settle, NeverSettles}
+use Rattle.rv_meant.proofs.Answered.{waits}
 use Rattle.rv_event.specs.declared.entry.Next.TheVariants.{Nothing, HandedTo, Dropped}
 use Rattle.rv_port.proofs.Asking.{is_told, told_stands}
 use Rattle.rv_port.proofs.Settles.{none_behind, tells_later, tells_went}
@@ -55,26 +56,9 @@ use Rattle.rv_port.proofs.Performing.{asked_actor}
 use Rattle.rv_accounts.proofs.Queued.{in_queue}
 use Rattle.rv_port.proofs.Resuming.{paused, in_queue_at, paused_at}
 use Rattle.rv_port.proofs.Gets.{of_end, end_gets}
+use Rattle.rv_port.proofs.Finals.{final_is}
 
 -- What a body is told, and the answer itself
-
-final_within : (d : Answer) → is_final (told d) ≡ true → stops_within d ≡ true
-final_within Answers.Halted e = refl
-final_within Answers.Full e = refl
-final_within Answers.Misuse e = refl
-final_within (Answers.Started s) e = e
-final_within Answers.Queued e = e
-final_within (Answers.Refused rule line version) e = e
-final_within (Answers.Done n) e = e
-final_within Answers.Suspended e = e
-final_within Answers.Delayed e = e
-final_within (Answers.Woken s) e = e
-final_within (Answers.Accepted n) e = e
-final_within Answers.Busy e = e
-final_within Answers.Waiting e = e
-final_within Answers.Unattached e = e
-final_within Answers.BadLine e = e
-final_within Answers.OutOfMemory e = e
 
 told_same : (d : Answer) → is_final (told d) ≡ false → told d ≡ d
 told_same Answers.Misuse e = absurd (cc e)
@@ -94,7 +78,7 @@ told_same Answers.Unattached e = refl
 told_same Answers.BadLine e = refl
 told_same Answers.OutOfMemory e = refl
 
-end_within : (scalars : List ℤ) (exit : Exit) (d : Answer) → of_end d ≡ true → EndsNot (Complete scalars exit) (told d) → stops_within d ≡ true
+end_within : (scalars : List ℤ) (exit : Exit) (d : Answer) → of_end d ≡ true → EndsNot (Complete scalars exit) (told d) → stops_bodies d ≡ true
 end_within scalars exit (Answers.Done next) e t = absurd t
 end_within scalars exit Answers.Misuse e t = refl
 end_within scalars exit Answers.Full e t = refl
@@ -112,7 +96,7 @@ end_within scalars exit Answers.Unattached e t = e
 end_within scalars exit Answers.BadLine e t = e
 end_within scalars exit Answers.OutOfMemory e t = e
 
-ends_within : (v w : Passing) (q : Request) (d : Answer) → Asked v q d w → EndsNot q (told d) → stops_within d ≡ true
+ends_within : (v w : Passing) (q : Request) (d : Answer) → Asked v q d w → EndsNot q (told d) → stops_bodies d ≡ true
 ends_within v w (Complete scalars exit) d x t = end_within scalars exit d (ap of_end x.due_is ∙ end_gets (history_at (limits_in v.about) x.at) v.actor scalars exit) t
 ends_within v w (Call o p vs) d x t = absurd t
 ends_within v w (DelayUntil time) d x t = absurd t
@@ -144,18 +128,14 @@ never_unfit log v w q d x later n t =
     (ap stands (sym due) ∙ told_stands (told d) (is_told d n)) (ap is_final (sym due) ∙ t.0) in
     unlike (stops_at_once (replied t.1 r)) (ap (λ (z : Answer). stops_at_once (replied t.1 z)) (sym due) ∙ t.6) goes
 
-stops_so : (log : List Event) (v w : Passing) (q : Request) (d : Answer) (x : Asked v q d w) → StartsWith x.at log → asks_on d ≡ false → Stops (callee_fits (catalogue_of log)) q (told d) → stops_within d ≡ true
-stops_so log v w q d x later n t = ⊎_elim (λ e. final_within d e) (λ s. ⊎_elim (λ u. ends_within v w q d x u) (λ u. never_unfit log v w q d x later n u) s) t
+stops_so : (log : List Event) (v w : Passing) (q : Request) (d : Answer) (x : Asked v q d w) → StartsWith x.at log → asks_on d ≡ false → Stops (callee_fits (catalogue_of log)) q (told d) → stops_bodies d ≡ true
+stops_so log v w q d x later n t = ⊎_elim (λ e. sym (final_is d) ∙ e) (λ s. ⊎_elim (λ u. ends_within v w q d x u) (λ u. never_unfit log v w q d x later n u) s) t
 
 stops_body : (log : List Event) (v w : Passing) (q : Request) (r : Answer) → StartsWith v.seen log → Stops (callee_fits (catalogue_of log)) q r → Tells v q r w → (u : Passing) × StopsBody v q r u
 stops_body log v w q r later s t =
     ⊎_elim (λ x. (x.1, inr (x.0, x.2, x.4, stops_so log v x.1 q x.0 x.2 (starts_both log v.seen x.2.at later x.2.from) x.3 (subst (λ (z : Answer). Stops (callee_fits (catalogue_of log)) q z) x.4 s)))) (λ x. (w, inl x)) t
 
 -- Nor is one to the resume of what waits
-
-abbrev is_waits : Reply → Bool
-is_waits (Replies.Settled what) = false
-is_waits Replies.Waits = true
 
 in_queue_as : (s : Stance) → in_queue s ≡ true → queued s ≡ true
 in_queue_as InQueue e = refl
@@ -201,7 +181,7 @@ delay_waits_by v u k time q r is x y =
     (paused_at (limits_in u.about) u.actor u.seen y.at (u.base ++ u.own) z.at (DelayUntil time) Words.Delayed y.from (here v u (DelayUntil time) Words.Delayed a) z.owns y.owned tt y.legal)
 
 module _ (v u k : Passing) (q : Request) (r : Answer) (y : Asked u Resume r k) (values : List ℤ) where
-  by_queue : (c : Callee) → q ≡ request_of c values → Asked v q Answers.Queued u → is_waits (replied c Answers.Queued) ≡ true → waits_by c (at_resume u k r y) ≡ true
+  by_queue : (c : Callee) → q ≡ request_of c values → Asked v q Answers.Queued u → waits (replied c Answers.Queued) ≡ true → waits_by c (at_resume u k r y) ≡ true
   by_queue (Callees.Entry o p) is x e = queue_waits_by v u k o p values q r is x y
   by_queue (Callees.Internal p) is x e = absurd (cc e)
   by_queue (Callees.Function o p) is x e = absurd (cc e)
@@ -213,7 +193,7 @@ module _ (v u k : Passing) (q : Request) (r : Answer) (y : Asked u Resume r k) (
   by_queue Callees.DelayUntil is x e = absurd (cc e)
   by_queue Callees.Clock is x e = absurd (cc e)
 
-  by_suspension : (c : Callee) → q ≡ request_of c values → Asked v q Answers.Suspended u → is_waits (replied c Answers.Suspended) ≡ true → waits_by c (at_resume u k r y) ≡ true
+  by_suspension : (c : Callee) → q ≡ request_of c values → Asked v q Answers.Suspended u → waits (replied c Answers.Suspended) ≡ true → waits_by c (at_resume u k r y) ≡ true
   by_suspension (Callees.SuspendUntilTrue o) is x e = suspension_waits_by v u k o 4 [] q r is x y
   by_suspension (Callees.Entry o p) is x e = absurd (cc e)
   by_suspension (Callees.Internal p) is x e = absurd (cc e)
@@ -225,7 +205,7 @@ module _ (v u k : Passing) (q : Request) (r : Answer) (y : Asked u Resume r k) (
   by_suspension Callees.DelayUntil is x e = absurd (cc e)
   by_suspension Callees.Clock is x e = absurd (cc e)
 
-  by_delay : (c : Callee) → q ≡ request_of c values → Asked v q Answers.Delayed u → is_waits (replied c Answers.Delayed) ≡ true → waits_by c (at_resume u k r y) ≡ true
+  by_delay : (c : Callee) → q ≡ request_of c values → Asked v q Answers.Delayed u → waits (replied c Answers.Delayed) ≡ true → waits_by c (at_resume u k r y) ≡ true
   by_delay Callees.DelayUntil is x e = delay_waits_by v u k (slice_index_or values 0 (pos 0)) q r is x y
   by_delay (Callees.Entry o p) is x e = absurd (cc e)
   by_delay (Callees.Internal p) is x e = absurd (cc e)
@@ -237,11 +217,11 @@ module _ (v u k : Passing) (q : Request) (r : Answer) (y : Asked u Resume r k) (
   by_delay (Callees.SuspendUntilTrue o) is x e = absurd (cc e)
   by_delay Callees.Clock is x e = absurd (cc e)
 
-  settled_not : (b : Bool) (one other : Reply) → is_waits one ≡ false → is_waits other ≡ false → is_waits (cond b one other) ≡ false
+  settled_not : (b : Bool) (one other : Reply) → waits one ≡ false → waits other ≡ false → waits (cond b one other) ≡ false
   settled_not true one other e f = e
   settled_not false one other e f = f
 
-  started_not : (c : Callee) (s : List ℤ) → is_waits (replied c (Answers.Started s)) ≡ false
+  started_not : (c : Callee) (s : List ℤ) → waits (replied c (Answers.Started s)) ≡ false
   started_not (Callees.Entry o p) s = refl
   started_not (Callees.Internal p) s = refl
   started_not (Callees.Function o p) s = refl
@@ -253,14 +233,14 @@ module _ (v u k : Passing) (q : Request) (r : Answer) (y : Asked u Resume r k) (
   started_not Callees.DelayUntil s = refl
   started_not Callees.Clock s = refl
 
-  refused_not : (c : Callee) (rule : Rule) (line version : ℕ) → is_waits (replied c (Answers.Refused rule line version)) ≡ false
+  refused_not : (c : Callee) (rule : Rule) (line version : ℕ) → waits (replied c (Answers.Refused rule line version)) ≡ false
   refused_not c rule line version =
       settled_not (can_refuse c rule) (Replies.Settled (Come.Abandoned (cause.Raised (refusal rule)))) (Replies.Settled (Come.Abandoned (cause.Stopped true))) refl refl
 
-  done_not : (n : ℤ) → is_waits (done n) ≡ false
+  done_not : (n : ℤ) → waits (done n) ≡ false
   done_not n = settled_not (is_zero n) (Replies.Settled (Come.Given [])) (Replies.Settled (Come.Abandoned (cause.Stopped true))) refl refl
 
-  accepted_not : (c : Callee) (n : ℤ) → is_waits (replied c (Answers.Accepted n)) ≡ false
+  accepted_not : (c : Callee) (n : ℤ) → waits (replied c (Answers.Accepted n)) ≡ false
   accepted_not (Callees.Entry o p) n = refl
   accepted_not (Callees.Internal p) n = refl
   accepted_not (Callees.Function o p) n = refl
@@ -274,13 +254,13 @@ module _ (v u k : Passing) (q : Request) (r : Answer) (y : Asked u Resume r k) (
   accepted_not Callees.Clock n = refl
 
   -- what was answered to wait waits as one does by what it asked
-  waits_so : (c : Callee) (d : Answer) → q ≡ request_of c values → Asked v q d u → is_waits (replied c (told d)) ≡ true → waits_by c (at_resume u k r y) ≡ true
+  waits_so : (c : Callee) (d : Answer) → q ≡ request_of c values → Asked v q d u → waits (replied c (told d)) ≡ true → waits_by c (at_resume u k r y) ≡ true
   waits_so c Answers.Queued is x e = by_queue c is x e
   waits_so c Answers.Suspended is x e = by_suspension c is x e
   waits_so c Answers.Delayed is x e = by_delay c is x e
-  waits_so c (Answers.Started s) is x e = unlike (is_waits (replied c (Answers.Started s))) e (started_not c s)
-  waits_so c (Answers.Refused rule line version) is x e = unlike (is_waits (replied c (Answers.Refused rule line version))) e (refused_not c rule line version)
-  waits_so c (Answers.Accepted n) is x e = unlike (is_waits (replied c (Answers.Accepted n))) e (accepted_not c n)
+  waits_so c (Answers.Started s) is x e = unlike (waits (replied c (Answers.Started s))) e (started_not c s)
+  waits_so c (Answers.Refused rule line version) is x e = unlike (waits (replied c (Answers.Refused rule line version))) e (refused_not c rule line version)
+  waits_so c (Answers.Accepted n) is x e = unlike (waits (replied c (Answers.Accepted n))) e (accepted_not c n)
   waits_so c (Answers.Done next) is x e = absurd (cc e)
   waits_so c (Answers.Woken s) is x e = absurd (cc e)
   waits_so c Answers.Misuse is x e = absurd (cc e)
@@ -299,7 +279,7 @@ never_unfit_woken such v u k q p d r x z n t =
     let s : Answer = out h u.actor Resume in
     let due : told r ≡ s = told_same r t.0 ∙ y.due_is in
     let goes : is_stopped (resumed t.1 s) ≡ false =
-    resumes_go_on h u.actor t.1 (waits_so v u k q r y t.3 t.1 d t.4 x (ap is_waits t.5))
+    resumes_go_on h u.actor t.1 (waits_so v u k q r y t.3 t.1 d t.4 x (ap waits t.5))
     (ap stands (sym due) ∙ told_stands (told r) (is_told r n)) (ap is_final (sym due) ∙ t.0) in
     unlike (is_stopped (resumed t.1 s)) (ap (λ (a : Answer). is_stopped (resumed t.1 a)) (sym due) ∙ t.7) goes
 
@@ -324,7 +304,7 @@ stop_later u w q r more plain t p = record {
 }
 
 -- what waits dropped nobody, so nothing was settled behind it
-waits_drops : (c : Callee) (d : Answer) → is_waits (replied c (told d)) ≡ true → drops d ≡ false
+waits_drops : (c : Callee) (d : Answer) → waits (replied c (told d)) ≡ true → drops d ≡ false
 waits_drops c (Answers.Done (Dropped m line)) e = absurd (cc e)
 waits_drops c (Answers.Done Nothing) e = refl
 waits_drops c (Answers.Done (HandedTo m)) e = refl
@@ -344,15 +324,15 @@ waits_drops c Answers.Unattached e = refl
 waits_drops c Answers.BadLine e = refl
 waits_drops c Answers.OutOfMemory e = refl
 
-waited_at : (v m u : Passing) (c : Callee) (q : Request) (d r : Answer) → Asked v q d m → r ≡ told d → is_waits (replied c r) ≡ true → SettlesBehind d m u → Asked v q d u
+waited_at : (v m u : Passing) (c : Callee) (q : Request) (d r : Answer) → Asked v q d m → r ≡ told d → waits (replied c r) ≡ true → SettlesBehind d m u → Asked v q d u
 waited_at v m u c q d r x is e s =
-    subst (λ (z : Passing). Asked v q d z) (sym (none_behind m u d (waits_drops c d (ap (λ (z : Answer). is_waits (replied c z)) (sym is) ∙ e)) s)) x
+    subst (λ (z : Passing). Asked v q d z) (sym (none_behind m u d (waits_drops c d (ap (λ (z : Answer). waits (replied c z)) (sym is) ∙ e)) s)) x
 
 -- the resume of what waits found no act left
 wore_waiting : (such : Callee → Bool) (v u k : Passing) (q p : Request) (r s : Answer) → Tells v q r u → Tells u p s k → IsUnfitWoken such q r p s → WoreOut u p k × (s ≡ Answers.Full)
 wore_waiting such v u k q p r s f t w =
-    ⊎_elim (λ y. ⊎_elim (λ x. never_unfit_woken such v u y.1 q p x.0 y.0 (waited_at v x.1 u w.1 q x.0 r x.2 x.4 (ap is_waits w.5) x.5) y.2 y.3 (subst (λ (z : Answer × Answer). IsUnfitWoken such q z.0 p z.1) (λ i. (x.4 i, y.4 i)) w))
-    (λ x. unlike false (sym (ap (λ (z : Answer). is_waits (replied w.1 z)) x.1) ∙ ap is_waits w.5) refl) f) (λ wore. wore) t
+    ⊎_elim (λ y. ⊎_elim (λ x. never_unfit_woken such v u y.1 q p x.0 y.0 (waited_at v x.1 u w.1 q x.0 r x.2 x.4 (ap waits w.5) x.5) y.2 y.3 (subst (λ (z : Answer × Answer). IsUnfitWoken such q z.0 p z.1) (λ i. (x.4 i, y.4 i)) w))
+    (λ x. unlike false (sym (ap (λ (z : Answer). waits (replied w.1 z)) x.1) ∙ ap waits w.5) refl) f) (λ wore. wore) t
 
 stop_waiting : (such : Callee → Bool) (u w k : Passing) (q : Request) (r : Answer) (more : Trace) → is_settle q ≡ false → StopsWaiting such (q, r) more → Tells u q r w → Steps w more k → StoppedAt u ((q, r) ∷ more)
 stop_waiting such u w k q r [] plain s f t = absurd s

@@ -1,7 +1,7 @@
 -- What a call on a port did. (own)
 use Rattle.std.specs.Prelude.{◌≡◌, ◌⊎◌, ℕ, ℤ, ◌≤◌, nat_lt, ◌==◌, Bool, true, false, List, [], ◌∷◌, ◌++◌, Option, Some, None}
 use Rattle.rv_code.specs.Bodies.{UnitBodies}
-use Rattle.rv_exec.specs.Stops.{Unwinds}
+use Rattle.rv_exec.specs.Stops.{Unwinds, stops_bodies}
 use Rattle.rv_event.specs.declared.entry.Request.{Request}
 use Rattle.rv_event.specs.declared.entry.Request.TheVariants.{Call, Complete, Settle, Resume, DelayUntil, Quit}
 use Rattle.rv_event.specs.declared.entry.Exit.{Exit}
@@ -214,17 +214,10 @@ pub record StoppedAsking (v : Passing) (q : Request) (w : Passing) : Type 0 wher
   pub last : LastAsk v q asker request
   pub reason : WoreOut asker request w ⊎ ((d : Answer) × Asked asker request d w × (stops_at request d ≡ true))
 
--- the answers that stop a body: the host is halted or has no room, or the request doesn't fit (own)
-abbrev pub stops_within : Answer → Bool
-stops_within Answers.Halted = true
-stops_within Answers.Full = true
-stops_within Answers.Misuse = true
-stops_within answer = false
-
 -- why a request within a body stopped it, which was told this: no act was left, or its answer stops bodies (own)
 abbrev pub StopsBody : Passing → Request → Answer → Passing → Type 0
 StopsBody v q r w =
-    (WoreOut v q w × (r ≡ Answers.Full)) ⊎ ((d : Answer) × Asked v q d w × (r ≡ told d) × (stops_within d ≡ true))
+    (WoreOut v q w × (r ≡ Answers.Full)) ⊎ ((d : Answer) × Asked v q d w × (r ≡ told d) × (stops_bodies d ≡ true))
 
 -- By this request a run was stopped that asked all this: what it asked before, the request, and behind it ends by stopped alone. (own)
 pub record StoppedAt (u : Passing) (asked : Trace) : Type 0 where

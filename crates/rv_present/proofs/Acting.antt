@@ -1,6 +1,6 @@
 -- The actions on an object, as a body starts or ends.
 use Rattle.std.proofs.Common.{◌≡◌, ℕ, suc, ◌+◌, ◌<◌, ◌≤◌, List, [], ◌∷◌, length, get_or, set, map, drop, Some, Bool, true, false, cond, arith, ap, sym, ◌∙◌, refl}
-use Rattle.std.specs.Prelude.{◌==◌, ◌||◌, if◌then◌else◌, slice_get, replicate}
+use Rattle.std.specs.Prelude.{◌==◌, ◌||◌, slice_get, replicate}
 use Rattle.std.specs.List.{filter}
 use Rattle.std.proofs.lemmas.List.{length-map}
 use Rattle.rv_object.specs.declared.action.Action.{Action}
@@ -14,20 +14,10 @@ use Rattle.rv_history.specs.Orderly.{is_on, Each}
 use Rattle.rv_history.proofs.Answered.{off}
 use Rattle.rv_history.proofs.Bodies.{one_less, each_without}
 use Rattle.rv_history.proofs.Stances.{itself, another, some_is}
+use Rattle.rv_history.proofs.During.{filter_kept}
 use Rattle.rv_present.specs.Holdings.{actions_on, action_of, idle}
 use Rattle.rv_present.specs.Bodies.{AreActions}
 use Rattle.rv_present.proofs.Arrays.{at_set}
-
--- an end on another object
-pub kept : (p : Body → Bool) (a : ℕ) (c : Body) (bs : List Body) → slice_get (filter (by a) bs) 0 ≡ Some c → p c ≡ false → filter p (without a bs) ≡ filter p bs
-kept p a c [] h e = absurd (cc)
-kept p a c (x ∷ bs) h e = by_actor (x.actor == a) h (kept p a c bs)
-  where
-    by_actor : (t : Bool) → slice_get (cond t (x ∷ filter (by a) bs) (filter (by a) bs)) 0 ≡ Some c →
-        (slice_get (filter (by a) bs) 0 ≡ Some c → p c ≡ false → filter p (without a bs) ≡ filter p bs) →
-        filter p (if t then bs else x ∷ without a bs) ≡ filter p (x ∷ bs)
-    by_actor true g rest = ap (λ t. cond t (x ∷ filter p bs) (filter p bs)) (sym (ap p (some_is x c g) ∙ e))
-    by_actor false g rest = ap (λ ys. cond (p x) (x ∷ ys) ys) (rest g e)
 
 abbrev pub Alike : List Shape → (Body → Bool) → Action → Body → Type 0
 Alike shapes p x b = p b ≡ true → action_of shapes b ≡ x
@@ -77,7 +67,7 @@ pub actions_end : (shapes : List Shape) (bs : List Body) (objects : List ObjectV
 actions_end shapes bs objects a b x some are inner alike is =
     at_set objects b.object x idle (λ j y. y.actions ≡ actions_on shapes j (without a bs)) some
     (ends_own shapes bs b.object a b (get_or objects b.object idle).actions x.actions (are b.object) inner (itself b.object) alike is)
-    (λ j h. are j ∙ ap (map (action_of shapes)) (sym (kept (is_on j) a b bs inner (another b.object j h))))
+    (λ j h. are j ∙ ap (map (action_of shapes)) (sym (filter_kept (is_on j) a b bs inner (another b.object j h))))
 
 same_self : (x : Action) → same_action x x ≡ true
 same_self Shared = refl

@@ -11,13 +11,13 @@ use Rattle.rv_event.proofs.Matching.{by, filter_without, filter_others}
 use Rattle.rv_history.specs.Orderly.{Each, is_on}
 use Rattle.rv_history.proofs.Bodies.{each_first, each_without, none_on, one_less}
 use Rattle.rv_history.proofs.Stances.{another, first_actor, itself}
+use Rattle.rv_history.proofs.During.{filter_kept, none_ends}
 use Rattle.rv_present.specs.declared.bodies.Bodies.{Bodies}
 use Rattle.rv_present.specs.Bodies.{IsBodies, IsKnown}
 use Rattle.rv_present.specs.Holdings.{action_of, actions_on, idle}
 use Rattle.rv_present.specs.Unsettled.{AreAlike, AreUnsettled, Leavers, counted, one_or_none}
-use Rattle.rv_present.proofs.Acting.{kept}
 use Rattle.rv_present.proofs.Arrays.{at_set}
-use Rattle.rv_present.proofs.UnderWay.{gone, none_ends}
+use Rattle.rv_present.proofs.UnderWay.{gone}
 
 few_counted : (t : Bool) → counted t ≤ 1
 few_counted true = omega arith
@@ -79,7 +79,7 @@ settled_kept left u objects a b x is settled k =
       on =
           at_set objects b.object x idle (λ o y. length (filter (is_on o) (without a left)) ≡ counted y.unsettled) there.1
           (none ∙ ap counted (sym settled))
-          (λ o h. ap (λ bs. length bs) (kept (is_on o) a b left first (another b.object o h)) ∙ k.on o);
+          (λ o h. ap (λ bs. length bs) (filter_kept (is_on o) a b left first (another b.object o h)) ∙ k.on o);
       known =
           known_as (length (set u.bodies a None)) (length (set objects b.object x)) (length u.bodies) (length objects) (without a left) (length-set u.bodies a None) (length-set objects b.object x)
           (each_without (IsKnown (length u.bodies) (length objects)) a left k.known);

@@ -16,21 +16,13 @@ use Rattle.rv_event.proofs.Matching.{by}
 use Rattle.rv_history.specs.Orderly.{Each}
 use Rattle.rv_history.proofs.Bodies.{each_without}
 use Rattle.rv_history.proofs.Stances.{same_number, some_is}
+use Rattle.rv_history.proofs.During.{none_ends}
 use Rattle.rv_present.specs.Ends.{left_by}
 use Rattle.rv_present.specs.Holdings.{action_of, idle}
 use Rattle.rv_present.specs.Bodies.{IsBodies, IsKnown}
 use Rattle.rv_present.specs.declared.bodies.Bodies.{Bodies}
 use Rattle.rv_present.proofs.Acting.{actions_end}
 use Rattle.rv_present.proofs.Holding.{stacks_end}
-
-pub none_ends : (a : ℕ) (bs : List Body) → slice_get (filter (by a) bs) 0 ≡ None → without a bs ≡ bs
-none_ends a [] h = refl
-none_ends a (x ∷ bs) h = by_actor (x.actor == a) h (none_ends a bs)
-  where
-    by_actor : (t : Bool) → slice_get (cond t (x ∷ filter (by a) bs) (filter (by a) bs)) 0 ≡ None → (slice_get (filter (by a) bs) 0 ≡ None → without a bs ≡ bs) →
-        (if t then bs else x ∷ without a bs) ≡ x ∷ bs
-    by_actor true g rest = absurd (cc)
-    by_actor false g rest = ap (λ ys. x ∷ ys) (rest g)
 
 -- it is one of them
 pub each_inner : (P : Body → Type 0) (a : ℕ) (b : Body) (bs : List Body) → slice_get (filter (by a) bs) 0 ≡ Some b → Each P bs → P b

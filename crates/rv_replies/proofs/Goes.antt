@@ -52,7 +52,7 @@ gate_goes P true true r m k p = k
 gate_goes P true false r m k p = p
 gate_goes P false shut r m k p = m
 
-within_goes : (P : Answer → Bool) (room : Bool) (r : Answer) → P Answers.Full ≡ true → P r ≡ true → P (within room r) ≡ true
+pub within_goes : (P : Answer → Bool) (room : Bool) (r : Answer) → P Answers.Full ≡ true → P r ≡ true → P (within room r) ≡ true
 within_goes P true r f p = p
 within_goes P false r f p = f
 
@@ -63,7 +63,7 @@ out_goes P m k f h a q e =
 
 -- Operations of protected objects
 
-and_not : (b c : Bool) → c ≡ false → (b && c) ≡ false
+pub and_not : (b c : Bool) → c ≡ false → (b && c) ≡ false
 and_not true c e = e
 and_not false c e = refl
 

@@ -5,12 +5,13 @@ use Rattle.rv_shape.specs.Shape.{Shape}
 use Rattle.rv_crew.specs.declared.crew.Closed.{Closed}
 use Rattle.rv_fault.specs.declared.failure.Failure.{Failure}
 use Rattle.rv_fault.specs.declared.failure.Failure.TheVariants.{Memory}
+use Rattle.rv_fault.specs.Written.{IsNoFault}
 use Rattle.rv_staff.specs.Ending.{Ended}
 use Rattle.rv_staff.specs.Giving.{Starts}
 use Rattle.rv_staff.specs.Saying.{Known, Says, SaysLost}
 use Rattle.rv_staff.specs.Staffs.{Staffed}
 use Rattle.rv_run.specs.ServingLines.{ServesAll}
-use Rattle.rv_run.specs.Staging.{IsNoFault, ReadsNothing, Stage}
+use Rattle.rv_run.specs.Staging.{ReadsNothing, Stage}
 
 -- how serving ended
 abbrev pub Served : Type 0

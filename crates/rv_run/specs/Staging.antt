@@ -1,7 +1,7 @@
 -- How far a run has come: its operator and threads, what it wrote, and what its input still gives. (own)
 use Rattle.std.specs.Prelude.{◌≡◌, ℕ, List, Result, Ok, Err}
 use Rattle.rv_fault.specs.declared.failure.Failure.{Failure}
-use Rattle.rv_fault.specs.declared.failure.Failure.TheVariants.{Refused, Memory, Io}
+use Rattle.rv_fault.specs.Written.{IsNoFault}
 use Rattle.rv_input.specs.Coming.{IfTold, Reading, coming, most_before}
 use Rattle.rv_staff.specs.Saying.{Known, Says}
 use Rattle.rv_staff.specs.Staffs.{Staffed}
@@ -21,12 +21,6 @@ stage staff written input left = record { staff = staff; written = written; inpu
 -- how a command ended: whether the run goes on, or why it fails
 abbrev pub Outcome : Type 0
 Outcome = Result Goes Failure
-
--- nothing that the script is refused for
-abbrev pub IsNoFault : Failure → Type 0
-IsNoFault (Refused told) = ⊥
-IsNoFault Memory = Unit {0}
-IsNoFault (Io error) = Unit {0}
 
 -- the run goes on, unless memory or the system failed it
 abbrev pub GoesOn : Outcome → Type 0

@@ -1,8 +1,9 @@
 //! The commands of the operator.
 
 ghost use Rattle.std.specs.Prelude.{◌≡◌, ℕ, List, Err};
+ghost use Rattle.rv_fault.specs.Written.{IsNoFault};
 ghost use Rattle.rv_run.specs.Commanding.{Behind, Commands, LoadsNext, LoadsText, SaysFault, StartsOn, Welcomes, goes_behind};
-ghost use Rattle.rv_run.specs.Staging.{GoesOn, IsNoFault, IsSaid, SaysOn, stage};
+ghost use Rattle.rv_run.specs.Staging.{GoesOn, IsSaid, SaysOn, stage};
 
 use rv_event::entry::Answer;
 use rv_fault::{Failure, ScriptFault, What, text_unit};

@@ -9,7 +9,7 @@ use Rattle.rv_static.specs.declared.meaning.Meaning.{Meaning}
 use Rattle.rv_static.specs.declared.meaning.Number.{Number}
 use Rattle.rv_static.specs.declared.meaning.Number.TheVariants.{Known, Skipped}
 use Rattle.rv_static.specs.Meanings.{in_bounds}
-use Rattle.rv_static.specs.Static.{◌>>=◌, number_in, static_of}
+use Rattle.rv_static.specs.Static.{◌>>=◌, number_in, static_of, is_discrete}
 
 -- a number that was evaluated
 abbrev pub known_number : Number → Option ℤ
@@ -24,13 +24,6 @@ static_number means r e = number_in r.of (static_of means true e) >>= known_numb
 abbrev pub bounded : Range → ℤ → ℤ → Option Range
 bounded r low high =
     if int_lt high low || (in_bounds r low && in_bounds r high) then Some (record { of = r.of; low = low; high = high }) else None
-
--- a discrete type: a range constraint applies to no other (3.2.2, 3.5.5)
-abbrev pub is_discrete : ValueType → Bool
-is_discrete Integer = true
-is_discrete Boolean = true
-is_discrete Time = false
-is_discrete TimeSpan = false
 
 -- the range between two bounds of a range constraint
 abbrev pub constrained : (Name → Meaning) → Range → RangeConstraint → Option Range

@@ -70,16 +70,17 @@ abbrev pub highest_of : HighestOperator → Option Static → Option Static
 highest_of operator.Abs v = of_type Integer (number_in Integer v >>= absolute)
 highest_of operator.Not v = of_type Boolean (maybe_negated (number_in Boolean v))
 
--- values of these types are compared (own: no two values of Time or Time_Span are static together)
-abbrev pub is_compared : ValueType → Bool
-is_compared Integer = true
-is_compared Boolean = true
-is_compared Time = false
-is_compared TimeSpan = false
+-- a discrete type (3.2)
+abbrev pub is_discrete : ValueType → Bool
+is_discrete Integer = true
+is_discrete Boolean = true
+is_discrete Time = false
+is_discrete TimeSpan = false
 
+-- a value that is compared (own: no two values of Time or Time_Span are static together)
 abbrev pub comparable : Option Static → Option Static
 comparable None = None
-comparable (Some v) = if is_compared v.of then Some v else None
+comparable (Some v) = if is_discrete v.of then Some v else None
 
 abbrev pub compared : RelationalOperator → Static → Static → Option Number
 compared op left right = if same_type right.of left.of then Some (related op left.number right.number) else None

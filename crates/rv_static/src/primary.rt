@@ -4,7 +4,7 @@ ghost use Rattle.std.specs.Prelude.{◌≡◌};
 ghost use Rattle.rv_tree.specs.NameView.{identifier_view};
 ghost use Rattle.rv_shape.specs.declared.kind.ValueType.TheVariants.{Integer, Boolean};
 ghost use Rattle.rv_static.specs.Meanings.{same_type, static_of_type, shown, constant_in, placed};
-ghost use Rattle.rv_static.specs.Static.{literal_number, bound_of, is_compared};
+ghost use Rattle.rv_static.specs.Static.{literal_number, bound_of, is_discrete};
 ghost use Rattle.rv_static.specs.Told.{told_unless};
 
 use crate::fault::{Faults, TypeFault};
@@ -145,13 +145,13 @@ pub(crate) fn boolean(number: Number) -> Static
     }
 }
 
-// Whether values of the type are compared.
-pub(crate) fn is_compared(of: ValueType) -> bool
-    ensures { result ≡ is_compared of }
+/// Whether the type is discrete: a range constraint applies to no other, and its values alone are compared (ISO/IEC 8652:2012, 3.2,
+/// 3.2.2).
+pub fn is_discrete(of: ValueType) -> bool
+    ensures { result ≡ is_discrete of }
 {
     match of {
-        ValueType::Integer => true,
-        ValueType::Boolean => true,
-        _ => false,
+        ValueType::Integer | ValueType::Boolean => true,
+        ValueType::Time | ValueType::TimeSpan => false,
     }
 }

@@ -5,11 +5,12 @@ ghost use Rattle.rv_tree.specs.NameView.{name_view};
 ghost use Rattle.rv_tree.specs.DeclarationView.{maybe};
 ghost use Rattle.rv_tree.specs.ExpressionView.{expression_view, range_view};
 ghost use Rattle.rv_static.specs.Meanings.{range_in, in_bounds};
-ghost use Rattle.rv_static.specs.Ranges.{static_number, bounded, is_discrete, constrained, narrowed, default_start, within, value_in, start_of};
+ghost use Rattle.rv_static.specs.Ranges.{static_number, bounded, constrained, narrowed, default_start, within, value_in, start_of};
 ghost use Rattle.rv_static.specs.Told.{told_unless};
 
 use crate::fault::{Faults, TypeFault};
 use crate::meaning::{Meaning, Meanings, Number};
+use crate::primary::is_discrete;
 use crate::value::operand;
 use rv_shape::kind::{Range, ValueType};
 use rv_tree::{Expression, Name, RangeConstraint};
@@ -93,16 +94,6 @@ fn bounded(
         return None;
     }
     Some(found)
-}
-
-// Whether a range constraint applies to the type.
-fn is_discrete(of: ValueType) -> bool
-    ensures { result ≡ is_discrete of }
-{
-    match of {
-        ValueType::Integer | ValueType::Boolean => true,
-        ValueType::Time | ValueType::TimeSpan => false,
-    }
 }
 
 // The range between the bounds of a range constraint.

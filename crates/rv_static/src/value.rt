@@ -11,7 +11,7 @@ ghost use Rattle.rv_static.specs.Told.{told_unless};
 use crate::arithmetic::{absolute, added, decides, joined, multiplied, negated, related, signed};
 use crate::fault::{Faults, TypeFault};
 use crate::meaning::{Meaning, Meanings, Number, Static};
-use crate::primary::{boolean, bound, constant, integer, is_compared, literal, placed, same_type};
+use crate::primary::{boolean, bound, constant, integer, is_discrete, literal, placed, same_type};
 use rv_shape::kind::ValueType;
 use rv_tree::{Expression, Factor, HighestOperator, LogicalOperator, Name, Term};
 
@@ -217,7 +217,7 @@ fn compared<N: Meanings>(
     ensures told { faults.new ≡ told_unless result faults.old }
 {
     let found = value(e, is_evaluated, names, faults)?;
-    if is_compared(found.of) {
+    if is_discrete(found.of) {
         return Some(found);
     }
     faults.tell(TypeFault::Mismatch(e.place()));

@@ -1,19 +1,16 @@
 -- The table of the same list over one more unit.
-use Rattle.std.proofs.Common.{◌≡◌, ◌∙◌, ◌++◌, ◌∷◌, [], ℕ, ap, subst, sym, List, append-nil}
+use Rattle.std.proofs.Common.{◌≡◌, ◌++◌, ◌∷◌, [], ℕ, ap, subst, sym, List}
 use Rattle.std.specs.List.{AllZip}
-use Rattle.std.proofs.lemmas.Grind.{flat_map-append}
 use Rattle.std.proofs.lemmas.List.{map-append}
 use Rattle.rv_access.specs.Words.{Words}
 use Rattle.rv_shape.specs.Catalogue.{all_objects, objects_of}
 use Rattle.rv_shape.specs.Shape.{Shape}
+use Rattle.rv_shape.proofs.Added.{objects_append}
 use Rattle.rv_table.specs.Spans.{IsSpans, SpanMarks}
 use Rattle.rv_table.specs.Tables.{AreSites, IsCaller, IsTable, Marks, callers}
 
 callers_append : (shapes : List Shape) (s : Shape) → callers (shapes ++ s ∷ []) ≡ callers shapes ++ s.name ∷ []
 callers_append shapes s = ap (λ (names : List (List ℕ)). callers [] ++ names) (map-append (λ (shape : Shape). shape.name) shapes (s ∷ []))
-
-objects_append : (shapes : List Shape) (s : Shape) → all_objects (shapes ++ s ∷ []) ≡ all_objects shapes ++ objects_of s
-objects_append shapes s = flat_map-append objects_of shapes (s ∷ []) ∙ ap (λ os. all_objects shapes ++ os) (append-nil (objects_of s))
 
 pub table_more : (list : List Words) (shapes : List Shape) (s : Shape) (t : Marks) (own : List (List ℕ)) (sites : List (List (List ℕ))) (spans : SpanMarks) →
     IsTable list shapes t →

@@ -13,7 +13,7 @@ own = numerals_by_fold _ (search rules) read_on (search rules)
 parsed : {E : Type 0} (bs : List ℕ) (r : Result ℕ E) → ParsesUnsigned 64 10 bs r → all_ascii_digits bs ≡ true → 0 < length bs → length bs ≤ 18 → r ≡ Ok (read_on 0 bs)
 parsed bs r h p some few = parse_gives own 64 bs r h p some (omega (arith, digits_value_short own bs 18 p few))
 
-tested : (bs : List ℕ) → all_ascii_digits bs ≡ true → 0 < length bs → length bs ≤ 18 → is_natural bs ≡ true
+pub tested : (bs : List ℕ) → all_ascii_digits bs ≡ true → 0 < length bs → length bs ≤ 18 → is_natural bs ≡ true
 tested bs p some few =
     let a : nat_lt 0 (length bs) ≡ true = grind (arith, nat_tests, some) in
     let b : nat_le (length bs) 18 ≡ true = grind (arith, nat_tests, few) in

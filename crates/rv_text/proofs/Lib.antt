@@ -3,3 +3,4 @@ pub mod Digits
 pub mod NextAt
 pub mod NextSection
 pub mod DottedName
+pub mod Spelling

@@ -5,7 +5,7 @@ ghost use Rattle.rv_tree.specs.NameView.{name_view};
 ghost use Rattle.rv_tree.specs.ExpressionView.{expression_view, range_view};
 ghost use Rattle.rv_tree.specs.StatementView.{bounds_view as tree_bounds_view};
 ghost use Rattle.rv_static.specs.Meanings.{range_in};
-ghost use Rattle.rv_static.specs.Ranges.{is_discrete as type_is_discrete, bounded as bounded_range};
+ghost use Rattle.rv_static.specs.Ranges.{bounded as bounded_range};
 ghost use Rattle.rv_code.specs.ExpressionView.{expression_view as code_view};
 ghost use Rattle.rv_types.specs.Points.{static_meaning};
 ghost use Rattle.rv_types.specs.Typed.{literal_in as literal_of, typed};
@@ -20,7 +20,7 @@ use crate::typed::{Typed, literal_in};
 use rv_code::Expression as Code;
 use rv_outline::point::whole_range;
 use rv_shape::kind::{Range, ValueType};
-use rv_static::{Meaning, Meanings, TypeFault};
+use rv_static::{Meaning, Meanings, TypeFault, is_discrete};
 use rv_tree::{Expression, LoopBounds, Name, RangeConstraint};
 use std::alloc::Global;
 
@@ -31,15 +31,6 @@ pub struct Bounds {
     pub low: Code,
     pub high: Code,
     pub parameter: Range,
-}
-
-pub(crate) fn is_discrete(of: ValueType) -> bool
-    ensures { result ≡ type_is_discrete of }
-{
-    match of {
-        ValueType::Integer | ValueType::Boolean => true,
-        ValueType::Time | ValueType::TimeSpan => false,
-    }
 }
 
 // A range of a discrete type.

@@ -1,5 +1,5 @@
 -- What is said of a script, from what is said of what it brings.
-use Rattle.std.proofs.Common.{◌≡◌, ℕ, ◌<◌, ◌≤◌, List, Some, None, Option, Ok, Err, Result, length, take, refl, sym, ap, ◌∙◌, subst, arith, min, length-take, inl, inr}
+use Rattle.std.proofs.Common.{◌≡◌, ℕ, ◌≤◌, List, Some, None, Option, Ok, Err, Result, length, take, sym, ap, ◌∙◌, subst, arith, inl, inr}
 use Rattle.std.specs.Prelude.{Bool, IfSome}
 use Rattle.std.proofs.lemmas.List.{take_all}
 use Rattle.rv_history.specs.declared.limits.Limits.{Limits}
@@ -7,12 +7,12 @@ use Rattle.rv_script.specs.Whole.{IsScript, IsRefused}
 use Rattle.rv_script.specs.declared.read.ReadError.{ReadError}
 use Rattle.rv_script.specs.declared.read.ReadError.TheVariants as Reads
 use Rattle.rv_script.specs.declared.read.TextError.{TextError}
-use Rattle.rv_script.specs.declared.read.TextError.TheVariants.{TooLong, NotText}
 use Rattle.rv_script.proofs.Wrote.{keeps_nothing}
 use Rattle.rv_fault.specs.declared.failure.Failure.{Failure}
 use Rattle.rv_fault.specs.declared.failure.Failure.TheVariants.{Refused, Memory, Io}
 use Rattle.rv_fault.specs.declared.fault.ScriptFault.{ScriptFault}
-use Rattle.rv_fault.specs.Faults.{of_bytes, of_read}
+use Rattle.rv_fault.specs.Faults.{of_read}
+use Rattle.rv_fault.proofs.Scripts.{same_reason, refused_read, not_both, fault_of}
 use Rattle.rv_verdict.specs.Given.{GivenText}
 use Rattle.rv_verdict.specs.Brought.{Brings, Brought, GivesScript}
 use Rattle.rv_verdict.specs.Audits.{AuditsScript, AuditsText, Saying}
@@ -39,16 +39,6 @@ said_of has_journal Says old new script it (Err (Io error)) never brings says = 
 
 -- Bytes
 
-not_both : (bytes : List ℕ) (error : TextError) → IsScript bytes → IsRefused bytes error → ⊥
-not_both bytes TooLong script refused = let short = script.short in absurd (omega arith)
-not_both bytes NotText script refused = refused.1 script.text
-
-same_reason : (bytes : List ℕ) (error told : TextError) → IsRefused bytes told → IsRefused bytes error → error ≡ told
-same_reason bytes TooLong TooLong x y = refl
-same_reason bytes NotText NotText x y = refl
-same_reason bytes TooLong NotText x y = let few = x.0 in absurd (omega (arith, y))
-same_reason bytes NotText TooLong x y = let few = y.0 in absurd (omega (arith, x))
-
 pub text_audited_by : {A : Type 0} (has_journal : Bool) (Says : List ℕ → Saying A) (old new : Option (List ℕ)) (bytes text : List ℕ) (r : Result A Failure) → (text ≡ bytes) × IsScript bytes → AuditsText has_journal (Says text) old new text r →
     AuditsScript has_journal (Says bytes) old new bytes r
 text_audited_by has_journal Says old new bytes text r is said = record {
@@ -60,9 +50,6 @@ pub text_audited : {A : Type 0} (has_journal : Bool) (Says : Saying A) (old new 
     AuditsScript has_journal Says old new bytes r
 text_audited has_journal Says = text_audited_by has_journal (λ script. Says)
 
-abbrev fault_of : TextError → ScriptFault
-fault_of error = record { line = 1; what = of_bytes error }
-
 pub bytes_refused : {A : Type 0} (has_journal : Bool) (Says : Saying A) (old : Option (List ℕ)) (bytes : List ℕ) (told : TextError) (failure : Failure) → IsRefused bytes told → failure ≡ Refused (fault_of told) →
     AuditsScript has_journal Says old old bytes (Err failure)
 bytes_refused has_journal Says old bytes told failure refused e =
@@ -73,16 +60,6 @@ bytes_refused has_journal Says old bytes told failure refused e =
     })
 
 -- What a reader had
-
-still_long : (bytes script : List ℕ) → bytes ≡ take 16777217 script → 16777216 < length script → 16777216 < length bytes
-still_long bytes script e long =
-    let same : length bytes ≡ min 16777217 (length script) = ap length e ∙ length-take 16777217 script in
-    omega arith
-
-refused_read : (bytes script : List ℕ) (error : TextError) → bytes ≡ take 16777217 script → IsRefused script error → IsRefused bytes error
-refused_read bytes script TooLong e refused = still_long bytes script e refused
-refused_read bytes script NotText e refused =
-    subst (λ (l : List ℕ). IsRefused l NotText) (sym (e ∙ take_all 16777217 script (omega (arith, refused.0)))) refused
 
 pub script_audited_by : {A : Type 0} (has_journal : Bool) (Says : List ℕ → Saying A) (old new known : Option (List ℕ)) (bytes : List ℕ) (r : Result A Failure) → IfSome known (λ input. bytes ≡ take 16777217 input) → AuditsScript has_journal (Says bytes) old new bytes r →
     IfSome known (λ script. AuditsScript has_journal (Says script) old new script r)

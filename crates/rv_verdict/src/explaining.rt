@@ -8,9 +8,9 @@ ghost use Rattle.rv_reading.specs.Reads.{told};
 ghost use Rattle.rv_reading.specs.Told.{Asks, Lists, Loads};
 ghost use Rattle.rv_shape.specs.Shape.{Shape};
 ghost use Rattle.rv_ends.specs.Tally.{Follows};
+ghost use Rattle.rv_fault.specs.Written.{IsNoFault};
 ghost use Rattle.rv_verdict.specs.Ends.{SaysEnds, asks_line, counted_line, ends_line, gives_line};
 ghost use Rattle.rv_verdict.specs.Explaining.{FollowsBy, TakesLine, TakesTold};
-ghost use Rattle.rv_verdict.specs.Judging.{IsOfCall};
 ghost use Rattle.rv_verdict.specs.Texts.{texts_now};
 
 use crate::texts::{bodies_of, text_named};
@@ -91,7 +91,7 @@ impl Explainer {
     /// Before the first line of a journal within limits. Err where memory was refused.
     pub fn new(alloc: Global, limits: Limits) -> Result<Explainer, Failure>
         ensures follows { IfOk result (λ explainer. Follows explainer.tally (empty limits) []) }
-        ensures err { IfErr result IsOfCall }
+        ensures err { IfErr result IsNoFault }
     {
         let Ok(tally) = Tally::new(alloc, limits.capacity, limits.queue) else {
             return Err(Failure::Memory);
@@ -107,7 +107,7 @@ impl Explainer {
     fn ask(&mut self, number: usize, actor: usize, request: &Request) -> Result<(), Failure>
         ensures takes { OnOk result ((units : List Shape) (texts : List (Option (List ℕ))) (word : Recorded) →
             TakesTold self.old.tally self.new.tally units texts number (Asks actor request.now word)) }
-        ensures err { IfErr result IsOfCall }
+        ensures err { IfErr result IsNoFault }
     {
         self.tally.ask(number, actor, request)?;
         Ok(())
@@ -122,7 +122,7 @@ impl Explainer {
     ) -> Result<(), Failure>
         ensures takes { OnOk result ((number actor : ℕ) (word : Recorded) →
             TakesTold self.old.tally self.new.tally units.now (texts_now texts.now) number (Loads actor name.now word)) }
-        ensures err { IfErr result IsOfCall }
+        ensures err { IfErr result IsNoFault }
     {
         let Some(shape) = first_unit(units, name) else {
             return Ok(());
@@ -137,7 +137,7 @@ impl Explainer {
     fn set_list(&mut self, text: &str) -> Result<(), Failure>
         ensures takes { OnOk result ((units : List Shape) (texts : List (Option (List ℕ))) (number actor : ℕ) (word : Recorded) →
             TakesTold self.old.tally self.new.tally units texts number (Lists actor text.now word)) }
-        ensures err { IfErr result IsOfCall }
+        ensures err { IfErr result IsNoFault }
     {
         let Ok(list) = list_of(self.alloc, text) else {
             return Err(Failure::Memory);
@@ -155,7 +155,7 @@ impl Explainer {
         deed: &Deed<'_>,
     ) -> Result<(), Failure>
         ensures takes { OnOk result (TakesTold self.old.tally self.new.tally units.now (texts_now texts.now) number (told deed.now)) }
-        ensures err { IfErr result IsOfCall }
+        ensures err { IfErr result IsNoFault }
     {
         match *deed {
             Deed::Asks(actor, request, _) => self.ask(number, actor, &request),
@@ -173,7 +173,7 @@ impl Explainer {
         line: &str,
     ) -> Result<(), Failure>
         ensures takes { OnOk result (TakesLine self.old.tally self.new.tally units.now (texts_now texts.now) number line.now) }
-        ensures err { IfErr result IsOfCall }
+        ensures err { IfErr result IsNoFault }
     {
         if !self.tally.goes_on() {
             return Ok(());
@@ -198,7 +198,7 @@ impl Explainer {
         line: &[u8],
     ) -> Result<(), Failure>
         ensures takes { OnOk result (TakesLine self.old.tally self.new.tally units.now (texts_now texts.now) number line.now) }
-        ensures err { IfErr result IsOfCall }
+        ensures err { IfErr result IsNoFault }
     {
         self.tally.replays();
         match str::from_utf8(line) {

@@ -18,6 +18,7 @@ use Rattle.rv_event.specs.declared.entry.Next.TheVariants.{Dropped}
 use Rattle.rv_event.specs.declared.entry.Recorded.TheVariants.{Started, Queued, Refused, Done, Suspended, Delayed, Woken, Accepted}
 use Rattle.rv_event.specs.declared.entry.Request.{Request}
 use Rattle.rv_event.specs.declared.entry.Request.TheVariants.{Call}
+use Rattle.rv_event.proofs.Unnamed.{filter_append}
 use Rattle.rv_history.specs.History.{History}
 use Rattle.rv_history.specs.Legal.{Legal}
 use Rattle.rv_history.specs.Due.{out}
@@ -25,7 +26,7 @@ use Rattle.rv_history.specs.Exclusion.{full_queue}
 use Rattle.rv_history.specs.Limits.{is_queue_limit, most_queued}
 use Rattle.rv_history.specs.Owed.{actors}
 use Rattle.rv_history.specs.Orderly.{Each, IsOfEntry, is_on}
-use Rattle.rv_history.proofs.Bodies.{each_filter, filter_append}
+use Rattle.rv_history.proofs.Bodies.{each_filter}
 use Rattle.rv_history.proofs.Answered.{both, off}
 use Rattle.rv_history.proofs.Ending.{head_on, head_waits, names_at}
 use Rattle.rv_history.proofs.HandOver.{others_kept}

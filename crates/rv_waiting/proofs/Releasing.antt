@@ -16,23 +16,13 @@ use Rattle.rv_history.specs.Frame.{is_apart}
 use Rattle.rv_history.specs.History.{History}
 use Rattle.rv_history.specs.Legal.{Legal}
 use Rattle.rv_history.proofs.Frame.{all_parts, not_own, unsaid}
-use Rattle.rv_history.proofs.Released.{Outcome, outcome}
+use Rattle.rv_history.proofs.Released.{Outcome, outcome, set_releases}
 use Rattle.rv_history.proofs.Stances.{itself}
 
 -- a Set_True since its last entry
 
-or_more : (b c : Bool) → c ≡ true → (b || c) ≡ true
-or_more true c e = refl
-or_more false c e = e
-
 released_more : (a o : ℕ) (e : Entry) (past : List Entry) → is_apart a e ≡ true → released a o (e ∷ past) ≡ (is_set (touch o e) || released a o past)
 released_more a o e past apart = ap (λ s. list_any (λ x. is_set (touch o x)) (if is_some s then [] else e ∷ since a past)) (unsaid a e apart)
-
-set_releases : (a o : ℕ) (later : List Entry) (set : Entry) (earlier : List Entry) → list_all (is_apart a) (later ++ set ∷ []) ≡ true → touch o set ≡ Sets → released a o (later ++ set ∷ earlier) ≡ true
-set_releases a o [] set earlier silent sets = released_more a o set earlier (all_parts (is_apart a) set [] silent).0 ∙ ap (λ t. is_set t || released a o earlier) sets
-set_releases a o (e ∷ later) set earlier silent sets =
-    let parts = all_parts (is_apart a) e (later ++ set ∷ []) silent in
-    released_more a o e (later ++ set ∷ earlier) parts.0 ∙ or_more (is_set (touch o e)) (released a o (later ++ set ∷ earlier)) (set_releases a o later set earlier parts.1 sets)
 
 -- whoever waits after it is another
 

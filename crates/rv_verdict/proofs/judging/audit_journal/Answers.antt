@@ -3,8 +3,8 @@ use Rattle.std.proofs.lemmas.Result.{err_from_is_err_and}
 use Rattle.rv_shape.specs.Shape.{Shape}
 use Rattle.rv_script.specs.UnitTexts.{without_returns}
 use Rattle.rv_fault.specs.declared.failure.Failure.TheVariants.{Memory}
+use Rattle.rv_fault.specs.Written.{IsNoFault}
 use Rattle.rv_verdict.specs.Audits.{SaysOf}
-use Rattle.rv_verdict.specs.Judging.{IsOfCall}
 use Rattle.rv_verdict.specs.Said.{Says}
 use Rattle.rv_verdict.proofs.Telling.{section_fails, section_said}
 use Rattle.rv_verdict.proofs.judging.audit_journal.Goals as goal
@@ -17,7 +17,7 @@ returns-in_err-journal g c =
 pub returns-in_err-audit : goal.returns-in_err-audit
 returns-in_err-audit g c =
     let p = err_from_is_err_and c.from_residual-in_err-audit.result c.from_residual-in_err-audit.ensures.1 in
-    rw (p.1, p.2) (section_fails (g.W.Write.contents c.args.writer.now) c.args.limits c.args.units.now (without_returns c.args.journal.now) c.in_err-audit.field-0.0 (subst IsOfCall (sym c.in_err-audit.ensures.err) tt))
+    rw (p.1, p.2) (section_fails (g.W.Write.contents c.args.writer.now) c.args.limits c.args.units.now (without_returns c.args.journal.now) c.in_err-audit.field-0.0 (subst IsNoFault (sym c.in_err-audit.ensures.err) tt))
 
 pub returns : goal.returns
 returns g c =

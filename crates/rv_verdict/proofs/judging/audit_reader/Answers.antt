@@ -1,7 +1,8 @@
 use Rattle.std.proofs.Common.{List, sym, subst}
 use Rattle.std.proofs.lemmas.Result.{err_from_is_err_and}
 use Rattle.rv_shape.specs.Shape.{Shape}
-use Rattle.rv_verdict.specs.Judging.{Found, IsOfCall}
+use Rattle.rv_fault.specs.Written.{IsNoFault}
+use Rattle.rv_verdict.specs.Judging.{Found}
 use Rattle.rv_verdict.proofs.Lines.{at_first}
 use Rattle.rv_verdict.proofs.Telling.{file_broken, file_fails, file_said}
 use Rattle.rv_verdict.proofs.judging.audit_reader.Goals as goal
@@ -9,7 +10,7 @@ use Rattle.rv_verdict.proofs.judging.audit_reader.Goals as goal
 pub returns-in_err-audit : goal.returns-in_err-audit
 returns-in_err-audit g c =
     let p = err_from_is_err_and c.from_residual.result c.from_residual.ensures.1 in
-    rw (p.1, p.2) (file_fails (g.J.Read.remaining c.args.journal.now) c.args.takes_torn (g.W.Write.contents c.args.writer.now) c.args.limits c.args.units.now c.in_err-audit.field-0.0 (subst IsOfCall (sym c.in_err-audit.ensures.err) tt))
+    rw (p.1, p.2) (file_fails (g.J.Read.remaining c.args.journal.now) c.args.takes_torn (g.W.Write.contents c.args.writer.now) c.args.limits c.args.units.now c.in_err-audit.field-0.0 (subst IsNoFault (sym c.in_err-audit.ensures.err) tt))
 
 pub returns-in_err-verdict : goal.returns-in_err-verdict
 returns-in_err-verdict g c =

@@ -2,9 +2,10 @@ use Rattle.std.proofs.Common.{◌∙◌, sym, arith, ap, length, List}
 use Rattle.std.specs.Prelude.{slice_get}
 use Rattle.rv_prio.specs.declared.held.Held.{Held}
 use Rattle.rv_event.specs.declared.entry.Body.{Body}
-use Rattle.rv_present.proofs.UnderWay.{gone, none_ends}
+use Rattle.rv_present.proofs.UnderWay.{gone}
 use Rattle.rv_present.proofs.Holding.{inner_body, no_inner, body_of}
 use Rattle.rv_present.proofs.bodies.Bodies.number_without.Goals as goal
+use Rattle.rv_history.proofs.During.{none_ends}
 
 pub returns-in-Some-clause-value : goal.returns-in-Some-clause-value
 returns-in-Some-clause-value c = λ shapes bs k.

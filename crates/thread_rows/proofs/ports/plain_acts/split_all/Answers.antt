@@ -1,6 +1,6 @@
 use Rattle.std.proofs.Common.{◌+◌, ◌≤◌, ap, sym, subst, arith, ◌∙◌}
 use Rattle.rv_turn.specs.Histories.{Each}
-use Rattle.rv_port.proofs.Above.{not_among, each_below}
+use Rattle.rv_turn.proofs.Passes.{not_among, each_below}
 use Rattle.thread_rows.proofs.ports.plain_acts.split_all.Goals as goal
 
 pub split-requires-clause-actor : goal.split-requires-clause-actor
