@@ -40,7 +40,11 @@ fn told_before<R: Eprint, I: Read>(
     }
     match read_before(alloc, reader) {
         Ok(before) => {
-            warn(rt, telling, run_warnings_of(alloc, before.sections.as_slice()))?;
+            warn(
+                rt,
+                telling,
+                run_warnings_of(alloc, before.sections.as_slice()),
+            )?;
             Ok(before)
         }
         Err(failure) => Err(Stop::Failed(failure)),

@@ -1,10 +1,9 @@
 //! Looks at a whole script, as the command that it is for takes it: at its steps, its commands or its journal too.
 
-ghost use Rattle.std.specs.Prelude.{◌≡◌, ◌≤◌, ◌+◌, ◌^◌, length, false, IfErr, IfOk, OnOk, option_map, string_bytes};
+ghost use Rattle.std.specs.Prelude.{◌≡◌, ◌≤◌, ◌+◌, ◌^◌, length, false, IfErr, IfOk, OnOk, string_bytes};
 ghost use Rattle.std.specs.Str.Lines.{lines};
 ghost use Rattle.rv_shape.specs.Fits.{fault};
 ghost use Rattle.rv_shape.specs.ShapeText.{shape_of};
-ghost use Rattle.rv_fault.specs.Sections.{line_of};
 ghost use Rattle.rv_fault.specs.Written.{Writes};
 ghost use Rattle.rv_script.specs.Openings.{AreNumbered};
 ghost use Rattle.rv_check.specs.Checks.{TellsAll, WritesOne};
@@ -16,7 +15,7 @@ use crate::devices::load_devices;
 use crate::purpose::{Part, Purpose, is_last, part_of, purpose_in};
 use crate::sections::{check_section, say, shape_line};
 use crate::steps::count_steps;
-use rv_fault::{Failure, What, refused, settings_of, shape_of};
+use rv_fault::{Failure, What, refused, settings_line, settings_of, shape_of};
 use rv_script::open;
 use rv_settings::Device;
 use rv_shape::catalogue::Catalogue;
@@ -195,16 +194,6 @@ fn check_all<W: Write>(
         }
     }
     Ok(())
-}
-
-// The line that faults of settings are told at.
-fn settings_line(settings: &Option<Section<'_>>) -> usize
-    ensures { result ≡ line_of (option_map (λ s. record { line = s.line; opening = s.opening.now; text = s.text.now }) settings.now) }
-{
-    match settings {
-        Some(section) => section.line,
-        None => 1,
-    }
 }
 
 /// Looks at the text of a script as the command takes it that it is for.

@@ -9,6 +9,7 @@ ghost use Rattle.rv_exec.specs.Asking.{stands};
 
 use rv_event::entry::{Answer, Exit, Request, Rule};
 use rv_exec::outward::Outward;
+use rv_exec::replay::stands;
 use rv_prio::MOST_HELD;
 use rv_shape::actor::Callee;
 use rv_shape::catalogue::Catalogue;
@@ -67,16 +68,6 @@ pub fn is_stopped_end(request: &Request) -> bool
 {
     match request {
         Request::Complete(_, Exit::Stopped) => true,
-        _ => false,
-    }
-}
-
-// Whether a request stands behind such an answer, and is asked again.
-fn stands(answer: &Answer) -> bool
-    ensures { result ≡ stands answer.now }
-{
-    match answer {
-        Answer::Busy | Answer::Waiting | Answer::Misuse => true,
         _ => false,
     }
 }

@@ -8,8 +8,9 @@ ghost use Rattle.rv_exec.specs.Next.{settling};
 use crate::outward::Outward;
 use rv_event::entry::{Answer, Request};
 
-fn stands(answer: Answer) -> bool
-    ensures { result ≡ stands answer }
+/// Whether a request stands behind such an answer, and is asked again (own).
+pub fn stands(answer: &Answer) -> bool
+    ensures { result ≡ stands answer.now }
 {
     match answer {
         Answer::Busy | Answer::Waiting | Answer::Misuse => true,
@@ -25,7 +26,7 @@ fn settling_at(answers: &[Answer]) -> usize
     ensures rest { settling answers.now ≡ settling (drop result answers.now) }
 {
     for (place, answer) in answers.iter().enumerate() {
-        if !stands(*answer) {
+        if !stands(answer) {
             return place;
         }
     }

@@ -9,5 +9,7 @@ mod writing;
 
 pub use failure::{Failure, refused};
 pub use fault::{ScriptFault, What};
-pub use sections::{device_unit, list_of, settings_of, shape_of, text_unit, unit_of};
+pub use sections::{
+    device_unit, list_of, settings_line, settings_of, shape_of, text_unit, unit_of,
+};
 pub use writing::put;

@@ -20,6 +20,16 @@ use rv_text::Section;
 use rv_unit::{Unit, UnitFault, compile};
 use std::alloc::{AllocError, Global};
 
+/// The line at which faults of settings are told: that where their section opens, or the first.
+pub fn settings_line(settings: &Option<Section<'_>>) -> usize
+    ensures { result ≡ line_of (option_map (λ s. record { line = s.line; opening = s.opening.now; text = s.text.now }) settings.now) }
+{
+    match settings {
+        Some(section) => section.line,
+        None => 1,
+    }
+}
+
 /// The settings of a script; those for which nothing is set, where it has none.
 pub fn settings_of(alloc: Global, settings: &Option<Section<'_>>) -> Result<Settings, Failure>
     ensures { let section = option_map (λ s. record { line = s.line; opening = s.opening.now; text = s.text.now }) settings.now in

@@ -2,7 +2,6 @@
 
 ghost use Rattle.std.specs.Prelude.{◌≡◌, [], ◌∷◌, ◌++◌, IfOk, OnOk};
 ghost use Rattle.rv_code.specs.BodyView.{unit_view};
-ghost use Rattle.rv_exec.specs.Asking.{stands};
 ghost use Rattle.rv_exec.specs.Bodies.{no_bodies};
 ghost use Rattle.rv_go.specs.Texts.{texts_view, no_texts, with_bodies, is_started, is_fire, is_heard, is_settle, hears, with_answer, answers_to};
 
@@ -10,6 +9,7 @@ use rv_code::UnitBodies;
 use rv_event::entry::{Answer, Next, Request, Rule};
 use rv_exec::bodies::Bodies;
 use rv_exec::machine::Machine;
+use rv_exec::replay::stands;
 use rv_value::Scalars;
 use std::alloc::{AllocError, Global};
 
@@ -32,16 +32,6 @@ pub struct Texts {
     pub heard: Vec<Heard>,
     /// Has the requests that a task's own body may make.
     pub machine: Machine,
-}
-
-// Whether the request stands behind such an answer, and is asked again.
-fn stands(answer: &Answer) -> bool
-    ensures { result ≡ stands answer.now }
-{
-    match answer {
-        Answer::Busy | Answer::Waiting | Answer::Misuse => true,
-        _ => false,
-    }
 }
 
 // Whether a body has started.

@@ -93,7 +93,7 @@ resumed_start : (c : Callee) (r : Answer) → begins (resumed c r) ≡ true → 
 resumed_start c r e =
     by_start
     (λ (r : Answer). begins (resumed c r) ≡ true
-        → (s : List ℤ) × (r ≡ answer.Woken (Some s)) × (object : ℕ) × (operation : ℕ) × (c ≡ callee.Entry object operation) × (resumed c r ≡ asked.Started object operation false s))
+    → (s : List ℤ) × (r ≡ answer.Woken (Some s)) × (object : ℕ) × (operation : ℕ) × (c ≡ callee.Entry object operation) × (resumed c r ≡ asked.Started object operation false s))
     (λ s b. no_way b) (λ s b. let w = woken_call c s b in (s, refl, w.0, w.1, w.2, w.3)) r (resumed_starts c r e) e
 
 entry_waits : (object operation : ℕ) (r : Answer) → waits (replied (callee.Entry object operation) r) ≡ true → r ≡ answer.Queued
