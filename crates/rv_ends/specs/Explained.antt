@@ -7,7 +7,7 @@ use Rattle.rv_shape.specs.Catalogue.{Target, OnProtected, target}
 use Rattle.rv_code.specs.Bodies.{UnitBodies, Body}
 use Rattle.rv_event.specs.Past.{mode}
 use Rattle.rv_event.specs.declared.entry.Answer.{Answer}
-use Rattle.rv_event.specs.declared.entry.Answer.TheVariants.{Started, Done, Refused}
+use Rattle.rv_event.specs.declared.entry.Answer.TheVariants.{Started, Done, Refused, Full}
 use Rattle.rv_event.specs.declared.entry.Entry.{Entry}
 use Rattle.rv_event.specs.declared.entry.Entry.TheVariants.{Asked}
 use Rattle.rv_event.specs.declared.entry.Exit.{Exit}

@@ -8,7 +8,7 @@ use Rattle.rv_scope.specs.declared.wanted.Wanted.TheVariants as w
 use Rattle.rv_scope.specs.Scope.{ScopeView, declaring, hiding, entered, in_body, declaring_all, hiding_all, showing, Region, within_unit, with_unit, with_library, using_library, empty_scope}
 use Rattle.rv_tree.specs.Statements.{Choice, others, value, between, LoopBounds, whole_bounds, two_bounds, constrained_bounds, Iteration, forever, while_true, for_each, Statement, null_statement, assignment, call_statement, if_statement, case_statement, loop_statement, exit_statement, return_statement, raise_statement, delay_statement, abort_statement, requeue_statement, accept_statement, select_statement, Statements, no_statements, and_statement, ElsifParts, no_elsif_parts, and_elsif_part, Alternatives, no_alternatives, and_alternative}
 use Rattle.rv_scope.specs.declared.declared.Declared.TheVariants as d
-use Rattle.rv_scope.specs.ExpressionUses.{Use, ◌▷◌, nothing, refused, expression_uses, value_uses, expressions_uses, maybe_uses, each_uses, range_uses, simple, factors_uses, terms_uses}
+use Rattle.rv_scope.specs.ExpressionUses.{Use, ◌▷◌, nothing, refused, expression_uses, value_uses, expressions_uses, maybe_uses, range_uses, simple, factors_uses, terms_uses}
 use Rattle.indexmap.specs.IndexMap.{insert_entry}
 use Rattle.rv_text.specs.Names.{is_same_name}
 use Rattle.rv_tree.specs.Declarations.{PragmaArgument, Pragma, Aspect, Parameter, EntryDeclaration, OperationDeclaration, a_pragma, a_function, a_procedure, an_entry, ProtectedElement, an_operation, a_component, ProtectedUnit, TaskItem, task_pragma, task_entry, TaskDefinition, TaskUnit, Declaration, package_pragma, a_subtype, a_protected_unit, a_task, a_variable, a_constant}

@@ -7,7 +7,7 @@ use Rattle.rv_scope.specs.declared.declared.Declared.TheVariants as d
 use Rattle.rv_scope.specs.declared.wanted.Wanted.{Wanted}
 use Rattle.rv_scope.specs.declared.wanted.Wanted.TheVariants as w
 use Rattle.rv_scope.specs.Scope.{ScopeView, declaring, hiding, entered}
-use Rattle.rv_scope.specs.ExpressionUses.{Use, ◌▷◌, nothing, simple, refused, expression_uses, value_uses, expressions_uses, maybe_uses, each_uses, range_uses}
+use Rattle.rv_scope.specs.ExpressionUses.{Use, ◌▷◌, nothing, simple, refused, expression_uses, value_uses, expressions_uses, maybe_uses, range_uses}
 
 -- a choice is a value, a subtype or a range (5.4)
 abbrev pub choice_uses : {A : Type 0} → Use A → ScopeView → Choice → A → A

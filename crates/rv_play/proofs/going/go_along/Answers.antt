@@ -7,7 +7,7 @@ use Rattle.rv_fault.specs.Written.{Known, Ended}
 use Rattle.rv_play.specs.Scripted.{Playing, playing}
 use Rattle.rv_play.specs.Going.{Live, live, going, settled, settled_in, asked_behind, end_in, IsGo, LeavesSome, Leaves, Reached}
 use Rattle.rv_play.proofs.Carrying.{nothing_done}
-use Rattle.rv_play.proofs.Reaching.{leaves_all, leaves_then, along, along_some, along_wrong, ended_there, go_still, own_actor, moved}
+use Rattle.rv_play.proofs.Reaching.{leaves_then, along, along_some, along_wrong, ended_there, go_still, own_actor, moved}
 use Rattle.rv_play.proofs.going.go_along.Goals as goal
 
 pub returns-in_err-answers : goal.returns-in_err-answers

@@ -5,7 +5,7 @@ use Rattle.rv_play.specs.Stages.{due_answer}
 use Rattle.rv_play.specs.Deeds.{asked_command}
 use Rattle.rv_play.specs.Scripted.{playing}
 use Rattle.rv_play.specs.Going.{asks_fire, heard_of}
-use Rattle.rv_play.proofs.Repeating.{Repeated, repeated_none, repeated_more, paused, paused_heard, failed}
+use Rattle.rv_play.proofs.Repeating.{Repeated, repeated_more, paused, paused_heard, failed}
 use Rattle.rv_play.proofs.Asked.{settles}
 use Rattle.rv_play.proofs.going.go_while.Goals as goal
 

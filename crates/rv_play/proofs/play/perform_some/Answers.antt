@@ -6,7 +6,7 @@ use Rattle.rv_step.specs.Lookup.{actor_of}
 use Rattle.rv_play.specs.Acts.{Goes}
 use Rattle.rv_play.specs.Scripted.{playing}
 use Rattle.rv_play.proofs.Carrying.{nothing_done}
-use Rattle.rv_play.proofs.Reaching.{is_go, leaves_all}
+use Rattle.rv_play.proofs.Reaching.{is_go}
 use Rattle.rv_play.proofs.play.perform_some.Goals as goal
 
 pub returns-in_err-actor : goal.returns-in_err-actor
