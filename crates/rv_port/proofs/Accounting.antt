@@ -18,13 +18,12 @@ use Rattle.rv_meant.proofs.Settles.{ask_is}
 use Rattle.rv_behind.specs.Events.{by, history_at}
 use Rattle.rv_behind.specs.Acting.{entered, grown}
 use Rattle.rv_behind.specs.declared.event.Event.{Event}
-use Rattle.rv_behind.specs.declared.event.Event.TheVariants.{Asks}
+use Rattle.rv_behind.specs.declared.event.Event.TheVariants.{Asks, Loads, Lists}
 use Rattle.rv_accounts.specs.Seen.{asked_at, but_settles}
 use Rattle.rv_accounts.specs.WithoutSettles.{but_settles-append}
 use Rattle.rv_accounts.proofs.Growing.{asks_grow, asks_stay}
 use Rattle.rv_port.specs.Traces.{Trace, told, noted, noted_if, IsAnswered, IsWorn, EachAnswered}
 use Rattle.rv_port.specs.Composing.{noted-append}
-use Rattle.rv_port.proofs.Asked.{none_there, request_in, word_in}
 
 -- Histories that one begins with
 
@@ -119,6 +118,20 @@ module _ (limits : Limits) (a : ℕ) (seen later : List Event) (left : ℕ) wher
       one_more own base p q r done rest (recorded r) refl never.0 (λ own₁ base₁ y w₁ b₁ e₁. so_far own₁ base₁ p done rest never.1 y w₁ b₁ z e₁) x.0 x.1 w b e
 
 -- An end of the actor in what was seen later
+
+pub none_there : (e : Event) (before after : List Event) → [] ≡ before ++ e ∷ after → ⊥
+none_there e [] after h = cc h
+none_there e (d ∷ before) after h = cc h
+
+abbrev pub request_in : Request → Event → Request
+request_in other (Asks b q w) = q
+request_in other (Loads s u) = other
+request_in other (Lists l) = other
+
+abbrev pub word_in : Recorded → Event → Recorded
+word_in other (Asks b q w) = w
+word_in other (Loads s u) = other
+word_in other (Lists l) = other
 
 pub record FoundIn (a : ℕ) (xs : Trace) (m : List Event) (q : Request) (word : Recorded) : Type 0 where
   pub before : Trace

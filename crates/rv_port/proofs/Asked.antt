@@ -41,7 +41,7 @@ use Rattle.rv_accounts.proofs.Staying.{stays, others, nothing}
 use Rattle.rv_port.specs.Held.{asked_so_far, Owns}
 use Rattle.rv_port.specs.Traces.{Passing, Trace, limits_in, drops, SettledBy, SettlesBehind, InVain}
 use Rattle.rv_port.specs.Traces as traces
-use Rattle.rv_port.proofs.Accounting.{first_or, rest_of}
+use Rattle.rv_port.proofs.Accounting.{first_or, none_there, request_in, rest_of, word_in}
 use Rattle.rv_port.specs.Calls.{QuitBy, Quits}
 use Rattle.rv_port.proofs.Actors.{later_entry}
 use Rattle.rv_port.proofs.Asking.{in_vain_later}
@@ -51,24 +51,10 @@ use Rattle.rv_port.proofs.Since.{done_is}
 
 -- One event more
 
-pub none_there : (e : Event) (before after : List Event) → [] ≡ before ++ e ∷ after → ⊥
-none_there e [] after h = cc h
-none_there e (d ∷ before) after h = cc h
-
 one_end : (at : List Event) (e c : Event) (rest after : List Event) → at ++ e ∷ [] ≡ (at ++ rest) ++ c ∷ after → (rest ≡ []) × (e ≡ c)
 one_end [] e c [] after h = (refl, ap (λ (l : List Event). first_or e l) h)
 one_end [] e c (d ∷ ds) after h = absurd (none_there c ds after (ap (λ (l : List Event). rest_of l) h))
 one_end (x ∷ at) e c rest after h = one_end at e c rest after (ap (λ (l : List Event). rest_of l) h)
-
-abbrev pub request_in : Request → Event → Request
-request_in other (Asks b q w) = q
-request_in other (Loads s u) = other
-request_in other (Lists l) = other
-
-abbrev pub word_in : Recorded → Event → Recorded
-word_in other (Asks b q w) = w
-word_in other (Loads s u) = other
-word_in other (Lists l) = other
 
 module _ (limits : Limits) (a : ℕ) (at : List Event) (q : Request) (word : Recorded) (old : Explained limits at a)
     (new : (scalars : List ℤ) (exit : Exit) (next : Next) → q ≡ Complete scalars exit → word ≡ Recordeds.Done next → ExplainedEnd limits a at scalars exit) where

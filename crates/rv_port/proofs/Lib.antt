@@ -1,4 +1,3 @@
-pub mod Above
 pub mod Actors
 pub mod Asking
 pub mod Gets
