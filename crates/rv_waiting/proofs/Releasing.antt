@@ -1,11 +1,11 @@
 -- An actor that is suspended on an object is released exactly where it doesn't wait there any more.
 use Rattle.std.proofs.Common.{◌≡◌, inl, inr, ℕ, List, [], ◌∷◌, ◌++◌, Some, None, Option, Bool, true, false, ap, sym, ◌∙◌, refl}
-use Rattle.std.specs.Prelude.{◌==◌, ◌||◌, not, is_some, if◌then◌else◌}
-use Rattle.std.specs.List.{list_all, list_any}
+use Rattle.std.specs.Prelude.{◌==◌, not, if◌then◌else◌}
+use Rattle.std.specs.List.{list_all}
 use Rattle.rv_shape.specs.declared.suspension.SuspensionOperation.{SuspensionOperation}
 use Rattle.rv_shape.specs.declared.suspension.SuspensionOperation.TheVariants.{SetTrue, SetFalse, CurrentState, SuspendUntilTrue}
 use Rattle.rv_shape.specs.Catalogue.{numbered, suspension_operations}
-use Rattle.rv_event.specs.Past.{Sets, Untouched, accepted_touch, is_named, is_own, is_set, released, since, stance, touch, touch_of, waiter, waiter_after}
+use Rattle.rv_event.specs.Past.{Sets, Untouched, accepted_touch, is_named, is_own, released, since, stance, touch, touch_of, waiter, waiter_after}
 use Rattle.rv_event.specs.declared.entry.Entry.{Entry}
 use Rattle.rv_event.specs.declared.entry.Entry.TheVariants.{Asked, Load, ListChange}
 use Rattle.rv_event.specs.declared.entry.Recorded.{Recorded}
@@ -15,14 +15,11 @@ use Rattle.rv_event.specs.declared.entry.Stance.TheVariants.{WaitsOn}
 use Rattle.rv_history.specs.Frame.{is_apart}
 use Rattle.rv_history.specs.History.{History}
 use Rattle.rv_history.specs.Legal.{Legal}
-use Rattle.rv_history.proofs.Frame.{all_parts, not_own, unsaid}
+use Rattle.rv_history.proofs.Frame.{all_parts, not_own}
 use Rattle.rv_history.proofs.Released.{Outcome, outcome, set_releases}
 use Rattle.rv_history.proofs.Stances.{itself}
 
 -- a Set_True since its last entry
-
-released_more : (a o : ℕ) (e : Entry) (past : List Entry) → is_apart a e ≡ true → released a o (e ∷ past) ≡ (is_set (touch o e) || released a o past)
-released_more a o e past apart = ap (λ s. list_any (λ x. is_set (touch o x)) (if is_some s then [] else e ∷ since a past)) (unsaid a e apart)
 
 -- whoever waits after it is another
 
