@@ -166,7 +166,6 @@ no_last [] x e = cc e
 no_last (y ∷ xs) x e = cc e
 
 last_same : {X : Type 0} (xs ys : List X) (x y : X) → xs ++ x ∷ [] ≡ ys ++ y ∷ [] → x ≡ y
-unfolding first_or rest_of
 last_same [] [] x y e = ap (first_or x) e
 last_same [] (z ∷ ys) x y e = absurd (no_last ys y (ap rest_of e))
 last_same (z ∷ xs) [] x y e = absurd (no_last xs x (sym (ap rest_of e)))
