@@ -2,7 +2,7 @@
 """Makes the completions for bash and zsh from the help of the command line, as clap prints it and as the launcher has it
 stored in crates/ravenhost/usage, and from the launcher's own flags there.
 
-    manual/completions.py            writes manual/ravenhost.bash and manual/_ravenhost
+    manual/completions.py            writes manual/_ravenhost, and manual/ravenhost.bash down to what is there by hand
     manual/completions.py --check    writes nothing; ends with 1 where either isn't what would be written
 """
 import os
@@ -97,11 +97,18 @@ def spelled(of):
     return " ".join(spelling for flag in of for spelling in flag.spellings)
 
 
-MADE = "Made by manual/completions.py from the help of the command line: change it there."
-
+# What bash's is made of; behind it stands what is written by hand, from this line on.
+BY_HAND = "# By hand from here on.\n"
 BASH = """\
 # Completion for bash of ravenhost, and of its launcher ./ravenhost. It needs bash 4, and no other file.
-# @made@
+# Its front is made by manual/completions.py from the help of the command line: change it there.
+
+# The subcommands, or what help is given of.
+_ravenhost_subcommands() {
+    case $1 in
+@subcommands@
+    esac
+}
 
 # The flags of a subcommand, or of the program where the name is empty.
 _ravenhost_flags() {
@@ -124,88 +131,11 @@ _ravenhost_value() {
     esac
 }
 
-# Whether the command is the launcher, which is a script, and not the program.
-_ravenhost_is_launcher() {
-    local command=$1 start
-    # shellcheck disable=SC2088 # it stands so in the line that is typed
-    case $command in "~/"*) command=$HOME/${command#"~/"} ;; esac
-    case $command in */*) ;; *) command=$(type -P -- "$command") ;; esac
-    [ -f "$command" ] && IFS= read -r -n 2 start <"$command" 2>/dev/null && [ "$start" = "#!" ]
+# Whether nothing stands beside a flag.
+_ravenhost_is_alone() {
+    case $1 in @alone@) ;; *) return 1 ;; esac
 }
 
-# Offers the words that begin with the current one, behind what stands of it before them.
-_ravenhost_offer() {
-    local word
-    for word in $1; do
-        case $word in "$current"*) COMPREPLY+=("$2$word") ;; esac
-    done
-}
-
-# Offers names of files (-f) or folders (-d) in the same way.
-_ravenhost_names() {
-    local name
-    compopt -o filenames 2>/dev/null
-    while IFS= read -r name; do COMPREPLY+=("$2$name"); done < <(compgen "$1" -- "$current")
-}
-
-_ravenhost() {
-    local current=${COMP_WORDS[COMP_CWORD]} previous=${COMP_WORDS[COMP_CWORD - 1]} front="" word command="" given=" " flags n
-    COMPREPLY=()
-    # A flag, = and its value are three words, or one where = breaks no words.
-    case $current in
-        =) current="" ;;
-        --*=*) previous=${current%%=*} front=$previous= current=${current#*=} ;;
-        *) if [ "$previous" = = ]; then previous=${COMP_WORDS[COMP_CWORD - 2]}; fi ;;
-    esac
-    case $current in *[\\<\\>]) previous=$current current="" ;; esac
-    case $previous in
-        *[\\<\\>] | *[\\<\\>][\\|\\&]) _ravenhost_names -f "" && return ;;
-    esac
-    case $(_ravenhost_value "$previous") in
-        "") [ -z "$front" ] || return 0 ;;
-        files) _ravenhost_names -f "$front" && return ;;
-        folders) _ravenhost_names -d "$front" && return ;;
-        *) _ravenhost_offer "$(_ravenhost_value "$previous")" "$front" && return ;;
-    esac
-
-    # The subcommand, and the flags that are given.
-    for ((n = 1; n < COMP_CWORD; n++)); do
-        word=${COMP_WORDS[n]}
-        case $word in
-            *[\\<\\>]) n=$((n + 1)) ;;
-            -*)
-                given+="$word "
-                if [ -n "$(_ravenhost_value "$word")" ]; then
-                    if [ "${COMP_WORDS[n + 1]}" = = ]; then n=$((n + 1)); fi
-                    n=$((n + 1))
-                fi
-                ;;
-            *) if [ -z "$command" ]; then command=$word; else given+="$word "; fi ;;
-        esac
-    done
-    case $given in
-        @alone@) return 0 ;;
-    esac
-    if [ "$command" = help ]; then
-        if [ "$given" = " " ]; then _ravenhost_offer "@subjects@" ""; fi
-        return 0
-    fi
-
-    flags=$(_ravenhost_flags "$command")
-    if _ravenhost_is_launcher "${COMP_WORDS[0]}"; then flags+=" $(_ravenhost_launcher_flags "$command")"; fi
-    if [ -z "$command" ]; then
-        case $current in -*) ;; *) flags="@commands@" ;; esac
-    fi
-    for word in $flags; do
-        case $word in
-            # Help and version stand alone.
-            @told@) [ "$given" = " " ] || continue ;;
-        esac
-        case $given in *" $word "*) ;; *) _ravenhost_offer "$word" "" ;; esac
-    done
-}
-
-complete -F _ravenhost ravenhost
 """
 
 
@@ -214,8 +144,16 @@ def bash_rows(pairs):
     return "\n".join(lines)
 
 
-def bash(commands):
+def by_hand(text):
+    """What stands by hand in the file for bash."""
+    if BY_HAND not in text:
+        sys.exit(f"manual/completions.py: manual/ravenhost.bash has lost its line {BY_HAND.strip()!r}")
+    return text[text.index(BY_HAND):]
+
+
+def bash(commands, kept):
     names = [name for name in commands if name]
+    subcommands = [('""', " ".join(names)), ("help", " ".join(name for name in names if name != "help"))]
     flagged = [(name or '""', spelled(command.flags)) for name, command in commands.items() if command.flags]
     launched = [(name or '""', spelled(command.launcher)) for name, command in commands.items() if command.launcher]
     of_all = [flag for command in commands.values() for flag in command.flags + command.launcher]
@@ -224,18 +162,16 @@ def bash(commands):
                                 for flag in of_all if flag.value))
     alone = [*HELP, *VERSION, *(spelling for command in commands.values() for flag in command.launcher for spelling in flag.spellings)]
     text = BASH
-    for mark, words in (("made", MADE), ("flags", bash_rows(flagged)), ("launcher", bash_rows(launched)),
-                        ("values", bash_rows(values)), ("commands", " ".join(names)),
-                        ("alone", " | ".join(f'*" {word} "*' for word in alone)), ("told", " | ".join((*HELP, *VERSION))),
-                        ("subjects", " ".join(name for name in names if name != "help"))):
+    for mark, words in (("subcommands", bash_rows(subcommands)), ("flags", bash_rows(flagged)),
+                        ("launcher", bash_rows(launched)), ("values", bash_rows(values)), ("alone", " | ".join(alone))):
         text = text.replace(f"@{mark}@", words)
-    return text
+    return text + by_hand(kept)
 
 
 ZSH = """\
 #compdef ravenhost
 # Completion for zsh of ravenhost, and of its launcher ./ravenhost.
-# @made@
+# Made by manual/completions.py from the help of the command line: change it there.
 
 # Whether the command is the launcher, which is a script, and not the program.
 _ravenhost_is_launcher() {
@@ -339,7 +275,7 @@ def zsh_case(name, command):
 def zsh(commands):
     program = commands[""]
     text = ZSH
-    for mark, words in (("made", MADE), ("commands", zsh_commands(commands)), ("subjects", zsh_commands(commands, ("help",))),
+    for mark, words in (("commands", zsh_commands(commands)), ("subjects", zsh_commands(commands, ("help",))),
                         ("flags", "\n".join(f"        {zsh_flag(flag, is_alone(flag))} \\" for flag in program.flags)),
                         ("launcher", "\n".join(f"            {zsh_flag(flag, True)}" for flag in program.launcher)),
                         ("cases", "\n".join(zsh_case(name, command) for name, command in commands.items() if name))):
@@ -347,23 +283,25 @@ def zsh(commands):
     return text
 
 
+def read(name):
+    """A file's text; nothing where it can't be read."""
+    try:
+        with open(os.path.join(TOP, name), encoding="utf-8") as file:
+            return file.read()
+    except OSError:
+        return ""
+
+
 def main():
     if sys.argv[1:] not in ([], ["--check"]):
         sys.exit(__doc__)
     commands = described()
     stale = 0
-    for name, text in (("manual/ravenhost.bash", bash(commands)), ("manual/_ravenhost", zsh(commands))):
-        path = os.path.join(TOP, name)
+    for name, made in (("manual/ravenhost.bash", bash(commands, read("manual/ravenhost.bash"))), ("manual/_ravenhost", zsh(commands))):
         if not sys.argv[1:]:
-            with open(path, "w", encoding="utf-8") as file:
-                file.write(text)
-            continue
-        try:
-            with open(path, encoding="utf-8") as file:
-                kept = file.read()
-        except OSError:
-            kept = None
-        if kept != text:
+            with open(os.path.join(TOP, name), "w", encoding="utf-8") as file:
+                file.write(made)
+        elif read(name) != made:
             print(f"{name} isn't what manual/completions.py writes of {PAGES}: run it", file=sys.stderr)
             stale += 1
     return 1 if stale else 0

@@ -1,5 +1,13 @@
 # Completion for bash of ravenhost, and of its launcher ./ravenhost. It needs bash 4, and no other file.
-# Made by manual/completions.py from the help of the command line: change it there.
+# Its front is made by manual/completions.py from the help of the command line: change it there.
+
+# The subcommands, or what help is given of.
+_ravenhost_subcommands() {
+    case $1 in
+        "") echo "play check run audit help" ;;
+        help) echo "play check run audit" ;;
+    esac
+}
 
 # The flags of a subcommand, or of the program where the name is empty.
 _ravenhost_flags() {
@@ -34,6 +42,13 @@ _ravenhost_value() {
         --stop-by) echo "files" ;;
     esac
 }
+
+# Whether nothing stands beside a flag.
+_ravenhost_is_alone() {
+    case $1 in -h | --help | -V | --version | --prove | --install | --trial) ;; *) return 1 ;; esac
+}
+
+# By hand from here on.
 
 # Whether the command is the launcher, which is a script, and not the program.
 _ravenhost_is_launcher() {
@@ -85,6 +100,7 @@ _ravenhost() {
         case $word in
             *[\<\>]) n=$((n + 1)) ;;
             -*)
+                if _ravenhost_is_alone "$word"; then return 0; fi
                 given+="$word "
                 if [ -n "$(_ravenhost_value "$word")" ]; then
                     if [ "${COMP_WORDS[n + 1]}" = = ]; then n=$((n + 1)); fi
@@ -94,18 +110,15 @@ _ravenhost() {
             *) if [ -z "$command" ]; then command=$word; else given+="$word "; fi ;;
         esac
     done
-    case $given in
-        *" -h "* | *" --help "* | *" -V "* | *" --version "* | *" --prove "* | *" --install "* | *" --trial "*) return 0 ;;
-    esac
     if [ "$command" = help ]; then
-        if [ "$given" = " " ]; then _ravenhost_offer "play check run audit" ""; fi
+        if [ "$given" = " " ]; then _ravenhost_offer "$(_ravenhost_subcommands help)" ""; fi
         return 0
     fi
 
     flags=$(_ravenhost_flags "$command")
     if _ravenhost_is_launcher "${COMP_WORDS[0]}"; then flags+=" $(_ravenhost_launcher_flags "$command")"; fi
     if [ -z "$command" ]; then
-        case $current in -*) ;; *) flags="play check run audit help" ;; esac
+        case $current in -*) ;; *) flags=$(_ravenhost_subcommands "") ;; esac
     fi
     for word in $flags; do
         case $word in
