@@ -222,28 +222,10 @@ priority = 15
 object = "Plant.Valve"
 operation = "Get"
 calls = 1
-@unit
-with Ada.Interrupts.Names;
-package Plant is
-   protected Valve with Priority => 20 is
-      function Get return Integer;
-   private
-      Level : Integer := 0;
-   end Valve;
-   protected Alarm with Interrupt_Priority => 35 is
-      procedure Trip with Attach_Handler => Ada.Interrupts.Names.Int_4;
-   private
-      Trips : Integer := 0;
-   end Alarm;
-end Plant;
-package body Plant is
-   protected body Valve is
-      function Get return Integer is begin return Level; end Get;
-   end Valve;
-   protected body Alarm is
-      procedure Trip is begin Trips := Trips + 1; end Trip;
-   end Alarm;
-end Plant;
+RAVEN
+    # (the plant of a row of the gate)
+    sed '/^@list$/,$d' crates/thread_rows/data/lines_raised.run >>"$folder/manned.raven"
+    cat >>"$folder/manned.raven" <<'RAVEN'
 @list
 allow * * *
 @run

@@ -24,32 +24,9 @@ import time
 TOP = os.path.dirname(os.path.dirname(os.path.abspath(__file__)))
 LIMIT = 60  # the longest that an answer may take, in seconds
 
-PLANT = """with Ada.Interrupts.Names;
-package Plant is
-   protected Valve with Priority => 20 is
-      function Get return Integer;
-      procedure Set (N : in Integer);
-   private
-      Level : Integer := 0;
-   end Valve;
-   protected Alarm with Interrupt_Priority => 35 is
-      function Count return Integer;
-      procedure Trip with Attach_Handler => Ada.Interrupts.Names.Int_4;
-   private
-      Trips : Integer := 0;
-   end Alarm;
-end Plant;
-package body Plant is
-   protected body Valve is
-      function Get return Integer is begin return Level; end Get;
-      procedure Set (N : in Integer) is begin Level := N; end Set;
-   end Valve;
-   protected body Alarm is
-      function Count return Integer is begin return Trips; end Count;
-      procedure Trip is begin Trips := Trips + 1; end Trip;
-   end Alarm;
-end Plant;
-"""
+# A plant, and a task that makes a call at each tick until the call is denied: the units of a row of the gate.
+with open(os.path.join(TOP, "crates/thread_rows/data/right_taken_away_while_a_task_loops.run"), encoding="utf-8") as row:
+    PLANT, LOOPER = row.read().partition("@list\n")[0].split("@unit\n")[1:]
 
 # A unit that attaches a line.
 LATE_LINE = """with Ada.Interrupts.Names;
@@ -66,29 +43,6 @@ package body Late is
    end Bell;
 end Late;
 """
-
-# A task that makes a call at each tick, until the call is denied.
-LOOPER = """with Ada.Real_Time; with Host; with Plant;
-package %s is
-   task Pilot;
-end %s;
-package body %s is
-   task body Pilot is
-      X    : Integer := 0;
-      Next : Ada.Real_Time.Time := Ada.Real_Time.Clock;
-   begin
-      loop
-         X := (X + 1) mod 100;
-         Plant.Valve.Set (X);
-         Next := Next + Ada.Real_Time.Milliseconds (1);
-         delay until Next;
-      end loop;
-   exception
-      when Host.Access_Denied => null;
-   end Pilot;
-end %s;
-"""
-
 
 # A task that waits in an entry's queue, and for nothing else.
 POST = """package Post is
@@ -118,7 +72,7 @@ def unit(text):
 
 
 def looper(name):
-    return LOOPER % (name, name, name, name)
+    return LOOPER.replace("Nav", name)
 
 
 class Run:
