@@ -221,19 +221,20 @@ def synced(program, folder):
         return
     file, trace = os.path.join(folder, "synced"), os.path.join(folder, "trace")
     script = "@run\n" + "tick 1\n" * 20 + "quit\n"
-    subprocess.run(["strace", "-f", "-e", "trace=write,fdatasync", "-o", trace, program, "run", "--journal", file, "--sync", "each"],
+    subprocess.run(["strace", "-f", "-s", "4096", "-e", "trace=write,fdatasync", "-o", trace, program, "run", "--journal", file, "--sync", "each"],
                    input=script.encode(), stdout=subprocess.PIPE, timeout=LIMIT, check=True)
-    unsynced, answers, syncs = False, 0, 0
+    # (the next command's entry may be written while an answer is)
+    written = begun = done = answers = 0
     for line in text_of(trace).splitlines():
         if re.search(r"\bwrite\(1,", line):
-            answers += line.count("accepted 0")
-            expect_that("an answer behind its sync", not unsynced, line)
-        elif "operator" in line and "write(" in line:
-            unsynced = True
+            answers += len(re.findall("accepted 0|entries ", line))
+            expect_that("an answer behind its sync", answers <= done, line)
+        elif re.search(r"\bwrite\(", line):
+            written += line.count(" operator ")
         elif "fdatasync" in line:
-            syncs += 1
-            unsynced = False
-    expect_that("answers and syncs in the trace", answers > 0 and syncs > 0, (answers, syncs))
+            begun = begun if "resumed" in line else written
+            done = done if "unfinished" in line else begun
+    expect("answers, and entries that are synced, in the trace", (answers, done), (21, 21))
 
 
 def filled_in(program, words):
