@@ -224,17 +224,17 @@ def synced(program, folder):
     subprocess.run(["strace", "-f", "-s", "4096", "-e", "trace=write,fdatasync", "-o", trace, program, "run", "--journal", file, "--sync", "each"],
                    input=script.encode(), stdout=subprocess.PIPE, timeout=LIMIT, check=True)
     # (the next command's entry may be written while an answer is)
-    written = begun = done = answers = 0
+    written = syncing = on_disk = answers = 0
     for line in text_of(trace).splitlines():
         if re.search(r"\bwrite\(1,", line):
             answers += len(re.findall("accepted 0|entries ", line))
-            expect_that("an answer behind its sync", answers <= done, line)
+            expect_that("an answer behind its sync", answers <= on_disk, line)
         elif re.search(r"\bwrite\(", line):
             written += line.count(" operator ")
         elif "fdatasync" in line:
-            begun = begun if "resumed" in line else written
-            done = done if "unfinished" in line else begun
-    expect("answers, and entries that are synced, in the trace", (answers, done), (21, 21))
+            syncing = syncing if "resumed" in line else written
+            on_disk = on_disk if "unfinished" in line else syncing
+    expect("answers, and entries that are synced, in the trace", (answers, on_disk), (21, 21))
 
 
 def filled_in(program, words):
