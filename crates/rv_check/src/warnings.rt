@@ -5,6 +5,7 @@ ghost use Rattle.std.specs.Prelude.{◌≤◌, ◌^◌, ◌+◌, length};
 
 use crate::purpose::{Purpose, purpose_in};
 use rv_access::{AccessList, Change, Line, MOST_LINES};
+use rv_event::entry::Request;
 use rv_fault::{Failure, device_unit, list_of, settings_of, shape_of, unit_of};
 use rv_notes::{Note, notes, words_of};
 use rv_script::{Opening, open, opening_of, text_of};
@@ -235,7 +236,7 @@ impl Review {
         self.judge()?;
         self.is_under_way = true;
         match asked {
-            Asked::Halt => self.is_halted = true,
+            Asked::Plain(Request::Halt) => self.is_halted = true,
             Asked::Change(Ok(change), _) => self.change(line, change)?,
             Asked::Change(Err(_), _) => return Ok(false),
             _ => {}

@@ -5,21 +5,23 @@ use Rattle.rv_shape.specs.Items.{◌>>=◌}
 use Rattle.rv_shell.specs.Orders.{of_step, or_stepped, order_of, own_order}
 use Rattle.rv_shell.specs.declared.order.Order.{Order}
 use Rattle.rv_step.specs.StepText.{asked_of}
+use Rattle.rv_event.specs.declared.entry.Request.TheVariants as Requests
 use Rattle.rv_step.specs.declared.step.Asked.{Asked}
 use Rattle.rv_step.specs.declared.step.Asked.TheVariants as Asks
 use Rattle.rv_console.specs.Console.{page_of}
 
 one : (asked : Asked) → page_of (of_step asked) ≡ None
 one (Asks.Call object operation values) = refl
-one (Asks.Complete scalars exit) = refl
-one Asks.Settle = refl
-one Asks.Resume = refl
-one (Asks.DelayUntil time) = refl
-one Asks.Clock = refl
-one Asks.Fire = refl
-one Asks.Quit = refl
-one (Asks.Tick ticks) = refl
-one Asks.Halt = refl
+one (Asks.Plain (Requests.Call object operation values)) = refl
+one (Asks.Plain (Requests.Complete scalars exit)) = refl
+one (Asks.Plain Requests.Settle) = refl
+one (Asks.Plain Requests.Resume) = refl
+one (Asks.Plain (Requests.DelayUntil time)) = refl
+one (Asks.Plain Requests.Clock) = refl
+one (Asks.Plain Requests.Fire) = refl
+one (Asks.Plain Requests.Quit) = refl
+one (Asks.Plain (Requests.Tick ticks)) = refl
+one (Asks.Plain Requests.Halt) = refl
 one (Asks.Go count) = refl
 one (Asks.Change change number) = refl
 

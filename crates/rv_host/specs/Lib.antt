@@ -4,4 +4,3 @@ pub mod Attached
 pub mod Facts
 pub mod Decisions
 pub mod Pages
-pub mod Given

@@ -2,6 +2,7 @@
 use Rattle.std.specs.Prelude.{ℕ, ℤ, pos, negsuc, nat_lt, if◌then◌else◌, List, [], ◌∷◌, codes, Option, Some, None}
 use Rattle.std.specs.Str.{bytes_eq}
 use Rattle.rv_shape.specs.Items.{◌>>=◌}
+use Rattle.rv_event.specs.declared.entry.Request.TheVariants as Requests
 use Rattle.rv_step.specs.declared.step.Asked.{Asked}
 use Rattle.rv_step.specs.declared.step.Asked.TheVariants as Asks
 use Rattle.rv_step.specs.StepText.{asked_of}
@@ -12,8 +13,8 @@ use Rattle.rv_shell.specs.declared.order.Order.TheVariants.{Change, Tick, Halt, 
 -- what a step asks, if the operator may command it
 abbrev pub of_step : Asked → Option Order
 of_step (Asks.Change change number) = Some (Change change)
-of_step (Asks.Tick ticks) = Some (Tick ticks)
-of_step Asks.Halt = Some Halt
+of_step (Asks.Plain (Requests.Tick ticks)) = Some (Tick ticks)
+of_step (Asks.Plain Requests.Halt) = Some Halt
 of_step asked = None
 
 -- `raise K`: a line of Int_0 .. Int_9

@@ -6,6 +6,7 @@ ghost use Rattle.rv_shell.specs.Orders.{order_of, own_order, of_step, raise_of, 
 ghost use Rattle.rv_text.specs.Words.{words};
 
 use rv_access::{Change, ListFault};
+use rv_event::entry::Request;
 use rv_step::reading::{StepError, asked_of};
 use rv_step::step::Asked;
 use rv_text::{integer_of, next_word};
@@ -36,8 +37,8 @@ fn of_step(asked: Asked) -> Result<Order, StepError>
 {
     match asked {
         Asked::Change(change, _) => Ok(Order::Change(change)),
-        Asked::Tick(ticks) => Ok(Order::Tick(ticks)),
-        Asked::Halt => Ok(Order::Halt),
+        Asked::Plain(Request::Tick(ticks)) => Ok(Order::Tick(ticks)),
+        Asked::Plain(Request::Halt) => Ok(Order::Halt),
         _ => Err(StepError::BadStep),
     }
 }

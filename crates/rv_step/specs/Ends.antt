@@ -4,6 +4,7 @@ use Rattle.std.specs.Str.{bytes_eq}
 use Rattle.rv_text.specs.Names.{is_same_name}
 use Rattle.rv_shape.specs.Items.{◌>>=◌}
 use Rattle.rv_event.specs.Words as words
+use Rattle.rv_event.specs.Words.{lone_word}
 use Rattle.rv_event.specs.declared.entry.Exception.{Exception}
 use Rattle.rv_event.specs.declared.entry.Exception.TheVariants.{ConstraintError, ProgramError, AccessDenied}
 use Rattle.rv_event.specs.declared.entry.Exit.{Exit}
@@ -16,11 +17,6 @@ exception_of word =
     else if is_same_name word (codes "Program_Error") then Some ProgramError
     else if is_same_name word (codes "Host.Access_Denied") then Some AccessDenied
     else None
-
--- the only word of a line
-abbrev pub lone_word : List (List ℕ) → Option (List ℕ)
-lone_word (word ∷ []) = Some word
-lone_word words = None
 
 -- `raise NAME`, behind the `raise`
 abbrev pub raise_of : List (List ℕ) → Option Exit

@@ -8,7 +8,7 @@ use Rattle.rv_event.specs.declared.entry.Request.TheVariants as Requests
 use Rattle.rv_step.specs.declared.step.Asker.{Asker}
 use Rattle.rv_step.specs.declared.step.Asker.TheVariants.{Operator, Line, Task}
 use Rattle.rv_step.specs.declared.step.Asked.{Asked}
-use Rattle.rv_step.specs.declared.step.Asked.TheVariants.{Call, Complete, Settle, Resume, DelayUntil, Clock, Fire, Quit, Tick, Halt, Go, Change}
+use Rattle.rv_step.specs.declared.step.Asked.TheVariants.{Call, Plain, Go, Change}
 use Rattle.rv_step.specs.Names.{DottedWord}
 use Rattle.rv_shape.specs.Items.{◌>>=◌}
 
@@ -35,15 +35,7 @@ callee_of shapes object operation =
 abbrev pub request_of : List Shape → Asked → Option Request
 request_of shapes (Call object operation values) =
     callee_of shapes object operation >>= λ found. Some (Requests.Call found.0 found.1 values)
-request_of shapes (Complete scalars exit) = Some (Requests.Complete scalars exit)
-request_of shapes Settle = Some Requests.Settle
-request_of shapes Resume = Some Requests.Resume
-request_of shapes (DelayUntil time) = Some (Requests.DelayUntil time)
-request_of shapes Clock = Some Requests.Clock
-request_of shapes Fire = Some Requests.Fire
-request_of shapes Quit = Some Requests.Quit
-request_of shapes (Tick ticks) = Some (Requests.Tick ticks)
-request_of shapes Halt = Some Requests.Halt
+request_of shapes (Plain request) = Some request
 request_of shapes (Go number) = None
 request_of shapes (Change change number) = None
 

@@ -2,7 +2,7 @@
 use Rattle.rv_step.specs.declared.reading.StepError.{StepError}
 use Rattle.rv_step.specs.declared.reading.StepError.TheVariants.{BadStep, NoMemory}
 use Rattle.std.specs.Prelude.{◌≡◌, ℕ, ℤ, pos, negsuc, nat_lt, Bool, true, false, not, ◌&&◌, if◌then◌else◌, List, [], ◌∷◌, codes}
-use Rattle.std.specs.Prelude.{Option, Some, None, Result, Ok, Err}
+use Rattle.std.specs.Prelude.{Option, Some, None, option_map, Result, Ok, Err}
 use Rattle.std.specs.Str.{bytes_eq}
 use Rattle.rv_text.specs.Names.{is_same_name}
 use Rattle.rv_text.specs.Numbers.{integer_of}
@@ -15,10 +15,12 @@ use Rattle.rv_step.specs.declared.step.Asker.{Asker}
 use Rattle.rv_step.specs.declared.step.Asker.TheVariants.{Operator, Line, Task}
 use Rattle.rv_step.specs.declared.step.Asked.{Asked}
 use Rattle.rv_step.specs.declared.step.Asked.TheVariants as Asks
+use Rattle.rv_event.specs.declared.entry.Request.TheVariants.{Complete}
+use Rattle.rv_event.specs.Reading as requests
 use Rattle.rv_event.specs.Words.{interrupt_of, args_of, scalars_of}
 use Rattle.rv_shape.specs.Items.{◌>>=◌}
 use Rattle.rv_step.specs.StepWords.{dotted_of, identifier_of}
-use Rattle.rv_step.specs.Ends.{exit_of, lone_word}
+use Rattle.rv_step.specs.Ends.{exit_of}
 use Rattle.rv_step.specs.Lookup.{line_number}
 
 -- a step
@@ -47,11 +49,7 @@ call_of words = None
 
 -- `end SCALARS : EXIT`
 abbrev pub end_of : List (List ℕ) → Option Asked
-end_of words = scalars_of words >>= λ found. exit_of found.rest >>= λ exit. Some (Asks.Complete found.scalars exit)
-
--- one number, and nothing behind it
-abbrev pub one_number : List (List ℕ) → Option ℤ
-one_number words = lone_word words >>= integer_of
+end_of words = scalars_of words >>= λ found. exit_of found.rest >>= λ exit. Some (Asks.Plain (Complete found.scalars exit))
 
 -- a line of a list, or what is wrong with it; blank words and a comment are none
 abbrev pub list_line : List (List ℕ) → Option (Result Words ListFault)
@@ -77,17 +75,10 @@ replace_of (number ∷ words) =
     integer_of number >>= λ n. list_line words >>= λ line. Some (Asks.Change (with_line (Replace (line_number n)) line) n)
 replace_of [] = None
 
--- the requests of one word
+-- the requests of one word: `go`, and those that name nothing
 abbrev pub alone : List ℕ → Option Asked
 alone word =
-    if bytes_eq word (codes "resume") then Some Asks.Resume
-    else if bytes_eq word (codes "settle") then Some Asks.Settle
-    else if bytes_eq word (codes "clock") then Some Asks.Clock
-    else if bytes_eq word (codes "fire") then Some Asks.Fire
-    else if bytes_eq word (codes "finish") then Some Asks.Quit
-    else if bytes_eq word (codes "halt") then Some Asks.Halt
-    else if bytes_eq word (codes "go") then Some (Asks.Go 1)
-    else None
+    if bytes_eq word (codes "go") then Some (Asks.Go 1) else option_map Asks.Plain (requests.alone word)
 
 -- `go N`: so many requests of the actor's text, at least one
 abbrev pub go_of : ℤ → Option Asked
@@ -97,15 +88,13 @@ go_of (negsuc number) = None
 -- the requests with a number
 abbrev pub numbered_by : List ℕ → ℤ → Option Asked
 numbered_by key number =
-    if bytes_eq key (codes "delay") then Some (Asks.DelayUntil number)
-    else if bytes_eq key (codes "tick") then Some (Asks.Tick number)
-    else if bytes_eq key (codes "remove") then Some (remove_of number)
+    if bytes_eq key (codes "remove") then Some (remove_of number)
     else if bytes_eq key (codes "go") then go_of number
-    else None
+    else option_map Asks.Plain (requests.numbered_by key number)
 
 -- a request of a word and a number
 abbrev pub numbered : List ℕ → List (List ℕ) → Option Asked
-numbered key words = one_number words >>= numbered_by key
+numbered key words = requests.one_number words >>= numbered_by key
 
 -- the requests that go on
 abbrev pub longer : List ℕ → List (List ℕ) → Option Asked

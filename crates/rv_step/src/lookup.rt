@@ -72,15 +72,7 @@ pub fn request_of(
                 None => Ok(None),
             }
         }
-        Asked::Complete(scalars, exit) => Ok(Some(Request::Complete(*scalars, *exit))),
-        Asked::Settle => Ok(Some(Request::Settle)),
-        Asked::Resume => Ok(Some(Request::Resume)),
-        Asked::DelayUntil(time) => Ok(Some(Request::DelayUntil(*time))),
-        Asked::Clock => Ok(Some(Request::Clock)),
-        Asked::Fire => Ok(Some(Request::Fire)),
-        Asked::Quit => Ok(Some(Request::Quit)),
-        Asked::Tick(ticks) => Ok(Some(Request::Tick(*ticks))),
-        Asked::Halt => Ok(Some(Request::Halt)),
+        Asked::Plain(request) => Ok(Some(*request)),
         Asked::Go(_) | Asked::Change(_, _) => Ok(None),
     }
 }

@@ -3,8 +3,8 @@
 ghost use Rattle.std.specs.Prelude.{◌≡◌, IfOk, string_bytes};
 
 use rv_access::{Change, ListFault};
-use rv_event::entry::Exit;
-use rv_value::{Args, Scalars};
+use rv_event::entry::Request;
+use rv_value::Args;
 use std::alloc::{AllocError, Global};
 use std::marker::Model;
 
@@ -94,17 +94,8 @@ pub enum Asker {
 pub enum Asked {
     /// A call of an operation of an object with these values.
     Call(DottedName, Name, Args),
-    /// The end of a body with the object's scalars.
-    Complete(Scalars, Exit),
-    /// The object whose queue the actor's last end left some callers in is served on.
-    Settle,
-    Resume,
-    DelayUntil(i64),
-    Clock,
-    Fire,
-    Quit,
-    Tick(i64),
-    Halt,
+    /// Any other request: it names nothing that is looked up.
+    Plain(Request),
     /// So many requests of the actor's text, one after another, at least one.
     Go(usize),
     /// A change of one line of the list; what is no line comes with its fault. And the number of the line as it is
