@@ -1,4 +1,5 @@
 pub mod Fits
+pub mod Opening
 pub mod Decided
 pub mod Times
 pub mod RoomLeft

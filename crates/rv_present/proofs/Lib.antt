@@ -1,3 +1,5 @@
+-- An object and its operation
+pub mod Sites
 -- An array with one place written
 pub mod Arrays
 -- Stacks, actions, and the bodies under way

@@ -1,10 +1,11 @@
 //! The bodies under way, by actor and by object.
 
-ghost use Rattle.std.specs.Prelude.{◌≡◌, ◌<◌, ◌≤◌, ◌+◌, ◌∷◌, ◌^◌, List, [], ℕ, Some, false, length, slice_index_or, replicate, IfOk};
+ghost use Rattle.std.specs.Prelude.{◌≡◌, ◌<◌, ◌≤◌, ◌+◌, ◌∷◌, ◌^◌, if◌then◌else◌, List, [], ℕ, Some, false, length, slice_index_or, replicate, IfOk};
 ghost use Rattle.rv_event.specs.Lent.{whole};
 ghost use Rattle.rv_event.specs.Past as past;
 ghost use Rattle.rv_event.specs.declared.entry.Body.{Body};
 ghost use Rattle.rv_object.specs.Actions.{excludes};
+ghost use Rattle.rv_object.specs.declared.action.Action.TheVariants.{Shared, Exclusive};
 ghost use Rattle.rv_present.specs.Bodies.{IsBodies, IsReady};
 ghost use Rattle.rv_present.specs.Ends.{left_after, left_by};
 ghost use Rattle.rv_present.specs.Holdings.{action_of, idle};
@@ -42,6 +43,17 @@ fn ceiling_of(catalogue: &Catalogue, object: usize) -> usize
     }
 }
 
+// The action of an actor's body, which is shared or not.
+fn action_as(shared: bool, actor: usize) -> Action
+    ensures { result ≡ (if shared then Shared else Exclusive actor) }
+{
+    if shared {
+        Action::Shared
+    } else {
+        Action::Exclusive(actor)
+    }
+}
+
 // The action of an actor's body of an operation on its object.
 fn action_by(catalogue: &Catalogue, actor: usize, object: usize, operation: usize) -> Action
     ensures { result
@@ -51,10 +63,24 @@ fn action_by(catalogue: &Catalogue, actor: usize, object: usize, operation: usiz
           operation = operation;
         }) }
 {
-    if is_shared(catalogue, object, operation) {
-        Action::Shared
-    } else {
-        Action::Exclusive(actor)
+    action_as(is_shared(catalogue, object, operation), actor)
+}
+
+// The action of a body, and the ceiling of its object: both by one look at its operation.
+#[tactic(auto, using(crate::proofs::Sites::ceiling_found))]
+fn action_under(catalogue: &Catalogue, body: Body) -> (Action, usize)
+    ensures action { result.0 ≡ action_of catalogue.now body }
+    ensures ceiling { result.1 ≡ catalogues.ceiling catalogue.now body.object }
+{
+    match catalogue.operation(body.object, body.operation) {
+        Some((_, object, found)) => {
+            let action = action_as(found.kind().is_function(), body.actor);
+            (action, object.ceiling())
+        }
+        None => (
+            Action::Exclusive(body.actor),
+            ceiling_of(catalogue, body.object),
+        ),
     }
 }
 
@@ -193,8 +219,7 @@ impl Bodies {
         ensures unsettled { (o : ℕ) → (slice_index_or self.new.objects o idle).unsettled
             ≡ (slice_index_or self.old.objects o idle).unsettled }
     {
-        let action = action_by(catalogue, body.actor, body.object, body.operation);
-        let ceiling = ceiling_of(catalogue, body.object);
+        let (action, ceiling) = action_under(catalogue, body);
         self.stacks.begin(
             body.actor,
             Held {

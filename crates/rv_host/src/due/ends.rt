@@ -3,12 +3,14 @@
 ghost use Rattle.std.specs.Prelude.{◌≡◌, slice_get, List, ℤ, Option};
 ghost use Rattle.rv_event.specs.declared.entry.Body.{Body};
 ghost use Rattle.rv_history.specs.Due as due;
+ghost use Rattle.rv_history.specs.Exclusion.{barrier_at, opens_on};
 ghost use Rattle.rv_host.specs.Decisions.{answer_with};
 ghost use Rattle.rv_host.specs.Seen.{IsSeen, history_of};
+ghost use Rattle.rv_shape.specs.Catalogue as catalogues;
 
 use crate::decision::Decision;
 use crate::due::waits::is_halted;
-use crate::rules::exclusion::{opens_at, scalars_of};
+use crate::rules::exclusion::{opens_among, opens_at, scalars_of};
 use crate::rules::grant::decide_call;
 use crate::rules::queue::head_call;
 use crate::seen::Seen;
@@ -33,22 +35,24 @@ fn serve(seen: &Seen, head: Option<Body>) -> Next
     }
 }
 
-// What becomes of the queue of an object at the end of an exclusive body that leaves these
-// scalars, or where the object, which has them, is settled.
-fn after_end(seen: &Seen, object: usize, scalars: &Scalars) -> Next
+// What becomes of the queue of an object at the end of an exclusive body, or where the object is settled: whether its
+// entry's barrier is open then was found.
+fn after_end(seen: &Seen, object: usize, open: bool) -> Next
     requires { IsSeen seen.now }
-    ensures { result ≡ due.after_end (history_of seen.now) object scalars.now }
+    ensures { (values : List ℤ) → open ≡ opens_on (barrier_at (catalogues.place seen.now.catalogue.now object)) values
+        → result ≡ due.after_end (history_of seen.now) object values }
 {
     if is_halted(seen) {
         return Next::Nothing;
     }
-    if !opens_at(seen.catalogue, object, scalars) {
+    if !open {
         return Next::Nothing;
     }
     serve(seen, head_call(seen, object))
 }
 
 /// What is decided of the end of a body.
+#[tactic(auto, using(crate::proofs::Opening::opens_found))]
 pub fn due_end(seen: &Seen, body: Option<Body>, scalars: &Scalars) -> Decision
     requires { IsSeen seen.now }
     ensures { (given : Option (List ℤ)) → answer_with given result ≡ due.due_end (history_of seen.now) scalars.now body }
@@ -57,11 +61,12 @@ pub fn due_end(seen: &Seen, body: Option<Body>, scalars: &Scalars) -> Decision
         return Decision::Misuse;
     };
     match seen.catalogue.callee(body.object, body.operation) {
-        Callee::Protected(_, _, found) => {
+        Callee::Protected(_, object, found) => {
             if found.kind().is_function() {
                 return Decision::Done(Next::Nothing);
             }
-            Decision::Done(after_end(seen, body.object, scalars))
+            let open = opens_among(object.operations(), scalars);
+            Decision::Done(after_end(seen, body.object, open))
         }
         Callee::Nowhere => Decision::Misuse,
         Callee::Suspension(_, _, _) => Decision::Misuse,
@@ -76,6 +81,7 @@ pub fn due_settle(seen: &Seen, body: Option<Body>) -> Decision
     let Some(body) = body else {
         return Decision::Misuse;
     };
-    let next = after_end(seen, body.object, scalars_of(seen, body.object));
-    Decision::Done(next)
+    let scalars = scalars_of(seen, body.object);
+    let open = opens_at(seen.catalogue, body.object, scalars);
+    Decision::Done(after_end(seen, body.object, open))
 }
