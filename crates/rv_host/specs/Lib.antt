@@ -4,3 +4,4 @@ pub mod Attached
 pub mod Facts
 pub mod Decisions
 pub mod Pages
+pub mod Going

@@ -6,6 +6,7 @@
 #![tactic(auto)]
 
 mod answering;
+pub mod answers;
 pub mod decision;
 mod due;
 pub mod facts;

@@ -37,15 +37,15 @@ fn serve(seen: &Seen, head: Option<Body>) -> Next
 
 // What becomes of the queue of an object at the end of an exclusive body, or where the object is settled: whether its
 // entry's barrier is open then was found.
-fn after_end(seen: &Seen, object: usize, open: bool) -> Next
+fn after_end(seen: &Seen, object: usize, opens: bool) -> Next
     requires { IsSeen seen.now }
-    ensures { (values : List ℤ) → open ≡ opens_on (barrier_at (catalogues.place seen.now.catalogue.now object)) values
+    ensures { (values : List ℤ) → opens ≡ opens_on (barrier_at (catalogues.place seen.now.catalogue.now object)) values
         → result ≡ due.after_end (history_of seen.now) object values }
 {
     if is_halted(seen) {
         return Next::Nothing;
     }
-    if !open {
+    if !opens {
         return Next::Nothing;
     }
     serve(seen, head_call(seen, object))
@@ -65,8 +65,8 @@ pub fn due_end(seen: &Seen, body: Option<Body>, scalars: &Scalars) -> Decision
             if found.kind().is_function() {
                 return Decision::Done(Next::Nothing);
             }
-            let open = opens_among(object.operations(), scalars);
-            Decision::Done(after_end(seen, body.object, open))
+            let opens = opens_among(object.operations(), scalars);
+            Decision::Done(after_end(seen, body.object, opens))
         }
         Callee::Nowhere => Decision::Misuse,
         Callee::Suspension(_, _, _) => Decision::Misuse,
@@ -82,6 +82,6 @@ pub fn due_settle(seen: &Seen, body: Option<Body>) -> Decision
         return Decision::Misuse;
     };
     let scalars = scalars_of(seen, body.object);
-    let open = opens_at(seen.catalogue, body.object, scalars);
-    Decision::Done(after_end(seen, body.object, open))
+    let opens = opens_at(seen.catalogue, body.object, scalars);
+    Decision::Done(after_end(seen, body.object, opens))
 }

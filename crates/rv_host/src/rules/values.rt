@@ -3,40 +3,50 @@
 ghost use Rattle.std.specs.Prelude.{◌≡◌, ◌&&◌, [], ◌∷◌, map, if◌then◌else◌};
 ghost use Rattle.rv_shape.specs.Catalogue as catalogues;
 ghost use Rattle.rv_history.specs.Fitting as fitting;
+ghost use Rattle.rv_host.specs.Going.{going, ranges_going};
 
 use rv_event::entry::Exit;
-use rv_shape::kind::{Component, Kind, Parameter, Range};
+use rv_shape::kind::{Component, Kind, Parameter, ParameterMode, Range};
+
+// Whether a parameter of this mode takes a value in or, where that is asked for, gives one back (6.2).
+fn is_going(mode: ParameterMode, outward: bool) -> bool
+    ensures { result ≡ going outward mode }
+{
+    if outward {
+        mode.goes_out()
+    } else {
+        mode.goes_in()
+    }
+}
+
+// Whether there is one value in range for each parameter that has one to take in or to give back.
+fn fit_going(parameters: &[Parameter], values: &[i64], outward: bool) -> bool
+    ensures { result ≡ fitting.all_fit (ranges_going outward parameters.now) values.now }
+{
+    let [parameter, others @ ..] = parameters else {
+        return values.len() == 0;
+    };
+    if !is_going(parameter.mode, outward) {
+        return fit_going(others, values, outward);
+    }
+    let [value, rest @ ..] = values else {
+        return false;
+    };
+    parameter.range.holds(*value) && fit_going(others, rest, outward)
+}
 
 /// Whether there is one value in range for each parameter that takes one in.
 pub fn fit_parameters(parameters: &[Parameter], values: &[i64]) -> bool
     ensures { result ≡ fitting.all_fit (fitting.ranges_in parameters.now) values.now }
 {
-    let [parameter, others @ ..] = parameters else {
-        return values.len() == 0;
-    };
-    if !parameter.mode.goes_in() {
-        return fit_parameters(others, values);
-    }
-    let [value, rest @ ..] = values else {
-        return false;
-    };
-    parameter.range.holds(*value) && fit_parameters(others, rest)
+    fit_going(parameters, values, false)
 }
 
 // Whether there is one value in range for each parameter that gives one back.
 fn fit_outward(parameters: &[Parameter], values: &[i64]) -> bool
     ensures { result ≡ fitting.all_fit (fitting.ranges_out parameters.now) values.now }
 {
-    let [parameter, others @ ..] = parameters else {
-        return values.len() == 0;
-    };
-    if !parameter.mode.goes_out() {
-        return fit_outward(others, values);
-    }
-    let [value, rest @ ..] = values else {
-        return false;
-    };
-    parameter.range.holds(*value) && fit_outward(others, rest)
+    fit_going(parameters, values, true)
 }
 
 // Whether there is one value in range for each component.
