@@ -6,6 +6,7 @@ pub mod RoomLeft
 pub mod Solvent
 pub mod Loading
 pub mod Changing
+pub mod Removing
 pub mod Running
 pub mod Paid
 pub mod Paging
