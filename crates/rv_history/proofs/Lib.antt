@@ -6,6 +6,7 @@ pub mod Handled
 pub mod Sums
 pub mod Modes
 -- Starts and refusals
+pub mod Suspending
 pub mod Exactly
 pub mod Fires
 pub mod First

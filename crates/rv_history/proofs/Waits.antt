@@ -10,8 +10,6 @@ use Rattle.rv_event.specs.Past.{held, to_settle, next_of, named_in, stance, halt
 use Rattle.rv_event.specs.declared.entry.Stance.{Stance}
 use Rattle.rv_event.specs.declared.entry.Stance.TheVariants.{Free, InQueue, HandedOver, DroppedBy, WaitsOn, WaitsUntil, Gone}
 use Rattle.rv_event.specs.declared.entry.Body.{Body}
-use Rattle.rv_shape.specs.declared.suspension.SuspensionOperation.{SuspensionOperation}
-use Rattle.rv_shape.specs.declared.suspension.SuspensionOperation.TheVariants.{SetTrue, SetFalse, CurrentState, SuspendUntilTrue}
 use Rattle.rv_event.specs.declared.entry.Mode.TheVariants as Modes
 use Rattle.rv_event.specs.declared.entry.Rule.TheVariants as Rules
 use Rattle.rv_event.specs.declared.entry.Entry.{Entry}
@@ -20,16 +18,16 @@ use Rattle.rv_event.specs.declared.entry.Request.{Request}
 use Rattle.rv_event.specs.declared.entry.Request.TheVariants.{Call}
 use Rattle.rv_event.specs.declared.entry.Recorded.{Recorded}
 use Rattle.rv_event.specs.declared.entry.Recorded.TheVariants.{Queued}
-use Rattle.rv_event.specs.declared.entry.Answer.{Answer}
 use Rattle.rv_event.specs.declared.entry.Answer.TheVariants as Answers
-use Rattle.rv_history.specs.History.{History, version}
+use Rattle.rv_history.specs.History.{History}
 use Rattle.rv_history.specs.Exclusion.{excluded, is_barred, full_queue, is_open}
 use Rattle.rv_history.specs.Owed.{actors}
 use Rattle.rv_history.specs.Rules.{holds_any, breaks}
 use Rattle.rv_history.specs.Fitting.{may_call, is_operator, is_settling, call_fits}
-use Rattle.rv_history.specs.Due.{out, due_resume, judged, performed, due_call, table}
+use Rattle.rv_history.specs.Due.{out, due_resume, judged, due_call, table}
 use Rattle.rv_history.proofs.Answered.{off, both, and_true, Answered, answered}
 use Rattle.rv_history.proofs.Exactly.{not_halted}
+use Rattle.rv_history.proofs.Suspending.{never_suspension}
 use Rattle.rv_history.proofs.Modes.{SettlesOrResumes, calls_at, is_shut, shut_fits, unfit}
 use Rattle.rv_history.proofs.Stances.{itself, below, own_stance, is_other, unnamed_stance, other_queued, queued_actor, some_is, held_other}
 
@@ -93,19 +91,6 @@ judged_queues v l vs false false false false false true true e = absurd (cc)
 judged_queues v l vs false false false false false true false e = record { calm = refl; free = refl; shut = refl; short = refl }
 judged_queues v l vs false false false false false false f e = absurd (cc)
 
-never_performed : (v : ℕ) (blocking waited state : Bool) (d : SuspensionOperation) → recorded (performed v blocking waited state d) ≡ Some Queued → ⊥
-never_performed v b w s SetTrue e = cc
-never_performed v b w s SetFalse e = cc
-never_performed v b w s CurrentState e = cc
-never_performed v true w s SuspendUntilTrue e = cc
-never_performed v false true s SuspendUntilTrue e = cc
-never_performed v false false true SuspendUntilTrue e = cc
-never_performed v false false false SuspendUntilTrue e = cc
-
-denied_or : (b : Bool) (line v : ℕ) (x : Answer) → (recorded x ≡ Some Queued → ⊥) → recorded (if b then Answers.Refused Rules.Grant line v else x) ≡ Some Queued → ⊥
-denied_or true line v x h e = cc
-denied_or false line v x h e = h e
-
 nothing_held : (bs : List Body) → nat_lt 0 (length bs) ≡ false → bs ≡ []
 nothing_held [] e = refl
 nothing_held (b ∷ bs) e = absurd (off (sym e ∙ some (length bs)))
@@ -146,7 +131,7 @@ not_open false e = refl
 
 joins_at : (h : History) (a o p : ℕ) (vs : List ℤ) (t : Target) → target h.shapes o p ≡ t → Answered h a (Call o p vs) Queued → recorded (due_call h a (Call o p vs) o t) ≡ Some Queued → Joins h a o p
 joins_at h a o p vs Nowhere is g e = absurd (cc)
-joins_at h a o p vs (OnSuspension unit name wanted) is g e = absurd (denied_or _ _ (version h) _ (never_performed (version h) _ _ _ wanted) e)
+joins_at h a o p vs (OnSuspension unit name wanted) is g e = absurd (never_suspension h a (Call o p vs) o unit name wanted Queued refl e)
 joins_at h a o p vs (OnProtected s) is g e =
     let t : Tests (breaks h Rules.Blocking a (Call o p vs) o (OnProtected s)) (excluded h o (is_function s.operation.kind)) (is_barred h o s.operation.kind) (full_queue h o) = judged_queues _ _ _ _ _ _ _ _ _ _ e in
     let kind = both (is_entry s.operation.kind) (not (is_open h o)) t.shut in
