@@ -4,6 +4,7 @@ pub mod Stances
 pub mod Bodies
 pub mod Handled
 pub mod Sums
+pub mod Arrays
 pub mod Modes
 -- Starts and refusals
 pub mod Suspending
