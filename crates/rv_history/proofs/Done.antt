@@ -10,18 +10,16 @@ use Rattle.rv_event.specs.declared.entry.Request.TheVariants.{Call, Complete, Se
 use Rattle.rv_event.specs.declared.entry.Rule.TheVariants as Rules
 use Rattle.rv_event.specs.declared.entry.Stance.{Stance}
 use Rattle.rv_event.specs.declared.entry.Stance.TheVariants.{Free, InQueue, HandedOver, DroppedBy, WaitsOn, WaitsUntil, Gone}
-use Rattle.rv_shape.specs.declared.suspension.SuspensionOperation.{SuspensionOperation}
-use Rattle.rv_shape.specs.declared.suspension.SuspensionOperation.TheVariants.{SetTrue, SetFalse, CurrentState, SuspendUntilTrue}
 use Rattle.rv_event.specs.declared.entry.Recorded.TheVariants as Words
-use Rattle.rv_event.specs.declared.entry.Answer.{Answer}
 use Rattle.rv_event.specs.declared.entry.Answer.TheVariants as Answers
 use Rattle.rv_history.specs.History.{History, version}
 use Rattle.rv_history.specs.Subject.{subject}
 use Rattle.rv_history.specs.Exclusion.{excluded, is_barred, full_queue}
 use Rattle.rv_history.specs.Rules.{decided, breaks, holds_any}
-use Rattle.rv_history.specs.Due.{out, due_call, due_fire, due_resume, due_delay, judged, performed, or_waiting, table}
+use Rattle.rv_history.specs.Due.{out, due_call, due_fire, due_resume, due_delay, judged, or_waiting, table}
 use Rattle.rv_history.specs.HandOver.{serves}
 use Rattle.rv_history.proofs.Answered.{answered}
+use Rattle.rv_history.proofs.Suspending.{never_suspension}
 
 judged_not : (v l : ℕ) (vs : List ℤ) (d b r a y c f : Bool) (next : Next) → recorded (judged v l vs d b r a y c f) ≡ Some (Words.Done next) → ⊥
 judged_not v l vs true b r a y c f next e = cc
@@ -33,25 +31,12 @@ judged_not v l vs false false false false false true true next e = cc
 judged_not v l vs false false false false false true false next e = cc
 judged_not v l vs false false false false false false f next e = cc
 
-performed_not : (v : ℕ) (b w s : Bool) (d : SuspensionOperation) (next : Next) → recorded (performed v b w s d) ≡ Some (Words.Done next) → ⊥
-performed_not v b w s SetTrue next e = cc
-performed_not v b w s SetFalse next e = cc
-performed_not v b w s CurrentState next e = cc
-performed_not v true w s SuspendUntilTrue next e = cc
-performed_not v false true s SuspendUntilTrue next e = cc
-performed_not v false false true SuspendUntilTrue next e = cc
-performed_not v false false false SuspendUntilTrue next e = cc
-
-denied_or : (b : Bool) (line v : ℕ) (x : Answer) (next : Next) → (recorded x ≡ Some (Words.Done next) → ⊥) → recorded (if b then Answers.Refused Rules.Grant line v else x) ≡ Some (Words.Done next) → ⊥
-denied_or true line v x next h e = cc
-denied_or false line v x next h e = h e
-
 call_not : (h : History) (a : ℕ) (r : Request) (o : ℕ) (t : Target) (next : Next) → recorded (due_call h a r o t) ≡ Some (Words.Done next) → ⊥
 call_not h a r o Nowhere next e = cc
 call_not h a r o (OnProtected s) next e =
     judged_not (version h) (decided h (subject h a) (OnProtected s)) (scalars h.shapes o h.past) (breaks h Rules.Grant a r o (OnProtected s)) (breaks h Rules.Blocking a r o (OnProtected s)) (breaks h Rules.Reentry a r o (OnProtected s))
     (breaks h Rules.Ceiling a r o (OnProtected s)) (excluded h o (is_function s.operation.kind)) (is_barred h o s.operation.kind) (full_queue h o) next e
-call_not h a r o (OnSuspension unit name wanted) next e = denied_or _ _ (version h) _ next (performed_not (version h) _ _ _ wanted next) e
+call_not h a r o (OnSuspension unit name wanted) next e = never_suspension h a r o unit name wanted (Words.Done next) refl e
 
 fire_not : (h : History) (a : ℕ) (n : Option OperationNumber) (next : Next) → recorded (due_fire h a n) ≡ Some (Words.Done next) → ⊥
 fire_not h a None next e = cc

@@ -7,8 +7,6 @@ use Rattle.rv_event.specs.Past.{halted, scalars, stance, innermost, to_settle, w
 use Rattle.rv_event.specs.declared.entry.Stance.{Stance}
 use Rattle.rv_event.specs.declared.entry.Stance.TheVariants.{Free, InQueue, HandedOver, DroppedBy, WaitsOn, WaitsUntil, Gone}
 use Rattle.rv_event.specs.declared.entry.Body.{Body}
-use Rattle.rv_shape.specs.declared.suspension.SuspensionOperation.{SuspensionOperation}
-use Rattle.rv_shape.specs.declared.suspension.SuspensionOperation.TheVariants.{SetTrue, SetFalse, CurrentState, SuspendUntilTrue}
 use Rattle.rv_event.specs.declared.entry.Entry.TheVariants.{Asked}
 use Rattle.rv_event.specs.declared.entry.Request.{Request}
 use Rattle.rv_event.specs.declared.entry.Request.TheVariants.{Call, Complete, Settle, Resume, DelayUntil, Clock, Fire, Quit, Tick, Halt}
@@ -17,14 +15,15 @@ use Rattle.rv_event.specs.declared.entry.Rule.TheVariants.{Grant, Blocking, Reen
 use Rattle.rv_event.specs.declared.entry.Recorded.TheVariants.{Started}
 use Rattle.rv_event.specs.declared.entry.Answer.{Answer}
 use Rattle.rv_event.specs.declared.entry.Answer.TheVariants as Answers
-use Rattle.rv_history.specs.History.{History, version}
+use Rattle.rv_history.specs.History.{History}
 use Rattle.rv_history.specs.Exclusion.{excluded, is_barred, full_queue}
 use Rattle.rv_history.specs.Owed.{has_room}
 use Rattle.rv_history.specs.Rules.{Aim, aim, aim_at, is_protected, breaks, is_call, is_taken}
 use Rattle.rv_history.specs.Fitting.{fits}
-use Rattle.rv_history.specs.Due.{out, due, within, enough, gate, table, goes_on, judged, performed, due_call, due_fire, due_end, due_settle, end_of, due_resume, due_delay, or_waiting}
+use Rattle.rv_history.specs.Due.{out, due, within, enough, gate, table, goes_on, judged, due_call, due_fire, due_end, due_settle, end_of, due_resume, due_delay, or_waiting}
 use Rattle.rv_history.specs.Headline.{IsAllowed}
 use Rattle.rv_history.proofs.Answered.{off, and_none, and_false, Answered, answered}
+use Rattle.rv_history.proofs.Suspending.{never_suspension}
 
 -- what is known where `judged` starts
 pub record Tests (denied blocking reentry above busy closed : Bool) : Type 0 where
@@ -47,20 +46,6 @@ started_tests v l vs false false false false false false f e = record { grant = 
 
 tests_start : (version line : ℕ) (vs : List ℤ) (denied blocking reentry above busy closed full : Bool) → Tests denied blocking reentry above busy closed → judged version line vs denied blocking reentry above busy closed full ≡ Answers.Started vs
 tests_start v l vs d b r a y c f t = λ i. judged v l vs (t.grant i) (t.calm i) (t.new i) (t.low i) (t.free i) (t.opened i) f
-
--- nothing else is answered Started
-never_performed : (v : ℕ) (blocking waited state : Bool) (d : SuspensionOperation) → recorded (performed v blocking waited state d) ≡ Some Started → ⊥
-never_performed v b w s SetTrue e = cc
-never_performed v b w s SetFalse e = cc
-never_performed v b w s CurrentState e = cc
-never_performed v true w s SuspendUntilTrue e = cc
-never_performed v false true s SuspendUntilTrue e = cc
-never_performed v false false true SuspendUntilTrue e = cc
-never_performed v false false false SuspendUntilTrue e = cc
-
-denied_or : (b : Bool) (line v : ℕ) (x : Answer) → (recorded x ≡ Some Started → ⊥) → recorded (if b then Answers.Refused Grant line v else x) ≡ Some Started → ⊥
-denied_or true line v x h e = cc
-denied_or false line v x h e = h e
 
 -- a protected call that starts breaks no rule
 no_rule : (h : History) (a : ℕ) (r : Request) (o : ℕ) (s : Site) →
@@ -85,7 +70,7 @@ not_halted false c h e = refl
 allowed_at : (h : History) (a : ℕ) (r : Request) (o : ℕ) (t : Target) → Aimed h a r o t → goes_on r ≡ false → fits h a r ≡ true → (halted h.past && not (goes_on r)) ≡ false → recorded (due_call h a r o t) ≡ Some Started → IsAllowed h a r
 allowed_at h a r o Nowhere at calls fit shut e = absurd (cc)
 allowed_at h a r o (OnSuspension unit name wanted) at calls fit shut e =
-    absurd (denied_or _ _ (version h) _ (never_performed (version h) _ _ _ wanted) e)
+    absurd (never_suspension h a r o unit name wanted Started refl e)
 allowed_at h a r o (OnProtected s) at calls fit shut e =
     let tests = started_tests _ _ _ _ _ _ _ _ _ _ e in
     record {

@@ -4,8 +4,10 @@ pub mod Stances
 pub mod Bodies
 pub mod Handled
 pub mod Sums
+pub mod Arrays
 pub mod Modes
 -- Starts and refusals
+pub mod Suspending
 pub mod Exactly
 pub mod Fires
 pub mod First

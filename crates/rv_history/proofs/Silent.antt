@@ -1,40 +1,37 @@
 -- Whom an end or a settle names waits in a queue, so whoever doesn't is named by nobody; one that has quit asks nothing that is
 -- recorded, and there is nobody beyond the actors.
-use Rattle.std.proofs.Common.{◌≡◌, ℕ, ◌<◌, ◌≤◌, List, [], ◌∷◌, ◌++◌, length, Some, None, Option, Bool, true, false, arith, ap, sym, ◌∙◌, refl}
+use Rattle.std.proofs.Common.{◌≡◌, inl, inr, ℕ, ◌<◌, ◌≤◌, List, [], ◌∷◌, ◌++◌, Some, None, Option, Bool, true, false, arith, ap, sym, ◌∙◌, refl}
 use Rattle.std.specs.Prelude.{nat_lt, ◌==◌, ◌||◌}
 use Rattle.std.specs.List.{list_all, list_any}
 use Rattle.std.proofs.lemmas.Bool.Decides.{nat_tests}
 use Rattle.rv_access.specs.Words.{Words}
 use Rattle.rv_shape.specs.Shape.{Shape}
-use Rattle.rv_shape.specs.Catalogue.{Who, Operator, Line, Task, Nobody, target, who}
-use Rattle.rv_event.specs.Past.{held, is_named, is_own, mode, mode_by, named_in, names, or_else, stance, to_settle}
+use Rattle.rv_event.specs.Past.{held, is_named, is_own, mode, mode_by, named_in, names, or_else, or_settling, stance, to_settle}
 use Rattle.rv_event.specs.Recorded.{recorded}
 use Rattle.rv_event.specs.declared.entry.Body.{Body}
 use Rattle.rv_event.specs.declared.entry.Entry.{Entry}
 use Rattle.rv_event.specs.declared.entry.Entry.TheVariants.{Asked, Load, ListChange}
-use Rattle.rv_event.specs.declared.entry.Mode.{Mode}
 use Rattle.rv_event.specs.declared.entry.Mode.TheVariants as Modes
 use Rattle.rv_event.specs.declared.entry.Next.{Next}
 use Rattle.rv_event.specs.declared.entry.Recorded.{Recorded}
 use Rattle.rv_event.specs.declared.entry.Recorded.TheVariants.{Started, Queued, Refused, Done, Suspended, Delayed, Woken, Accepted}
 use Rattle.rv_event.specs.declared.entry.Request.{Request}
-use Rattle.rv_event.specs.declared.entry.Request.TheVariants.{Call, Complete, Settle, Resume, DelayUntil, Clock, Fire, Quit, Tick, Halt}
 use Rattle.rv_event.specs.declared.entry.Stance.{Stance}
 use Rattle.rv_event.specs.declared.entry.Stance.TheVariants.{Free, InQueue, HandedOver, DroppedBy, WaitsOn, WaitsUntil, Gone}
 use Rattle.rv_history.specs.declared.limits.Limits.{Limits}
 use Rattle.rv_history.specs.Due.{out}
-use Rattle.rv_history.specs.Fitting.{awaits, call_fits, fits_actor, idle_line, idle_task, in_body, is_tick, is_time, may_call}
+use Rattle.rv_history.specs.Fitting.{awaits, is_settling}
 use Rattle.rv_history.specs.Frame.{is_apart}
 use Rattle.rv_history.specs.History.{History}
 use Rattle.rv_history.specs.Legal.{IsLegal, Legal}
 use Rattle.rv_history.specs.Owed.{actors}
-use Rattle.rv_history.proofs.Answered.{off, and_none, both, Answered, answered}
+use Rattle.rv_history.proofs.Answered.{off, Answered, answered}
 use Rattle.rv_history.proofs.Ending.{head_waits, names_at}
 use Rattle.rv_history.proofs.Frame.{all_more, apart_of, stance_stays, unsaid}
-use Rattle.rv_history.proofs.Modes.{calls_at, ends_at, fires_at, quits_at, settles_at, waits_at}
+use Rattle.rv_history.proofs.Modes.{SettlesOrResumes, is_shut, shut_fits, unfit}
 use Rattle.rv_history.proofs.Standing.{legal_standing, legal_waits, none_left}
 use Rattle.rv_history.proofs.Stances.{below, same_number}
-use Rattle.rv_history.proofs.Waits.{Waits, more_tasks, no_operator, unfit}
+use Rattle.rv_history.proofs.Waits.{Waits, more_tasks, no_operator}
 
 -- Whom one names
 
@@ -109,57 +106,19 @@ is_gone (WaitsOn object) = false
 is_gone (WaitsUntil time) = false
 is_gone Gone = true
 
-calls_none : (w : Who) → may_call w Modes.Ended ≡ false
-calls_none Operator = refl
-calls_none (Line line) = refl
-calls_none (Task task) = refl
-calls_none Nobody = refl
-
-fires_none : (w : Who) → idle_line w Modes.Ended ≡ false
-fires_none Operator = refl
-fires_none (Line line) = refl
-fires_none (Task task) = refl
-fires_none Nobody = refl
-
-quits_none : (w : Who) → idle_task w Modes.Ended ≡ false
-quits_none Operator = refl
-quits_none (Line line) = refl
-quits_none (Task task) = refl
-quits_none Nobody = refl
-
 gone_at : (h : History) (a : ℕ) (r : Request) (w : Recorded) → Legal h → stance a h.past ≡ Gone → nat_lt a 11 ≡ false → Answered h a r w → ⊥
 unfolding is_gone
-gone_at h a r w l at task g = by_request r g.fits_in
+gone_at h a r w l at task g = by_case (shut_fits h a r (ap is_shut ended) (unfit _ (no_operator h.shapes a task)) g.fits_in)
   where
-    by : Mode
-    by = mode_by (held h.shapes a h.past) (stance a h.past)
-
-    left : Option Body
-    left = to_settle h.shapes a h.past
-
-    ended : by ≡ Modes.Ended
-    ended = ap (mode_by (held h.shapes a h.past)) at
-
-    calls : may_call (who h.shapes a) by ≡ false
-    calls = ap (may_call (who h.shapes a)) ended ∙ calls_none (who h.shapes a)
-
-    settled : left ≡ None
+    settled : to_settle h.shapes a h.past ≡ None
     settled = none_left h.shapes h.past a (legal_standing h.limits h.past h.shapes h.lists l).left (λ free. off (ap is_gone (sym free ∙ at)))
 
-    by_request : (r : Request) → fits_actor h a r ≡ true → ⊥
-    by_request (Call o p vs) f = unfit _ calls (calls_at (who h.shapes a) left by (both _ (call_fits (length (held h.shapes a h.past)) vs (target h.shapes o p)) f).0)
-    by_request (Complete vs x) f = unfit _ (ap in_body ended) (ends_at left by (both (in_body (mode h.shapes a h.past)) _ f).0)
-    by_request Settle f =
-        let has = settles_at left (held h.shapes a h.past) (stance a h.past) f in
-        let none : None ≡ Some has.0 = sym settled ∙ has.1 in
-        cc
-    by_request Resume f = unfit _ (ap awaits ended) (waits_at left by f)
-    by_request (DelayUntil t) f = unfit _ calls (calls_at (who h.shapes a) left by (both _ (is_time t) f).0)
-    by_request Clock f = unfit _ calls (calls_at (who h.shapes a) left by f)
-    by_request Fire f = unfit _ (ap (idle_line (who h.shapes a)) ended ∙ fires_none (who h.shapes a)) (fires_at (who h.shapes a) left by f)
-    by_request Quit f = unfit _ (ap (idle_task (who h.shapes a)) ended ∙ quits_none (who h.shapes a)) (quits_at (who h.shapes a) left by f)
-    by_request (Tick n) f = unfit _ (and_none _ (is_tick n) (no_operator h.shapes a task)) f
-    by_request Halt f = unfit _ (no_operator h.shapes a task) f
+    ended : mode h.shapes a h.past ≡ Modes.Ended
+    ended = λ i. or_settling (settled i) (mode_by (held h.shapes a h.past) (at i))
+
+    by_case : SettlesOrResumes (mode h.shapes a h.past) r → ⊥
+    by_case (inl one) = unfit _ (ap is_settling ended) one.1
+    by_case (inr one) = unfit _ (ap awaits ended) one.1
 
 gone_other : (h : History) (a : ℕ) (r : Request) (w : Recorded) (n : ℕ) → Legal h → recorded (out h a r) ≡ Some w → stance n h.past ≡ Gone → nat_lt n 11 ≡ false → (a == n) ≡ false
 gone_other h a r w n l e gone task = by_test (a == n) refl

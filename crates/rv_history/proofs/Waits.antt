@@ -1,57 +1,37 @@
 -- Each queued actor is a task at that call, which holds nothing and asks nothing more.
-use Rattle.std.proofs.Common.{◌≡◌, ◌≢◌, ℕ, suc, ◌-◌, ◌<◌, ◌≤◌, List, [], ◌∷◌, ◌++◌, length, Some, None, Option, Bool, true, false, arith, ap, subst, sym, ◌∙◌, refl, length-append, cond}
+use Rattle.std.proofs.Common.{◌≡◌, inl, inr, ◌≢◌, ℕ, suc, ◌-◌, ◌<◌, ◌≤◌, List, [], ◌∷◌, ◌++◌, length, Some, None, Option, Bool, true, false, arith, ap, subst, sym, ◌∙◌, refl, length-append, cond}
 use Rattle.std.specs.Prelude.{ℤ, nat_lt, ◌==◌, ◌&&◌, not, if◌then◌else◌, slice_get}
 use Rattle.std.specs.List.{filter}
 use Rattle.std.proofs.lemmas.Bool.Decides.{nat_tests}
 use Rattle.rv_shape.specs.Shape.{Shape}
 use Rattle.rv_event.specs.Recorded.{recorded}
 use Rattle.rv_shape.specs.Catalogue.{UnitTask, Who, Operator, Line, Task, Nobody, Site, who, task_of, all_tasks, tasks_of, first_of, Target, Nowhere, OnProtected, OnSuspension, target, is_entry, is_function}
-use Rattle.rv_event.specs.Past.{held, innermost, to_settle, next_of, named_in, stance, halted, mode, mode_by, last_queued, queued_by, joined, left}
+use Rattle.rv_event.specs.Past.{held, to_settle, next_of, named_in, stance, halted, mode, mode_by, or_settling, last_queued, queued_by, joined, left}
 use Rattle.rv_event.specs.declared.entry.Stance.{Stance}
 use Rattle.rv_event.specs.declared.entry.Stance.TheVariants.{Free, InQueue, HandedOver, DroppedBy, WaitsOn, WaitsUntil, Gone}
 use Rattle.rv_event.specs.declared.entry.Body.{Body}
-use Rattle.rv_shape.specs.declared.suspension.SuspensionOperation.{SuspensionOperation}
-use Rattle.rv_shape.specs.declared.suspension.SuspensionOperation.TheVariants.{SetTrue, SetFalse, CurrentState, SuspendUntilTrue}
 use Rattle.rv_event.specs.declared.entry.Mode.TheVariants as Modes
 use Rattle.rv_event.specs.declared.entry.Rule.TheVariants as Rules
 use Rattle.rv_event.specs.declared.entry.Entry.{Entry}
 use Rattle.rv_event.specs.declared.entry.Entry.TheVariants.{Asked}
 use Rattle.rv_event.specs.declared.entry.Request.{Request}
-use Rattle.rv_event.specs.declared.entry.Request.TheVariants.{Call, Complete, Settle, Resume, DelayUntil, Clock, Fire, Quit, Tick, Halt}
+use Rattle.rv_event.specs.declared.entry.Request.TheVariants.{Call}
 use Rattle.rv_event.specs.declared.entry.Recorded.{Recorded}
 use Rattle.rv_event.specs.declared.entry.Recorded.TheVariants.{Queued}
-use Rattle.rv_event.specs.declared.entry.Answer.{Answer}
 use Rattle.rv_event.specs.declared.entry.Answer.TheVariants as Answers
-use Rattle.rv_history.specs.History.{History, version}
+use Rattle.rv_history.specs.History.{History}
 use Rattle.rv_history.specs.Exclusion.{excluded, is_barred, full_queue, is_open}
 use Rattle.rv_history.specs.Owed.{actors}
 use Rattle.rv_history.specs.Rules.{holds_any, breaks}
-use Rattle.rv_history.specs.Fitting.{may_call, in_body, end_fits, idle_line, idle_task, is_operator, is_time, is_tick, call_fits}
-use Rattle.rv_history.specs.Due.{out, due_resume, judged, performed, due_call}
-use Rattle.rv_history.proofs.Answered.{off, both, and_none, and_true, Answered, answered}
+use Rattle.rv_history.specs.Fitting.{may_call, is_operator, is_settling, call_fits}
+use Rattle.rv_history.specs.Due.{out, due_resume, judged, due_call, table}
+use Rattle.rv_history.proofs.Answered.{off, both, and_true, Answered, answered}
 use Rattle.rv_history.proofs.Exactly.{not_halted}
-use Rattle.rv_history.proofs.Modes.{calls_at, ends_at, fires_at, quits_at, settles_at}
+use Rattle.rv_history.proofs.Suspending.{never_suspension}
+use Rattle.rv_history.proofs.Modes.{SettlesOrResumes, calls_at, is_shut, shut_fits, unfit}
 use Rattle.rv_history.proofs.Stances.{itself, below, own_stance, is_other, unnamed_stance, other_queued, queued_actor, some_is, held_other}
 
 -- One that is queued gets no recorded answer.
-
-queued_calls_none : (w : Who) → may_call w Modes.Queued ≡ false
-queued_calls_none Operator = refl
-queued_calls_none (Line line) = refl
-queued_calls_none (Task task) = refl
-queued_calls_none Nobody = refl
-
-queued_fires_none : (w : Who) → idle_line w Modes.Queued ≡ false
-queued_fires_none Operator = refl
-queued_fires_none (Line line) = refl
-queued_fires_none (Task task) = refl
-queued_fires_none Nobody = refl
-
-queued_quits_none : (w : Who) → idle_task w Modes.Queued ≡ false
-queued_quits_none Operator = refl
-queued_quits_none (Line line) = refl
-queued_quits_none (Task task) = refl
-queued_quits_none Nobody = refl
 
 pub no_operator : (shapes : List Shape) (a : ℕ) → nat_lt a 11 ≡ false → is_operator (who shapes a) ≡ false
 no_operator shapes a e =
@@ -63,41 +43,22 @@ no_operator shapes a e =
     task_is None = refl
     task_is (Some task) = refl
 
-calls_not : (h : History) (a : ℕ) → stance a h.past ≡ InQueue → may_call (who h.shapes a) (mode_by (held h.shapes a h.past) (stance a h.past)) ≡ false
-calls_not h a at = ap (λ s. may_call (who h.shapes a) (mode_by (held h.shapes a h.past) s)) at ∙ queued_calls_none (who h.shapes a)
-
 waits_on : (h : History) (b : Bool) (w : Recorded) → recorded (if b then Answers.Halted else Answers.Waiting) ≡ Some w → ⊥
 waits_on h true w e = cc
 waits_on h false w e = cc
 
--- a request that doesn't fit isn't recorded
-pub unfit : (b : Bool) → b ≡ false → b ≡ true → ⊥
-unfit b e f = off (sym e ∙ f)
-
-silent_at : (h : History) (a : ℕ) (r : Request) (w : Recorded) → stance a h.past ≡ InQueue → nat_lt a 11 ≡ false → to_settle h.shapes a h.past ≡ None → Answered h a r w → ⊥
-silent_at h a (Call o p vs) w at task settled g =
-    let calls = (both (may_call (who h.shapes a) (mode h.shapes a h.past)) (call_fits (length (held h.shapes a h.past)) vs (target h.shapes o p)) g.fits_in).0 in
-    unfit _ (calls_not h a at) (calls_at (who h.shapes a) (to_settle h.shapes a h.past) _ calls)
-silent_at h a (Complete vs x) w at task settled g =
-    let ends = (both (in_body (mode h.shapes a h.past)) (end_fits h.shapes vs x (innermost h.shapes a h.past)) g.fits_in).0 in
-    unfit _ (ap (λ s. in_body (mode_by (held h.shapes a h.past) s)) at) (ends_at (to_settle h.shapes a h.past) _ ends)
-silent_at h a Settle w at task settled g =
-    let has = settles_at (to_settle h.shapes a h.past) (held h.shapes a h.past) (stance a h.past) g.fits_in in
-    let none : None ≡ Some has.0 = sym settled ∙ has.1 in
-    cc
-silent_at h a Resume w at task settled g = waits_on h (halted h.past) w (sym (ap (λ s. recorded (due_resume h a s)) at) ∙ g.said)
-silent_at h a (DelayUntil t) w at task settled g =
-    unfit _ (calls_not h a at) (calls_at (who h.shapes a) (to_settle h.shapes a h.past) _ (both (may_call (who h.shapes a) (mode h.shapes a h.past)) (is_time t) g.fits_in).0)
-silent_at h a Clock w at task settled g = unfit _ (calls_not h a at) (calls_at (who h.shapes a) (to_settle h.shapes a h.past) _ g.fits_in)
-silent_at h a Fire w at task settled g =
-    unfit _ (ap (λ s. idle_line (who h.shapes a) (mode_by (held h.shapes a h.past) s)) at ∙ queued_fires_none (who h.shapes a)) (fires_at (who h.shapes a) (to_settle h.shapes a h.past) _ g.fits_in)
-silent_at h a Quit w at task settled g =
-    unfit _ (ap (λ s. idle_task (who h.shapes a) (mode_by (held h.shapes a h.past) s)) at ∙ queued_quits_none (who h.shapes a)) (quits_at (who h.shapes a) (to_settle h.shapes a h.past) _ g.fits_in)
-silent_at h a (Tick n) w at task settled g = unfit _ (and_none _ (is_tick n) (no_operator h.shapes a task)) g.fits_in
-silent_at h a Halt w at task settled g = unfit _ (no_operator h.shapes a task) g.fits_in
-
 pub silent : (h : History) (a : ℕ) (r : Request) (w : Recorded) → stance a h.past ≡ InQueue → nat_lt a 11 ≡ false → to_settle h.shapes a h.past ≡ None → recorded (out h a r) ≡ Some w → ⊥
-silent h a r w at task settled e = silent_at h a r w at task settled (answered h a r w e)
+silent h a r w at task settled e = by_case (shut_fits h a r (ap is_shut queued) (unfit _ (no_operator h.shapes a task)) g.fits_in)
+  where
+    g : Answered h a r w
+    g = answered h a r w e
+
+    queued : mode h.shapes a h.past ≡ Modes.Queued
+    queued = λ i. or_settling (settled i) (mode_by (held h.shapes a h.past) (at i))
+
+    by_case : SettlesOrResumes (mode h.shapes a h.past) r → ⊥
+    by_case (inl one) = unfit _ (ap is_settling queued) one.1
+    by_case (inr one) = waits_on h (halted h.past) w (sym (ap (λ s. recorded (due_resume h a s)) at) ∙ ap (λ q. recorded (table h a q)) (sym one.0) ∙ g.said)
 
 -- What joined a queue.
 
@@ -129,19 +90,6 @@ judged_queues v l vs false false false false true c f e = absurd (cc)
 judged_queues v l vs false false false false false true true e = absurd (cc)
 judged_queues v l vs false false false false false true false e = record { calm = refl; free = refl; shut = refl; short = refl }
 judged_queues v l vs false false false false false false f e = absurd (cc)
-
-never_performed : (v : ℕ) (blocking waited state : Bool) (d : SuspensionOperation) → recorded (performed v blocking waited state d) ≡ Some Queued → ⊥
-never_performed v b w s SetTrue e = cc
-never_performed v b w s SetFalse e = cc
-never_performed v b w s CurrentState e = cc
-never_performed v true w s SuspendUntilTrue e = cc
-never_performed v false true s SuspendUntilTrue e = cc
-never_performed v false false true SuspendUntilTrue e = cc
-never_performed v false false false SuspendUntilTrue e = cc
-
-denied_or : (b : Bool) (line v : ℕ) (x : Answer) → (recorded x ≡ Some Queued → ⊥) → recorded (if b then Answers.Refused Rules.Grant line v else x) ≡ Some Queued → ⊥
-denied_or true line v x h e = cc
-denied_or false line v x h e = h e
 
 nothing_held : (bs : List Body) → nat_lt 0 (length bs) ≡ false → bs ≡ []
 nothing_held [] e = refl
@@ -183,7 +131,7 @@ not_open false e = refl
 
 joins_at : (h : History) (a o p : ℕ) (vs : List ℤ) (t : Target) → target h.shapes o p ≡ t → Answered h a (Call o p vs) Queued → recorded (due_call h a (Call o p vs) o t) ≡ Some Queued → Joins h a o p
 joins_at h a o p vs Nowhere is g e = absurd (cc)
-joins_at h a o p vs (OnSuspension unit name wanted) is g e = absurd (denied_or _ _ (version h) _ (never_performed (version h) _ _ _ wanted) e)
+joins_at h a o p vs (OnSuspension unit name wanted) is g e = absurd (never_suspension h a (Call o p vs) o unit name wanted Queued refl e)
 joins_at h a o p vs (OnProtected s) is g e =
     let t : Tests (breaks h Rules.Blocking a (Call o p vs) o (OnProtected s)) (excluded h o (is_function s.operation.kind)) (is_barred h o s.operation.kind) (full_queue h o) = judged_queues _ _ _ _ _ _ _ _ _ _ e in
     let kind = both (is_entry s.operation.kind) (not (is_open h o)) t.shut in

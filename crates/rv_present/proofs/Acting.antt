@@ -11,13 +11,13 @@ use Rattle.rv_event.specs.Past.{without}
 use Rattle.rv_event.specs.declared.entry.Body.{Body}
 use Rattle.rv_event.proofs.Matching.{by}
 use Rattle.rv_history.specs.Orderly.{is_on, Each}
+use Rattle.rv_history.proofs.Arrays.{at_set}
 use Rattle.rv_history.proofs.Answered.{off}
 use Rattle.rv_history.proofs.Bodies.{one_less, each_without}
 use Rattle.rv_history.proofs.Stances.{itself, another, some_is}
 use Rattle.rv_history.proofs.During.{filter_kept}
 use Rattle.rv_present.specs.Holdings.{actions_on, action_of, idle}
 use Rattle.rv_present.specs.Bodies.{AreActions}
-use Rattle.rv_present.proofs.Arrays.{at_set}
 
 abbrev pub Alike : List Shape → (Body → Bool) → Action → Body → Type 0
 Alike shapes p x b = p b ≡ true → action_of shapes b ≡ x

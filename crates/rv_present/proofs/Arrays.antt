@@ -1,4 +1,4 @@
--- The places of an array, and one write.
+-- The stances, and one write.
 use Rattle.std.proofs.Common.{◌≡◌, ◌≢◌, ℕ, ◌<◌, List, length, get_or, set, Bool, true, false, arith, subst, sym, refl}
 use Rattle.std.specs.Prelude.{◌==◌, if◌then◌else◌}
 use Rattle.std.proofs.lemmas.Bool.Decides.{nat_tests}
@@ -7,18 +7,6 @@ use Rattle.std.proofs.lemmas.List.{get_or-set_other}
 use Rattle.rv_event.specs.declared.entry.Stance.{Stance}
 use Rattle.rv_event.specs.declared.entry.Stance.TheVariants.{Free}
 use Rattle.rv_history.proofs.Stances.{same_number}
-
--- what is so of the written place and of each other is so of all
-pub at_set : {X : Type 0} (xs : List X) (i : ℕ) (x d : X) (P : ℕ → X → Type 0) → i < length xs → P i x → ((j : ℕ) → j ≢ i → P j (get_or xs j d)) → (j : ℕ) → P j (get_or (set xs i x) j d)
-at_set xs i x d P some here others j = by_test (j == i) refl
-  where
-    by_test : (t : Bool) → (j == i) ≡ t → P j (get_or (set xs i x) j d)
-    by_test true is =
-        let same : j ≡ i = same_number j i is in
-        subst (λ k. P k (get_or (set xs i x) k d)) (sym same) (subst (P i) (sym (get_or-set_at xs i i x d refl some)) here)
-    by_test false is =
-        let other : j ≢ i = grind (arith, nat_tests) in
-        subst (P j) (sym (get_or-set_other xs i j x d other)) (others j other)
 
 -- a place is the written one, which there is, or as it was
 pub set_at : (ss : List Stance) (a j : ℕ) (s : Stance) → (a ≡ j → j < length ss) → get_or (set ss a s) j Free ≡ (if a == j then s else get_or ss j Free)

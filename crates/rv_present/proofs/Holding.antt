@@ -9,10 +9,10 @@ use Rattle.rv_shape.specs.Catalogue.{ceiling}
 use Rattle.rv_event.specs.Past.{without}
 use Rattle.rv_event.specs.declared.entry.Body.{Body}
 use Rattle.rv_event.proofs.Matching.{by, filter_without, filter_others}
+use Rattle.rv_history.proofs.Arrays.{at_set}
 use Rattle.rv_history.proofs.Stances.{same_number}
 use Rattle.rv_present.specs.Holdings.{holdings, held_of}
 use Rattle.rv_present.specs.Bodies.{AreStacks}
-use Rattle.rv_present.proofs.Arrays.{at_set}
 
 map_drop : (shapes : List Shape) (bs : List Body) → map (held_of shapes) (drop 1 bs) ≡ drop 1 (map (held_of shapes) bs)
 map_drop shapes [] = refl

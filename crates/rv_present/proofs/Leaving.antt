@@ -9,6 +9,7 @@ use Rattle.rv_event.specs.Past.{closed, without}
 use Rattle.rv_event.specs.declared.entry.Body.{Body}
 use Rattle.rv_event.proofs.Matching.{by, filter_without, filter_others}
 use Rattle.rv_history.specs.Orderly.{Each, is_on}
+use Rattle.rv_history.proofs.Arrays.{at_set}
 use Rattle.rv_history.proofs.Bodies.{each_first, each_without, none_on, one_less}
 use Rattle.rv_history.proofs.Stances.{another, first_actor, itself}
 use Rattle.rv_history.proofs.During.{filter_kept, none_ends}
@@ -16,7 +17,6 @@ use Rattle.rv_present.specs.declared.bodies.Bodies.{Bodies}
 use Rattle.rv_present.specs.Bodies.{IsBodies, IsKnown}
 use Rattle.rv_present.specs.Holdings.{action_of, actions_on, idle}
 use Rattle.rv_present.specs.Unsettled.{AreAlike, AreUnsettled, Leavers, counted, one_or_none}
-use Rattle.rv_present.proofs.Arrays.{at_set}
 use Rattle.rv_present.proofs.UnderWay.{gone}
 
 few_counted : (t : Bool) → counted t ≤ 1

@@ -1,9 +1,7 @@
 -- The stances after one more entry.
-use Rattle.std.proofs.Common.{◌≡◌, ◌≢◌, ℕ, ◌<◌, ◌≤◌, List, ◌∷◌, length, get_or, set, Some, None, Option, Bool, true, false, arith, ap, subst, sym, ◌∙◌, refl}
+use Rattle.std.proofs.Common.{◌≡◌, ℕ, ◌<◌, ◌≤◌, List, ◌∷◌, length, get_or, set, Some, None, Option, Bool, true, false, arith, ap, subst, ◌∙◌, refl}
 use Rattle.std.specs.Prelude.{◌==◌, if◌then◌else◌}
-use Rattle.std.proofs.lemmas.Bool.Decides.{nat_tests}
-use Rattle.std.proofs.lemmas.Grind.{get_or-set_at}
-use Rattle.std.proofs.lemmas.List.{get_or-set_other, length-set}
+use Rattle.std.proofs.lemmas.List.{length-set}
 use Rattle.rv_shape.specs.Catalogue.{first_of}
 use Rattle.rv_event.specs.Past.{stance, stance_of, next_of, if_named, or_else}
 use Rattle.rv_event.specs.declared.entry.Entry.{Entry}
@@ -12,7 +10,6 @@ use Rattle.rv_event.specs.declared.entry.Next.{Next}
 use Rattle.rv_event.specs.declared.entry.Next.TheVariants.{Nothing, HandedTo, Dropped}
 use Rattle.rv_event.specs.declared.entry.Stance.{Stance}
 use Rattle.rv_event.specs.declared.entry.Stance.TheVariants.{Free, HandedOver, DroppedBy}
-use Rattle.rv_history.proofs.Stances.{same_number}
 use Rattle.rv_present.specs.Known.{AreBelow, IsNamedBelow}
 use Rattle.rv_history.specs.Owed.{each, dues}
 use Rattle.rv_history.proofs.Sums.{each_same}

@@ -26,17 +26,18 @@ use Rattle.rv_history.specs.Exclusion.{full_queue}
 use Rattle.rv_history.specs.Limits.{is_queue_limit, most_queued}
 use Rattle.rv_history.specs.Owed.{actors}
 use Rattle.rv_history.specs.Orderly.{Each, IsOfEntry, is_on}
+use Rattle.rv_history.proofs.Arrays.{at_set}
 use Rattle.rv_history.proofs.Bodies.{each_filter}
 use Rattle.rv_history.proofs.Answered.{both, off}
 use Rattle.rv_history.proofs.Ending.{head_on, head_waits, names_at}
 use Rattle.rv_history.proofs.HandOver.{others_kept}
 use Rattle.rv_history.proofs.Loaded.{protected_place}
 use Rattle.rv_history.proofs.Orderly.{legal_orderly_at}
-use Rattle.rv_history.proofs.Stances.{same_number, some_is}
+use Rattle.rv_history.proofs.Stances.{another, itself, same_number, some_is}
 use Rattle.rv_history.proofs.Standing.{legal_standing, queue_served}
 use Rattle.rv_history.proofs.Waits.{AllWait, joins}
 use Rattle.rv_waiting.proofs.Limits.{entry_within, legal_limit}
-use Rattle.rv_waiting.proofs.Arrays.{all_alike, at_set}
+use Rattle.rv_waiting.proofs.Arrays.{all_alike}
 use Rattle.rv_waiting.specs.Limits.{most_places}
 use Rattle.rv_waiting.specs.Queues.{AreQueues, CanJoin, Moves, call_of, callers, joined_by, left_by}
 
@@ -71,8 +72,8 @@ one_gone : (shapes : List Shape) (past : List Entry) (n : ℕ) (queues : List (L
     AreCallers (left (Some n) (waiting past)) (left_by (Some s.call) queues)
 one_gone shapes past n queues s some are =
     at_set queues on (drop 1 (get_or queues on [])) [] (λ o cs. cs ≡ map (λ call. call.actor) (filter (is_on o) others)) some
-    (λ itself. ap (drop 1) (are on) ∙ ap (λ (cs : List Body). drop 1 (map (λ call. call.actor) cs)) s.first ∙ sym (ap (map (λ (call : Body). call.actor)) s.gone))
-    (λ o other. are o ∙ ap (map (λ (call : Body). call.actor)) (sym (others_kept shapes past n o s.call (waiting past) s.all s.last other)))
+    (ap (drop 1) (are on) ∙ ap (λ (cs : List Body). drop 1 (map (λ call. call.actor) cs)) s.first ∙ sym (ap (map (λ (call : Body). call.actor)) s.gone))
+    (λ o other. are o ∙ ap (map (λ (call : Body). call.actor)) (sym (others_kept shapes past n o s.call (waiting past) s.all s.last (another on o other))))
   where
     on : ℕ
     on = s.call.object
@@ -134,8 +135,8 @@ append_nothing (d ∷ calls) = ap (λ ds. d ∷ ds) (append_nothing calls)
 one_more : (calls : List Body) (queues : List (List ℕ)) (c : Body) → c.object < length queues → AreCallers calls queues → AreCallers (calls ++ c ∷ []) (joined_by (Some c) queues)
 one_more calls queues c some are =
     at_set queues c.object (get_or queues c.object [] ++ c.actor ∷ []) [] (λ o cs. cs ≡ map (λ call. call.actor) (filter (is_on o) (calls ++ c ∷ []))) some
-    (λ itself. ap (λ ns. ns ++ c.actor ∷ []) (are c.object) ∙ sym (ap (map (λ (call : Body). call.actor)) (split c.object true itself) ∙ map_more (filter (is_on c.object) calls) c))
-    (λ o other. are o ∙ sym (ap (map (λ (call : Body). call.actor)) (split o false other ∙ append_nothing (filter (is_on o) calls))))
+    (ap (λ ns. ns ++ c.actor ∷ []) (are c.object) ∙ sym (ap (map (λ (call : Body). call.actor)) (split c.object true (itself c.object)) ∙ map_more (filter (is_on c.object) calls) c))
+    (λ o other. are o ∙ sym (ap (map (λ (call : Body). call.actor)) (split o false (another c.object o other) ∙ append_nothing (filter (is_on o) calls))))
   where
     split : (o : ℕ) (t : Bool) → (c.object == o) ≡ t → filter (is_on o) (calls ++ c ∷ []) ≡ filter (is_on o) calls ++ cond t (c ∷ []) []
     split o t is = filter_append (is_on o) calls (c ∷ []) ∙ ap (λ u. filter (is_on o) calls ++ cond u (c ∷ []) []) is

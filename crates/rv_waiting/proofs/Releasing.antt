@@ -5,7 +5,7 @@ use Rattle.std.specs.List.{list_all}
 use Rattle.rv_shape.specs.declared.suspension.SuspensionOperation.{SuspensionOperation}
 use Rattle.rv_shape.specs.declared.suspension.SuspensionOperation.TheVariants.{SetTrue, SetFalse, CurrentState, SuspendUntilTrue}
 use Rattle.rv_shape.specs.Catalogue.{numbered, suspension_operations}
-use Rattle.rv_event.specs.Past.{Sets, Untouched, accepted_touch, is_named, is_own, released, since, stance, touch, touch_of, waiter, waiter_after}
+use Rattle.rv_event.specs.Past.{Sets, Untouched, accepted_touch, is_named, is_own, released, stance, touch, touch_of, waiter, waiter_after}
 use Rattle.rv_event.specs.declared.entry.Entry.{Entry}
 use Rattle.rv_event.specs.declared.entry.Entry.TheVariants.{Asked, Load, ListChange}
 use Rattle.rv_event.specs.declared.entry.Recorded.{Recorded}
