@@ -2,7 +2,7 @@
 from collections.abc import Callable
 from typing import TypeVar
 
-from grammar_words import Word
+from grammar_words import Word, value
 from judge_tree import Attribute, Call, Expression, Identifier, Literal, Name, Named, Operation, Parenthesised, Prefixed, Range
 from judge_tree_declarations import Parameter
 
@@ -11,8 +11,9 @@ RELATIONS = ("=", "/=", "<", "<=", ">", ">=")
 
 
 def literal_value(text: str) -> int:
-    base, mark, digits = text.replace("_", "").partition("#")
-    return int(digits.rstrip("#"), int(base)) if mark else int(base)
+    """What a literal among the words stands for."""
+    base, mark, digits = text.partition("#")
+    return value(digits.rstrip("#"), value(base, 10)) if mark else value(base, 10)
 
 
 class ExpressionReader:
