@@ -1,31 +1,40 @@
-"""Reading names and expressions of a unit text into its tree. The text is known to be of the grammar (grammar.py)."""
+"""Reading names and expressions of a unit text into its tree. What isn't of the grammar (docs/GRAMMAR.md) is refused."""
 from collections.abc import Callable
-from typing import TypeVar
+from typing import NoReturn, TypeVar
 
-from grammar_words import Word
+from grammar_words import Word, fault_at, value
 from judge_tree import Attribute, Call, Expression, Identifier, Literal, Name, Named, Operation, Parenthesised, Prefixed, Range
 from judge_tree_declarations import Parameter
 
 Found = TypeVar("Found")
+MOST_OPEN = 64
 RELATIONS = ("=", "/=", "<", "<=", ">", ">=")
 
 
 def literal_value(text: str) -> int:
-    base, mark, digits = text.replace("_", "").partition("#")
-    return int(digits.rstrip("#"), int(base)) if mark else int(base)
+    """What a literal among the words stands for."""
+    base, mark, digits = text.partition("#")
+    return value(digits.rstrip("#"), value(base, 10)) if mark else value(base, 10)
 
 
 class ExpressionReader:
+    """Goes through the words from left to right; each method reads what it is named for, or raises TextFault."""
+
     def __init__(self, words: list[Word]) -> None:
         self.words = words
         self.at = 0
+        self.statements_open = self.parentheses_open = 0
 
     @property
     def word(self) -> Word:
         return self.words[self.at]
 
     def see(self, *kinds: str, ahead: int = 0) -> bool:
-        return self.words[self.at + ahead].kind in kinds
+        place = self.at + ahead
+        return place < len(self.words) and self.words[place].kind in kinds
+
+    def refuse(self, fault: str = "Unexpected") -> NoReturn:
+        raise fault_at(f"parse {fault}", self.word.place)
 
     def next(self) -> Word:
         self.at += 1
@@ -36,11 +45,11 @@ class ExpressionReader:
         self.at += found
         return found
 
-    def skip(self, *kinds: str) -> int:
-        """Passes these words; the place of the last."""
+    def take(self, *kinds: str) -> int:
+        """Reads words of these kinds, one after another; the place of the last."""
         for kind in kinds:
-            assert self.see(kind), (kind, self.word)
-            self.at += 1
+            if not self.took(kind):
+                self.refuse()
         return self.words[self.at - 1].place
 
     def several(self, separator: str, read: Callable[[], Found]) -> list[Found]:
@@ -49,38 +58,62 @@ class ExpressionReader:
             found.append(read())
         return found
 
+    def opened(self) -> None:
+        """An opening parenthesis."""
+        if self.parentheses_open == MOST_OPEN:
+            self.refuse("TooDeep")
+        self.take("(")
+        self.parentheses_open += 1
+
+    def closed(self) -> None:
+        self.take(")")
+        self.parentheses_open -= 1
+
+    def listed(self, separator: str, read: Callable[[], Found]) -> list[Found]:
+        """What stands in parentheses, where there are any."""
+        if not self.see("("):
+            return []
+        self.opened()
+        found = self.several(separator, read)
+        self.closed()
+        return found
+
     def identifier(self) -> Identifier:
-        word = self.next()
-        return Identifier(word.place, word.text)
+        word = self.word
+        return Identifier(self.take("name"), word.text)
 
     def identifiers(self) -> list[Identifier]:
         return self.several(",", self.identifier)
 
     def name(self) -> Name:
         place = self.word.place
-        return Name(place, self.several(".", lambda: self.next().text))
+        return Name(place, self.several(".", lambda: self.identifier().text))
 
     def names(self) -> list[Name]:
         return self.several(",", self.name)
 
+    def operator(self) -> list[str]:
+        """The words of the operator of relations that stands here, if any."""
+        if not self.see("and", "or", "xor"):
+            return []
+        more = {"and": "then", "or": "else"}.get(self.word.kind, "")
+        return [self.word.kind, more] if self.see(more, ahead=1) else [self.word.kind]
+
     def expression(self) -> Expression:
         place, operands, operators = self.word.place, [self.relation()], []
-        while self.see("and", "or", "xor"):
-            operator = self.next().kind
-            if operator == "and" and self.took("then"):
-                operator = "and then"
-            elif operator == "or" and self.took("else"):
-                operator = "or else"
-            operators.append(operator)
+        operator = self.operator()
+        while operator and self.see(operator[0]):
+            self.take(*operator)
+            operators.append(" ".join(operator))
             operands.append(self.relation())
         return Operation(place, "", operands, operators) if operators else operands[0]
 
     def relation(self) -> Expression:
-        place, left = self.word.place, self.simple()
-        if not self.see(*RELATIONS):
-            return left
-        operator = self.next().kind
-        return Operation(place, "", [left, self.simple()], [operator])
+        place, found = self.word.place, self.simple()
+        if self.see(*RELATIONS):
+            operator = self.next().kind
+            found = Operation(place, "", [found, self.simple()], [operator])
+        return found
 
     def simple(self) -> Expression:
         place, sign = self.word.place, self.next().kind if self.see("+", "-") else ""
@@ -107,40 +140,30 @@ class ExpressionReader:
         place = self.word.place
         if self.see("number"):
             return Literal(place, literal_value(self.next().text))
-        if self.took("("):
+        if self.see("("):
+            self.opened()
             inner = self.expression()
-            self.skip(")")
+            self.closed()
             return Parenthesised(place, inner)
         name = self.name()
         if self.took("'"):
             return Attribute(place, name, self.identifier())
-        return Call(place, name, self.arguments()) if self.see("(") else Named(place, name)
-
-    def arguments(self) -> list[Expression]:
-        if not self.took("("):
-            return []
-        found = self.several(",", self.expression)
-        self.skip(")")
-        return found
+        return Call(place, name, self.listed(",", self.expression)) if self.see("(") else Named(place, name)
 
     def range(self) -> Range | None:
         """The range behind the word `range`, where there is one."""
         if not self.took("range"):
             return None
         low = self.expression()
-        self.skip("..")
+        self.take("..")
         return Range(low.place, low, self.expression())
 
     def parameters(self) -> list[Parameter]:
-        if not self.took("("):
-            return []
-        found = self.several(";", self.parameter)
-        self.skip(")")
-        return found
+        return self.listed(";", self.parameter)
 
     def parameter(self) -> Parameter:
         place, names = self.word.place, self.identifiers()
-        self.skip(":")
+        self.take(":")
         is_in, is_out = self.took("in"), self.took("out")
         mode = ("in out" if is_in else "out") if is_out else "in"
         return Parameter(place, names, mode, self.name(), self.word.place)

@@ -1,25 +1,37 @@
 """Reading the statements of a unit text into its tree."""
-from grammar_statements import STATEMENTS
-from judge_expressions import ExpressionReader
-from judge_tree import (Abort, Accept, Alternative, Arm, Assignment, Call, Case, Choice, Delay, Exit, Expression, If, Loop, Node, Null,
-                        Raise, Range, Requeue, Return, Select)
+from judge_expressions import MOST_OPEN, ExpressionReader
+from judge_tree import (Abort, Accept, Alternative, Arm, Assignment, Call, Case, Choice, Delay, Exit, Expression, If, Loop, Named, Node,
+                        Null, Raise, Range, Requeue, Return, Select)
+
+STATEMENTS = frozenset("null if case while for loop exit return raise delay abort requeue accept select name".split())
 
 
 class StatementReader(ExpressionReader):
     def statements(self) -> list[Node]:
-        found = []
+        found = [self.statement()]
         while self.see(*STATEMENTS):
-            found.append(getattr(self, f"{self.word.kind}_statement")(self.word.place))
+            found.append(self.statement())
+        return found
+
+    def statement(self) -> Node:
+        word = self.word
+        if word.kind not in STATEMENTS:
+            self.refuse()
+        if self.statements_open == MOST_OPEN:
+            self.refuse("TooDeep")
+        self.statements_open += 1
+        found = getattr(self, f"{word.kind}_statement")(word.place)
+        self.statements_open -= 1
         return found
 
     def null_statement(self, place: int) -> Null:
-        self.skip("null", ";")
+        self.take("null", ";")
         return Null(place)
 
     def name_statement(self, place: int) -> Assignment | Call:
         name = self.name()
-        found = Assignment(place, name, self.expression()) if self.took(":=") else Call(place, name, self.arguments())
-        self.skip(";")
+        found = Assignment(place, name, self.expression()) if self.took(":=") else Call(place, name, self.listed(",", self.expression))
+        self.take(";")
         return found
 
     def if_statement(self, place: int) -> If:
@@ -27,22 +39,22 @@ class StatementReader(ExpressionReader):
         while self.see("if", "elsif"):
             word = self.next()
             condition = self.expression()
-            self.skip("then")
+            self.take("then")
             arms.append(Arm(word.place, condition, self.statements()))
         otherwise = self.statements() if self.took("else") else []
-        self.skip("end", "if", ";")
+        self.take("end", "if", ";")
         return If(place, arms, otherwise)
 
     def case_statement(self, place: int) -> Case:
-        self.skip("case")
+        self.take("case")
         selector, alternatives = self.expression(), []
-        self.skip("is")
+        self.take("is")
         while self.see("when"):
             word = self.next()
             choices = self.several("|", self.choice)
-            self.skip("=>")
+            self.take("=>")
             alternatives.append(Alternative(word.place, choices, self.statements()))
-        self.skip("end", "case", ";")
+        self.take("end", "case", ";")
         return Case(place, selector, alternatives)
 
     def choice(self) -> Choice:
@@ -53,98 +65,98 @@ class StatementReader(ExpressionReader):
         return Choice(place, low, self.expression() if self.took("..") else None)
 
     def looped(self) -> tuple[int, list[Node]]:
-        start = self.skip("loop")
+        start = self.take("loop")
         statements = self.statements()
-        self.skip("end", "loop", ";")
+        self.take("end", "loop", ";")
         return start, statements
 
     def loop_statement(self, place: int) -> Loop:
         return Loop(place, None, None, None, None, *self.looped())
 
     def while_statement(self, place: int) -> Loop:
-        self.skip("while")
+        self.take("while")
         condition = self.expression()
         return Loop(place, condition, None, None, None, *self.looped())
 
     def for_statement(self, place: int) -> Loop:
-        self.skip("for")
+        self.take("for")
         parameter = self.identifier()
-        self.skip("in")
+        self.take("in")
         self.took("reverse")
         over: Expression | Range = self.expression()
         mark = None
-        if self.see("range"):
+        if isinstance(over, Named) and self.see("range"):
             mark, over = over.name, self.range()
         elif self.took(".."):
             over = Range(over.place, over, self.expression())
         return Loop(place, None, parameter, over, mark, *self.looped())
 
     def exit_statement(self, place: int) -> Exit:
-        self.skip("exit")
+        self.take("exit")
         condition = self.expression() if self.took("when") else None
-        self.skip(";")
+        self.take(";")
         return Exit(place, condition)
 
     def return_statement(self, place: int) -> Return:
-        self.skip("return")
+        self.take("return")
         value = None if self.see(";") else self.expression()
-        self.skip(";")
+        self.take(";")
         return Return(place, value)
 
     def raise_statement(self, place: int) -> Raise:
-        self.skip("raise")
+        self.take("raise")
         name = self.name() if self.see("name") else None
-        self.skip(";")
+        self.take(";")
         return Raise(place, name)
 
     def delay_statement(self, place: int) -> Delay:
-        self.skip("delay")
+        self.take("delay")
         is_until = self.took("until")
         value = self.expression()
-        self.skip(";")
+        self.take(";")
         return Delay(place, is_until, value)
 
     def abort_statement(self, place: int) -> Abort:
-        self.skip("abort")
+        self.take("abort")
         names = self.names()
-        self.skip(";")
+        self.take(";")
         return Abort(place, names)
 
     def requeue_statement(self, place: int) -> Requeue:
-        self.skip("requeue")
+        self.take("requeue")
         name = self.name()
         if self.took("with"):
-            self.skip("abort")
-        self.skip(";")
+            self.take("abort")
+        self.take(";")
         return Requeue(place, name)
 
     def accept_statement(self, place: int) -> Accept:
-        self.skip("accept")
+        self.take("accept")
         name, parameters, statements, end = self.identifier(), self.parameters(), [], None
         if self.took("do"):
             statements = self.statements()
-            self.skip("end")
+            self.take("end")
             end = self.identifier() if self.see("name") else None
-        self.skip(";")
+        self.take(";")
         return Accept(place, name, parameters, statements, end)
 
     def select_statement(self, place: int) -> Select:
-        self.skip("select")
+        self.take("select")
         arms = self.several("or", self.arm)
         otherwise = self.statements() if self.took("else") else []
         aborted = []
         if self.took("then"):
-            self.skip("abort")
+            self.take("abort")
             aborted = self.statements()
-        self.skip("end", "select", ";")
+        self.take("end", "select", ";")
         return Select(place, arms, otherwise, aborted)
 
     def arm(self) -> Arm:
         place, condition = self.word.place, None
         if self.took("when"):
             condition = self.expression()
-            self.skip("=>")
+            self.take("=>")
         if self.took("terminate"):
-            self.skip(";")
+            self.take(";")
             return Arm(place, condition, [])
         return Arm(place, condition, self.statements())

@@ -14,8 +14,8 @@ from play import Outcome, play
 from readings import MUTANTS, Mutant
 from worked import worked_scripts
 
-MODEL = ("words", "lists", "settings", "shapes", "host", "steps", "grammar_words", "grammar_reader", "grammar_statements", "grammar",
-         "unit_texts", "play", "check")
+MODEL = ("words", "lists", "settings", "shapes", "host", "steps", "grammar_words", "judge_expressions", "judge_statements",
+         "judge_reader", "unit_texts", "play", "check")
 Says = Callable[[bytes], Outcome]
 MADE = {"worked": worked_scripts, "edges": edge_scripts, "texts": unit_scripts}
 HOWS = {"units": ("check",), "texts": ("check",), "edges": ("play", "check")}  # where it isn't play alone
@@ -63,7 +63,7 @@ def said(says: Says, script: bytes) -> Outcome | None:
 def noticing_kind(mutant: Mutant) -> str | None:
     """The first kind with a script to which the changed model says something else."""
     changed = mutated(mutant)
-    first = ["texts", "units"] if mutant.module.startswith("grammar") else []
+    first = ["texts", "units"] if mutant.module.startswith(("grammar", "judge")) else []
     for kind in [*first, *MADE, *COUNTS]:
         if any(said(changed[how], script) != outcome for script, how, outcome in known(kind)):
             return kind

@@ -2,8 +2,8 @@
 the program."""
 import re
 
-from grammar import name_and_words
-from grammar_words import TextFault
+from grammar_words import TextFault, words_of_text
+from judge_reader import TextReader
 
 LONGEST_UNIT = 262_144  # bytes
 VERDICT = re.compile(rb"script line (\d+): ((?:restriction|names|types) \w+ at (\d+)|shape \w+)\n")
@@ -28,7 +28,8 @@ class UnitTexts:
         """The name of the unit of the section that opens at this line; else the first fault."""
         if len(self.text.encode()) > LONGEST_UNIT:
             raise TooLong
-        name, words = name_and_words(self.text)
+        words = words_of_text(self.text)
+        name = TextReader(words).text().name.text
         if self.verdict and int(self.verdict[1]) == place:
             at = self.verdict[3]
             if at is None or int(at) in {word.place for word in words}:
