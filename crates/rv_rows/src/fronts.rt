@@ -1,61 +1,10 @@
 //! The fronts of a script, which is cut at every byte: what is said of each when it is checked, in lines.
 
+use row_files::neighbours::Neighbours;
 use rv_check::reading::check;
 use rv_fault::Failure;
-use std::alloc::{AllocError, Global};
+use std::alloc::Global;
 use std::io;
-
-/// Lines `FIRST..LAST -> WORDS`, one for the fronts, by how many bytes they are, that are neighbours and of which one and
-/// the same is said.
-#[derive(Drop)]
-pub struct Fronts {
-    /// The lines of the fronts that are behind.
-    pub lines: String,
-    /// How many fronts were told.
-    pub count: usize,
-    // The first front that isn't in a line yet, and what is said of it.
-    first: usize,
-    words: String,
-}
-
-impl Fronts {
-    /// Nothing so far.
-    fn new(alloc: Global) -> Fronts {
-        Fronts {
-            lines: String::new(alloc),
-            count: 0,
-            first: 0,
-            words: String::new(alloc),
-        }
-    }
-
-    // What is said of the next front.
-    fn note(&mut self, alloc: Global, words: String) -> Result<(), AllocError> {
-        if words.as_str() != self.words.as_str() {
-            self.put_line(alloc)?;
-            self.words = words;
-        }
-        self.count = self.count.saturating_add(1);
-        Ok(())
-    }
-
-    // Puts the fronts that aren't in a line yet into one.
-    fn put_line(&mut self, alloc: Global) -> Result<(), AllocError> {
-        let first = self.first;
-        let words = self.words.as_str();
-        let Some(last) = self.count.checked_sub(1) else {
-            return Ok(());
-        };
-        let line = if first < last {
-            format!(in alloc; "{first}..{last} -> {words}\n")?
-        } else {
-            format!(in alloc; "{first} -> {words}\n")?
-        };
-        self.lines.push_str(line.as_str())?;
-        self.first = self.count;
-        Ok(())
-    }
-}
 
 // The lines that are said of a script, with its fault, when it is checked.
 fn checked(alloc: Global, script: &[u8]) -> io::Result<String> {
@@ -109,16 +58,17 @@ fn words(alloc: Global, script: &[u8]) -> io::Result<String> {
             None => words.push_str(line)?,
         }
     }
+    words.push_str("\n")?;
     Ok(words)
 }
 
-/// What is said of each front of a script, from none of its bytes to all.
-pub fn fronts_of(alloc: Global, script: &[u8]) -> io::Result<Fronts> {
-    let mut fronts = Fronts::new(alloc);
+/// What is said of each front of a script, by how many bytes it is, from none to all.
+pub fn fronts_of(alloc: Global, script: &[u8]) -> io::Result<Neighbours<'static>> {
+    let mut fronts = Neighbours::new(alloc, "", 0);
     for end in 0..=script.len() {
         let words = words(alloc, script.get(..end).unwrap_or(script))?;
         fronts.note(alloc, words)?;
     }
-    fronts.put_line(alloc)?;
+    fronts.end(alloc)?;
     Ok(fronts)
 }
