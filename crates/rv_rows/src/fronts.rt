@@ -1,31 +1,9 @@
 //! The fronts of a script, which is cut at every byte: what is said of each when it is checked, in lines.
 
+use crate::deeds::{Deed, given};
 use row_files::neighbours::Neighbours;
-use rv_check::reading::check;
-use rv_fault::Failure;
 use std::alloc::Global;
 use std::io;
-
-// The lines that are said of a script, with its fault, when it is checked.
-fn checked(alloc: Global, script: &[u8]) -> io::Result<String> {
-    let mut reader = script;
-    let mut written: Vec<u8> = Vec::new(alloc);
-    let outcome = check(alloc, &mut reader, &mut written);
-    let mut said = String::from_str(
-        alloc,
-        str::from_utf8(written.as_slice()).unwrap_or("no text"),
-    )?;
-    match outcome {
-        Ok(()) => {}
-        Err(Failure::Refused(fault)) => {
-            let line = format!(in alloc; "{fault}\n")?;
-            said.push_str(line.as_str())?;
-        }
-        Err(Failure::Memory) => return Err(io::Error::from(io::ErrorKind::OutOfMemory)),
-        Err(Failure::Io(e)) => return Err(e),
-    }
-    Ok(said)
-}
 
 // How long the text of the last section is.
 fn last_text_len(script: &[u8]) -> usize {
@@ -42,7 +20,8 @@ fn last_text_len(script: &[u8]) -> usize {
 
 // What is said of a script, in one line. A fault at the end of the last section's text is at `end`.
 fn words(alloc: Global, script: &[u8]) -> io::Result<String> {
-    let said = checked(alloc, script)?;
+    let said = given(alloc, script, Deed::Check, false)?;
+    let said = str::from_utf8(said.as_slice()).unwrap_or("no text");
     let length = last_text_len(script);
     let at_end = format!(in alloc; " at {length}")?;
     let mut words = String::new(alloc);
