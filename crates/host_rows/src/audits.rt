@@ -11,11 +11,10 @@
 
 mod damage;
 mod script;
-mod told;
 
 use crate::audits::damage::{WAYS, Way, damaged};
 use crate::audits::script::{Script, script_of};
-use crate::audits::told::{Told, first_other};
+use row_files::neighbours::Neighbours;
 use row_files::{bytes_of, names_before};
 use rv_audit::audit::Audit;
 use rv_audit::verdict::Verdict;
@@ -73,28 +72,45 @@ fn verdict_on(alloc: Global, script: &Script<'_>, journal: &str) -> io::Result<S
     said(alloc, &audit, &verdict)
 }
 
-// Tells what is found of the journal of a script, damaged in a way at each place.
-fn tell_way(alloc: Global, script: &Script<'_>, way: Way, told: &mut Told) -> io::Result<()> {
+// What is found of the journal of a script, damaged in a way at each place, in lines.
+fn way_told(alloc: Global, script: &Script<'_>, way: Way) -> io::Result<Neighbours<'static>> {
+    let mut told = Neighbours::new(alloc, way.word(), 1);
     for number in 0..script.journal.len() {
         let Some(journal) = damaged(alloc, script.journal, way, number)? else {
             break;
         };
         let verdict = verdict_on(alloc, script, journal.as_str())?;
-        told.note(alloc, way.word(), verdict)?;
+        told.note(alloc, verdict)?;
     }
-    Ok(told.end_way(alloc, way.word())?)
+    told.end(alloc)?;
+    Ok(told)
+}
+
+// The first line of what is found that isn't what is due there, and what is, or `None` where the two are the same.
+fn first_other<'a>(found: &'a str, due: &'a str) -> Option<(&'a str, &'a str)> {
+    let mut dues = due.lines();
+    for line in found.lines() {
+        let due = dues.next().unwrap_or("nothing");
+        if line != due {
+            return Some((line, due));
+        }
+    }
+    let due = dues.next()?;
+    Some(("nothing", due))
 }
 
 // Whether the verdicts on the damaged journals of a script are those that are due, in words.
 fn damage_told(alloc: Global, script: &Script<'_>, due: &str) -> io::Result<String> {
-    let mut told = Told::new(alloc);
+    let mut lines = String::new(alloc);
+    let mut count = 0usize;
     for way in WAYS {
-        tell_way(alloc, script, way, &mut told)?;
+        let told = way_told(alloc, script, way)?;
+        lines.push_str(told.lines.as_str())?;
+        count = count.saturating_add(told.count);
     }
-    if let Some((line, other)) = first_other(told.lines.as_str(), due) {
+    if let Some((line, other)) = first_other(lines.as_str(), due) {
         return Ok(format!(in alloc; "found {line}, due {other}")?);
     }
-    let count = told.count;
     Ok(format!(in alloc; "{count} damaged journals ok")?)
 }
 

@@ -3,6 +3,7 @@
 #![tactic(auto)]
 
 pub mod failing;
+pub mod neighbours;
 pub mod texts;
 
 use std::alloc::AllocGlobal;

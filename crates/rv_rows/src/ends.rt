@@ -1,10 +1,9 @@
 //! The ends of bodies in the journal that a script was played to: what is said when that journal is judged over the units of
 //! the script, and its ends are explained.
 
-use rv_fault::Failure;
+use crate::deeds::{Deed, given};
 use rv_script::{Opening, open, opening_of};
 use rv_text::Section;
-use rv_verdict::audit_explained;
 use std::alloc::{AllocError, Global};
 use std::io;
 
@@ -68,18 +67,7 @@ pub fn has_texts(script: &str) -> bool {
 /// What is said of the journal that a script was played to, and of its ends.
 pub fn ends_said(alloc: Global, script: &str, played: &str) -> io::Result<Vec<u8>> {
     let audited = audit_script(alloc, script, played)?;
-    let mut reader = audited.as_bytes();
-    let mut said = Vec::new(alloc);
-    match audit_explained(alloc, &mut reader, &mut said) {
-        Ok(_) => Ok(said),
-        Err(Failure::Refused(fault)) => {
-            let line = format!(in alloc; "{fault}\n")?;
-            said.extend_from_slice(line.as_bytes())?;
-            Ok(said)
-        }
-        Err(Failure::Memory) => Err(io::Error::from(io::ErrorKind::OutOfMemory)),
-        Err(Failure::Io(e)) => Err(e),
-    }
+    given(alloc, audited.as_bytes(), Deed::Explain, false)
 }
 
 /// Whether the last line that is said is that all ends are explained.

@@ -1,82 +1,9 @@
 //! The fronts of a script, which is cut at every byte: what is said of each when it is checked, in lines.
 
-use rv_check::reading::check;
-use rv_fault::Failure;
-use std::alloc::{AllocError, Global};
+use crate::deeds::{Deed, given};
+use row_files::neighbours::Neighbours;
+use std::alloc::Global;
 use std::io;
-
-/// Lines `FIRST..LAST -> WORDS`, one for the fronts, by how many bytes they are, that are neighbours and of which one and
-/// the same is said.
-#[derive(Drop)]
-pub struct Fronts {
-    /// The lines of the fronts that are behind.
-    pub lines: String,
-    /// How many fronts were told.
-    pub count: usize,
-    // The first front that isn't in a line yet, and what is said of it.
-    first: usize,
-    words: String,
-}
-
-impl Fronts {
-    /// Nothing so far.
-    fn new(alloc: Global) -> Fronts {
-        Fronts {
-            lines: String::new(alloc),
-            count: 0,
-            first: 0,
-            words: String::new(alloc),
-        }
-    }
-
-    // What is said of the next front.
-    fn note(&mut self, alloc: Global, words: String) -> Result<(), AllocError> {
-        if words.as_str() != self.words.as_str() {
-            self.put_line(alloc)?;
-            self.words = words;
-        }
-        self.count = self.count.saturating_add(1);
-        Ok(())
-    }
-
-    // Puts the fronts that aren't in a line yet into one.
-    fn put_line(&mut self, alloc: Global) -> Result<(), AllocError> {
-        let first = self.first;
-        let words = self.words.as_str();
-        let Some(last) = self.count.checked_sub(1) else {
-            return Ok(());
-        };
-        let line = if first < last {
-            format!(in alloc; "{first}..{last} -> {words}\n")?
-        } else {
-            format!(in alloc; "{first} -> {words}\n")?
-        };
-        self.lines.push_str(line.as_str())?;
-        self.first = self.count;
-        Ok(())
-    }
-}
-
-// The lines that are said of a script, with its fault, when it is checked.
-fn checked(alloc: Global, script: &[u8]) -> io::Result<String> {
-    let mut reader = script;
-    let mut written: Vec<u8> = Vec::new(alloc);
-    let outcome = check(alloc, &mut reader, &mut written);
-    let mut said = String::from_str(
-        alloc,
-        str::from_utf8(written.as_slice()).unwrap_or("no text"),
-    )?;
-    match outcome {
-        Ok(()) => {}
-        Err(Failure::Refused(fault)) => {
-            let line = format!(in alloc; "{fault}\n")?;
-            said.push_str(line.as_str())?;
-        }
-        Err(Failure::Memory) => return Err(io::Error::from(io::ErrorKind::OutOfMemory)),
-        Err(Failure::Io(e)) => return Err(e),
-    }
-    Ok(said)
-}
 
 // How long the text of the last section is.
 fn last_text_len(script: &[u8]) -> usize {
@@ -93,7 +20,8 @@ fn last_text_len(script: &[u8]) -> usize {
 
 // What is said of a script, in one line. A fault at the end of the last section's text is at `end`.
 fn words(alloc: Global, script: &[u8]) -> io::Result<String> {
-    let said = checked(alloc, script)?;
+    let said = given(alloc, script, Deed::Check, false)?;
+    let said = str::from_utf8(said.as_slice()).unwrap_or("no text");
     let length = last_text_len(script);
     let at_end = format!(in alloc; " at {length}")?;
     let mut words = String::new(alloc);
@@ -109,16 +37,17 @@ fn words(alloc: Global, script: &[u8]) -> io::Result<String> {
             None => words.push_str(line)?,
         }
     }
+    words.push_str("\n")?;
     Ok(words)
 }
 
-/// What is said of each front of a script, from none of its bytes to all.
-pub fn fronts_of(alloc: Global, script: &[u8]) -> io::Result<Fronts> {
-    let mut fronts = Fronts::new(alloc);
+/// What is said of each front of a script, by how many bytes it is, from none to all.
+pub fn fronts_of(alloc: Global, script: &[u8]) -> io::Result<Neighbours<'static>> {
+    let mut fronts = Neighbours::new(alloc, "", 0);
     for end in 0..=script.len() {
         let words = words(alloc, script.get(..end).unwrap_or(script))?;
         fronts.note(alloc, words)?;
     }
-    fronts.put_line(alloc)?;
+    fronts.end(alloc)?;
     Ok(fronts)
 }

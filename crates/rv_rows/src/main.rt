@@ -25,123 +25,23 @@
 #![tactic(auto)]
 
 mod cut;
+mod deeds;
 mod ends;
 mod fronts;
 mod grown;
 
 use cut::{Ends, Share};
+use deeds::{Deed, carry_out, given};
 use ends::{all_are_explained, ends_said, has_texts};
 use fronts::fronts_of;
 use grown::grown;
 use row_files::failing::{FailingReader, FailingWriter};
 use row_files::{bytes_of, names_before};
-use rv_check::reading::{check, check_kept};
 use rv_check::warnings::{Warnings, run_warnings_of, warnings_of, whole_warnings_of};
 use rv_exec::machine::STACK_BYTES;
-use rv_explain::explain;
 use rv_fault::Failure;
-use rv_play::play::play;
-use rv_verdict::{Watch, audit, audit_explained, audit_file, audit_file_explained};
 use std::alloc::Global;
 use std::{env, io, thread};
-
-/// What is done with a script.
-#[derive(Clone, Copy)]
-enum Deed<'a> {
-    Play,
-    Check,
-    /// Its steps, its commands or its journal too.
-    CheckScript,
-    Audit,
-    /// The journal stands in a file of its own.
-    AuditFile(&'a [u8]),
-    /// Its ends are explained.
-    Explain,
-    /// The same of one in a file of its own.
-    ExplainFile(&'a [u8]),
-}
-
-// Nobody waits for an audit of rows.
-#[derive(Drop)]
-struct Unwatched {}
-
-impl Watch for Unwatched {
-    fn passed(&mut self, _entries: usize) {}
-}
-
-// Does what is to be done with a script.
-fn carry_out<R: io::Read, W: io::Write>(
-    alloc: Global,
-    reader: &mut R,
-    deed: Deed<'_>,
-    written: &mut W,
-) -> Result<(), Failure> {
-    match deed {
-        Deed::Play => play(alloc, reader, written, true),
-        Deed::Check => check(alloc, reader, written),
-        Deed::CheckScript => {
-            let (_, done) = check_kept(alloc, reader, written, true);
-            done
-        }
-        Deed::Audit => {
-            let _is_legal = audit(alloc, reader, written)?;
-            Ok(())
-        }
-        Deed::AuditFile(journal) => {
-            let mut journal = journal;
-            let mut watch = Unwatched {};
-            let _audited = audit_file(alloc, reader, &mut journal, false, &mut watch, written)?;
-            Ok(())
-        }
-        Deed::Explain => {
-            let _told = audit_explained(alloc, reader, written)?;
-            Ok(())
-        }
-        Deed::ExplainFile(journal) => {
-            let mut journal = journal;
-            let mut watch = Unwatched {};
-            let _told = audit_file_explained(
-                alloc,
-                reader,
-                &mut journal,
-                false,
-                &mut watch,
-                written,
-            )?;
-            Ok(())
-        }
-    }
-}
-
-// Does what is to be done with a script that is read and written without fail.
-fn outcome(
-    alloc: Global,
-    script: &[u8],
-    deed: Deed<'_>,
-    written: &mut Vec<u8>,
-) -> Result<(), Failure> {
-    let mut reader = script;
-    carry_out(alloc, &mut reader, deed, written)
-}
-
-/// What is written for a script, and behind it the line of its fault, explained where that is asked for.
-fn given(alloc: Global, script: &[u8], deed: Deed<'_>, is_explained: bool) -> io::Result<Vec<u8>> {
-    let mut written = Vec::new(alloc);
-    match outcome(alloc, script, deed, &mut written) {
-        Ok(()) => {}
-        Err(Failure::Refused(fault)) => {
-            let line = format!(in alloc; "{fault}\n")?;
-            written.extend_from_slice(line.as_bytes())?;
-            if is_explained {
-                let text = explain(alloc, script, fault).to_string(alloc)?;
-                written.extend_from_slice(text.as_bytes())?;
-            }
-        }
-        Err(Failure::Memory) => return Err(io::Error::from(io::ErrorKind::OutOfMemory)),
-        Err(Failure::Io(e)) => return Err(e),
-    }
-    Ok(written)
-}
 
 /// Adds what is told of the lists of a script.
 fn add_notes(warnings: Result<Warnings, Failure>, given: &mut Vec<u8>) -> io::Result<()> {
@@ -195,27 +95,22 @@ fn is_failed(outcome: &Result<(), Failure>) -> bool {
     }
 }
 
-// How many reads a script takes, if each that fails is told, and what was written then begins what has to be.
-fn reads_of(alloc: Global, script: &[u8], deed: Deed<'_>, due: &[u8]) -> Option<usize> {
-    for good in 0..MOST_FAILURES {
-        let mut written: Vec<u8> = Vec::new(alloc);
-        let mut reader = FailingReader::new(script, good);
-        let outcome = carry_out(alloc, &mut reader, deed, &mut written);
-        if !due.starts_with(written.as_slice()) {
-            return None;
-        }
-        if !is_failed(&outcome) {
-            return Some(good);
-        }
-    }
-    None
+/// A call that is made to fail.
+#[derive(Clone, Copy)]
+enum Call {
+    Read,
+    Write,
 }
 
-// The same of writes.
-fn writes_of(alloc: Global, script: &[u8], deed: Deed<'_>, due: &[u8]) -> Option<usize> {
+// How many such calls a script takes, if each that fails is told, and what was written then begins what has to be.
+fn calls_of(alloc: Global, script: &[u8], deed: Deed<'_>, due: &[u8], call: Call) -> Option<usize> {
     for good in 0..MOST_FAILURES {
-        let mut reader = script;
-        let mut writer = FailingWriter::new(alloc, good);
+        let (reads, writes) = match call {
+            Call::Read => (good, usize::MAX),
+            Call::Write => (usize::MAX, good),
+        };
+        let mut reader = FailingReader::new(script, reads);
+        let mut writer = FailingWriter::new(alloc, writes);
         let outcome = carry_out(alloc, &mut reader, deed, &mut writer);
         if !due.starts_with(writer.taken.as_slice()) {
             return None;
@@ -234,8 +129,8 @@ fn failures_told(rt: &HostRuntime, name: &str) -> io::Result<String> {
     let wanted = wanted_for(rt, name)?;
     let due = wanted.bytes.as_slice();
     let deed = deed_beside(&wanted);
-    let reads = reads_of(alloc, script.as_slice(), deed, due);
-    let writes = writes_of(alloc, script.as_slice(), deed, due);
+    let reads = calls_of(alloc, script.as_slice(), deed, due, Call::Read);
+    let writes = calls_of(alloc, script.as_slice(), deed, due, Call::Write);
     match (reads, writes) {
         (Some(reads), Some(writes)) => {
             Ok(format!(in alloc; "{name}: {reads} failed reads and {writes} failed writes ok")?)
