@@ -1,25 +1,25 @@
 -- Devices that are loaded one after another.
-use Rattle.std.proofs.Common.{◌≡◌, ◌<◌, ◌+◌, ℕ, suc, length, get_or, drop, drop-cons, add-one, List, [], ◌∷◌, ◌++◌, map, Some, None, Option, Err, Result, sym, ap, ◌∙◌, subst, append_assoc, append-nil}
-use Rattle.std.specs.Prelude.{Bool, true, if◌then◌else◌, option_map}
+use Rattle.std.proofs.Common.{◌≡◌, ◌<◌, ◌+◌, ℕ, suc, length, get_or, drop, drop-cons, add-one, List, [], ◌∷◌, ◌++◌, map, Some, None, Option, Err, Result, refl, sym, ap, ◌∙◌, subst, append_assoc, append-nil}
 use Rattle.rv_shape.specs.Shape.{Shape}
 use Rattle.rv_shape.specs.Fits.{fault}
 use Rattle.rv_shape.specs.declared.fault.ShapeFault.{ShapeFault}
 use Rattle.rv_settings.specs.Settings.{DeviceText}
+use Rattle.rv_fault.specs.Devices.{FitsDevice, called, device_fault, fault_with}
 use Rattle.rv_fault.specs.Sections.{device_shape}
+use Rattle.rv_fault.specs.declared.devices.FittingDevice.{FittingDevice}
 use Rattle.rv_fault.specs.declared.failure.Failure.{Failure}
 use Rattle.rv_fault.specs.declared.failure.Failure.TheVariants.{Refused, Memory, Io}
 use Rattle.rv_fault.specs.declared.fault.What.{What}
-use Rattle.rv_fault.specs.declared.fault.What.TheVariants as Whats
-use Rattle.rv_check.specs.DeviceFaults.{DeviceEnds, LoadsAll, device_fault, devices_fault, is_callable, or_next, with_devices}
+use Rattle.rv_check.specs.DeviceFaults.{DeviceEnds, LoadsAll, devices_fault, or_next, with_devices}
 
--- what stands against a device whose call is loaded
-by_call : (shapes : List Shape) (device : DeviceText) (found : Option ShapeFault) → is_callable shapes device ≡ true → fault shapes (device_shape device) ≡ found → device_fault shapes device ≡ option_map Whats.Shape found
-by_call shapes device found call fits =
-    ap (λ (b : Bool). if b then option_map Whats.Shape (fault shapes (device_shape device)) else Some Whats.UnknownName) call ∙ ap (λ (o : Option ShapeFault). option_map Whats.Shape o) fits
+-- nothing stands against the unit of a device that fits
+no_clash : (call : Option (ℕ × ℕ)) (clash : Option ShapeFault) → fault_with call clash ≡ None → clash ≡ None
+no_clash None clash e = absurd (cc)
+no_clash (Some call) None e = refl
+no_clash (Some call) (Some told) e = absurd (cc)
 
--- its unit doesn't fit
-pub device_clashes : (shapes : List Shape) (device : DeviceText) (shape : Shape) (told : ShapeFault) → is_callable shapes device ≡ true → shape ≡ device_shape device → fault shapes shape ≡ Some told → device_fault shapes device ≡ Some (Whats.Shape told)
-device_clashes shapes device shape told call is clash = by_call shapes device (Some told) call (ap (fault shapes) (sym is) ∙ clash)
+pub unit_fits : (shapes : List Shape) (device : DeviceText) (found : FittingDevice) → FitsDevice shapes device found → fault shapes found.shape ≡ None
+unit_fits shapes device found fits = ap (fault shapes) fits.0 ∙ no_clash (called shapes device) (fault shapes (device_shape device)) fits.2
 
 -- the next of those that are left
 pub next_device : (all : List DeviceText) (i : ℕ) (device : DeviceText) → i < length all → device ≡ get_or all i device → drop i all ≡ device ∷ drop (i + 1) all

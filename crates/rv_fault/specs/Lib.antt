@@ -1,3 +1,4 @@
+pub mod Devices
 pub mod Faults
 pub mod Sections
 pub mod Written

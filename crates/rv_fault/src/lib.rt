@@ -2,14 +2,14 @@
 //! is written until then.
 #![tactic(auto)]
 
+mod devices;
 mod failure;
 mod fault;
 mod sections;
 mod writing;
 
+pub use devices::{FittingDevice, device_unit, fitting_device};
 pub use failure::{Failure, refused};
 pub use fault::{ScriptFault, What};
-pub use sections::{
-    device_unit, list_of, settings_line, settings_of, shape_of, text_unit, unit_of,
-};
+pub use sections::{list_of, settings_line, settings_of, shape_of, text_unit, unit_of};
 pub use writing::put;

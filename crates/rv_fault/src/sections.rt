@@ -1,24 +1,23 @@
 //! What the sections of a script hold: each is read, or refused at the line of its opening.
 
-ghost use Rattle.std.specs.Prelude.{◌≡◌, option_map, IfOk};
+ghost use Rattle.std.specs.Prelude.{◌≡◌, option_map};
 ghost use Rattle.rv_access.specs.Reading.{list_of};
 ghost use Rattle.rv_shape.specs.ShapeText.{shape_of};
 ghost use Rattle.rv_script.specs.UnitTexts.{without_returns};
-ghost use Rattle.rv_fault.specs.Sections.{GivesSettings, GivesUnit, Just, Reads, device_shape, if_list, if_shape, line_of};
+ghost use Rattle.rv_fault.specs.Sections.{GivesSettings, GivesUnit, Just, Reads, if_list, if_shape, line_of};
 
 use crate::failure::{Failure, refused};
 use crate::fault::What;
 use rv_access::{AccessList, ListFault, read_list};
 use rv_script::unit_text::{MOST_UNIT_BYTES, unit_text};
-use rv_settings::{Device, Settings, SettingsFault, read_settings};
+use rv_settings::{Settings, SettingsFault, read_settings};
 use rv_shape::catalogue::Catalogue;
 use rv_shape::fault::ShapeFault;
 use rv_shape::reading::read_shape;
 use rv_shape::shape::UnitShape;
-use rv_shape::task::Task;
 use rv_text::Section;
 use rv_unit::{Unit, UnitFault, compile};
-use std::alloc::{AllocError, Global};
+use std::alloc::Global;
 
 /// The line at which faults of settings are told: that where their section opens, or the first.
 pub fn settings_line(settings: &Option<Section<'_>>) -> usize
@@ -100,15 +99,4 @@ pub fn list_of(alloc: Global, line: usize, text: &str) -> Result<AccessList, Fai
         Err(ListFault::NoMemory) => Err(Failure::Memory),
         Err(fault) => Err(refused(line, What::List(fault))),
     }
-}
-
-/// The unit that a device is: one task, and no objects. Err where memory was refused.
-pub fn device_unit(alloc: Global, device: &Device) -> Result<UnitShape, AllocError>
-    ensures { IfOk result (λ shape. shape ≡ device_shape device.now) }
-{
-    let name = String::from_str(alloc, device.unit())?;
-    let task = String::from_str(alloc, device.task())?;
-    let mut tasks = Vec::new(alloc);
-    tasks.push(Task::new(task, device.priority() as usize))?;
-    Ok(UnitShape::new(name, tasks, Vec::new(alloc)))
 }

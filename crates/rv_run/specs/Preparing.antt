@@ -13,6 +13,7 @@ use Rattle.rv_behind.specs.Events.{catalogue_of}
 use Rattle.rv_port.specs.Traces.{Passing}
 use Rattle.rv_port.specs.Controls.{LoadTold, Told, no_bodies_of}
 use Rattle.rv_behind.specs.declared.event.Ask.{Ask}
+use Rattle.rv_fault.specs.Devices.{RefusesDevice}
 use Rattle.rv_fault.specs.Sections.{GivesUnit, Just, Reads, device_shape, if_list}
 use Rattle.rv_fault.specs.declared.failure.Failure.{Failure}
 use Rattle.rv_fault.specs.declared.failure.Failure.TheVariants.{Refused, Memory, Io}
@@ -24,7 +25,6 @@ use Rattle.rv_script.specs.declared.opening.Opening.{Opening}
 use Rattle.rv_script.specs.declared.opening.Opening.TheVariants.{UnitText, AccessList}
 use Rattle.rv_settings.specs.Settings.{DeviceText}
 use Rattle.rv_text.specs.Sections.{SectionText}
-use Rattle.rv_shape.specs.Fits.{fault}
 use Rattle.rv_shape.specs.Shape.{Shape}
 use Rattle.rv_run.specs.Commanding.{LoadsIn}
 
@@ -98,18 +98,6 @@ CarriesOutAll v w (section ∷ sections) (Err failure) =
     CarriesOut v w section (Err failure) ⊎ ((u : Passing) × CarriesOut v u section (Ok tt) × CarriesOutAll u w sections (Err failure))
 
 -- Devices
-
--- what stands against a device: what it calls isn't there or takes values, or its unit doesn't fit
-abbrev pub StandsAgainst : List Shape → DeviceText → What → Type 0
-StandsAgainst shapes device Whats.UnknownName = Unit {0}
-StandsAgainst shapes device (Whats.Shape told) = fault shapes (device_shape device) ≡ Some told
-StandsAgainst shapes device what = ⊥
-
--- a device is refused at the line of the settings, or memory was
-abbrev pub RefusesDevice : ℕ → List Shape → DeviceText → Failure → Type 0
-RefusesDevice line shapes device (Refused told) = (told.line ≡ line) × StandsAgainst shapes device told.what
-RefusesDevice line shapes device Memory = Unit {0}
-RefusesDevice line shapes device (Io error) = ⊥
 
 -- the unit of a device is loaded, once, and its job is kept
 abbrev pub LoadsUnitOf : Passing → Passing → DeviceText → Done → Type 0

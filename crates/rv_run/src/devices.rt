@@ -1,40 +1,22 @@
 //! The devices of settings: each becomes a unit of one task, and a job for it.
 
-ghost use Rattle.std.specs.Prelude.{◌≡◌, ◌⊎◌, Ok, Err, IfOk, IfErr};
+ghost use Rattle.std.specs.Prelude.{◌≡◌, ◌⊎◌, Some, Ok, Err, IfOk, IfErr};
+ghost use Rattle.rv_fault.specs.Devices.{RefusesDevice, called};
 ghost use Rattle.rv_fault.specs.Sections.{device_shape};
 ghost use Rattle.rv_behind.specs.Events.{catalogue_of};
-ghost use Rattle.rv_run.specs.Preparing.{HeardOf, KeptAnswer, LoadsDevice, LoadsDevices, RefusesDevice};
+ghost use Rattle.rv_run.specs.Preparing.{HeardOf, KeptAnswer, LoadsDevice, LoadsDevices};
 
 use rv_event::entry::Answer;
-use rv_fault::{Failure, What, device_unit, refused};
+use rv_fault::{Failure, fitting_device};
 use rv_port::control::Control;
 use rv_settings::Device;
-use rv_shape::actor::{Callee, FIRST_TASK};
+use rv_shape::actor::FIRST_TASK;
 use rv_shape::catalogue::Catalogue;
 use rv_shape::shape::UnitShape;
 use rv_staff::DeviceJob;
 use rv_turn::Worn;
 use std::alloc::Global;
 use std::sync::Wait;
-
-// Whether an operation is called without values.
-fn is_plain(catalogue: &Catalogue, object: usize, operation: usize) -> bool {
-    match catalogue.callee(object, operation) {
-        Callee::Protected(_, _, called) => called.parameters().is_empty(),
-        Callee::Suspension(_, _, _) => true,
-        Callee::Nowhere => false,
-    }
-}
-
-// What a device calls: the numbers of an object and of an operation without parameters.
-fn called_by(catalogue: &Catalogue, device: &Device) -> Option<(usize, usize)> {
-    let object = catalogue.find_object(device.object())?;
-    let operation = catalogue.find_operation(object, device.operation())?;
-    if !is_plain(catalogue, object, operation) {
-        return None;
-    }
-    Some((object, operation))
-}
 
 // The unit and the job of a device, whose settings open at a line.
 fn fitting(
@@ -44,24 +26,21 @@ fn fitting(
     device: &Device,
 ) -> Result<(UnitShape, DeviceJob), Failure>
     ensures ok { IfOk result (λ p. p.0 ≡ device_shape device.now) }
+    ensures job { IfOk result (λ p. called catalogue.now device.now ≡ Some (p.1.object, p.1.operation)) }
     ensures err { IfErr result (RefusesDevice line catalogue.now device.now) }
 {
-    let Some((object, operation)) = called_by(catalogue, device) else {
-        return Err(refused(line, What::UnknownName));
-    };
-    let Ok(shape) = device_unit(alloc, device) else {
-        return Err(Failure::Memory);
-    };
-    if let Some(fault) = catalogue.shape_fits(&shape) {
-        return Err(refused(line, What::Shape(fault)));
+    match fitting_device(alloc, catalogue, line, device) {
+        Ok(found) => {
+            let job = DeviceJob {
+                actor: FIRST_TASK.saturating_add(catalogue.tasks()),
+                object: found.object,
+                operation: found.operation,
+                calls: device.calls(),
+            };
+            Ok((found.shape, job))
+        }
+        Err(failure) => Err(failure),
     }
-    let job = DeviceJob {
-        actor: FIRST_TASK.saturating_add(catalogue.tasks()),
-        object,
-        operation,
-        calls: device.calls(),
-    };
-    Ok((shape, job))
 }
 
 // Keeps a job, if there is memory for it.

@@ -3,7 +3,7 @@ use Rattle.rv_code.specs.BodyView.{unit_view}
 use Rattle.rv_port.specs.Controls.{LoadTold, no_bodies_of}
 use Rattle.rv_shape.specs.Shape.{Shape}
 use Rattle.rv_turn.specs.Passes.{IsWorn}
-use Rattle.rv_run.specs.Preparing.{RefusesDevice}
+use Rattle.rv_fault.specs.Devices.{RefusesDevice}
 use Rattle.rv_run.proofs.devices.load_device.Goals as goal
 
 pub returns-in-Ok : goal.returns-in-Ok
