@@ -2,8 +2,8 @@
 use Rattle.std.specs.Prelude.{Bool, List, [], ◌∷◌, map}
 use Rattle.std.specs.List.{flat_map, list_all}
 use Rattle.rv_tree.specs.Names.{Identifier}
-use Rattle.rv_tree.specs.Bodies.{OperationBody, function_body, procedure_body, entry_body}
 use Rattle.rv_tree.specs.Units.{BodyItem, body_declaration, body_protected, body_task, UnitTree}
+use Rattle.rv_distinct.specs.OperationBodies.{operation_body_name}
 use Rattle.rv_distinct.specs.Regions.{are_distinct}
 
 -- the body of a protected unit or of a task
@@ -11,11 +11,6 @@ abbrev pub item_bodies : BodyItem → List Identifier
 item_bodies (body_declaration one) = []
 item_bodies (body_protected body) = body.name ∷ []
 item_bodies (body_task body) = body.name ∷ []
-
-abbrev pub operation_body_name : OperationBody → Identifier
-operation_body_name (function_body at i parameters mark block) = i
-operation_body_name (procedure_body at i parameters block) = i
-operation_body_name (entry_body at i parameters barrier block) = i
 
 -- the bodies of a protected body's operations
 abbrev pub operation_bodies : BodyItem → List (List Identifier)

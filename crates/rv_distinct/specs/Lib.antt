@@ -1,2 +1,3 @@
+pub mod OperationBodies
 pub mod Regions
 pub mod BodyNames

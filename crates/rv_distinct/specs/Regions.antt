@@ -5,8 +5,9 @@ use Rattle.std.specs.Option.{unwrap_or}
 use Rattle.rv_text.specs.Names.{is_same_name}
 use Rattle.rv_tree.specs.Names.{Identifier}
 use Rattle.rv_tree.specs.Declarations.{Parameter, OperationDeclaration, a_pragma, a_function, a_procedure, an_entry, ProtectedElement, an_operation, a_component, ProtectedUnit, Declaration, package_pragma, a_subtype, a_protected_unit, a_task, a_variable, a_constant}
-use Rattle.rv_tree.specs.Bodies.{Local, an_object, local_pragma, local_protected_unit, local_task, Block, OperationBody, function_body, procedure_body, entry_body}
+use Rattle.rv_tree.specs.Bodies.{Local, an_object, local_pragma, local_protected_unit, local_task, Block, OperationBody}
 use Rattle.rv_tree.specs.Units.{BodyItem, body_declaration, body_protected, body_task, UnitTree}
+use Rattle.rv_distinct.specs.OperationBodies.{operation_body_parameters, operation_body_block}
 
 -- one of these identifiers has the name
 abbrev pub has_name : List Identifier → List ℕ → Bool
@@ -92,9 +93,7 @@ block_names block = flat_map local_names block.locals
 
 -- the region of an operation's body: the parameters, and what its block declares
 abbrev pub body_region : OperationBody → List Identifier
-body_region (function_body at i parameters mark block) = parameter_names parameters ++ block_names block
-body_region (procedure_body at i parameters block) = parameter_names parameters ++ block_names block
-body_region (entry_body at i parameters barrier block) = parameter_names parameters ++ block_names block
+body_region body = parameter_names (operation_body_parameters body) ++ block_names (operation_body_block body)
 
 abbrev pub item_regions : BodyItem → List (List Identifier)
 item_regions (body_declaration one) = declaration_regions one

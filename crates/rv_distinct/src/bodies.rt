@@ -3,14 +3,14 @@
 ghost use Rattle.std.specs.Prelude.{◌≡◌, ◌++◌, ◌∷◌, [], map, OnOk, IfOk};
 ghost use Rattle.std.specs.List.{flat_map};
 ghost use Rattle.std.specs.Option.{is_none};
-ghost use Rattle.rv_tree.specs.NameView.{identifier_view};
 ghost use Rattle.rv_tree.specs.BodyView.{operation_body_view};
 ghost use Rattle.rv_tree.specs.UnitView.{body_item_view, unit_view};
-ghost use Rattle.rv_distinct.specs.BodyNames.{item_bodies, operation_body_name as name_of_body, operation_bodies as bodies_of_operations, body_names as all_body_names, has_one_body_each};
+ghost use Rattle.rv_distinct.specs.OperationBodies.{operation_body_name as name_of_body};
+ghost use Rattle.rv_distinct.specs.BodyNames.{item_bodies, operation_bodies as bodies_of_operations, body_names as all_body_names, has_one_body_each};
 
+use crate::operation_body::operation_body_name;
 use crate::region::{Region, first_again};
 use rv_tree::body::OperationBody;
-use rv_tree::name::Identifier;
 use rv_tree::unit::{BodyItem, UnitTree};
 use std::alloc::{AllocError, Global};
 
@@ -33,34 +33,6 @@ fn package_bodies<'a>(alloc: Global, list: &'a Vec<BodyItem>) -> Result<Region<'
         item_body(item, &mut region)?;
     }
     Ok(region)
-}
-
-/// The name of an operation's body (9.4, 9.5.2).
-pub fn operation_body_name(body: &OperationBody) -> &Identifier
-    ensures { identifier_view result.now ≡ name_of_body (operation_body_view body.now) }
-{
-    match body {
-        OperationBody::Function {
-            at: _,
-            name,
-            parameters: _,
-            mark: _,
-            block: _,
-        } => name,
-        OperationBody::Procedure {
-            at: _,
-            name,
-            parameters: _,
-            block: _,
-        } => name,
-        OperationBody::Entry {
-            at: _,
-            name,
-            parameters: _,
-            barrier: _,
-            block: _,
-        } => name,
-    }
 }
 
 // The bodies of operations in one protected body.

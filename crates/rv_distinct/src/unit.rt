@@ -3,16 +3,17 @@
 ghost use Rattle.std.specs.Prelude.{◌≡◌, ◌++◌, ◌∷◌, [], map, OnOk, IfOk};
 ghost use Rattle.std.specs.List.{flat_map};
 ghost use Rattle.std.specs.Option.{is_none};
-ghost use Rattle.rv_tree.specs.DeclarationView.{declaration_view, parameter_view};
+ghost use Rattle.rv_tree.specs.DeclarationView.{declaration_view};
 ghost use Rattle.rv_tree.specs.BodyView.{operation_body_view, block_view};
 ghost use Rattle.rv_tree.specs.UnitView.{body_item_view, unit_view};
-ghost use Rattle.rv_distinct.specs.Regions.{package_region, declaration_regions, body_region as region_of_body, item_regions, regions as all_regions, parameter_names, block_names, names_are_distinct};
+ghost use Rattle.rv_distinct.specs.Regions.{package_region, declaration_regions, body_region as region_of_body, item_regions, regions as all_regions, block_names, names_are_distinct};
 
 use crate::names::{block, declarations, items, parameters};
+use crate::operation_body::{operation_body_block, operation_body_parameters};
 use crate::protected::protected_unit;
 use crate::region::{Region, first_again};
 use rv_tree::body::{Block, OperationBody};
-use rv_tree::declaration::{Declaration, Parameter};
+use rv_tree::declaration::Declaration;
 use rv_tree::unit::{BodyItem, UnitTree};
 use std::alloc::{AllocError, Global};
 
@@ -53,44 +54,13 @@ fn in_declarations<'a>(
 }
 
 // The region of a body: its parameters, and what its block declares.
-fn region_of<'a>(
-    alloc: Global,
-    list: &'a Vec<Parameter>,
-    part: &'a Block,
-) -> Result<Region<'a>, AllocError>
-    ensures { IfOk result (λ region. region ≡ parameter_names (map parameter_view list.now.items) ++ block_names (block_view part.now)) }
-{
-    let mut region = Region::new(alloc);
-    parameters(list, &mut region)?;
-    block(part, &mut region)?;
-    Ok(region)
-}
-
 fn body_region<'a>(alloc: Global, body: &'a OperationBody) -> Result<Region<'a>, AllocError>
     ensures { IfOk result (λ region. region ≡ region_of_body (operation_body_view body.now)) }
 {
-    match body {
-        OperationBody::Function {
-            at: _,
-            name: _,
-            parameters: list,
-            mark: _,
-            block: part,
-        } => region_of(alloc, list, part),
-        OperationBody::Procedure {
-            at: _,
-            name: _,
-            parameters: list,
-            block: part,
-        } => region_of(alloc, list, part),
-        OperationBody::Entry {
-            at: _,
-            name: _,
-            parameters: list,
-            barrier: _,
-            block: part,
-        } => region_of(alloc, list, part),
-    }
+    let mut region = Region::new(alloc);
+    parameters(operation_body_parameters(body), &mut region)?;
+    block(operation_body_block(body), &mut region)?;
+    Ok(region)
 }
 
 fn in_protected_body<'a>(

@@ -10,7 +10,7 @@ use Rattle.rv_tree.specs.Units.{BodyItem, body_declaration, body_protected, body
 use Rattle.rv_scope.specs.Scope.{Region}
 use Rattle.rv_scope.specs.Predefined.{named}
 use Rattle.rv_scope.specs.UnitUses.{protected_units}
-use Rattle.rv_distinct.specs.BodyNames.{operation_body_name}
+use Rattle.rv_distinct.specs.OperationBodies.{operation_body_name}
 
 -- the item is a body of this name
 abbrev pub is_body_of : List ℕ → BodyItem → Bool

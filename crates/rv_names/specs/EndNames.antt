@@ -4,8 +4,9 @@ use Rattle.std.specs.List.{list_all}
 use Rattle.rv_text.specs.Names.{is_same_name}
 use Rattle.rv_tree.specs.Names.{Identifier}
 use Rattle.rv_tree.specs.Declarations.{TaskDefinition, Declaration, a_protected_unit, a_task}
-use Rattle.rv_tree.specs.Bodies.{OperationBody, function_body, procedure_body, entry_body}
+use Rattle.rv_tree.specs.Bodies.{OperationBody}
 use Rattle.rv_tree.specs.Units.{BodyItem, body_declaration, body_protected, body_task, UnitTree}
+use Rattle.rv_distinct.specs.OperationBodies.{operation_body_name, operation_body_block}
 
 -- what a name opens ends without a name, or with that name
 abbrev pub ends : Identifier → Option Identifier → Bool
@@ -22,9 +23,7 @@ declaration_ends (a_task task) = definition_ends task.name task.definition
 declaration_ends other = true
 
 abbrev pub operation_body_ends : OperationBody → Bool
-operation_body_ends (function_body at i parameters mark block) = ends i block.end_name
-operation_body_ends (procedure_body at i parameters block) = ends i block.end_name
-operation_body_ends (entry_body at i parameters barrier block) = ends i block.end_name
+operation_body_ends body = ends (operation_body_name body) (operation_body_block body).end_name
 
 abbrev pub body_item_ends : BodyItem → Bool
 body_item_ends (body_declaration one) = declaration_ends one

@@ -2,8 +2,9 @@
 use Rattle.std.specs.Prelude.{Bool, true, false, ◌&&◌, ◌||◌, is_some, Option, Some, None}
 use Rattle.std.specs.List.{list_all}
 use Rattle.rv_tree.specs.Statements.{Statement, null_statement, assignment, call_statement, if_statement, case_statement, loop_statement, exit_statement, return_statement, raise_statement, delay_statement, abort_statement, requeue_statement, accept_statement, select_statement, Statements, no_statements, and_statement, ElsifParts, no_elsif_parts, and_elsif_part, Alternatives, no_alternatives, and_alternative}
-use Rattle.rv_tree.specs.Bodies.{Handler, Block, OperationBody, function_body, procedure_body, entry_body}
+use Rattle.rv_tree.specs.Bodies.{Handler, Block, OperationBody}
 use Rattle.rv_tree.specs.Units.{BodyItem, body_declaration, body_protected, body_task, UnitTree}
+use Rattle.rv_distinct.specs.OperationBodies.{operation_body_block}
 
 -- in a loop or not, and in a handler or not
 abbrev mutual
@@ -45,9 +46,7 @@ abbrev pub block_is_placed : Block → Bool
 block_is_placed block = are_placed false false block.statements && list_all handler_is_placed block.handlers
 
 abbrev pub operation_is_placed : OperationBody → Bool
-operation_is_placed (function_body at i parameters mark block) = block_is_placed block
-operation_is_placed (procedure_body at i parameters block) = block_is_placed block
-operation_is_placed (entry_body at i parameters barrier block) = block_is_placed block
+operation_is_placed body = block_is_placed (operation_body_block body)
 
 abbrev pub item_is_placed : BodyItem → Bool
 item_is_placed (body_declaration one) = true

@@ -11,6 +11,7 @@ ghost use Rattle.rv_tree.specs.UnitView.{body_item_view, unit_view};
 ghost use Rattle.rv_names.specs.Jumps.{is_placed, are_placed, parts_are_placed, alternatives_are_placed, handler_is_placed, block_is_placed, operation_is_placed, item_is_placed, unit_is_placed};
 
 use crate::fault::NameFault;
+use rv_distinct::operation_body_block;
 use rv_tree::body::{Block, Handler, OperationBody};
 use rv_tree::statement::{CaseAlternative, ElsifPart, Statement};
 use rv_tree::unit::{BodyItem, UnitTree};
@@ -128,28 +129,7 @@ fn block_fault(block: &Block) -> Option<NameFault>
 fn operation_fault(body: &OperationBody) -> Option<NameFault>
     ensures { result ≡ None → operation_is_placed (operation_body_view body.now) ≡ true }
 {
-    match body {
-        OperationBody::Function {
-            at: _,
-            name: _,
-            parameters: _,
-            mark: _,
-            block,
-        } => block_fault(block),
-        OperationBody::Procedure {
-            at: _,
-            name: _,
-            parameters: _,
-            block,
-        } => block_fault(block),
-        OperationBody::Entry {
-            at: _,
-            name: _,
-            parameters: _,
-            barrier: _,
-            block,
-        } => block_fault(block),
-    }
+    block_fault(operation_body_block(body))
 }
 
 fn operations_fault(list: &Vec<OperationBody>) -> Option<NameFault>

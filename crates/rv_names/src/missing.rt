@@ -1,6 +1,7 @@
 //! Why a name denotes nothing: whether what it names exists and isn't visible, or doesn't exist.
 
 use crate::fault::NameFault;
+use rv_restrict::declared::{has_member, has_private, is_among, package_declares};
 use rv_scope::declared::Declared;
 use rv_scope::predefined::Library;
 use rv_scope::scope::Scope;
@@ -8,9 +9,9 @@ use rv_scope::wanted::Wanted;
 use rv_shape::object::Operation;
 use rv_text::is_same_name;
 use rv_tree::body::{Block, Local};
-use rv_tree::declaration::{Declaration, OperationDeclaration, ProtectedElement, ProtectedUnit};
+use rv_tree::declaration::ProtectedUnit;
 use rv_tree::name::{Identifier, Name};
-use rv_tree::unit::{BodyItem, UnitTree};
+use rv_tree::unit::UnitTree;
 
 /// What is declared around a point of a text, before it and behind it.
 #[derive(Drop)]
@@ -35,105 +36,6 @@ const LIBRARIES: [Library; 8] = [
     Library::Host,
 ];
 
-fn is_one_of(name: &str, identifiers: &Vec<Identifier>) -> bool {
-    for identifier in identifiers {
-        if is_same_name(name, identifier.text.as_str()) {
-            return true;
-        }
-    }
-    false
-}
-
-fn declares(declaration: &Declaration, name: &str) -> bool {
-    match declaration {
-        Declaration::Pragma(_) => false,
-        Declaration::Subtype {
-            at: _,
-            name: declared,
-            mark: _,
-            range: _,
-        } => is_same_name(name, declared.text.as_str()),
-        Declaration::Protected(unit) => is_same_name(name, unit.name.text.as_str()),
-        Declaration::Task(task) => is_same_name(name, task.name.text.as_str()),
-        Declaration::Variable { names, mark: _ } => is_one_of(name, names),
-        Declaration::Constant {
-            names,
-            mark: _,
-            value: _,
-        } => is_one_of(name, names),
-    }
-}
-
-// Whether the package declares a name anywhere.
-fn package_declares(tree: &UnitTree, name: &str) -> bool {
-    for declaration in &tree.specification.declarations {
-        if declares(declaration, name) {
-            return true;
-        }
-    }
-    for item in &tree.body.items {
-        if let BodyItem::Declaration(declaration) = item {
-            if declares(declaration, name) {
-                return true;
-            }
-        }
-    }
-    false
-}
-
-fn is_operation(operation: &OperationDeclaration, name: &str) -> bool {
-    match operation {
-        OperationDeclaration::Pragma(_) => false,
-        OperationDeclaration::Function {
-            at: _,
-            name: declared,
-            parameters: _,
-            mark: _,
-        } => is_same_name(name, declared.text.as_str()),
-        OperationDeclaration::Procedure {
-            at: _,
-            name: declared,
-            parameters: _,
-            aspects: _,
-        } => is_same_name(name, declared.text.as_str()),
-        OperationDeclaration::Entry(entry) => is_same_name(name, entry.name.text.as_str()),
-    }
-}
-
-fn is_element(element: &ProtectedElement, name: &str) -> bool {
-    match element {
-        ProtectedElement::Operation(operation) => is_operation(operation, name),
-        ProtectedElement::Component {
-            names,
-            mark: _,
-            range: _,
-            value: _,
-        } => is_one_of(name, names),
-    }
-}
-
-// Whether a protected unit declares a name after `private`.
-fn has_private(unit: &ProtectedUnit, name: &str) -> bool {
-    if let Some(elements) = &unit.private {
-        for element in elements {
-            if is_element(element, name) {
-                return true;
-            }
-        }
-    }
-    false
-}
-
-// Whether a protected unit declares a name.
-fn has_member(unit: &ProtectedUnit, name: &str) -> bool {
-    for operation in &unit.operations {
-        if is_operation(operation, name) {
-            return true;
-        }
-    }
-    has_private(unit, name)
-}
-
 fn is_local(local: &Local, name: &str) -> bool {
     match local {
         Local::Object {
@@ -142,7 +44,7 @@ fn is_local(local: &Local, name: &str) -> bool {
             mark: _,
             range: _,
             value: _,
-        } => is_one_of(name, names),
+        } => is_among(name, names),
         _ => false,
     }
 }

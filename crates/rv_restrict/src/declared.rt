@@ -1,10 +1,10 @@
 //! What a package and its protected units declare, by name.
 
-ghost use Rattle.std.specs.Prelude.{◌≡◌, map};
+ghost use Rattle.std.specs.Prelude.{◌≡◌, Some, map};
 ghost use Rattle.rv_tree.specs.NameView.{identifier_view, identifiers_view};
 ghost use Rattle.rv_tree.specs.DeclarationView.{maybe, parameter_view, operation_view, element_view, protected_unit_view, declaration_view};
 ghost use Rattle.rv_tree.specs.UnitView.{body_item_view, unit_view};
-ghost use Rattle.rv_restrict.specs.Scope.{is_among, is_parameter, declares, first_declared, declarations_of, declared, unit_of, is_fixed, is_operation, is_among_operations, is_element, is_among_elements, is_component, is_among_components, has_component, declares_inside, is_declaration, is_hidden, is_package_name};
+ghost use Rattle.rv_restrict.specs.Scope.{is_among, is_parameter, declares, first_declared, declarations_of, declared, unit_of, is_fixed, is_operation, is_among_operations, is_element, is_among_elements, elements_of, is_component, is_among_components, has_component, declares_inside, is_declaration, is_hidden, is_package_name};
 
 use rv_text::is_same_name;
 use rv_tree::{
@@ -12,8 +12,8 @@ use rv_tree::{
     ProtectedUnit, UnitTree,
 };
 
-// Whether a name is among these.
-fn is_among(name: &str, names: &Vec<Identifier>) -> bool
+/// Whether a name is among these.
+pub fn is_among(name: &str, names: &Vec<Identifier>) -> bool
     ensures { result ≡ is_among name.now (identifiers_view names.now.items) }
 {
     for one in names {
@@ -94,6 +94,13 @@ pub(crate) fn declared<'a>(tree: &'a UnitTree, name: &str) -> Option<&'a Declara
         Some(declaration) => Some(declaration),
         None => first_declared_in_body(name, &tree.body.items),
     }
+}
+
+/// Whether the package declares this name.
+pub fn package_declares(tree: &UnitTree, name: &str) -> bool
+    ensures { result ≡ is_declaration (declared (unit_view tree.now) name.now) }
+{
+    declared(tree, name).is_some()
 }
 
 // The protected unit that the package declares by this name.
@@ -212,19 +219,30 @@ pub(crate) fn has_component(tree: &UnitTree, unit: &str, name: &str) -> bool
     }
 }
 
+/// Whether a protected unit declares this name after `private`.
+pub fn has_private(unit: &ProtectedUnit, name: &str) -> bool
+    ensures { result ≡ is_among_elements name.now (elements_of (protected_unit_view unit.now).private) }
+{
+    match &unit.private {
+        None => false,
+        Some(elements) => is_among_elements(name, elements),
+    }
+}
+
+/// Whether a protected unit declares this name.
+pub fn has_member(unit: &ProtectedUnit, name: &str) -> bool
+    ensures { result ≡ declares_inside (Some (protected_unit_view unit.now)) name.now }
+{
+    is_among_operations(name, &unit.operations) || has_private(unit, name)
+}
+
 // Whether the protected unit declares this name.
 pub(crate) fn declares_inside(tree: &UnitTree, unit: &str, name: &str) -> bool
     ensures { result ≡ declares_inside (unit_of (declared (unit_view tree.now) unit.now)) name.now }
 {
-    let Some(unit) = protected_unit(tree, unit) else {
-        return false;
-    };
-    if is_among_operations(name, &unit.operations) {
-        return true;
-    }
-    match &unit.private {
+    match protected_unit(tree, unit) {
         None => false,
-        Some(elements) => is_among_elements(name, elements),
+        Some(unit) => has_member(unit, name),
     }
 }
 
@@ -247,5 +265,5 @@ pub(crate) fn is_package_name(
     if is_hidden(tree, unit, parameters, name) {
         return false;
     }
-    declared(tree, name).is_none()
+    !package_declares(tree, name)
 }

@@ -3,8 +3,9 @@ use Rattle.std.specs.Prelude.{ℕ, ◌+◌, ◌==◌, Bool, true, false, is_some
 use Rattle.rv_text.specs.Names.{is_same_name}
 use Rattle.rv_tree.specs.Names.{Identifier, Name}
 use Rattle.rv_tree.specs.Declarations.{Parameter, ProtectedUnit}
-use Rattle.rv_tree.specs.Bodies.{Block, OperationBody, function_body, procedure_body, entry_body, ProtectedBody, TaskBody}
+use Rattle.rv_tree.specs.Bodies.{Block, OperationBody, ProtectedBody, TaskBody}
 use Rattle.rv_tree.specs.Units.{ContextItem, context_pragma, with_clause, use_clause, BodyItem, body_declaration, body_protected, body_task, UnitTree}
+use Rattle.rv_distinct.specs.OperationBodies.{operation_body_name, operation_body_parameters, operation_body_block}
 use Rattle.rv_shape.specs.declared.kind.Range.{Range}
 use Rattle.rv_shape.specs.declared.kind.Parameter as shape
 use Rattle.rv_shape.specs.declared.kind.Kind.{Kind}
@@ -94,19 +95,13 @@ body_of s scope object operation i parameters block =
     >>= λ p. block_of operation.parameters (is_some (result_of operation.kind)) p block
 
 abbrev pub operation_code : Setting → ScopeView → ℕ → OperationShape → OperationBody → Option Body
-operation_code s scope object operation (function_body at i parameters mark block) = body_of s scope object operation i parameters block
-operation_code s scope object operation (procedure_body at i parameters block) = body_of s scope object operation i parameters block
-operation_code s scope object operation (entry_body at i parameters barrier block) = body_of s scope object operation i parameters block
-
-abbrev pub body_name : OperationBody → List ℕ
-body_name (function_body at i parameters mark block) = i.text
-body_name (procedure_body at i parameters block) = i.text
-body_name (entry_body at i parameters barrier block) = i.text
+operation_code s scope object operation body =
+    body_of s scope object operation (operation_body_name body) (operation_body_parameters body) (operation_body_block body)
 
 -- the body of this name
 abbrev pub body_named : List ℕ → List OperationBody → Option OperationBody
 body_named name [] = None
-body_named name (body ∷ more) = if is_same_name name (body_name body) then Some body else body_named name more
+body_named name (body ∷ more) = if is_same_name name (operation_body_name body).text then Some body else body_named name more
 
 -- the bodies of operations, in the order of their numbers
 abbrev pub operations_onto : Setting → ScopeView → ℕ → List OperationBody → List OperationShape → List Body → Option (List Body)

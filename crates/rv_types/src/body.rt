@@ -6,13 +6,14 @@ ghost use Rattle.rv_tree.specs.NameView.{identifier_view, identifiers_view};
 ghost use Rattle.rv_tree.specs.DeclarationView.{parameter_view};
 ghost use Rattle.rv_tree.specs.BodyView.{block_view, operation_body_view, task_body_view};
 ghost use Rattle.rv_code.specs.BodyView.{body_view};
-ghost use Rattle.rv_types.specs.BodiesOf.{name_taken, names_taken, parameters_taken, all_taken as all_are_taken, result_of as range_of_result, body_of, operation_code, body_name as name_of_body, body_named as body_of_name, operations_onto, task_code};
+ghost use Rattle.rv_types.specs.BodiesOf.{name_taken, names_taken, parameters_taken, all_taken as all_are_taken, result_of as range_of_result, body_of, operation_code, body_named as body_of_name, operations_onto, task_code};
 
 use crate::block::block;
 use crate::point::Point;
 use crate::refused::{Refused, mismatch};
 use crate::setting::Setting;
 use rv_code::Body;
+use rv_distinct::{operation_body_block, operation_body_name, operation_body_parameters};
 use rv_scope::Scope;
 use rv_scope::members::declare_parameters;
 use rv_shape::kind::{Kind, Parameter, Range};
@@ -132,45 +133,16 @@ pub(crate) fn operation_body<'a>(
     ensures code { IfOk result (λ r. operation_code setting.now scope.entry object operation.now (operation_body_view body.now) ≡ Some (body_view r.0)) }
     ensures scope { IfOk result (λ r. r.1 ≡ scope.entry) }
 {
-    match body {
-        OperationBody::Function {
-            at: _,
-            name,
-            parameters,
-            mark: _,
-            block,
-        } => block_body(
-            alloc, setting, object, operation, name, parameters, block, scope,
-        ),
-        OperationBody::Procedure {
-            at: _,
-            name,
-            parameters,
-            block,
-        } => block_body(
-            alloc, setting, object, operation, name, parameters, block, scope,
-        ),
-        OperationBody::Entry {
-            at: _,
-            name,
-            parameters,
-            barrier: _,
-            block,
-        } => block_body(
-            alloc, setting, object, operation, name, parameters, block, scope,
-        ),
-    }
-}
-
-/// The name of the operation that a body is of.
-pub(crate) fn name_of(body: &OperationBody) -> &str
-    ensures { result.now ≡ name_of_body (operation_body_view body.now) }
-{
-    match body {
-        OperationBody::Function { name, .. } => name.text.as_str(),
-        OperationBody::Procedure { name, .. } => name.text.as_str(),
-        OperationBody::Entry { name, .. } => name.text.as_str(),
-    }
+    block_body(
+        alloc,
+        setting,
+        object,
+        operation,
+        operation_body_name(body),
+        operation_body_parameters(body),
+        operation_body_block(body),
+        scope,
+    )
 }
 
 // The body of a name.
@@ -178,7 +150,7 @@ fn body_named<'b>(name: &str, bodies: &'b Vec<OperationBody>) -> Option<&'b Oper
     ensures { option_map (λ b. operation_body_view b.now) result ≡ body_of_name name.now (map operation_body_view bodies.now.items) }
 {
     for body in bodies {
-        if is_same_name(name, name_of(body)) {
+        if is_same_name(name, operation_body_name(body).text.as_str()) {
             return Some(body);
         }
     }

@@ -2,10 +2,11 @@
 //!
 //! Operations are compiled in the order of their declarations, and their bodies may stand in another order.
 
-use crate::body::{name_of, operation_body, task_body};
+use crate::body::{operation_body, task_body};
 use crate::declarations::declare;
 use crate::refused::{Refused, mismatch};
 use crate::setting::Setting;
+use rv_distinct::operation_body_name;
 use rv_scope::members::enter_members;
 use rv_scope::units::unit_number;
 use rv_scope::{Scope, Wanted};
@@ -18,7 +19,7 @@ use std::alloc::Global;
 
 // The operation that a body is of.
 fn operation_of<'o>(body: &OperationBody, operations: &'o [Operation]) -> Option<&'o Operation> {
-    let name = name_of(body);
+    let name = operation_body_name(body).text.as_str();
     for operation in operations {
         if is_same_name(name, operation.name()) {
             return Some(operation);
