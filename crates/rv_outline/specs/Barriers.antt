@@ -16,7 +16,8 @@ use Rattle.rv_static.specs.Operators.{is_true}
 use Rattle.rv_static.specs.Ranges.{static_number}
 use Rattle.rv_outline.specs.declared.known.Known.{Known}
 use Rattle.rv_outline.specs.declared.known.Known.TheVariants as k
-use Rattle.rv_outline.specs.Known.{Table, known_at, whole_range, means}
+use Rattle.rv_outline.specs.ByPlace.{at_place}
+use Rattle.rv_outline.specs.Known.{Table, whole_range, means}
 
 -- the place of the component that a declaration is
 abbrev pub component_place : Option Declared → Option ℕ
@@ -48,7 +49,7 @@ fixed_barrier value = if is_true value then AlwaysOpen else AlwaysClosed
 
 -- a barrier that is a component of this place, or else a static expression
 abbrev pub barrier_at : ScopeView → Table → Expression → Option ℕ → Option Barrier
-barrier_at scope table e (Some at) = component_barrier (known_at table at)
+barrier_at scope table e (Some at) = component_barrier (at_place table at)
 barrier_at scope table e None = static_number (means scope table) (whole_range Boolean) e >>= λ value. Some (fixed_barrier value)
 
 -- the barrier of an expression at a point: a component, or a static expression

@@ -1,27 +1,20 @@
 -- What a walk through the declarations of a text has found so far (own).
-use Rattle.std.specs.Prelude.{ℕ, ◌+◌, nat_eq, Bool, true, false, List, [], ◌∷◌, ◌++◌, Option, Some, None, length}
-use Rattle.std.specs.Map.{lookup}
-use Rattle.indexmap.specs.IndexMap.{insert_entry}
+use Rattle.std.specs.Prelude.{ℕ, ◌+◌, Bool, true, false, List, [], ◌∷◌, ◌++◌, Option, Some, None, length}
 use Rattle.rv_tree.specs.Names.{Identifier}
 use Rattle.rv_shape.specs.declared.kind.Component.{Component}
 use Rattle.rv_shape.specs.declared.kind.Kind.{Kind}
 use Rattle.rv_shape.specs.Objects.{OperationShape, TaskShape}
+use Rattle.rv_outline.specs.ByPlace.{ByPlace, with_place}
 use Rattle.rv_outline.specs.declared.known.Known.{Known}
 use Rattle.rv_outline.specs.declared.known.Known.TheVariants as k
 use Rattle.rv_outline.specs.declared.outline.ObjectType.{ObjectType}
 use Rattle.rv_outline.specs.declared.draft.OperationDraft.{OperationDraft}
-use Rattle.rv_outline.specs.Known.{Table, with_known, default_priority}
+use Rattle.rv_outline.specs.Known.{Table, default_priority}
 
 -- the kinds that aspects, pragmas and bodies give to operations, by the places of their identifiers: those of handlers
 -- (C.3.1), and those of entries, with their barriers (9.5.2)
 abbrev pub Kinds : Type 0
-Kinds = List (ℕ × Kind)
-
-abbrev pub kind_at : Kinds → ℕ → Option Kind
-kind_at kinds at = lookup (nat_eq at) kinds
-
-abbrev pub with_kind : Kinds → ℕ → Kind → Kinds
-with_kind kinds at kind = insert_entry nat_eq kinds at kind
+Kinds = ByPlace Kind
 
 -- a protected unit or a task, as far as it is declared
 pub record UnitDraft : Type 0 where
@@ -76,7 +69,7 @@ noted (Some found) next draft = next found draft
 
 -- something is known of the declaration of an identifier
 abbrev pub knowing : Identifier → Known → Draft → Draft
-knowing i known draft = record draft { known = with_known draft.known i.at known }
+knowing i known draft = record draft { known = with_place draft.known i.at known }
 
 abbrev pub knowing_all : List Identifier → Known → Draft → Draft
 knowing_all [] known draft = draft
@@ -118,7 +111,7 @@ adding_found i (Some operation) draft = adding_operation i operation draft
 
 -- a kind is given to the operation of this place
 abbrev pub having_kind : ℕ → Kind → Draft → Draft
-having_kind at kind draft = record draft { kinds = with_kind draft.kinds at kind }
+having_kind at kind draft = record draft { kinds = with_place draft.kinds at kind }
 
 -- the protected unit is declared
 abbrev pub finished : Draft → Draft

@@ -14,8 +14,8 @@ use Rattle.rv_outline.specs.declared.known.Known.{Known}
 use Rattle.rv_outline.specs.declared.known.Known.TheVariants as k
 use Rattle.rv_outline.specs.declared.draft.OperationDraft.{OperationDraft}
 use Rattle.rv_outline.specs.declared.handler.Attachment.{Attachment}
-use Rattle.rv_outline.specs.Known.{known_at}
-use Rattle.rv_outline.specs.Drafts.{Draft, kind_at}
+use Rattle.rv_outline.specs.ByPlace.{at_place}
+use Rattle.rv_outline.specs.Drafts.{Draft}
 
 -- the line that a declaration is: one of Ada.Interrupts.Names
 abbrev pub line_in : Option Declared → Option ℕ
@@ -49,12 +49,12 @@ operation_index other = None
 
 -- the operation of a place, of the protected unit that is being declared
 abbrev pub operation_at : Draft → ℕ → Option OperationDraft
-operation_at draft at = operation_index (known_at draft.known at) >>= λ index. slice_get draft.current.operations index
+operation_at draft at = operation_index (at_place draft.known at) >>= λ index. slice_get draft.current.operations index
 
 -- a procedure without parameters that handles no line yet: its place
 abbrev pub unattached : Draft → ℕ → OperationDraft → Option ℕ
 unattached draft at found =
-    if are_none found.operation.parameters && not (is_some (kind_at draft.kinds at)) then Some at else None
+    if are_none found.operation.parameters && not (is_some (at_place draft.kinds at)) then Some at else None
 
 -- the procedure that an expression names, if a line can be given to it: its place
 abbrev pub handler_named : ScopeView → Draft → Expression → Option ℕ

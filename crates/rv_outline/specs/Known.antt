@@ -1,7 +1,5 @@
 -- What is known of the declarations of a text, and what names mean by it (ISO/IEC 8652:2012, 3.2, 3.3, 4.9).
-use Rattle.std.specs.Prelude.{ℕ, nat_eq, List, Option, Some}
-use Rattle.std.specs.Map.{lookup}
-use Rattle.indexmap.specs.IndexMap.{insert_entry}
+use Rattle.std.specs.Prelude.{Option, Some}
 use Rattle.rv_tree.specs.Names.{Name}
 use Rattle.rv_scope.specs.declared.declared.Declared.{Declared}
 use Rattle.rv_scope.specs.declared.declared.Declared.TheVariants as d
@@ -11,20 +9,13 @@ pub use Rattle.rv_scope.specs.Statics.{whole_range, any_priority_range, priority
 use Rattle.rv_scope.specs.Visible.{visible}
 use Rattle.rv_static.specs.declared.meaning.Meaning.{Meaning}
 use Rattle.rv_static.specs.declared.meaning.Meaning.TheVariants as m
+use Rattle.rv_outline.specs.ByPlace.{ByPlace, at_place}
 use Rattle.rv_outline.specs.declared.known.Known.{Known}
 use Rattle.rv_outline.specs.declared.known.Known.TheVariants as k
 
 -- what is known of declarations, by the places of their identifiers
 abbrev pub Table : Type 0
-Table = List (ℕ × Known)
-
--- what is known of the declaration of this place
-abbrev pub known_at : Table → ℕ → Option Known
-known_at table at = lookup (nat_eq at) table
-
--- the same table, and what is known of one more declaration
-abbrev pub with_known : Table → ℕ → Known → Table
-with_known table at known = insert_entry nat_eq table at known
+Table = ByPlace Known
 
 -- what is known means in a static expression
 abbrev pub known_meaning : Option Known → Meaning
@@ -34,8 +25,8 @@ known_meaning other = m.NotStatic
 
 -- what a declaration means in a static expression
 abbrev pub meaning_of : Table → Option Declared → Meaning
-meaning_of table (Some (d.Subtype at)) = known_meaning (known_at table at)
-meaning_of table (Some (d.Constant at)) = known_meaning (known_at table at)
+meaning_of table (Some (d.Subtype at)) = known_meaning (at_place table at)
+meaning_of table (Some (d.Constant at)) = known_meaning (at_place table at)
 meaning_of table (Some (d.Predefined item)) = predefined_meaning item
 meaning_of table other = m.NotStatic
 

@@ -1,3 +1,4 @@
+pub mod ByPlace
 pub mod Known
 pub mod Drafts
 pub mod Subtypes

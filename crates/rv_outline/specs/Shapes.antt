@@ -12,8 +12,9 @@ use Rattle.rv_shape.specs.Shape.{Shape}
 use Rattle.rv_outline.specs.declared.outline.ObjectType.{ObjectType}
 use Rattle.rv_outline.specs.declared.outline.ObjectType.TheVariants as sort
 use Rattle.rv_outline.specs.declared.draft.OperationDraft.{OperationDraft}
+use Rattle.rv_outline.specs.ByPlace.{at_place}
 use Rattle.rv_outline.specs.Known.{Table}
-use Rattle.rv_outline.specs.Drafts.{Kinds, kind_at, UnitDraft, ObjectDraft, Draft, priority_or}
+use Rattle.rv_outline.specs.Drafts.{Kinds, UnitDraft, ObjectDraft, Draft, priority_or}
 use Rattle.rv_outline.specs.Declarations.{drafted}
 
 -- the ceiling of a protected object that is given none (D.3), and of one with a handler (own)
@@ -27,7 +28,7 @@ kind_or kind (Some given) = given
 
 -- an operation with its kind
 abbrev pub operation_shape : Kinds → OperationDraft → OperationShape
-operation_shape kinds draft = record draft.operation { kind = kind_or draft.operation.kind (kind_at kinds draft.at) }
+operation_shape kinds draft = record draft.operation { kind = kind_or draft.operation.kind (at_place kinds draft.at) }
 
 abbrev pub operation_shapes : Kinds → List OperationDraft → List OperationShape
 operation_shapes kinds drafts = map (operation_shape kinds) drafts

@@ -2,11 +2,11 @@
 
 ghost use Rattle.std.specs.Prelude.{◌≡◌, ◌≤◌, ◌++◌, ◌∷◌, [], OnOk, length, map, string_bytes, false};
 ghost use Rattle.rv_tree.specs.NameView.{identifier_view, identifiers_view};
-ghost use Rattle.rv_outline.specs.Drafts.{with_kind, kind_at, UnitDraft as UnitView, empty_draft, empty_unit, knowing as known_of, knowing_all as known_of_all, adding_component, adding_components, adding_operation, adding_object, adding_objects, giving_priority, started, finished, finished_task, having_kind};
+ghost use Rattle.rv_outline.specs.Drafts.{UnitDraft as UnitView, empty_draft, empty_unit, knowing as known_of, knowing_all as known_of_all, adding_component, adding_components, adding_operation, adding_object, adding_objects, giving_priority, started, finished, finished_task, having_kind};
 
+use crate::by_place::ByPlace;
 use crate::known::{Known, Table};
 use crate::outline::ObjectType;
-use indexmap::IndexMap;
 use rv_shape::kind::{Component, Kind};
 use rv_shape::object::Operation;
 use rv_shape::task::Task;
@@ -17,48 +17,7 @@ use std::marker::Model;
 
 /// The kinds of operations that aspects, pragmas and bodies give them, by the places of their identifiers: of handlers
 /// (C.3.1), and of entries with their barriers (9.5.2).
-pub(crate) struct Kinds {
-    kinds: IndexMap<usize, Kind>,
-}
-
-impl Drop for Kinds {
-    // A function of its own: a derived one is written out wherever a value is let go, and proved there.
-    fn drop(self) {
-        let Kinds { kinds: _ } = self;
-    }
-}
-
-impl Model for Kinds {
-    ghost use Rattle.rv_outline.specs.Drafts.{Kinds as KindsView};
-
-    ghost Value = { KindsView };
-
-    ghost view = { λ k. k.kinds.entries };
-}
-
-impl Kinds {
-    fn new(alloc: Global) -> Kinds
-        ensures { result ≡ [] }
-    {
-        Kinds {
-            kinds: IndexMap::new(alloc),
-        }
-    }
-
-    /// The kind that is given to the operation of this place.
-    pub(crate) fn find(&self, at: usize) -> Option<Kind>
-        ensures { result ≡ kind_at self.now at }
-    {
-        self.kinds.get(&at).copied()
-    }
-
-    fn note(&mut self, at: usize, kind: Kind) -> Result<(), AllocError>
-        ensures { OnOk result (self.new ≡ with_kind self.old at kind) }
-    {
-        self.kinds.insert(at, kind)?;
-        Ok(())
-    }
-}
+pub(crate) type Kinds = ByPlace<Kind>;
 
 /// An operation of a protected unit, with the place of its identifier.
 pub(crate) struct OperationDraft {

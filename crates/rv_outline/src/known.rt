@@ -1,12 +1,7 @@
 //! What is known of the declarations of a text.
 
-ghost use Rattle.std.specs.Prelude.{◌≡◌, [], OnOk};
-ghost use Rattle.rv_outline.specs.Known.{known_at, with_known};
-
-use indexmap::IndexMap;
+use crate::by_place::ByPlace;
 use rv_shape::kind::Range;
-use std::alloc::{AllocError, Global};
-use std::marker::Model;
 
 /// What is known of a declaration.
 #[derive(Clone, Copy)]
@@ -27,49 +22,4 @@ pub enum Known {
 }
 
 /// What is known of declarations, by the places of their identifiers.
-///
-/// Contracts see a list of places and what is known there.
-pub struct Table {
-    known: IndexMap<usize, Known>,
-}
-
-impl Drop for Table {
-    // A function of its own: a derived one is written out wherever a value is let go, and proved there.
-    fn drop(self) {
-        let Table { known: _ } = self;
-    }
-}
-
-impl Model for Table {
-    ghost use Rattle.rv_outline.specs.Known.{Table as TableView};
-
-    ghost Value = { TableView };
-
-    ghost view = { λ t. t.known.entries };
-}
-
-impl Table {
-    /// Nothing is known.
-    pub fn new(alloc: Global) -> Table
-        ensures { result ≡ [] }
-    {
-        Table {
-            known: IndexMap::new(alloc),
-        }
-    }
-
-    /// What is known of the declaration whose identifier has this place.
-    pub fn find(&self, at: usize) -> Option<Known>
-        ensures { result ≡ known_at self.now at }
-    {
-        self.known.get(&at).copied()
-    }
-
-    /// Notes what is known of the declaration whose identifier has this place. Err where memory was refused.
-    pub fn note(&mut self, at: usize, known: Known) -> Result<(), AllocError>
-        ensures { OnOk result (self.new ≡ with_known self.old at known) }
-    {
-        self.known.insert(at, known)?;
-        Ok(())
-    }
-}
+pub type Table = ByPlace<Known>;

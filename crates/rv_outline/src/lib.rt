@@ -9,6 +9,7 @@
 
 mod barrier;
 mod body;
+pub mod by_place;
 mod declaration;
 mod draft;
 mod handler;
@@ -23,6 +24,7 @@ mod shape;
 pub mod subtype;
 mod task;
 
+pub use by_place::ByPlace;
 pub use known::{Known, Table};
 pub use outline::{ObjectType, Outline, outline_of};
 pub use point::Point;

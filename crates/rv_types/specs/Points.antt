@@ -23,7 +23,8 @@ use Rattle.rv_static.specs.Static.{◌>>=◌}
 use Rattle.rv_static.specs.declared.meaning.Meaning.{Meaning}
 use Rattle.rv_outline.specs.declared.known.Known.{Known}
 use Rattle.rv_outline.specs.declared.known.Known.TheVariants as k
-use Rattle.rv_outline.specs.Known.{Table, known_at, known_meaning, meaning_of}
+use Rattle.rv_outline.specs.ByPlace.{at_place}
+use Rattle.rv_outline.specs.Known.{Table, known_meaning, meaning_of}
 use Rattle.rv_types.specs.declared.point.Local.{Local}
 use Rattle.rv_types.specs.declared.denoted.Denoted.{Denoted}
 use Rattle.rv_types.specs.declared.denoted.Denoted.TheVariants as denoted
@@ -60,7 +61,7 @@ local_at at (one ∷ more) = if one.at == at then Some one.known else local_at a
 
 -- what is known of a declaration, of the package or of the body
 abbrev pub known_in : PointView → ℕ → Option Known
-known_in p at = first_of (known_at p.known at) (local_at at p.locals)
+known_in p at = first_of (at_place p.known at) (local_at at p.locals)
 
 -- what a declaration means in a static expression
 abbrev pub point_meaning : PointView → Option Declared → Meaning
@@ -169,11 +170,11 @@ denoted_by p (Some (d.Variable at)) = known_value (known_in p at)
 denoted_by p (Some (d.Parameter at)) = known_value (known_in p at)
 denoted_by p (Some (d.LoopParameter at)) = known_value (known_in p at)
 denoted_by p (Some (d.Component at)) = known_value (known_in p at)
-denoted_by p (Some (d.Operation at of)) = inner_operation p of (known_at p.known at)
-denoted_by p (Some (d.ObjectOperation object at of)) = outer_operation p of (known_at p.known object) (known_at p.known at)
+denoted_by p (Some (d.Operation at of)) = inner_operation p of (at_place p.known at)
+denoted_by p (Some (d.ObjectOperation object at of)) = outer_operation p of (at_place p.known object) (at_place p.known at)
 denoted_by p (Some (d.UnitOperation unit object index of)) =
     loaded_callee of index (object_number p.shapes unit object) (loaded_operation p.shapes unit object index)
-denoted_by p (Some (d.Suspension at)) = known_suspension (known_at p.known at)
+denoted_by p (Some (d.Suspension at)) = known_suspension (at_place p.known at)
 denoted_by p (Some (d.UnitSuspension unit object)) = loaded_suspension (object_number p.shapes unit object)
 denoted_by p (Some (d.Predefined item)) = predefined_value item
 denoted_by p found = denoted.Other
@@ -192,8 +193,8 @@ known_parameters p (Some (k.Operation number index)) = parameters_of (operation_
 known_parameters p known = []
 
 abbrev pub profile_of : PointView → Option Declared → List Parameter
-profile_of p (Some (d.Operation at of)) = known_parameters p (known_at p.known at)
-profile_of p (Some (d.ObjectOperation object at of)) = known_parameters p (known_at p.known at)
+profile_of p (Some (d.Operation at of)) = known_parameters p (at_place p.known at)
+profile_of p (Some (d.ObjectOperation object at of)) = known_parameters p (at_place p.known at)
 profile_of p (Some (d.UnitOperation unit object index of)) = parameters_of (loaded_operation p.shapes unit object index)
 profile_of p found = []
 
