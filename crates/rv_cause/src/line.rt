@@ -1,7 +1,7 @@
 //! The words of a line of a script, each with its place.
 
 use crate::cause::Cause;
-use rv_text::{integer_of, is_same_name};
+use rv_text::{integer_of, is_same_name, next_word};
 use std::alloc::{AllocError, Global};
 
 /// A word of a line.
@@ -41,42 +41,19 @@ pub fn is_number(word: &str) -> bool {
     integer_of(word).is_some()
 }
 
-// What stands between two bytes of a line that begins at a byte of the text, as a word.
-fn part_of(line: &str, start: usize, at: usize, end: usize) -> Part<'_> {
-    Part {
-        at: start.saturating_add(at),
-        word: line.get(at..end).unwrap_or(""),
-    }
-}
-
 impl<'a> Line<'a> {
     /// The words of a line, between spaces and tabs; the line begins at a byte of the text.
     pub fn of(alloc: Global, line: &'a str, start: usize) -> Result<Line<'a>, AllocError> {
+        let end = start.saturating_add(line.len());
         let mut parts = Vec::new(alloc);
-        let mut first = None;
-        for (place, byte) in line.as_bytes().iter().enumerate() {
-            let is_blank = *byte == b' ' || *byte == b'\t';
-            match first {
-                Some(at) => {
-                    if is_blank {
-                        parts.push(part_of(line, start, at, place))?;
-                        first = None;
-                    }
-                }
-                None => {
-                    if !is_blank {
-                        first = Some(place);
-                    }
-                }
-            }
+        let mut rest = line;
+        while let Some((word, behind)) = next_word(rest) {
+            let front = rest.find(word).unwrap_or(0);
+            let at = end.saturating_sub(rest.len()).saturating_add(front);
+            parts.push(Part { at, word })?;
+            rest = behind;
         }
-        if let Some(at) = first {
-            parts.push(part_of(line, start, at, line.len()))?;
-        }
-        Ok(Line {
-            parts,
-            end: start.saturating_add(line.len()),
-        })
+        Ok(Line { parts, end })
     }
 
     /// How many words it has.
