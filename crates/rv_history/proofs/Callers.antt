@@ -96,14 +96,7 @@ left_manned shapes past a Settle (Done next) k =
     each_begun IsManned (left_by then_past next (to_settle shapes a past)) (without a (unsettled shapes past))
     (λ b is. each_first IsManned a b (unsettled shapes past) k.left (left_is then_past next (to_settle shapes a past) b is)) (each_without IsManned a (unsettled shapes past) k.left)
 left_manned shapes past a Settle w k = each_without IsManned a (unsettled shapes past) k.left
-left_manned shapes past a (Call o p vs) w k = k.left
-left_manned shapes past a Resume w k = k.left
-left_manned shapes past a (DelayUntil t) w k = k.left
-left_manned shapes past a Clock w k = k.left
-left_manned shapes past a Fire w k = k.left
-left_manned shapes past a Quit w k = k.left
-left_manned shapes past a (Tick n) w k = k.left
-left_manned shapes past a Halt w k = k.left
+left_manned shapes past a r w k = k.left
 
 pub legal_manned : (c : Limits) (past : List Entry) (shapes : List Shape) (lists : List (List Words)) → IsLegal c past shapes lists → Manned shapes past
 legal_manned c [] shapes lists l = record { bodies = tt; left = tt }

@@ -9,7 +9,7 @@ use Rattle.rv_event.specs.Past.{halted, stance, under_way, unsettled}
 use Rattle.rv_event.specs.declared.entry.Answer.TheVariants.{Full}
 use Rattle.rv_event.specs.declared.entry.Entry.TheVariants.{Load, ListChange}
 use Rattle.rv_event.specs.declared.entry.Request.{Request}
-use Rattle.rv_event.specs.declared.entry.Request.TheVariants.{Call, Complete, Settle, Resume, DelayUntil, Clock, Fire, Quit, Tick, Halt}
+use Rattle.rv_event.specs.declared.entry.Request.TheVariants.{Complete, Settle, Resume, Quit, Halt}
 use Rattle.rv_event.specs.declared.entry.Stance.TheVariants.{Free}
 use Rattle.rv_history.specs.Due.{due, nothing_more, out}
 use Rattle.rv_history.specs.Fitting.{is_operator}
@@ -97,11 +97,7 @@ paid h a Settle l solvent e = settle_never_full h a l solvent
 paid h a Resume l solvent e = resume_never_full h a solvent
 paid h a Quit l solvent e = quit_never_full h a solvent
 paid h a Halt l solvent e = halt_paid h a solvent
-paid h a (Call o p vs) l solvent e = absurd (off e)
-paid h a (DelayUntil t) l solvent e = absurd (off e)
-paid h a Clock l solvent e = absurd (off e)
-paid h a Fire l solvent e = absurd (off e)
-paid h a (Tick n) l solvent e = absurd (off e)
+paid h a r l solvent e = absurd (off e)
 
 pub paid_never_full : (h : History) (a : ℕ) (r : Request) → Legal h → IsSolvent h → is_paid r ≡ true → out h a r ≢ Full
 paid_never_full h a r l solvent e full = never_due h a r (sym (paid h a r l solvent e) ∙ full)

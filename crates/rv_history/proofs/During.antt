@@ -7,8 +7,8 @@ use Rattle.rv_shape.specs.Catalogue.{target, shares}
 use Rattle.rv_event.specs.Past.{under_way, started, ended, closed, begun, without, innermost, writes, scalars}
 use Rattle.rv_event.specs.declared.entry.Body.{Body}
 use Rattle.rv_event.specs.declared.entry.Entry.{Entry}
-use Rattle.rv_event.specs.declared.entry.Entry.TheVariants.{Asked, Load, ListChange}
-use Rattle.rv_event.specs.declared.entry.Request.TheVariants.{Call, Complete, Settle, Resume, DelayUntil, Clock, Fire, Quit, Tick, Halt}
+use Rattle.rv_event.specs.declared.entry.Entry.TheVariants.{Asked}
+use Rattle.rv_event.specs.declared.entry.Request.TheVariants.{Complete}
 use Rattle.rv_event.proofs.Matching.{by}
 use Rattle.rv_history.specs.declared.limits.Limits.{Limits}
 use Rattle.rv_history.specs.History.{History}
@@ -137,17 +137,7 @@ stays : (shapes : List Shape) (o : ℕ) (b : Body) (e : Entry) (past : List Entr
 stays shapes o b (Asked a (Complete vs x) w) past one apart =
     let t = end_stays shapes o b past a (innermost shapes a past) refl one (λ same. apart (ap (λ n. Some n) same)) in
     record { bodies = t.0; values = ap (λ u. if u then vs else scalars shapes o past) t.1 }
-stays shapes o b (Asked a (Call m p vs) w) past one apart = record { bodies = one; values = refl }
-stays shapes o b (Asked a Settle w) past one apart = record { bodies = one; values = refl }
-stays shapes o b (Asked a Resume w) past one apart = record { bodies = one; values = refl }
-stays shapes o b (Asked a (DelayUntil t) w) past one apart = record { bodies = one; values = refl }
-stays shapes o b (Asked a Clock w) past one apart = record { bodies = one; values = refl }
-stays shapes o b (Asked a Fire w) past one apart = record { bodies = one; values = refl }
-stays shapes o b (Asked a Quit w) past one apart = record { bodies = one; values = refl }
-stays shapes o b (Asked a (Tick n) w) past one apart = record { bodies = one; values = refl }
-stays shapes o b (Asked a Halt w) past one apart = record { bodies = one; values = refl }
-stays shapes o b Load past one apart = record { bodies = one; values = refl }
-stays shapes o b ListChange past one apart = record { bodies = one; values = refl }
+stays shapes o b e past one apart = record { bodies = one; values = refl }
 
 during : (c : Limits) (shapes : List Shape) (b : Body) (later past : List Entry) → IsOrderly c shapes (later ++ past) → shares (target shapes b.object b.operation) ≡ false → filter (is_on b.object) (under_way shapes past) ≡ b ∷ [] → IsUnended shapes b later past →
     (filter (is_on b.object) (under_way shapes (later ++ past)) ≡ b ∷ []) × (scalars shapes b.object (later ++ past) ≡ scalars shapes b.object past)

@@ -12,7 +12,7 @@ use Rattle.rv_event.specs.declared.entry.Exit.{Exit}
 use Rattle.rv_event.specs.declared.entry.Next.{Next}
 use Rattle.rv_event.specs.declared.entry.Next.TheVariants.{Nothing}
 use Rattle.rv_event.specs.declared.entry.Request.{Request}
-use Rattle.rv_event.specs.declared.entry.Request.TheVariants.{Call, Complete, Settle, Resume, DelayUntil, Clock, Fire, Quit, Tick, Halt}
+use Rattle.rv_event.specs.declared.entry.Request.TheVariants.{Complete, Settle}
 use Rattle.rv_event.specs.declared.entry.Recorded.{Recorded}
 use Rattle.rv_event.specs.declared.entry.Recorded.TheVariants.{Done}
 use Rattle.rv_history.specs.History.{History}
@@ -143,14 +143,7 @@ names_at h a r next n e f = by_request r (done_serves h a r next e) e
     by_request : (r : Request) → serves r ≡ true → recorded (out h a r) ≡ Some (Done next) → Names h a r next n
     by_request (Complete vs x) is e = end_names h a vs x next n e f
     by_request Settle is e = settle_names h a next n e f
-    by_request (Call o p vs) is e = absurd (off is)
-    by_request Resume is e = absurd (off is)
-    by_request (DelayUntil t) is e = absurd (off is)
-    by_request Clock is e = absurd (off is)
-    by_request Fire is e = absurd (off is)
-    by_request Quit is e = absurd (off is)
-    by_request (Tick m) is e = absurd (off is)
-    by_request Halt is e = absurd (off is)
+    by_request r is e = absurd (off is)
 
 -- the body that an end ends is of a protected operation that there is
 pub end_site : (h : History) (a : ℕ) (vs : List ℤ) (x : Exit) (w : Recorded) (b : Body) → recorded (out h a (Complete vs x)) ≡ Some w → innermost h.shapes a h.past ≡ Some b → IsProtected h.shapes b

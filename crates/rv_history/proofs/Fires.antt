@@ -15,7 +15,7 @@ use Rattle.rv_event.specs.declared.entry.Mode.TheVariants as Modes
 use Rattle.rv_event.specs.declared.entry.Recorded.TheVariants.{Started}
 use Rattle.rv_event.specs.declared.entry.Request.TheVariants.{Fire}
 use Rattle.rv_event.specs.declared.entry.Rule.{Rule}
-use Rattle.rv_event.specs.declared.entry.Rule.TheVariants.{Grant, Blocking, Reentry, Ceiling, Queue, Waiter}
+use Rattle.rv_event.specs.declared.entry.Rule.TheVariants.{Grant, Blocking, Ceiling}
 use Rattle.rv_history.specs.Due.{out}
 use Rattle.rv_history.specs.Exclusion.{excluded, is_open}
 use Rattle.rv_history.specs.Fitting.{idle_line}
@@ -26,8 +26,7 @@ use Rattle.rv_history.specs.Rules.{Aim, aim, aim_at, breaks, granted, holds_any}
 use Rattle.rv_history.specs.Subject.{active, base_of, home, subject, subject_of}
 use Rattle.rv_history.proofs.Answered.{off, both, and_false}
 use Rattle.rv_history.proofs.Exactly.{exactly, nowhere_else}
-use Rattle.rv_history.proofs.First.{handler_enters}
-use Rattle.rv_history.proofs.Handled.{handler_is}
+use Rattle.rv_history.proofs.Handled.{handler_enters, handler_is}
 use Rattle.rv_history.proofs.Modes.{fires_at}
 use Rattle.rv_history.proofs.Orderly.{idle_none}
 
@@ -165,10 +164,8 @@ allowed_from h a line is m =
     lawful : Judged h a line → (rule : Rule) → breaks h rule a Fire m.number.object (OnProtected m.site) ≡ false
     lawful j Grant = ap not (ap (λ unit. granted h unit (OnProtected m.site)) j.calls_as ∙ m.grant)
     lawful j Blocking = and_false (holds_any h a)
-    lawful j Reentry = refl
     lawful j Ceiling = ap (λ p. nat_lt m.site.object.ceiling p) j.priority ∙ m.low
-    lawful j Queue = refl
-    lawful j Waiter = refl
+    lawful j other = refl
 
 pub fires_exactly : (h : History) (a line : ℕ) → who h.shapes a ≡ Line line → has_room h.limits.capacity h.shapes (Asked a Fire Started ∷ h.past) ≡ true → (recorded (out h a Fire) ≡ Some Started) ↔ MayFire h a line
 fires_exactly h a line is room =

@@ -3,7 +3,7 @@ use Rattle.std.proofs.Common.{◌≡◌, ℕ, ◌-◌, List, [], ◌∷◌, Some
 use Rattle.std.specs.Prelude.{ℤ, ◌==◌, not, ◌&&◌, ◌||◌, if◌then◌else◌, int_le, pos}
 use Rattle.std.specs.List.{list_any}
 use Rattle.rv_event.specs.Recorded.{recorded}
-use Rattle.rv_shape.specs.Catalogue.{OperationNumber, Site, Target, Nowhere, OnProtected, OnSuspension, target, handler, handles, is_function, is_entry}
+use Rattle.rv_shape.specs.Catalogue.{OperationNumber, Site, Target, Nowhere, OnProtected, OnSuspension, target, handler, is_function}
 use Rattle.rv_event.specs.Past.{under_way, is_unsettled, clock, state, scalars}
 use Rattle.rv_shape.specs.declared.kind.Kind.{Kind}
 use Rattle.rv_shape.specs.declared.kind.Kind.TheVariants.{Function, Procedure, Entry as EntryKind, Handler}
@@ -11,7 +11,7 @@ use Rattle.rv_event.specs.declared.entry.Body.{Body}
 use Rattle.rv_shape.specs.declared.suspension.SuspensionOperation.{SuspensionOperation}
 use Rattle.rv_shape.specs.declared.suspension.SuspensionOperation.TheVariants.{SetTrue, SetFalse, CurrentState, SuspendUntilTrue}
 use Rattle.rv_event.specs.declared.entry.Request.{Request}
-use Rattle.rv_event.specs.declared.entry.Request.TheVariants.{Call, Complete, Settle, Resume, DelayUntil, Clock, Fire, Quit, Tick, Halt}
+use Rattle.rv_event.specs.declared.entry.Request.TheVariants.{Call, DelayUntil, Clock, Fire, Tick, Halt}
 use Rattle.rv_event.specs.declared.entry.Rule.{Rule}
 use Rattle.rv_event.specs.declared.entry.Rule.TheVariants.{Grant, Blocking, Reentry, Ceiling, Queue, Waiter}
 use Rattle.rv_event.specs.declared.entry.Recorded.{Recorded}
@@ -25,7 +25,7 @@ use Rattle.rv_history.specs.Due.{judged, suspended, performed, out, table, due_c
 use Rattle.rv_history.specs.Refusal.{is_grant, IsRefusal}
 use Rattle.rv_history.proofs.Answered.{off, and_none, and_true, answered, word_is}
 use Rattle.rv_history.proofs.Bodies.{or_none}
-use Rattle.rv_history.proofs.Handled.{handler_is}
+use Rattle.rv_history.proofs.Handled.{handler_enters, handler_is}
 
 -- the parts of a refusal
 parts : Recorded → Rule × ℕ × ℕ
@@ -93,12 +93,6 @@ queue_rule h o (Function range) free = refl
 queue_rule h o Procedure free = refl
 queue_rule h o (EntryKind barrier) free = queue_test h o (is_barred h o (EntryKind barrier)) (full_queue h o) free
 queue_rule h o (Handler line) free = refl
-
-pub handler_enters : (line : ℕ) (kind : Kind) → handles line kind ≡ true → is_entry kind ≡ false
-handler_enters line (Function range) e = refl
-handler_enters line Procedure e = refl
-handler_enters line (EntryKind barrier) e = absurd (off e)
-handler_enters line (Handler on) e = refl
 
 -- the first rule of a request with this aim
 first_at : History → ℕ → Request → ℕ → Target → Option Rule
@@ -190,10 +184,7 @@ names_first h a r rule line number calls e = by_request r calls (answered h a r 
     by_request (Call o p vs) calls f = call_first h a o p vs rule line number (target h.shapes o p) refl f
     by_request Fire calls f = fire_first h a rule line number (handler h.shapes (a - 1)) refl f
     by_request (DelayUntil time) calls f = delay_first h a time rule line number (holds_any h a) (int_le time (pos (clock h.past))) refl f
-    by_request (Complete vs x) calls f = absurd (off (sym calls))
-    by_request Settle calls f = absurd (off (sym calls))
-    by_request Resume calls f = absurd (off (sym calls))
-    by_request Quit calls f = absurd (off (sym calls))
     by_request Clock calls f = absurd (cc)
     by_request (Tick n) calls f = absurd (cc)
     by_request Halt calls f = absurd (cc)
+    by_request r calls f = absurd (off (sym calls))

@@ -13,7 +13,7 @@ use Rattle.rv_event.specs.declared.entry.Exit.{Exit}
 use Rattle.rv_event.specs.declared.entry.Next.{Next}
 use Rattle.rv_event.specs.declared.entry.Next.TheVariants.{Nothing, HandedTo, Dropped}
 use Rattle.rv_event.specs.declared.entry.Request.{Request}
-use Rattle.rv_event.specs.declared.entry.Request.TheVariants.{Call, Complete, Settle, Resume, DelayUntil, Clock, Fire, Quit, Tick, Halt}
+use Rattle.rv_event.specs.declared.entry.Request.TheVariants.{Complete, Settle}
 use Rattle.rv_event.specs.declared.entry.Stance.TheVariants.{Free}
 use Rattle.rv_event.specs.declared.entry.Recorded.TheVariants as Words
 use Rattle.rv_event.specs.declared.entry.Answer.TheVariants as Answers
@@ -67,14 +67,7 @@ pub reached_answer : (h : History) (a : ℕ) (r : Request) (c : Body) → Legal 
     out h a r ≡ Answers.Done (judged_head (granted h (subject h c.actor) (target h.shapes c.object c.operation)) (decided h (subject h c.actor) (target h.shapes c.object c.operation)) c.actor)
 reached_answer h a (Complete vs x) c l solvent t = end_reached h a vs x c l solvent t
 reached_answer h a Settle c l solvent t = settle_reached h a c l solvent t
-reached_answer h a (Call o p vs) c l solvent t = let none = t.serving in absurd (cc)
-reached_answer h a Resume c l solvent t = let none = t.serving in absurd (cc)
-reached_answer h a (DelayUntil time) c l solvent t = let none = t.serving in absurd (cc)
-reached_answer h a Clock c l solvent t = let none = t.serving in absurd (cc)
-reached_answer h a Fire c l solvent t = let none = t.serving in absurd (cc)
-reached_answer h a Quit c l solvent t = let none = t.serving in absurd (cc)
-reached_answer h a (Tick n) c l solvent t = let none = t.serving in absurd (cc)
-reached_answer h a Halt c l solvent t = let none = t.serving in absurd (cc)
+reached_answer h a r c l solvent t = let none = t.serving in absurd (cc)
 
 -- and only there is one named
 reaches : (h : History) (a : ℕ) (r : Request) (next : Next) (n : ℕ) → fits h a r ≡ true → (m : Names h a r next n) → Reaches h a r m.served_by.call
@@ -271,11 +264,4 @@ only_dropped h a r n line l e = by_request r (done_serves h a r (Dropped n line)
         let m = names_at h a Settle (Dropped n line) n (ap recorded e) refl in
         let free = settler_at h a m.body (legal_standing h.limits h.past h.shapes h.lists l) m.serving in
         dropped_by h a Settle n line l e (ap is_waiting free) (record { unqueued = refl; frees = λ next. refl; holds = refl }) (λ o. refl) refl
-    by_request (Call o p vs) is e = absurd (off is)
-    by_request Resume is e = absurd (off is)
-    by_request (DelayUntil t) is e = absurd (off is)
-    by_request Clock is e = absurd (off is)
-    by_request Fire is e = absurd (off is)
-    by_request Quit is e = absurd (off is)
-    by_request (Tick m) is e = absurd (off is)
-    by_request Halt is e = absurd (off is)
+    by_request r is e = absurd (off is)

@@ -10,12 +10,12 @@ use Rattle.rv_event.specs.Recorded.{recorded}
 use Rattle.rv_event.specs.declared.entry.Answer.TheVariants as Answers
 use Rattle.rv_event.specs.declared.entry.Body.{Body}
 use Rattle.rv_event.specs.declared.entry.Entry.{Entry}
-use Rattle.rv_event.specs.declared.entry.Entry.TheVariants.{Asked, Load, ListChange}
+use Rattle.rv_event.specs.declared.entry.Entry.TheVariants.{Asked}
 use Rattle.rv_event.specs.declared.entry.Next.TheVariants.{Dropped, HandedTo}
 use Rattle.rv_event.specs.declared.entry.Recorded.{Recorded}
 use Rattle.rv_event.specs.declared.entry.Recorded.TheVariants.{Done}
 use Rattle.rv_event.specs.declared.entry.Request.{Request}
-use Rattle.rv_event.specs.declared.entry.Request.TheVariants.{Call, Complete, Settle, Resume, DelayUntil, Clock, Fire, Quit, Tick, Halt}
+use Rattle.rv_event.specs.declared.entry.Request.TheVariants.{Complete, Settle, Resume}
 use Rattle.rv_event.specs.declared.entry.Rule.TheVariants as Rules
 use Rattle.rv_event.specs.declared.entry.Stance.TheVariants.{DroppedBy, HandedOver}
 use Rattle.rv_event.proofs.Matching.{by}
@@ -58,28 +58,13 @@ record Hands (shapes : List Shape) (past : List Entry) (a : ℕ) (r : Request) (
 served_stays : (h : History) (more : List Shape) (a : ℕ) (r : Request) → Legal h → served (h.shapes ++ more) a h.past r ≡ served h.shapes a h.past r
 served_stays h more a (Complete vs x) l = ap (first_by a) (way_stays h.limits h.past h.shapes more h.lists l)
 served_stays h more a Settle l = ap (first_by a) (left_stays h.limits h.past h.shapes more h.lists l)
-served_stays h more a (Call o p vs) l = refl
-served_stays h more a Resume l = refl
-served_stays h more a (DelayUntil t) l = refl
-served_stays h more a Clock l = refl
-served_stays h more a Fire l = refl
-served_stays h more a Quit l = refl
-served_stays h more a (Tick n) l = refl
-served_stays h more a Halt l = refl
+served_stays h more a r l = refl
 
 exclusive_stays : (h : History) (more : List Shape) (a : ℕ) (r : Request) (w : Recorded) (b : Body) → recorded (out h a r) ≡ Some w → served h.shapes a h.past r ≡ Some b → ends_shared h.shapes r b ≡ false → ends_shared (h.shapes ++ more) r b ≡ false
 exclusive_stays h more a (Complete vs x) w b e is alone =
     let at = end_site h a vs x w b e is in
     ap shares (protected_stays h.shapes more b.object b.operation at.0 at.1 ∙ sym at.1) ∙ alone
-exclusive_stays h more a Settle w b e is alone = refl
-exclusive_stays h more a (Call o p vs) w b e is alone = refl
-exclusive_stays h more a Resume w b e is alone = refl
-exclusive_stays h more a (DelayUntil t) w b e is alone = refl
-exclusive_stays h more a Clock w b e is alone = refl
-exclusive_stays h more a Fire w b e is alone = refl
-exclusive_stays h more a Quit w b e is alone = refl
-exclusive_stays h more a (Tick n) w b e is alone = refl
-exclusive_stays h more a Halt w b e is alone = refl
+exclusive_stays h more a r w b e is alone = refl
 
 hands_at : (h : History) (a : ℕ) (r : Request) (n : ℕ) → Legal h → recorded (out h a r) ≡ Some (Done (HandedTo n)) → (more : List Shape) → Hands (h.shapes ++ more) h.past a r n
 hands_at h a r n l e more =
@@ -126,14 +111,7 @@ then_is shapes past a (Complete vs x) n t =
     }
 then_is shapes past a Settle n t =
     record { starts = t.last; holds = one_holds shapes past a Settle n t (under_way shapes past) (omega arith); leaves = ap (λ o. scalars shapes o past) t.there }
-then_is shapes past a (Call o p vs) n t = absurd (off t.serve)
-then_is shapes past a Resume n t = absurd (off t.serve)
-then_is shapes past a (DelayUntil time) n t = absurd (off t.serve)
-then_is shapes past a Clock n t = absurd (off t.serve)
-then_is shapes past a Fire n t = absurd (off t.serve)
-then_is shapes past a Quit n t = absurd (off t.serve)
-then_is shapes past a (Tick m) n t = absurd (off t.serve)
-then_is shapes past a Halt n t = absurd (off t.serve)
+then_is shapes past a r n t = absurd (off t.serve)
 
 stance_then : (past : List Entry) (a : ℕ) (r : Request) (n : ℕ) → stance n (Asked a r (Done (HandedTo n)) ∷ past) ≡ HandedOver
 stance_then past a r n =
@@ -151,17 +129,7 @@ unended shapes b (e ∷ later) past none =
     own_end (Asked c (Complete vs x) w) other ends =
         let same : c ≡ b.actor = cc in
         off (sym (sym (itself c) ∙ ap (λ m. c == m) same ∙ other))
-    own_end (Asked c (Call o p vs) w) other ends = cc
-    own_end (Asked c Settle w) other ends = cc
-    own_end (Asked c Resume w) other ends = cc
-    own_end (Asked c (DelayUntil t) w) other ends = cc
-    own_end (Asked c Clock w) other ends = cc
-    own_end (Asked c Fire w) other ends = cc
-    own_end (Asked c Quit w) other ends = cc
-    own_end (Asked c (Tick n) w) other ends = cc
-    own_end (Asked c Halt w) other ends = cc
-    own_end Load other ends = cc
-    own_end ListChange other ends = cc
+    own_end e other ends = cc
 
 woken_with : (h : History) (n : ℕ) (call : Body) (vs : List ℤ) → Legal h → IsSolvent h → stance n h.past ≡ HandedOver → held h.shapes n h.past ≡ call ∷ [] → scalars h.shapes call.object h.past ≡ vs → out h n Resume ≡ Answers.Woken (Some vs)
 woken_with h n call vs l solvent at holds values =

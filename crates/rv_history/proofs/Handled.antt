@@ -4,9 +4,12 @@ use Rattle.std.specs.Prelude.{slice_get, nat_lt, if◌then◌else◌}
 use Rattle.std.proofs.lemmas.Bool.Decides.{nat_tests}
 use Rattle.rv_shape.specs.Shape.{Shape}
 use Rattle.rv_shape.specs.Objects.{OperationShape}
+use Rattle.rv_shape.specs.declared.kind.Kind.{Kind}
+use Rattle.rv_shape.specs.declared.kind.Kind.TheVariants.{Function, Procedure, Entry as EntryKind, Handler}
 use Rattle.rv_shape.specs.declared.object.Object.{Object}
 use Rattle.rv_shape.specs.declared.object.Object.TheVariants.{Protected, Suspension}
-use Rattle.rv_shape.specs.Catalogue.{UnitObject, OperationNumber, Site, OnProtected, first_of, numbered, all_objects, place, target, at_unit_object, at_object, at_operation, operations_of, handles, handler_in, handler_from, handler}
+use Rattle.rv_shape.specs.Catalogue.{UnitObject, OperationNumber, Site, OnProtected, first_of, numbered, all_objects, place, target, at_unit_object, at_object, at_operation, operations_of, handles, is_entry, handler_in, handler_from, handler}
+use Rattle.rv_history.proofs.Answered.{off}
 
 number_in : OperationNumber → Option OperationNumber → OperationNumber
 number_in m None = m
@@ -85,3 +88,10 @@ handler_is shapes line n e =
     let there : place shapes n.object ≡ Some f.place = numbered_at (all_objects shapes) n.object f.skipped f.place f.at f.get in
     let s = at_site line f.place.unit f.place.object n f.inside in
     record { site = s.0; at = ap (at_unit_object n.operation) there ∙ s.1; kind = s.2 }
+
+-- and no entry
+pub handler_enters : (line : ℕ) (kind : Kind) → handles line kind ≡ true → is_entry kind ≡ false
+handler_enters line (Function range) e = refl
+handler_enters line Procedure e = refl
+handler_enters line (EntryKind barrier) e = absurd (off e)
+handler_enters line (Handler on) e = refl

@@ -7,7 +7,7 @@ pub mod Sums
 pub mod Arrays
 pub mod Modes
 -- Starts and refusals
-pub mod Suspending
+pub mod Tells
 pub mod Exactly
 pub mod Fires
 pub mod First

@@ -13,7 +13,7 @@ use Rattle.rv_event.specs.declared.entry.Entry.{Entry}
 use Rattle.rv_event.specs.declared.entry.Entry.TheVariants.{Asked, Load, ListChange}
 use Rattle.rv_event.specs.declared.entry.Body.{Body}
 use Rattle.rv_event.specs.declared.entry.Request.{Request}
-use Rattle.rv_event.specs.declared.entry.Request.TheVariants.{Call, Complete, Settle, Resume, DelayUntil, Clock, Fire, Quit, Tick, Halt}
+use Rattle.rv_event.specs.declared.entry.Request.TheVariants.{Call, Complete, Settle, Fire}
 use Rattle.rv_event.specs.declared.entry.Recorded.{Recorded}
 use Rattle.rv_event.specs.declared.entry.Recorded.TheVariants.{Started, Done}
 use Rattle.rv_history.specs.declared.limits.Limits.{Limits}
@@ -34,15 +34,7 @@ start_stays h more a Fire Started e = by_handler (handler h.shapes (a - 1)) refl
         let w = started_allowed h a Fire e in
         absurd (nowhere_else w.object w.site (sym (ap (aim_at h.shapes) is) ∙ w.wanted))
     by_handler (Some s) is = ap (fired a) (handler_stays h.shapes more (a - 1) s is ∙ sym is)
-start_stays h more a Fire w e = refl
-start_stays h more a (Complete vs y) w e = refl
-start_stays h more a Settle w e = refl
-start_stays h more a Resume w e = refl
-start_stays h more a (DelayUntil t) w e = refl
-start_stays h more a Clock w e = refl
-start_stays h more a Quit w e = refl
-start_stays h more a (Tick n) w e = refl
-start_stays h more a Halt w e = refl
+start_stays h more a r w e = refl
 
 pub way_stays : (c : Limits) (past : List Entry) (shapes more : List Shape) (lists : List (List Words)) → IsLegal c past shapes lists → under_way (shapes ++ more) past ≡ under_way shapes past
 way_stays c [] shapes more lists l = refl
@@ -71,14 +63,7 @@ same_unsettled one two past a (Complete vs x) w bodies before = before
 same_unsettled one two past a Settle (Done next) bodies before =
     λ i. begun (left_by (Asked a Settle (Done next) ∷ past) next (first_by a (before i))) (without a (before i))
 same_unsettled one two past a Settle w bodies before = ap (without a) before
-same_unsettled one two past a (Call o p vs) w bodies before = before
-same_unsettled one two past a Resume w bodies before = before
-same_unsettled one two past a (DelayUntil t) w bodies before = before
-same_unsettled one two past a Clock w bodies before = before
-same_unsettled one two past a Fire w bodies before = before
-same_unsettled one two past a Quit w bodies before = before
-same_unsettled one two past a (Tick n) w bodies before = before
-same_unsettled one two past a Halt w bodies before = before
+same_unsettled one two past a r w bodies before = before
 
 pub left_stays : (c : Limits) (past : List Entry) (shapes more : List Shape) (lists : List (List Words)) → IsLegal c past shapes lists → unsettled (shapes ++ more) past ≡ unsettled shapes past
 left_stays c [] shapes more lists l = refl
@@ -134,15 +119,7 @@ same_after one two o past a (Complete vs x) w at bodies before =
     let inner : innermost one a past ≡ innermost two a past = ap (λ bs. slice_get (filter (λ b. b.actor == a) bs) 0) bodies in
     let test : writes one o (innermost one a past) ≡ writes two o (innermost two a past) = same_writes one two o (innermost one a past) at ∙ ap (writes two o) inner in
     λ i. if test i then vs else before i
-same_after one two o past a (Call p q vs) w at bodies before = before
-same_after one two o past a Settle w at bodies before = before
-same_after one two o past a Resume w at bodies before = before
-same_after one two o past a (DelayUntil t) w at bodies before = before
-same_after one two o past a Clock w at bodies before = before
-same_after one two o past a Fire w at bodies before = before
-same_after one two o past a Quit w at bodies before = before
-same_after one two o past a (Tick n) w at bodies before = before
-same_after one two o past a Halt w at bodies before = before
+same_after one two o past a r w at bodies before = before
 
 pub same_scalars : (c : Limits) (past : List Entry) (shapes one two : List Shape) (lists : List (List Words)) (o : ℕ) → IsLegal c past shapes lists →
     place (shapes ++ one) o ≡ place (shapes ++ two) o → scalars (shapes ++ one) o past ≡ scalars (shapes ++ two) o past

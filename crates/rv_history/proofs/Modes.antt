@@ -22,17 +22,17 @@ is_shut Modes.Idle = false
 is_shut Modes.InBody = false
 is_shut mode = true
 
-calls_none : (w : Who) (m : Mode) → is_shut m ≡ true → may_call w m ≡ false
+pub calls_none : (w : Who) (m : Mode) → is_shut m ≡ true → may_call w m ≡ false
 calls_none (Task task) Modes.Idle e = absurd (off e)
 calls_none (Task task) Modes.InBody e = absurd (off e)
 calls_none (Line line) Modes.InBody e = absurd (off e)
 calls_none w m e = refl
 
-fires_none : (w : Who) (m : Mode) → is_shut m ≡ true → idle_line w m ≡ false
+pub fires_none : (w : Who) (m : Mode) → is_shut m ≡ true → idle_line w m ≡ false
 fires_none (Line line) Modes.Idle e = absurd (off e)
 fires_none w m e = refl
 
-quits_none : (w : Who) (m : Mode) → is_shut m ≡ true → idle_task w m ≡ false
+pub quits_none : (w : Who) (m : Mode) → is_shut m ≡ true → idle_task w m ≡ false
 quits_none (Task task) Modes.Idle e = absurd (off e)
 quits_none w m e = refl
 
@@ -64,12 +64,7 @@ ends_at (Some b) m e = absurd (off e)
 
 pub free_in : (bs : List Body) (s : Stance) → in_body (mode_by bs s) ≡ true → s ≡ Free
 free_in bs Free e = refl
-free_in bs InQueue e = absurd (off e)
-free_in bs HandedOver e = absurd (off e)
-free_in bs (DroppedBy line) e = absurd (off e)
-free_in bs (WaitsOn object) e = absurd (off e)
-free_in bs (WaitsUntil time) e = absurd (off e)
-free_in bs Gone e = absurd (off e)
+free_in bs s e = absurd (off e)
 
 -- what an actor is at is never to settle: what it has left says that
 
@@ -113,13 +108,7 @@ pub settler_free : (h : History) (a : ℕ) (r : Request) (w : Recorded) (b : Bod
 settler_free h a (Call o p vs) w b has g = absurd (no_call h a (call_fits (length (held h.shapes a h.past)) vs (target h.shapes o p)) (ap is_shut (settler_mode h a b has)) g.fits_in)
 settler_free h a (DelayUntil t) w b has g = absurd (no_call h a (is_time t) (ap is_shut (settler_mode h a b has)) g.fits_in)
 settler_free h a Quit w b has g = absurd (unfit _ (quits_none (who h.shapes a) (mode h.shapes a h.past) (ap is_shut (settler_mode h a b has))) g.fits_in)
-settler_free h a (Complete vs x) w b has g = refl
-settler_free h a Settle w b has g = refl
-settler_free h a Resume w b has g = refl
-settler_free h a Clock w b has g = refl
-settler_free h a Fire w b has g = refl
-settler_free h a (Tick n) w b has g = refl
-settler_free h a Halt w b has g = refl
+settler_free h a r w b has g = refl
 
 -- it is a settle, where it isn't the operator
 pub settler_settles : (h : History) (a : ℕ) (r : Request) (b : Body) → to_settle h.shapes a h.past ≡ Some b → (is_operator (who h.shapes a) ≡ true → ⊥) → fits_actor h a r ≡ true → r ≡ Settle

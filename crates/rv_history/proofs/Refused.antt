@@ -1,7 +1,7 @@
 -- A refused call or fired line leaves everything as it was.
 use Rattle.std.proofs.Common.{◌≡◌, ℕ, false, sym, refl}
 use Rattle.rv_event.specs.declared.entry.Request.{Request}
-use Rattle.rv_event.specs.declared.entry.Request.TheVariants.{Call, Complete, Settle, Resume, DelayUntil, Clock, Fire, Quit, Tick, Halt}
+use Rattle.rv_event.specs.declared.entry.Request.TheVariants.{Call, Complete, Settle, Resume, Quit}
 use Rattle.rv_event.specs.declared.entry.Rule.{Rule}
 use Rattle.rv_event.specs.declared.entry.Answer.TheVariants.{Refused}
 use Rattle.rv_history.specs.History.{History}
@@ -15,9 +15,5 @@ refused_leaves h a (Call o p vs) rule l v e = record { scalars_stay = λ o. refl
 refused_leaves h a (Complete vs x) rule l v e = absurd (off (sym e))
 refused_leaves h a Settle rule l v e = absurd (off (sym e))
 refused_leaves h a Resume rule l v e = absurd (off (sym e))
-refused_leaves h a (DelayUntil t) rule l v e = record { scalars_stay = λ o. refl; queues_stay = λ o. refl; barriers_stay = λ o. refl; held_stays = λ o. refl; exclusion_stays = λ o f. refl }
-refused_leaves h a Clock rule l v e = record { scalars_stay = λ o. refl; queues_stay = λ o. refl; barriers_stay = λ o. refl; held_stays = λ o. refl; exclusion_stays = λ o f. refl }
-refused_leaves h a Fire rule l v e = record { scalars_stay = λ o. refl; queues_stay = λ o. refl; barriers_stay = λ o. refl; held_stays = λ o. refl; exclusion_stays = λ o f. refl }
 refused_leaves h a Quit rule l v e = absurd (off (sym e))
-refused_leaves h a (Tick n) rule l v e = record { scalars_stay = λ o. refl; queues_stay = λ o. refl; barriers_stay = λ o. refl; held_stays = λ o. refl; exclusion_stays = λ o f. refl }
-refused_leaves h a Halt rule l v e = record { scalars_stay = λ o. refl; queues_stay = λ o. refl; barriers_stay = λ o. refl; held_stays = λ o. refl; exclusion_stays = λ o f. refl }
+refused_leaves h a r rule l v e = record { scalars_stay = λ o. refl; queues_stay = λ o. refl; barriers_stay = λ o. refl; held_stays = λ o. refl; exclusion_stays = λ o f. refl }

@@ -7,10 +7,10 @@ use Rattle.rv_shape.specs.Shape.{Shape}
 use Rattle.rv_shape.specs.Objects.{OperationShape, ProtectedShape}
 use Rattle.rv_shape.specs.declared.object.Object.{Object}
 use Rattle.rv_shape.specs.declared.object.Object.TheVariants.{Protected, Suspension}
-use Rattle.rv_shape.specs.Catalogue.{UnitObject, Target, Nowhere, OnProtected, OnSuspension, at_object, at_operation, at_suspension, at_unit_object, first_of, numbered, place, suspension_operations, target, is_function}
+use Rattle.rv_shape.specs.Catalogue.{UnitObject, OnSuspension, at_object, at_operation, at_suspension, at_unit_object, first_of, numbered, place, suspension_operations, target}
 use Rattle.rv_shape.specs.declared.suspension.SuspensionOperation.{SuspensionOperation}
 use Rattle.rv_shape.specs.declared.suspension.SuspensionOperation.TheVariants.{SetTrue, SetFalse, CurrentState, SuspendUntilTrue}
-use Rattle.rv_event.specs.Past.{Touch, Waits, Sets, Clears, Untouched, accepted_touch, if_named, if_own, is_named, is_own, is_set, named_in, names, next_of, or_else, released, scalars, since, stance, stance_of, state, state_after, touch, touch_of, waiter, waiter_after}
+use Rattle.rv_event.specs.Past.{Touch, Waits, Sets, Clears, Untouched, accepted_touch, if_named, if_own, is_named, is_own, is_set, named_in, names, next_of, or_else, released, since, stance, stance_of, state, state_after, touch, touch_of, waiter, waiter_after}
 use Rattle.rv_event.specs.Recorded.{recorded}
 use Rattle.rv_event.specs.declared.entry.Answer.TheVariants as Answers
 use Rattle.rv_event.specs.declared.entry.Entry.{Entry}
@@ -18,66 +18,36 @@ use Rattle.rv_event.specs.declared.entry.Entry.TheVariants.{Asked, Load, ListCha
 use Rattle.rv_event.specs.declared.entry.Next.{Next}
 use Rattle.rv_event.specs.declared.entry.Next.TheVariants.{Nothing, HandedTo, Dropped}
 use Rattle.rv_event.specs.declared.entry.Recorded.{Recorded}
-use Rattle.rv_event.specs.declared.entry.Recorded.TheVariants.{Started, Queued, Refused, Done, Suspended, Delayed, Woken, Accepted}
+use Rattle.rv_event.specs.declared.entry.Recorded.TheVariants.{Suspended, Delayed, Accepted}
 use Rattle.rv_event.specs.declared.entry.Request.{Request}
 use Rattle.rv_event.specs.declared.entry.Request.TheVariants.{Call, Complete, Settle, Resume, DelayUntil, Clock, Fire, Quit, Tick, Halt}
-use Rattle.rv_event.specs.declared.entry.Rule.TheVariants as Rules
 use Rattle.rv_event.specs.declared.entry.Stance.{Stance}
 use Rattle.rv_event.specs.declared.entry.Stance.TheVariants.{HandedOver, DroppedBy, WaitsOn}
 use Rattle.rv_history.specs.declared.limits.Limits.{Limits}
-use Rattle.rv_history.specs.Due.{due_call, judged, or_waiting, out, performed}
-use Rattle.rv_history.specs.Exclusion.{excluded, full_queue, is_barred}
+use Rattle.rv_history.specs.Due.{or_waiting, out}
 use Rattle.rv_history.specs.Frame.{is_apart}
-use Rattle.rv_history.specs.History.{History, version}
+use Rattle.rv_history.specs.History.{History}
 use Rattle.rv_history.specs.Legal.{IsLegal, Legal, after}
 use Rattle.rv_history.specs.Owed.{IsSolvent}
-use Rattle.rv_history.specs.Rules.{breaks, decided}
-use Rattle.rv_history.specs.Subject.{subject}
+use Rattle.rv_history.specs.Rules.{Aim}
 use Rattle.rv_history.specs.Suspension.{IsReleased}
-use Rattle.rv_history.proofs.Answered.{off, answered}
+use Rattle.rv_history.proofs.Answered.{off}
 use Rattle.rv_history.proofs.Ending.{some_number}
 use Rattle.rv_history.proofs.Frame.{all_more, all_parts, apart_of, own_said, unsaid}
 use Rattle.rv_history.proofs.Resumes.{resume_due, woken_ready}
 use Rattle.rv_history.proofs.Stances.{itself, same_number}
+use Rattle.rv_history.proofs.Tells.{word_tells}
 
 -- Where a call is answered Suspended nobody waits there
-
-judged_not : (v l : ℕ) (vs : List ℤ) (d b r a y c f : Bool) → recorded (judged v l vs d b r a y c f) ≡ Some Suspended → ⊥
-judged_not v l vs true b r a y c f e = cc
-judged_not v l vs false true r a y c f e = cc
-judged_not v l vs false false true a y c f e = cc
-judged_not v l vs false false false true y c f e = cc
-judged_not v l vs false false false false true c f e = cc
-judged_not v l vs false false false false false true true e = cc
-judged_not v l vs false false false false false true false e = cc
-judged_not v l vs false false false false false false f e = cc
-
-unwaited : (v : ℕ) (b w s : Bool) (d : SuspensionOperation) (l : ℕ) (denied : Bool) → recorded (if denied then Answers.Refused Rules.Grant l v else performed v b w s d) ≡ Some Suspended → (d ≡ SuspendUntilTrue) × (w ≡ false)
-unwaited v b w s d l true e = absurd (cc)
-unwaited v b w s SetTrue l false e = absurd (cc)
-unwaited v b w s SetFalse l false e = absurd (cc)
-unwaited v b w s CurrentState l false e = absurd (cc)
-unwaited v true w s SuspendUntilTrue l false e = absurd (cc)
-unwaited v false true s SuspendUntilTrue l false e = absurd (cc)
-unwaited v false false s SuspendUntilTrue l false e = (refl, refl)
 
 nobody : (o : Option ℕ) → is_some o ≡ false → o ≡ None
 nobody None e = refl
 nobody (Some n) e = absurd (off (sym e))
 
-no_waiter : (h : History) (a o p : ℕ) (vs : List ℤ) (t : Target) → recorded (due_call h a (Call o p vs) o t) ≡ Some Suspended → waiter o h.past ≡ None
-no_waiter h a o p vs Nowhere e = absurd (cc)
-no_waiter h a o p vs (OnProtected s) e =
-    absurd (judged_not (version h) (decided h (subject h a) (OnProtected s)) (scalars h.shapes o h.past) (breaks h Rules.Grant a (Call o p vs) o (OnProtected s)) (breaks h Rules.Blocking a (Call o p vs) o (OnProtected s))
-    (breaks h Rules.Reentry a (Call o p vs) o (OnProtected s)) (breaks h Rules.Ceiling a (Call o p vs) o (OnProtected s)) (excluded h o (is_function s.operation.kind)) (is_barred h o s.operation.kind) (full_queue h o) e)
-no_waiter h a o p vs (OnSuspension unit name wanted) e =
-    let t : Target = OnSuspension unit name wanted in
-    let u = unwaited (version h) (breaks h Rules.Blocking a (Call o p vs) o t) (breaks h Rules.Waiter a (Call o p vs) o t) (state o h.past) wanted (decided h (subject h a) t) (breaks h Rules.Grant a (Call o p vs) o t) e in
-    let none : is_some (waiter o h.past) ≡ false = ap (λ d. breaks h Rules.Waiter a (Call o p vs) o (OnSuspension unit name d)) (sym u.0) ∙ u.1 in
-    nobody (waiter o h.past) none
-
 pub suspends_alone : (h : History) (a o p : ℕ) (vs : List ℤ) → recorded (out h a (Call o p vs)) ≡ Some Suspended → waiter o h.past ≡ None
-suspends_alone h a o p vs e = no_waiter h a o p vs (target h.shapes o p) (answered h a (Call o p vs) Suspended e).said
+suspends_alone h a o p vs e =
+    let t = word_tells h a (Call o p vs) Suspended e in
+    nobody (waiter o h.past) (ap (λ (m : Aim). is_some (waiter m.0 h.past)) t.aimed ∙ t.alone)
 
 -- What an entry does to an object whose waiter there is
 
@@ -103,12 +73,7 @@ call_waits h b p vs q o w a e there = by_test (q == o) refl
         by_operation (Some SetFalse) = refl
         by_operation (Some CurrentState) = refl
         by_operation (Some SuspendUntilTrue) = refl
-    by_word Started is e = refl
-    by_word Queued is e = refl
-    by_word (Refused rule line v) is e = refl
-    by_word (Done next) is e = refl
-    by_word Delayed is e = refl
-    by_word Woken is e = refl
+    by_word other is e = refl
 
     by_test : (t : Bool) → (q == o) ≡ t → waits (if t then touch_of (Asked b (Call q p vs) w) else Untouched) ≡ false
     by_test true is = by_word w is e
@@ -116,15 +81,7 @@ call_waits h b p vs q o w a e there = by_test (q == o) refl
 
 touches : (h : History) (b : ℕ) (r : Request) (o : ℕ) (w : Recorded) (a : ℕ) → recorded (out h b r) ≡ Some w → waiter o h.past ≡ Some a → waits (touch o (Asked b r w)) ≡ false
 touches h b (Call q p vs) o w a e there = call_waits h b p vs q o w a e there
-touches h b (Complete vs x) o w a e there = refl
-touches h b Settle o w a e there = refl
-touches h b Resume o w a e there = refl
-touches h b (DelayUntil t) o w a e there = refl
-touches h b Clock o w a e there = refl
-touches h b Fire o w a e there = refl
-touches h b Quit o w a e there = refl
-touches h b (Tick n) o w a e there = refl
-touches h b Halt o w a e there = refl
+touches h b r o w a e there = refl
 
 -- Until it is released it is the waiter
 

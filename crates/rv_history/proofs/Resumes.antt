@@ -7,7 +7,7 @@ use Rattle.rv_event.specs.declared.entry.Answer.TheVariants as Answers
 use Rattle.rv_event.specs.declared.entry.Body.{Body}
 use Rattle.rv_event.specs.declared.entry.Request.TheVariants.{Resume}
 use Rattle.rv_event.specs.declared.entry.Stance.{Stance}
-use Rattle.rv_event.specs.declared.entry.Stance.TheVariants.{Free, InQueue, HandedOver, DroppedBy, WaitsOn, WaitsUntil, Gone}
+use Rattle.rv_event.specs.declared.entry.Stance.TheVariants.{Free, WaitsUntil, Gone}
 use Rattle.rv_history.specs.Due.{due_resume, gate, or_waiting, out}
 use Rattle.rv_history.specs.Fitting.{awaits, fits}
 use Rattle.rv_history.specs.History.{History}
@@ -21,24 +21,25 @@ use Rattle.rv_history.proofs.Stances.{is_waiting}
 
 awaits_at : (bodies : List Body) (s : Stance) → is_waiting s ≡ true → awaits (mode_by bodies s) ≡ true
 awaits_at bodies Free e = absurd (off e)
-awaits_at bodies InQueue e = refl
-awaits_at bodies HandedOver e = refl
-awaits_at bodies (DroppedBy line) e = refl
-awaits_at bodies (WaitsOn object) e = refl
-awaits_at bodies (WaitsUntil time) e = refl
 awaits_at bodies Gone e = absurd (off e)
+awaits_at bodies s e = refl
 
 pub to_test : (n m : ℕ) → n < m → nat_lt n m ≡ true
 to_test n m less = grind (arith, nat_tests)
 
-pub resume_due : (h : History) (a : ℕ) (s : Stance) → Legal h → IsSolvent h → stance a h.past ≡ s → is_waiting s ≡ true → out h a Resume ≡ due_resume h a s
-resume_due h a s l solvent at waiting =
-    let busy : stance a h.past ≡ Free → ⊥ = λ free. off (ap is_waiting (sym free ∙ at) ∙ waiting) in
+-- one that waits may resume
+pub resume_fits : (h : History) (a : ℕ) → Legal h → is_waiting (stance a h.past) ≡ true → fits h a Resume ≡ true
+resume_fits h a l waiting =
+    let busy : stance a h.past ≡ Free → ⊥ = λ free. off (ap is_waiting (sym free) ∙ waiting) in
     let known : nat_lt a (actors h.shapes) ≡ true = to_test a (actors h.shapes) (known_actor h a l busy) in
     let settled : to_settle h.shapes a h.past ≡ None = none_left h.shapes h.past a (legal_standing h.limits h.past h.shapes h.lists l).left busy in
     let ready : awaits (mode h.shapes a h.past) ≡ true =
-    (λ i. awaits (or_settling (settled i) (mode_by (held h.shapes a h.past) (at i)))) ∙ awaits_at (held h.shapes a h.past) s waiting in
-    let fit : fits h a Resume ≡ true = λ i. known i && ready i in
+    (λ i. awaits (or_settling (settled i) (mode_by (held h.shapes a h.past) (stance a h.past)))) ∙ awaits_at (held h.shapes a h.past) (stance a h.past) waiting in
+    λ i. known i && ready i
+
+pub resume_due : (h : History) (a : ℕ) (s : Stance) → Legal h → IsSolvent h → stance a h.past ≡ s → is_waiting s ≡ true → out h a Resume ≡ due_resume h a s
+resume_due h a s l solvent at waiting =
+    let fit : fits h a Resume ≡ true = resume_fits h a l (ap is_waiting at ∙ waiting) in
     resume_never_full h a solvent ∙ (λ i. gate (fit i) (and_false (halted h.past) i) (due_resume h a (at i)))
 
 pub woken_ready : (h : History) (b : Bool) → or_waiting h b ≡ Answers.Woken None → b ≡ true

@@ -12,7 +12,7 @@ use Rattle.rv_event.specs.declared.entry.Next.{Next}
 use Rattle.rv_event.specs.declared.entry.Next.TheVariants.{Nothing, HandedTo, Dropped}
 use Rattle.rv_event.specs.declared.entry.Recorded.TheVariants.{Done}
 use Rattle.rv_event.specs.declared.entry.Request.{Request}
-use Rattle.rv_event.specs.declared.entry.Request.TheVariants.{Call, Complete, Settle, Resume, DelayUntil, Clock, Fire, Quit, Tick, Halt}
+use Rattle.rv_event.specs.declared.entry.Request.TheVariants.{Complete, Settle}
 use Rattle.rv_event.proofs.Matching.{by}
 use Rattle.rv_history.specs.HandOver.{served, settling_behind}
 use Rattle.rv_history.specs.Orderly.{is_on}
@@ -27,28 +27,13 @@ other_left shapes a past r = unsettled shapes past
 pub left_then : (shapes : List Shape) (a : ℕ) (past : List Entry) (r : Request) (next : Next) →
     unsettled shapes (Asked a r (Done next) ∷ past) ≡ begun (left_by (Asked a r (Done next) ∷ past) next (served shapes a past r)) (other_left shapes a past r)
 left_then shapes a past (Complete vs x) next = refl
-left_then shapes a past Settle next = refl
-left_then shapes a past (Call o p vs) next = refl
-left_then shapes a past Resume next = refl
-left_then shapes a past (DelayUntil t) next = refl
-left_then shapes a past Clock next = refl
-left_then shapes a past Fire next = refl
-left_then shapes a past Quit next = refl
-left_then shapes a past (Tick n) next = refl
-left_then shapes a past Halt next = refl
+left_then shapes a past r next = refl
 
 -- the actor's own body is served
 pub served_actor : (shapes : List Shape) (a : ℕ) (past : List Entry) (r : Request) (b : Body) → served shapes a past r ≡ Some b → b.actor ≡ a
 served_actor shapes a past (Complete vs x) b e = first_actor a b (under_way shapes past) e
 served_actor shapes a past Settle b e = first_actor a b (unsettled shapes past) e
-served_actor shapes a past (Call o p vs) b e = absurd (cc)
-served_actor shapes a past Resume b e = absurd (cc)
-served_actor shapes a past (DelayUntil t) b e = absurd (cc)
-served_actor shapes a past Clock b e = absurd (cc)
-served_actor shapes a past Fire b e = absurd (cc)
-served_actor shapes a past Quit b e = absurd (cc)
-served_actor shapes a past (Tick n) b e = absurd (cc)
-served_actor shapes a past Halt b e = absurd (cc)
+served_actor shapes a past r b e = absurd (cc)
 
 -- only a drop leaves an object unsettled
 pub left_nothing : (past : List Entry) (q : Option Body) → left_by past Nothing q ≡ None

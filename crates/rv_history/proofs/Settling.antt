@@ -260,14 +260,7 @@ away_of h a Settle o l still apart b is = by_test (b.object == o) refl
     by_test : (t : Bool) → (b.object == o) ≡ t → t ≡ false
     by_test false e = refl
     by_test true e = absurd (apart refl b is (same_number b.object o e))
-away_of h a (Call p q vs) o l still apart b is = absurd (cc)
-away_of h a Resume o l still apart b is = absurd (cc)
-away_of h a (DelayUntil t) o l still apart b is = absurd (cc)
-away_of h a Clock o l still apart b is = absurd (cc)
-away_of h a Fire o l still apart b is = absurd (cc)
-away_of h a Quit o l still apart b is = absurd (cc)
-away_of h a (Tick n) o l still apart b is = absurd (cc)
-away_of h a Halt o l still apart b is = absurd (cc)
+away_of h a r o l still apart b is = absurd (cc)
 
 pub nobody_enters : (h : History) (a : ℕ) (r : Request) (o : ℕ) → Legal h → is_unsettled h.shapes o h.past ≡ true → IsNoSettleOf h a r o → StaysUnsettled h (after h a r (out h a r)) o
 nobody_enters h a r o l still apart = by_word (recorded (out h a r)) refl

@@ -14,10 +14,10 @@ use Rattle.rv_event.specs.declared.entry.Entry.TheVariants.{Asked, Load, ListCha
 use Rattle.rv_event.specs.declared.entry.Mode.TheVariants as Modes
 use Rattle.rv_event.specs.declared.entry.Next.{Next}
 use Rattle.rv_event.specs.declared.entry.Recorded.{Recorded}
-use Rattle.rv_event.specs.declared.entry.Recorded.TheVariants.{Started, Queued, Refused, Done, Suspended, Delayed, Woken, Accepted}
+use Rattle.rv_event.specs.declared.entry.Recorded.TheVariants.{Done}
 use Rattle.rv_event.specs.declared.entry.Request.{Request}
 use Rattle.rv_event.specs.declared.entry.Stance.{Stance}
-use Rattle.rv_event.specs.declared.entry.Stance.TheVariants.{Free, InQueue, HandedOver, DroppedBy, WaitsOn, WaitsUntil, Gone}
+use Rattle.rv_event.specs.declared.entry.Stance.TheVariants.{Free, InQueue, Gone}
 use Rattle.rv_history.specs.declared.limits.Limits.{Limits}
 use Rattle.rv_history.specs.Due.{out}
 use Rattle.rv_history.specs.Fitting.{awaits, is_settling}
@@ -51,22 +51,11 @@ the_named (Some m) n e = ap (λ k. Some k) (same_number m n e)
 
 pub named_queued : (h : History) (a : ℕ) (r : Request) (w : Recorded) (n : ℕ) → Legal h → recorded (out h a r) ≡ Some w → names n (Asked a r w) ≡ true → IsQueued h n
 named_queued h a r (Done next) n l e f = named_next h a r next n l e (the_named (named_in next) n f)
-named_queued h a r Started n l e f = absurd (off f)
-named_queued h a r Queued n l e f = absurd (off f)
-named_queued h a r (Refused rule line version) n l e f = absurd (off f)
-named_queued h a r Suspended n l e f = absurd (off f)
-named_queued h a r Delayed n l e f = absurd (off f)
-named_queued h a r Woken n l e f = absurd (off f)
-named_queued h a r (Accepted value) n l e f = absurd (off f)
+named_queued h a r w n l e f = absurd (off f)
 
 abbrev pub is_queued : Stance → Bool
-is_queued Free = false
 is_queued InQueue = true
-is_queued HandedOver = false
-is_queued (DroppedBy line) = false
-is_queued (WaitsOn object) = false
-is_queued (WaitsUntil time) = false
-is_queued Gone = false
+is_queued s = false
 
 pub unnamed : (h : History) (a : ℕ) (r : Request) (w : Recorded) (n : ℕ) → Legal h → recorded (out h a r) ≡ Some w → is_queued (stance n h.past) ≡ false → names n (Asked a r w) ≡ false
 unnamed h a r w n l e calm = by_test (names n (Asked a r w)) refl
@@ -98,13 +87,8 @@ apart_while c (ListChange ∷ later) past shapes lists n l calm none = apart_whi
 -- One that has quit
 
 is_gone : Stance → Bool
-is_gone Free = false
-is_gone InQueue = false
-is_gone HandedOver = false
-is_gone (DroppedBy line) = false
-is_gone (WaitsOn object) = false
-is_gone (WaitsUntil time) = false
 is_gone Gone = true
+is_gone s = false
 
 gone_at : (h : History) (a : ℕ) (r : Request) (w : Recorded) → Legal h → stance a h.past ≡ Gone → nat_lt a 11 ≡ false → Answered h a r w → ⊥
 unfolding is_gone

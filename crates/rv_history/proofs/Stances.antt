@@ -1,6 +1,6 @@
 -- What an entry says of its own actor and of others.
 use Rattle.std.proofs.Common.{◌≡◌, ◌≢◌, ℕ, ◌-◌, ◌<◌, List, [], ◌∷◌, Some, None, Option, Bool, true, false, arith, ap, sym, ◌∙◌, refl}
-use Rattle.std.specs.Prelude.{nat_lt, ◌==◌, not, if◌then◌else◌, cond, slice_get}
+use Rattle.std.specs.Prelude.{ℤ, nat_lt, ◌==◌, not, if◌then◌else◌, cond, slice_get}
 use Rattle.std.specs.List.{filter}
 use Rattle.std.proofs.lemmas.Bool.Decides.{nat_tests}
 use Rattle.rv_shape.specs.Shape.{Shape}
@@ -17,7 +17,7 @@ use Rattle.rv_event.specs.declared.entry.Next.TheVariants.{Nothing, HandedTo, Dr
 use Rattle.rv_event.specs.declared.entry.Request.{Request}
 use Rattle.rv_event.specs.declared.entry.Request.TheVariants.{Call, Complete, Settle, Resume, DelayUntil, Clock, Fire, Quit, Tick, Halt}
 use Rattle.rv_event.specs.declared.entry.Recorded.{Recorded}
-use Rattle.rv_event.specs.declared.entry.Recorded.TheVariants.{Started, Queued, Done}
+use Rattle.rv_event.specs.declared.entry.Recorded.TheVariants.{Started, Queued, Done, Suspended, Delayed, Accepted}
 use Rattle.rv_history.proofs.Answered.{off}
 
 pub itself : (a : ℕ) → (a == a) ≡ true
@@ -31,6 +31,14 @@ same_number m n e = grind (arith, nat_tests)
 
 pub below : (n m : ℕ) → nat_lt n m ≡ true → n < m
 below n m e = grind (arith, nat_tests)
+
+-- what is so of these stances is so of what an entry leaves its own actor at, which is never handed over to nor dropped
+pub own_stances : (P : Stance → Type 0) → P Free → P InQueue → ((object : ℕ) → P (WaitsOn object)) → ((time : ℤ) → P (WaitsUntil time)) → P Gone → (a : ℕ) (r : Request) (w : Recorded) → P (stance_of (Asked a r w))
+own_stances P free queued on until gone a (Call o p vs) Queued = queued
+own_stances P free queued on until gone a (Call o p vs) Suspended = on o
+own_stances P free queued on until gone a (DelayUntil t) Delayed = until t
+own_stances P free queued on until gone a Quit (Accepted v) = gone
+own_stances P free queued on until gone a r w = free
 
 -- an entry that names nobody speaks of its own actor alone
 pub own_stance : (a : ℕ) (r : Request) (w : Recorded) (past : List Entry) → next_of (Asked a r w) ≡ Nothing → stance a (Asked a r w ∷ past) ≡ stance_of (Asked a r w)
@@ -158,14 +166,7 @@ left_other shapes past a Settle (Done next) j h =
     others_left (Asked a Settle (Done next) ∷ past) next (to_settle shapes a past) a j (without a (unsettled shapes past)) (λ b is. first_actor a b (unsettled shapes past) is) h
     ∙ filter_others j a (unsettled shapes past) (λ is. h (sym is))
 left_other shapes past a Settle w j h = filter_others j a (unsettled shapes past) (λ is. h (sym is))
-left_other shapes past a (Call o p vs) w j h = refl
-left_other shapes past a Resume w j h = refl
-left_other shapes past a (DelayUntil t) w j h = refl
-left_other shapes past a Clock w j h = refl
-left_other shapes past a Fire w j h = refl
-left_other shapes past a Quit w j h = refl
-left_other shapes past a (Tick n) w j h = refl
-left_other shapes past a Halt w j h = refl
+left_other shapes past a r w j h = refl
 
 pub to_settle_other : (shapes : List Shape) (past : List Entry) (a : ℕ) (r : Request) (w : Recorded) (j : ℕ) → j ≢ a → to_settle shapes j (Asked a r w ∷ past) ≡ to_settle shapes j past
 to_settle_other shapes past a r w j h = ap (λ bs. slice_get bs 0) (left_other shapes past a r w j h)
@@ -179,9 +180,5 @@ mode_other shapes past a r w j h e =
 -- one that waits
 abbrev pub is_waiting : Stance → Bool
 is_waiting Free = false
-is_waiting InQueue = true
-is_waiting HandedOver = true
-is_waiting (DroppedBy line) = true
-is_waiting (WaitsOn object) = true
-is_waiting (WaitsUntil time) = true
 is_waiting Gone = false
+is_waiting s = true

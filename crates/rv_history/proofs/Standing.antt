@@ -17,7 +17,7 @@ use Rattle.rv_event.specs.declared.entry.Next.TheVariants.{Nothing, HandedTo, Dr
 use Rattle.rv_event.specs.declared.entry.Request.{Request}
 use Rattle.rv_event.specs.declared.entry.Request.TheVariants.{Call, Complete, Settle, Resume, DelayUntil, Clock, Fire, Quit, Tick, Halt}
 use Rattle.rv_event.specs.declared.entry.Recorded.{Recorded}
-use Rattle.rv_event.specs.declared.entry.Recorded.TheVariants.{Started, Queued, Refused, Done, Suspended, Delayed, Woken, Accepted}
+use Rattle.rv_event.specs.declared.entry.Recorded.TheVariants.{Started, Done}
 use Rattle.rv_event.specs.declared.entry.Stance.{Stance}
 use Rattle.rv_event.specs.declared.entry.Stance.TheVariants.{Free, InQueue, HandedOver, DroppedBy}
 use Rattle.rv_event.proofs.Matching.{by}
@@ -84,12 +84,7 @@ names_other h a r (Done next) j all e calm = by_name (named_in next) refl
     by_name None is = refl
     by_name (Some n) is = by_test n (n == j) is refl
 names_other h a r Started j all e calm = refl
-names_other h a r Queued j all e calm = refl
-names_other h a r (Refused rule line v) j all e calm = refl
-names_other h a r Suspended j all e calm = refl
-names_other h a r Delayed j all e calm = refl
-names_other h a r Woken j all e calm = refl
-names_other h a r (Accepted v) j all e calm = refl
+names_other h a r w j all e calm = refl
 
 -- what one that isn't named is at
 pub stance_unnamed : (next : Next) (j a : ℕ) (s t : Stance) → is_other (named_in next) j ≡ true → or_else (first_of (if_named j next) (if a == j then Some s else None)) t ≡ (if a == j then s else t)

@@ -16,7 +16,7 @@ use Rattle.rv_event.specs.declared.entry.Next.TheVariants.{Nothing, HandedTo, Dr
 use Rattle.rv_event.specs.declared.entry.Request.{Request}
 use Rattle.rv_event.specs.declared.entry.Request.TheVariants.{Call, Complete, Settle, Resume, DelayUntil, Clock, Fire, Quit, Tick, Halt}
 use Rattle.rv_event.specs.declared.entry.Recorded.{Recorded}
-use Rattle.rv_event.specs.declared.entry.Recorded.TheVariants.{Started, Queued, Refused, Done, Suspended, Delayed, Woken, Accepted}
+use Rattle.rv_event.specs.declared.entry.Recorded.TheVariants.{Queued, Done}
 use Rattle.rv_event.proofs.Unnamed.{filter_append}
 use Rattle.rv_history.specs.declared.limits.Limits.{Limits}
 use Rattle.rv_history.specs.Due.{out}
@@ -61,13 +61,7 @@ left_kept h a r next o (Some n) l e is away =
 
 all_kept : (h : History) (a : ℕ) (r : Request) (w : Recorded) (o : ℕ) → Legal h → recorded (out h a r) ≡ Some w → IsAway h a r o → filter (is_on o) (left (named_in (next_of (Asked a r w))) (waiting h.past)) ≡ queue o h.past
 all_kept h a r (Done next) o l e away = left_kept h a r next o (named_in next) l e refl away
-all_kept h a r Started o l e away = refl
-all_kept h a r Queued o l e away = refl
-all_kept h a r (Refused rule line v) o l e away = refl
-all_kept h a r Suspended o l e away = refl
-all_kept h a r Delayed o l e away = refl
-all_kept h a r Woken o l e away = refl
-all_kept h a r (Accepted v) o l e away = refl
+all_kept h a r w o l e away = refl
 
 -- nobody joins it
 joins_elsewhere : (h : History) (a : ℕ) (r : Request) (w : Recorded) (c : Body) (o : ℕ) → recorded (out h a r) ≡ Some w → queued_by (Asked a r w) ≡ Some c → is_unsettled h.shapes o h.past ≡ true → (c.object == o) ≡ false
@@ -107,15 +101,7 @@ still_left h a Settle next o still away = by_left (to_settle h.shapes a h.past) 
     by_left : (q : Option Body) → to_settle h.shapes a h.past ≡ q → list_any (is_on o) (without a (unsettled h.shapes h.past)) ≡ true
     by_left (Some b) is = any_kept (is_on o) a b (unsettled h.shapes h.past) is (away b is) ∙ still
     by_left None is = ap (list_any (is_on o)) (none_ends a (unsettled h.shapes h.past) is) ∙ still
-still_left h a (Complete vs x) next o still away = still
-still_left h a (Call m p vs) next o still away = still
-still_left h a Resume next o still away = still
-still_left h a (DelayUntil t) next o still away = still
-still_left h a Clock next o still away = still
-still_left h a Fire next o still away = still
-still_left h a Quit next o still away = still
-still_left h a (Tick n) next o still away = still
-still_left h a Halt next o still away = still
+still_left h a r next o still away = still
 
 serve_keeps : (h : History) (a : ℕ) (r : Request) (next : Next) (o : ℕ) → is_unsettled h.shapes o h.past ≡ true → IsAway h a r o → is_unsettled h.shapes o (Asked a r (Done next) ∷ h.past) ≡ true
 serve_keeps h a r next o still away =
@@ -129,14 +115,7 @@ stays_left h a (Complete vs x) w o e still away =
 stays_left h a Settle w o e still away =
     let t = settling h a w e in
     ap (λ v. is_unsettled h.shapes o (Asked a Settle v ∷ h.past)) t.word ∙ serve_keeps h a Settle _ o still away
-stays_left h a (Call m p vs) w o e still away = still
-stays_left h a Resume w o e still away = still
-stays_left h a (DelayUntil t) w o e still away = still
-stays_left h a Clock w o e still away = still
-stays_left h a Fire w o e still away = still
-stays_left h a Quit w o e still away = still
-stays_left h a (Tick n) w o e still away = still
-stays_left h a Halt w o e still away = still
+stays_left h a r w o e still away = still
 
 -- nobody holds it
 pub left_free : (h : History) (o : ℕ) → AllApart h.shapes h.past → is_unsettled h.shapes o h.past ≡ true → list_any (is_on o) (under_way h.shapes h.past) ≡ false

@@ -5,13 +5,12 @@ use Rattle.std.specs.List.{filter}
 use Rattle.std.proofs.lemmas.Bool.Decides.{nat_tests}
 use Rattle.rv_shape.specs.Shape.{Shape}
 use Rattle.rv_event.specs.Recorded.{recorded}
-use Rattle.rv_shape.specs.Catalogue.{UnitTask, Who, Operator, Line, Task, Nobody, Site, who, task_of, all_tasks, tasks_of, first_of, Target, Nowhere, OnProtected, OnSuspension, target, is_entry, is_function}
+use Rattle.rv_shape.specs.Catalogue.{UnitTask, Who, Operator, Line, Task, Nobody, Site, who, task_of, all_tasks, tasks_of, first_of, OnProtected, target, is_entry, is_function}
 use Rattle.rv_event.specs.Past.{held, to_settle, next_of, named_in, stance, halted, mode, mode_by, or_settling, last_queued, queued_by, joined, left}
 use Rattle.rv_event.specs.declared.entry.Stance.{Stance}
 use Rattle.rv_event.specs.declared.entry.Stance.TheVariants.{Free, InQueue, HandedOver, DroppedBy, WaitsOn, WaitsUntil, Gone}
 use Rattle.rv_event.specs.declared.entry.Body.{Body}
 use Rattle.rv_event.specs.declared.entry.Mode.TheVariants as Modes
-use Rattle.rv_event.specs.declared.entry.Rule.TheVariants as Rules
 use Rattle.rv_event.specs.declared.entry.Entry.{Entry}
 use Rattle.rv_event.specs.declared.entry.Entry.TheVariants.{Asked}
 use Rattle.rv_event.specs.declared.entry.Request.{Request}
@@ -20,14 +19,14 @@ use Rattle.rv_event.specs.declared.entry.Recorded.{Recorded}
 use Rattle.rv_event.specs.declared.entry.Recorded.TheVariants.{Queued}
 use Rattle.rv_event.specs.declared.entry.Answer.TheVariants as Answers
 use Rattle.rv_history.specs.History.{History}
-use Rattle.rv_history.specs.Exclusion.{excluded, is_barred, full_queue, is_open}
+use Rattle.rv_history.specs.Exclusion.{excluded, full_queue, is_open}
 use Rattle.rv_history.specs.Owed.{actors}
-use Rattle.rv_history.specs.Rules.{holds_any, breaks}
+use Rattle.rv_history.specs.Rules.{Aim, holds_any}
 use Rattle.rv_history.specs.Fitting.{may_call, is_operator, is_settling, call_fits}
-use Rattle.rv_history.specs.Due.{out, due_resume, judged, due_call, table}
+use Rattle.rv_history.specs.Due.{out, due_resume, table}
 use Rattle.rv_history.proofs.Answered.{off, both, and_true, Answered, answered}
 use Rattle.rv_history.proofs.Exactly.{not_halted}
-use Rattle.rv_history.proofs.Suspending.{never_suspension}
+use Rattle.rv_history.proofs.Tells.{word_tells}
 use Rattle.rv_history.proofs.Modes.{SettlesOrResumes, calls_at, is_shut, shut_fits, unfit}
 use Rattle.rv_history.proofs.Stances.{itself, below, own_stance, is_other, unnamed_stance, other_queued, queued_actor, some_is, held_other}
 
@@ -74,23 +73,6 @@ pub record Joins (h : History) (a o p : ℕ) : Type 0 where
   pub known : a < actors h.shapes
   pub none : held h.shapes a h.past ≡ []
 
-record Tests (blocking busy closed full : Bool) : Type 0 where
-  calm : blocking ≡ false
-  free : busy ≡ false
-  shut : closed ≡ true
-  short : full ≡ false
-
--- the tests where `judged` queues
-judged_queues : (v l : ℕ) (vs : List ℤ) (denied blocking reentry above busy closed full : Bool) → recorded (judged v l vs denied blocking reentry above busy closed full) ≡ Some Queued → Tests blocking busy closed full
-judged_queues v l vs true b r a y c f e = absurd (cc)
-judged_queues v l vs false true r a y c f e = absurd (cc)
-judged_queues v l vs false false true a y c f e = absurd (cc)
-judged_queues v l vs false false false true y c f e = absurd (cc)
-judged_queues v l vs false false false false true c f e = absurd (cc)
-judged_queues v l vs false false false false false true true e = absurd (cc)
-judged_queues v l vs false false false false false true false e = record { calm = refl; free = refl; shut = refl; short = refl }
-judged_queues v l vs false false false false false false f e = absurd (cc)
-
 nothing_held : (bs : List Body) → nat_lt 0 (length bs) ≡ false → bs ≡ []
 nothing_held [] e = refl
 nothing_held (b ∷ bs) e = absurd (off (sym e ∙ some (length bs)))
@@ -129,33 +111,28 @@ not_open : (b : Bool) → not b ≡ true → b ≡ false
 not_open true e = absurd (off e)
 not_open false e = refl
 
-joins_at : (h : History) (a o p : ℕ) (vs : List ℤ) (t : Target) → target h.shapes o p ≡ t → Answered h a (Call o p vs) Queued → recorded (due_call h a (Call o p vs) o t) ≡ Some Queued → Joins h a o p
-joins_at h a o p vs Nowhere is g e = absurd (cc)
-joins_at h a o p vs (OnSuspension unit name wanted) is g e = absurd (never_suspension h a (Call o p vs) o unit name wanted Queued refl e)
-joins_at h a o p vs (OnProtected s) is g e =
-    let t : Tests (breaks h Rules.Blocking a (Call o p vs) o (OnProtected s)) (excluded h o (is_function s.operation.kind)) (is_barred h o s.operation.kind) (full_queue h o) = judged_queues _ _ _ _ _ _ _ _ _ _ e in
-    let kind = both (is_entry s.operation.kind) (not (is_open h o)) t.shut in
-    let calm : holds_any h a ≡ false = sym (and_true (holds_any h a)) ∙ ap (λ b. holds_any h a && b) (sym kind.0) ∙ t.calm in
+pub joins : (h : History) (a o p : ℕ) (vs : List ℤ) → recorded (out h a (Call o p vs)) ≡ Some Queued → Joins h a o p
+joins h a o p vs e =
+    let g = answered h a (Call o p vs) Queued e in
+    let t = word_tells h a (Call o p vs) Queued e in
+    let same : o ≡ t.object = ap (λ (m : Aim). m.0) t.aimed in
+    let kind = both (is_entry t.site.operation.kind) (not (is_open h t.object)) t.passed.shut in
+    let calm : holds_any h a ≡ false = sym (and_true (holds_any h a)) ∙ ap (λ b. holds_any h a && b) (sym kind.0) ∙ t.passed.calm in
     let none : held h.shapes a h.past ≡ [] = nothing_held (held h.shapes a h.past) calm in
     let fit = (both (may_call (who h.shapes a) (mode h.shapes a h.past)) (call_fits (length (held h.shapes a h.past)) vs (target h.shapes o p)) g.fits_in).0 in
     let calls = calls_at (who h.shapes a) (to_settle h.shapes a h.past) (mode_by (held h.shapes a h.past) (stance a h.past)) fit in
     record {
-      site = s;
-      at = is;
+      site = t.site;
+      at = ap (λ (m : Aim). m.1) t.aimed;
       entry = kind.0;
-      free = t.free;
-      shut = not_open (is_open h o) kind.1;
-      short = t.short;
+      free = ap (λ m. excluded h m (is_function t.site.operation.kind)) same ∙ t.passed.free;
+      shut = not_open (is_open h o) (ap (λ m. not (is_open h m)) same ∙ kind.1);
+      short = ap (full_queue h) same ∙ t.passed.short;
       going = not_halted (halted h.past) false refl g.unshut;
       task = task_high h.shapes a (caller (who h.shapes a) (stance a h.past) (ap (λ bs. may_call (who h.shapes a) (mode_by bs (stance a h.past))) (sym none) ∙ calls));
       known = below a (actors h.shapes) g.known;
       none = none;
     }
-
-pub joins : (h : History) (a o p : ℕ) (vs : List ℤ) → recorded (out h a (Call o p vs)) ≡ Some Queued → Joins h a o p
-joins h a o p vs e =
-    let g = answered h a (Call o p vs) Queued e in
-    joins_at h a o p vs (target h.shapes o p) refl g g.said
 
 -- What holds of a call in a queue: its actor is a task at that call, which holds nothing.
 pub record Waits (shapes : List Shape) (past : List Entry) (call : Body) : Type 0 where
