@@ -12,14 +12,14 @@ use Rattle.rv_text.specs.Names.{is_identifier, is_same_name, dotted}
 use Rattle.rv_text.proofs.Bytes.{Each, and_first, each_append, identifier_each}
 use Rattle.rv_shape.specs.declared.object.Object.{Object}
 use Rattle.rv_shape.specs.declared.object.Object.TheVariants.{Protected, Suspension}
-use Rattle.rv_shape.specs.declared.fault.ShapeFault.TheVariants.{NameTaken, TooMany, LineTaken, CeilingTooLow, BadRange, BadText}
 use Rattle.rv_shape.specs.Objects.{OperationShape, TaskShape, ProtectedShape}
 use Rattle.rv_shape.specs.Shape.{Shape}
 use Rattle.rv_shape.specs.Catalogue.{UnitTask, UnitObject, first_task, all_tasks, all_objects, tasks_of, objects_of, operations_of}
-use Rattle.rv_shape.specs.Forms.{is_formed, ill_operation, ill_object, ill_formed}
-use Rattle.rv_shape.specs.Fits.{among, twice, reserved, object_name, fault, name_taken, too_many, line_taken, low_ceiling, out_of_range}
+use Rattle.rv_shape.specs.Forms.{is_formed, ill_operation, ill_object}
+use Rattle.rv_shape.specs.Fits.{among, twice, reserved, object_name, fault}
 use Rattle.rv_shape.specs.Names.{unit_name, task_name, unit_object_name, operation_names, number_from, operation_number_in}
 use Rattle.rv_shape.specs.Found.{AreFound, IsClear, AreClear, AreDistinct}
+use Rattle.rv_shape.proofs.Faultless.{no_fault}
 use Rattle.rv_shape.proofs.NumberingLemmas.{same_laws}
 
 or_false : (a b : Bool) → (a || b) ≡ false → (a ≡ false) × (b ≡ false)
@@ -288,21 +288,6 @@ distinct_found ss d = record {
 
 -- a shape that fits
 
-record IsNone (first last : Bool) : Type 0 where
-  taken : first ≡ false
-  ill : last ≡ false
-
-by_faults : (taken many line low range ill : Bool) →
-    (if taken then Some NameTaken else (if many then Some TooMany else (if line then Some LineTaken else (if low then Some CeilingTooLow else (if range then Some BadRange else (if ill then Some BadText else None)))))) ≡ None →
-    IsNone taken ill
-by_faults true many line low range ill e = absurd (cc)
-by_faults false true line low range ill e = absurd (cc)
-by_faults false false true low range ill e = absurd (cc)
-by_faults false false false true range ill e = absurd (cc)
-by_faults false false false false true ill e = absurd (cc)
-by_faults false false false false false true e = absurd (cc)
-by_faults false false false false false false e = record { taken = refl; ill = refl }
-
 clear_more : (ss : List Shape) (s : Shape) → AreClear ss → IsClear s → AreClear (ss ++ s ∷ [])
 clear_more [] s h one = (one, tt)
 clear_more (x ∷ ss) s h one = (h.0, clear_more ss s h.1 one)
@@ -315,13 +300,13 @@ each_unlike (n ∷ names) name e =
 
 pub distinct_more : (ss : List Shape) (s : Shape) → AreDistinct ss → fault ss s ≡ None → AreDistinct (ss ++ s ∷ [])
 distinct_more ss s d none =
-    let faults = by_faults (name_taken ss s) (too_many ss s) (line_taken ss s) (list_any low_ceiling s.objects) (out_of_range s) (ill_formed s) none in
-    let operations = or_false _ _ faults.taken in
+    let passes = no_fault ss s none in
+    let operations = or_false _ _ passes.name in
     let parts = or_false _ _ operations.0 in
     let units = or_false (among s.name reserved) (among s.name (map unit_name ss)) parts.0 in
     record {
       units = ap twice (map-append unit_name ss (s ∷ [])) ∙ twice_append (map unit_name ss) (s.name ∷ []) d.units refl (each_unlike (map unit_name ss) s.name units.1);
-      each = clear_more ss s d.each (record { parts = parts.1; operations = operations.1; formed = faults.ill });
+      each = clear_more ss s d.each (record { parts = parts.1; operations = operations.1; formed = passes.text });
     }
 
 pub distinct_none : AreDistinct []

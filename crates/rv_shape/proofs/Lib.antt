@@ -4,6 +4,7 @@ pub mod Handlers
 pub mod Parameters
 pub mod Drafting
 pub mod NumberingLemmas
+pub mod Faultless
 pub mod Added
 pub mod FitsLemmas
 pub mod FoundByName
