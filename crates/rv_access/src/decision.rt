@@ -8,15 +8,15 @@ use crate::line::Line;
 use crate::list::AccessList;
 use rv_text::{is_dotted_name, is_same_name};
 
-// Whether the word of a line is `*` or the name, case ignored.
-fn fits(word: &str, name: &str) -> bool
+/// Whether the word of a line is `*` or the name, case ignored (2.3).
+pub fn fits(word: &str, name: &str) -> bool
     ensures { result ≡ fits word.now name.now }
 {
     word == "*" || is_same_name(word, name)
 }
 
-// Whether the word of a line is `*` or `unit.object`, case ignored.
-fn fits_object(word: &str, unit: &str, object: &str) -> bool
+/// Whether the word of a line is `*` or `unit.object`, case ignored (2.3).
+pub fn fits_object(word: &str, unit: &str, object: &str) -> bool
     ensures { result ≡ fits word.now (dotted unit.now object.now) }
 {
     word == "*" || is_dotted_name(word, unit, object)

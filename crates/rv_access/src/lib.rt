@@ -12,7 +12,7 @@ mod reading;
 mod window;
 
 pub use change::Change;
-pub use decision::decide;
+pub use decision::{decide, fits, fits_object};
 pub use fault::ListFault;
 pub use line::Line;
 pub use list::AccessList;

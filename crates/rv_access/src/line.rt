@@ -1,9 +1,9 @@
 //! One line of an access list.
 
-ghost use Rattle.std.specs.Prelude.{◌≡◌, None, Some, IfOk, IsTrue, option_copied, string_bytes};
+ghost use Rattle.std.specs.Prelude.{◌≡◌, None, Some, IfOk, IsTrue, OnOk, option_copied, string_bytes};
 ghost use Rattle.rv_text.specs.Names.{is_identifier};
 ghost use Rattle.rv_access.specs.Spelled.{IsSpelled, is_star_or, is_dotted};
-ghost use Rattle.rv_access.specs.Text.{front_text, line_text};
+ghost use Rattle.rv_access.specs.Text.{front_text, line_text, with_line};
 ghost use Rattle.rv_access.specs.Windows.{is_open};
 
 use crate::window::Window;
@@ -177,5 +177,16 @@ impl Line {
             text.push_str(window.text(alloc)?.as_str())?;
         }
         Ok(text)
+    }
+
+    /// Puts it behind the text of so many lines of its list, with `; ` between. Err where memory was refused.
+    pub fn put(&self, alloc: Global, text: &mut String, lines: usize) -> Result<(), AllocError>
+        ensures { OnOk result (string_bytes text.new ≡ with_line (string_bytes text.old) lines self.now) }
+    {
+        if lines > 0 {
+            text.push_str("; ")?;
+        }
+        text.push_str(self.text(alloc)?.as_str())?;
+        Ok(())
     }
 }

@@ -115,10 +115,7 @@ impl AccessList {
     {
         let mut text = String::new(alloc);
         for (i, line) in self.lines.as_slice().iter().enumerate() {
-            if i > 0 {
-                text.push_str("; ")?;
-            }
-            text.push_str(line.text(alloc)?.as_str())?;
+            line.put(alloc, &mut text, i)?;
         }
         Ok(text)
     }
