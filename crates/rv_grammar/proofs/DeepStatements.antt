@@ -16,9 +16,9 @@ use Rattle.rv_grammar.specs.Nesting.{Reaches, in_if, in_elsif, in_else, in_case,
 use Rattle.rv_grammar.proofs.Steps.{Sound, chosen, eaten, expected, expected_at, identifier_sound, listed_sound, optional_sound}
 use Rattle.rv_grammar.proofs.DeclarationSound.{any_expression_sound, parameters_sound}
 use Rattle.rv_grammar.proofs.StatementSound.{choice_sound, guard_sound, iteration_sound, statements_sound, else_sound, elsif_part_sound, elsif_parts_sound, alternative_sound, selective_sound, selectives_sound, statement_sound}
-use Rattle.rv_grammar.proofs.Tame.{Tame, expect_tame, identifier_tame, optional_tame, listed_tame}
+use Rattle.rv_grammar.proofs.Tame.{Tame, told, expect_tame, identifier_tame, optional_tame, listed_tame}
 use Rattle.rv_grammar.proofs.TameRules.{ends_on, plain, after_ends, any_expression_tame, choice_of_tame, iteration_tame, guard_tame, parameters_tame, simple_statement_tame}
-use Rattle.rv_grammar.proofs.TameStatements.{free, told, deep_side, Deep, parens, reached, step, holding, last, here, statements_free, statements_after_free, elsif_part_free, elsif_parts_free, alternative_free, alternatives_free, accept_body_free, selective_free, selectives_free, then_abort_free, statement_free}
+use Rattle.rv_grammar.proofs.TameStatements.{free, deep_side, Deep, parens, reached, step, holding, last, here, statements_free, statements_after_free, elsif_part_free, elsif_parts_free, alternative_free, alternatives_free, accept_body_free, selective_free, selectives_free, then_abort_free, statement_free}
 
 -- up to a statement of a list
 abbrev pub InStatements : Phrase
@@ -191,7 +191,7 @@ module _ (many : ℕ) (inner : Parser t.Statement) (inner_sound : Sound IsStatem
   statement_by_deep k.Loop ts h = loop_deep ts h
   statement_by_deep k.Accept ts h = accept_deep ts h
   statement_by_deep k.Select ts h = select_deep ts h
-  statement_by_deep _ ts h = parens many Reaches ts ts (here ts) (told simple_statement ts simple_statement_tame h)
+  statement_by_deep _ ts h = parens many Reaches ts ts (here ts) (told plain simple_statement ts simple_statement_tame h)
 
   any_statement_deep : (ts : List Lexeme) → any_statement inner ts ≡ Err too_deep → Deep many Reaches ts
   unfolding any_statement

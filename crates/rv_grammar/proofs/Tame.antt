@@ -27,6 +27,27 @@ Tamed w ts (Err unexpected) = Unit {0}
 pub record Tame {A : Type 0} (w : Walk) (p : Parser A) : Type 0 where
   pub at : (ts : List Lexeme) → Tamed w ts (p ts)
 
+-- where a rule ends
+pub went : {A : Type 0} (w : Walk) (p : Parser A) (ts : List Lexeme) (r : A × List Lexeme) → Tame w p → p ts ≡ Ok r → w.via ts r.1
+unfolding Tamed
+went {A = A} w p ts r h e = let P : Outcome A → Type 0 = λ o. Tamed w ts o in subst P e (h.at ts)
+
+-- what is told of words that nest too deep
+pub told : {A : Type 0} (w : Walk) (p : Parser A) (ts : List Lexeme) → Tame w p → p ts ≡ Err too_deep → w.fails ts
+unfolding Tamed
+told {A = A} w p ts h e = let P : Outcome A → Type 0 = λ o. Tamed w ts o in subst P e (h.at ts)
+
+-- what one walk tells of a rule, as another tells it
+module _ (v w : Walk) (via : (a b : List Lexeme) → v.via a b → w.via a b) (fails : (ts : List Lexeme) → v.fails ts → w.fails ts) where
+  retold : {A : Type 0} (ts : List Lexeme) (r : Outcome A) → Tamed v ts r → Tamed w ts r
+  unfolding Tamed
+  retold ts (Ok r) h = via ts r.1 h
+  retold ts (Err too_deep) h = fails ts h
+  retold ts (Err unexpected) h = tt
+
+  pub tame_too : {A : Type 0} (p : Parser A) → Tame v p → Tame w p
+  tame_too p h = record { at = λ ts. retold ts (p ts) (h.at ts) }
+
 pub from_there : {A : Type 0} (w : Walk) (ts us : List Lexeme) (r : Outcome A) → w.via ts us → Tamed w us r → Tamed w ts r
 unfolding Tamed
 from_there w ts us (Ok r) v h = w.on ts us r.1 v h
