@@ -7,9 +7,9 @@ use Rattle.rv_tree.specs.Phrases.{Phrase}
 use Rattle.rv_tree.specs.Statements as t
 use Rattle.rv_grammar.specs.Reading.{unexpected, too_deep, Outcome, Parser, and_then, sees, place}
 use Rattle.rv_grammar.specs.NameRules.{identifier}
-use Rattle.rv_grammar.specs.StatementRules.{choice, guard, sees_statement, statements_from, statements, statements_after, elsif_part, elsif_parts_from, elsif_parts, if_statement, alternative, alternatives_from, alternatives, case_statement, loop_statement, accept_body, accept_statement, selective, selectives_from, selectives, then_abort, select_statement, statement_by, any_statement, statement}
+use Rattle.rv_grammar.specs.StatementRules.{choice, guard, sees_statement, statements, statements_after, elsif_part, elsif_parts, if_statement, alternative, alternatives, case_statement, loop_statement, accept_body, accept_statement, selective, selectives_from, selectives, then_abort, select_statement, statement_by, any_statement, statement}
 use Rattle.rv_grammar.specs.Nesting.{opens, closes, ManyParentheses, Nested}
-use Rattle.rv_grammar.proofs.Tame.{Walk, Tamed, Tame, went, told, tame_too, ◌⊳◌, pure_tame, refuse_tame, if_tamed, if_tame, choice_tame, expect_tame, eat_tame, identifier_tame, by_kind_tame, optional_tame, listed_tame}
+use Rattle.rv_grammar.proofs.Tame.{Walk, Tamed, Tame, went, told, tame_too, ◌⊳◌, pure_tame, refuse_tame, if_tamed, if_tame, choice_tame, expect_tame, eat_tame, identifier_tame, by_kind_tame, many_tame, at_least_one_tame, optional_tame, listed_tame}
 use Rattle.rv_grammar.proofs.TameRules.{Ends, ends_on, more_before, telling, plain, any_expression_tame, choice_of_tame, iteration_tame, guard_tame, parameters_tame, simple_statement_tame}
 
 -- over any words, with nothing told of words that nest too deep
@@ -75,14 +75,9 @@ pub here : (ts : List Lexeme) → Ends ts ts
 here ts = record { front = []; whole = refl }
 
 module _ (inner : Parser t.Statement) (inner_free : Tame free inner) where
-  statements_from_free : (n : ℕ) (found : List t.Statement) → Tame free (statements_from inner n found)
-  unfolding statements_from
-  statements_from_free zero found = pure_tame free found
-  statements_from_free (suc n) found = choice_tame free sees_statement _ _ (inner_free ⊳ (λ s. statements_from_free n (found ++ s ∷ []))) (pure_tame free found)
-
   pub statements_free : Tame free (statements inner)
   unfolding statements
-  statements_free = inner_free ⊳ (λ s. record { at = λ ts. (statements_from_free (length ts) (s ∷ [])).at ts })
+  statements_free = at_least_one_tame free inner inner_free sees_statement
 
   pub statements_after_free : (word : Kind) → opens word ≡ 0 → closes word ≡ 0 → Tame free (statements_after inner word)
   unfolding statements_after
@@ -92,14 +87,9 @@ module _ (inner : Parser t.Statement) (inner_free : Tame free inner) where
   unfolding elsif_part
   elsif_part_free = expect_tame free k.Elsif refl refl ⊳ (λ at. free_of _ any_expression_tame ⊳ (λ condition. expect_tame free k.Then refl refl ⊳ (λ _. statements_free ⊳ (λ ss. pure_tame free _))))
 
-  elsif_parts_from_free : (n : ℕ) (found : List t.ElsifPart) → Tame free (elsif_parts_from inner n found)
-  unfolding elsif_parts_from
-  elsif_parts_from_free zero found = pure_tame free found
-  elsif_parts_from_free (suc n) found = choice_tame free (sees k.Elsif) _ _ (elsif_part_free ⊳ (λ p. elsif_parts_from_free n (found ++ p ∷ []))) (pure_tame free found)
-
   pub elsif_parts_free : Tame free (elsif_parts inner)
   unfolding elsif_parts
-  elsif_parts_free = record { at = λ ts. (elsif_parts_from_free (length ts) []).at ts }
+  elsif_parts_free = many_tame free (elsif_part inner) elsif_part_free (sees k.Elsif)
 
   if_free : Tame free (if_statement inner)
   unfolding if_statement
@@ -109,14 +99,9 @@ module _ (inner : Parser t.Statement) (inner_free : Tame free inner) where
   unfolding alternative
   alternative_free = expect_tame free k.When refl refl ⊳ (λ at. listed_tame free choice (free_of _ choice_of_tame) k.Bar refl refl ⊳ (λ choices. expect_tame free k.Arrow refl refl ⊳ (λ _. statements_free ⊳ (λ ss. pure_tame free _))))
 
-  alternatives_from_free : (n : ℕ) (found : List t.CaseAlternative) → Tame free (alternatives_from inner n found)
-  unfolding alternatives_from
-  alternatives_from_free zero found = pure_tame free found
-  alternatives_from_free (suc n) found = choice_tame free (sees k.When) _ _ (alternative_free ⊳ (λ p. alternatives_from_free n (found ++ p ∷ []))) (pure_tame free found)
-
   pub alternatives_free : Tame free (alternatives inner)
   unfolding alternatives
-  alternatives_free = record { at = λ ts. (alternatives_from_free (length ts) []).at ts }
+  alternatives_free = many_tame free (alternative inner) alternative_free (sees k.When)
 
   case_free : Tame free (case_statement inner)
   unfolding case_statement
