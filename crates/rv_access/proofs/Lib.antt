@@ -1,3 +1,4 @@
+pub mod LineBytes
 pub mod Listing
 pub mod Putting
 pub mod Spelling

@@ -1,6 +1,6 @@
 -- What is loaded is found by its names, where each shape fitted when it was loaded.
-use Rattle.std.proofs.Common.{◌≡◌, ℕ, zero, suc, ◌+◌, ◌-◌, ◌≤◌, List, [], ◌∷◌, ◌++◌, length, map, take, drop, get_or, subst, append_assoc, ◌<◌, Some, None, Bool, true, false, arith, ap, sym, ◌∙◌, refl, ◌⊎◌, inl, inr}
-use Rattle.std.specs.Prelude.{nat_lt, nat_le, slice_get, ◌||◌, ◌&&◌, ◌==◌, not, if◌then◌else◌}
+use Rattle.std.proofs.Common.{◌≡◌, ℕ, zero, suc, ◌+◌, ◌-◌, ◌≤◌, List, [], ◌∷◌, ◌++◌, length, map, take, drop, get_or, subst, append_assoc, ◌<◌, Some, None, Bool, true, false, arith, ap, sym, ◌∙◌, refl}
+use Rattle.std.specs.Prelude.{nat_lt, slice_get, ◌||◌, ◌&&◌, ◌==◌, not, if◌then◌else◌}
 use Rattle.std.specs.List.{list_any, flat_map}
 use Rattle.std.specs.Option.{option_map}
 use Rattle.std.specs.Char.{to_ascii_lowercase, is_ascii_alphanumeric}
@@ -8,7 +8,8 @@ use Rattle.std.proofs.lemmas.List.{map-append, take-append-drop, drop_more}
 use Rattle.std.proofs.lemmas.List.Folds.{list_any-append}
 use Rattle.std.proofs.lemmas.Option.{slice_get-map}
 use Rattle.std.proofs.lemmas.Bool.Decides.{nat_tests}
-use Rattle.rv_text.specs.Names.{is_identifier, is_spelled, starts_with_letter, is_same_name, dotted}
+use Rattle.rv_text.specs.Names.{is_identifier, is_same_name, dotted}
+use Rattle.rv_text.proofs.Bytes.{Each, and_first, each_append, identifier_each}
 use Rattle.rv_shape.specs.declared.object.Object.{Object}
 use Rattle.rv_shape.specs.declared.object.Object.TheVariants.{Protected, Suspension}
 use Rattle.rv_shape.specs.declared.fault.ShapeFault.TheVariants.{NameTaken, TooMany, LineTaken, CeilingTooLow, BadRange, BadText}
@@ -28,32 +29,16 @@ or_false false b e = (refl, e)
 both_false : (a b : Bool) → a ≡ false → b ≡ false → (a || b) ≡ false
 both_false a b e f = rw (e, f) refl
 
-and_first : (a b : Bool) → (a && b) ≡ true → a ≡ true
-and_first true b e = refl
-and_first false b e = absurd cc
-
-and_second : (a b : Bool) → (a && b) ≡ true → b ≡ true
-and_second true b e = e
-and_second false b e = absurd cc
-
 not_false : (a : Bool) → not a ≡ false → a ≡ true
 not_false true e = refl
 not_false false e = absurd cc
 
 -- each of a list
 
-abbrev Each : {X : Type 0} → (X → Type 0) → List X → Type 0
-Each P [] = Unit {0}
-Each P (x ∷ xs) = P x × Each P xs
-
 each_get : {X : Type 0} (P : X → Type 0) (xs : List X) (k : ℕ) (x : X) → Each P xs → slice_get xs k ≡ Some x → P x
 each_get P [] k x h e = absurd cc
 each_get P (y ∷ ys) zero x h e = let same : y ≡ x = cc in rw (← same) h.0
 each_get P (y ∷ ys) (suc k) x h e = each_get P ys k x h.1 e
-
-each_append : {X : Type 0} (P : X → Type 0) (xs ys : List X) → Each P xs → Each P ys → Each P (xs ++ ys)
-each_append P [] ys h g = g
-each_append P (x ∷ xs) ys h g = (h.0, each_append P xs ys h.1 g)
 
 each_map : {X Y : Type 0} (P : Y → Type 0) (f : X → Y) (xs : List X) → Each (λ x. P (f x)) xs → Each P (map f xs)
 each_map P f [] h = tt
@@ -93,32 +78,8 @@ Dotless bytes = Each (λ byte. (to_ascii_lowercase byte == 46) ≡ false) bytes
 letter_dotless : (c : ℕ) → is_ascii_alphanumeric c ≡ true → (to_ascii_lowercase c == 46) ≡ false
 letter_dotless c e = grind (arith, nat_tests, e)
 
-low_line_dotless : (c : ℕ) → (c == 95) ≡ true → (to_ascii_lowercase c == 46) ≡ false
-low_line_dotless c e = grind (arith, nat_tests, e)
-
-abbrev spelled_on : Bool → Bool → Bool → Bool → Bool
-spelled_on letter line more rest = if letter then more else (if line then rest else false)
-
-spelled_either : (letter line more rest : Bool) → spelled_on letter line more rest ≡ true →
-    ((letter ≡ true) × (more ≡ true)) ⊎ ((line ≡ true) × (rest ≡ true))
-spelled_either true line more rest e = inl (refl, e)
-spelled_either false true more rest e = inr (refl, e)
-spelled_either false false more rest e = absurd cc
-
-spelled_step : (gap : Bool) (c : ℕ) (cs : List ℕ) → ((g : Bool) → is_spelled g cs ≡ true → Dotless cs) → is_spelled gap (c ∷ cs) ≡ true → Dotless (c ∷ cs)
-spelled_step gap c cs more e =
-    by_either (spelled_either (is_ascii_alphanumeric c) (c == 95 && not gap) (is_spelled false cs) (is_spelled true cs) e)
-  where
-    by_either : ((is_ascii_alphanumeric c ≡ true) × (is_spelled false cs ≡ true)) ⊎ (((c == 95 && not gap) ≡ true) × (is_spelled true cs ≡ true)) → Dotless (c ∷ cs)
-    by_either (inl h) = (letter_dotless c h.0, more false h.1)
-    by_either (inr h) = (low_line_dotless c (and_first (c == 95) (not gap) h.0), more true h.1)
-
-spelled_dotless : (gap : Bool) (bytes : List ℕ) → is_spelled gap bytes ≡ true → Dotless bytes
-spelled_dotless gap [] e = tt
-spelled_dotless gap (c ∷ cs) e = spelled_step gap c cs (λ g h. spelled_dotless g cs h) e
-
 identifier_dotless : (word : List ℕ) → is_identifier word ≡ true → Dotless word
-identifier_dotless word e = spelled_dotless true word (and_second (nat_le (length word) 64 && starts_with_letter word) (is_spelled true word) e)
+identifier_dotless word e = identifier_each (λ byte. (to_ascii_lowercase byte == 46) ≡ false) word (record { letter = λ c l. letter_dotless c l; low_line = refl }) e
 
 and_assoc : (a b c : Bool) → (a && (b && c)) ≡ ((a && b) && c)
 and_assoc true b c = refl

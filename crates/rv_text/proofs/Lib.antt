@@ -1,6 +1,6 @@
+pub mod Bytes
 pub mod FirstParts
 pub mod Digits
 pub mod NextAt
 pub mod NextSection
 pub mod DottedName
-pub mod Spelling
