@@ -3,7 +3,6 @@
 use Rattle.std.specs.Prelude.{ℕ, ◌==◌, int_le, Bool, true, false, ◌&&◌, ◌||◌, List, [], ◌∷◌, ◌++◌, Option, Some, None, slice_get}
 use Rattle.std.specs.List.{list_any, list_all}
 use Rattle.rv_text.specs.Names.{is_same_name}
-use Rattle.rv_tree.specs.Names.{Identifier}
 use Rattle.rv_tree.specs.declared.declaration.Mode.{Mode}
 use Rattle.rv_tree.specs.declared.declaration.Mode.TheVariants as mode
 use Rattle.rv_tree.specs.Declarations.{ProtectedUnit, Declaration, package_pragma, a_subtype, a_protected_unit, a_task, a_variable, a_constant}
@@ -14,13 +13,10 @@ use Rattle.rv_shape.specs.declared.kind.Range.{Range}
 use Rattle.rv_static.specs.Meanings.{same_type}
 use Rattle.rv_scope.specs.declared.declared.OperationKind.{OperationKind}
 use Rattle.rv_scope.specs.declared.declared.OperationKind.TheVariants as kind
-use Rattle.rv_scope.specs.declared.wanted.Wanted.TheVariants as w
 use Rattle.rv_scope.specs.Scope.{ScopeView, within_unit}
 use Rattle.rv_scope.specs.Statics.{Statics}
-use Rattle.rv_scope.specs.Wanted.{denoted}
-use Rattle.rv_scope.specs.ExpressionUses.{simple}
 use Rattle.rv_scope.specs.DeclarationUses.{with_declaration, naming_unit}
-use Rattle.rv_scope.specs.UnitUses.{in_protected_unit, unit_number, package_scope, protected_units}
+use Rattle.rv_scope.specs.UnitUses.{in_protected_unit, unit_of_body, package_scope, protected_units}
 use Rattle.rv_conform.specs.declared.mark.Mark.{Mark}
 use Rattle.rv_conform.specs.Statics.{with_static}
 use Rattle.rv_conform.specs.Profiles.{Formal, Operation, body_operation, unit_declared}
@@ -146,10 +142,6 @@ abbrev pub behind_all : List Declaration → PackageView → PackageView
 behind_all [] seen = seen
 behind_all (one ∷ more) seen = behind_all more (behind one seen)
 
--- the number of the protected unit that the name of a protected body denotes
-abbrev pub number_of : PackageView → Identifier → Option ℕ
-number_of seen name = unit_number (denoted w.ProtectedBody seen.scope (simple name))
-
 -- one of these operations is declared as the body has it
 abbrev pub is_declared : List Operation → Operation → Bool
 is_declared operations body = list_any (completes body) operations
@@ -158,22 +150,21 @@ is_declared operations body = list_any (completes body) operations
 unfoldable pub completes_one : List Operation → Statics → ScopeView → OperationBody → Bool
 completes_one operations statics scope body = is_declared operations (body_operation statics scope body)
 
--- each of these bodies completes an operation of the protected unit
-abbrev pub complete_in : PackageView → List OperationBody → Option ProtectedUnit → Option (List Operation) → Bool
-complete_in seen bodies None operations = false
-complete_in seen bodies (Some unit) None = false
-complete_in seen bodies (Some unit) (Some operations) =
+-- each of these bodies completes one of these operations of the protected unit, if they are known
+abbrev pub complete_in : PackageView → List OperationBody → ProtectedUnit → Option (List Operation) → Bool
+complete_in seen bodies unit None = false
+complete_in seen bodies unit (Some operations) =
     list_all (completes_one operations seen.statics (in_protected_unit unit seen.scope)) bodies
 
--- the same of the protected unit of a number, if there is one
-abbrev pub complete : List ProtectedUnit → PackageView → List OperationBody → Option ℕ → Bool
-complete units seen bodies None = false
-complete units seen bodies (Some number) = complete_in seen bodies (slice_get units number) (slice_get seen.units number)
+-- each of these bodies completes an operation of the protected unit with its number, if there is one
+abbrev pub complete : PackageView → List OperationBody → Option (ℕ × ProtectedUnit) → Bool
+complete seen bodies None = false
+complete seen bodies (Some numbered) = complete_in seen bodies numbered.1 (slice_get seen.units numbered.0)
 
 -- each body of an operation in a protected body completes an operation of the protected unit
 abbrev pub item_conforms : List ProtectedUnit → PackageView → BodyItem → Bool
 item_conforms units seen (body_declaration one) = true
-item_conforms units seen (body_protected body) = complete units seen body.operations (number_of seen body.name)
+item_conforms units seen (body_protected body) = complete seen body.operations (unit_of_body units seen.scope body.name)
 item_conforms units seen (body_task body) = true
 
 abbrev pub behind_item : BodyItem → PackageView → PackageView

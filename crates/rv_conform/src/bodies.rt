@@ -6,20 +6,16 @@ ghost use Rattle.rv_tree.specs.NameView.{identifier_view};
 ghost use Rattle.rv_tree.specs.BodyView.{operation_body_view};
 ghost use Rattle.rv_tree.specs.DeclarationView.{protected_unit_view};
 ghost use Rattle.rv_tree.specs.UnitView.{body_item_view, unit_view};
-ghost use Rattle.rv_scope.specs.Scope.{within_unit};
-ghost use Rattle.rv_scope.specs.UnitUses.{in_protected_unit};
+ghost use Rattle.rv_scope.specs.UnitUses.{in_protected_unit, unit_of_body};
 ghost use Rattle.rv_conform.specs.Profiles.{body_operation as operation_of_body};
-ghost use Rattle.rv_conform.specs.Conforms.{completes_one, complete_in, complete, number_of, item_conforms, behind_item, items_conform, bodies_conform};
+ghost use Rattle.rv_conform.specs.Conforms.{completes_one, complete_in, complete, item_conforms, behind_item, items_conform, bodies_conform};
 
 use crate::conforms::is_declared;
 use crate::operation::{Operation, body_head, profiled};
 use crate::package::{Package, UnitOperations, declaration, declarations};
 use crate::statics::Statics;
-use rv_scope::members::enter_members;
 use rv_scope::named::protected_units;
 use rv_scope::scope::Scope;
-use rv_scope::units::unit_number;
-use rv_scope::wanted::Wanted;
 use rv_shape::catalogue::Catalogue;
 use rv_tree::body::{OperationBody, ProtectedBody};
 use rv_tree::declaration::ProtectedUnit;
@@ -80,26 +76,7 @@ fn first_mismatch(
     Ok(None)
 }
 
-// The same of the protected unit around the point.
-fn in_current(
-    list: &Vec<OperationBody>,
-    unit: &ProtectedUnit,
-    operations: &UnitOperations,
-    scope: &mut Scope,
-    statics: &Statics,
-) -> Result<Option<usize>, AllocError>
-    ensures value { IfOk result (λ at. is_none at
-        ≡ list_all (completes_one operations.now statics.now (within_unit unit.now.name.at scope.old)) (map operation_body_view list.now.items)) }
-    ensures scope { OnOk result (scope.new ≡ scope.old) }
-{
-    let around = scope.current();
-    scope.set_current(Some(unit.name.at));
-    let found = first_mismatch(list, operations, scope, statics)?;
-    scope.set_current(around);
-    Ok(found)
-}
-
-// The same of a protected unit.
+// The same in the body of a protected unit.
 fn in_unit(
     list: &Vec<OperationBody>,
     unit: &ProtectedUnit,
@@ -112,27 +89,24 @@ fn in_unit(
         (map operation_body_view list.now.items)) }
     ensures scope { OnOk result (scope.new ≡ scope.old) }
 {
-    enter_members(unit, scope)?;
-    let found = in_current(list, unit, operations, scope, statics)?;
-    scope.leave();
+    let around = scope.enter_unit(unit)?;
+    let found = first_mismatch(list, operations, scope, statics)?;
+    scope.leave_unit(around);
     Ok(found)
 }
 
-// The same of the protected unit of a number; the place of the protected body's name where there is none.
+// The same of a protected unit with its number; the place of the protected body's name where its operations aren't known.
 fn in_numbered(
     body: &ProtectedBody,
     number: usize,
-    units: &[&ProtectedUnit],
+    unit: &ProtectedUnit,
     seen: &mut Package,
 ) -> Result<Option<usize>, AllocError>
     ensures value { IfOk result (λ at. is_none at
         ≡ complete_in seen.old (map operation_body_view body.now.operations.items)
-        (slice_get (map (λ u. protected_unit_view u.now) units.now) number) (slice_get seen.old.units number)) }
+        (protected_unit_view unit.now) (slice_get seen.old.units number)) }
     ensures seen { OnOk result (seen.new ≡ seen.old) }
 {
-    let Some(unit) = units.get(number) else {
-        return Ok(Some(body.name.at));
-    };
     match seen.units.as_slice().get(number) {
         Some(operations) => in_unit(
             &body.operations,
@@ -151,15 +125,12 @@ fn protected_body(
     seen: &mut Package,
 ) -> Result<Option<usize>, AllocError>
     ensures value { IfOk result (λ at. is_none at
-        ≡ complete (map (λ u. protected_unit_view u.now) units.now) seen.old (map operation_body_view body.now.operations.items)
-        (number_of seen.old (identifier_view body.now.name))) }
+        ≡ complete seen.old (map operation_body_view body.now.operations.items)
+        (unit_of_body (map (λ u. protected_unit_view u.now) units.now) seen.old.scope (identifier_view body.now.name))) }
     ensures seen { OnOk result (seen.new ≡ seen.old) }
 {
-    let found = seen
-        .scope
-        .denoted_by_body(Wanted::ProtectedBody, &body.name);
-    match unit_number(found) {
-        Some(number) => in_numbered(body, number, units, seen),
+    match seen.scope.unit_of_body(&body.name, units) {
+        Some((number, unit)) => in_numbered(body, number, unit, seen),
         None => Ok(Some(body.name.at)),
     }
 }

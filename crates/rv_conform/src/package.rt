@@ -18,9 +18,8 @@ use crate::statics::Statics;
 use rv_scope::context::package_scope;
 use rv_scope::declare::{Form, declare_all};
 use rv_scope::declared::Declared;
-use rv_scope::members::{hide, hide_all};
+use rv_scope::members::{declare_variables, hide, hide_all};
 use rv_scope::scope::Scope;
-use rv_scope::units::object_form;
 use rv_shape::catalogue::Catalogue;
 use rv_tree::declaration::{Declaration, ProtectedUnit, TaskUnit};
 use rv_tree::expression::{Expression, RangeConstraint};
@@ -139,9 +138,7 @@ fn variables(names: &Vec<Identifier>, mark: &Name, scope: &mut Scope) -> Result<
         (identifiers_view names.now.items) (hiding_all (identifiers_view names.now.items) scope.old)) }
 {
     hide_all(names, scope)?;
-    let found = scope.visible(mark);
-    let form = object_form(found);
-    declare_all(names, form, scope)?;
+    declare_variables(names, mark, scope)?;
     Ok(())
 }
 

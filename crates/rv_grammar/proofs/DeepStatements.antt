@@ -1,5 +1,5 @@
 -- A statement is refused as too deep only where its words nest too deep.
-use Rattle.std.proofs.Common.{◌≡◌, inl, inr, ℕ, zero, suc, List, [], ◌∷◌, ◌++◌, length, Option, Err, refl}
+use Rattle.std.proofs.Common.{◌≡◌, inl, inr, ℕ, zero, suc, Bool, List, [], ◌∷◌, ◌++◌, length, Option, Ok, Err, refl}
 use Rattle.rv_lex.specs.declared.kind.Kind.{Kind}
 use Rattle.rv_lex.specs.declared.kind.Kind.TheVariants as k
 use Rattle.rv_lex.specs.Lexes.{Lexeme}
@@ -8,17 +8,17 @@ use Rattle.rv_tree.specs.Expressions as e
 use Rattle.rv_tree.specs.ExpressionGrammar.{IsExpression}
 use Rattle.rv_tree.specs.Statements as t
 use Rattle.rv_tree.specs.StatementGrammar.{IsChoice, IsGuard, IsStatement, MoreStatements, AreElsifParts, AreAlternatives}
-use Rattle.rv_grammar.specs.Reading.{too_deep, Parser, sees, after, place, expect, listed, optional}
+use Rattle.rv_grammar.specs.Reading.{too_deep, Parser, sees, after, place, expect, many_from, more_of, many as several, at_least_one, listed, optional}
 use Rattle.rv_grammar.specs.NameRules.{identifier}
 use Rattle.rv_grammar.specs.DeclarationRules.{any_expression, parameters}
-use Rattle.rv_grammar.specs.StatementRules.{choice, iteration, guard, simple_statement, sees_statement, statements_from, statements, statements_after, elsif_part, elsif_parts_from, elsif_parts, if_statement, alternative, alternatives_from, alternatives, case_statement, loop_statement, accept_body, accept_statement, selective, selectives_from, selectives, then_abort, select_statement, statement_by, any_statement, statement}
+use Rattle.rv_grammar.specs.StatementRules.{choice, iteration, guard, simple_statement, sees_statement, statements, statements_after, elsif_part, elsif_parts, if_statement, alternative, alternatives, case_statement, loop_statement, accept_body, accept_statement, selective, selectives_from, selectives, then_abort, select_statement, statement_by, any_statement, statement}
 use Rattle.rv_grammar.specs.Nesting.{Reaches, in_if, in_elsif, in_else, in_case, in_loop, in_accept, in_select, in_select_else, in_abort, EachWithOr, Nested}
 use Rattle.rv_grammar.proofs.Steps.{Sound, chosen, eaten, expected, expected_at, identifier_sound, listed_sound, optional_sound}
 use Rattle.rv_grammar.proofs.DeclarationSound.{any_expression_sound, parameters_sound}
-use Rattle.rv_grammar.proofs.StatementSound.{choice_sound, guard_sound, iteration_sound, statements_sound, else_sound, elsif_part_sound, elsif_parts_sound, alternative_sound, selective_sound, selectives_sound, statement_sound}
-use Rattle.rv_grammar.proofs.Tame.{Tame, expect_tame, identifier_tame, optional_tame, listed_tame}
+use Rattle.rv_grammar.proofs.StatementSound.{choice_sound, guard_sound, iteration_sound, statements_sound, else_sound, elsif_part_sound, elsif_parts_on, elsif_parts_sound, alternative_sound, alternatives_on, selective_sound, selectives_sound, statement_sound}
+use Rattle.rv_grammar.proofs.Tame.{Tame, told, expect_tame, identifier_tame, optional_tame, listed_tame}
 use Rattle.rv_grammar.proofs.TameRules.{ends_on, plain, after_ends, any_expression_tame, choice_of_tame, iteration_tame, guard_tame, parameters_tame, simple_statement_tame}
-use Rattle.rv_grammar.proofs.TameStatements.{free, told, deep_side, Deep, parens, reached, step, holding, last, here, statements_free, statements_after_free, elsif_part_free, elsif_parts_free, alternative_free, alternatives_free, accept_body_free, selective_free, selectives_free, then_abort_free, statement_free}
+use Rattle.rv_grammar.proofs.TameStatements.{free, deep_side, Deep, parens, reached, step, holding, last, here, statements_free, statements_after_free, elsif_part_free, elsif_parts_free, alternative_free, alternatives_free, accept_body_free, selective_free, selectives_free, then_abort_free, statement_free}
 
 -- up to a statement of a list
 abbrev pub InStatements : Phrase
@@ -51,22 +51,28 @@ InSelectives ts j = (before : t.Selectives) × (g : Option t.Guard) × (ss : t.S
 abbrev InAbort : Phrase
 InAbort ts j = (ss : t.Statements) × (Is k.Then ⨾ Is k.Abort ⨾ MoreStatements ss) ts j
 
-module _ (many : ℕ) (inner : Parser t.Statement) (inner_sound : Sound IsStatement inner) (inner_free : Tame free inner) (inner_deep : (ts : List Lexeme) → inner ts ≡ Err too_deep → Deep many Nothing ts) where
-  statements_from_deep : (n : ℕ) (found : List t.Statement) (ts : List Lexeme) → statements_from inner n found ts ≡ Err too_deep → Deep many InStatements ts
-  unfolding statements_from
-  statements_from_deep zero found ts h = absurd cc
-  statements_from_deep (suc n) found ts h = elim (chosen (sees_statement ts) _ _ _ h) [
-    | inl g ↦ holding many InStatements ts inner inner_free Nothing inner_deep ts (here ts) _ g.1 (λ j m. (t.no_statements, m))
-        (λ a ea va ha. last many InStatements ts (statements_from inner n (found ++ a.0 ∷ [])) InStatements (statements_from_deep n (found ++ a.0 ∷ [])) a.1 va ha
-        (λ j m. (t.and_statement a.0 m.0, (a.1, inner_sound ts a ea, m.1))))
+-- of several, one nests too deep
+module _ {A : Type 0} (limit : ℕ) (item : Parser A) (item_free : Tame free item) (inside reach : Phrase) (deep : (ts : List Lexeme) → item ts ≡ Err too_deep → Deep limit inside ts)
+    (in_first : (ts j : List Lexeme) → inside ts j → reach ts j) (in_next : (ts : List Lexeme) (a : A × List Lexeme) → item ts ≡ Ok a → (j : List Lexeme) → reach a.1 j → reach ts j) where
+  many_deep : (begins : List Lexeme → Bool) (n : ℕ) (found : List A) (ts : List Lexeme) → many_from begins item n found ts ≡ Err too_deep → Deep limit reach ts
+  unfolding many_from
+  many_deep begins zero found ts h = absurd cc
+  many_deep begins (suc n) found ts h = elim (chosen (begins ts) _ _ _ h) [
+    | inl g ↦ holding limit reach ts item item_free inside deep ts (here ts) _ g.1 (in_first ts)
+        (λ a ea va ha. last limit reach ts (many_from begins item n (found ++ a.0 ∷ [])) reach (many_deep begins n (found ++ a.0 ∷ [])) a.1 va ha (in_next ts a ea))
     | inr g ↦ absurd cc
   ]
 
+module _ (many : ℕ) (inner : Parser t.Statement) (inner_sound : Sound IsStatement inner) (inner_free : Tame free inner) (inner_deep : (ts : List Lexeme) → inner ts ≡ Err too_deep → Deep many Nothing ts) where
+  in_next_statement : (ts : List Lexeme) (a : t.Statement × List Lexeme) → inner ts ≡ Ok a → (j : List Lexeme) → InStatements a.1 j → InStatements ts j
+  in_next_statement ts a ea j m = (t.and_statement a.0 m.0, (a.1, inner_sound ts a ea, m.1))
+
   pub statements_deep : (ts : List Lexeme) → statements inner ts ≡ Err too_deep → Deep many InStatements ts
-  unfolding statements
+  unfolding statements at_least_one more_of
   statements_deep ts h = holding many InStatements ts inner inner_free Nothing inner_deep ts (here ts) _ h (λ j m. (t.no_statements, m))
-      (λ a ea va ha. last many InStatements ts (statements_from inner (length a.1) (a.0 ∷ [])) InStatements (statements_from_deep (length a.1) (a.0 ∷ [])) a.1 va ha
-      (λ j m. (t.and_statement a.0 m.0, (a.1, inner_sound ts a ea, m.1))))
+      (λ a ea va ha. last many InStatements ts (many_from sees_statement inner (length a.1) (a.0 ∷ [])) InStatements
+      (many_deep many inner inner_free Nothing InStatements inner_deep (λ us j m. (t.no_statements, m)) in_next_statement sees_statement (length a.1) (a.0 ∷ []))
+      a.1 va ha (in_next_statement ts a ea))
 
   else_deep : (ts : List Lexeme) → statements_after inner k.Else ts ≡ Err too_deep → Deep many InElse ts
   unfolding statements_after
@@ -79,20 +85,14 @@ module _ (many : ℕ) (inner : Parser t.Statement) (inner_sound : Sound IsStatem
   unfolding elsif_part
   elsif_part_deep ts h = step many InElsifPart ts (expect k.Elsif) (expect_tame plain k.Elsif refl refl) ts (here ts) _ h (λ a ea va ha. step many InElsifPart ts any_expression any_expression_tame a.1 va _ ha (λ b eb vb hb. step many InElsifPart ts (expect k.Then) (expect_tame plain k.Then refl refl) b.1 vb _ hb (λ c ec vc hc. holding many InElsifPart ts (statements inner) (statements_free inner inner_free) InStatements statements_deep c.1 vc _ hc (λ j m. (b.0, m.0, (a.1, expected k.Elsif ts a ea, (b.1, any_expression_sound a.1 b eb, (c.1, expected k.Then b.1 c ec, m.1))))) (λ s es vs hs. absurd cc))))
 
-  elsif_parts_from_deep : (n : ℕ) (found : List t.ElsifPart) (ts : List Lexeme) → elsif_parts_from inner n found ts ≡ Err too_deep → Deep many InElsifParts ts
-  unfolding elsif_parts_from
-  elsif_parts_from_deep zero found ts h = absurd cc
-  elsif_parts_from_deep (suc n) found ts h = elim (chosen (sees k.Elsif ts) _ _ _ h) [
-    | inl g ↦ holding many InElsifParts ts (elsif_part inner) (elsif_part_free inner inner_free) InElsifPart elsif_part_deep ts (here ts) _ g.1 (λ j m. (t.no_elsif_parts, m.0, m.1, (ts, refl, m.2)))
-        (λ a ea va ha. last many InElsifParts ts (elsif_parts_from inner n (found ++ a.0 ∷ [])) InElsifParts (elsif_parts_from_deep n (found ++ a.0 ∷ [])) a.1 va ha
-        (λ j m. let p = elsif_part_sound inner inner_sound ts a ea in
-        (t.and_elsif_part a.0.at a.0.condition a.0.statements m.0, m.1, m.2, (m.3.0, (p.0, p.1, (p.2.0, p.2.1, (p.2.2.0, p.2.2.1, (a.1, p.2.2.2, m.3.1)))), m.3.2))))
-    | inr g ↦ absurd cc
-  ]
+  in_next_part : (ts : List Lexeme) (a : t.ElsifPart × List Lexeme) → elsif_part inner ts ≡ Ok a → (j : List Lexeme) → InElsifParts a.1 j → InElsifParts ts j
+  in_next_part ts a ea j m =
+      (t.and_elsif_part a.0.at a.0.condition a.0.statements m.0, m.1, m.2, (m.3.0, elsif_parts_on a.0 m.0 ts a.1 m.3.0 (elsif_part_sound inner inner_sound ts a ea) m.3.1, m.3.2))
 
   elsif_parts_deep : (ts : List Lexeme) → elsif_parts inner ts ≡ Err too_deep → Deep many InElsifParts ts
-  unfolding elsif_parts
-  elsif_parts_deep ts h = elsif_parts_from_deep (length ts) [] ts h
+  unfolding elsif_parts several more_of
+  elsif_parts_deep ts h = many_deep many (elsif_part inner) (elsif_part_free inner inner_free) InElsifPart InElsifParts elsif_part_deep
+      (λ us j m. (t.no_elsif_parts, m.0, m.1, (us, refl, m.2))) in_next_part (sees k.Elsif) (length ts) [] ts h
 
   if_deep : (ts : List Lexeme) → if_statement inner ts ≡ Err too_deep → Deep many Reaches ts
   unfolding if_statement
@@ -106,20 +106,14 @@ module _ (many : ℕ) (inner : Parser t.Statement) (inner_sound : Sound IsStatem
   unfolding alternative
   alternative_deep ts h = step many InAlternative ts (expect k.When) (expect_tame plain k.When refl refl) ts (here ts) _ h (λ a ea va ha. step many InAlternative ts (listed k.Bar choice) (listed_tame plain choice choice_of_tame k.Bar refl refl) a.1 va _ ha (λ b eb vb hb. step many InAlternative ts (expect k.Arrow) (expect_tame plain k.Arrow refl refl) b.1 vb _ hb (λ c ec vc hc. holding many InAlternative ts (statements inner) (statements_free inner inner_free) InStatements statements_deep c.1 vc _ hc (λ j m. (b.0, m.0, (a.1, expected k.When ts a ea, (b.1, listed_sound IsChoice choice choice_sound k.Bar a.1 b eb, (c.1, expected k.Arrow b.1 c ec, m.1))))) (λ s es vs hs. absurd cc))))
 
-  alternatives_from_deep : (n : ℕ) (found : List t.CaseAlternative) (ts : List Lexeme) → alternatives_from inner n found ts ≡ Err too_deep → Deep many InAlternatives ts
-  unfolding alternatives_from
-  alternatives_from_deep zero found ts h = absurd cc
-  alternatives_from_deep (suc n) found ts h = elim (chosen (sees k.When ts) _ _ _ h) [
-    | inl g ↦ holding many InAlternatives ts (alternative inner) (alternative_free inner inner_free) InAlternative alternative_deep ts (here ts) _ g.1 (λ j m. (t.no_alternatives, m.0, m.1, (ts, refl, m.2)))
-        (λ a ea va ha. last many InAlternatives ts (alternatives_from inner n (found ++ a.0 ∷ [])) InAlternatives (alternatives_from_deep n (found ++ a.0 ∷ [])) a.1 va ha
-        (λ j m. let p = alternative_sound inner inner_sound ts a ea in
-        (t.and_alternative a.0.at a.0.choices a.0.statements m.0, m.1, m.2, (m.3.0, (p.0, p.1, (p.2.0, p.2.1, (p.2.2.0, p.2.2.1, (a.1, p.2.2.2, m.3.1)))), m.3.2))))
-    | inr g ↦ absurd cc
-  ]
+  in_next_alternative : (ts : List Lexeme) (a : t.CaseAlternative × List Lexeme) → alternative inner ts ≡ Ok a → (j : List Lexeme) → InAlternatives a.1 j → InAlternatives ts j
+  in_next_alternative ts a ea j m =
+      (t.and_alternative a.0.at a.0.choices a.0.statements m.0, m.1, m.2, (m.3.0, alternatives_on a.0 m.0 ts a.1 m.3.0 (alternative_sound inner inner_sound ts a ea) m.3.1, m.3.2))
 
   alternatives_deep : (ts : List Lexeme) → alternatives inner ts ≡ Err too_deep → Deep many InAlternatives ts
-  unfolding alternatives
-  alternatives_deep ts h = alternatives_from_deep (length ts) [] ts h
+  unfolding alternatives several more_of
+  alternatives_deep ts h = many_deep many (alternative inner) (alternative_free inner inner_free) InAlternative InAlternatives alternative_deep
+      (λ us j m. (t.no_alternatives, m.0, m.1, (us, refl, m.2))) in_next_alternative (sees k.When) (length ts) [] ts h
 
   case_deep : (ts : List Lexeme) → case_statement inner ts ≡ Err too_deep → Deep many Reaches ts
   unfolding case_statement
@@ -191,7 +185,7 @@ module _ (many : ℕ) (inner : Parser t.Statement) (inner_sound : Sound IsStatem
   statement_by_deep k.Loop ts h = loop_deep ts h
   statement_by_deep k.Accept ts h = accept_deep ts h
   statement_by_deep k.Select ts h = select_deep ts h
-  statement_by_deep _ ts h = parens many Reaches ts ts (here ts) (told simple_statement ts simple_statement_tame h)
+  statement_by_deep _ ts h = parens many Reaches ts ts (here ts) (told plain simple_statement ts simple_statement_tame h)
 
   any_statement_deep : (ts : List Lexeme) → any_statement inner ts ≡ Err too_deep → Deep many Reaches ts
   unfolding any_statement

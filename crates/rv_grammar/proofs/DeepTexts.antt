@@ -1,5 +1,5 @@
 -- A text is refused as too deep only where its words nest too deep.
-use Rattle.std.proofs.Common.{◌≡◌, inl, inr, List, [], ◌++◌, Ok, Err, refl, subst}
+use Rattle.std.proofs.Common.{◌≡◌, inl, inr, List, [], ◌++◌, Ok, Err, refl}
 use Rattle.rv_lex.specs.declared.kind.Kind.{Kind}
 use Rattle.rv_lex.specs.declared.kind.Kind.TheVariants as k
 use Rattle.rv_lex.specs.Lexes.{Lexeme}
@@ -17,10 +17,10 @@ use Rattle.rv_grammar.specs.BodyRules.{any_statements, local_object, begins_loca
 use Rattle.rv_grammar.specs.UnitRules.{with_clause, use_clause, begins_context_item, context_item_by, context_item, specification, body_item, body, unit}
 use Rattle.rv_grammar.specs.Nesting.{NestsTooDeep}
 use Rattle.rv_grammar.specs.Words.{DeepWords}
-use Rattle.rv_grammar.proofs.Tame.{Walk, Tamed, Tame, ◌⊳◌, pure_tame, refuse_tame, if_tame, choice_tame, expect_tame, eat_tame, identifier_tame, by_kind_tame, many_tame, at_least_one_tame, optional_tame, optional_after_tame, listed_tame, name_tame, end_name_tame}
+use Rattle.rv_grammar.proofs.Tame.{Walk, Tamed, Tame, went, told, tame_too, ◌⊳◌, pure_tame, refuse_tame, if_tame, choice_tame, expect_tame, eat_tame, identifier_tame, by_kind_tame, many_tame, at_least_one_tame, optional_tame, optional_after_tame, listed_tame, name_tame, end_name_tame}
 use Rattle.rv_grammar.proofs.TameExpression.{joined_up}
-use Rattle.rv_grammar.proofs.TameRules.{Ends, ends_on, ends_word, more_before, plain, any_expression_tame, range_tame, a_pragma_tame, parameters_tame, protected_unit_tame, task_tame, declaration_tame}
-use Rattle.rv_grammar.proofs.TameStatements.{Deep, ends_at, statements_free, statement_free}
+use Rattle.rv_grammar.proofs.TameRules.{Ends, more_before, telling, plain, any_expression_tame, range_tame, a_pragma_tame, parameters_tame, protected_unit_tame, task_tame, declaration_tame}
+use Rattle.rv_grammar.proofs.TameStatements.{free, Deep, statements_free, statement_free}
 use Rattle.rv_grammar.proofs.StatementSound.{statement_sound}
 use Rattle.rv_grammar.proofs.DeepStatements.{InStatements, statements_deep, statement_deep}
 
@@ -30,23 +30,10 @@ deep_before a b h (inr m) = inr (record { before = h.front ++ m.before; inside =
 
 -- over any words, with too many parentheses or statements told
 abbrev pub outer : Walk
-outer = record {
-  via = Ends;
-  fails = NestsTooDeep;
-  same = λ a. record { front = []; whole = refl };
-  on = ends_on;
-  back = deep_before;
-  word = λ what a b o c h. ends_word what a b h;
-}
-
-plain_outer : {A : Type 0} (ts : List Lexeme) (r : Outcome A) → Tamed plain ts r → Tamed outer ts r
-unfolding Tamed
-plain_outer ts (Ok r) h = h
-plain_outer ts (Err too_deep) h = inl h
-plain_outer ts (Err unexpected) h = tt
+outer = telling NestsTooDeep deep_before
 
 from_plain : {A : Type 0} (p : Parser A) → Tame plain p → Tame outer p
-from_plain p h = record { at = λ ts. plain_outer ts (p ts) (h.at ts) }
+from_plain = tame_too plain outer (λ a b h. h) (λ ts h. inl h)
 
 -- 64 statements around a 65th
 nested_deep : (ts : List Lexeme) → Deep 64 InStatements ts → NestsTooDeep ts
@@ -59,7 +46,7 @@ unfolding any_statements Tamed
 any_statements_tame = record { at = λ ts. by_outcome ts (statements (statement 64) ts) refl }
   where
     by_outcome : (ts : List Lexeme) (o : Outcome (List s.Statement)) → statements (statement 64) ts ≡ o → Tamed outer ts o
-    by_outcome ts (Ok r) e = ends_at (statements (statement 64)) ts r (statements_free (statement 64) (statement_free 64)) e
+    by_outcome ts (Ok r) e = went free (statements (statement 64)) ts r (statements_free (statement 64) (statement_free 64)) e
     by_outcome ts (Err too_deep) e = nested_deep ts (statements_deep 64 (statement 64) (statement_sound 64) (statement_free 64) (statement_deep 64) ts e)
     by_outcome ts (Err unexpected) e = tt
 
@@ -164,13 +151,9 @@ unit_tame : Tame outer unit
 unfolding unit
 unit_tame = many_tame outer context_item context_item_tame (starts_by begins_context_item) ⊳ (λ x_1. specification_tame ⊳ (λ x_2. body_tame ⊳ (λ x_3. pure_tame outer _)))
 
-unit_told : (ts : List Lexeme) → unit ts ≡ Err too_deep → NestsTooDeep ts
-unfolding Tamed
-unit_told ts e = let P : Outcome u.UnitTree → Type 0 = λ o. Tamed outer ts o in subst P e (unit_tame.at ts)
-
 -- what a text is refused for
 pub refused_deep : (ts : List Lexeme) (fault : ParseFault) → Refuses fault (unit ts) → DeepWords ts (Err fault)
 refused_deep ts parse.NoMemory h = tt
-refused_deep ts (parse.TooDeep at) h = unit_told ts h
+refused_deep ts (parse.TooDeep at) h = told outer unit ts unit_tame h
 refused_deep ts (parse.Unexpected at) h = tt
 refused_deep ts (parse.Lex fault) h = tt

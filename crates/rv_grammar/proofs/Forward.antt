@@ -188,6 +188,7 @@ module _ {A : Type 0} (is : A → Phrase) (item : Parser A) (follows : List Lexe
     optional_it (Some a) ts rest h ends g =
         if_true (begins ts) _ _ _ _ (starts a ts rest h) (answers_then (item ts) _ a rest _ _ (complete a ts rest h g) refl)
 
+module _ {A : Type 0} (is : A → Phrase) (item : Parser A) (follows : List Lexeme → Type 0) (complete : Complete is item follows) (shorter : (a : A) (old new : List Lexeme) → is a old new → Shorter old new) where
   pub optional_after_it : (word : Kind) (o : Option A) (ts rest : List Lexeme) → Maybe (After word is) o ts rest → sees word rest ≡ false → follows rest → Answers (optional_after word item ts) o rest
   unfolding optional_after
   optional_after_it word None ts rest h ends g = uneaten_then word ts _ _ _ _ (ap (λ us. sees word us) h ∙ ends) (ap (λ us. (None, us)) h)
@@ -198,18 +199,11 @@ module _ {A : Type 0} (is : A → Phrase) (item : Parser A) (follows : List Lexe
     after_follows [] ts rest h g = subst follows (sym h) g
     after_follows (x ∷ xs) ts rest h g = between_follows ts h.1.0 h.1.1
 
+    behind_it : Complete (After between is) (behind item) follows
+    behind_it x ts rest h g = rw (next_it between ts h.0 h.1) (complete x h.0 rest h.2 g)
+
     after_from_it : (xs : List A) (n : ℕ) (found : List A) (ts rest : List Lexeme) → length ts ≤ n → EachAfter between is xs ts rest → sees between rest ≡ false → follows rest → Answers (many_from (sees between) (behind item) n found ts) (found ++ xs) rest
-    unfolding many_from
-    after_from_it [] zero found ts rest enough h ends g = rw (append-nil found) (ap (λ us. (found, us)) h)
-    after_from_it [] (suc n) found ts rest enough h ends g =
-        if_false (sees between ts) _ _ _ _ (ap (λ us. sees between us) h ∙ ends) (rw (append-nil found) (ap (λ us. (found, us)) h))
-    after_from_it (x ∷ xs) zero found ts rest enough h ends g = absurd (omega (arith, is_shorter between ts h.1.0 h.1.1))
-    after_from_it (x ∷ xs) (suc n) found ts rest enough h ends g =
-        if_true (sees between ts) _ _ _ _ (sees_it between ts h.1.0 h.1.1)
-        (rw (next_it between ts h.1.0 h.1.1)
-        (answers_then (item h.1.0) _ x h.0 _ _ (complete x h.1.0 h.0 h.1.2 (after_follows xs h.0 rest h.2 g))
-        (subst (λ l. Answers (many_from (sees between) (behind item) n (found ++ x ∷ []) h.0) l rest) (append_assoc found (x ∷ []) xs)
-        (after_from_it xs n (found ++ x ∷ []) h.0 rest (omega (arith, is_shorter between ts h.1.0 h.1.1, shorter x h.1.0 h.0 h.1.2)) h.2 ends g))))
+    after_from_it = many_from_it (After between is) (behind item) follows behind_it (after_shorter is shorter between) (sees between) (λ x us vs h. sees_it between us h.0 h.1) (λ x us vs h. between_follows us h.0 h.1)
 
     pub more_after_it : (xs : List A) (ts rest : List Lexeme) → EachAfter between is xs ts rest → sees between rest ≡ false → follows rest → Answers (more_after between item [] ts) xs rest
     unfolding more_after more_of

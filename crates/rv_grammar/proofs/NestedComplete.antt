@@ -3,18 +3,18 @@ use Rattle.std.proofs.Common.{◌≡◌, ◌≤◌, ℕ, zero, suc, false, List,
 use Rattle.rv_lex.specs.declared.kind.Kind.{Kind}
 use Rattle.rv_lex.specs.declared.kind.Kind.TheVariants as k
 use Rattle.rv_lex.specs.Lexes.{Lexeme}
-use Rattle.rv_tree.specs.Phrases.{◌⨾◌, Is, IsAt, Maybe, Listed}
+use Rattle.rv_tree.specs.Phrases.{◌⨾◌, Is, IsAt, Maybe, Each, Listed}
 use Rattle.rv_tree.specs.Names.{Identifier}
 use Rattle.rv_tree.specs.Expressions as e
 use Rattle.rv_tree.specs.ExpressionGrammar.{IsExpression}
 use Rattle.rv_tree.specs.Declarations.{Parameter}
 use Rattle.rv_tree.specs.Statements as t
 use Rattle.rv_tree.specs.StatementGrammar.{IsChoice, IsGuard, IsStatement, AreStatements, MoreStatements, AreElsifParts, IsElse, AreAlternatives, IsAcceptBody, IsSelective, AreSelectives, MoreSelectives, IsThenAbort}
-use Rattle.rv_grammar.specs.Reading.{Parser, and_then, pure, same_kind, sees, expect, listed, optional}
+use Rattle.rv_grammar.specs.Reading.{Parser, and_then, pure, same_kind, sees, expect, many_from, more_of, many, listed, optional}
 use Rattle.rv_grammar.specs.NameRules.{identifier}
 use Rattle.rv_grammar.specs.DeclarationRules.{any_expression, parameters}
-use Rattle.rv_grammar.specs.StatementRules.{choice, iteration, guard, begins_statement, sees_statement, statements_from, statements, statements_after, elsif_part, elsif_parts_from, elsif_parts, if_statement, alternative, alternatives_from, alternatives, case_statement, loop_statement, accept_body, accept_statement, selective, selectives_from, selectives, then_abort, select_statement, statement_by, any_statement, statement}
-use Rattle.rv_grammar.proofs.Forward.{Answers, answers_then, if_true, if_false, sees_it, is_of, not_both, at_then, word_then, eaten_then, uneaten_then, identifier_it, Shorter, is_shorter, at_shorter, Complete, optional_it, listed_it, listed_shorter}
+use Rattle.rv_grammar.specs.StatementRules.{choice, iteration, guard, begins_statement, sees_statement, statements, statements_after, elsif_part, elsif_parts, if_statement, alternative, alternatives, case_statement, loop_statement, accept_body, accept_statement, selective, selectives_from, selectives, then_abort, select_statement, statement_by, any_statement, statement}
+use Rattle.rv_grammar.proofs.Forward.{Answers, answers_then, if_true, if_false, sees_it, is_of, not_both, at_then, word_then, eaten_then, uneaten_then, identifier_it, Shorter, is_shorter, at_shorter, Complete, at_least_one_it, optional_it, listed_it, listed_shorter}
 use Rattle.rv_grammar.proofs.ExpressionComplete.{ends_at, expression_shorter}
 use Rattle.rv_grammar.proofs.DeclarationComplete.{Unseen, Anything, starts_is, by_kind_it, any_it, maybe_identifier_it, parameters_it}
 use Rattle.rv_grammar.proofs.StatementComplete.{AfterBounds, choice_it, choice_shorter, iteration_it, loop_place, guard_it, guard_shorter, simple_it, null_it, assignment_it, call_it, exit_it, return_it, raise_it, delay_it, abort_it, requeue_it, loop_word, begun, first_word, statement_starts, statement_not, statement_shorter, sequence_shorter, selective_shorter}
@@ -122,23 +122,16 @@ one_shorter : (at : ℕ) (cs : List t.Choice) (ss : t.Statements) (old new : Lis
 one_shorter at cs ss old new h = omega (arith, at_shorter _ _ old h.0 h.1, listed_shorter IsChoice choice_shorter k.Bar cs h.0 h.2.0 h.2.1, is_shorter _ h.2.0 h.2.2.0 h.2.2.1, sequence_shorter ss h.2.2.0 new h.2.2.2)
 
 module _ (inner : Parser t.Statement) (inner_it : Complete IsStatement inner Anything) where
-  statements_from_it : (ss : t.Statements) (n : ℕ) (found : List t.Statement) (ts rest : List Lexeme) → length ts ≤ n → MoreStatements ss ts rest → NoStatement rest → Answers (statements_from inner n found ts) (found ++ statements_list ss) rest
-  unfolding statements_from statements_list
-  statements_from_it t.no_statements zero found ts rest enough h ends = rw (append-nil found) (ap (λ us. (found, us)) h)
-  statements_from_it t.no_statements (suc n) found ts rest enough h ends =
-      if_false (sees_statement ts) _ _ _ _ (ap (λ us. sees_statement us) h ∙ ends) (rw (append-nil found) (ap (λ us. (found, us)) h))
-  statements_from_it (t.and_statement s ss) zero found ts rest enough h ends = absurd (omega (arith, statement_shorter s ts h.0 h.1))
-  statements_from_it (t.and_statement s ss) (suc n) found ts rest enough h ends =
-      if_true (sees_statement ts) _ _ _ _ (statement_starts s ts h.0 h.1)
-      (answers_then (inner ts) _ s h.0 _ _ (inner_it s ts h.0 h.1 tt)
-      (subst (λ l. Answers (statements_from inner n (found ++ s ∷ []) h.0) l rest) (append_assoc found (s ∷ []) (statements_list ss))
-      (statements_from_it ss n (found ++ s ∷ []) h.0 rest (omega (arith, statement_shorter s ts h.0 h.1)) h.2 ends)))
+  each_of : (ss : t.Statements) (ts rest : List Lexeme) → MoreStatements ss ts rest → Each IsStatement (statements_list ss) ts rest
+  unfolding statements_list
+  each_of t.no_statements ts rest h = h
+  each_of (t.and_statement s ss) ts rest h = (h.0, h.1, each_of ss h.0 rest h.2)
 
   pub sequence_it : (ss : t.Statements) (ts rest : List Lexeme) → AreStatements ss ts rest → NoStatement rest → Answers (statements inner ts) (statements_list ss) rest
   unfolding statements statements_list
   sequence_it t.no_statements ts rest h ends = absurd h
   sequence_it (t.and_statement s ss) ts rest h ends =
-      answers_then (inner ts) _ s h.0 _ _ (inner_it s ts h.0 h.1 tt) (statements_from_it ss (length h.0) (s ∷ []) h.0 rest (omega arith) h.2 ends)
+      at_least_one_it IsStatement inner Anything inner_it statement_shorter sees_statement statement_starts (λ a us vs g. tt) (s ∷ statements_list ss) ts rest (h.0, h.1, each_of ss h.0 rest h.2) ends tt
 
   else_it : (es : t.Statements) (ts rest : List Lexeme) → IsElse es ts rest → NoStatement rest → Unseen k.Else rest → Answers (statements_after inner k.Else ts) (statements_list es) rest
   unfolding statements_after statements_list
@@ -153,8 +146,8 @@ module _ (inner : Parser t.Statement) (inner_it : Complete IsStatement inner Any
       (word_then k.Then h.2.0 h.2.2.0 _ _ _ h.2.2.1
       (answers_then (statements inner h.2.2.0) _ (statements_list ss) rest _ _ (sequence_it ss h.2.2.0 rest h.2.2.2 ends) (ap (λ l. (elsif_of at c l, rest)) (statements_of_list ss)))))
 
-  elsif_from_it : (ps : t.ElsifParts) (es : t.Statements) (n : ℕ) (found : List t.ElsifPart) (ts mid rest a : List Lexeme) → length ts ≤ n → AreElsifParts ps ts mid → IsElse es mid rest → Is k.End rest a → Answers (elsif_parts_from inner n found ts) (found ++ elsif_list ps) mid
-  unfolding elsif_parts_from elsif_list same_kind
+  elsif_from_it : (ps : t.ElsifParts) (es : t.Statements) (n : ℕ) (found : List t.ElsifPart) (ts mid rest a : List Lexeme) → length ts ≤ n → AreElsifParts ps ts mid → IsElse es mid rest → Is k.End rest a → Answers (many_from (sees k.Elsif) (elsif_part inner) n found ts) (found ++ elsif_list ps) mid
+  unfolding many_from elsif_list same_kind
   elsif_from_it t.no_elsif_parts es zero found ts mid rest a enough h i g = rw (append-nil found) (ap (λ us. (found, us)) h)
   elsif_from_it t.no_elsif_parts es (suc n) found ts mid rest a enough h i g =
       if_false (sees k.Elsif ts) _ _ _ _ (ap (λ us. sees k.Elsif us) h ∙ behind_else k.Elsif es mid rest a refl refl i g) (rw (append-nil found) (ap (λ us. (found, us)) h))
@@ -164,11 +157,11 @@ module _ (inner : Parser t.Statement) (inner_it : Complete IsStatement inner Any
       let ends = behind_part ps es d.0 mid rest a d.2 i g in
       if_true (sees k.Elsif ts) _ _ _ _ (sees_it k.Elsif ts h.0 (is_of k.Elsif at ts h.0 h.1))
       (answers_then (elsif_part inner ts) _ (elsif_of at c ss) d.0 _ _ (elsif_it at c ss ts d.0 (h.0, h.1, (h.2.0, h.2.1, (h.2.2.0, h.2.2.1, d.1))) ends)
-      (subst (λ l. Answers (elsif_parts_from inner n (found ++ elsif_of at c ss ∷ []) d.0) l mid) (append_assoc found (elsif_of at c ss ∷ []) (elsif_list ps))
+      (subst (λ l. Answers (many_from (sees k.Elsif) (elsif_part inner) n (found ++ elsif_of at c ss ∷ []) d.0) l mid) (append_assoc found (elsif_of at c ss ∷ []) (elsif_list ps))
       (elsif_from_it ps es n (found ++ elsif_of at c ss ∷ []) d.0 mid rest a (omega (arith, at_shorter _ _ ts h.0 h.1, expression_shorter c h.0 h.2.0 h.2.1, is_shorter _ h.2.0 h.2.2.0 h.2.2.1, sequence_shorter ss h.2.2.0 d.0 d.1)) d.2 i g)))
 
   if_it : (at : ℕ) (c : e.Expression) (ss : t.Statements) (ps : t.ElsifParts) (es : t.Statements) (ts rest : List Lexeme) → IsStatement (t.if_statement at c ss ps es) ts rest → Answers (if_statement inner ts) (t.if_statement at c ss ps es) rest
-  unfolding if_statement elsif_parts same_kind
+  unfolding if_statement elsif_parts many more_of same_kind
   if_it at c ss ps es ts rest h =
       let d = h.2.2.2 in
       let f = d.2.2 in
@@ -177,7 +170,7 @@ module _ (inner : Parser t.Statement) (inner_it : Complete IsStatement inner Any
       (answers_then (any_expression h.0) _ c h.2.0 _ _ (any_it c h.0 h.2.0 h.2.1 (ends_at 6 k.Then h.2.0 h.2.2.0 h.2.2.1 (omega arith)))
       (word_then k.Then h.2.0 h.2.2.0 _ _ _ h.2.2.1
       (answers_then (statements inner h.2.2.0) _ (statements_list ss) d.0 _ _ (sequence_it ss h.2.2.0 d.0 d.1 (behind_part ps es d.0 d.2.0 f.0 end.0 d.2.1 f.1 end.1))
-      (answers_then (elsif_parts_from inner (length d.0) [] d.0) _ (elsif_list ps) d.2.0 _ _ (elsif_from_it ps es (length d.0) [] d.0 d.2.0 f.0 end.0 (omega arith) d.2.1 f.1 end.1)
+      (answers_then (many_from (sees k.Elsif) (elsif_part inner) (length d.0) [] d.0) _ (elsif_list ps) d.2.0 _ _ (elsif_from_it ps es (length d.0) [] d.0 d.2.0 f.0 end.0 (omega arith) d.2.1 f.1 end.1)
       (answers_then (statements_after inner k.Else d.2.0) _ (statements_list es) f.0 _ _ (else_it es d.2.0 f.0 f.1 (no_statement k.End f.0 end.0 end.1 refl) (not_both k.End k.Else f.0 end.0 end.1 refl))
       (rw (statements_of_list ss, elsif_of_list ps, statements_of_list es) (end_it k.If (t.if_statement at c ss ps es) f.0 rest end)))))))
 
@@ -191,8 +184,8 @@ module _ (inner : Parser t.Statement) (inner_it : Complete IsStatement inner Any
       (word_then k.Arrow h.2.0 h.2.2.0 _ _ _ arrow
       (answers_then (statements inner h.2.2.0) _ (statements_list ss) rest _ _ (sequence_it ss h.2.2.0 rest h.2.2.2 ends) (ap (λ l. (alternative_of at cs l, rest)) (statements_of_list ss)))))
 
-  alternatives_from_it : (xs : t.Alternatives) (n : ℕ) (found : List t.CaseAlternative) (ts rest a : List Lexeme) → length ts ≤ n → AreAlternatives xs ts rest → Is k.End rest a → Answers (alternatives_from inner n found ts) (found ++ alternatives_list xs) rest
-  unfolding alternatives_from alternatives_list same_kind
+  alternatives_from_it : (xs : t.Alternatives) (n : ℕ) (found : List t.CaseAlternative) (ts rest a : List Lexeme) → length ts ≤ n → AreAlternatives xs ts rest → Is k.End rest a → Answers (many_from (sees k.When) (alternative inner) n found ts) (found ++ alternatives_list xs) rest
+  unfolding many_from alternatives_list same_kind
   alternatives_from_it t.no_alternatives zero found ts rest a enough h g = rw (append-nil found) (ap (λ us. (found, us)) h)
   alternatives_from_it t.no_alternatives (suc n) found ts rest a enough h g =
       if_false (sees k.When ts) _ _ _ _ (ap (λ us. sees k.When us) h ∙ not_both k.End k.When rest a g refl) (rw (append-nil found) (ap (λ us. (found, us)) h))
@@ -202,17 +195,17 @@ module _ (inner : Parser t.Statement) (inner_it : Complete IsStatement inner Any
       let one : (IsAt k.When at ⨾ Listed k.Bar IsChoice cs ⨾ Is k.Arrow ⨾ AreStatements ss) ts d.0 = (h.0, h.1, (h.2.0, h.2.1, (h.2.2.0, h.2.2.1, d.1))) in
       if_true (sees k.When ts) _ _ _ _ (sees_it k.When ts h.0 (is_of k.When at ts h.0 h.1))
       (answers_then (alternative inner ts) _ (alternative_of at cs ss) d.0 _ _ (alternative_it at cs ss ts d.0 one (behind_alternative more d.0 rest a d.2 g))
-      (subst (λ l. Answers (alternatives_from inner n (found ++ alternative_of at cs ss ∷ []) d.0) l rest) (append_assoc found (alternative_of at cs ss ∷ []) (alternatives_list more))
+      (subst (λ l. Answers (many_from (sees k.When) (alternative inner) n (found ++ alternative_of at cs ss ∷ []) d.0) l rest) (append_assoc found (alternative_of at cs ss ∷ []) (alternatives_list more))
       (alternatives_from_it more n (found ++ alternative_of at cs ss ∷ []) d.0 rest a (omega (arith, one_shorter at cs ss ts d.0 one)) d.2 g)))
 
   case_it : (at : ℕ) (x : e.Expression) (xs : t.Alternatives) (ts rest : List Lexeme) → IsStatement (t.case_statement at x xs) ts rest → Answers (case_statement inner ts) (t.case_statement at x xs) rest
-  unfolding case_statement alternatives
+  unfolding case_statement alternatives many more_of
   case_it at x xs ts rest h =
       let d = h.2.2.2 in
       at_then k.Case at ts h.0 _ _ _ h.1
       (answers_then (any_expression h.0) _ x h.2.0 _ _ (any_it x h.0 h.2.0 h.2.1 (ends_at 6 k.Is h.2.0 h.2.2.0 h.2.2.1 (omega arith)))
       (word_then k.Is h.2.0 h.2.2.0 _ _ _ h.2.2.1
-      (answers_then (alternatives_from inner (length h.2.2.0) [] h.2.2.0) _ (alternatives_list xs) d.0 _ _ (alternatives_from_it xs (length h.2.2.0) [] h.2.2.0 d.0 d.2.0 (omega arith) d.1 d.2.1)
+      (answers_then (many_from (sees k.When) (alternative inner) (length h.2.2.0) [] h.2.2.0) _ (alternatives_list xs) d.0 _ _ (alternatives_from_it xs (length h.2.2.0) [] h.2.2.0 d.0 d.2.0 (omega arith) d.1 d.2.1)
       (rw (alternatives_of_list xs) (end_it k.Case (t.case_statement at x xs) d.0 rest d.2)))))
 
   loop_it : (at : ℕ) (i : t.Iteration) (ss : t.Statements) (ts rest : List Lexeme) → IsStatement (t.loop_statement at i ss) ts rest → Answers (loop_statement inner ts) (t.loop_statement at i ss) rest

@@ -1,9 +1,9 @@
 -- What is read as a statement is one of the grammar.
-use Rattle.std.proofs.Common.{◌≡◌, inl, inr, ℕ, zero, suc, true, List, [], ◌∷◌, ◌++◌, length, Option, Ok, refl, sym, ap, ◌∙◌, subst, append_assoc, append-nil}
+use Rattle.std.proofs.Common.{◌≡◌, inl, inr, ℕ, zero, suc, true, List, [], ◌∷◌, ◌++◌, length, Option, Ok, refl, sym, ap, ◌∙◌, subst, append_assoc}
 use Rattle.rv_lex.specs.declared.kind.Kind.{Kind}
 use Rattle.rv_lex.specs.declared.kind.Kind.TheVariants as k
 use Rattle.rv_lex.specs.Lexes.{Lexeme}
-use Rattle.rv_tree.specs.Phrases.{Phrase, ◌⨾◌, Is, IsAt, Maybe, Listed}
+use Rattle.rv_tree.specs.Phrases.{Phrase, ◌⨾◌, Is, IsAt, Maybe, Each, AtLeastOne, Listed}
 use Rattle.rv_tree.specs.Names.{Identifier}
 use Rattle.rv_tree.specs.NameGrammar.{IsIdentifier, IsName}
 use Rattle.rv_tree.specs.Expressions as e
@@ -14,8 +14,8 @@ use Rattle.rv_grammar.specs.Reading.{Parser, sees, after, place, starts_by, expe
 use Rattle.rv_grammar.specs.NameRules.{identifier, name}
 use Rattle.rv_grammar.specs.ExpressionRules.{begins_expression, opening, inside}
 use Rattle.rv_grammar.specs.DeclarationRules.{any_expression, range, parameters}
-use Rattle.rv_grammar.specs.StatementRules.{choice, two_from, bounds_from, bounds, for_loop, while_loop, iteration, null_statement, call_arguments, named_statement, exit_statement, return_statement, raise_statement, delay_statement, abort_statement, with_abort, requeue_statement, guard, simple_by, simple_statement, sees_statement, statements_from, statements, statements_after, elsif_part, elsif_parts_from, elsif_parts, if_statement, alternative, alternatives_from, alternatives, case_statement, loop_statement, accept_body, accept_statement, selective, selectives_from, selectives, then_abort, select_statement, statement_by, any_statement, statement}
-use Rattle.rv_grammar.proofs.Steps.{Sound, bind_ok, ok_is, given, branch_ok, chosen, sees_means, eaten, not_eaten, expected, expected_at, flag_sound, identifier_sound, listed_sound, optional_sound, optional_after_sound}
+use Rattle.rv_grammar.specs.StatementRules.{choice, two_from, bounds_from, bounds, for_loop, while_loop, iteration, null_statement, call_arguments, named_statement, exit_statement, return_statement, raise_statement, delay_statement, abort_statement, with_abort, requeue_statement, guard, simple_by, simple_statement, sees_statement, statements, statements_after, elsif_part, elsif_parts, if_statement, alternative, alternatives, case_statement, loop_statement, accept_body, accept_statement, selective, selectives_from, selectives, then_abort, select_statement, statement_by, any_statement, statement}
+use Rattle.rv_grammar.proofs.Steps.{Sound, bind_ok, ok_is, given, branch_ok, chosen, sees_means, eaten, not_eaten, expected, expected_at, flag_sound, identifier_sound, many_sound, at_least_one_sound, listed_sound, optional_sound, optional_after_sound}
 use Rattle.rv_grammar.proofs.ExpressionSound.{name_sound, arguments_sound, opening_sound, inside_sound}
 use Rattle.rv_grammar.proofs.DeclarationSound.{any_expression_sound, range_sound, parameters_sound, kind_sound}
 
@@ -219,32 +219,46 @@ simple_sound : Sound IsStatement simple_statement
 unfolding simple_statement
 simple_sound = kind_sound IsStatement simple_by simple_by_sound
 
+-- LISTS OF STATEMENTS AND THEIR PARTS
+
+more_sound : (ss : List t.Statement) (ts us : List Lexeme) → Each IsStatement ss ts us → MoreStatements (t.statements_of ss) ts us
+more_sound [] ts us h = h
+more_sound (s ∷ ss) ts us h = (h.0, h.1, more_sound ss h.0 us h.2)
+
+-- the first of them, and the others
+abbrev pub Sequence : List t.Statement → Phrase
+Sequence ss = AreStatements (t.statements_of ss)
+
+sequence_of : (ss : List t.Statement) (ts us : List Lexeme) → AtLeastOne IsStatement ss ts us → Sequence ss ts us
+sequence_of [] ts us h = h
+sequence_of (s ∷ ss) ts us h = (h.0, h.1, more_sound ss h.0 us h.2)
+
+abbrev pub IsElsifPart : t.ElsifPart → Phrase
+IsElsifPart p = IsAt k.Elsif p.at ⨾ IsExpression p.condition ⨾ Is k.Then ⨾ AreStatements p.statements
+
+-- a part in front of parts
+pub elsif_parts_on : (p : t.ElsifPart) (more : t.ElsifParts) (a b c : List Lexeme) → IsElsifPart p a b → AreElsifParts more b c → AreElsifParts (t.and_elsif_part p.at p.condition p.statements more) a c
+elsif_parts_on p more a b c h g = (h.0, h.1, (h.2.0, h.2.1, (h.2.2.0, h.2.2.1, (b, h.2.2.2, g))))
+
+elsif_parts_each : (ps : List t.ElsifPart) (ts us : List Lexeme) → Each IsElsifPart ps ts us → AreElsifParts (t.elsif_parts_of ps) ts us
+elsif_parts_each [] ts us h = h
+elsif_parts_each (p ∷ ps) ts us h = elsif_parts_on p (t.elsif_parts_of ps) ts h.0 us h.1 (elsif_parts_each ps h.0 us h.2)
+
+abbrev pub IsAlternative : t.CaseAlternative → Phrase
+IsAlternative x = IsAt k.When x.at ⨾ Listed k.Bar IsChoice x.choices ⨾ Is k.Arrow ⨾ AreStatements x.statements
+
+-- an alternative in front of alternatives
+pub alternatives_on : (x : t.CaseAlternative) (more : t.Alternatives) (a b c : List Lexeme) → IsAlternative x a b → AreAlternatives more b c → AreAlternatives (t.and_alternative x.at x.choices x.statements more) a c
+alternatives_on x more a b c h g = (h.0, h.1, (h.2.0, h.2.1, (h.2.2.0, h.2.2.1, (b, h.2.2.2, g))))
+
+alternatives_each : (xs : List t.CaseAlternative) (ts us : List Lexeme) → Each IsAlternative xs ts us → AreAlternatives (t.alternatives_of xs) ts us
+alternatives_each [] ts us h = h
+alternatives_each (x ∷ xs) ts us h = alternatives_on x (t.alternatives_of xs) ts h.0 us h.1 (alternatives_each xs h.0 us h.2)
+
 module _ (inner : Parser t.Statement) (inner_sound : Sound IsStatement inner) where
-  statements_from_sound : (n : ℕ) (found : List t.Statement) (ts : List Lexeme) (r : List t.Statement × List Lexeme) → statements_from inner n found ts ≡ Ok r → (more : List t.Statement) × (r.0 ≡ found ++ more) × MoreStatements (t.statements_of more) ts r.1
-  unfolding statements_from
-  statements_from_sound zero found ts r h =
-      let e = ok_is _ _ h in
-      ([], sym (append-nil found ∙ ap (λ (q : List t.Statement × List Lexeme). q.0) e), ap (λ (q : List t.Statement × List Lexeme). q.1) e)
-  statements_from_sound (suc n) found ts r h = elim (chosen (sees_statement ts) _ _ _ h) [
-    | inl g ↦
-        let a = bind_ok (inner ts) _ r g.1 in
-        let b = statements_from_sound n (found ++ a.0.0 ∷ []) a.0.1 r a.2 in
-        (a.0.0 ∷ b.0, b.1 ∙ append_assoc found (a.0.0 ∷ []) b.0, (a.0.1, inner_sound ts a.0 a.1, b.2))
-    | inr g ↦
-        let e = ok_is _ _ g.1 in
-        ([], sym (append-nil found ∙ ap (λ (q : List t.Statement × List Lexeme). q.0) e), ap (λ (q : List t.Statement × List Lexeme). q.1) e)
-  ]
-
-  -- the first of them, and the others
-  abbrev pub Sequence : List t.Statement → Phrase
-  Sequence ss = AreStatements (t.statements_of ss)
-
   pub statements_sound : Sound Sequence (statements inner)
   unfolding statements
-  statements_sound ts r h =
-      let a = bind_ok (inner ts) _ r h in
-      let d = statements_from_sound (length a.0.1) (a.0.0 ∷ []) a.0.1 r a.2 in
-      subst (λ ss. Sequence ss ts r.1) (sym d.1) (a.0.1, inner_sound ts a.0 a.1, d.2)
+  statements_sound ts r h = sequence_of r.0 ts r.1 (at_least_one_sound IsStatement inner inner_sound sees_statement ts r h)
 
   else_list : (ss : List t.Statement) (a b c : List Lexeme) → Is k.Else a b → Sequence ss b c → IsElse (t.statements_of ss) a c
   else_list [] a b c w h = absurd h
@@ -257,37 +271,18 @@ module _ (inner : Parser t.Statement) (inner_sound : Sound IsStatement inner) wh
     | inr g ↦ given (λ ss. IsElse (t.statements_of ss)) ts _ r g.1 (sym (not_eaten k.Else ts g.0))
   ]
 
-  pub elsif_part_sound : (ts : List Lexeme) (r : t.ElsifPart × List Lexeme) → elsif_part inner ts ≡ Ok r → (IsAt k.Elsif r.0.at ⨾ IsExpression r.0.condition ⨾ Is k.Then ⨾ AreStatements r.0.statements) ts r.1
+  pub elsif_part_sound : Sound IsElsifPart (elsif_part inner)
   unfolding elsif_part
   elsif_part_sound ts r h =
       let a = bind_ok (expect k.Elsif ts) _ r h in
       let b = bind_ok (any_expression a.0.1) _ r a.2 in
       let c = bind_ok (expect k.Then b.0.1) _ r b.2 in
       let d = bind_ok (statements inner c.0.1) _ r c.2 in
-      let is : t.ElsifPart → Phrase = λ p. IsAt k.Elsif p.at ⨾ IsExpression p.condition ⨾ Is k.Then ⨾ AreStatements p.statements in
-      given is ts _ r d.2 (a.0.1, expected_at k.Elsif ts a.0 a.1, (b.0.1, any_expression_sound _ b.0 b.1, (c.0.1, expected k.Then _ c.0 c.1, statements_sound _ d.0 d.1)))
-
-  elsif_parts_from_sound : (n : ℕ) (found : List t.ElsifPart) (ts : List Lexeme) (r : List t.ElsifPart × List Lexeme) → elsif_parts_from inner n found ts ≡ Ok r → (more : List t.ElsifPart) × (r.0 ≡ found ++ more) × AreElsifParts (t.elsif_parts_of more) ts r.1
-  unfolding elsif_parts_from
-  elsif_parts_from_sound zero found ts r h =
-      let e = ok_is _ _ h in
-      ([], sym (append-nil found ∙ ap (λ (q : List t.ElsifPart × List Lexeme). q.0) e), ap (λ (q : List t.ElsifPart × List Lexeme). q.1) e)
-  elsif_parts_from_sound (suc n) found ts r h = elim (chosen (sees k.Elsif ts) _ _ _ h) [
-    | inl g ↦
-        let a = bind_ok (elsif_part inner ts) _ r g.1 in
-        let b = elsif_parts_from_sound n (found ++ a.0.0 ∷ []) a.0.1 r a.2 in
-        let p = elsif_part_sound ts a.0 a.1 in
-        (a.0.0 ∷ b.0, b.1 ∙ append_assoc found (a.0.0 ∷ []) b.0, (p.0, p.1, (p.2.0, p.2.1, (p.2.2.0, p.2.2.1, (a.0.1, p.2.2.2, b.2)))))
-    | inr g ↦
-        let e = ok_is _ _ g.1 in
-        ([], sym (append-nil found ∙ ap (λ (q : List t.ElsifPart × List Lexeme). q.0) e), ap (λ (q : List t.ElsifPart × List Lexeme). q.1) e)
-  ]
+      given IsElsifPart ts _ r d.2 (a.0.1, expected_at k.Elsif ts a.0 a.1, (b.0.1, any_expression_sound _ b.0 b.1, (c.0.1, expected k.Then _ c.0 c.1, statements_sound _ d.0 d.1)))
 
   pub elsif_parts_sound : Sound (λ ps. AreElsifParts (t.elsif_parts_of ps)) (elsif_parts inner)
   unfolding elsif_parts
-  elsif_parts_sound ts r h =
-      let d = elsif_parts_from_sound (length ts) [] ts r h in
-      subst (λ ps. AreElsifParts (t.elsif_parts_of ps) ts r.1) (sym d.1) d.2
+  elsif_parts_sound ts r h = elsif_parts_each r.0 ts r.1 (many_sound IsElsifPart (elsif_part inner) elsif_part_sound (sees k.Elsif) ts r h)
 
   if_sound : Sound IsStatement (if_statement inner)
   unfolding if_statement
@@ -303,37 +298,18 @@ module _ (inner : Parser t.Statement) (inner_sound : Sound IsStatement inner) wh
       let z = bind_ok (expect k.Semicolon y.0.1) _ r y.2 in
       given IsStatement ts _ r z.2 (a.0.1, expected_at k.If ts a.0 a.1, (b.0.1, any_expression_sound _ b.0 b.1, (c.0.1, expected k.Then _ c.0 c.1, (d.0.1, statements_sound _ d.0 d.1, (e.0.1, elsif_parts_sound _ e.0 e.1, (f.0.1, else_sound _ f.0 f.1, (x.0.1, expected k.End _ x.0 x.1, (y.0.1, expected k.If _ y.0 y.1, expected k.Semicolon _ z.0 z.1))))))))
 
-  pub alternative_sound : (ts : List Lexeme) (r : t.CaseAlternative × List Lexeme) → alternative inner ts ≡ Ok r → (IsAt k.When r.0.at ⨾ Listed k.Bar IsChoice r.0.choices ⨾ Is k.Arrow ⨾ AreStatements r.0.statements) ts r.1
+  pub alternative_sound : Sound IsAlternative (alternative inner)
   unfolding alternative
   alternative_sound ts r h =
       let a = bind_ok (expect k.When ts) _ r h in
       let b = bind_ok (listed k.Bar choice a.0.1) _ r a.2 in
       let c = bind_ok (expect k.Arrow b.0.1) _ r b.2 in
       let d = bind_ok (statements inner c.0.1) _ r c.2 in
-      let is : t.CaseAlternative → Phrase = λ p. IsAt k.When p.at ⨾ Listed k.Bar IsChoice p.choices ⨾ Is k.Arrow ⨾ AreStatements p.statements in
-      given is ts _ r d.2 (a.0.1, expected_at k.When ts a.0 a.1, (b.0.1, listed_sound IsChoice choice choice_sound k.Bar _ b.0 b.1, (c.0.1, expected k.Arrow _ c.0 c.1, statements_sound _ d.0 d.1)))
+      given IsAlternative ts _ r d.2 (a.0.1, expected_at k.When ts a.0 a.1, (b.0.1, listed_sound IsChoice choice choice_sound k.Bar _ b.0 b.1, (c.0.1, expected k.Arrow _ c.0 c.1, statements_sound _ d.0 d.1)))
 
-  alternatives_from_sound : (n : ℕ) (found : List t.CaseAlternative) (ts : List Lexeme) (r : List t.CaseAlternative × List Lexeme) → alternatives_from inner n found ts ≡ Ok r → (more : List t.CaseAlternative) × (r.0 ≡ found ++ more) × AreAlternatives (t.alternatives_of more) ts r.1
-  unfolding alternatives_from
-  alternatives_from_sound zero found ts r h =
-      let e = ok_is _ _ h in
-      ([], sym (append-nil found ∙ ap (λ (q : List t.CaseAlternative × List Lexeme). q.0) e), ap (λ (q : List t.CaseAlternative × List Lexeme). q.1) e)
-  alternatives_from_sound (suc n) found ts r h = elim (chosen (sees k.When ts) _ _ _ h) [
-    | inl g ↦
-        let a = bind_ok (alternative inner ts) _ r g.1 in
-        let b = alternatives_from_sound n (found ++ a.0.0 ∷ []) a.0.1 r a.2 in
-        let p = alternative_sound ts a.0 a.1 in
-        (a.0.0 ∷ b.0, b.1 ∙ append_assoc found (a.0.0 ∷ []) b.0, (p.0, p.1, (p.2.0, p.2.1, (p.2.2.0, p.2.2.1, (a.0.1, p.2.2.2, b.2)))))
-    | inr g ↦
-        let e = ok_is _ _ g.1 in
-        ([], sym (append-nil found ∙ ap (λ (q : List t.CaseAlternative × List Lexeme). q.0) e), ap (λ (q : List t.CaseAlternative × List Lexeme). q.1) e)
-  ]
-
-  pub alternatives_sound : Sound (λ ps. AreAlternatives (t.alternatives_of ps)) (alternatives inner)
+  pub alternatives_sound : Sound (λ xs. AreAlternatives (t.alternatives_of xs)) (alternatives inner)
   unfolding alternatives
-  alternatives_sound ts r h =
-      let d = alternatives_from_sound (length ts) [] ts r h in
-      subst (λ ps. AreAlternatives (t.alternatives_of ps) ts r.1) (sym d.1) d.2
+  alternatives_sound ts r h = alternatives_each r.0 ts r.1 (many_sound IsAlternative (alternative inner) alternative_sound (sees k.When) ts r h)
 
   case_sound : Sound IsStatement (case_statement inner)
   unfolding case_statement

@@ -89,33 +89,35 @@ flag_sound what ts = by_test (sees what ts) refl
     by_test true h = eaten what ts h
     by_test false h = sym (not_eaten what ts h)
 
-module _ {A : Type 0} (is : A → Phrase) (item : Parser A) (sound : Sound is item) where
-  pub many_from_sound : (begins : List Lexeme → Bool) (n : ℕ) (found : List A) (ts : List Lexeme) (r : List A × List Lexeme) → many_from begins item n found ts ≡ Ok r → (more : List A) × (r.0 ≡ found ++ more) × Each is more ts r.1
+-- {x}, where what begins so is what the grammar says
+module _ {A : Type 0} (is : A → Phrase) (item : Parser A) (begins : List Lexeme → Bool) (sound : (ts : List Lexeme) (r : A × List Lexeme) → begins ts ≡ true → item ts ≡ Ok r → is r.0 ts r.1) where
+  many_from_sound : (n : ℕ) (found : List A) (ts : List Lexeme) (r : List A × List Lexeme) → many_from begins item n found ts ≡ Ok r → (more : List A) × (r.0 ≡ found ++ more) × Each is more ts r.1
   unfolding many_from
-  many_from_sound begins zero found ts r h =
+  many_from_sound zero found ts r h =
       let e = ok_is _ _ h in
       ([], sym (append-nil found ∙ ap (λ (q : List A × List Lexeme). q.0) e), ap (λ (q : List A × List Lexeme). q.1) e)
-  many_from_sound begins (suc n) found ts r h = elim (chosen (begins ts) _ _ _ h) [
+  many_from_sound (suc n) found ts r h = elim (chosen (begins ts) _ _ _ h) [
     | inl g ↦
         let a = bind_ok (item ts) _ r g.1 in
-        let b = many_from_sound begins n (found ++ a.0.0 ∷ []) a.0.1 r a.2 in
-        (a.0.0 ∷ b.0, b.1 ∙ append_assoc found (a.0.0 ∷ []) b.0, (a.0.1, sound ts a.0 a.1, b.2))
+        let b = many_from_sound n (found ++ a.0.0 ∷ []) a.0.1 r a.2 in
+        (a.0.0 ∷ b.0, b.1 ∙ append_assoc found (a.0.0 ∷ []) b.0, (a.0.1, sound ts a.0 g.0 a.1, b.2))
     | inr g ↦
         let e = ok_is _ _ g.1 in
         ([], sym (append-nil found ∙ ap (λ (q : List A × List Lexeme). q.0) e), ap (λ (q : List A × List Lexeme). q.1) e)
   ]
 
+module _ {A : Type 0} (is : A → Phrase) (item : Parser A) (sound : Sound is item) where
   pub many_sound : (begins : List Lexeme → Bool) → Sound (Each is) (many begins item)
   unfolding many more_of
   many_sound begins ts r h =
-      let m = many_from_sound begins (length ts) [] ts r h in
+      let m = many_from_sound is item begins (λ us q g. sound us q) (length ts) [] ts r h in
       subst (λ l. Each is l ts r.1) (sym m.1) m.2
 
   pub at_least_one_sound : (begins : List Lexeme → Bool) → Sound (AtLeastOne is) (at_least_one begins item)
   unfolding at_least_one more_of
   at_least_one_sound begins ts r h =
       let a = bind_ok (item ts) _ r h in
-      let m = many_from_sound begins (length a.0.1) (a.0.0 ∷ []) a.0.1 r a.2 in
+      let m = many_from_sound is item begins (λ us q g. sound us q) (length a.0.1) (a.0.0 ∷ []) a.0.1 r a.2 in
       subst (λ l. AtLeastOne is l ts r.1) (sym m.1) (a.0.1, sound ts a.0 a.1, m.2)
 
   pub optional_sound : (begins : List Lexeme → Bool) → Sound (Maybe is) (optional begins item)
@@ -134,20 +136,8 @@ module _ {A : Type 0} (is : A → Phrase) (item : Parser A) (sound : Sound is it
   ]
 
   -- {between x}, by the same loop
-  pub after_from_sound : (between : Kind) (n : ℕ) (found : List A) (ts : List Lexeme) (r : List A × List Lexeme) → many_from (sees between) (behind item) n found ts ≡ Ok r → (more : List A) × (r.0 ≡ found ++ more) × EachAfter between is more ts r.1
-  unfolding many_from
-  after_from_sound between zero found ts r h =
-      let e = ok_is _ _ h in
-      ([], sym (append-nil found ∙ ap (λ (q : List A × List Lexeme). q.0) e), ap (λ (q : List A × List Lexeme). q.1) e)
-  after_from_sound between (suc n) found ts r h = elim (chosen (sees between ts) _ _ _ h) [
-    | inl g ↦
-        let a = bind_ok (item (next ts)) _ r g.1 in
-        let b = after_from_sound between n (found ++ a.0.0 ∷ []) a.0.1 r a.2 in
-        (a.0.0 ∷ b.0, b.1 ∙ append_assoc found (a.0.0 ∷ []) b.0, (a.0.1, (next ts, taken between ts g.0, sound _ a.0 a.1), b.2))
-    | inr g ↦
-        let e = ok_is _ _ g.1 in
-        ([], sym (append-nil found ∙ ap (λ (q : List A × List Lexeme). q.0) e), ap (λ (q : List A × List Lexeme). q.1) e)
-  ]
+  after_from_sound : (between : Kind) (n : ℕ) (found : List A) (ts : List Lexeme) (r : List A × List Lexeme) → many_from (sees between) (behind item) n found ts ≡ Ok r → (more : List A) × (r.0 ≡ found ++ more) × EachAfter between is more ts r.1
+  after_from_sound between = many_from_sound (After between is) (behind item) (sees between) (λ us q g h. (next us, taken between us g, sound (next us) q h))
 
   pub more_after_sound : (between : Kind) → Sound (EachAfter between is) (more_after between item [])
   unfolding more_after more_of

@@ -27,6 +27,27 @@ Tamed w ts (Err unexpected) = Unit {0}
 pub record Tame {A : Type 0} (w : Walk) (p : Parser A) : Type 0 where
   pub at : (ts : List Lexeme) → Tamed w ts (p ts)
 
+-- where a rule ends
+pub went : {A : Type 0} (w : Walk) (p : Parser A) (ts : List Lexeme) (r : A × List Lexeme) → Tame w p → p ts ≡ Ok r → w.via ts r.1
+unfolding Tamed
+went {A = A} w p ts r h e = let P : Outcome A → Type 0 = λ o. Tamed w ts o in subst P e (h.at ts)
+
+-- what is told of words that nest too deep
+pub told : {A : Type 0} (w : Walk) (p : Parser A) (ts : List Lexeme) → Tame w p → p ts ≡ Err too_deep → w.fails ts
+unfolding Tamed
+told {A = A} w p ts h e = let P : Outcome A → Type 0 = λ o. Tamed w ts o in subst P e (h.at ts)
+
+-- what one walk tells of a rule, as another tells it
+module _ (v w : Walk) (via : (a b : List Lexeme) → v.via a b → w.via a b) (fails : (ts : List Lexeme) → v.fails ts → w.fails ts) where
+  retold : {A : Type 0} (ts : List Lexeme) (r : Outcome A) → Tamed v ts r → Tamed w ts r
+  unfolding Tamed
+  retold ts (Ok r) h = via ts r.1 h
+  retold ts (Err too_deep) h = fails ts h
+  retold ts (Err unexpected) h = tt
+
+  pub tame_too : {A : Type 0} (p : Parser A) → Tame v p → Tame w p
+  tame_too p h = record { at = λ ts. retold ts (p ts) (h.at ts) }
+
 pub from_there : {A : Type 0} (w : Walk) (ts us : List Lexeme) (r : Outcome A) → w.via ts us → Tamed w us r → Tamed w ts r
 unfolding Tamed
 from_there w ts us (Ok r) v h = w.on ts us r.1 v h
@@ -99,18 +120,20 @@ module _ (w : Walk) where
       by_list [] = tt
       by_list (t ∷ ts) = (h t.kind).at (t ∷ ts)
 
-  module _ {A : Type 0} (item : Parser A) (item_tame : Tame w item) where
-    pub many_from_tame : (begins : List Lexeme → Bool) (n : ℕ) (found : List A) → Tame w (many_from begins item n found)
+  -- {x}, where a rule goes on over what begins so
+  module _ {A : Type 0} (item : Parser A) (begins : List Lexeme → Bool) (item_tamed : (ts : List Lexeme) → begins ts ≡ true → Tamed w ts (item ts)) where
+    many_from_tame : (n : ℕ) (found : List A) → Tame w (many_from begins item n found)
     unfolding many_from
-    many_from_tame begins zero found = pure_tame found
-    many_from_tame begins (suc n) found = record {
+    many_from_tame zero found = pure_tame found
+    many_from_tame (suc n) found = record {
       at = λ ts. if_tamed (begins ts) _ _ ts
-          (λ g. then_tamed w ts (item ts) _ (item_tame.at ts) (λ a. many_from_tame begins n (found ++ a ∷ []))) (λ g. here_tamed found ts);
+          (λ g. then_tamed w ts (item ts) _ (item_tamed ts g) (λ a. many_from_tame n (found ++ a ∷ []))) (λ g. here_tamed found ts);
     }
 
+  module _ {A : Type 0} (item : Parser A) (item_tame : Tame w item) where
     pub more_of_tame : (begins : List Lexeme → Bool) (found : List A) → Tame w (more_of begins item found)
     unfolding more_of
-    more_of_tame begins found = record { at = λ ts. (many_from_tame begins (length ts) found).at ts }
+    more_of_tame begins found = record { at = λ ts. (many_from_tame item begins (λ us g. item_tame.at us) (length ts) found).at ts }
 
     pub many_tame : (begins : List Lexeme → Bool) → Tame w (many begins item)
     unfolding many
@@ -132,19 +155,12 @@ module _ (w : Walk) where
     optional_after_tame what o c = eat_tame what o c ⊳ (λ seen. if_tame seen _ _ (item_tame ⊳ (λ a. pure_tame (Some a))) (pure_tame None))
 
     -- {between x}, by the same loop
-    pub after_from_tame : (between : Kind) (n : ℕ) (found : List A) → opens between ≡ 0 → closes between ≡ 0 → Tame w (many_from (sees between) (behind item) n found)
-    unfolding many_from
-    after_from_tame between zero found o c = pure_tame found
-    after_from_tame between (suc n) found o c = record {
-      at = λ ts. if_tamed (sees between ts) _ _ ts
-          (λ g. from_there w ts (next ts) _ (w.word between ts (next ts) o c (taken between ts g))
-          (then_tamed w (next ts) (item (next ts)) _ (item_tame.at (next ts)) (λ a. after_from_tame between n (found ++ a ∷ []) o c)))
-          (λ g. here_tamed found ts);
-    }
+    behind_tamed : (between : Kind) → opens between ≡ 0 → closes between ≡ 0 → (ts : List Lexeme) → sees between ts ≡ true → Tamed w ts (item (next ts))
+    behind_tamed between o c ts g = from_there w ts (next ts) (item (next ts)) (w.word between ts (next ts) o c (taken between ts g)) (item_tame.at (next ts))
 
     pub more_after_tame : (between : Kind) (found : List A) → opens between ≡ 0 → closes between ≡ 0 → Tame w (more_after between item found)
     unfolding more_after more_of
-    more_after_tame between found o c = record { at = λ ts. (after_from_tame between (length ts) found o c).at ts }
+    more_after_tame between found o c = record { at = λ ts. (many_from_tame (behind item) (sees between) (behind_tamed between o c) (length ts) found).at ts }
 
     pub listed_tame : (between : Kind) → opens between ≡ 0 → closes between ≡ 0 → Tame w (listed between item)
     unfolding listed

@@ -15,7 +15,7 @@ use Rattle.rv_grammar.specs.DeclarationRules.{any_expression, range, argument_na
 use Rattle.rv_grammar.specs.StatementRules.{choice, two_from, bounds_from, bounds, for_loop, while_loop, iteration, null_statement, call_arguments, named_statement, exit_statement, return_statement, raise_statement, delay_statement, abort_statement, with_abort, requeue_statement, guard, simple_by, simple_statement}
 use Rattle.rv_grammar.specs.Nesting.{ManyParentheses}
 use Rattle.rv_grammar.proofs.Steps.{taken, eaten, not_eaten}
-use Rattle.rv_grammar.proofs.Tame.{Walk, Tamed, Tame, from_there, ◌⊳◌, pure_tame, refuse_tame, here_tamed, if_tamed, if_tame, choice_tame, expect_tame, eat_tame, identifier_tame, by_kind_tame, many_tame, optional_tame, optional_after_tame, listed_tame, name_tame, end_name_tame}
+use Rattle.rv_grammar.proofs.Tame.{Walk, Tamed, Tame, tame_too, from_there, ◌⊳◌, pure_tame, refuse_tame, here_tamed, if_tamed, if_tame, choice_tame, expect_tame, eat_tame, identifier_tame, by_kind_tame, many_tame, optional_tame, optional_after_tame, listed_tame, name_tame, end_name_tame}
 use Rattle.rv_grammar.proofs.TameExpression.{Fronts, walk, joined_up, one_more_open, expression_tame, arguments_within}
 
 -- what is left is the end of what there was
@@ -38,29 +38,27 @@ more_before a b h g = record {
   many = g.many;
 }
 
--- over any words
-abbrev pub plain : Walk
-plain = record {
+-- over any words, with this told of words that nest too deep
+abbrev pub telling : (fails : List Lexeme → Type 0) → ((a b : List Lexeme) → Ends a b → fails b → fails a) → Walk
+telling deep before = record {
   via = Ends;
-  fails = ManyParentheses;
+  fails = deep;
   same = λ a. record { front = []; whole = refl };
   on = ends_on;
-  back = more_before;
+  back = before;
   word = λ what a b o c h. ends_word what a b h;
 }
+
+-- with too many parentheses told
+abbrev pub plain : Walk
+plain = telling ManyParentheses more_before
 
 many_of : (ts : List Lexeme) → Fronts 65 ts → ManyParentheses ts
 many_of ts h = record { before = []; nest = h.front; behind = h.rest; whole = h.whole; many = h.count }
 
-even_plain : {A : Type 0} (ts : List Lexeme) (r : Outcome A) → Tamed (walk 65) ts r → Tamed plain ts r
-unfolding Tamed
-even_plain ts (Ok r) h = record { front = h.front; whole = h.whole }
-even_plain ts (Err too_deep) h = many_of ts h
-even_plain ts (Err unexpected) h = tt
-
 -- what may open 64 parentheses
 within : {A : Type 0} (p : Parser A) → Tame (walk 65) p → Tame plain p
-within p h = record { at = λ ts. even_plain ts (p ts) (h.at ts) }
+within = tame_too (walk 65) plain (λ a b h. record { front = h.front; whole = h.whole }) many_of
 
 any_word_tame : (what : Kind) → Tame plain (expect what)
 unfolding expect Tamed

@@ -1,5 +1,5 @@
 -- Statements are refused only where too many are open, or too many parentheses.
-use Rattle.std.proofs.Common.{◌≡◌, ◌⊎◌, inl, inr, ℕ, zero, suc, Bool, true, false, cond, List, [], ◌∷◌, ◌++◌, length, None, Ok, Err, refl, subst}
+use Rattle.std.proofs.Common.{◌≡◌, ◌⊎◌, inl, inr, ℕ, zero, suc, Bool, true, false, cond, List, [], ◌∷◌, ◌++◌, length, None, Ok, Err, refl}
 use Rattle.rv_lex.specs.declared.kind.Kind.{Kind}
 use Rattle.rv_lex.specs.declared.kind.Kind.TheVariants as k
 use Rattle.rv_lex.specs.Lexes.{Lexeme}
@@ -7,40 +7,17 @@ use Rattle.rv_tree.specs.Phrases.{Phrase}
 use Rattle.rv_tree.specs.Statements as t
 use Rattle.rv_grammar.specs.Reading.{unexpected, too_deep, Outcome, Parser, and_then, sees, place}
 use Rattle.rv_grammar.specs.NameRules.{identifier}
-use Rattle.rv_grammar.specs.StatementRules.{choice, guard, sees_statement, statements_from, statements, statements_after, elsif_part, elsif_parts_from, elsif_parts, if_statement, alternative, alternatives_from, alternatives, case_statement, loop_statement, accept_body, accept_statement, selective, selectives_from, selectives, then_abort, select_statement, statement_by, any_statement, statement}
+use Rattle.rv_grammar.specs.StatementRules.{choice, guard, sees_statement, statements, statements_after, elsif_part, elsif_parts, if_statement, alternative, alternatives, case_statement, loop_statement, accept_body, accept_statement, selective, selectives_from, selectives, then_abort, select_statement, statement_by, any_statement, statement}
 use Rattle.rv_grammar.specs.Nesting.{opens, closes, ManyParentheses, Nested}
-use Rattle.rv_grammar.proofs.Tame.{Walk, Tamed, Tame, ◌⊳◌, pure_tame, refuse_tame, if_tamed, if_tame, choice_tame, expect_tame, eat_tame, identifier_tame, by_kind_tame, optional_tame, listed_tame}
-use Rattle.rv_grammar.proofs.TameRules.{Ends, ends_on, ends_word, more_before, plain, any_expression_tame, choice_of_tame, iteration_tame, guard_tame, parameters_tame, simple_statement_tame}
+use Rattle.rv_grammar.proofs.Tame.{Walk, Tamed, Tame, went, told, tame_too, ◌⊳◌, pure_tame, refuse_tame, if_tamed, if_tame, choice_tame, expect_tame, eat_tame, identifier_tame, by_kind_tame, many_tame, at_least_one_tame, optional_tame, listed_tame}
+use Rattle.rv_grammar.proofs.TameRules.{Ends, ends_on, more_before, telling, plain, any_expression_tame, choice_of_tame, iteration_tame, guard_tame, parameters_tame, simple_statement_tame}
 
 -- over any words, with nothing told of words that nest too deep
 abbrev pub free : Walk
-free = record {
-  via = Ends;
-  fails = λ ts. Unit {0};
-  same = λ a. record { front = []; whole = refl };
-  on = ends_on;
-  back = λ a b h g. tt;
-  word = λ what a b o c h. ends_word what a b h;
-}
-
-freed : {A : Type 0} (ts : List Lexeme) (r : Outcome A) → Tamed plain ts r → Tamed free ts r
-unfolding Tamed
-freed ts (Ok r) h = h
-freed ts (Err too_deep) h = tt
-freed ts (Err unexpected) h = tt
+free = telling (λ ts. Unit {0}) (λ a b h g. tt)
 
 free_of : {A : Type 0} (p : Parser A) → Tame plain p → Tame free p
-free_of p h = record { at = λ ts. freed ts (p ts) (h.at ts) }
-
--- where a rule ends
-pub ends_at : {A : Type 0} (p : Parser A) (ts : List Lexeme) (r : A × List Lexeme) → Tame free p → p ts ≡ Ok r → Ends ts r.1
-unfolding Tamed
-ends_at {A = A} p ts r h e = let P : Outcome A → Type 0 = λ o. Tamed free ts o in subst P e (h.at ts)
-
--- what is told of parentheses
-pub told : {A : Type 0} (p : Parser A) (ts : List Lexeme) → Tame plain p → p ts ≡ Err too_deep → ManyParentheses ts
-unfolding Tamed
-told {A = A} p ts h e = let P : Outcome A → Type 0 = λ o. Tamed plain ts o in subst P e (h.at ts)
+free_of = tame_too plain free (λ a b h. h) (λ ts h. tt)
 
 -- the part of a sequence that nests too deep
 deep_then : {A B : Type 0} (r : Outcome A) (f : A → Parser B) → and_then r f ≡ Err too_deep → (r ≡ Err too_deep) ⊎ ((p : A × List Lexeme) × (r ≡ Ok p) × (f p.0 p.1 ≡ Err too_deep))
@@ -70,8 +47,8 @@ module _ (many : ℕ) (reach : Phrase) (start : List Lexeme) where
   pub step : {A B : Type 0} (p : Parser A) (p_tame : Tame plain p) (ts : List Lexeme) (v : Ends start ts) (f : A → Parser B) → and_then (p ts) f ≡ Err too_deep
       → ((q : A × List Lexeme) → p ts ≡ Ok q → Ends start q.1 → f q.0 q.1 ≡ Err too_deep → Deep many reach start) → Deep many reach start
   step p p_tame ts v f h g = elim (deep_then (p ts) f h) [
-    | inl e ↦ parens ts v (told p ts p_tame e)
-    | inr q ↦ g q.0 q.1 (ends_on start ts q.0.1 v (ends_at p ts q.0 (free_of p p_tame) q.1)) q.2
+    | inl e ↦ parens ts v (told plain p ts p_tame e)
+    | inr q ↦ g q.0 q.1 (ends_on start ts q.0.1 v (went free p ts q.0 (free_of p p_tame) q.1)) q.2
   ]
 
   pub holding : {A B : Type 0} (p : Parser A) (p_free : Tame free p) (inside : Phrase) → ((ts : List Lexeme) → p ts ≡ Err too_deep → Deep many inside ts) → (ts : List Lexeme) (v : Ends start ts) (f : A → Parser B) → and_then (p ts) f ≡ Err too_deep
@@ -83,7 +60,7 @@ module _ (many : ℕ) (reach : Phrase) (start : List Lexeme) where
       | inl m ↦ parens ts v m
       | inr n ↦ reached n.0 (put n.0 n.1) n.2 (ends_on start ts n.0 v n.3)
     ]
-    | inr q ↦ g q.0 q.1 (ends_on start ts q.0.1 v (ends_at p ts q.0 p_free q.1)) q.2
+    | inr q ↦ g q.0 q.1 (ends_on start ts q.0.1 v (went free p ts q.0 p_free q.1)) q.2
   ]
 
   -- the last part
@@ -98,14 +75,9 @@ pub here : (ts : List Lexeme) → Ends ts ts
 here ts = record { front = []; whole = refl }
 
 module _ (inner : Parser t.Statement) (inner_free : Tame free inner) where
-  statements_from_free : (n : ℕ) (found : List t.Statement) → Tame free (statements_from inner n found)
-  unfolding statements_from
-  statements_from_free zero found = pure_tame free found
-  statements_from_free (suc n) found = choice_tame free sees_statement _ _ (inner_free ⊳ (λ s. statements_from_free n (found ++ s ∷ []))) (pure_tame free found)
-
   pub statements_free : Tame free (statements inner)
   unfolding statements
-  statements_free = inner_free ⊳ (λ s. record { at = λ ts. (statements_from_free (length ts) (s ∷ [])).at ts })
+  statements_free = at_least_one_tame free inner inner_free sees_statement
 
   pub statements_after_free : (word : Kind) → opens word ≡ 0 → closes word ≡ 0 → Tame free (statements_after inner word)
   unfolding statements_after
@@ -115,14 +87,9 @@ module _ (inner : Parser t.Statement) (inner_free : Tame free inner) where
   unfolding elsif_part
   elsif_part_free = expect_tame free k.Elsif refl refl ⊳ (λ at. free_of _ any_expression_tame ⊳ (λ condition. expect_tame free k.Then refl refl ⊳ (λ _. statements_free ⊳ (λ ss. pure_tame free _))))
 
-  elsif_parts_from_free : (n : ℕ) (found : List t.ElsifPart) → Tame free (elsif_parts_from inner n found)
-  unfolding elsif_parts_from
-  elsif_parts_from_free zero found = pure_tame free found
-  elsif_parts_from_free (suc n) found = choice_tame free (sees k.Elsif) _ _ (elsif_part_free ⊳ (λ p. elsif_parts_from_free n (found ++ p ∷ []))) (pure_tame free found)
-
   pub elsif_parts_free : Tame free (elsif_parts inner)
   unfolding elsif_parts
-  elsif_parts_free = record { at = λ ts. (elsif_parts_from_free (length ts) []).at ts }
+  elsif_parts_free = many_tame free (elsif_part inner) elsif_part_free (sees k.Elsif)
 
   if_free : Tame free (if_statement inner)
   unfolding if_statement
@@ -132,14 +99,9 @@ module _ (inner : Parser t.Statement) (inner_free : Tame free inner) where
   unfolding alternative
   alternative_free = expect_tame free k.When refl refl ⊳ (λ at. listed_tame free choice (free_of _ choice_of_tame) k.Bar refl refl ⊳ (λ choices. expect_tame free k.Arrow refl refl ⊳ (λ _. statements_free ⊳ (λ ss. pure_tame free _))))
 
-  alternatives_from_free : (n : ℕ) (found : List t.CaseAlternative) → Tame free (alternatives_from inner n found)
-  unfolding alternatives_from
-  alternatives_from_free zero found = pure_tame free found
-  alternatives_from_free (suc n) found = choice_tame free (sees k.When) _ _ (alternative_free ⊳ (λ p. alternatives_from_free n (found ++ p ∷ []))) (pure_tame free found)
-
   pub alternatives_free : Tame free (alternatives inner)
   unfolding alternatives
-  alternatives_free = record { at = λ ts. (alternatives_from_free (length ts) []).at ts }
+  alternatives_free = many_tame free (alternative inner) alternative_free (sees k.When)
 
   case_free : Tame free (case_statement inner)
   unfolding case_statement

@@ -6,7 +6,7 @@ use Rattle.rv_lex.specs.Lexes.{Lexeme}
 use Rattle.rv_tree.specs.Names.{Identifier}
 use Rattle.rv_tree.specs.Expressions as e
 use Rattle.rv_tree.specs.Statements as t
-use Rattle.rv_grammar.specs.Reading.{Parser, unexpected, too_deep, ◌>>=◌, ◌>>◌, pure, refuse, sees, place, by_kind, starts_by, eat, expect, listed, optional, optional_after}
+use Rattle.rv_grammar.specs.Reading.{Parser, unexpected, too_deep, ◌>>=◌, ◌>>◌, pure, refuse, sees, place, by_kind, starts_by, eat, expect, many, at_least_one, listed, optional, optional_after}
 use Rattle.rv_grammar.specs.NameRules.{identifier, name}
 use Rattle.rv_grammar.specs.ExpressionRules.{begins_expression, arguments, opening, inside}
 use Rattle.rv_grammar.specs.DeclarationRules.{any_expression, range, parameters}
@@ -169,14 +169,9 @@ abbrev pub sees_statement : List Lexeme → Bool
 sees_statement = starts_by begins_statement
 
 module _ (inner : Parser t.Statement) where
-  -- {stmt}, behind those that were found
-  unfoldable pub statements_from : ℕ → List t.Statement → Parser (List t.Statement)
-  statements_from zero found = pure found
-  statements_from (suc n) found = λ i. if sees_statement i then (inner >>= λ s. statements_from n (found ++ s ∷ [])) i else Ok (found, i)
-
   -- stmt {stmt}
   unfoldable pub statements : Parser (List t.Statement)
-  statements = inner >>= λ s. λ i. statements_from (length i) (s ∷ []) i
+  statements = at_least_one sees_statement inner
 
   -- [word stmts]
   unfoldable pub statements_after : Kind → Parser (List t.Statement)
@@ -192,12 +187,8 @@ module _ (inner : Parser t.Statement) where
     ss ← statements
     pure (record { at = at; condition = condition; statements = t.statements_of ss })
 
-  unfoldable pub elsif_parts_from : ℕ → List t.ElsifPart → Parser (List t.ElsifPart)
-  elsif_parts_from zero found = pure found
-  elsif_parts_from (suc n) found = λ i. if sees k.Elsif i then (elsif_part >>= λ p. elsif_parts_from n (found ++ p ∷ [])) i else Ok (found, i)
-
   unfoldable pub elsif_parts : Parser (List t.ElsifPart)
-  elsif_parts = λ i. elsif_parts_from (length i) [] i
+  elsif_parts = many (sees k.Elsif) elsif_part
 
   unfoldable pub if_statement : Parser t.Statement
   if_statement = do
@@ -220,12 +211,8 @@ module _ (inner : Parser t.Statement) where
     ss ← statements
     pure (record { at = at; choices = choices; statements = t.statements_of ss })
 
-  unfoldable pub alternatives_from : ℕ → List t.CaseAlternative → Parser (List t.CaseAlternative)
-  alternatives_from zero found = pure found
-  alternatives_from (suc n) found = λ i. if sees k.When i then (alternative >>= λ a. alternatives_from n (found ++ a ∷ [])) i else Ok (found, i)
-
   unfoldable pub alternatives : Parser (List t.CaseAlternative)
-  alternatives = λ i. alternatives_from (length i) [] i
+  alternatives = many (sees k.When) alternative
 
   unfoldable pub case_statement : Parser t.Statement
   case_statement = do

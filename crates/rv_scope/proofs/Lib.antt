@@ -1,2 +1,2 @@
 pub mod Scopes
-pub mod Variables
+pub mod BodyRegions

@@ -1,5 +1,5 @@
 -- A region that was begun ends where it began, whatever was declared in it.
-use Rattle.std.proofs.Common.{◌≡◌, ◌∙◌, ap, sym, subst, refl, ℕ, List, [], ◌∷◌, ◌++◌, Option, Some, None}
+use Rattle.std.proofs.Common.{◌≡◌, ◌∙◌, ap, sym, subst, refl, ℕ, Option}
 use Rattle.rv_tree.specs.Names.{Identifier}
 use Rattle.rv_scope.specs.declared.declared.Declared.{Declared}
 use Rattle.rv_scope.specs.Scope.{Region, ScopeView, OnlyDeclares, entered, in_body, with_meaning}
@@ -24,8 +24,3 @@ pub declares_two : (a b c : ScopeView) (i j : Identifier) (m n : Option Declared
 declares_two a b c i j m n first second =
     let P : ScopeView → Type 0 = λ x. OnlyDeclares a x in
     subst P (sym (second ∙ ap (λ x. with_meaning j n x) first)) refl
-
-pub declares_same : (a b c : ScopeView) → OnlyDeclares a b → c ≡ b → OnlyDeclares a c
-declares_same a b c only same =
-    let P : ScopeView → Type 0 = λ x. OnlyDeclares a x in
-    subst P (sym same) only

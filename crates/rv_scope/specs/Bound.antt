@@ -1,5 +1,5 @@
 -- Each name of a text is bound to the one declaration that is visible (ISO/IEC 8652:2012, 8.3, 8.6).
-use Rattle.std.specs.Prelude.{◌≡◌, Bool, true, false, ◌&&◌, List, [], ◌∷◌, Option, Some, None}
+use Rattle.std.specs.Prelude.{◌≡◌, Bool, true, ◌&&◌, List, [], ◌∷◌, Some}
 use Rattle.rv_tree.specs.Names.{Name}
 use Rattle.rv_tree.specs.Units.{UnitTree}
 use Rattle.rv_shape.specs.Shape.{Shape}

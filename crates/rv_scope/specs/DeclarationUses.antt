@@ -1,11 +1,10 @@
 -- The names that declarations use, and what they declare (ISO/IEC 8652:2012, 3.2.2, 3.3.1, 6.1, 9.1, 9.4), in the order of
 -- the text.
-use Rattle.std.specs.Prelude.{ℕ, ◌+◌, Bool, true, false, ◌||◌, if◌then◌else◌, List, [], ◌∷◌, ◌++◌, Option, Some, None, length, codes}
+use Rattle.std.specs.Prelude.{ℕ, Bool, true, false, ◌||◌, if◌then◌else◌, List, [], ◌∷◌, Option, Some, None, length, codes}
 use Rattle.indexmap.specs.IndexMap.{insert_entry}
 use Rattle.rv_text.specs.Names.{is_same_name}
-use Rattle.rv_tree.specs.Names.{Identifier, Name}
-use Rattle.rv_tree.specs.Expressions.{Expression, RangeConstraint}
-use Rattle.rv_tree.specs.Declarations.{PragmaArgument, Pragma, Aspect, Parameter, EntryDeclaration, OperationDeclaration, a_pragma, a_function, a_procedure, an_entry, ProtectedElement, an_operation, a_component, ProtectedUnit, TaskItem, task_pragma, task_entry, TaskDefinition, TaskUnit, Declaration, package_pragma, a_subtype, a_protected_unit, a_task, a_variable, a_constant}
+use Rattle.rv_tree.specs.Names.{Identifier}
+use Rattle.rv_tree.specs.Declarations.{PragmaArgument, Pragma, Aspect, Parameter, OperationDeclaration, a_pragma, a_function, a_procedure, an_entry, ProtectedElement, an_operation, a_component, ProtectedUnit, TaskItem, task_pragma, task_entry, TaskDefinition, TaskUnit, Declaration, package_pragma, a_subtype, a_protected_unit, a_task, a_variable, a_constant}
 use Rattle.rv_scope.specs.declared.declared.Declared.{Declared}
 use Rattle.rv_scope.specs.declared.declared.Declared.TheVariants as d
 use Rattle.rv_scope.specs.declared.declared.OperationKind.{OperationKind}
@@ -16,7 +15,7 @@ use Rattle.rv_scope.specs.declared.wanted.Wanted.{Wanted}
 use Rattle.rv_scope.specs.declared.wanted.Wanted.TheVariants as w
 use Rattle.rv_scope.specs.Scope.{ScopeView, declaring, declaring_all, hiding, hiding_all, entered, within_unit, showing, Region}
 use Rattle.rv_scope.specs.Visible.{visible}
-use Rattle.rv_scope.specs.ExpressionUses.{Use, ◌▷◌, nothing, simple, refused, expression_uses, value_uses, maybe_uses, range_uses}
+use Rattle.rv_scope.specs.ExpressionUses.{Use, ◌▷◌, nothing, refused, expression_uses, value_uses, maybe_uses, range_uses}
 
 -- Pragmas and aspects (2.8, 13.1.1)
 
@@ -73,11 +72,20 @@ operation_uses at_use scope (a_procedure at i parameters aspects) =
     parameters_uses at_use (entered scope) parameters ▷ aspects_uses at_use (hiding i scope) aspects
 operation_uses at_use scope (an_entry entry) = parameters_uses at_use (entered scope) entry.parameters
 
+-- the identifier that the declaration of an operation declares, and the operation's kind
+abbrev pub declared_operation : OperationDeclaration → Option (Identifier × OperationKind)
+declared_operation (a_pragma pragma) = None
+declared_operation (a_function at i parameters mark) = Some (i, kind.Function)
+declared_operation (a_procedure at i parameters aspects) = Some (i, kind.Procedure)
+declared_operation (an_entry entry) = Some (entry.name, kind.Entry)
+
+-- an operation of this identifier and kind is declared, behind its declaration, in which the identifier is hidden
+abbrev pub naming_operation : Option (Identifier × OperationKind) → ScopeView → ScopeView
+naming_operation None scope = scope
+naming_operation (Some named) scope = declaring_operation named.1 named.0 (hiding named.0 scope)
+
 abbrev pub with_operation : OperationDeclaration → ScopeView → ScopeView
-with_operation (a_pragma pragma) scope = scope
-with_operation (a_function at i parameters mark) scope = declaring_operation kind.Function i (hiding i scope)
-with_operation (a_procedure at i parameters aspects) scope = declaring_operation kind.Procedure i (hiding i scope)
-with_operation (an_entry entry) scope = declaring_operation kind.Entry entry.name (hiding entry.name scope)
+with_operation o scope = naming_operation (declared_operation o) scope
 
 abbrev pub operations_uses : {A : Type 0} → Use A → ScopeView → List OperationDeclaration → A → A
 operations_uses at_use scope [] = nothing
@@ -136,12 +144,14 @@ parts_uses at_use scope unit =
 abbrev pub protected_unit_uses : {A : Type 0} → Use A → ScopeView → ProtectedUnit → A → A
 protected_unit_uses at_use scope unit = parts_uses at_use (within_unit unit.name.at (naming_unit unit scope)) unit
 
--- the operations that a region shows, with this one
+-- the operations that a region shows, with one of this identifier and kind
+abbrev pub showing_operation : Option (Identifier × OperationKind) → Region → Region
+showing_operation None region = region
+showing_operation (Some named) region =
+    insert_entry is_same_name region named.0.text (Some (d.Operation named.0.at named.1))
+
 abbrev pub with_shown : OperationDeclaration → Region → Region
-with_shown (a_pragma pragma) region = region
-with_shown (a_function at i parameters mark) region = insert_entry is_same_name region i.text (Some (d.Operation i.at kind.Function))
-with_shown (a_procedure at i parameters aspects) region = insert_entry is_same_name region i.text (Some (d.Operation i.at kind.Procedure))
-with_shown (an_entry entry) region = insert_entry is_same_name region entry.name.text (Some (d.Operation entry.name.at kind.Entry))
+with_shown o region = showing_operation (declared_operation o) region
 
 abbrev pub with_all_shown : List OperationDeclaration → Region → Region
 with_all_shown [] region = region

@@ -1,6 +1,6 @@
 -- The names that expressions use, each with what is declared there and what it is wanted for, in the order of the text
 -- (ISO/IEC 8652:2012, 4.4, 8.6).
-use Rattle.std.specs.Prelude.{ℕ, Bool, [], Option, Some, None}
+use Rattle.std.specs.Prelude.{ℕ, [], Option, Some, None}
 use Rattle.rv_tree.specs.Names.{Identifier, Name}
 use Rattle.rv_tree.specs.Expressions.{Expression, literal, name, attribute, call, parenthesized, highest, product, signed, sum, relation, logical, Expressions, no_expressions, and_expression, Factors, no_factors, and_factor, Terms, no_terms, and_term, RangeConstraint}
 use Rattle.rv_scope.specs.declared.wanted.Wanted.{Wanted}

@@ -1,9 +1,8 @@
 -- What the language and the host declare (ISO/IEC 8652:2012, 13.7, A.1, C.3.2, D.8, D.10; own).
-use Rattle.std.specs.Prelude.{ℕ, Bool, ◌==◌, ◌||◌, if◌then◌else◌, List, [], ◌∷◌, Option, Some, None, codes}
+use Rattle.std.specs.Prelude.{ℕ, Bool, ◌==◌, List, [], ◌∷◌, Option, codes}
 use Rattle.std.specs.List.{list_any}
 use Rattle.std.specs.Map.{lookup}
 use Rattle.rv_text.specs.Names.{is_same_name}
-use Rattle.rv_tree.specs.Names.{Identifier, Name}
 use Rattle.rv_scope.specs.declared.predefined.Library.{Library}
 use Rattle.rv_scope.specs.declared.predefined.Library.TheVariants as l
 use Rattle.rv_scope.specs.declared.predefined.Predefined.{Predefined}

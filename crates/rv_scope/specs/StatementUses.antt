@@ -1,10 +1,7 @@
 -- The names that statements use (ISO/IEC 8652:2012, 5, 9.6, 11.3), in the order of the text.
-use Rattle.std.specs.Prelude.{ℕ, Bool, List, [], ◌∷◌, Option, Some, None}
-use Rattle.rv_tree.specs.Names.{Identifier, Name}
-use Rattle.rv_tree.specs.Expressions.{Expression, RangeConstraint}
+use Rattle.std.specs.Prelude.{List, [], ◌∷◌}
 use Rattle.rv_tree.specs.Statements.{Choice, others, value, between, LoopBounds, whole_bounds, two_bounds, constrained_bounds, Iteration, forever, while_true, for_each, Statement, null_statement, assignment, call_statement, if_statement, case_statement, loop_statement, exit_statement, return_statement, raise_statement, delay_statement, abort_statement, requeue_statement, accept_statement, select_statement, Statements, no_statements, and_statement, ElsifParts, no_elsif_parts, and_elsif_part, Alternatives, no_alternatives, and_alternative}
 use Rattle.rv_scope.specs.declared.declared.Declared.TheVariants as d
-use Rattle.rv_scope.specs.declared.wanted.Wanted.{Wanted}
 use Rattle.rv_scope.specs.declared.wanted.Wanted.TheVariants as w
 use Rattle.rv_scope.specs.Scope.{ScopeView, declaring, hiding, entered}
 use Rattle.rv_scope.specs.ExpressionUses.{Use, ◌▷◌, nothing, simple, refused, expression_uses, value_uses, expressions_uses, maybe_uses, range_uses}

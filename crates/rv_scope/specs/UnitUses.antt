@@ -1,20 +1,18 @@
 -- The names that bodies and whole unit texts use (ISO/IEC 8652:2012, 6.3, 7.2, 9.1, 9.4, 10.1, 11.2), in the order of the
 -- text.
-use Rattle.std.specs.Prelude.{ℕ, Bool, true, false, if◌then◌else◌, List, [], ◌∷◌, ◌++◌, Option, Some, None, slice_get}
+use Rattle.std.specs.Prelude.{ℕ, Bool, true, false, List, [], ◌∷◌, ◌++◌, Option, Some, None, slice_get}
 use Rattle.rv_tree.specs.Names.{Identifier, Name}
-use Rattle.rv_tree.specs.Expressions.{Expression, RangeConstraint}
-use Rattle.rv_tree.specs.Declarations.{Parameter, ProtectedUnit, TaskUnit, Declaration, a_protected_unit}
-use Rattle.rv_tree.specs.Statements.{Statements}
+use Rattle.rv_tree.specs.Declarations.{ProtectedUnit, Declaration, a_protected_unit}
 use Rattle.rv_tree.specs.Bodies.{Local, an_object, local_pragma, local_protected_unit, local_task, ExceptionChoice, exception_named, other_exceptions, Handler, Block, OperationBody, function_body, procedure_body, entry_body, ProtectedBody, TaskBody}
-use Rattle.rv_tree.specs.Units.{ContextItem, context_pragma, with_clause, use_clause, PackageSpecification, BodyItem, body_declaration, body_protected, body_task, PackageBody, UnitTree}
+use Rattle.rv_tree.specs.Units.{ContextItem, context_pragma, with_clause, use_clause, BodyItem, body_declaration, body_protected, body_task, UnitTree}
 use Rattle.rv_shape.specs.Shape.{Shape}
+use Rattle.rv_static.specs.Static.{◌>>=◌}
 use Rattle.rv_scope.specs.declared.declared.Declared.{Declared}
 use Rattle.rv_scope.specs.declared.declared.Declared.TheVariants as d
 use Rattle.rv_scope.specs.declared.declare.Form.{Form}
 use Rattle.rv_scope.specs.declared.declare.Form.TheVariants as f
 use Rattle.rv_scope.specs.declared.predefined.Library.{Library}
 use Rattle.rv_scope.specs.declared.predefined.Library.TheVariants as l
-use Rattle.rv_scope.specs.declared.wanted.Wanted.{Wanted}
 use Rattle.rv_scope.specs.declared.wanted.Wanted.TheVariants as w
 use Rattle.rv_scope.specs.Scope.{ScopeView, declaring_all, hiding_all, in_body, within_unit, with_unit, with_library, using_library, empty_scope}
 use Rattle.rv_scope.specs.Wanted.{denoted}
@@ -106,21 +104,23 @@ unit_number (Some (d.ProtectedType at number)) = Some number
 unit_number (Some (d.SingleProtected at number)) = Some number
 unit_number other = None
 
--- the protected unit of a number, if there is one
-abbrev pub protected_unit_of : List ProtectedUnit → Option ℕ → Option ProtectedUnit
-protected_unit_of units None = None
-protected_unit_of units (Some number) = slice_get units number
+-- the protected unit of a number, with that number, if there is one
+abbrev pub numbered_unit : List ProtectedUnit → ℕ → Option (ℕ × ProtectedUnit)
+numbered_unit units number = slice_get units number >>= λ unit. Some (number, unit)
 
-abbrev pub bodies_of_unit : {A : Type 0} → Use A → ScopeView → List OperationBody → Option ProtectedUnit → A → A
+-- the protected unit that a body of this name completes, with its number, if there is one; the protected units of the text
+-- stand in the order of their numbers
+abbrev pub unit_of_body : List ProtectedUnit → ScopeView → Identifier → Option (ℕ × ProtectedUnit)
+unit_of_body units scope name = unit_number (denoted w.ProtectedBody scope (simple name)) >>= numbered_unit units
+
+abbrev pub bodies_of_unit : {A : Type 0} → Use A → ScopeView → List OperationBody → Option (ℕ × ProtectedUnit) → A → A
 bodies_of_unit at_use scope bodies None = nothing
-bodies_of_unit at_use scope bodies (Some unit) = operation_bodies_uses at_use (in_protected_unit unit scope) bodies
+bodies_of_unit at_use scope bodies (Some numbered) = operation_bodies_uses at_use (in_protected_unit numbered.1 scope) bodies
 
--- the protected units of the text stand in the order of their numbers
 abbrev pub protected_body_uses : {A : Type 0} → Use A → List ProtectedUnit → ScopeView → ProtectedBody → A → A
 protected_body_uses at_use units scope body =
     at_use scope w.ProtectedBody (simple body.name)
-    ▷ bodies_of_unit at_use scope body.operations
-    (protected_unit_of units (unit_number (denoted w.ProtectedBody scope (simple body.name))))
+    ▷ bodies_of_unit at_use scope body.operations (unit_of_body units scope body.name)
 
 abbrev pub task_body_uses : {A : Type 0} → Use A → ScopeView → TaskBody → A → A
 task_body_uses at_use scope body =

@@ -1,5 +1,5 @@
 -- Which declaration a name denotes (ISO/IEC 8652:2012, 4.1.3, 8.2, 8.3, 8.4, 10.1.6).
-use Rattle.std.specs.Prelude.{◌≡◌, ℕ, ◌+◌, ◌==◌, Bool, true, false, ◌&&◌, if◌then◌else◌, List, [], ◌∷◌, ◌++◌, Option, Some, None, map, slice_get, length}
+use Rattle.std.specs.Prelude.{ℕ, ◌+◌, ◌==◌, Bool, false, if◌then◌else◌, List, [], ◌∷◌, Option, Some, None, slice_get, length}
 use Rattle.std.specs.List.{list_any}
 use Rattle.rv_text.specs.Names.{is_same_name}
 use Rattle.rv_tree.specs.Names.{Identifier, Name}
@@ -11,6 +11,7 @@ use Rattle.rv_shape.specs.declared.object.Object.{Object}
 use Rattle.rv_shape.specs.declared.object.Object.TheVariants as o
 use Rattle.rv_shape.specs.Fits.{object_name}
 use Rattle.rv_shape.specs.Catalogue.{first_of, operations_of, is_seen}
+use Rattle.rv_static.specs.Static.{◌>>=◌}
 use Rattle.rv_scope.specs.declared.declared.Declared.{Declared}
 use Rattle.rv_scope.specs.declared.declared.Declared.TheVariants as d
 use Rattle.rv_scope.specs.declared.declared.OperationKind.{OperationKind}
@@ -19,12 +20,6 @@ use Rattle.rv_scope.specs.declared.predefined.Library.{Library}
 use Rattle.rv_scope.specs.declared.predefined.Library.TheVariants as l
 use Rattle.rv_scope.specs.Predefined.{named, is_among, root_libraries, child_libraries, declarations_of}
 use Rattle.rv_scope.specs.Scope.{Region, ScopeView}
-
--- what a reading gives, from what another found, if it found something
-infixl 10 ◌>>=◌
-abbrev pub ◌>>=◌ : {A B : Type 0} → Option A → (A → Option B) → Option B
-None >>= reading = None
-(Some found) >>= reading = reading found
 
 -- a declaration that is found, and isn't hidden by itself
 abbrev pub flat : Option (Option Declared) → Option Declared

@@ -1,6 +1,6 @@
 -- What a name is wanted for, and what may stand there (ISO/IEC 8652:2012, 8.6; own).
-use Rattle.std.specs.Prelude.{ℕ, Bool, true, false, ◌||◌, List, [], ◌∷◌, Option, Some, None}
-use Rattle.rv_tree.specs.Names.{Identifier, Name}
+use Rattle.std.specs.Prelude.{Bool, true, false, ◌||◌, Option, Some, None}
+use Rattle.rv_tree.specs.Names.{Name}
 use Rattle.rv_scope.specs.declared.declared.Declared.{Declared}
 use Rattle.rv_scope.specs.declared.declared.Declared.TheVariants as d
 use Rattle.rv_scope.specs.declared.declared.OperationKind.{OperationKind}

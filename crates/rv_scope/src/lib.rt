@@ -19,6 +19,7 @@ pub mod members;
 pub mod named;
 pub mod predefined;
 pub mod protected;
+pub mod protected_body;
 pub mod region;
 pub mod scope;
 pub mod units;

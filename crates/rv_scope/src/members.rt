@@ -1,16 +1,19 @@
 //! Points of a text: what a walk through its declarations declares on the way (8.1, 8.3).
 
 ghost use Rattle.std.specs.Prelude.{◌≡◌, OnOk, map};
-ghost use Rattle.rv_tree.specs.NameView.{identifier_view, identifiers_view};
+ghost use Rattle.std.specs.Option.{option_map};
+ghost use Rattle.rv_tree.specs.NameView.{identifier_view, identifiers_view, name_view};
 ghost use Rattle.rv_tree.specs.DeclarationView.{parameter_view, operation_view, element_view, protected_unit_view};
 ghost use Rattle.rv_scope.specs.Scope.{hiding, hiding_all, declaring_all, OnlyDeclares, entered};
-ghost use Rattle.rv_scope.specs.DeclarationUses.{declaring_operation, with_parameters, with_operation, with_operations, with_element, with_elements, with_members};
+ghost use Rattle.rv_scope.specs.Visible.{visible};
+ghost use Rattle.rv_scope.specs.DeclarationUses.{declaring_operation, declared_operation as operation_declared, object_form as form_of_objects, with_parameters, with_operation, with_operations, with_element, with_elements, with_members};
 
 use crate::declare::{Form, declare_all};
 use crate::declared::{Declared, OperationKind};
 use crate::scope::Scope;
+use crate::units::object_form;
 use rv_tree::declaration::{OperationDeclaration, Parameter, ProtectedElement, ProtectedUnit};
-use rv_tree::name::Identifier;
+use rv_tree::name::{Identifier, Name};
 use std::alloc::AllocError;
 
 /// An identifier inside its own declaration, where it denotes nothing and hides what it denoted (8.3).
@@ -45,6 +48,21 @@ pub fn declare_names(
     declare_all(names, form, scope)
 }
 
+/// The variables of a package, which were hidden in their declaration: what they denote is told by what their mark
+/// denotes there (3.3.1).
+pub fn declare_variables(
+    names: &Vec<Identifier>,
+    mark: &Name,
+    scope: &mut Scope,
+) -> Result<(), AllocError>
+    ensures { OnOk result (scope.new
+        ≡ declaring_all (form_of_objects (visible scope.old (name_view mark.now))) (identifiers_view names.now.items) scope.old) }
+{
+    let form = object_form(scope.visible(mark));
+    declare_all(names, form, scope)?;
+    Ok(())
+}
+
 /// The parameters of an operation are declared (6.1).
 pub fn declare_parameters(list: &Vec<Parameter>, scope: &mut Scope) -> Result<(), AllocError>
     ensures scope { OnOk result (scope.new ≡ with_parameters (map parameter_view list.now.items) scope.old) }
@@ -67,6 +85,18 @@ pub fn declare_operation(
     scope.declare(declared, Some(Declared::Operation(declared.at, kind)))
 }
 
+/// The identifier that the declaration of an operation declares, and the operation's kind. A pragma declares none.
+pub fn declared_operation(one: &OperationDeclaration) -> Option<(&Identifier, OperationKind)>
+    ensures { option_map (λ named. (identifier_view named.0.now, named.1)) result ≡ operation_declared (operation_view one.now) }
+{
+    match one {
+        OperationDeclaration::Pragma(_) => None,
+        OperationDeclaration::Function { name, .. } => Some((name, OperationKind::Function)),
+        OperationDeclaration::Procedure { name, .. } => Some((name, OperationKind::Procedure)),
+        OperationDeclaration::Entry(entry) => Some((&entry.name, OperationKind::Entry)),
+    }
+}
+
 // The identifier of an operation in its region.
 fn operation_name(
     declared: &Identifier,
@@ -85,23 +115,9 @@ pub fn operation(one: &OperationDeclaration, scope: &mut Scope) -> Result<(), Al
     ensures scope { OnOk result (scope.new ≡ with_operation (operation_view one.now) scope.old) }
     ensures only { OnOk result (OnlyDeclares scope.old scope.new) }
 {
-    match one {
-        OperationDeclaration::Pragma(_) => Ok(()),
-        OperationDeclaration::Function {
-            at: _,
-            name: declared,
-            parameters: _,
-            mark: _,
-        } => operation_name(declared, OperationKind::Function, scope),
-        OperationDeclaration::Procedure {
-            at: _,
-            name: declared,
-            parameters: _,
-            aspects: _,
-        } => operation_name(declared, OperationKind::Procedure, scope),
-        OperationDeclaration::Entry(entry) => {
-            operation_name(&entry.name, OperationKind::Entry, scope)
-        }
+    match declared_operation(one) {
+        None => Ok(()),
+        Some((declared, kind)) => operation_name(declared, kind, scope),
     }
 }
 

@@ -6,7 +6,8 @@ ghost use Rattle.rv_tree.specs.DeclarationView.{operation_view};
 ghost use Rattle.rv_scope.specs.Scope.{declaring, showing};
 ghost use Rattle.rv_scope.specs.DeclarationUses.{protected_meaning as meaning_of_unit, with_shown, with_all_shown};
 
-use crate::declared::{Declared, OperationKind};
+use crate::declared::Declared;
+use crate::members::declared_operation;
 use crate::region::Region;
 use crate::scope::Scope;
 use rv_tree::declaration::{OperationDeclaration, ProtectedUnit};
@@ -27,29 +28,11 @@ fn unit_meaning(is_type: bool, number: usize, at: usize) -> Declared
 fn show(alloc: Global, one: &OperationDeclaration, region: &mut Region) -> Result<(), AllocError>
     ensures { OnOk result (region.new ≡ with_shown (operation_view one.now) region.old) }
 {
-    match one {
-        OperationDeclaration::Pragma(_) => Ok(()),
-        OperationDeclaration::Function {
-            at: _,
-            name: declared,
-            parameters: _,
-            mark: _,
-        } => {
-            let meaning = Declared::Operation(declared.at, OperationKind::Function);
+    match declared_operation(one) {
+        None => Ok(()),
+        Some((declared, kind)) => {
+            let meaning = Declared::Operation(declared.at, kind);
             region.declare(alloc, declared.text.as_str(), Some(meaning))
-        }
-        OperationDeclaration::Procedure {
-            at: _,
-            name: declared,
-            parameters: _,
-            aspects: _,
-        } => {
-            let meaning = Declared::Operation(declared.at, OperationKind::Procedure);
-            region.declare(alloc, declared.text.as_str(), Some(meaning))
-        }
-        OperationDeclaration::Entry(entry) => {
-            let meaning = Declared::Operation(entry.name.at, OperationKind::Entry);
-            region.declare(alloc, entry.name.text.as_str(), Some(meaning))
         }
     }
 }

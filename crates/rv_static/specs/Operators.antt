@@ -42,15 +42,22 @@ multiplies multiplying.Divide a b = divided b (int_div a b)
 multiplies multiplying.Mod a b = divided b (modulus a b)
 multiplies multiplying.Rem a b = divided b (int_rem a b)
 
+-- two numbers, where both are evaluated
+abbrev pub both : Number → Number → Option (ℤ × ℤ)
+both Skipped n = None
+both (Known a) Skipped = None
+both (Known a) (Known b) = Some (a, b)
+
+-- what an operator gives on both, where they are evaluated
+abbrev pub given : (ℤ → ℤ → Result ℤ Arith) → Option (ℤ × ℤ) → Option Number
+given operator None = Some Skipped
+given operator (Some pair) = known (operator pair.0 pair.1)
+
 abbrev pub added : AddingOperator → Number → Number → Option Number
-added op Skipped n = Some Skipped
-added op (Known a) Skipped = Some Skipped
-added op (Known a) (Known b) = known (adds op a b)
+added op a b = given (adds op) (both a b)
 
 abbrev pub multiplied : MultiplyingOperator → Number → Number → Option Number
-multiplied op Skipped n = Some Skipped
-multiplied op (Known a) Skipped = Some Skipped
-multiplied op (Known a) (Known b) = known (multiplies op a b)
+multiplied op a b = given (multiplies op) (both a b)
 
 -- the number of a truth value
 abbrev pub truth : Bool → ℤ
@@ -70,10 +77,13 @@ holds relational.LessEqual a b = int_le a b
 holds relational.Greater a b = int_lt b a
 holds relational.GreaterEqual a b = int_le b a
 
+-- the truth of a relation of both, where they are evaluated
+abbrev pub held : RelationalOperator → Option (ℤ × ℤ) → Number
+held op None = Skipped
+held op (Some pair) = Known (truth (holds op pair.0 pair.1))
+
 abbrev pub related : RelationalOperator → Number → Number → Number
-related op Skipped n = Skipped
-related op (Known a) Skipped = Skipped
-related op (Known a) (Known b) = Known (truth (holds op a b))
+related op a b = held op (both a b)
 
 -- `not` (4.5.6)
 abbrev pub negated : Number → Number

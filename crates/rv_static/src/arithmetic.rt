@@ -1,7 +1,7 @@
 //! Operators on numbers that are evaluated or not.
 
 ghost use Rattle.std.specs.Prelude.{◌≡◌};
-ghost use Rattle.rv_static.specs.Operators.{known, signed_number, absolute, adds, multiplies, added, multiplied, truth, is_true, holds, related, negated, joins, decides, joined};
+ghost use Rattle.rv_static.specs.Operators.{known, signed_number, absolute, adds, multiplies, both as both_of, added, multiplied, truth, is_true, holds, related, negated, joins, decides, joined};
 ghost use Rattle.rv_static.specs.Told.{told_unless};
 
 use crate::fault::{Faults, TypeFault};
@@ -71,6 +71,19 @@ fn multiplies(operator: MultiplyingOperator, left: i64, right: i64) -> Result<i6
     }
 }
 
+// Two numbers, where both are evaluated.
+fn both(left: Number, right: Number) -> Option<(i64, i64)>
+    ensures { result ≡ both_of left right }
+{
+    let Number::Known(first) = left else {
+        return None;
+    };
+    let Number::Known(second) = right else {
+        return None;
+    };
+    Some((first, second))
+}
+
 /// What `+` or `-` gives (4.5.3), where both numbers are known; or `None`, where a fault at this place was told.
 pub fn added(
     operator: AddingOperator,
@@ -82,12 +95,9 @@ pub fn added(
     ensures value { result ≡ added operator left right }
     ensures told { faults.new ≡ told_unless result faults.old }
 {
-    match left {
-        Number::Skipped => Some(Number::Skipped),
-        Number::Known(left) => match right {
-            Number::Skipped => Some(Number::Skipped),
-            Number::Known(right) => known(adds(operator, left, right), at, faults),
-        },
+    match both(left, right) {
+        None => Some(Number::Skipped),
+        Some((left, right)) => known(adds(operator, left, right), at, faults),
     }
 }
 
@@ -103,12 +113,9 @@ pub fn multiplied(
     ensures value { result ≡ multiplied operator left right }
     ensures told { faults.new ≡ told_unless result faults.old }
 {
-    match left {
-        Number::Skipped => Some(Number::Skipped),
-        Number::Known(left) => match right {
-            Number::Skipped => Some(Number::Skipped),
-            Number::Known(right) => known(multiplies(operator, left, right), at, faults),
-        },
+    match both(left, right) {
+        None => Some(Number::Skipped),
+        Some((left, right)) => known(multiplies(operator, left, right), at, faults),
     }
 }
 
@@ -140,12 +147,9 @@ fn holds(operator: RelationalOperator, left: i64, right: i64) -> bool
 pub(crate) fn related(operator: RelationalOperator, left: Number, right: Number) -> Number
     ensures { result ≡ related operator left right }
 {
-    match left {
-        Number::Skipped => Number::Skipped,
-        Number::Known(left) => match right {
-            Number::Skipped => Number::Skipped,
-            Number::Known(right) => Number::Known(truth(holds(operator, left, right))),
-        },
+    match both(left, right) {
+        None => Number::Skipped,
+        Some((left, right)) => Number::Known(truth(holds(operator, left, right))),
     }
 }
 

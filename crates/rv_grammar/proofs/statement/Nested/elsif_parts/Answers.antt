@@ -1,34 +1,36 @@
 use Rattle.std.proofs.Common.{rules, arith}
 use Rattle.std.proofs.lemmas.Grind.{common_steps}
 use Rattle.rv_tree.specs.StatementView.{elsif_parts_view}
-use Rattle.rv_grammar.specs.StatementRules.{statement, elsif_parts, elsif_parts_from}
+use Rattle.rv_lex.specs.declared.kind.Kind.TheVariants as k
+use Rattle.rv_grammar.specs.Reading.{many_from, many, more_of, sees}
+use Rattle.rv_grammar.specs.StatementRules.{statement, elsif_part, elsif_parts}
 use Rattle.rv_grammar.proofs.Turns.{one_more, no_more}
 use Rattle.rv_grammar.proofs.statement.Nested.elsif_parts.Goals as goal
 
 pub each-init : goal.each-init
-unfolding elsif_parts
+unfolding elsif_parts many more_of
 each-init g c = first_of (search rules, grind (arith, common_steps))
 
 pub returns-then-not-sees : goal.returns-then-not-sees
-unfolding elsif_parts_from
+unfolding many_from
 returns-then-not-sees g c =
-    let e = one_more (λ n. elsif_parts_from (statement c.args.self.now.depth) n (elsif_parts_view c.each.found.items) c.each.tokens) _ c.each._turn c.each-test.true c.each.invariant in
+    let e = one_more (λ n. many_from (sees k.Elsif) (elsif_part (statement c.args.self.now.depth)) n (elsif_parts_view c.each.found.items) c.each.tokens) _ c.each._turn c.each-test.true c.each.invariant in
     first_of (search rules, grind (arith, common_steps))
 
 pub returns-in_err-elsif_part : goal.returns-in_err-elsif_part
-unfolding elsif_parts_from
+unfolding many_from
 returns-in_err-elsif_part g c =
-    let e = one_more (λ n. elsif_parts_from (statement c.args.self.now.depth) n (elsif_parts_view c.each.found.items) c.each.tokens) _ c.each._turn c.each-test.true c.each.invariant in
+    let e = one_more (λ n. many_from (sees k.Elsif) (elsif_part (statement c.args.self.now.depth)) n (elsif_parts_view c.each.found.items) c.each.tokens) _ c.each._turn c.each-test.true c.each.invariant in
     first_of (search rules, grind (arith, common_steps))
 
 pub each-preserved : goal.each-preserved
-unfolding elsif_parts_from
+unfolding many_from
 each-preserved g c =
-    let e = one_more (λ n. elsif_parts_from (statement c.args.self.now.depth) n (elsif_parts_view c.each.found.items) c.each.tokens) _ c.each._turn c.each-test.true c.each.invariant in
+    let e = one_more (λ n. many_from (sees k.Elsif) (elsif_part (statement c.args.self.now.depth)) n (elsif_parts_view c.each.found.items) c.each.tokens) _ c.each._turn c.each-test.true c.each.invariant in
     first_of (search rules, grind (arith, common_steps))
 
 pub returns : goal.returns
-unfolding elsif_parts_from
+unfolding many_from
 returns g c =
-    let e = no_more (λ n. elsif_parts_from (statement c.args.self.now.depth) n (elsif_parts_view c.each.found.items) c.each.tokens) _ c.each._turn c.each-test.false c.each.invariant in
+    let e = no_more (λ n. many_from (sees k.Elsif) (elsif_part (statement c.args.self.now.depth)) n (elsif_parts_view c.each.found.items) c.each.tokens) _ c.each._turn c.each-test.false c.each.invariant in
     first_of (search rules, grind (arith, common_steps))
