@@ -3,7 +3,8 @@ import pathlib
 import re
 import subprocess
 import sys
-import tempfile
+
+import trial
 
 TOP, PROGRAM = pathlib.Path(sys.argv[1]), sys.argv[2]
 ROWS = TOP / "crates" / "rv_rows" / "data"
@@ -21,24 +22,7 @@ def played(scripts, *words):
     """What the program writes for each of these scripts."""
     if PROGRAM:
         return {name: subprocess.run([PROGRAM, *words], input=script, capture_output=True).stdout for name, script in scripts.items()}
-    with tempfile.TemporaryDirectory() as folder:
-        cases = pathlib.Path(folder) / "cases"
-        cases.mkdir()
-        for name, script in scripts.items():
-            (cases / name).write_bytes(script)
-        told = subprocess.run(["rt", "try", "--seconds", "3000", "--cases", str(cases), "--", *words], cwd=TOP / "crates" / "ravenhost", capture_output=True)
-    written, name = {}, None
-    for line in told.stdout.splitlines(keepends=True):
-        if line.startswith(b"== "):
-            name = line[3:].decode().strip()
-            written[name] = b""
-        elif line.startswith(b"case="):
-            name = None
-        elif name is not None:
-            written[name] += line
-    if len(written) < len(scripts):
-        sys.exit("bench/ends.sh: " + told.stderr.decode(errors="replace"))
-    return written
+    return trial.written(scripts, words, 3000)
 
 
 def audited(script, journal):

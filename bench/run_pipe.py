@@ -838,21 +838,14 @@ def terminal(launcher):
     process, end = pty.fork()
     if process == 0:
         os.execv(launcher, [launcher, "run", "--notes", "never"])
-    os.write(end, b"@run\ntick 1\n")
-    seen = b""
-    while b"accepted 0" not in seen and select.select([end], [], [], LIMIT)[0]:
-        seen += os.read(end, 1024)
-    os.write(end, b"\x03")
-    while select.select([end], [], [], LIMIT)[0]:
-        try:
-            more = os.read(end, 1024)
-        except OSError:
-            break
-        if not more:
-            break
-        seen += more
+    typed = Typed(end, end)
+    typed.send("@run\ntick 1\n")
+    while "accepted 0" not in typed.seen and typed.more():
+        pass
+    typed.send("\x03")
+    seen = typed.rest()
     status = os.waitstatus_to_exitcode(os.waitpid(process, 0)[1])
-    expect_that("Ctrl-C at a terminal", b"entries 2" in seen and status == 0, (seen, status))
+    expect_that("Ctrl-C at a terminal", "entries 2" in seen and status == 0, (seen, status))
 
 
 def widths(launcher):

@@ -19,6 +19,9 @@ import programs
 from units import BODIES_OF_AN_OBJECT, OBJECTS_OF_A_UNIT, draw_unit
 
 TOP = Path(__file__).resolve().parents[2]
+sys.path.insert(0, str(TOP / "bench"))
+import trial
+
 # 60 tasks and 33 objects, of at most 64 and 256.
 UNITS_OF_A_SCRIPT = 3
 # Each operation is checked for overflow by itself; warnings tell nothing here, since drawn bodies raise on purpose.
@@ -51,20 +54,8 @@ def played(scripts, folder, by_try):
     """The journals of scripts."""
     if not by_try:
         return [run([str(TOP / "ravenhost"), "play"], folder, input=script) for script in scripts]
-    cases = folder / "cases"
-    cases.mkdir()
-    for number, script in enumerate(scripts):
-        (cases / f"script_{number}").write_text(script)
-    told = run(["rt", "try", "--seconds", "300", "--cases", str(cases), "--", "play"], TOP / "crates" / "ravenhost")
-    journals, name = collections.defaultdict(list), None
-    for line in told.splitlines():
-        if line.startswith("== "):
-            name = line[3:]
-        elif line.startswith("case="):
-            name = None
-        elif name is not None:
-            journals[name].append(line)
-    return ["\n".join(journals[f"script_{number}"]) for number in range(len(scripts))]
+    journals = trial.written({f"script_{number}": script.encode() for number, script in enumerate(scripts)}, ["play"], 300)
+    return ["\n".join(journals[f"script_{number}"].decode().splitlines()) for number in range(len(scripts))]
 
 
 def without_overruns(due, given):

@@ -16,7 +16,6 @@ from pathlib import Path
 from check import Checker
 from judge import Judge
 from play import Fault, outcome_of
-from shapes import read_shape
 
 ROWS = Path(__file__).parents[2] / "crates/rv_rows/data"
 USUAL = ["go_two_units"]
@@ -30,14 +29,12 @@ class JudgingChecker(Checker):
         self.judge = Judge()
 
     def shape(self, lines: list[str], place: int) -> None:
-        unit = read_shape(lines, self.judge.catalogue)
-        if isinstance(unit, str):
-            raise Fault(place, f"shape {unit}")
-        self.judge.add_shape(unit)
-        self.output.append(f"shape {unit.name}: ok\n")
+        self.take(place, self.judge.section("@shape", "\n".join(lines)))
 
     def unit(self, place: int) -> None:
-        verdict = self.judge.verdict(self.texts.text)
+        self.take(place, self.judge.section("@unit", self.texts.text))
+
+    def take(self, place: int, verdict: str) -> None:
         if not verdict.endswith(": ok"):
             raise Fault(place, verdict)
         self.output.append(f"{verdict}\n")

@@ -13,7 +13,7 @@ from judge_scope import Scope
 from judge_shape import shape_of, shown, shown_of_shape
 from judge_tree_declarations import Text
 from judge_types import Types
-from shapes import Catalogue, Unit
+from shapes import Catalogue, Unit, read_shape
 
 LONGEST_UNIT = 262_144  # bytes
 NAME_FAULTS = ("Unknown", "Duplicate", "NotVisible", "WrongKind", "EndName")
@@ -68,9 +68,15 @@ class Judge:
         self.catalogue.add(shape)
         self.loaded[shape.name.lower()] = unit
 
-    def add_shape(self, shape: Unit) -> None:
-        """Loads a unit that is a shape."""
-        self.add(shape, shown_of_shape(shape))
+    def section(self, opening: str, text: str) -> str:
+        """The same of a section: `shape NAME: ok`, or its fault, of one that gives a shape."""
+        if opening != "@shape":
+            return self.verdict(text)
+        unit = read_shape(text.splitlines(), self.catalogue)
+        if not isinstance(unit, Unit):
+            return f"shape {unit}"
+        self.add(unit, shown_of_shape(unit))
+        return f"shape {unit.name}: ok"
 
 
 def main() -> int:

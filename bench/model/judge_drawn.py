@@ -3,19 +3,16 @@
 import argparse
 import random
 import re
-import subprocess
 import sys
-from collections import Counter
-from collections.abc import Iterator
 from pathlib import Path
 from typing import NamedTuple
 
 import static_rules
+from differences import Differences, kind_of, told
 from judge import Judge
 from judge_mutations import damaged
 from judge_rows import ROWS
 from play import Fault, sections_of
-from shapes import Unit, read_shape
 
 AGAIN = {"lex BadLiteral": .97, "parse Unexpected": .97, "names Unknown": .8}  # how often another damage is tried
 Sections = list[tuple[str, str]]  # openings and texts
@@ -78,27 +75,10 @@ def draw(number: int, stored: list[Case]) -> Case:
 def judged(case: Case) -> str:
     judge = Judge()
     for opening, text in case.before:
-        if opening == "@shape":
-            unit = read_shape(text.splitlines(), judge.catalogue)
-            if not isinstance(unit, Unit):
-                return f"shape {unit}"
-            judge.add_shape(unit)
-        else:
-            verdict = judge.verdict(text)
-            if not verdict.endswith(": ok"):
-                return verdict
+        verdict = judge.section(opening, text)
+        if not verdict.endswith(": ok"):
+            return verdict
     return judge.verdict(case.text)
-
-
-def told(program: Path, case: Case) -> str:
-    """What `check` says of the text, or of the first section before it that it refuses."""
-    ended = subprocess.run([program, "check"], input=case.script().encode(), capture_output=True, timeout=60)
-    lines = (ended.stdout + ended.stderr).decode(errors="replace").strip().splitlines()
-    return re.sub(r"^script line \d+: ", "", lines[-1]) if lines else "nothing"
-
-
-def kind_of(verdict: str) -> str:
-    return "ok" if verdict.endswith(": ok") else verdict.split(" at ")[0]
 
 
 def shown(case: Case, verdict: str) -> str:
@@ -110,31 +90,6 @@ def shown(case: Case, verdict: str) -> str:
     return "".join(f"{opening}\n{text}" for opening, text in case.before) + marked.decode(errors="replace")
 
 
-class Comparison:
-    def __init__(self, program: Path) -> None:
-        self.program = program
-        self.verdicts: Counter[str] = Counter()
-        self.differing = 0
-        self.smallest: dict[tuple[str, str], tuple[Case, str, str]] = {}
-
-    def add(self, case: Case) -> None:
-        due, said = judged(case), told(self.program, case)
-        self.verdicts[kind_of(due)] += 1
-        if due == said:
-            return
-        self.differing += 1
-        kind = kind_of(due), kind_of(said)
-        if kind not in self.smallest or len(case.text) < len(self.smallest[kind][0].text):
-            self.smallest[kind] = case, due, said
-
-    def report(self) -> Iterator[str]:
-        for case, due, said in self.smallest.values():
-            yield f"=== judged: {due}\n=== told:   {said}\n{shown(case, due)}\n"
-        total = sum(self.verdicts.values())
-        yield f"{total} texts: " + ", ".join(f"{name} {times}" for name, times in sorted(self.verdicts.items()))
-        yield f"{total} texts, {total - self.verdicts['ok']} refused, {self.differing} differ, in {len(self.smallest)} kinds of difference"
-
-
 def main() -> int:
     parser = argparse.ArgumentParser(description="Asks the judge and the program of drawn and damaged unit texts.")
     parser.add_argument("--texts", metavar="N", type=int, default=2000)
@@ -144,11 +99,13 @@ def main() -> int:
     if not arguments.program.exists():
         print(f"there is no {arguments.program}", file=sys.stderr)
         return 127
-    stored, comparison = stored_texts(), Comparison(arguments.program.absolute())
+    stored, found, program = stored_texts(), Differences(), arguments.program.absolute()
     for number in range(arguments.seed, arguments.seed + arguments.texts):
-        comparison.add(draw(number, stored))
-    print("\n".join(comparison.report()))
-    return 1 if comparison.differing else 0
+        case = draw(number, stored)
+        due = judged(case)
+        found.add(case.text, due, told(program, case.script()), shown(case, due))
+    print("\n".join(found.report()))
+    return 1 if found.differing else 0
 
 
 if __name__ == "__main__":

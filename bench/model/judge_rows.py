@@ -8,7 +8,6 @@ from pathlib import Path
 
 from judge import Judge
 from play import Fault, sections_of
-from shapes import Unit, read_shape
 
 ROWS = Path(__file__).parents[2] / "crates/rv_rows/data"
 
@@ -17,16 +16,12 @@ def judged(script: str) -> Iterator[tuple[int, str]]:
     """The line of each `@unit` section and its verdict, up to the first unit that is refused."""
     judge = Judge()
     texts = iter(re.split(r"(?m)^(?=@)", script)[1:])
-    for opening, lines, place in sections_of(script):
+    for opening, _, place in sections_of(script):
         text = next(texts).partition("\n")[2]
-        if opening == "@shape":
-            unit = read_shape(lines, judge.catalogue)
-            if not isinstance(unit, Unit):
-                return
-            judge.add_shape(unit)
-        elif opening == "@unit":
-            verdict = judge.verdict(text)
-            yield place, verdict
+        if opening in ("@shape", "@unit"):
+            verdict = judge.section(opening, text)
+            if opening == "@unit":
+                yield place, verdict
             if not verdict.endswith(": ok"):
                 return
 

@@ -3,7 +3,6 @@
 import argparse
 import random
 import re
-import subprocess
 import sys
 from collections import Counter
 from collections.abc import Callable, Iterator
@@ -13,6 +12,7 @@ from typing import NamedTuple
 
 import static_pairs
 import static_pieces
+from differences import Differences, told
 from judge import Judge
 
 Part = dict[str, list[str]]  # texts for slots
@@ -96,13 +96,9 @@ def draw(seed: int) -> Case:
     return Case(source.BEFORE, text, f"unit {name}: ok")
 
 
-def verdict_of(program: Path, case: Case) -> str:
-    """What `ravenhost check` says of the text."""
+def script_of(case: Case) -> str:
     texts = [case.before, case.text] if case.before else [case.text]
-    script = "".join(f"@unit\n{text}" for text in texts)
-    ended = subprocess.run([program, "check"], input=script.encode(), capture_output=True, timeout=60)
-    told = (ended.stdout + ended.stderr).decode(errors="replace").strip().splitlines()
-    return re.sub(r"^script line \d+: ", "", told[-1]) if told else "nothing"
+    return "".join(f"@unit\n{text}" for text in texts)
 
 
 def judged(case: Case) -> str:
@@ -114,21 +110,13 @@ def judged(case: Case) -> str:
 
 def compare(ask: Callable[[Case], str], cases: Iterator[Case], grammar_alone: bool) -> int:
     """Asks for a verdict on each text, and prints the smallest text of each kind of difference."""
-    found: dict[tuple[str, str], tuple[Case, str]] = {}
-    runs = differing = 0
+    found = Differences()
     for case in cases:
-        told = ask(case)
-        runs += 1
-        if told == case.verdict or grammar_alone and told.endswith(": ok"):
-            continue
-        differing += 1
-        name = tuple(verdict.split(" at ")[0] for verdict in (case.verdict, told))
-        if name not in found or len(case.text) < len(found[name][0].text):
-            found[name] = case, told
-    for case, told in found.values():
-        print(f"=== due: {case.verdict}\n=== told: {told}\n{case.before}{case.text}")
-    print(f"{runs} texts, {differing} differ, in {len(found)} kinds of difference")
-    return 1 if differing else 0
+        said = ask(case)
+        is_parsed = grammar_alone and said.endswith(": ok")
+        found.add(case.text, case.verdict, case.verdict if is_parsed else said, case.before + case.text)
+    print("\n".join(found.report()))
+    return 1 if found.differing else 0
 
 
 def main() -> int:
@@ -150,7 +138,7 @@ def main() -> int:
         return 1
     if arguments.program:
         program = arguments.program.absolute()
-        return compare(lambda case: verdict_of(program, case), iter(cases), arguments.grammar)
+        return compare(lambda case: told(program, script_of(case)), iter(cases), arguments.grammar)
     counts = Counter("unit ok" if case.verdict.endswith(": ok") else case.verdict.split(" at ")[0] for case in cases)
     print(f"{len(cases)} texts: " + ", ".join(f"{name} {times}" for name, times in sorted(counts.items())))
     return 0
