@@ -4,16 +4,15 @@ use Rattle.std.specs.Prelude.{◌||◌, map, nat_lt, not, is_some, slice_get, if
 use Rattle.std.specs.List.{list_any}
 use Rattle.rv_access.specs.Words.{Words}
 use Rattle.rv_shape.specs.Catalogue.{OnProtected, Site, UnitObject, all_objects, at_object, at_operation, at_suspension, at_unit_object, numbered, objects_of, place, suspension_operations, target}
-use Rattle.rv_shape.specs.Fits.{bad_object, crowded, fault, line_taken, low_ceiling, name_taken, out_of_range, shape_fits, too_many}
-use Rattle.rv_shape.specs.Forms.{ill_formed}
+use Rattle.rv_shape.specs.Fits.{bad_object, crowded, fault, shape_fits}
 use Rattle.rv_shape.specs.Found.{AreDistinct, AreFound}
 use Rattle.rv_shape.specs.Objects.{OperationShape, ProtectedShape}
 use Rattle.rv_shape.specs.Shape.{Shape}
 use Rattle.rv_shape.specs.declared.fault.ShapeFault.{ShapeFault}
-use Rattle.rv_shape.specs.declared.fault.ShapeFault.TheVariants.{NameTaken, TooMany, LineTaken, CeilingTooLow, BadRange, BadText}
 use Rattle.rv_shape.specs.declared.object.Object.{Object}
 use Rattle.rv_shape.specs.declared.object.Object.TheVariants.{Protected, Suspension}
 use Rattle.rv_shape.specs.declared.suspension.SuspensionOperation.{SuspensionOperation}
+use Rattle.rv_shape.proofs.Faultless.{no_fault}
 use Rattle.rv_shape.proofs.FoundByName.{distinct_found, distinct_more, distinct_none}
 use Rattle.rv_shape.proofs.Stay.{objects_append}
 use Rattle.rv_event.specs.Past.{halted}
@@ -82,15 +81,6 @@ none_numbered p xs n x e f = by_test (nat_lt n 1) f
 
 -- So each object keeps what is asked of objects
 
-no_fault : (a b c d e f : Bool) → (if a then Some NameTaken else (if b then Some TooMany else (if c then Some LineTaken else (if d then Some CeilingTooLow else (if e then Some BadRange else (if f then Some BadText else None)))))) ≡ None → (b ≡ false) × (e ≡ false)
-no_fault true b c d e f n = absurd (cc)
-no_fault false true c d e f n = absurd (cc)
-no_fault false false true d e f n = absurd (cc)
-no_fault false false false true e f n = absurd (cc)
-no_fault false false false false true f n = absurd (cc)
-no_fault false false false false false true n = absurd (cc)
-no_fault false false false false false false n = (refl, refl)
-
 -- too large, or out of range
 abbrev pub is_bad : Object → Bool
 is_bad object = crowded object || bad_object object
@@ -107,8 +97,8 @@ last_or b c e = (or_none b c e).1
 
 fitting_objects : (shapes : List Shape) (s : Shape) → fault shapes s ≡ None → list_any is_bad s.objects ≡ false
 fitting_objects shapes s e =
-    let t = no_fault (name_taken shapes s) (too_many shapes s) (line_taken shapes s) (list_any low_ceiling s.objects) (out_of_range s) (ill_formed s) e in
-    any_bad s.objects (last_or _ (list_any crowded s.objects) t.0) (last_or _ (list_any bad_object s.objects) t.1)
+    let passes = no_fault shapes s e in
+    any_bad s.objects (last_or _ (list_any crowded s.objects) passes.count) (last_or _ (list_any bad_object s.objects) passes.range)
 
 abbrev pub is_bad_at : UnitObject → Bool
 is_bad_at at = is_bad at.object

@@ -5,7 +5,7 @@ use Rattle.std.specs.List.{list_any}
 use Rattle.rv_access.specs.Lines.{decides, grants}
 use Rattle.rv_shape.specs.Shape.{Shape}
 use Rattle.rv_shape.specs.Catalogue.{OperationNumber, Target, Nowhere, OnProtected, OnSuspension, target, handler}
-use Rattle.rv_shape.specs.Catalogue.{is_entry, dotted, suspension_operation_name}
+use Rattle.rv_shape.specs.Catalogue.{by_names, is_entry}
 use Rattle.rv_event.specs.Past.{under_way, held, is_unsettled, waiter, clock}
 use Rattle.rv_shape.specs.declared.suspension.SuspensionOperation.{SuspensionOperation}
 use Rattle.rv_shape.specs.declared.suspension.SuspensionOperation.TheVariants.{SetTrue, SetFalse, CurrentState}
@@ -35,19 +35,11 @@ aim shapes actor request = (0, Nowhere)
 
 -- the line that decides a call by this unit at the clock, 0 where none does (own)
 abbrev pub decided : History → List ℕ → Target → ℕ
-decided h unit Nowhere = 0
-decided h unit (OnProtected site) =
-    decides (force h) unit (dotted site.unit site.object.name) site.operation.name (clock h.past)
-decided h unit (OnSuspension of_unit object wanted) =
-    decides (force h) unit (dotted of_unit object) (suspension_operation_name wanted) (clock h.past)
+decided h unit target = by_names 0 (λ object operation. decides (force h) unit object operation (clock h.past)) target
 
 -- whether the list in force grants the call to this unit at the clock (own)
 abbrev pub granted : History → List ℕ → Target → Bool
-granted h unit Nowhere = true
-granted h unit (OnProtected site) =
-    grants (force h) unit (dotted site.unit site.object.name) site.operation.name (clock h.past)
-granted h unit (OnSuspension of_unit object wanted) =
-    grants (force h) unit (dotted of_unit object) (suspension_operation_name wanted) (clock h.past)
+granted h unit target = by_names true (λ object operation. grants (force h) unit object operation (clock h.past)) target
 
 -- only Suspend_Until_True may wait (D.10)
 abbrev pub waits : SuspensionOperation → Bool

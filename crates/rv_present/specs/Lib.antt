@@ -6,7 +6,6 @@ pub mod Unsettled
 pub mod Known
 pub mod Stances
 pub mod Calls
-pub mod Modes
 pub mod Counts
 pub mod Loads
 pub mod Present
