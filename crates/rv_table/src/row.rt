@@ -8,8 +8,7 @@ ghost use Rattle.rv_access.specs.Words.{Words};
 ghost use Rattle.rv_table.specs.Rows.{has, IsRow, Lowest, is_allowing, is_open_at, of_caller, of_site, passes_both};
 ghost use Rattle.rv_text.specs.Names.{dotted};
 
-use rv_access::{AccessList, MOST_LINES};
-use rv_text::{is_dotted_name, is_same_name};
+use rv_access::{AccessList, MOST_LINES, fits, fits_object};
 
 /// How many words a row has: a bit for each line that a list may have.
 pub(crate) const WORDS: usize = MOST_LINES / 64;
@@ -87,20 +86,6 @@ pub(crate) fn deciding(ours: &Row, theirs: &Row, lines: usize) -> usize
         Some(place) => lines.saturating_sub(place),
         None => 0,
     }
-}
-
-// Whether the word of a line is `*` or the name, case ignored.
-fn fits(word: &str, name: &str) -> bool
-    ensures { result ≡ listed.fits word.now name.now }
-{
-    word == "*" || is_same_name(word, name)
-}
-
-// Whether the word of a line is `*` or `unit.object`, case ignored.
-fn fits_object(word: &str, unit: &str, object: &str) -> bool
-    ensures { result ≡ listed.fits word.now (dotted unit.now object.now) }
-{
-    word == "*" || is_dotted_name(word, unit, object)
 }
 
 /// The lines that are of a caller.
