@@ -54,17 +54,7 @@ result_goes operator.Divide v u = checked_goes (divided u (int_div v u))
 result_goes operator.Modulo v u = checked_goes (divided u (modulus v u))
 result_goes operator.Remainder v u = checked_goes (divided u (int_rem v u))
 result_goes operator.AddTime v u = bounds_go (negsuc 999999999999999) (pos 1000000000000000) (v +ℤ u)
-result_goes operator.And v u = refl
-result_goes operator.Or v u = refl
-result_goes operator.Xor v u = refl
-result_goes operator.AndThen v u = refl
-result_goes operator.OrElse v u = refl
-result_goes operator.Equal v u = refl
-result_goes operator.NotEqual v u = refl
-result_goes operator.Less v u = refl
-result_goes operator.LessEqual v u = refl
-result_goes operator.Greater v u = refl
-result_goes operator.GreaterEqual v u = refl
+result_goes other v u = refl
 
 -- a world whose calls keep it
 pub record SoundWorld (kept : Kept) (w : World) : Type 0 where

@@ -12,6 +12,7 @@ pub mod Keeping
 pub mod KeptValues
 pub mod KeptStatements
 pub mod KeptBodies
+pub mod KeptRuns
 pub mod Stopping
 pub mod Finals
 pub mod StoppedBodies

@@ -1,6 +1,5 @@
 -- Bodies and tasks stop only by an answer.
-use Rattle.std.proofs.Common.{◌≡◌, ◌⊎◌, inl, inr, ℕ, zero, suc, ℤ, pos, List, [], ◌∷◌, Bool, true, false, refl, sym, ap, ◌∙◌, subst, Option, Some, None, Ok, Err}
-use Rattle.std.specs.Prelude.{◌-◌, replicate}
+use Rattle.std.proofs.Common.{◌≡◌, ◌⊎◌, inl, inr, ℕ, ℤ, List, [], ◌∷◌, Bool, true, false, refl, sym, ap, ◌∙◌, subst, None, Ok, Err}
 use Rattle.rv_event.specs.declared.entry.Answer.{Answer}
 use Rattle.rv_event.specs.declared.entry.Answer.TheVariants as answer
 use Rattle.rv_event.specs.declared.entry.Exception.TheVariants.{ProgramError}
@@ -9,25 +8,20 @@ use Rattle.rv_event.specs.declared.entry.Exit.TheVariants as exit
 use Rattle.rv_event.specs.declared.entry.Request.{Request}
 use Rattle.rv_event.specs.declared.entry.Request.TheVariants as request
 use Rattle.rv_code.specs.declared.expression.Callee.{Callee}
-use Rattle.rv_code.specs.Bodies.{Body, UnitBodies}
-use Rattle.rv_fits.specs.Calls.{task_calls, every_call}
-use Rattle.rv_exec.specs.declared.activation.Activation.{Activation}
 use Rattle.rv_exec.specs.declared.end.Asked.{Asked}
 use Rattle.rv_exec.specs.declared.end.Asked.TheVariants as asked
 use Rattle.rv_exec.specs.declared.end.Cause.TheVariants as cause
-use Rattle.rv_exec.specs.declared.end.End.{End}
 use Rattle.rv_exec.specs.declared.end.Reply.{Reply}
 use Rattle.rv_exec.specs.declared.end.Reply.TheVariants as reply
-use Rattle.rv_exec.specs.Asking.{Trace, Asking, ended, asking, and_then, Along}
-use Rattle.rv_exec.specs.Activations.{opened, given_back}
-use Rattle.rv_exec.specs.Blocks.{block, outcome_of, inner_at, performed, outer_at, exits, world}
+use Rattle.rv_exec.specs.Asking.{Trace, Asking, ended, asking, Along}
+use Rattle.rv_exec.specs.Blocks.{exits}
 use Rattle.rv_exec.specs.Bodies.{task_of}
 use Rattle.rv_exec.specs.Calls.{Outcome, internal, request_of, replied, resumed, settled, asks, is_past, reached, exit_of, completed, is_stuck, end_of, completes}
 use Rattle.rv_exec.specs.Stops.{is_final, is_stopped, stops_at_once, IsUnfitWoken, EndsNot, Stops, unwinds, StopsIn, BodiesStopBy, TasksStopBy}
-use Rattle.rv_exec.specs.Tasks.{task_setting, quits, over, task_meaning}
-use Rattle.rv_exec.proofs.Keeping.{How, ongoing, halted, stuck, is_stop, how_by, how_result, how_got, how_run, Sound, Silent, Follows, sound_end, sound_if, sound_then}
-use Rattle.rv_exec.proofs.KeptValues.{SoundWorld}
-use Rattle.rv_exec.proofs.KeptBodies.{block_sound, inner_sound, outcome_stops, task_found}
+use Rattle.rv_exec.specs.Tasks.{quits}
+use Rattle.rv_exec.proofs.Keeping.{ongoing, halted, stuck, is_stop, how_result, how_got, Sound, Silent, Follows, sound_end, sound_if}
+use Rattle.rv_exec.proofs.KeptBodies.{task_found}
+use Rattle.rv_exec.proofs.KeptRuns.{KeptOutside, how_asked, how_ended, how_exit, body_kept, task_kept}
 use Rattle.rv_exec.proofs.Runs.{ends_asked}
 use Rattle.rv_exec.proofs.Stopping.{stopped_result, no_stop, stopping, quiet_end}
 
@@ -56,12 +50,6 @@ stops_settled : (such : Callee → Bool) (c : Callee) (values : List ℤ) (q : R
 stops_settled such c values q r (reply.Settled other) [] what n m is e h s = inl (stops_first such c values q r n m e (ap stops_at_once is ∙ (ap is_stopped h ∙ s)), tt)
 stops_settled such c values q r (reply.Settled other) (pair ∷ more) what n m is e h s = absurd h
 stops_settled such c values q r reply.Waits more what n m is e h s = stops_resumed such c values (q, r) more what m e is h s
-
--- how an ask ends
-abbrev how_asked : Asked → How
-how_asked (asked.Given values) = ongoing
-how_asked (asked.Started object operation is_function components) = ongoing
-how_asked (asked.Abandoned why) = how_by why
 
 asked_stops : (what : Asked) → is_stop (how_asked what) ≡ true → is_stopped what ≡ true
 asked_stops (asked.Given values) s = no_stop s
@@ -92,21 +80,7 @@ not_done q components x (answer.Done next) (Ok values) e f s = no_stop s
 not_done q components x (answer.Done next) (Err (cause.Raised exception)) e f s = no_stop s
 not_done q components x (answer.Done next) (Err cause.Overrun) e f s = no_stop s
 not_done q components x (answer.Done next) (Err (cause.Stopped is_idle)) e f s = no_stop (sym f)
-not_done q components x (answer.Started scalars) outcome e f s = tt
-not_done q components x answer.Queued outcome e f s = tt
-not_done q components x (answer.Refused rule line version) outcome e f s = tt
-not_done q components x answer.Suspended outcome e f s = tt
-not_done q components x answer.Delayed outcome e f s = tt
-not_done q components x (answer.Accepted value) outcome e f s = tt
-not_done q components x (answer.Woken scalars) outcome e f s = tt
-not_done q components x answer.Halted outcome e f s = tt
-not_done q components x answer.Full outcome e f s = tt
-not_done q components x answer.Busy outcome e f s = tt
-not_done q components x answer.Waiting outcome e f s = tt
-not_done q components x answer.Misuse outcome e f s = tt
-not_done q components x answer.Unattached outcome e f s = tt
-not_done q components x answer.BadLine outcome e f s = tt
-not_done q components x answer.OutOfMemory outcome e f s = tt
+not_done q components x r outcome e f s = tt
 
 -- what a function's end, and another body's, gives back
 abbrev ends_with : Bool → List ℤ → List ℤ
@@ -147,38 +121,7 @@ follows_completed such is_function (Err cause.Overrun, (components, steps)) = co
 follows_completed such is_function (Err (cause.Stopped true), (components, steps)) = completes_quiet such is_function components steps
 follows_completed such is_function (Err (cause.Stopped false), (components, steps)) = quiet_end such stuck how_result (Err (cause.Stopped false))
 
--- Calls of other objects
-
-follows_performed : (such : Callee → Bool) (perform : ℕ → ℕ → Bool → List ℤ → Asking Outcome) → ((object operation : ℕ) (is_function : Bool) (components : List ℤ) → Sound (stopping such) how_result (perform object operation is_function components)) → (what : Asked) → Follows (stopping such) (how_asked what) how_result (performed perform what)
-follows_performed such perform f (asked.Given values) = sound_end (stopping such) how_result (Ok values) refl
-follows_performed such perform f (asked.Started object operation is_function components) = f object operation is_function components
-follows_performed such perform f (asked.Abandoned (cause.Raised exception)) = sound_end (stopping such) how_result (Err (cause.Raised exception)) refl
-follows_performed such perform f (asked.Abandoned cause.Overrun) = sound_end (stopping such) how_result (Err cause.Overrun) refl
-follows_performed such perform f (asked.Abandoned (cause.Stopped true)) = quiet_end such halted how_result (Err (cause.Stopped true))
-follows_performed such perform f (asked.Abandoned (cause.Stopped false)) = quiet_end such stuck how_result (Err (cause.Stopped false))
-
-outer_sound : (such : Callee → Bool) (bodies : UnitBodies) (held : ℕ) (c : Callee) (values : List ℤ) → every_call such bodies ≡ true → internal c ≡ None → such c ≡ true → Sound (stopping such) how_result (outer_at bodies held c values)
-unfolding outer_at
-outer_sound such bodies zero c values k n m =
-    sound_then (stopping such) how_asked how_result (reached zero c values) (performed (λ object operation is_function components. ended (Err (cause.Raised ProgramError)))) (reached_sound such zero c values n m)
-    (follows_performed such (λ object operation is_function components. ended (Err (cause.Raised ProgramError))) (λ object operation is_function components. sound_end (stopping such) how_result (Err (cause.Raised ProgramError)) refl))
-outer_sound such bodies (suc held) c values k n m =
-    sound_then (stopping such) how_asked how_result (reached (suc held) c values)
-    (performed (λ object operation is_function components. and_then (inner_at bodies object (outer_at bodies held) 65 operation values components 100000) (completes is_function))) (reached_sound such (suc held) c values n m)
-    (follows_performed such (λ object operation is_function components. and_then (inner_at bodies object (outer_at bodies held) 65 operation values components 100000) (completes is_function))
-    (λ object operation is_function components. sound_then (stopping such) how_got how_result (inner_at bodies object (outer_at bodies held) 65 operation values components 100000) (completes is_function)
-    (inner_sound (stopping such) bodies object (outer_at bodies held) k (λ d v i s. outer_sound such bodies held d v k i s) 65 operation values components 100000) (follows_completed such is_function)))
-
 -- Bodies, and tasks
-
-abbrev how_exit : Exit → How
-how_exit (exit.Return values) = ongoing
-how_exit (exit.Raise exception) = ongoing
-how_exit exit.Overrun = ongoing
-how_exit exit.Stopped = halted
-
-abbrev how_ended : Exit × List ℤ → How
-how_ended last = how_exit last.0
 
 follows_exits : (such : Callee → Bool) (got : Outcome × (List ℤ × ℕ)) → Follows (stopping such) (how_got got) how_ended (exits got)
 follows_exits such (Ok values, (components, steps)) = sound_end (stopping such) how_ended (exit.Return values, components) refl
@@ -186,11 +129,6 @@ follows_exits such (Err (cause.Raised exception), (components, steps)) = sound_e
 follows_exits such (Err cause.Overrun, (components, steps)) = sound_end (stopping such) how_ended (exit.Overrun, components) refl
 follows_exits such (Err (cause.Stopped true), (components, steps)) = quiet_end such halted how_ended (exit.Stopped, components)
 follows_exits such (Err (cause.Stopped false), (components, steps)) = quiet_end such stuck how_ended (exit.Stopped, components)
-
-pub bodies_stop_by : BodiesStopBy
-bodies_stop_by such bodies held object operation values components left trace k h =
-    sound_then (stopping such) how_got how_ended (inner_at bodies object (outer_at bodies (16 - held)) 65 operation values components 100000) exits
-    (inner_sound (stopping such) bodies object (outer_at bodies (16 - held)) k (λ c v n m. outer_sound such bodies (16 - held) c v k n m) 65 operation values components 100000) (follows_exits such) trace (exit.Stopped, left) h refl
 
 quit_sound : (such : Callee → Bool) (x : Exit) → how_exit x ≡ ongoing → Sound (stopping such) how_exit (asking request.Quit (λ r. ended x))
 quit_sound such x e [] last h s = absurd h
@@ -209,22 +147,16 @@ follows_quits such (Err cause.Overrun) = quit_sound such exit.Overrun refl
 follows_quits such (Err (cause.Stopped true)) = quit_quiet such exit.Stopped
 follows_quits such (Err (cause.Stopped false)) = quiet_end such stuck how_exit exit.Stopped
 
-follows_over : (such : Callee → Bool) (body : Body) (ran : End × Activation) → Follows (stopping such) (how_run ran) how_exit (over body ran)
-follows_over such body (e, a) =
-    subst (λ (k : How). Follows (stopping such) k how_exit (quits (outcome_of body e a))) (outcome_stops body.is_function e (given_back body.parameters 0 a.slots [])) (follows_quits such (outcome_of body e a))
-
-task_world : (such : Callee → Bool) (bodies : UnitBodies) → every_call such bodies ≡ true → SoundWorld (stopping such) (world bodies task_setting)
-task_world such bodies k = record {
-  inner = λ o v c s. inner_sound (stopping such) bodies 0 (outer_at bodies 16) k (λ d u n m. outer_sound such bodies 16 d u k n m) 65 o v c s;
-  outer = λ c v n m. outer_sound such bodies 16 c v k n m;
+outside : (such : Callee → Bool) → KeptOutside (stopping such)
+outside such = record {
+  asks = λ held c values n m. reached_sound such held c values n m;
+  ends = λ is_function got. follows_completed such is_function got;
+  leaves = λ got. follows_exits such got;
+  stops = λ outcome. follows_quits such outcome;
 }
 
-task_sound : (such : Callee → Bool) (bodies : UnitBodies) (o : Option Body) (requests : ℕ) → every_call such bodies ≡ true → task_calls such o ≡ true → Sound (stopping such) how_exit (task_meaning bodies o requests)
-unfolding task_meaning
-task_sound such bodies None requests k m = quit_sound such (exit.Return []) refl
-task_sound such bodies (Some body) requests k m =
-    sound_then (stopping such) how_run how_exit (block (world bodies task_setting) body (opened (replicate 132 (pos 0)) [] 100000 requests)) (over body)
-    (block_sound (stopping such) (world bodies task_setting) (task_world such bodies k) body (opened (replicate 132 (pos 0)) [] 100000 requests) m) (follows_over such body)
+pub bodies_stop_by : BodiesStopBy
+bodies_stop_by such bodies held object operation values components left trace k h = body_kept (stopping such) (outside such) bodies k held object operation values components trace (exit.Stopped, left) h refl
 
 pub tasks_stop_by : TasksStopBy
-tasks_stop_by such bodies actor requests trace k h = task_sound such bodies (task_of bodies actor) requests k (task_found such bodies actor k) trace exit.Stopped h refl
+tasks_stop_by such bodies actor requests trace k h = task_kept (stopping such) (outside such) bodies k (task_of bodies actor) requests (task_found such bodies actor k) trace exit.Stopped h refl

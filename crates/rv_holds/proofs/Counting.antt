@@ -5,9 +5,7 @@ use Rattle.std.specs.List.{filter}
 use Rattle.std.proofs.lemmas.Bool.Decides.{nat_tests}
 use Rattle.rv_access.specs.Words.{Words}
 use Rattle.rv_shape.specs.Shape.{Shape}
-use Rattle.rv_shape.specs.Catalogue.{OperationNumber, UnitTask, Who, Operator, Line, Task, Nobody, Target, Nowhere, OnProtected, OnSuspension, all_tasks, first_of, handler, is_function, target, task_of, who}
-use Rattle.rv_shape.specs.declared.suspension.SuspensionOperation.{SuspensionOperation}
-use Rattle.rv_shape.specs.declared.suspension.SuspensionOperation.TheVariants.{SetTrue, SetFalse, CurrentState, SuspendUntilTrue}
+use Rattle.rv_shape.specs.Catalogue.{OperationNumber, UnitTask, Who, Operator, Line, Task, Nobody, Target, all_tasks, first_of, handler, target, task_of, who}
 use Rattle.rv_event.proofs.Matching.{by, filter_without}
 use Rattle.rv_event.specs.Past.{begun, clock, closed, ended, fired, halted, handed, held, innermost, last_queued, mode, mode_by, named_in, next_of, or_else, released, scalars, stance, stance_of, started, state, to_settle, under_way, without}
 use Rattle.rv_event.specs.Recorded.{recorded}
@@ -17,34 +15,33 @@ use Rattle.rv_event.specs.declared.entry.Body.{Body}
 use Rattle.rv_event.specs.declared.entry.Entry.{Entry}
 use Rattle.rv_event.specs.declared.entry.Entry.TheVariants.{Asked, Load, ListChange}
 use Rattle.rv_event.specs.declared.entry.Exit.{Exit}
+use Rattle.rv_event.specs.declared.entry.Mode.TheVariants as Modes
 use Rattle.rv_event.specs.declared.entry.Next.{Next}
 use Rattle.rv_event.specs.declared.entry.Next.TheVariants.{Nothing, HandedTo, Dropped}
 use Rattle.rv_event.specs.declared.entry.Recorded.{Recorded}
 use Rattle.rv_event.specs.declared.entry.Recorded.TheVariants as Recordeds
 use Rattle.rv_event.specs.declared.entry.Request.{Request}
 use Rattle.rv_event.specs.declared.entry.Request.TheVariants.{Call, Complete, Settle, Resume, DelayUntil, Clock, Fire, Quit, Tick, Halt}
-use Rattle.rv_event.specs.declared.entry.Rule.TheVariants as Rules
 use Rattle.rv_event.specs.declared.entry.Stance.{Stance}
 use Rattle.rv_event.specs.declared.entry.Stance.TheVariants.{Free, InQueue, HandedOver, DroppedBy, WaitsOn, WaitsUntil, Gone}
 use Rattle.rv_exec.specs.Asking.{Trace}
 use Rattle.rv_history.specs.declared.limits.Limits.{Limits}
-use Rattle.rv_history.specs.Due.{out, due, table, gate, within, enough, judged, performed, due_call, due_delay, due_end, due_fire, due_resume, end_of, or_waiting}
-use Rattle.rv_history.specs.Exclusion.{excluded, full_queue, is_barred}
+use Rattle.rv_history.specs.Due.{out, due, table, gate, within, enough, due_delay, due_end, due_fire, due_resume, end_of, or_waiting}
 use Rattle.rv_history.specs.Fitting.{call_fits, end_fits, idle_line, idle_task, in_body, is_operator, is_tick, is_time, may_call}
-use Rattle.rv_history.specs.History.{History, version}
+use Rattle.rv_history.specs.History.{History}
 use Rattle.rv_history.specs.HandOver.{serves}
 use Rattle.rv_history.specs.Legal.{IsLegal, Legal}
-use Rattle.rv_history.specs.Rules.{breaks, decided, holds_any}
-use Rattle.rv_history.specs.Subject.{subject}
+use Rattle.rv_history.specs.Rules.{holds_any}
 use Rattle.rv_history.proofs.Answered.{answered, both, off, within_recorded, word_is}
 use Rattle.rv_history.proofs.Bodies.{count_less}
 use Rattle.rv_history.proofs.Done.{done_serves}
 use Rattle.rv_history.proofs.Ending.{Names, ends, head_waits, names_at, settling}
 use Rattle.rv_history.proofs.Growing.{front_is}
 use Rattle.rv_history.proofs.Loaded.{way_stays}
-use Rattle.rv_history.proofs.Modes.{calls_at, ends_at, fires_at, quits_at}
+use Rattle.rv_history.proofs.Modes.{calls_at, calls_none, ends_at, fires_at, fires_none, free_in, quits_at, quits_none}
 use Rattle.rv_history.proofs.Standing.{legal_standing, settler_at}
-use Rattle.rv_history.proofs.Stances.{another, held_other, is_other, itself, own_stance, same_number, unnamed_stance}
+use Rattle.rv_history.proofs.Stances.{another, held_other, is_other, itself, own_stance, own_stances, same_number, unnamed_stance}
+use Rattle.rv_history.proofs.Tells.{Tells, each_waiting, out_each}
 use Rattle.rv_history.proofs.Waits.{Waits}
 use Rattle.rv_meant.specs.Asks.{held_after, held_behind}
 use Rattle.rv_meant.specs.Histories.{ask_of, asked_in, asks_of, own_ask}
@@ -65,45 +62,18 @@ abbrev behind_word : ℕ → Recorded → ℕ
 behind_word n Recordeds.Started = suc n
 behind_word n w = n
 
-judged_holds : (n number line : ℕ) (values : List ℤ) (denied blocking reentry above busy barred full : Bool) (w : Recorded) → recorded (judged number line values denied blocking reentry above busy barred full) ≡ Some w
-    → held_after n (judged number line values denied blocking reentry above busy barred full) ≡ behind_word n w
-judged_holds n number line values true blocking reentry above busy barred full w e = ap (λ z. behind_word n z) (word_is _ w e)
-judged_holds n number line values false true reentry above busy barred full w e = ap (λ z. behind_word n z) (word_is _ w e)
-judged_holds n number line values false false true above busy barred full w e = ap (λ z. behind_word n z) (word_is _ w e)
-judged_holds n number line values false false false true busy barred full w e = ap (λ z. behind_word n z) (word_is _ w e)
-judged_holds n number line values false false false false true barred full w e = absurd (cc)
-judged_holds n number line values false false false false false true true w e = ap (λ z. behind_word n z) (word_is _ w e)
-judged_holds n number line values false false false false false true false w e = ap (λ z. behind_word n z) (word_is _ w e)
-judged_holds n number line values false false false false false false full w e = ap (λ z. behind_word n z) (word_is _ w e)
+-- the same by the word, if there is one
+abbrev behind : ℕ → Option Recorded → ℕ
+behind n None = n
+behind n (Some w) = behind_word n w
 
-performed_holds : (n number : ℕ) (blocking waited now : Bool) (wanted : SuspensionOperation) (w : Recorded) → recorded (performed number blocking waited now wanted) ≡ Some w → held_after n (performed number blocking waited now wanted) ≡ behind_word n w
-performed_holds n number blocking waited now SetTrue w e = ap (λ z. behind_word n z) (word_is _ w e)
-performed_holds n number blocking waited now SetFalse w e = ap (λ z. behind_word n z) (word_is _ w e)
-performed_holds n number blocking waited now CurrentState w e = ap (λ z. behind_word n z) (word_is _ w e)
-performed_holds n number true waited now SuspendUntilTrue w e = ap (λ z. behind_word n z) (word_is _ w e)
-performed_holds n number false true now SuspendUntilTrue w e = ap (λ z. behind_word n z) (word_is _ w e)
-performed_holds n number false false true SuspendUntilTrue w e = ap (λ z. behind_word n z) (word_is _ w e)
-performed_holds n number false false false SuspendUntilTrue w e = ap (λ z. behind_word n z) (word_is _ w e)
+answer_holds : (h : History) (a n : ℕ) (q : Request) → serves q ≡ false → (q ≡ Resume → ⊥) → (x : Answer) → Tells h a q x → held_after n x ≡ behind n (recorded x)
+answer_holds h a n q c wakes (Answers.Woken s) t = absurd (wakes t.0)
+answer_holds h a n q c wakes (Answers.Done next) t = absurd (off (sym c ∙ t))
+answer_holds h a n q c wakes x t = refl
 
-granted_holds : (n line number : ℕ) (denied : Bool) (r : Answer) (w : Recorded) → recorded (if denied then Answers.Refused Rules.Grant line number else r) ≡ Some w → (recorded r ≡ Some w → held_after n r ≡ behind_word n w)
-    → held_after n (if denied then Answers.Refused Rules.Grant line number else r) ≡ behind_word n w
-granted_holds n line number true r w e f = ap (λ z. behind_word n z) (word_is _ w e)
-granted_holds n line number false r w e f = f e
-
-call_holds : (h : History) (a n : ℕ) (q : Request) (o : ℕ) (t : Target) (w : Recorded) → recorded (due_call h a q o t) ≡ Some w → held_after n (due_call h a q o t) ≡ behind_word n w
-call_holds h a n q o Nowhere w e = absurd (cc)
-call_holds h a n q o (OnProtected site) w e =
-    judged_holds n (version h) (decided h (subject h a) (OnProtected site)) (scalars h.shapes o h.past)
-    (breaks h Rules.Grant a q o (OnProtected site)) (breaks h Rules.Blocking a q o (OnProtected site)) (breaks h Rules.Reentry a q o (OnProtected site)) (breaks h Rules.Ceiling a q o (OnProtected site))
-    (excluded h o (is_function site.operation.kind)) (is_barred h o site.operation.kind) (full_queue h o) w e
-call_holds h a n q o (OnSuspension unit name wanted) w e =
-    granted_holds n (decided h (subject h a) (OnSuspension unit name wanted)) (version h) (breaks h Rules.Grant a q o (OnSuspension unit name wanted))
-    (performed (version h) (breaks h Rules.Blocking a q o (OnSuspension unit name wanted)) (breaks h Rules.Waiter a q o (OnSuspension unit name wanted)) (state o h.past) wanted) w e
-    (λ f. performed_holds n (version h) (breaks h Rules.Blocking a q o (OnSuspension unit name wanted)) (breaks h Rules.Waiter a q o (OnSuspension unit name wanted)) (state o h.past) wanted w f)
-
-fire_holds : (h : History) (a n : ℕ) (s : Option OperationNumber) (w : Recorded) → recorded (due_fire h a s) ≡ Some w → held_after n (due_fire h a s) ≡ behind_word n w
-fire_holds h a n None w e = absurd (cc)
-fire_holds h a n (Some s) w e = call_holds h a n Fire s.object (target h.shapes s.object s.operation) w e
+out_holds : (h : History) (a n : ℕ) (q : Request) (w : Recorded) → serves q ≡ false → (q ≡ Resume → ⊥) → recorded (out h a q) ≡ Some w → held_after n (out h a q) ≡ behind_word n w
+out_holds h a n q w c wakes e = out_each (λ x. held_after n x ≡ behind n (recorded x)) h a q refl (answer_holds h a n q c wakes) ∙ ap (λ o. behind n o) e
 
 delay_holds : (h : History) (n : ℕ) (blocking over : Bool) → held_after n (due_delay h blocking over) ≡ n
 delay_holds h n true over = refl
@@ -111,68 +81,27 @@ delay_holds h n false true = refl
 delay_holds h n false false = refl
 
 waiting_holds : (h : History) (n : ℕ) (ready : Bool) → held_after n (or_waiting h ready) ≡ n
-waiting_holds h n true = refl
-waiting_holds h n false = by_halt (halted h.past) where
-  by_halt : (b : Bool) → held_after n (cond b Answers.Halted Answers.Waiting) ≡ n
-  by_halt true = refl
-  by_halt false = refl
+waiting_holds h n ready = each_waiting (λ x. held_after n x ≡ n) h ready refl refl refl
 
 resume_holds : (h : History) (a n : ℕ) (s : Stance) → held_after n (due_resume h a s) ≡ n + handed_one s
-resume_holds h a n Free = omega arith
 resume_holds h a n InQueue = waiting_holds h n false ∙ omega arith
-resume_holds h a n HandedOver = omega arith
-resume_holds h a n (DroppedBy line) = omega arith
 resume_holds h a n (WaitsOn object) = waiting_holds h n (released a object h.past) ∙ omega arith
 resume_holds h a n (WaitsUntil time) = waiting_holds h n (int_le time (pos (clock h.past))) ∙ omega arith
-resume_holds h a n Gone = omega arith
+resume_holds h a n s = omega arith
 
 -- Who was handed an object asks nothing but its resume
 
 may_call_free : (k : Who) (bs : List Body) (s : Stance) → may_call k (mode_by bs s) ≡ true → handed_one s ≡ 0
-may_call_free k bs Free e = refl
-may_call_free k bs InQueue e = refl
-may_call_free Operator bs HandedOver e = absurd (cc)
-may_call_free (Line line) bs HandedOver e = absurd (cc)
-may_call_free (Task task) bs HandedOver e = absurd (cc)
-may_call_free Nobody bs HandedOver e = absurd (cc)
-may_call_free k bs (DroppedBy line) e = refl
-may_call_free k bs (WaitsOn object) e = refl
-may_call_free k bs (WaitsUntil time) e = refl
-may_call_free k bs Gone e = refl
+may_call_free k bs HandedOver e = absurd (off (sym (calls_none k Modes.Handed refl) ∙ e))
+may_call_free k bs s e = refl
 
 idle_line_free : (k : Who) (bs : List Body) (s : Stance) → idle_line k (mode_by bs s) ≡ true → handed_one s ≡ 0
-idle_line_free k bs Free e = refl
-idle_line_free k bs InQueue e = refl
-idle_line_free Operator bs HandedOver e = absurd (cc)
-idle_line_free (Line line) bs HandedOver e = absurd (cc)
-idle_line_free (Task task) bs HandedOver e = absurd (cc)
-idle_line_free Nobody bs HandedOver e = absurd (cc)
-idle_line_free k bs (DroppedBy line) e = refl
-idle_line_free k bs (WaitsOn object) e = refl
-idle_line_free k bs (WaitsUntil time) e = refl
-idle_line_free k bs Gone e = refl
+idle_line_free k bs HandedOver e = absurd (off (sym (fires_none k Modes.Handed refl) ∙ e))
+idle_line_free k bs s e = refl
 
 idle_task_free : (k : Who) (bs : List Body) (s : Stance) → idle_task k (mode_by bs s) ≡ true → handed_one s ≡ 0
-idle_task_free k bs Free e = refl
-idle_task_free k bs InQueue e = refl
-idle_task_free Operator bs HandedOver e = absurd (cc)
-idle_task_free (Line line) bs HandedOver e = absurd (cc)
-idle_task_free (Task task) bs HandedOver e = absurd (cc)
-idle_task_free Nobody bs HandedOver e = absurd (cc)
-idle_task_free k bs (DroppedBy line) e = refl
-idle_task_free k bs (WaitsOn object) e = refl
-idle_task_free k bs (WaitsUntil time) e = refl
-idle_task_free k bs Gone e = refl
-
--- an actor in a body is free
-in_body_free : (bs : List Body) (s : Stance) → in_body (mode_by bs s) ≡ true → s ≡ Free
-in_body_free bs Free e = refl
-in_body_free bs InQueue e = absurd (cc)
-in_body_free bs HandedOver e = absurd (cc)
-in_body_free bs (DroppedBy line) e = absurd (cc)
-in_body_free bs (WaitsOn object) e = absurd (cc)
-in_body_free bs (WaitsUntil time) e = absurd (cc)
-in_body_free bs Gone e = absurd (cc)
+idle_task_free k bs HandedOver e = absurd (off (sym (quits_none k Modes.Handed refl) ∙ e))
+idle_task_free k bs s e = refl
 
 free_not_queued : (s : Stance) → s ≡ Free → s ≡ InQueue → ⊥
 free_not_queued s e f = cc (e, f)
@@ -191,14 +120,7 @@ not_operator shapes a some =
     line_or false = task_is (slice_get (all_tasks shapes) (a - 11))
 
 never_handed : (a : ℕ) (q : Request) (w : Recorded) → handed_one (stance_of (Asked a q w)) ≡ 0
-never_handed a (Call o p vs) Recordeds.Queued = refl
-never_handed a (Call o p vs) Recordeds.Suspended = refl
-never_handed a (Call o p vs) w = refl
-never_handed a (DelayUntil t) Recordeds.Delayed = refl
-never_handed a (DelayUntil t) w = refl
-never_handed a Quit (Recordeds.Accepted v) = refl
-never_handed a Quit w = refl
-never_handed a q w = refl
+never_handed = own_stances (λ s. handed_one s ≡ 0) refl refl (λ object. refl) (λ time. refl) refl
 
 -- One entry of the actor's own
 
@@ -238,22 +160,17 @@ module _ (h : History) (a n : ℕ) (k : length (held h.shapes a h.past) ≡ n + 
       omega (arith, k, f, r)
 
   own_call : (o p : ℕ) (vs : List ℤ) (w : Recorded) → recorded (out h a (Call o p vs)) ≡ Some w → Counts (Call o p vs) w
-  own_call o p vs w e = by_word w e (ap (λ z. held_after n z) (out_table h a (Call o p vs) w e) ∙ call_holds h a n (Call o p vs) o (target h.shapes o p) w (answered h a (Call o p vs) w e).said) where
+  own_call o p vs w e = by_word w e (out_holds h a n (Call o p vs) w refl (λ f. cc f) e) where
     free : handed_one (stance a h.past) ≡ 0
     free = may_call_free (who h.shapes a) (held h.shapes a h.past) (stance a h.past) (calls (both (may_call (who h.shapes a) (mode h.shapes a h.past)) (call_fits (length (held h.shapes a h.past)) vs (target h.shapes o p)) (answered h a (Call o p vs) w e).fits_in).0)
 
     by_word : (w : Recorded) → recorded (out h a (Call o p vs)) ≡ Some w → held_after n (out h a (Call o p vs)) ≡ behind_word n w → Counts (Call o p vs) w
     by_word Recordeds.Started e holds = own_start (Call o p vs) Recordeds.Started refl (one_more a (record { actor = a; object = o; operation = p }) (under_way h.shapes h.past) refl) holds free
     by_word (Recordeds.Done next) e holds = absurd (off (done_serves h a (Call o p vs) next e))
-    by_word Recordeds.Queued e holds = own_plain (Call o p vs) Recordeds.Queued refl refl holds free
-    by_word (Recordeds.Refused rule line number) e holds = own_plain (Call o p vs) (Recordeds.Refused rule line number) refl refl holds free
-    by_word Recordeds.Suspended e holds = own_plain (Call o p vs) Recordeds.Suspended refl refl holds free
-    by_word Recordeds.Delayed e holds = own_plain (Call o p vs) Recordeds.Delayed refl refl holds free
-    by_word Recordeds.Woken e holds = own_plain (Call o p vs) Recordeds.Woken refl refl holds free
-    by_word (Recordeds.Accepted value) e holds = own_plain (Call o p vs) (Recordeds.Accepted value) refl refl holds free
+    by_word w e holds = own_plain (Call o p vs) w refl refl holds free
 
   own_fire : (w : Recorded) → recorded (out h a Fire) ≡ Some w → Counts Fire w
-  own_fire w e = by_word w e (ap (λ z. held_after n z) (out_table h a Fire w e) ∙ fire_holds h a n (handler h.shapes (a - 1)) w (answered h a Fire w e).said) where
+  own_fire w e = by_word w e (out_holds h a n Fire w refl (λ f. cc f) e) where
     free : handed_one (stance a h.past) ≡ 0
     free = idle_line_free (who h.shapes a) (held h.shapes a h.past) (stance a h.past) (fires_at (who h.shapes a) (to_settle h.shapes a h.past) (mode_by (held h.shapes a h.past) (stance a h.past)) (answered h a Fire w e).fits_in)
 
@@ -264,22 +181,11 @@ module _ (h : History) (a n : ℕ) (k : length (held h.shapes a h.past) ≡ n + 
     by_word : (w : Recorded) → recorded (out h a Fire) ≡ Some w → held_after n (out h a Fire) ≡ behind_word n w → Counts Fire w
     by_word Recordeds.Started e holds = own_start Fire Recordeds.Started refl (starts (handler h.shapes (a - 1)) refl (answered h a Fire Recordeds.Started e).said) holds free
     by_word (Recordeds.Done next) e holds = absurd (off (done_serves h a Fire next e))
-    by_word Recordeds.Queued e holds = own_plain Fire Recordeds.Queued refl refl holds free
-    by_word (Recordeds.Refused rule line number) e holds = own_plain Fire (Recordeds.Refused rule line number) refl refl holds free
-    by_word Recordeds.Suspended e holds = own_plain Fire Recordeds.Suspended refl refl holds free
-    by_word Recordeds.Delayed e holds = own_plain Fire Recordeds.Delayed refl refl holds free
-    by_word Recordeds.Woken e holds = own_plain Fire Recordeds.Woken refl refl holds free
-    by_word (Recordeds.Accepted value) e holds = own_plain Fire (Recordeds.Accepted value) refl refl holds free
+    by_word w e holds = own_plain Fire w refl refl holds free
 
   next_none : (q : Request) (w : Recorded) → recorded (out h a q) ≡ Some w → serves q ≡ false → next_of (Asked a q w) ≡ Nothing
   next_none q (Recordeds.Done next) e c = absurd (off (sym c ∙ done_serves h a q next e))
-  next_none q Recordeds.Started e c = refl
-  next_none q Recordeds.Queued e c = refl
-  next_none q (Recordeds.Refused rule line number) e c = refl
-  next_none q Recordeds.Suspended e c = refl
-  next_none q Recordeds.Delayed e c = refl
-  next_none q Recordeds.Woken e c = refl
-  next_none q (Recordeds.Accepted value) e c = refl
+  next_none q w e c = refl
 
   -- one that is no call
   own_calm : (q : Request) (w : Recorded) → recorded (out h a q) ≡ Some w → serves q ≡ false → length (held h.shapes a (Asked a q w ∷ h.past)) ≡ was → held_after n (table h a q) ≡ n → handed_one (stance a h.past) ≡ 0 → Counts q w
@@ -317,7 +223,7 @@ module _ (h : History) (a n : ℕ) (k : length (held h.shapes a h.past) ≡ n + 
 
     is_free : (w : Recorded) → recorded (out h a (Complete vs x)) ≡ Some w → stance a h.past ≡ Free
     is_free w e =
-        in_body_free (held h.shapes a h.past) (stance a h.past)
+        free_in (held h.shapes a h.past) (stance a h.past)
         (ends_at (to_settle h.shapes a h.past) (mode_by (held h.shapes a h.past) (stance a h.past)) (both (in_body (mode h.shapes a h.past)) (end_fits h.shapes vs x (innermost h.shapes a h.past)) (answered h a (Complete vs x) w e).fits_in).0)
 
     end_holds : (w : Recorded) → recorded (out h a (Complete vs x)) ≡ Some w → held_after n (out h a (Complete vs x)) ≡ n - 1
@@ -348,13 +254,7 @@ module _ (h : History) (a n : ℕ) (k : length (held h.shapes a h.past) ≡ n + 
 
     own_complete : (w : Recorded) → recorded (out h a (Complete vs x)) ≡ Some w → Counts (Complete vs x) w
     own_complete (Recordeds.Done next) e = own_done next e
-    own_complete Recordeds.Started e = absurd (cc (ends h a vs x Recordeds.Started e).word)
-    own_complete Recordeds.Queued e = absurd (cc (ends h a vs x Recordeds.Queued e).word)
-    own_complete (Recordeds.Refused rule line number) e = absurd (cc (ends h a vs x (Recordeds.Refused rule line number) e).word)
-    own_complete Recordeds.Suspended e = absurd (cc (ends h a vs x Recordeds.Suspended e).word)
-    own_complete Recordeds.Delayed e = absurd (cc (ends h a vs x Recordeds.Delayed e).word)
-    own_complete Recordeds.Woken e = absurd (cc (ends h a vs x Recordeds.Woken e).word)
-    own_complete (Recordeds.Accepted value) e = absurd (cc (ends h a vs x (Recordeds.Accepted value) e).word)
+    own_complete w e = absurd (cc (ends h a vs x w e).word)
 
   -- a settle, which is no ask, and leaves what its actor holds
   module _ (l : Legal h) where
@@ -382,13 +282,7 @@ module _ (h : History) (a n : ℕ) (k : length (held h.shapes a h.past) ≡ n + 
 
     own_settled : (w : Recorded) → recorded (out h a Settle) ≡ Some w → CountsSettled w
     own_settled (Recordeds.Done next) e = settle_done next e
-    own_settled Recordeds.Started e = absurd (cc (settling h a Recordeds.Started e).word)
-    own_settled Recordeds.Queued e = absurd (cc (settling h a Recordeds.Queued e).word)
-    own_settled (Recordeds.Refused rule line number) e = absurd (cc (settling h a (Recordeds.Refused rule line number) e).word)
-    own_settled Recordeds.Suspended e = absurd (cc (settling h a Recordeds.Suspended e).word)
-    own_settled Recordeds.Delayed e = absurd (cc (settling h a Recordeds.Delayed e).word)
-    own_settled Recordeds.Woken e = absurd (cc (settling h a Recordeds.Woken e).word)
-    own_settled (Recordeds.Accepted value) e = absurd (cc (settling h a (Recordeds.Accepted value) e).word)
+    own_settled w e = absurd (cc (settling h a w e).word)
 
   own_counts : Legal h → 0 < a → (q : Request) (w : Recorded) → recorded (out h a q) ≡ Some w
       → length (held h.shapes a (Asked a q w ∷ h.past)) ≡ held_behind n (ask_of q (out h a q)) + handed_one (stance a (Asked a q w ∷ h.past))
@@ -444,14 +338,7 @@ module _ (h : History) (a b n : ℕ) (l : Legal h) (apart : a ≢ b) (k : length
   serves_one : (r : Request) → serves r ≡ true → ServesOne r
   serves_one (Complete vs x) c = record { starts = λ next. refl; fewer = λ next. count_less (by a) b (under_way h.shapes h.past) }
   serves_one Settle c = record { starts = λ next. refl; fewer = λ next. omega arith }
-  serves_one (Call o p vs) c = absurd (off c)
-  serves_one Resume c = absurd (off c)
-  serves_one (DelayUntil t) c = absurd (off c)
-  serves_one Clock c = absurd (off c)
-  serves_one Fire c = absurd (off c)
-  serves_one Quit c = absurd (off c)
-  serves_one (Tick m) c = absurd (off c)
-  serves_one Halt c = absurd (off c)
+  serves_one r c = absurd (off c)
 
   not_false : (t : Bool) → not t ≡ false → t ≡ true
   not_false true g = refl
@@ -493,13 +380,7 @@ module _ (h : History) (a b n : ℕ) (l : Legal h) (apart : a ≢ b) (k : length
     by_name : (t : Bool) → is_other (named_in next) a ≡ t → CountsBy q (Recordeds.Done next)
     by_name true f = unnamed q (Recordeds.Done next) f
     by_name false f = named q (serves_one q (done_serves h b q next e)) next e f
-  other_counts q Recordeds.Started e = unnamed q Recordeds.Started refl
-  other_counts q Recordeds.Queued e = unnamed q Recordeds.Queued refl
-  other_counts q (Recordeds.Refused rule line number) e = unnamed q (Recordeds.Refused rule line number) refl
-  other_counts q Recordeds.Suspended e = unnamed q Recordeds.Suspended refl
-  other_counts q Recordeds.Delayed e = unnamed q Recordeds.Delayed refl
-  other_counts q Recordeds.Woken e = unnamed q Recordeds.Woken refl
-  other_counts q (Recordeds.Accepted value) e = unnamed q (Recordeds.Accepted value) refl
+  other_counts q w e = unnamed q w refl
 
 -- All entries
 

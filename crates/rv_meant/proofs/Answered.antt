@@ -1,10 +1,11 @@
 -- What a call asks, by what it comes to.
 use Rattle.std.proofs.Common.{◌≡◌, ◌⊎◌, inl, inr, ℕ, suc, ℤ, List, [], ◌∷◌, Bool, true, false, cond, refl, sym, ap, ◌∙◌}
-use Rattle.std.specs.Prelude.{Some, None, is_some, ◌&&◌, int_le, pos}
+use Rattle.std.specs.Prelude.{Some, None, Option, is_some, ◌&&◌, int_le, pos}
 use Rattle.rv_value.specs.Arithmetic.{is_zero}
 use Rattle.rv_event.specs.Recorded.{recorded}
 use Rattle.rv_event.specs.declared.entry.Answer.{Answer}
 use Rattle.rv_event.specs.declared.entry.Answer.TheVariants as answer
+use Rattle.rv_event.specs.declared.entry.Recorded.{Recorded}
 use Rattle.rv_event.specs.declared.entry.Request.{Request}
 use Rattle.rv_event.specs.declared.entry.Request.TheVariants as request
 use Rattle.rv_event.specs.declared.entry.Rule.{Rule}
@@ -56,42 +57,15 @@ waits reply.Waits = true
 
 plain_held : (n : ℕ) (r : Answer) → is_plain r ≡ true → held_after n r ≡ n
 plain_held n (answer.Started s) e = no_more e
-plain_held n (answer.Woken None) e = refl
 plain_held n (answer.Woken (Some s)) e = no_more e
 plain_held n (answer.Done next) e = no_more e
-plain_held n answer.Queued e = refl
-plain_held n (answer.Refused rule line version) e = refl
-plain_held n answer.Suspended e = refl
-plain_held n answer.Delayed e = refl
-plain_held n (answer.Accepted value) e = refl
-plain_held n answer.Halted e = refl
-plain_held n answer.Full e = refl
-plain_held n answer.Busy e = refl
-plain_held n answer.Waiting e = refl
-plain_held n answer.Misuse e = refl
-plain_held n answer.Unattached e = refl
-plain_held n answer.BadLine e = refl
-plain_held n answer.OutOfMemory e = refl
+plain_held n r e = refl
 
 -- what is so of the answers that start a body is so of each that does
 pub by_start : (P : Answer → Type 0) → ((s : List ℤ) → P (answer.Started s)) → ((s : List ℤ) → P (answer.Woken (Some s))) → (r : Answer) → is_start r ≡ true → P r
 by_start P at_once later (answer.Started s) e = at_once s
 by_start P at_once later (answer.Woken (Some s)) e = later s
-by_start P at_once later (answer.Woken None) e = no_more e
-by_start P at_once later (answer.Done next) e = no_more e
-by_start P at_once later answer.Queued e = no_more e
-by_start P at_once later (answer.Refused rule line version) e = no_more e
-by_start P at_once later answer.Suspended e = no_more e
-by_start P at_once later answer.Delayed e = no_more e
-by_start P at_once later (answer.Accepted value) e = no_more e
-by_start P at_once later answer.Halted e = no_more e
-by_start P at_once later answer.Full e = no_more e
-by_start P at_once later answer.Busy e = no_more e
-by_start P at_once later answer.Waiting e = no_more e
-by_start P at_once later answer.Misuse e = no_more e
-by_start P at_once later answer.Unattached e = no_more e
-by_start P at_once later answer.BadLine e = no_more e
-by_start P at_once later answer.OutOfMemory e = no_more e
+by_start P at_once later r e = no_more e
 
 start_held : (n : ℕ) (r : Answer) → is_start r ≡ true → held_after n r ≡ suc n
 start_held n = by_start (λ (r : Answer). held_after n r ≡ suc n) (λ s. refl) (λ s. refl)
@@ -100,22 +74,26 @@ start_recorded : (r : Answer) → is_start r ≡ true → is_some (recorded r) �
 start_recorded = by_start (λ (r : Answer). is_some (recorded r) ≡ true) (λ s. refl) (λ s. refl)
 
 final_plain : (r : Answer) → is_final r ≡ true → is_plain r ≡ true
-final_plain answer.Halted e = refl
-final_plain answer.Full e = refl
 final_plain (answer.Started s) e = no_more e
 final_plain (answer.Woken s) e = no_more e
 final_plain (answer.Done next) e = no_more e
-final_plain answer.Queued e = refl
-final_plain (answer.Refused rule line version) e = refl
-final_plain answer.Suspended e = refl
-final_plain answer.Delayed e = refl
-final_plain (answer.Accepted value) e = refl
-final_plain answer.Busy e = refl
-final_plain answer.Waiting e = refl
-final_plain answer.Misuse e = refl
-final_plain answer.Unattached e = refl
-final_plain answer.BadLine e = refl
-final_plain answer.OutOfMemory e = refl
+final_plain r e = refl
+
+-- from an answer without an entry nothing goes on
+unkept : (c : Callee) (r : Answer) → recorded r ≡ None → (replied c r ≡ stops true) × (resumed c r ≡ asked.Abandoned (cause.Stopped false))
+unkept c answer.Halted e = (refl, refl)
+unkept c answer.Full e = (refl, refl)
+unkept c answer.Busy e = (refl, refl)
+unkept c answer.Waiting e = (refl, refl)
+unkept c answer.Misuse e = (refl, refl)
+unkept c answer.Unattached e = (refl, refl)
+unkept c answer.BadLine e = (refl, refl)
+unkept c answer.OutOfMemory e = (refl, refl)
+unkept c r e = absurd (cc e)
+
+kept_or : (o : Option Recorded) → (o ≡ None → ⊥) → is_some o ≡ true
+kept_or None f = absurd (f refl)
+kept_or (Some w) f = refl
 
 -- First answers
 
@@ -132,77 +110,35 @@ given_begins true values = refl
 given_begins false values = refl
 
 accepted_begins : (c : Callee) (value : ℤ) → begins_at_once (accepted c value) ≡ false
-accepted_begins callee.Clock value = refl
 accepted_begins (callee.CurrentState object) value = given_begins (int_le (pos 0) value && int_le value (pos 1)) (value ∷ [])
 accepted_begins (callee.SetTrue object) value = given_begins (is_zero value) []
 accepted_begins (callee.SetFalse object) value = given_begins (is_zero value) []
 accepted_begins (callee.SuspendUntilTrue object) value = given_begins (is_zero value) []
 accepted_begins callee.DelayUntil value = given_begins (is_zero value) []
-accepted_begins (callee.Internal operation) value = refl
-accepted_begins (callee.Function object operation) value = refl
-accepted_begins (callee.Procedure object operation) value = refl
-accepted_begins (callee.Entry object operation) value = refl
+accepted_begins c value = refl
 
 pub started_waits : (c : Callee) (components : List ℤ) → waits (started c components) ≡ false
 started_waits (callee.Function object operation) components = refl
-started_waits (callee.Procedure object operation) components = refl
-started_waits (callee.Entry object operation) components = refl
-started_waits (callee.Internal operation) components = refl
-started_waits (callee.SetTrue object) components = refl
-started_waits (callee.SetFalse object) components = refl
-started_waits (callee.CurrentState object) components = refl
-started_waits (callee.SuspendUntilTrue object) components = refl
-started_waits callee.DelayUntil components = refl
-started_waits callee.Clock components = refl
+started_waits c components = refl
 
 -- a start that stops nothing begins a body
 started_stops : (c : Callee) (components : List ℤ) → stops_at_once (started c components) ≡ false → begins_at_once (started c components) ≡ false → true ≡ false
 started_stops (callee.Function object operation) components e f = f
 started_stops (callee.Procedure object operation) components e f = f
 started_stops (callee.Entry object operation) components e f = f
-started_stops (callee.Internal operation) components e f = e
-started_stops (callee.SetTrue object) components e f = e
-started_stops (callee.SetFalse object) components e f = e
-started_stops (callee.CurrentState object) components e f = e
-started_stops (callee.SuspendUntilTrue object) components e f = e
-started_stops callee.DelayUntil components e f = e
-started_stops callee.Clock components e f = e
+started_stops c components e f = e
 
 queued_begins : (c : Callee) → begins_at_once (queued c) ≡ false
 queued_begins (callee.Entry object operation) = refl
-queued_begins (callee.Function object operation) = refl
-queued_begins (callee.Procedure object operation) = refl
-queued_begins (callee.Internal operation) = refl
-queued_begins (callee.SetTrue object) = refl
-queued_begins (callee.SetFalse object) = refl
-queued_begins (callee.CurrentState object) = refl
-queued_begins (callee.SuspendUntilTrue object) = refl
-queued_begins callee.DelayUntil = refl
-queued_begins callee.Clock = refl
+queued_begins c = refl
 
 suspended_begins : (c : Callee) → begins_at_once (suspended c) ≡ false
 suspended_begins (callee.SuspendUntilTrue object) = refl
-suspended_begins (callee.Entry object operation) = refl
-suspended_begins (callee.Function object operation) = refl
-suspended_begins (callee.Procedure object operation) = refl
-suspended_begins (callee.Internal operation) = refl
-suspended_begins (callee.SetTrue object) = refl
-suspended_begins (callee.SetFalse object) = refl
-suspended_begins (callee.CurrentState object) = refl
-suspended_begins callee.DelayUntil = refl
-suspended_begins callee.Clock = refl
+suspended_begins c = refl
 
 delayed_begins : (c : Callee) → begins_at_once (delayed c) ≡ false
 delayed_begins callee.DelayUntil = refl
-delayed_begins (callee.SuspendUntilTrue object) = refl
-delayed_begins (callee.Entry object operation) = refl
-delayed_begins (callee.Function object operation) = refl
-delayed_begins (callee.Procedure object operation) = refl
-delayed_begins (callee.Internal operation) = refl
-delayed_begins (callee.SetTrue object) = refl
-delayed_begins (callee.SetFalse object) = refl
-delayed_begins (callee.CurrentState object) = refl
-delayed_begins callee.Clock = refl
+delayed_begins c = refl
 
 -- only Started begins a body at once
 pub begun_starts : (c : Callee) (r : Answer) → begins_at_once (replied c r) ≡ true → is_start r ≡ true
@@ -212,194 +148,63 @@ begun_starts c (answer.Refused rule line version) e = no_more (sym (refused_begi
 begun_starts c answer.Suspended e = no_more (sym (suspended_begins c) ∙ e)
 begun_starts c answer.Delayed e = no_more (sym (delayed_begins c) ∙ e)
 begun_starts c (answer.Accepted value) e = no_more (sym (accepted_begins c value) ∙ e)
-begun_starts c (answer.Woken s) e = no_more e
-begun_starts c (answer.Done next) e = no_more e
-begun_starts c answer.Halted e = no_more e
-begun_starts c answer.Full e = no_more e
-begun_starts c answer.Busy e = no_more e
-begun_starts c answer.Waiting e = no_more e
-begun_starts c answer.Misuse e = no_more e
-begun_starts c answer.Unattached e = no_more e
-begun_starts c answer.BadLine e = no_more e
-begun_starts c answer.OutOfMemory e = no_more e
+begun_starts c r e = no_more e
 
 -- an answer by which nothing stops has an entry
 going_recorded : (c : Callee) (r : Answer) → stops_at_once (replied c r) ≡ false → is_some (recorded r) ≡ true
-going_recorded c (answer.Started s) e = refl
-going_recorded c answer.Queued e = refl
-going_recorded c (answer.Refused rule line version) e = refl
-going_recorded c answer.Suspended e = refl
-going_recorded c answer.Delayed e = refl
-going_recorded c (answer.Accepted value) e = refl
-going_recorded c (answer.Woken s) e = refl
-going_recorded c (answer.Done next) e = refl
-going_recorded c answer.Halted e = no_more (sym e)
-going_recorded c answer.Full e = no_more (sym e)
-going_recorded c answer.Busy e = no_more (sym e)
-going_recorded c answer.Waiting e = no_more (sym e)
-going_recorded c answer.Misuse e = no_more (sym e)
-going_recorded c answer.Unattached e = no_more (sym e)
-going_recorded c answer.BadLine e = no_more (sym e)
-going_recorded c answer.OutOfMemory e = no_more (sym e)
+going_recorded c r e = kept_or (recorded r) (λ none. no_more (sym e ∙ ap stops_at_once (unkept c r none).0))
 
 -- and is plain, where it begins no body
 going_plain : (c : Callee) (r : Answer) → stops_at_once (replied c r) ≡ false → begins_at_once (replied c r) ≡ false → is_plain r ≡ true
 going_plain c (answer.Started s) e f = no_more (sym (started_stops c s e f))
-going_plain c answer.Queued e f = refl
-going_plain c (answer.Refused rule line version) e f = refl
-going_plain c answer.Suspended e f = refl
-going_plain c answer.Delayed e f = refl
-going_plain c (answer.Accepted value) e f = refl
 going_plain c (answer.Woken s) e f = no_more (sym e)
 going_plain c (answer.Done next) e f = no_more (sym e)
-going_plain c answer.Halted e f = refl
-going_plain c answer.Full e f = refl
-going_plain c answer.Busy e f = refl
-going_plain c answer.Waiting e f = refl
-going_plain c answer.Misuse e f = refl
-going_plain c answer.Unattached e f = refl
-going_plain c answer.BadLine e f = refl
-going_plain c answer.OutOfMemory e f = refl
+going_plain c r e f = refl
 
 -- Answers to resumes
 
 woken_begins : (c : Callee) → begins (woken c None) ≡ false
 woken_begins (callee.Entry object operation) = refl
-woken_begins (callee.SuspendUntilTrue object) = refl
-woken_begins callee.DelayUntil = refl
-woken_begins (callee.Function object operation) = refl
-woken_begins (callee.Procedure object operation) = refl
-woken_begins (callee.Internal operation) = refl
-woken_begins (callee.SetTrue object) = refl
-woken_begins (callee.SetFalse object) = refl
-woken_begins (callee.CurrentState object) = refl
-woken_begins callee.Clock = refl
+woken_begins c = refl
 
 woken_stops : (c : Callee) (components : List ℤ) → is_stopped (woken c (Some components)) ≡ false → begins (woken c (Some components)) ≡ false → true ≡ false
 woken_stops (callee.Entry object operation) components e f = f
-woken_stops (callee.SuspendUntilTrue object) components e f = e
-woken_stops callee.DelayUntil components e f = e
-woken_stops (callee.Function object operation) components e f = e
-woken_stops (callee.Procedure object operation) components e f = e
-woken_stops (callee.Internal operation) components e f = e
-woken_stops (callee.SetTrue object) components e f = e
-woken_stops (callee.SetFalse object) components e f = e
-woken_stops (callee.CurrentState object) components e f = e
-woken_stops callee.Clock components e f = e
+woken_stops c components e f = e
 
 entry_dropped_begins : (object operation : ℕ) (r : Rule) → begins (dropped (callee.Entry object operation) r) ≡ false
 entry_dropped_begins object operation rule.Grant = refl
-entry_dropped_begins object operation rule.Blocking = refl
-entry_dropped_begins object operation rule.Reentry = refl
-entry_dropped_begins object operation rule.Ceiling = refl
-entry_dropped_begins object operation rule.Queue = refl
-entry_dropped_begins object operation rule.Waiter = refl
+entry_dropped_begins object operation other = refl
 
 dropped_begins : (c : Callee) (r : Rule) → begins (dropped c r) ≡ false
 dropped_begins (callee.Entry object operation) r = entry_dropped_begins object operation r
-dropped_begins (callee.SuspendUntilTrue object) r = refl
-dropped_begins callee.DelayUntil r = refl
-dropped_begins (callee.Function object operation) r = refl
-dropped_begins (callee.Procedure object operation) r = refl
-dropped_begins (callee.Internal operation) r = refl
-dropped_begins (callee.SetTrue object) r = refl
-dropped_begins (callee.SetFalse object) r = refl
-dropped_begins (callee.CurrentState object) r = refl
-dropped_begins callee.Clock r = refl
+dropped_begins c r = refl
 
 pub resumed_starts : (c : Callee) (r : Answer) → begins (resumed c r) ≡ true → is_start r ≡ true
 resumed_starts c (answer.Woken None) e = no_more (sym (woken_begins c) ∙ e)
 resumed_starts c (answer.Woken (Some s)) e = refl
 resumed_starts c (answer.Refused rule line version) e = no_more (sym (dropped_begins c rule) ∙ e)
 resumed_starts c (answer.Started s) e = refl
-resumed_starts c answer.Queued e = no_more e
-resumed_starts c answer.Suspended e = no_more e
-resumed_starts c answer.Delayed e = no_more e
-resumed_starts c (answer.Accepted value) e = no_more e
-resumed_starts c (answer.Done next) e = no_more e
-resumed_starts c answer.Halted e = no_more e
-resumed_starts c answer.Full e = no_more e
-resumed_starts c answer.Busy e = no_more e
-resumed_starts c answer.Waiting e = no_more e
-resumed_starts c answer.Misuse e = no_more e
-resumed_starts c answer.Unattached e = no_more e
-resumed_starts c answer.BadLine e = no_more e
-resumed_starts c answer.OutOfMemory e = no_more e
+resumed_starts c r e = no_more e
 
 resumed_recorded : (c : Callee) (r : Answer) → is_stopped (resumed c r) ≡ false → is_some (recorded r) ≡ true
-resumed_recorded c (answer.Woken s) e = refl
-resumed_recorded c (answer.Refused rule line version) e = refl
-resumed_recorded c (answer.Started s) e = refl
-resumed_recorded c answer.Queued e = refl
-resumed_recorded c answer.Suspended e = refl
-resumed_recorded c answer.Delayed e = refl
-resumed_recorded c (answer.Accepted value) e = refl
-resumed_recorded c (answer.Done next) e = refl
-resumed_recorded c answer.Halted e = no_more (sym e)
-resumed_recorded c answer.Full e = no_more (sym e)
-resumed_recorded c answer.Busy e = no_more (sym e)
-resumed_recorded c answer.Waiting e = no_more (sym e)
-resumed_recorded c answer.Misuse e = no_more (sym e)
-resumed_recorded c answer.Unattached e = no_more (sym e)
-resumed_recorded c answer.BadLine e = no_more (sym e)
-resumed_recorded c answer.OutOfMemory e = no_more (sym e)
+resumed_recorded c r e = kept_or (recorded r) (λ none. no_more (sym e ∙ ap is_stopped (unkept c r none).1))
 
 resumed_plain : (c : Callee) (r : Answer) → is_stopped (resumed c r) ≡ false → begins (resumed c r) ≡ false → is_plain r ≡ true
-resumed_plain c (answer.Woken None) e f = refl
 resumed_plain c (answer.Woken (Some s)) e f = no_more (sym (woken_stops c s e f))
-resumed_plain c (answer.Refused rule line version) e f = refl
 resumed_plain c (answer.Started s) e f = no_more (sym e)
 resumed_plain c (answer.Done next) e f = no_more (sym e)
-resumed_plain c answer.Queued e f = refl
-resumed_plain c answer.Suspended e f = refl
-resumed_plain c answer.Delayed e f = refl
-resumed_plain c (answer.Accepted value) e f = refl
-resumed_plain c answer.Halted e f = refl
-resumed_plain c answer.Full e f = refl
-resumed_plain c answer.Busy e f = refl
-resumed_plain c answer.Waiting e f = refl
-resumed_plain c answer.Misuse e f = refl
-resumed_plain c answer.Unattached e f = refl
-resumed_plain c answer.BadLine e f = refl
-resumed_plain c answer.OutOfMemory e f = refl
+resumed_plain c r e f = refl
 
 -- Waits
 
 waiting_plain : (c : Callee) (r : Answer) → waits (replied c r) ≡ true → is_plain r ≡ true
 waiting_plain c (answer.Started s) e = no_more (sym (started_waits c s) ∙ e)
-waiting_plain c answer.Queued e = refl
-waiting_plain c (answer.Refused rule line version) e = refl
-waiting_plain c answer.Suspended e = refl
-waiting_plain c answer.Delayed e = refl
-waiting_plain c (answer.Accepted value) e = refl
 waiting_plain c (answer.Woken s) e = no_more e
 waiting_plain c (answer.Done next) e = no_more e
-waiting_plain c answer.Halted e = refl
-waiting_plain c answer.Full e = refl
-waiting_plain c answer.Busy e = refl
-waiting_plain c answer.Waiting e = refl
-waiting_plain c answer.Misuse e = refl
-waiting_plain c answer.Unattached e = refl
-waiting_plain c answer.BadLine e = refl
-waiting_plain c answer.OutOfMemory e = refl
+waiting_plain c r e = refl
 
 waiting_recorded : (c : Callee) (r : Answer) → waits (replied c r) ≡ true → is_some (recorded r) ≡ true
-waiting_recorded c (answer.Started s) e = refl
-waiting_recorded c answer.Queued e = refl
-waiting_recorded c (answer.Refused rule line version) e = refl
-waiting_recorded c answer.Suspended e = refl
-waiting_recorded c answer.Delayed e = refl
-waiting_recorded c (answer.Accepted value) e = refl
-waiting_recorded c (answer.Woken s) e = refl
-waiting_recorded c (answer.Done next) e = refl
-waiting_recorded c answer.Halted e = no_more e
-waiting_recorded c answer.Full e = no_more e
-waiting_recorded c answer.Busy e = no_more e
-waiting_recorded c answer.Waiting e = no_more e
-waiting_recorded c answer.Misuse e = no_more e
-waiting_recorded c answer.Unattached e = no_more e
-waiting_recorded c answer.BadLine e = no_more e
-waiting_recorded c answer.OutOfMemory e = no_more e
+waiting_recorded c r e = kept_or (recorded r) (λ none. no_more (sym (ap waits (unkept c r none).0) ∙ e))
 
 -- What a call asks
 
@@ -414,15 +219,7 @@ NoEnds (pair ∷ more) = (is_end pair.0 ≡ false) × NoEnds more
 
 request_no_end : (c : Callee) (values : List ℤ) → is_end (request_of c values) ≡ false
 request_no_end (callee.Internal operation) values = refl
-request_no_end (callee.Function object operation) values = refl
-request_no_end (callee.Procedure object operation) values = refl
-request_no_end (callee.Entry object operation) values = refl
-request_no_end (callee.SetTrue object) values = refl
-request_no_end (callee.SetFalse object) values = refl
-request_no_end (callee.CurrentState object) values = refl
-request_no_end (callee.SuspendUntilTrue object) values = refl
-request_no_end callee.DelayUntil values = refl
-request_no_end callee.Clock values = refl
+request_no_end c values = refl
 
 -- what asks came to: to no start, all that started has ended, and each ask has an entry, or one cut it off; to a start, it is held too
 abbrev pub CameTo : (Callee → Bool) → Trace → Bool → Bool → Type 0
@@ -501,13 +298,7 @@ started_protected : (c : Callee) (components : List ℤ) → begins_at_once (sta
 started_protected (callee.Function object operation) components e = refl
 started_protected (callee.Procedure object operation) components e = refl
 started_protected (callee.Entry object operation) components e = refl
-started_protected (callee.Internal operation) components e = no_more e
-started_protected (callee.SetTrue object) components e = no_more e
-started_protected (callee.SetFalse object) components e = no_more e
-started_protected (callee.CurrentState object) components e = no_more e
-started_protected (callee.SuspendUntilTrue object) components e = no_more e
-started_protected callee.DelayUntil components e = no_more e
-started_protected callee.Clock components e = no_more e
+started_protected c components e = no_more e
 
 begun_protected : (c : Callee) (r : Answer) → begins_at_once (replied c r) ≡ true → is_protected c ≡ true
 begun_protected c r e =
@@ -515,15 +306,7 @@ begun_protected c r e =
 
 woken_protected : (c : Callee) (components : List ℤ) → begins (woken c (Some components)) ≡ true → is_protected c ≡ true
 woken_protected (callee.Entry object operation) components e = refl
-woken_protected (callee.SuspendUntilTrue object) components e = no_more e
-woken_protected callee.DelayUntil components e = no_more e
-woken_protected (callee.Function object operation) components e = no_more e
-woken_protected (callee.Procedure object operation) components e = no_more e
-woken_protected (callee.Internal operation) components e = no_more e
-woken_protected (callee.SetTrue object) components e = no_more e
-woken_protected (callee.SetFalse object) components e = no_more e
-woken_protected (callee.CurrentState object) components e = no_more e
-woken_protected callee.Clock components e = no_more e
+woken_protected c components e = no_more e
 
 resumed_protected : (c : Callee) (r : Answer) → begins (resumed c r) ≡ true → is_protected c ≡ true
 resumed_protected c r e =

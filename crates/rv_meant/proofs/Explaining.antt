@@ -54,19 +54,7 @@ unrecorded_held : (n : ℕ) (r : Answer) → is_some (recorded r) ≡ false → 
 unrecorded_held n (answer.Started s) e = absurd (cc e)
 unrecorded_held n (answer.Woken s) e = absurd (cc e)
 unrecorded_held n (answer.Done next) e = absurd (cc e)
-unrecorded_held n answer.Queued e = refl
-unrecorded_held n (answer.Refused rule line version) e = refl
-unrecorded_held n answer.Suspended e = refl
-unrecorded_held n answer.Delayed e = refl
-unrecorded_held n (answer.Accepted value) e = refl
-unrecorded_held n answer.Halted e = refl
-unrecorded_held n answer.Full e = refl
-unrecorded_held n answer.Busy e = refl
-unrecorded_held n answer.Waiting e = refl
-unrecorded_held n answer.Misuse e = refl
-unrecorded_held n answer.Unattached e = refl
-unrecorded_held n answer.BadLine e = refl
-unrecorded_held n answer.OutOfMemory e = refl
+unrecorded_held n r e = refl
 
 -- what has no entry leaves as much held as before
 recorded_held_if : (k : Bool) (n : ℕ) (pair : Request × Answer) (p : Trace) → is_some (recorded pair.1) ≡ k → held_behind n (recorded_if k pair p) ≡ held_behind (held_after n pair.1) p

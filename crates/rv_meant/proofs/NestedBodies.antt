@@ -91,22 +91,8 @@ record IsLeft (r : Answer) : Type 0 where
 
 done_or : (r : Answer) → IsLeft r ⊎ ((next : Next) × (r ≡ answer.Done next))
 done_or (answer.Done next) = inr (next, refl)
-done_or (answer.Started s) = inl (record { sticks = λ o. refl; holds = λ n. omega arith })
-done_or answer.Queued = inl (record { sticks = λ o. refl; holds = λ n. omega arith })
-done_or (answer.Refused rule line version) = inl (record { sticks = λ o. refl; holds = λ n. omega arith })
-done_or answer.Suspended = inl (record { sticks = λ o. refl; holds = λ n. omega arith })
-done_or answer.Delayed = inl (record { sticks = λ o. refl; holds = λ n. omega arith })
-done_or (answer.Accepted value) = inl (record { sticks = λ o. refl; holds = λ n. omega arith })
 done_or (answer.Woken None) = inl (record { sticks = λ o. refl; holds = λ n. omega arith })
-done_or (answer.Woken (Some s)) = inl (record { sticks = λ o. refl; holds = λ n. omega arith })
-done_or answer.Halted = inl (record { sticks = λ o. refl; holds = λ n. omega arith })
-done_or answer.Full = inl (record { sticks = λ o. refl; holds = λ n. omega arith })
-done_or answer.Busy = inl (record { sticks = λ o. refl; holds = λ n. omega arith })
-done_or answer.Waiting = inl (record { sticks = λ o. refl; holds = λ n. omega arith })
-done_or answer.Misuse = inl (record { sticks = λ o. refl; holds = λ n. omega arith })
-done_or answer.Unattached = inl (record { sticks = λ o. refl; holds = λ n. omega arith })
-done_or answer.BadLine = inl (record { sticks = λ o. refl; holds = λ n. omega arith })
-done_or answer.OutOfMemory = inl (record { sticks = λ o. refl; holds = λ n. omega arith })
+done_or r = inl (record { sticks = λ o. refl; holds = λ n. omega arith })
 
 -- how a run ends by what it comes to
 stuck_is : (outcome : Outcome) → is_stuck outcome ≡ true → how_result outcome ≡ stuck

@@ -1,6 +1,6 @@
 -- No run asks a settle.
 use Rattle.std.proofs.Common.{◌≡◌, ℕ, zero, suc, ℤ, pos, List, [], ◌∷◌, ◌++◌, Bool, true, false, cond, refl, sym, ap, ◌∙◌, subst, Option, Some, None, Ok, Err}
-use Rattle.std.specs.Prelude.{◌-◌, ◌&&◌, replicate}
+use Rattle.std.specs.Prelude.{◌&&◌}
 use Rattle.std.specs.List.{list_all}
 use Rattle.rv_event.specs.declared.entry.Answer.{Answer}
 use Rattle.rv_event.specs.declared.entry.Exception.TheVariants.{ProgramError}
@@ -12,22 +12,19 @@ use Rattle.rv_code.specs.Bodies.{Body, UnitBodies}
 use Rattle.rv_code.specs.Expressions.{Expression, literal, variable, component, prefixed, chain, within, call, Expressions, no_expressions, and_expression, Links, no_links, and_link}
 use Rattle.rv_code.specs.Statements.{Statement, null_statement, assign, choice, selection, while_loop, for_loop, exit_when, returns, returns_value, raises, reraises, calls, Statements, no_statements, and_statement, Branches, no_branches, and_branch, Alternatives, no_alternatives, and_alternative}
 use Rattle.rv_fits.specs.Calls.{expression_calls, expressions_call, links_call, statement_calls, statements_call, branches_call, alternatives_call, declaration_calls, handler_calls, body_calls, object_calls, task_calls, every_call}
-use Rattle.rv_exec.specs.declared.activation.Activation.{Activation}
 use Rattle.rv_exec.specs.declared.end.Asked.{Asked}
 use Rattle.rv_exec.specs.declared.end.Asked.TheVariants as asked
 use Rattle.rv_exec.specs.declared.end.Cause.TheVariants as cause
-use Rattle.rv_exec.specs.declared.end.End.{End}
 use Rattle.rv_exec.specs.declared.end.Reply.{Reply}
 use Rattle.rv_exec.specs.declared.end.Reply.TheVariants as reply
-use Rattle.rv_exec.specs.Asking.{Trace, Asking, ended, asking, and_then, Along}
-use Rattle.rv_exec.specs.Activations.{opened}
-use Rattle.rv_exec.specs.Blocks.{block, outcome_of, inner_at, performed, outer_at, exits, world}
+use Rattle.rv_exec.specs.Asking.{Trace, Asking, ended, asking, Along}
+use Rattle.rv_exec.specs.Blocks.{exits}
 use Rattle.rv_exec.specs.Bodies.{task_of}
 use Rattle.rv_exec.specs.Calls.{Outcome, request_of, replied, resumed, settled, asks, is_past, reached, exit_of, completed, is_stuck, end_of, completes}
-use Rattle.rv_exec.specs.Tasks.{task_setting, quits, over, task_meaning}
-use Rattle.rv_exec.proofs.Keeping.{Kept, split}
-use Rattle.rv_exec.proofs.KeptValues.{SoundWorld}
-use Rattle.rv_exec.proofs.KeptBodies.{block_sound, inner_sound, task_found}
+use Rattle.rv_exec.specs.Tasks.{quits}
+use Rattle.rv_exec.proofs.Keeping.{How, ongoing, halted, stuck, how_got, how_result, Kept, Follows}
+use Rattle.rv_exec.proofs.KeptBodies.{task_found}
+use Rattle.rv_exec.proofs.KeptRuns.{KeptOutside, how_ended, how_exit, body_kept, task_kept}
 use Rattle.rv_meant.specs.Settles.{is_settle, NeverSettles, BodiesNeverSettle, TasksNeverSettle}
 
 pub settles_both : (p q : Trace) → NeverSettles p → NeverSettles q → NeverSettles (p ++ q)
@@ -48,13 +45,11 @@ all_true p f (x ∷ xs) = both_true (p x) (list_all p xs) (f x) (all_true p f xs
 
 mutual
   expression_true : (e : Expression) → expression_calls anything e ≡ true
-  expression_true (literal n) = refl
-  expression_true (variable slot) = refl
-  expression_true (component index) = refl
   expression_true (prefixed op e) = expression_true e
   expression_true (chain e ls) = both_true (expression_calls anything e) (links_call anything ls) (expression_true e) (links_true ls)
   expression_true (within range e) = expression_true e
   expression_true (call c es) = expressions_true es
+  expression_true other = refl
 
   expressions_true : (es : Expressions) → expressions_call anything es ≡ true
   expressions_true no_expressions = refl
@@ -136,11 +131,6 @@ never_asking : {A : Type 0} (q : Request) (next : Answer → Asking A) → is_se
 never_asking q next is f [] b h = absurd h
 never_asking q next is f (pair ∷ more) b h = (ap is_settle (sym h.0) ∙ is, f pair.1 more b h.1)
 
-never_then : {A B : Type 0} (what : Asking A) (go : A → Asking B) → Never what → ((a : A) → Never (go a)) → Never (and_then what go)
-never_then what go f g trace b h =
-    let p = split what go trace b h in
-    subst (λ (t : Trace). NeverSettles t) (sym p.trace_is) (settles_both p.first p.second (f p.first p.middle p.along) (g p.middle p.second b p.rest))
-
 never_if : {A : Type 0} (k : Bool) (one other : Asking A) → Never one → Never other → Never (cond k one other)
 never_if true one other f g = f
 never_if false one other f g = g
@@ -149,15 +139,7 @@ never_if false one other f g = g
 
 callee_settles : (c : Callee) (values : List ℤ) → is_settle (request_of c values) ≡ false
 callee_settles (callee.Internal p) values = refl
-callee_settles (callee.Function o p) values = refl
-callee_settles (callee.Procedure o p) values = refl
-callee_settles (callee.Entry o p) values = refl
-callee_settles (callee.SetTrue o) values = refl
-callee_settles (callee.SetFalse o) values = refl
-callee_settles (callee.CurrentState o) values = refl
-callee_settles (callee.SuspendUntilTrue o) values = refl
-callee_settles callee.DelayUntil values = refl
-callee_settles callee.Clock values = refl
+callee_settles c values = refl
 
 never_settled : (c : Callee) (how : Reply) → Never (settled c how)
 never_settled c (reply.Settled what) = never_ended what
@@ -171,11 +153,6 @@ unfolding reached
 never_reached held c values =
     never_if (is_past held c) (ended (asked.Abandoned (cause.Raised ProgramError))) (asks c values) (never_ended (asked.Abandoned (cause.Raised ProgramError))) (never_asks c values)
 
-never_performed : (perform : ℕ → ℕ → Bool → List ℤ → Asking Outcome) → ((object operation : ℕ) (is_function : Bool) (components : List ℤ) → Never (perform object operation is_function components)) → (what : Asked) → Never (performed perform what)
-never_performed perform f (asked.Given values) = never_ended (Ok values)
-never_performed perform f (asked.Started object operation is_function components) = f object operation is_function components
-never_performed perform f (asked.Abandoned why) = never_ended (Err why)
-
 end_settles : (is_function : Bool) (outcome : Outcome) (components : List ℤ) → is_settle (end_of is_function outcome components) ≡ false
 end_settles true outcome components = refl
 end_settles false outcome components = refl
@@ -185,48 +162,32 @@ never_completes is_function (outcome, (components, steps)) =
     never_if (is_stuck outcome) (ended outcome) (asking (end_of is_function outcome components) (λ r. ended (completed outcome r))) (never_ended outcome)
     (never_asking (end_of is_function outcome components) (λ r. ended (completed outcome r)) (end_settles is_function outcome components) (λ r. never_ended (completed outcome r)))
 
-never_outer : (bodies : UnitBodies) (held : ℕ) (c : Callee) (values : List ℤ) → Never (outer_at bodies held c values)
-unfolding outer_at
-never_outer bodies zero c values =
-    never_then (reached zero c values) (performed (λ object operation is_function components. ended (Err (cause.Raised ProgramError)))) (never_reached zero c values)
-    (never_performed (λ object operation is_function components. ended (Err (cause.Raised ProgramError))) (λ object operation is_function components. never_ended (Err (cause.Raised ProgramError))))
-never_outer bodies (suc held) c values =
-    never_then (reached (suc held) c values)
-    (performed (λ object operation is_function components. and_then (inner_at bodies object (outer_at bodies held) 65 operation values components 100000) (completes is_function))) (never_reached (suc held) c values)
-    (never_performed (λ object operation is_function components. and_then (inner_at bodies object (outer_at bodies held) 65 operation values components 100000) (completes is_function))
-    (λ object operation is_function components. never_then (inner_at bodies object (outer_at bodies held) 65 operation values components 100000) (completes is_function)
-    (inner_sound never bodies object (outer_at bodies held) (every_true bodies) (λ d v i s. never_outer bodies held d v) 65 operation values components 100000) (never_completes is_function)))
-
 -- Bodies, and tasks
 
 never_exits : (got : Outcome × (List ℤ × ℕ)) → Never (exits got)
 never_exits (outcome, (components, steps)) = never_ended (exit_of outcome, components)
-
-pub bodies_never_settle : BodiesNeverSettle
-bodies_never_settle bodies held object operation values components left trace exit h =
-    never_then (inner_at bodies object (outer_at bodies (16 - held)) 65 operation values components 100000) exits
-    (inner_sound never bodies object (outer_at bodies (16 - held)) (every_true bodies) (λ c v n m. never_outer bodies (16 - held) c v) 65 operation values components 100000) never_exits trace (exit, left) h
 
 never_quits : (outcome : Outcome) → Never (quits outcome)
 never_quits outcome =
     never_if (is_stuck outcome) (ended (exit_of outcome)) (asking request.Quit (λ r. ended (exit_of outcome))) (never_ended (exit_of outcome))
     (never_asking request.Quit (λ r. ended (exit_of outcome)) refl (λ r. never_ended (exit_of outcome)))
 
-never_over : (body : Body) (ran : End × Activation) → Never (over body ran)
-never_over body (e, a) = never_quits (outcome_of body e a)
+-- so it is kept of what follows, behind a stop too
+never_follows : {A : Type 0} (k : How) (how : A → How) (what : Asking A) → Never what → Follows never k how what
+never_follows ongoing how what f = f
+never_follows halted how what f = f
+never_follows stuck how what f = f
 
-task_world : (bodies : UnitBodies) → SoundWorld never (world bodies task_setting)
-task_world bodies = record {
-  inner = λ o v c s. inner_sound never bodies 0 (outer_at bodies 16) (every_true bodies) (λ d u n m. never_outer bodies 16 d u) 65 o v c s;
-  outer = λ c v n m. never_outer bodies 16 c v;
+outside : KeptOutside never
+outside = record {
+  asks = λ held c values n m. never_reached held c values;
+  ends = λ is_function got. never_follows (how_got got) how_result (completes is_function got) (never_completes is_function got);
+  leaves = λ got. never_follows (how_got got) how_ended (exits got) (never_exits got);
+  stops = λ outcome. never_follows (how_result outcome) how_exit (quits outcome) (never_quits outcome);
 }
 
-task_never : (bodies : UnitBodies) (o : Option Body) (requests : ℕ) → task_calls anything o ≡ true → Never (task_meaning bodies o requests)
-unfolding task_meaning
-task_never bodies None requests m = never_quits (Ok [])
-task_never bodies (Some body) requests m =
-    never_then (block (world bodies task_setting) body (opened (replicate 132 (pos 0)) [] 100000 requests)) (over body)
-    (block_sound never (world bodies task_setting) (task_world bodies) body (opened (replicate 132 (pos 0)) [] 100000 requests) m) (never_over body)
+pub bodies_never_settle : BodiesNeverSettle
+bodies_never_settle bodies held object operation values components left trace exit h = body_kept never outside bodies (every_true bodies) held object operation values components trace (exit, left) h
 
 pub tasks_never_settle : TasksNeverSettle
-tasks_never_settle bodies actor requests trace exit h = task_never bodies (task_of bodies actor) requests (task_found anything bodies actor (every_true bodies)) trace exit h
+tasks_never_settle bodies actor requests trace exit h = task_kept never outside bodies (every_true bodies) (task_of bodies actor) requests (task_found anything bodies actor (every_true bodies)) trace exit h

@@ -60,25 +60,11 @@ started_call : (c : Callee) (components : List ℤ) → begins_at_once (started 
 started_call (callee.Function object operation) components e = (inl (refl, refl), refl)
 started_call (callee.Procedure object operation) components e = (inr (inl (refl, refl)), refl)
 started_call (callee.Entry object operation) components e = (inr (inr (refl, refl)), refl)
-started_call (callee.Internal operation) components e = no_way e
-started_call (callee.SetTrue object) components e = no_way e
-started_call (callee.SetFalse object) components e = no_way e
-started_call (callee.CurrentState object) components e = no_way e
-started_call (callee.SuspendUntilTrue object) components e = no_way e
-started_call callee.DelayUntil components e = no_way e
-started_call callee.Clock components e = no_way e
+started_call c components e = no_way e
 
 woken_call : (c : Callee) (components : List ℤ) → begins (woken c (Some components)) ≡ true → (object : ℕ) × (operation : ℕ) × (c ≡ callee.Entry object operation) × (woken c (Some components) ≡ asked.Started object operation false components)
 woken_call (callee.Entry object operation) components e = (object, operation, refl, refl)
-woken_call (callee.SuspendUntilTrue object) components e = no_way e
-woken_call callee.DelayUntil components e = no_way e
-woken_call (callee.Function object operation) components e = no_way e
-woken_call (callee.Procedure object operation) components e = no_way e
-woken_call (callee.Internal operation) components e = no_way e
-woken_call (callee.SetTrue object) components e = no_way e
-woken_call (callee.SetFalse object) components e = no_way e
-woken_call (callee.CurrentState object) components e = no_way e
-woken_call callee.Clock components e = no_way e
+woken_call c components e = no_way e
 
 -- The first answer
 
@@ -99,20 +85,7 @@ resumed_start c r e =
 entry_waits : (object operation : ℕ) (r : Answer) → waits (replied (callee.Entry object operation) r) ≡ true → r ≡ answer.Queued
 entry_waits object operation answer.Queued e = refl
 entry_waits object operation (answer.Refused rule line version) e = no_way (sym (refused_waits (can_refuse (callee.Entry object operation) rule) rule) ∙ e)
-entry_waits object operation (answer.Started s) e = no_way e
-entry_waits object operation answer.Suspended e = no_way e
-entry_waits object operation answer.Delayed e = no_way e
-entry_waits object operation (answer.Accepted value) e = no_way e
-entry_waits object operation (answer.Woken s) e = no_way e
-entry_waits object operation (answer.Done next) e = no_way e
-entry_waits object operation answer.Halted e = no_way e
-entry_waits object operation answer.Full e = no_way e
-entry_waits object operation answer.Busy e = no_way e
-entry_waits object operation answer.Waiting e = no_way e
-entry_waits object operation answer.Misuse e = no_way e
-entry_waits object operation answer.Unattached e = no_way e
-entry_waits object operation answer.BadLine e = no_way e
-entry_waits object operation answer.OutOfMemory e = no_way e
+entry_waits object operation r e = no_way e
 
 -- What a call asked that started a body
 

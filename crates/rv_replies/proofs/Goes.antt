@@ -1,20 +1,20 @@
 -- The answers that are due go on.
-use Rattle.std.proofs.Common.{◌≡◌, ℕ, Bool, true, false, if◌then◌else◌, List, [], Option, Some, None, refl, sym, ap, ◌∙◌}
+use Rattle.std.proofs.Common.{◌≡◌, ℕ, Bool, true, false, if◌then◌else◌, List, [], Option, Some, None, refl, sym, ap, ◌∙◌, subst}
 use Rattle.std.specs.Prelude.{ℤ, pos, int_le, slice_index_or, ◌&&◌, ◌||◌, not}
 use Rattle.rv_code.specs.declared.expression.Callee.{Callee}
 use Rattle.rv_code.specs.declared.expression.Callee.TheVariants as callee
-use Rattle.rv_shape.specs.Catalogue.{UnitObject, Target, Nowhere, OnProtected, OnSuspension, place, target, at_object, at_unit_object, is_function, is_entry}
+use Rattle.rv_shape.specs.Catalogue.{UnitObject, Site, Target, Nowhere, OnProtected, OnSuspension, place, target, at_object, at_unit_object, is_function, is_entry}
 use Rattle.rv_shape.specs.declared.kind.Kind.{Kind}
 use Rattle.rv_shape.specs.declared.kind.Kind.TheVariants.{Function, Procedure, Entry as EntryKind, Handler}
 use Rattle.rv_shape.specs.declared.suspension.SuspensionOperation.TheVariants as operation
 use Rattle.rv_shape.specs.declared.object.Object.{Object}
 use Rattle.rv_shape.specs.declared.object.Object.TheVariants.{Protected, Suspension}
 use Rattle.rv_event.specs.Past.{clock, halted, released, scalars, stance, state}
-use Rattle.rv_event.specs.Recorded.{recorded}
 use Rattle.rv_event.specs.declared.entry.Answer.{Answer}
 use Rattle.rv_event.specs.declared.entry.Answer.TheVariants as Answers
 use Rattle.rv_event.specs.declared.entry.Request.{Request}
 use Rattle.rv_event.specs.declared.entry.Request.TheVariants.{Call, Resume, DelayUntil, Clock}
+use Rattle.rv_event.specs.declared.entry.Rule.{Rule}
 use Rattle.rv_event.specs.declared.entry.Rule.TheVariants as Rules
 use Rattle.rv_event.specs.declared.entry.Stance.{Stance}
 use Rattle.rv_event.specs.declared.entry.Stance.TheVariants.{Free, InQueue, HandedOver, DroppedBy, WaitsOn, WaitsUntil, Gone}
@@ -22,12 +22,12 @@ use Rattle.rv_exec.specs.Asking.{stands}
 use Rattle.rv_exec.specs.Calls.{internal, request_of, replied, resumed}
 use Rattle.rv_exec.specs.Stops.{is_final, is_stopped, stops_at_once}
 use Rattle.rv_fits.specs.Fits.{calls_function, calls_procedure, calls_entry, suspends, is_suspension, callee_fits}
-use Rattle.rv_history.specs.Due.{out, due, table, nothing_more, gate, within, enough, goes_on, judged, suspended, due_call, due_delay, due_resume, one_or_none, or_waiting}
+use Rattle.rv_history.specs.Due.{out, table, nothing_more, suspended, due_call, due_delay, due_resume, one_or_none, or_waiting}
 use Rattle.rv_history.specs.Exclusion.{excluded, is_open, is_barred, full_queue}
-use Rattle.rv_history.specs.Fitting.{fits}
 use Rattle.rv_history.specs.History.{History, version}
 use Rattle.rv_history.specs.Rules.{decided, breaks, holds_any}
 use Rattle.rv_history.specs.Subject.{subject}
+use Rattle.rv_history.proofs.Tells.{Behind, each_halted, each_judged, each_waiting, out_all}
 use Rattle.rv_replies.specs.Answers.{queued, paused, waits_by, CallsGoOn, ResumesGoOn}
 
 -- it stands, is final, or goes on
@@ -47,23 +47,12 @@ if_goes : (P : Answer → Bool) (b : Bool) (x y : Answer) → P x ≡ true → P
 if_goes P true x y p q = p
 if_goes P false x y p q = q
 
-gate_goes : (P : Answer → Bool) (fit shut : Bool) (r : Answer) → P Answers.Misuse ≡ true → P Answers.Halted ≡ true → P r ≡ true → P (gate fit shut r) ≡ true
-gate_goes P true true r m k p = k
-gate_goes P true false r m k p = p
-gate_goes P false shut r m k p = m
-
-pub within_goes : (P : Answer → Bool) (room : Bool) (r : Answer) → P Answers.Full ≡ true → P r ≡ true → P (within room r) ≡ true
-within_goes P true r f p = p
-within_goes P false r f p = f
-
 out_goes : (P : Answer → Bool) → P Answers.Misuse ≡ true → P Answers.Halted ≡ true → P Answers.Full ≡ true → (h : History) (a : ℕ) (q : Request) → P (table h a q) ≡ true → P (out h a q) ≡ true
-out_goes P m k f h a q e =
-    within_goes P (enough h a q (recorded (due h a q))) (due h a q) f
-    (gate_goes P (fits h a q) (halted h.past && not (goes_on q)) (table h a q) m k e)
+out_goes P m k f h a q e = out_all (λ r. P r ≡ true) h a q f m (λ on. k) e
 
 -- Operations of protected objects
 
-pub and_not : (b c : Bool) → c ≡ false → (b && c) ≡ false
+and_not : (b c : Bool) → c ≡ false → (b && c) ≡ false
 and_not true c e = e
 and_not false c e = refl
 
@@ -79,67 +68,59 @@ procedure_no_entry Procedure e = refl
 procedure_no_entry (EntryKind barrier) e = absurd (cc e)
 procedure_no_entry (Handler line) e = refl
 
-function_judged : (o p number line : ℕ) (values : List ℤ) (denied blocking reentry above busy barred full : Bool) → blocking ≡ false → barred ≡ false
-    → goes (callee.Function o p) (judged number line values denied blocking reentry above busy barred full) ≡ true
-function_judged o p number line values true blocking reentry above busy barred full e f = refl
-function_judged o p number line values false true reentry above busy barred full e f = absurd (cc e)
-function_judged o p number line values false false true above busy barred full e f = refl
-function_judged o p number line values false false false true busy barred full e f = refl
-function_judged o p number line values false false false false true barred full e f = refl
-function_judged o p number line values false false false false false true full e f = absurd (cc f)
-function_judged o p number line values false false false false false false full e f = refl
+-- a call goes on by each answer that its operation may get
+site_goes : (c : Callee) (h : History) (a o p : ℕ) (vs : List ℤ) (site : Site) → let q : Request = Call o p vs in
+    ((rule : Rule) (line : ℕ) → Behind (breaks h Rules.Blocking a q o (OnProtected site)) (is_barred h o site.operation.kind) rule → goes c (Answers.Refused rule line (version h)) ≡ true)
+    → (is_barred h o site.operation.kind ≡ true → goes c Answers.Queued ≡ true) → ((values : List ℤ) → goes c (Answers.Started values) ≡ true) → goes c (due_call h a q o (OnProtected site)) ≡ true
+site_goes c h a o p vs site refused queued started =
+    let q : Request = Call o p vs in let called : Target = OnProtected site in
+    each_judged (λ r. goes c r ≡ true) (version h) (decided h (subject h a) called) (scalars h.shapes o h.past)
+    (breaks h Rules.Grant a q o called) (breaks h Rules.Blocking a q o called) (breaks h Rules.Reentry a q o called) (breaks h Rules.Ceiling a q o called)
+    (excluded h o (is_function site.operation.kind)) (is_barred h o site.operation.kind) (full_queue h o)
+    refused refl (λ t. queued t.shut) (λ t. started (scalars h.shapes o h.past))
 
-procedure_judged : (o p number line : ℕ) (values : List ℤ) (denied blocking reentry above busy barred full : Bool) → blocking ≡ false → barred ≡ false
-    → goes (callee.Procedure o p) (judged number line values denied blocking reentry above busy barred full) ≡ true
-procedure_judged o p number line values true blocking reentry above busy barred full e f = refl
-procedure_judged o p number line values false true reentry above busy barred full e f = absurd (cc e)
-procedure_judged o p number line values false false true above busy barred full e f = refl
-procedure_judged o p number line values false false false true busy barred full e f = refl
-procedure_judged o p number line values false false false false true barred full e f = refl
-procedure_judged o p number line values false false false false false true full e f = absurd (cc f)
-procedure_judged o p number line values false false false false false false full e f = refl
+-- what is no entry might not block, and is never queued
+inner_goes : (c : Callee) (h : History) (a o p : ℕ) (vs : List ℤ) (site : Site) → is_entry site.operation.kind ≡ false → ((rule : Rule) (line number : ℕ) → Behind false false rule → goes c (Answers.Refused rule line number) ≡ true)
+    → ((values : List ℤ) → goes c (Answers.Started values) ≡ true) → goes c (due_call h a (Call o p vs) o (OnProtected site)) ≡ true
+inner_goes c h a o p vs site none refused started = site_goes c h a o p vs site
+    (λ rule line behind. refused rule line (version h) (subst (λ (t : Bool × Bool). Behind t.0 t.1 rule) (λ i. (calm i, opened i)) behind)) (λ shut. absurd (cc (opened, shut))) started
+  where
+    calm : (holds_any h a && is_entry site.operation.kind) ≡ false
+    calm = and_not (holds_any h a) (is_entry site.operation.kind) none
 
-entry_judged : (o p number line : ℕ) (values : List ℤ) (denied blocking reentry above busy barred full : Bool)
-    → goes (callee.Entry o p) (judged number line values denied blocking reentry above busy barred full) ≡ true
-entry_judged o p number line values true blocking reentry above busy barred full = refl
-entry_judged o p number line values false true reentry above busy barred full = refl
-entry_judged o p number line values false false true above busy barred full = refl
-entry_judged o p number line values false false false true busy barred full = refl
-entry_judged o p number line values false false false false true barred full = refl
-entry_judged o p number line values false false false false false true true = refl
-entry_judged o p number line values false false false false false true false = refl
-entry_judged o p number line values false false false false false false full = refl
+    opened : is_barred h o site.operation.kind ≡ false
+    opened = ap (λ (b : Bool). b && not (is_open h o)) none
+
+function_refused : (o p : ℕ) (rule : Rule) (line number : ℕ) → Behind false false rule → goes (callee.Function o p) (Answers.Refused rule line number) ≡ true
+function_refused o p Rules.Blocking line number e = absurd (cc e)
+function_refused o p Rules.Queue line number e = absurd (cc e)
+function_refused o p Rules.Waiter line number e = absurd e
+function_refused o p rule line number e = refl
+
+procedure_refused : (o p : ℕ) (rule : Rule) (line number : ℕ) → Behind false false rule → goes (callee.Procedure o p) (Answers.Refused rule line number) ≡ true
+procedure_refused o p Rules.Blocking line number e = absurd (cc e)
+procedure_refused o p Rules.Queue line number e = absurd (cc e)
+procedure_refused o p Rules.Waiter line number e = absurd e
+procedure_refused o p rule line number e = refl
+
+entry_refused : (o p : ℕ) (blocking barred : Bool) (rule : Rule) (line number : ℕ) → Behind blocking barred rule → goes (callee.Entry o p) (Answers.Refused rule line number) ≡ true
+entry_refused o p blocking barred Rules.Waiter line number e = absurd e
+entry_refused o p blocking barred rule line number e = refl
 
 function_goes : (h : History) (a o p : ℕ) (vs : List ℤ) (t : Target) → calls_function t ≡ true → goes (callee.Function o p) (due_call h a (Call o p vs) o t) ≡ true
 function_goes h a o p vs Nowhere e = absurd (cc e)
 function_goes h a o p vs (OnSuspension unit name wanted) e = absurd (cc e)
-function_goes h a o p vs (OnProtected site) e =
-    let q : Request = Call o p vs in let called : Target = OnProtected site in
-    let none : is_entry site.operation.kind ≡ false = function_no_entry site.operation.kind e in
-    function_judged o p (version h) (decided h (subject h a) called) (scalars h.shapes o h.past)
-    (breaks h Rules.Grant a q o called) (breaks h Rules.Blocking a q o called) (breaks h Rules.Reentry a q o called) (breaks h Rules.Ceiling a q o called)
-    (excluded h o (is_function site.operation.kind)) (is_barred h o site.operation.kind) (full_queue h o)
-    (and_not (holds_any h a) (is_entry site.operation.kind) none) (ap (λ (b : Bool). b && not (is_open h o)) none)
+function_goes h a o p vs (OnProtected site) e = inner_goes (callee.Function o p) h a o p vs site (function_no_entry site.operation.kind e) (function_refused o p) (λ values. refl)
 
 procedure_goes : (h : History) (a o p : ℕ) (vs : List ℤ) (t : Target) → calls_procedure t ≡ true → goes (callee.Procedure o p) (due_call h a (Call o p vs) o t) ≡ true
 procedure_goes h a o p vs Nowhere e = absurd (cc e)
 procedure_goes h a o p vs (OnSuspension unit name wanted) e = absurd (cc e)
-procedure_goes h a o p vs (OnProtected site) e =
-    let q : Request = Call o p vs in let called : Target = OnProtected site in
-    let none : is_entry site.operation.kind ≡ false = procedure_no_entry site.operation.kind e in
-    procedure_judged o p (version h) (decided h (subject h a) called) (scalars h.shapes o h.past)
-    (breaks h Rules.Grant a q o called) (breaks h Rules.Blocking a q o called) (breaks h Rules.Reentry a q o called) (breaks h Rules.Ceiling a q o called)
-    (excluded h o (is_function site.operation.kind)) (is_barred h o site.operation.kind) (full_queue h o)
-    (and_not (holds_any h a) (is_entry site.operation.kind) none) (ap (λ (b : Bool). b && not (is_open h o)) none)
+procedure_goes h a o p vs (OnProtected site) e = inner_goes (callee.Procedure o p) h a o p vs site (procedure_no_entry site.operation.kind e) (procedure_refused o p) (λ values. refl)
 
 entry_goes : (h : History) (a o p : ℕ) (vs : List ℤ) (t : Target) → calls_entry t ≡ true → goes (callee.Entry o p) (due_call h a (Call o p vs) o t) ≡ true
 entry_goes h a o p vs Nowhere e = absurd (cc e)
 entry_goes h a o p vs (OnSuspension unit name wanted) e = absurd (cc e)
-entry_goes h a o p vs (OnProtected site) e =
-    let q : Request = Call o p vs in let called : Target = OnProtected site in
-    entry_judged o p (version h) (decided h (subject h a) called) (scalars h.shapes o h.past)
-    (breaks h Rules.Grant a q o called) (breaks h Rules.Blocking a q o called) (breaks h Rules.Reentry a q o called) (breaks h Rules.Ceiling a q o called)
-    (excluded h o (is_function site.operation.kind)) (is_barred h o site.operation.kind) (full_queue h o)
+entry_goes h a o p vs (OnProtected site) e = site_goes (callee.Entry o p) h a o p vs site (λ rule line behind. entry_refused o p (breaks h Rules.Blocking a (Call o p vs) o (OnProtected site)) (is_barred h o site.operation.kind) rule line (version h) behind) (λ shut. refl) (λ values. refl)
 
 -- Operations of suspension objects
 
@@ -209,41 +190,27 @@ calls_go_on h a c vs n e f g =
 -- Resumes
 
 waiting_wakes : (c : Callee) (h : History) → wakes c (or_waiting h false) ≡ true
-waiting_wakes c h = if_goes (wakes c) (halted h.past) Answers.Halted Answers.Waiting refl refl
+waiting_wakes c h = each_halted (λ r. wakes c r ≡ true) h refl refl
 
 entry_wakes : (h : History) (a o p : ℕ) (s : Stance) → queued s ≡ true → wakes (callee.Entry o p) (due_resume h a s) ≡ true
-entry_wakes h a o p Free e = absurd (cc e)
 entry_wakes h a o p InQueue e = waiting_wakes (callee.Entry o p) h
 entry_wakes h a o p HandedOver e = refl
 entry_wakes h a o p (DroppedBy line) e = refl
-entry_wakes h a o p (WaitsOn object) e = absurd (cc e)
-entry_wakes h a o p (WaitsUntil time) e = absurd (cc e)
-entry_wakes h a o p Gone e = absurd (cc e)
+entry_wakes h a o p s e = absurd (cc e)
 
-pause_wakes : (c : Callee) (h : History) (a : ℕ) → wakes c (Answers.Woken None) ≡ true → (ready : Bool) → wakes c (or_waiting h ready) ≡ true
-pause_wakes c h a f true = f
-pause_wakes c h a f false = waiting_wakes c h
+pause_wakes : (c : Callee) (h : History) → wakes c (Answers.Woken None) ≡ true → (ready : Bool) → wakes c (or_waiting h ready) ≡ true
+pause_wakes c h f ready = each_waiting (λ r. wakes c r ≡ true) h ready f refl refl
 
 paused_wakes : (c : Callee) (h : History) (a : ℕ) → wakes c (Answers.Woken None) ≡ true → (s : Stance) → paused s ≡ true → wakes c (due_resume h a s) ≡ true
-paused_wakes c h a f Free e = absurd (cc e)
-paused_wakes c h a f InQueue e = absurd (cc e)
-paused_wakes c h a f HandedOver e = absurd (cc e)
-paused_wakes c h a f (DroppedBy line) e = absurd (cc e)
-paused_wakes c h a f (WaitsOn object) e = pause_wakes c h a f (released a object h.past)
-paused_wakes c h a f (WaitsUntil time) e = pause_wakes c h a f (int_le time (pos (clock h.past)))
-paused_wakes c h a f Gone e = absurd (cc e)
+paused_wakes c h a f (WaitsOn object) e = pause_wakes c h f (released a object h.past)
+paused_wakes c h a f (WaitsUntil time) e = pause_wakes c h f (int_le time (pos (clock h.past)))
+paused_wakes c h a f s e = absurd (cc e)
 
 resume_wakes : (h : History) (a : ℕ) (c : Callee) (s : Stance) → waits_by c s ≡ true → wakes c (due_resume h a s) ≡ true
 resume_wakes h a (callee.Entry o p) s e = entry_wakes h a o p s e
 resume_wakes h a (callee.SuspendUntilTrue o) s e = paused_wakes (callee.SuspendUntilTrue o) h a refl s e
 resume_wakes h a callee.DelayUntil s e = paused_wakes callee.DelayUntil h a refl s e
-resume_wakes h a (callee.Internal operation) s e = absurd (cc e)
-resume_wakes h a (callee.Function o p) s e = absurd (cc e)
-resume_wakes h a (callee.Procedure o p) s e = absurd (cc e)
-resume_wakes h a (callee.SetTrue o) s e = absurd (cc e)
-resume_wakes h a (callee.SetFalse o) s e = absurd (cc e)
-resume_wakes h a (callee.CurrentState o) s e = absurd (cc e)
-resume_wakes h a callee.Clock s e = absurd (cc e)
+resume_wakes h a c s e = absurd (cc e)
 
 pub resumes_go_on : ResumesGoOn
 resumes_go_on h a c e f g =
