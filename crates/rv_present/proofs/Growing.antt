@@ -160,50 +160,47 @@ old_scalars h o l none =
     let same : h.shapes ++ [] ≡ h.shapes = append_none h.shapes in
     ap (λ ss. scalars ss o h.past) (sym same) ∙ fresh_scalars h [] o l none ∙ ap (λ ss. initial ss o) same ∙ ap starts_at none
 
+-- of an object, by where its number lies: among the old ones, the new ones, or behind them
+renewed_at : (P : ObjectView → Type 0) (shapes : List Shape) (n m : ℕ) (objects new : List ObjectView) → AreRenewed shapes n m objects new → (o : ℕ) → (o ≤ n → P (get_or objects o idle)) →
+    (n < o → P (record { actions = []; unsettled = false; scalars = initial shapes o })) → (n < o → m < o → P (get_or objects o idle)) → P (get_or new o idle)
+renewed_at P shapes n m objects new k o old fresh past = by_known (nat_lt n o) refl
+  where
+    by_last : (t : Bool) → nat_lt m o ≡ t → n < o → P (get_or new o idle)
+    by_last true is some =
+        let behind : m < o = grind (arith, nat_tests, is) in
+        subst P (sym (k.past o behind)) (past some behind)
+    by_last false is some =
+        let within : o ≤ m = grind (arith, nat_tests, is) in
+        subst P (sym (k.fresh o some within)) (fresh some)
+
+    by_known : (t : Bool) → nat_lt n o ≡ t → P (get_or new o idle)
+    by_known true is = by_last (nat_lt m o) refl (grind (arith, nat_tests, is))
+    by_known false is =
+        let less : o ≤ n = grind (arith, nat_tests, is) in
+        subst P (sym (k.kept o less)) (old less)
+
 grown_scalars : (h : History) (more : List Shape) (objects new : List ObjectView) → Legal h → AreScalars h.shapes h.past objects →
     AreRenewed (h.shapes ++ more) (length (all_objects h.shapes)) (length (all_objects (h.shapes ++ more))) objects new → AreScalars (h.shapes ++ more) h.past new
-grown_scalars h more objects new l are k o = by_known (nat_lt (length (all_objects h.shapes)) o) refl
+grown_scalars h more objects new l are k o =
+    renewed_at (λ (x : ObjectView). x.scalars ≡ scalars (h.shapes ++ more) o h.past) (h.shapes ++ more) (length (all_objects h.shapes)) (length (all_objects (h.shapes ++ more))) objects new k o
+    (λ less. are o ∙ kept less (place h.shapes o) refl)
+    (λ some. sym (fresh_scalars h more o l (none_placed h.shapes o some)))
+    (λ some past. are o ∙ old_scalars h o l (none_placed h.shapes o some) ∙ sym (fresh_scalars h more o l (none_placed h.shapes o some) ∙ ap starts_at (none_placed (h.shapes ++ more) o past)))
   where
     kept : o ≤ length (all_objects h.shapes) → (q : Option UnitObject) → place h.shapes o ≡ q → scalars h.shapes o h.past ≡ scalars (h.shapes ++ more) o h.past
     kept less None is = old_scalars h o l is ∙ sym (fresh_scalars h more o l is ∙ ap starts_at (none_stays h.shapes more o less is))
     kept less (Some p) is = sym (scalars_stay h more o p l is)
 
-    by_last : (t : Bool) → nat_lt (length (all_objects (h.shapes ++ more))) o ≡ t → length (all_objects h.shapes) < o → (get_or new o idle).scalars ≡ scalars (h.shapes ++ more) o h.past
-    by_last true is some =
-        let past : length (all_objects (h.shapes ++ more)) < o = grind (arith, nat_tests, is) in
-        let none : place h.shapes o ≡ None = none_placed h.shapes o some in
-        ap (λ (x : ObjectView). x.scalars) (k.past o past) ∙ are o ∙ old_scalars h o l none
-        ∙ sym (fresh_scalars h more o l none ∙ ap starts_at (none_placed (h.shapes ++ more) o past))
-    by_last false is some =
-        let within : o ≤ length (all_objects (h.shapes ++ more)) = grind (arith, nat_tests, is) in
-        ap (λ (x : ObjectView). x.scalars) (k.fresh o some within) ∙ sym (fresh_scalars h more o l (none_placed h.shapes o some))
-
-    by_known : (t : Bool) → nat_lt (length (all_objects h.shapes)) o ≡ t → (get_or new o idle).scalars ≡ scalars (h.shapes ++ more) o h.past
-    by_known true is = by_last (nat_lt (length (all_objects (h.shapes ++ more))) o) refl (grind (arith, nat_tests, is))
-    by_known false is =
-        let less : o ≤ length (all_objects h.shapes) = grind (arith, nat_tests, is) in
-        ap (λ (x : ObjectView). x.scalars) (k.kept o less) ∙ are o ∙ kept less (place h.shapes o) refl
-
 grown_actions : (old more : List Shape) (bs : List Body) (objects new : List ObjectView) → Each (IsProtected old) bs → AreActions old bs objects →
     AreRenewed (old ++ more) (length (all_objects old)) (length (all_objects (old ++ more))) objects new → AreActions (old ++ more) bs new
-grown_actions old more bs objects new all are k o = by_known (nat_lt (length (all_objects old)) o) refl
+grown_actions old more bs objects new all are k o =
+    renewed_at (λ (x : ObjectView). x.actions ≡ actions_on (old ++ more) o bs) (old ++ more) (length (all_objects old)) (length (all_objects (old ++ more))) objects new k o
+    (λ less. are o ∙ sym same)
+    (λ some. sym (ap (map (action_of (old ++ more))) (none_on_new old o bs all (none_placed old o some))))
+    (λ some past. are o ∙ sym same)
   where
     same : actions_on (old ++ more) o bs ≡ actions_on old o bs
     same = actions_grow old more (filter (is_on o) bs) (each_filter (IsProtected old) (is_on o) bs all)
-
-    by_last : (t : Bool) → nat_lt (length (all_objects (old ++ more))) o ≡ t → length (all_objects old) < o → (get_or new o idle).actions ≡ actions_on (old ++ more) o bs
-    by_last true is some =
-        let past : length (all_objects (old ++ more)) < o = grind (arith, nat_tests, is) in
-        ap (λ (x : ObjectView). x.actions) (k.past o past) ∙ are o ∙ sym same
-    by_last false is some =
-        let within : o ≤ length (all_objects (old ++ more)) = grind (arith, nat_tests, is) in
-        ap (λ (x : ObjectView). x.actions) (k.fresh o some within) ∙ sym (ap (map (action_of (old ++ more))) (none_on_new old o bs all (none_placed old o some)))
-
-    by_known : (t : Bool) → nat_lt (length (all_objects old)) o ≡ t → (get_or new o idle).actions ≡ actions_on (old ++ more) o bs
-    by_known true is = by_last (nat_lt (length (all_objects (old ++ more))) o) refl (grind (arith, nat_tests, is))
-    by_known false is =
-        let less : o ≤ length (all_objects old) = grind (arith, nat_tests, is) in
-        ap (λ (x : ObjectView). x.actions) (k.kept o less) ∙ are o ∙ sym same
 
 -- no body that left its object unsettled is on a new one
 none_past : (o n : ℕ) (bs : List Body) → Each (λ b. b.object ≤ n) bs → n < o → length (filter (is_on o) bs) ≡ 0
@@ -222,27 +219,12 @@ grown_unsettled : (old more : List Shape) (left : List Body) (u : Leavers) (obje
     AreRenewed (old ++ more) (length (all_objects old)) (length (all_objects (old ++ more))) objects new → AreUnsettled left u new
 grown_unsettled old more left u objects new placed are k = record {
   own = are.own;
-  on = on_each;
+  on = λ o.
+      renewed_at (λ (x : ObjectView). length (filter (is_on o) left) ≡ counted x.unsettled) (old ++ more) (length (all_objects old)) (length (all_objects (old ++ more))) objects new k o
+      (λ less. are.on o) (λ some. none_past o (length (all_objects old)) left placed some) (λ some past. are.on o);
   known = subst (λ n. Each (IsKnown (length u.bodies) n) left) (sym k.long) are.known;
   count = are.count;
 }
-  where
-    by_last : (o : ℕ) (t : Bool) → nat_lt (length (all_objects (old ++ more))) o ≡ t → length (all_objects old) < o → length (filter (is_on o) left) ≡ counted (get_or new o idle).unsettled
-    by_last o true is some =
-        let past : length (all_objects (old ++ more)) < o = grind (arith, nat_tests, is) in
-        are.on o ∙ sym (ap (λ (x : ObjectView). counted x.unsettled) (k.past o past))
-    by_last o false is some =
-        let within : o ≤ length (all_objects (old ++ more)) = grind (arith, nat_tests, is) in
-        none_past o (length (all_objects old)) left placed some ∙ sym (ap (λ (x : ObjectView). counted x.unsettled) (k.fresh o some within))
-
-    by_known : (o : ℕ) (t : Bool) → nat_lt (length (all_objects old)) o ≡ t → length (filter (is_on o) left) ≡ counted (get_or new o idle).unsettled
-    by_known o true is = by_last o (nat_lt (length (all_objects (old ++ more))) o) refl (grind (arith, nat_tests, is))
-    by_known o false is =
-        let less : o ≤ length (all_objects old) = grind (arith, nat_tests, is) in
-        are.on o ∙ sym (ap (λ (x : ObjectView). counted x.unsettled) (k.kept o less))
-
-    on_each : (o : ℕ) → length (filter (is_on o) left) ≡ counted (get_or new o idle).unsettled
-    on_each o = by_known o (nat_lt (length (all_objects old)) o) refl
 
 -- the present with a unit more
 grown : (h : History) (more : List Shape) (p q : Present) → Legal h → IsPresent h.shapes h.past p → HasGrown (h.shapes ++ more) p q → IsPresent (h.shapes ++ more) h.past q
