@@ -3,21 +3,12 @@
 ghost use Rattle.std.specs.Prelude.{◌≡◌, ◌<◌, ◌≤◌, ◌↔◌, ℕ, true, false, length, IfOk, IfSome, IsTrue, MatchOption};
 ghost use Rattle.std.specs.List.{All};
 ghost use Rattle.rv_access.specs.Limits.{most_tick};
-ghost use Rattle.rv_access.specs.Lines as lists;
 ghost use Rattle.rv_access.specs.Spelled.{IsSpelled};
 ghost use Rattle.rv_notes.specs.Covered.{DecidesNothing, IsSpanned, is_held, is_spanned_at, is_wider};
 
 use crate::spans::{Span, are_held};
-use rv_access::{AccessList, Line};
-use rv_text::is_same_name;
+use rv_access::{AccessList, Line, fits};
 use std::alloc::{AllocError, Global};
-
-// Whether a word is `*` or the name, case ignored.
-fn fits(word: &str, name: &str) -> bool
-    ensures { result ≡ lists.fits word.now name.now }
-{
-    word == "*" || is_same_name(word, name)
-}
 
 // Whether each word of the first line fits whatever that of the other fits.
 fn is_wider(wide: &Line, line: &Line) -> bool

@@ -7,14 +7,13 @@ ghost use Rattle.rv_event.specs.declared.entry.Entry.{Entry};
 ghost use Rattle.rv_event.specs.declared.entry.Stance.{Stance};
 ghost use Rattle.rv_history.specs.History.{History};
 ghost use Rattle.rv_history.specs.Legal.{Legal};
-ghost use Rattle.rv_shape.specs.Catalogue as catalogues;
 ghost use Rattle.rv_suspend.specs.Suspension.{Suspension, initially};
 ghost use Rattle.rv_waiting.specs.Limits.{most_places};
 ghost use Rattle.rv_waiting.specs.Suspensions as suspensions;
 ghost use Rattle.rv_waiting.specs.Suspensions.{AreSuspensions, suspension_after, touch_of_deed};
 
 use rv_event::entry::{EntryRef, Recorded, Request};
-use rv_shape::catalogue::MOST_OBJECTS;
+use rv_shape::catalogue::{MOST_OBJECTS, suspension_operation};
 use rv_shape::suspension::SuspensionOperation;
 use rv_suspend::SuspensionObject;
 use std::alloc::{AllocError, Global};
@@ -31,19 +30,6 @@ pub enum Deed {
     Clears,
     /// Nothing.
     Untouched,
-}
-
-// The operation of a suspension object of a number.
-fn operation_at(number: usize) -> Option<SuspensionOperation>
-    ensures { result ≡ catalogues.numbered catalogues.suspension_operations number }
-{
-    match number {
-        1 => Some(SuspensionOperation::SetTrue),
-        2 => Some(SuspensionOperation::SetFalse),
-        3 => Some(SuspensionOperation::CurrentState),
-        4 => Some(SuspensionOperation::SuspendUntilTrue),
-        _ => None,
-    }
 }
 
 // What an accepted call of an operation does, if there is such an operation.
@@ -66,7 +52,7 @@ fn deed_of(entry: &EntryRef) -> Deed
     match *entry {
         EntryRef::Asked(actor, Request::Call(_, _, _), Recorded::Suspended) => Deed::Waits(actor),
         EntryRef::Asked(_, Request::Call(_, operation, _), Recorded::Accepted(_)) => {
-            accepted(operation_at(*operation))
+            accepted(suspension_operation(*operation))
         }
         _ => Deed::Untouched,
     }
