@@ -3,7 +3,7 @@ use Rattle.std.specs.Prelude.{ℕ, zero, suc, ◌+◌, ◌*◌, ℤ, pos, Bool, 
 use Rattle.rv_value.specs.Arithmetic.{is_integer}
 use Rattle.rv_shape.specs.declared.kind.Parameter.{Parameter}
 use Rattle.rv_shape.specs.declared.kind.ParameterMode.{ParameterMode}
-use Rattle.rv_shape.specs.declared.kind.ParameterMode.TheVariants as mode
+use Rattle.rv_shape.specs.Kinds.{goes_in, goes_out}
 use Rattle.rv_shape.specs.declared.kind.Range.{Range}
 use Rattle.rv_shape.specs.declared.kind.ValueType.{ValueType}
 use Rattle.rv_shape.specs.declared.kind.ValueType.TheVariants as type
@@ -81,17 +81,12 @@ first_value type.Boolean low = low
 first_value type.Time low = pos 0
 first_value type.TimeSpan low = pos 0
 
-abbrev pub is_out : ParameterMode → Bool
-is_out mode.In = false
-is_out mode.Out = true
-is_out mode.InOut = false
-
 -- what a parameter starts at: the next of the given values, or for `out` its first value (6.2)
 abbrev pub start_of : Parameter → List ℤ → (given : ℕ) → ℤ
-start_of p values given = if is_out p.mode then first_value p.range.of p.range.low else slice_index_or values given (pos 0)
+start_of p values given = if goes_in p.mode then slice_index_or values given (pos 0) else first_value p.range.of p.range.low
 
 abbrev pub next_given : ParameterMode → ℕ → ℕ
-next_given mode given = if is_out mode then given else suc given
+next_given mode given = if goes_in mode then suc given else given
 
 -- the parameters from a slot on take the given values from an index on, by copy (6.4.1)
 abbrev pub bound : List Parameter → (slot given : ℕ) → List ℤ → List ℤ → List ℤ
@@ -99,15 +94,10 @@ bound [] slot given values slots = slots
 bound (p ∷ ps) slot given values slots = bound ps (suc slot) (next_given p.mode given) values (slice_set slots slot (start_of p values given))
 
 -- the values of the `out` and `in out` parameters, from a slot on (6.4.1)
-abbrev pub comes_back : ParameterMode → Bool
-comes_back mode.In = false
-comes_back mode.Out = true
-comes_back mode.InOut = true
-
 abbrev pub given_back : List Parameter → ℕ → List ℤ → List ℤ → List ℤ
 given_back [] slot slots values = values
 given_back (p ∷ ps) slot slots values =
-    given_back ps (suc slot) slots (if comes_back p.mode then joined values (slice_index_or slots slot (pos 0)) else values)
+    given_back ps (suc slot) slots (if goes_out p.mode then joined values (slice_index_or slots slot (pos 0)) else values)
 
 -- a body's activation as its declarations begin
 abbrev pub opened : List ℤ → List ℤ → ℕ → ℕ → Activation

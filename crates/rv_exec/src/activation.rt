@@ -1,7 +1,7 @@
 //! The activation of a body: its variables, the components that it works on, and what it may still do.
 
 ghost use Rattle.std.specs.Prelude.{◌≡◌, ◌≤◌, ◌<◌, ◌+◌, ◌^◌, IsTrue, IsFalse, Some, None, pos, slice_index_or, slice_set, []};
-ghost use Rattle.rv_exec.specs.Activations.{assigned, joined, stepped, spent, refilled, steps_left, put_slot, put_at, copied_back, given_back, bound, first_value, is_out, comes_back, start_of, next_given};
+ghost use Rattle.rv_exec.specs.Activations.{assigned, joined, stepped, spent, refilled, steps_left, put_slot, put_at, copied_back, given_back, bound, first_value, start_of, next_given};
 
 use crate::end::End;
 use crate::operators::within;
@@ -171,7 +171,7 @@ impl Activation {
     {
         let mut values = Args::new();
         for (slot, parameter) in parameters.iter().enumerate() {
-            if comes_back(parameter.mode) {
+            if parameter.mode.goes_out() {
                 join(&mut values, self.variable(slot));
             }
         }
@@ -194,10 +194,10 @@ impl Activation {
 fn start_of(parameter: &Parameter, values: Args, given: usize) -> i64
     ensures { result ≡ start_of parameter.now values given }
 {
-    if is_out(parameter.mode) {
-        first_value(parameter.range)
-    } else {
+    if parameter.mode.goes_in() {
         value_at(values, given)
+    } else {
+        first_value(parameter.range)
     }
 }
 
@@ -205,25 +205,7 @@ fn next_given(mode: ParameterMode, given: usize) -> usize
     requires { given < 2 ^ 63 }
     ensures { result ≡ next_given mode given }
 {
-    if is_out(mode) { given } else { given + 1 }
-}
-
-fn comes_back(mode: ParameterMode) -> bool
-    ensures { result ≡ comes_back mode }
-{
-    match mode {
-        ParameterMode::In => false,
-        ParameterMode::Out | ParameterMode::InOut => true,
-    }
-}
-
-fn is_out(mode: ParameterMode) -> bool
-    ensures { result ≡ is_out mode }
-{
-    match mode {
-        ParameterMode::Out => true,
-        ParameterMode::In | ParameterMode::InOut => false,
-    }
+    if mode.goes_in() { given + 1 } else { given }
 }
 
 fn first_value(range: Range) -> i64
