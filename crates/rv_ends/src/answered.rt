@@ -304,17 +304,6 @@ fn next_of(answer: &Answer) -> Next
     }
 }
 
-// The actor that is named as handed an object or dropped.
-fn named_in(next: Next) -> Option<usize>
-    ensures { result ≡ named_in next }
-{
-    match next {
-        Next::Nothing => None,
-        Next::HandedTo(actor) => Some(actor),
-        Next::Dropped(actor, _) => Some(actor),
-    }
-}
-
 // The calls without those of an actor.
 fn leave(alloc: Global, calls: &[QueuedCall], actor: usize) -> Result<Vec<QueuedCall>, AllocError>
     ensures { IfOk result (λ others. others.items ≡ left (Some actor) calls.now) }
@@ -366,6 +355,6 @@ pub fn queue(
 ) -> Result<(), AllocError>
     ensures { OnOk result (calls.new.items ≡ joined (queued actor request.now answer.now) (left (named_in (next_of answer.now)) calls.old.items)) }
 {
-    leave_if(alloc, calls, named_in(next_of(answer)))?;
+    leave_if(alloc, calls, next_of(answer).named())?;
     join(calls, queued(actor, request, answer))
 }
