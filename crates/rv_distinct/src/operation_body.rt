@@ -15,26 +15,9 @@ pub fn operation_body_name(body: &OperationBody) -> &Identifier
     ensures { identifier_view result.now ≡ name_of_body (operation_body_view body.now) }
 {
     match body {
-        OperationBody::Function {
-            at: _,
-            name,
-            parameters: _,
-            mark: _,
-            block: _,
-        } => name,
-        OperationBody::Procedure {
-            at: _,
-            name,
-            parameters: _,
-            block: _,
-        } => name,
-        OperationBody::Entry {
-            at: _,
-            name,
-            parameters: _,
-            barrier: _,
-            block: _,
-        } => name,
+        OperationBody::Function { name, .. }
+        | OperationBody::Procedure { name, .. }
+        | OperationBody::Entry { name, .. } => name,
     }
 }
 
@@ -43,26 +26,9 @@ pub fn operation_body_parameters(body: &OperationBody) -> &Vec<Parameter>
     ensures { map parameter_view result.now.items ≡ parameters_of_body (operation_body_view body.now) }
 {
     match body {
-        OperationBody::Function {
-            at: _,
-            name: _,
-            parameters,
-            mark: _,
-            block: _,
-        } => parameters,
-        OperationBody::Procedure {
-            at: _,
-            name: _,
-            parameters,
-            block: _,
-        } => parameters,
-        OperationBody::Entry {
-            at: _,
-            name: _,
-            parameters,
-            barrier: _,
-            block: _,
-        } => parameters,
+        OperationBody::Function { parameters, .. }
+        | OperationBody::Procedure { parameters, .. }
+        | OperationBody::Entry { parameters, .. } => parameters,
     }
 }
 
@@ -71,25 +37,8 @@ pub fn operation_body_block(body: &OperationBody) -> &Block
     ensures { block_view result.now ≡ block_of_body (operation_body_view body.now) }
 {
     match body {
-        OperationBody::Function {
-            at: _,
-            name: _,
-            parameters: _,
-            mark: _,
-            block,
-        } => block,
-        OperationBody::Procedure {
-            at: _,
-            name: _,
-            parameters: _,
-            block,
-        } => block,
-        OperationBody::Entry {
-            at: _,
-            name: _,
-            parameters: _,
-            barrier: _,
-            block,
-        } => block,
+        OperationBody::Function { block, .. }
+        | OperationBody::Procedure { block, .. }
+        | OperationBody::Entry { block, .. } => block,
     }
 }

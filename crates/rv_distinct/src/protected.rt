@@ -16,18 +16,8 @@ fn operation<'a>(one: &'a OperationDeclaration, region: &mut Region<'a>) -> Resu
 {
     match one {
         OperationDeclaration::Pragma(_) => Ok(()),
-        OperationDeclaration::Function {
-            at: _,
-            name,
-            parameters: _,
-            mark: _,
-        } => region.declare(name),
-        OperationDeclaration::Procedure {
-            at: _,
-            name,
-            parameters: _,
-            aspects: _,
-        } => region.declare(name),
+        OperationDeclaration::Function { name, .. }
+        | OperationDeclaration::Procedure { name, .. } => region.declare(name),
         OperationDeclaration::Entry(entry) => region.declare(&entry.name),
     }
 }
@@ -102,16 +92,12 @@ fn operation_profile<'a>(
     match one {
         OperationDeclaration::Pragma(_) => Ok(()),
         OperationDeclaration::Function {
-            at: _,
-            name: _,
             parameters: list,
-            mark: _,
-        } => profile(alloc, list, regions),
-        OperationDeclaration::Procedure {
-            at: _,
-            name: _,
+            ..
+        }
+        | OperationDeclaration::Procedure {
             parameters: list,
-            aspects: _,
+            ..
         } => profile(alloc, list, regions),
         OperationDeclaration::Entry(entry) => profile(alloc, &entry.parameters, regions),
     }

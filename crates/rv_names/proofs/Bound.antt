@@ -26,7 +26,7 @@ use Rattle.rv_scope.specs.declared.predefined.Library.TheVariants as l
 use Rattle.rv_scope.specs.Wanted.{denoted, is_found, suits, sort}
 use Rattle.rv_scope.specs.StatementUses.{statements_uses, choice_uses, choices_uses, bounds_uses, iteration_uses, statement_uses, elsif_parts_uses, alternatives_uses, in_loop}
 use Rattle.rv_scope.specs.DeclarationUses.{parameters_uses, with_parameters, with_members, declaration_uses, with_declaration, declarations_uses, with_declarations, arguments_uses, pragma_uses, aspects_uses, operation_uses, operations_uses, element_uses, elements_uses, private_uses, parts_uses, protected_unit_uses, naming_unit, task_item_uses, task_items_uses, definition_uses, task_uses, is_priority, is_attachment, with_operation, with_operations, with_element, with_elements, with_private}
-use Rattle.rv_scope.specs.UnitUses.{unit_uses, local_uses, locals_uses, exception_uses, exceptions_uses, handlers_uses, block_uses, operation_body_uses, operation_bodies_uses, bodies_of_unit, protected_body_uses, task_body_uses, body_item_uses, body_items_uses, with_names_uses, use_names_uses, context_item_uses, context_uses, in_protected_unit, unit_number, protected_unit_of, with_body_item, withed, with_names, used_by, use_names, with_context_item, with_context, package_scope, protected_units, with_local, with_locals}
+use Rattle.rv_scope.specs.UnitUses.{unit_uses, local_uses, locals_uses, exception_uses, exceptions_uses, handlers_uses, block_uses, operation_body_uses, operation_bodies_uses, bodies_of_unit, protected_body_uses, task_body_uses, body_item_uses, body_items_uses, with_names_uses, use_names_uses, context_item_uses, context_uses, in_protected_unit, unit_of_body, with_body_item, withed, with_names, used_by, use_names, with_context_item, with_context, package_scope, protected_units, with_local, with_locals}
 use Rattle.rv_scope.specs.Bound.{judged, Used, listed, uses, IsBound, AllBound}
 
 -- where the one finds all bound, all that the other lists is bound
@@ -252,12 +252,12 @@ operation_bodies_shown : (x0 : ScopeView) (x1 : List OperationBody) → Shows (o
 operation_bodies_shown scope [] = none_shown
 operation_bodies_shown scope (body ∷ more) = operation_body_shown scope body and operation_bodies_shown scope more
 
-bodies_of_unit_shown : (x0 : ScopeView) (x1 : List OperationBody) (x2 : Option ProtectedUnit) → Shows (bodies_of_unit judged x0 x1 x2) (bodies_of_unit listed x0 x1 x2)
+bodies_of_unit_shown : (x0 : ScopeView) (x1 : List OperationBody) (x2 : Option (ℕ × ProtectedUnit)) → Shows (bodies_of_unit judged x0 x1 x2) (bodies_of_unit listed x0 x1 x2)
 bodies_of_unit_shown scope bodies None = none_shown
-bodies_of_unit_shown scope bodies (Some unit) = operation_bodies_shown (in_protected_unit unit scope) bodies
+bodies_of_unit_shown scope bodies (Some numbered) = operation_bodies_shown (in_protected_unit numbered.1 scope) bodies
 
 protected_body_shown : (x0 : List ProtectedUnit) (x1 : ScopeView) (x2 : ProtectedBody) → Shows (protected_body_uses judged x0 x1 x2) (protected_body_uses listed x0 x1 x2)
-protected_body_shown units scope body = use_shown scope w.ProtectedBody (simple body.name) and bodies_of_unit_shown scope body.operations (protected_unit_of units (unit_number (denoted w.ProtectedBody scope (simple body.name))))
+protected_body_shown units scope body = use_shown scope w.ProtectedBody (simple body.name) and bodies_of_unit_shown scope body.operations (unit_of_body units scope body.name)
 
 task_body_shown : (x0 : ScopeView) (x1 : TaskBody) → Shows (task_body_uses judged x0 x1) (task_body_uses listed x0 x1)
 task_body_shown scope body = use_shown scope w.TaskBody (simple body.name) and block_shown (in_body body.name scope) body.block

@@ -16,9 +16,8 @@ use crate::pragma::{aspects, pragma, stray_pragma, task_rules};
 use crate::protected::protected_unit;
 use rv_scope::declare::{Form, declare_all};
 use rv_scope::declared::Declared;
-use rv_scope::members::{hide, hide_all};
+use rv_scope::members::{declare_variables, hide, hide_all};
 use rv_scope::scope::Scope;
-use rv_scope::units::object_form;
 use rv_scope::wanted::Wanted;
 use rv_tree::declaration::{Declaration, TaskDefinition, TaskItem, TaskUnit};
 use rv_tree::expression::{Expression, RangeConstraint};
@@ -95,9 +94,7 @@ fn variables(
 {
     hide_all(names, scope)?;
     name(mark, Wanted::ObjectType, scope, faults);
-    let found = scope.visible(mark);
-    let form = object_form(found);
-    declare_all(names, form, scope)?;
+    declare_variables(names, mark, scope)?;
     Ok(())
 }
 

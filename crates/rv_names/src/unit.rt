@@ -7,42 +7,19 @@ ghost use Rattle.rv_tree.specs.DeclarationView.{declaration_view, protected_unit
 ghost use Rattle.rv_tree.specs.BodyView.{operation_body_view, protected_body_view, task_body_view};
 ghost use Rattle.rv_tree.specs.UnitView.{body_item_view, unit_view};
 ghost use Rattle.rv_scope.specs.Bound.{judged};
-ghost use Rattle.rv_scope.specs.Scope.{within_unit};
 ghost use Rattle.rv_scope.specs.ExpressionUses.{◌▷◌, simple as simple_name};
-ghost use Rattle.rv_scope.specs.UnitUses.{operation_bodies_uses, in_protected_unit, protected_unit_of, bodies_of_unit, protected_body_uses, task_body_uses, body_item_uses, with_body_item, body_items_uses};
+ghost use Rattle.rv_scope.specs.UnitUses.{operation_bodies_uses, in_protected_unit, unit_of_body as unit_of_name, bodies_of_unit, protected_body_uses, task_body_uses, body_item_uses, with_body_item, body_items_uses};
 
 use crate::body::block;
 use crate::declaration::declaration;
 use crate::fault::Faults;
 use crate::operation_body::{body_name, operation_bodies};
-use rv_scope::members::enter_members;
 use rv_scope::scope::Scope;
-use rv_scope::units::unit_number;
 use rv_scope::wanted::Wanted;
 use rv_tree::body::{OperationBody, ProtectedBody, TaskBody};
 use rv_tree::declaration::ProtectedUnit;
 use rv_tree::unit::BodyItem;
 use std::alloc::AllocError;
-
-// The bodies of the operations of the protected unit around the point.
-fn current_bodies<'a>(
-    unit: &'a ProtectedUnit,
-    body: &'a ProtectedBody,
-    scope: &mut Scope,
-    faults: &mut Faults<'a>,
-) -> Result<(), AllocError>
-    ensures faults { OnOk result (faults.new
-        ≡ operation_bodies_uses judged (within_unit unit.now.name.at scope.old) (map operation_body_view body.now.operations.items) faults.old) }
-    ensures scope { OnOk result (scope.new ≡ scope.old) }
-{
-    let around = scope.current();
-    scope.set_current(Some(unit.name.at));
-    faults.set_unit(Some(unit));
-    operation_bodies(&body.operations, scope, faults)?;
-    faults.set_unit(None);
-    scope.set_current(around);
-    Ok(())
-}
 
 // The bodies of the operations of a protected unit.
 fn in_unit<'a>(
@@ -55,9 +32,11 @@ fn in_unit<'a>(
         ≡ operation_bodies_uses judged (in_protected_unit (protected_unit_view unit.now) scope.old) (map operation_body_view body.now.operations.items) faults.old) }
     ensures scope { OnOk result (scope.new ≡ scope.old) }
 {
-    enter_members(unit, scope)?;
-    current_bodies(unit, body, scope, faults)?;
-    scope.leave();
+    let around = scope.enter_unit(unit)?;
+    faults.set_unit(Some(unit));
+    operation_bodies(&body.operations, scope, faults)?;
+    faults.set_unit(None);
+    scope.leave_unit(around);
     Ok(())
 }
 
@@ -72,12 +51,8 @@ fn protected_body<'a>(
     ensures scope { OnOk result (scope.new ≡ scope.old) }
 {
     body_name(&body.name, Wanted::ProtectedBody, scope, faults);
-    let found = scope.denoted_by_body(Wanted::ProtectedBody, &body.name);
-    let Some(number) = unit_number(found) else {
-        return Ok(());
-    };
-    match units.get(number) {
-        Some(unit) => in_unit(unit, body, scope, faults),
+    match scope.unit_of_body(&body.name, units) {
+        Some((_, unit)) => in_unit(unit, body, scope, faults),
         None => Ok(()),
     }
 }

@@ -17,7 +17,7 @@ use Rattle.rv_scope.specs.Visible.{visible}
 use Rattle.rv_scope.specs.Wanted.{denoted}
 use Rattle.rv_scope.specs.ExpressionUses.{simple}
 use Rattle.rv_scope.specs.DeclarationUses.{with_parameters, with_declaration, with_declarations}
-use Rattle.rv_scope.specs.UnitUses.{in_protected_unit, unit_number, protected_unit_of, with_body_item, package_scope, protected_units}
+use Rattle.rv_scope.specs.UnitUses.{in_protected_unit, unit_of_body, with_body_item, package_scope, protected_units}
 use Rattle.rv_outline.specs.declared.outline.ObjectType.{ObjectType}
 use Rattle.rv_outline.specs.declared.outline.ObjectType.TheVariants as sort
 use Rattle.rv_outline.specs.Known.{means}
@@ -73,17 +73,16 @@ operation_bodies_outlined scope (body ∷ more) draft =
     operation_bodies_outlined scope more (operation_body_outlined scope body draft)
 
 -- the bodies of the operations of a protected unit
-abbrev pub bodies_outlined : ScopeView → List OperationBody → Option ProtectedUnit → Draft → Draft
+abbrev pub bodies_outlined : ScopeView → List OperationBody → Option (ℕ × ProtectedUnit) → Draft → Draft
 bodies_outlined scope bodies None draft = draft
-bodies_outlined scope bodies (Some unit) draft = operation_bodies_outlined (in_protected_unit unit scope) bodies draft
+bodies_outlined scope bodies (Some numbered) draft = operation_bodies_outlined (in_protected_unit numbered.1 scope) bodies draft
 
 -- The package body (7.2)
 
 abbrev pub body_item_outlined : List ProtectedUnit → ScopeView → BodyItem → Draft → Draft
 body_item_outlined units scope (body_declaration one) draft = declaration_outlined scope false one draft
 body_item_outlined units scope (body_protected body) draft =
-    bodies_outlined scope body.operations
-    (protected_unit_of units (unit_number (denoted w.ProtectedBody scope (simple body.name)))) draft
+    bodies_outlined scope body.operations (unit_of_body units scope body.name) draft
 body_item_outlined units scope (body_task body) draft = draft
 
 abbrev pub body_items_outlined : List ProtectedUnit → ScopeView → List BodyItem → Draft → Draft

@@ -6,11 +6,11 @@ ghost use Rattle.rv_tree.specs.ExpressionView.{expression_view};
 ghost use Rattle.rv_tree.specs.DeclarationView.{parameter_view, protected_unit_view};
 ghost use Rattle.rv_tree.specs.BodyView.{operation_body_view, protected_body_view};
 ghost use Rattle.rv_tree.specs.UnitView.{body_item_view};
-ghost use Rattle.rv_scope.specs.Scope.{OnlyDeclares, in_body, within_unit};
+ghost use Rattle.rv_scope.specs.Scope.{OnlyDeclares, in_body};
 ghost use Rattle.rv_scope.specs.ExpressionUses.{simple as simple_name};
 ghost use Rattle.rv_scope.specs.Wanted.{denoted};
 ghost use Rattle.rv_scope.specs.DeclarationUses.{with_parameters};
-ghost use Rattle.rv_scope.specs.UnitUses.{in_protected_unit, unit_number as unit_number_of, protected_unit_of, with_body_item};
+ghost use Rattle.rv_scope.specs.UnitUses.{in_protected_unit, unit_of_body, with_body_item};
 ghost use Rattle.rv_static.specs.Told.{told_unless};
 ghost use Rattle.rv_outline.specs.Barriers.{barrier_of};
 ghost use Rattle.rv_outline.specs.Declarations.{entry_barred, operation_body_outlined, operation_bodies_outlined, bodies_outlined, body_item_outlined, body_items_outlined};
@@ -19,8 +19,7 @@ use crate::barrier::barrier;
 use crate::declaration::declaration;
 use crate::draft::Draft;
 use crate::known::Table;
-use rv_scope::members::{declare_parameters, enter_members};
-use rv_scope::units::unit_number;
+use rv_scope::members::declare_parameters;
 use rv_scope::{Declared, OperationKind, Scope, Wanted};
 use rv_shape::kind::{Barrier, Kind};
 use rv_static::Faults;
@@ -132,24 +131,6 @@ fn operation_bodies(
     Ok(())
 }
 
-// The bodies of the operations of the protected unit around the point.
-fn current_bodies(
-    unit: &ProtectedUnit,
-    body: &ProtectedBody,
-    scope: &mut Scope,
-    draft: &mut Draft,
-) -> Result<(), AllocError>
-    ensures draft { OnOk result (draft.new
-        ≡ operation_bodies_outlined (within_unit unit.now.name.at scope.old) (map operation_body_view body.now.operations.items) draft.old) }
-    ensures scope { OnOk result (scope.new ≡ scope.old) }
-{
-    let around = scope.current();
-    scope.set_current(Some(unit.name.at));
-    operation_bodies(&body.operations, scope, draft)?;
-    scope.set_current(around);
-    Ok(())
-}
-
 // The bodies of the operations of a protected unit.
 fn in_unit(
     unit: &ProtectedUnit,
@@ -161,9 +142,9 @@ fn in_unit(
         ≡ operation_bodies_outlined (in_protected_unit (protected_unit_view unit.now) scope.old) (map operation_body_view body.now.operations.items) draft.old) }
     ensures scope { OnOk result (scope.new ≡ scope.old) }
 {
-    enter_members(unit, scope)?;
-    current_bodies(unit, body, scope, draft)?;
-    scope.leave();
+    let around = scope.enter_unit(unit)?;
+    operation_bodies(&body.operations, scope, draft)?;
+    scope.leave_unit(around);
     Ok(())
 }
 
@@ -175,16 +156,11 @@ fn protected_body(
 ) -> Result<(), AllocError>
     ensures draft { OnOk result (draft.new
         ≡ bodies_outlined scope.old (map operation_body_view body.now.operations.items)
-        (protected_unit_of (map (λ u. protected_unit_view u.now) units.now)
-        (unit_number_of (denoted Wanted.ProtectedBody scope.old (simple_name (identifier_view body.now.name))))) draft.old) }
+        (unit_of_body (map (λ u. protected_unit_view u.now) units.now) scope.old (identifier_view body.now.name)) draft.old) }
     ensures scope { OnOk result (scope.new ≡ scope.old) }
 {
-    let found = scope.denoted_by_body(Wanted::ProtectedBody, &body.name);
-    let Some(number) = unit_number(found) else {
-        return Ok(());
-    };
-    match units.get(number) {
-        Some(unit) => in_unit(unit, body, scope, draft),
+    match scope.unit_of_body(&body.name, units) {
+        Some((_, unit)) => in_unit(unit, body, scope, draft),
         None => Ok(()),
     }
 }

@@ -19,8 +19,7 @@ use crate::protected::protected_unit;
 use crate::subtype::{known_constant, known_subtype};
 use crate::task::task_unit;
 use rv_scope::declare::{Form, declare_all};
-use rv_scope::members::{hide, hide_all};
-use rv_scope::units::object_form;
+use rv_scope::members::{declare_variables, hide, hide_all};
 use rv_scope::{Declared, Scope};
 use rv_tree::{Declaration, Expression, Identifier, Name, RangeConstraint};
 use std::alloc::AllocError;
@@ -102,9 +101,8 @@ fn objects(
     hide_all(names, scope)?;
     let found = scope.visible(mark);
     let of = object_type(found);
-    let form = object_form(found);
     draft.add_objects(is_visible, of, names)?;
-    declare_all(names, form, scope)?;
+    declare_variables(names, mark, scope)?;
     Ok(())
 }
 

@@ -26,8 +26,8 @@ impl<'p, 's> Meanings for Point<'p, 's> {
     }
 }
 
-// What is known means in a static expression.
-fn known_meaning(known: Option<Known>) -> Meaning
+/// What is known means in a static expression.
+pub fn known_meaning(known: Option<Known>) -> Meaning
     ensures { result ≡ meaning_of_known known }
 {
     match known {

@@ -5,7 +5,7 @@ use Rattle.std.proofs.Math.Seq.{take-append_seam}
 use Rattle.rv_tree.specs.Names.{Identifier}
 use Rattle.rv_shape.specs.declared.kind.Range.{Range}
 use Rattle.rv_scope.specs.Scope.{ScopeView, Region, OnlyDeclares, entered, in_body}
-use Rattle.rv_scope.proofs.Scopes.{left_body}
+use Rattle.rv_scope.proofs.Scopes.{left_body, declares_on}
 use Rattle.rv_types.specs.declared.point.Local.{Local}
 use Rattle.rv_types.specs.Points.{PointView, in_bounds, with_loop_parameter}
 
@@ -26,10 +26,7 @@ before_last ls x xs rest n h long r =
     r ∙ ap (λ (ys : List Local). take (n - 1) ys) h
     ∙ ap (λ (k : ℕ). take k (ls ++ x ∷ [])) m ∙ take-append_seam ls (x ∷ [])
 
--- one after another, declarations in the innermost region change it alone
-pub declares_on : (a b c : ScopeView) → OnlyDeclares a b → OnlyDeclares b c → OnlyDeclares a c
-declares_on a b c first second = second ∙ ap (λ (x : ScopeView). record x { innermost = c.innermost }) first
-
+-- declarations in the innermost region change it alone
 pub declares_from : (a b c : ScopeView) → b ≡ a → OnlyDeclares b c → OnlyDeclares a c
 declares_from a b c same second = second ∙ ap (λ (x : ScopeView). record x { innermost = c.innermost }) same
 
@@ -41,11 +38,3 @@ body_left s0 e e2 s new p q i outer leave entering is first begins only ends =
     let P : ScopeView → Type 0 = λ x. OnlyDeclares e x in
     let Q : ScopeView → Type 0 = λ x. OnlyDeclares x q.scope in
     left_body s0 e s new i outer leave entering is (subst P (sym ends) (declares_on e e2 q.scope first (subst Q begins only)))
-
--- the body of a protected unit ends where it began
-pub unit_left : (s0 s1 s3 s4 s5 : ScopeView) (at : Option ℕ) →
-    ((scope : ScopeView) (region : Region) → s3 ≡ record (entered scope) { innermost = region } → s4 ≡ scope) →
-    OnlyDeclares (entered s0) s1 → s3 ≡ record s1 { current = at } → s5 ≡ record s4 { current = s0.current } → s5 ≡ s0
-unit_left s0 s1 s3 s4 s5 at leave only inside ends =
-    ends ∙ ap (λ (x : ScopeView). record x { current = s0.current })
-    (leave (record s0 { current = at }) s1.innermost (inside ∙ ap (λ (x : ScopeView). record x { current = at }) only))

@@ -1,5 +1,5 @@
 pub mod Pushed
 pub mod Ended
-pub mod Units
+pub mod Objects
 pub mod Chains
 pub mod Covered

@@ -21,12 +21,12 @@ use Rattle.rv_scope.specs.declared.declared.Declared.TheVariants as d
 use Rattle.rv_scope.specs.Scope.{ScopeView, in_body}
 use Rattle.rv_scope.specs.Visible.{index_from}
 use Rattle.rv_scope.specs.Wanted.{denoted}
-use Rattle.rv_scope.specs.ExpressionUses.{simple}
-use Rattle.rv_scope.specs.DeclarationUses.{with_parameters, with_declarations}
-use Rattle.rv_scope.specs.UnitUses.{in_protected_unit, protected_unit_of, unit_number, with_body_item, package_scope, protected_units}
+use Rattle.rv_scope.specs.DeclarationUses.{with_parameters}
+use Rattle.rv_scope.specs.UnitUses.{in_protected_unit, unit_of_body, with_body_item, package_scope, protected_units}
 use Rattle.rv_static.specs.Static.{◌>>=◌}
 use Rattle.rv_outline.specs.declared.outline.ObjectType.{ObjectType}
 use Rattle.rv_outline.specs.declared.outline.ObjectType.TheVariants as sort
+use Rattle.rv_outline.specs.Declarations.{body_scope}
 use Rattle.rv_outline.specs.Shapes.{OutlineView, outlined}
 use Rattle.rv_code.specs.Bodies.{Body, UnitBodies}
 use Rattle.rv_types.specs.Points.{PointView, taking_slot}
@@ -159,19 +159,12 @@ unit_bodies s scope number bodies u =
     else without_object s scope number bodies u
 
 -- the bodies of a protected unit, with its number
-abbrev pub unit_compiled : Setting → ScopeView → List OperationBody → UnitBodies → Option ℕ → Option ProtectedUnit → Option UnitBodies
-unit_compiled s scope bodies u None unit = None
-unit_compiled s scope bodies u (Some number) None = None
-unit_compiled s scope bodies u (Some number) (Some unit) =
-    unit_bodies s (in_protected_unit unit scope) number bodies u
-
--- the number of the protected unit that a body is of
-abbrev pub number_of : ScopeView → ProtectedBody → Option ℕ
-number_of scope body = unit_number (denoted w.ProtectedBody scope (simple body.name))
+abbrev pub unit_compiled : Setting → ScopeView → List OperationBody → UnitBodies → (ℕ × ProtectedUnit) → Option UnitBodies
+unit_compiled s scope bodies u numbered = unit_bodies s (in_protected_unit numbered.1 scope) numbered.0 bodies u
 
 abbrev pub protected_body_compiled : Setting → List ProtectedUnit → ScopeView → ProtectedBody → UnitBodies → Option UnitBodies
 protected_body_compiled s units scope body u =
-    unit_compiled s scope body.operations u (number_of scope body) (protected_unit_of units (number_of scope body))
+    unit_of_body units scope body.name >>= unit_compiled s scope body.operations u
 
 -- Task bodies (9.1)
 
@@ -238,10 +231,6 @@ setting_of shapes tree = record {
   shapes = shapes;
   times = context_times (package_scope shapes tree) tree.context;
 }
-
--- what is declared where the package body begins
-abbrev pub body_scope : List Shape → UnitTree → ScopeView
-body_scope shapes tree = with_declarations tree.specification.declarations (package_scope shapes tree)
 
 -- the compiled bodies of a text's unit, over the loaded units
 abbrev pub bodies_of : List Shape → UnitTree → Option UnitBodies

@@ -17,7 +17,7 @@ ghost use Rattle.rv_types.specs.Blocks.{initial_of, starts_in, opened_with, obje
 use crate::denoted::Denoted;
 use crate::expression::expression_as;
 use crate::point::Point;
-use crate::refused::{Refused, least, mismatch};
+use crate::refused::{Refused, least, mismatch, told};
 use crate::statement::statements;
 use crate::static_form::is_static;
 use rv_code::{
@@ -112,10 +112,7 @@ fn static_in(range: Range, e: &Expression, point: &Point) -> Result<i64, Refused
     if let Some(value) = value_in(range, e, point, &mut faults) {
         return Ok(value);
     }
-    match faults.first() {
-        Some(fault) => Err(Refused(fault)),
-        None => Err(mismatch(e.place())),
-    }
+    Err(told(&faults, e.place()))
 }
 
 // Constants that are known by their value.
@@ -199,10 +196,7 @@ fn subtype(
     if let Some(range) = constrained_subtype(mark, constraint, point, &mut faults) {
         return Ok(range);
     }
-    match faults.first() {
-        Some(fault) => Err(Refused(fault)),
-        None => Err(mismatch(mark.first.at)),
-    }
+    Err(told(&faults, mark.first.at))
 }
 
 // Objects, whose identifiers are hidden in their declaration.
@@ -246,7 +240,7 @@ fn too_many(fault: Refused, names: &Vec<Identifier>, left: usize) -> Refused {
     }
 }
 
-#[tactic(auto, using(crate::proofs::Ended::declares_on))]
+#[tactic(auto, using(rv_scope::proofs::Scopes::declares_on))]
 fn local(
     alloc: Global,
     one: &Local,
@@ -283,7 +277,7 @@ fn local(
     }
 }
 
-#[tactic(auto, using(crate::proofs::Ended::declares_on))]
+#[tactic(auto, using(rv_scope::proofs::Scopes::declares_on))]
 fn locals(
     alloc: Global,
     list: &Vec<Local>,

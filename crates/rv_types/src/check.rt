@@ -5,7 +5,8 @@ ghost use Rattle.rv_tree.specs.NameView.{names_view};
 ghost use Rattle.rv_tree.specs.UnitView.{context_item_view, unit_view as tree_view};
 ghost use Rattle.rv_outline.specs.Shapes.{shape_of, outlined};
 ghost use Rattle.rv_code.specs.BodyView.{unit_view};
-ghost use Rattle.rv_types.specs.BodiesOf.{is_real_time as is_times, names_times as names_are_times, item_times as item_is_times, context_times as context_is_times, setting_of, body_scope, bodies_of};
+ghost use Rattle.rv_types.specs.BodiesOf.{is_real_time as is_times, names_times as names_are_times, item_times as item_is_times, context_times as context_is_times, setting_of, bodies_of};
+ghost use Rattle.rv_outline.specs.Declarations.{body_scope};
 
 use crate::declarations::declare_all_of;
 use crate::refused::{Refused, least};

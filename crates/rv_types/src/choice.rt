@@ -10,7 +10,7 @@ ghost use Rattle.rv_tree.specs.Statements.{value as one_choice};
 
 use crate::bounds::subtype_named;
 use crate::point::Point;
-use crate::refused::{Refused, mismatch};
+use crate::refused::{Refused, mismatch, told};
 use crate::typed::same_type;
 use rv_code::Choice as Covered;
 use rv_shape::kind::Range;
@@ -26,10 +26,7 @@ fn number(range: Range, e: &Expression, point: &Point) -> Result<i64, Refused>
     if let Some(value) = static_number(range, e, point, &mut faults) {
         return Ok(value);
     }
-    match faults.first() {
-        Some(fault) => Err(Refused(fault)),
-        None => Err(mismatch(e.place())),
-    }
+    Err(told(&faults, e.place()))
 }
 
 // A value, or all values of a subtype.

@@ -7,9 +7,8 @@ ghost use Rattle.rv_scope.specs.Scope.{declaring_all, hiding, hiding_all, with_m
 ghost use Rattle.rv_scope.specs.Visible.{visible};
 ghost use Rattle.rv_scope.specs.DeclarationUses.{declaring_protected_unit, object_form as form_of_objects, with_declaration, with_declarations};
 
-use rv_scope::declare::{Form, declare_all};
-use rv_scope::members::{hide, hide_all};
-use rv_scope::units::object_form;
+use rv_scope::declare::Form;
+use rv_scope::members::{declare_names, declare_variables, hide, hide_all};
 use rv_scope::{Declared, Scope};
 use rv_tree::declaration::{Declaration, ProtectedUnit};
 use rv_tree::name::{Identifier, Name};
@@ -21,17 +20,8 @@ fn variable(names: &Vec<Identifier>, mark: &Name, scope: &mut Scope) -> Result<(
         (identifiers_view names.now.items) (hiding_all (identifiers_view names.now.items) scope.old)) }
 {
     hide_all(names, scope)?;
-    let form = object_form(scope.visible(mark));
-    declare_all(names, form, scope)?;
+    declare_variables(names, mark, scope)?;
     Ok(())
-}
-
-// Constants.
-fn constants(names: &Vec<Identifier>, scope: &mut Scope) -> Result<(), AllocError>
-    ensures { OnOk result (scope.new ≡ declaring_all Form.Constant (identifiers_view names.now.items) (hiding_all (identifiers_view names.now.items) scope.old)) }
-{
-    hide_all(names, scope)?;
-    declare_all(names, Form::Constant, scope)
 }
 
 // An identifier, and what it denotes behind its declaration.
@@ -69,7 +59,7 @@ pub(crate) fn declare(one: &Declaration, scope: &mut Scope) -> Result<(), AllocE
             names,
             mark: _,
             value: _,
-        } => constants(names, scope),
+        } => declare_names(names, Form::Constant, scope),
     }
 }
 

@@ -2,7 +2,6 @@
 
 ghost use Rattle.std.specs.Prelude.{◌≡◌, ◌<◌, MatchOption};
 ghost use Rattle.std.specs.Option.{option_map};
-ghost use Rattle.rv_outline.specs.Known.{known_meaning as meaning_of_known};
 ghost use Rattle.rv_types.specs.Points.{indexed as operation_indexed, operation_at as operation_of_indexes, loaded_operation as loaded_operation_of, object_from, object_number as number_of_object, called_kind as denoted_kind, called_as as denoted_operation, outer_callee as callee_outside, inner_callee as callee_inside, inner_operation as operation_inside, outer_operation as operation_outside, loaded_callee as callee_loaded, known_value as value_known, known_suspension as suspension_known, loaded_suspension as suspension_loaded, predefined_value as value_predefined, denoted_by as denoted_of, known_parameters as parameters_known, profile_of as profile_of_found};
 
 use crate::denoted::{Denoted, SuspensionOperation};
@@ -14,18 +13,6 @@ use rv_scope::{Declared, OperationKind, Predefined};
 use rv_shape::catalogue::Catalogue;
 use rv_shape::kind::{Kind, Parameter};
 use rv_shape::object::{Operation, ProtectedObject};
-use rv_static::Meaning;
-
-/// What is known means in a static expression.
-pub(crate) fn known_meaning(known: Option<Known>) -> Meaning
-    ensures { result ≡ meaning_of_known known }
-{
-    match known {
-        Some(Known::Subtype(range)) => Meaning::Subtype(range),
-        Some(Known::Constant(range, value)) => Meaning::Constant(range.of, value),
-        _ => Meaning::NotStatic,
-    }
-}
 
 // The operation of an index.
 fn indexed(operations: &[Operation], index: usize) -> Option<&Operation>

@@ -12,14 +12,12 @@ ghost use Rattle.rv_outline.specs.Known.{priority_range};
 ghost use Rattle.rv_types.specs.Points.{PointView, static_meaning, point_meaning, denotes, denoted_by, profile, profile_of, shows_times, local_at, known_in, noting, taking_slot, has_slot, has_constant_slot, taking_constant, has_object_slot, taking_object, behind_parameters, in_bounds as inside_bounds, with_loop_parameter};
 
 use crate::denoted::Denoted;
-use crate::names::{
-    denoted_by as denoted_declaration, known_meaning, profile_of as profile_of_declaration,
-};
+use crate::names::{denoted_by as denoted_declaration, profile_of as profile_of_declaration};
 use crate::refused::Refused;
 use crate::setting::Setting;
 use rv_outline::known::Known;
 use rv_outline::outline::Outline;
-use rv_outline::point::meaning;
+use rv_outline::point::{known_meaning, meaning};
 use rv_scope::declare::{Form, declare_all};
 use rv_scope::members::hide_all;
 use rv_scope::{Declared, Predefined, Scope};

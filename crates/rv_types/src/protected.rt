@@ -13,9 +13,7 @@ use crate::refused::{Refused, mismatch};
 use crate::setting::Setting;
 use rv_code::{Body, ObjectBodies, UnitBodies};
 use rv_outline::outline::ObjectType;
-use rv_scope::members::enter_members;
-use rv_scope::units::unit_number;
-use rv_scope::{Scope, Wanted};
+use rv_scope::Scope;
 use rv_tree::body::ProtectedBody;
 use rv_tree::declaration::ProtectedUnit;
 use std::alloc::Global;
@@ -201,12 +199,9 @@ fn in_unit<'a>(
     ensures scope { IfOk result (λ s. s ≡ around.entry) }
 {
     let mut scope = around;
-    let current = scope.current();
-    enter_members(unit, &mut scope)?;
-    scope.set_current(Some(unit.name.at));
+    let outer = scope.enter_unit(unit)?;
     let mut left = unit_bodies(alloc, setting, number, body, compiled, scope)?;
-    left.leave();
-    left.set_current(current);
+    left.leave_unit(outer);
     Ok(left)
 }
 
@@ -222,12 +217,8 @@ pub(crate) fn protected_body<'a>(
     ensures code { IfOk result (λ _. protected_body_compiled setting.now (map (λ u. protected_unit_view u.now) units.now) around.entry (protected_body_view body.now) (unit_view compiled.old) ≡ Some (unit_view compiled.new)) }
     ensures scope { IfOk result (λ s. s ≡ around.entry) }
 {
-    let found = around.denoted_by_body(Wanted::ProtectedBody, &body.name);
-    let Some(number) = unit_number(found) else {
-        return Err(mismatch(body.name.at));
-    };
-    match units.get(number) {
-        Some(unit) => in_unit(alloc, setting, unit, number, body, compiled, around),
+    match around.unit_of_body(&body.name, units) {
+        Some((number, unit)) => in_unit(alloc, setting, unit, number, body, compiled, around),
         None => Err(mismatch(body.name.at)),
     }
 }

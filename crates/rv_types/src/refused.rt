@@ -24,6 +24,14 @@ pub(crate) fn mismatch(at: usize) -> Refused {
     Refused(TypeFault::Mismatch(at))
 }
 
+// The fault that was told first, else that a part doesn't fit at this place.
+pub(crate) fn told(faults: &Faults, at: usize) -> Refused {
+    match faults.first() {
+        Some(fault) => Refused(fault),
+        None => mismatch(at),
+    }
+}
+
 // The one of two that is told: want of memory, else that at the lesser place, and at one place the lesser.
 pub(crate) fn least(one: Refused, other: Refused) -> Refused {
     let mut faults = Faults::new();

@@ -7,9 +7,7 @@ use crate::declarations::declare;
 use crate::refused::{Refused, mismatch};
 use crate::setting::Setting;
 use rv_distinct::operation_body_name;
-use rv_scope::members::enter_members;
-use rv_scope::units::unit_number;
-use rv_scope::{Scope, Wanted};
+use rv_scope::Scope;
 use rv_shape::object::Operation;
 use rv_text::is_same_name;
 use rv_tree::body::{OperationBody, ProtectedBody};
@@ -58,20 +56,13 @@ fn protected<'a>(
     body: &ProtectedBody,
     around: Scope<'a>,
 ) -> Result<Scope<'a>, Refused> {
-    let found = around.denoted_by_body(Wanted::ProtectedBody, &body.name);
-    let Some(number) = unit_number(found) else {
-        return Err(mismatch(body.name.at));
-    };
-    let Some(unit) = units.get(number) else {
+    let Some((number, unit)) = around.unit_of_body(&body.name, units) else {
         return Err(mismatch(body.name.at));
     };
     let mut scope = around;
-    let current = scope.current();
-    enter_members(unit, &mut scope)?;
-    scope.set_current(Some(unit.name.at));
+    let outer = scope.enter_unit(unit)?;
     let mut left = operations(alloc, setting, number, body, scope)?;
-    left.leave();
-    left.set_current(current);
+    left.leave_unit(outer);
     Ok(left)
 }
 

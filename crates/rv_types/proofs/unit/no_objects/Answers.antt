@@ -2,7 +2,7 @@ use Rattle.std.proofs.Common.{◌∙◌, ap, List, ◌+◌, drop, map, arith}
 use Rattle.rv_code.specs.Bodies.{Body}
 use Rattle.rv_code.specs.BodyView.{object_view}
 use Rattle.rv_types.specs.BodiesOf.{no_objects_onto}
-use Rattle.rv_types.proofs.Units.{next_object}
+use Rattle.rv_types.proofs.Objects.{next_object}
 use Rattle.rv_types.proofs.unit.no_objects.Goals as goal
 
 pub loop-object-preserved : goal.loop-object-preserved
