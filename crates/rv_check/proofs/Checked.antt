@@ -5,6 +5,7 @@ use Rattle.std.proofs.Common.{◌≡◌, inl, inr, ℕ, List, [], ◌∷◌, ◌
 use Rattle.std.specs.Io.KnownBytes.{Appends}
 use Rattle.rv_text.specs.Sections.{SectionText}
 use Rattle.rv_shape.specs.Shape.{Shape}
+use Rattle.rv_settings.specs.Settings.{SettingsText}
 use Rattle.rv_script.specs.Openings.{OpenedText, opened}
 use Rattle.rv_script.specs.Prefixes.{WritesPrefix}
 use Rattle.rv_script.proofs.Wrote.{appends_more, keeps_nothing, nothing_yet, prefix_behind}
@@ -13,16 +14,11 @@ use Rattle.rv_script.specs.declared.read.ReadError.TheVariants as Reads
 use Rattle.rv_fault.specs.Faults.{of_read}
 use Rattle.rv_fault.specs.declared.failure.Failure.{Failure}
 use Rattle.rv_fault.specs.declared.failure.Failure.TheVariants.{Refused, Memory, Io}
+use Rattle.rv_fault.specs.declared.fault.What.TheVariants as Whats
 use Rattle.rv_fault.specs.declared.fault.ScriptFault.{ScriptFault}
+use Rattle.rv_fault.specs.Sections.{GivesSettings, Reads as ReadsText, line_of}
 use Rattle.rv_fault.specs.Written.{Outcome, WritesSome, Writes, WritesScript, refused_bytes}
-use Rattle.rv_check.specs.Checks.{Finding, Judging, WritesOne, WritesPart, Tells, TellsAll, OfSection, Checks, ChecksSome, OfSettings, ChecksOpened, KeepsRefused, at_line, by_last, checking, outcome_of}
-
--- what a section is told as whose fault is told at its line
-pub told_at : (old new : Option (List ℕ)) (line : ℕ) (finds : Finding) (r : Result (Unit {0}) Failure) → Tells old new line finds r → WritesOne old new (at_line line finds) r
-told_at old new line finds (Ok x) h = h
-told_at old new line finds (Err (Refused told)) h = ((h.0, h.1), h.2)
-told_at old new line finds (Err Memory) h = h
-told_at old new line finds (Err (Io error)) h = h
+use Rattle.rv_check.specs.Checks.{BeginsOpened, Checks, ChecksOpened, ChecksSome, Judges, Judging, KeepsRefused, TellsAll, WritesOne, WritesPart, by_last, outcome_by}
 
 -- a section, and those behind it, by what it comes to
 section_then : (by : Judging) (shapes : List Shape) (section : SectionText) (others : List SectionText) (said : List ℕ) (told : Option ScriptFault) → by.is_last section ≡ false
@@ -135,11 +131,6 @@ stopped by old now new shapes after section left others all (Refused told) f e s
 stopped by old now new shapes after section left others all Memory f e so h = part_said by old now new shapes after section left others all f e so h
 stopped by old now new shapes after section left others all (Io error) f e so h = part_said by old now new shapes after section left others all f e so h
 
-pub checked_stops : (old now new : Option (List ℕ)) (shapes after : List Shape) (section : SectionText) (left others all : List SectionText) (e : Failure) → left ≡ section ∷ others → SoFar checking old now shapes left all
-    → (let r : Result (Unit {0}) Failure = Err e in Tells now new section.line (OfSection shapes after section) r) → let r : Result (Unit {0}) Failure = Err e in TellsAll checking old new all r
-checked_stops old now new shapes after section left others all e is so h =
-    stopped checking old now new shapes after section left others all e refl is so (told_at now new section.line (OfSection shapes after section) (Err e) h)
-
 -- what is said of all, where this is said of a last section and of all that is left
 rest_whole : (by : Judging) (old now : Option (List ℕ)) (shapes : List Shape) (section : SectionText) (left others all : List SectionText) (so : SoFar by old now shapes left all) (line : List ℕ) → by.is_last section ≡ true → left ≡ section ∷ others
     → by.Rest shapes section others line None → Checks by [] all (so.said ++ line) None
@@ -169,12 +160,31 @@ rest_told by old now new shapes section left others all (Err (Io error)) f e so 
 pub nothing_told : (outcome : List ℕ → Outcome) (script : List ℕ) (old : Option (List ℕ)) → (outcome script).Begins [] → WritesSome old old (outcome script).Begins
 nothing_told outcome script old begins = record { text = []; begins = begins; written = nothing_yet old [] }
 
+-- text before the first section
+pub front_told : (judged : Judges) (script : List ℕ) (old : Option (List ℕ)) (line : ℕ) → opened script ≡ Err line → let r : Result (Unit {0}) Failure = Err (Refused (record { line = line; what = Whats.BadSection })) in Writes old old (outcome_by judged script) r
+front_told judged script old line e =
+    let told : Option ScriptFault = Some (record { line = line; what = Whats.BadSection }) in
+    record { text = []; is = subst (λ (o : Result OpenedText ℕ). ChecksOpened judged o [] told) (sym e) (refl, refl); written = keeps_nothing old }
+
 -- settings that were refused, or not read
-pub settings_told : (script : List ℕ) (old : Option (List ℕ)) (whole : OpenedText) (e : Failure) → opened script ≡ Ok whole → (let r : Result (Unit {0}) Failure = Err e in OfSettings whole.settings r) → let r : Result (Unit {0}) Failure = Err e in Writes old old (outcome_of script) r
-settings_told script old whole (Refused told) is settings =
-    record { text = []; is = subst (λ (o : Result OpenedText ℕ). ChecksOpened o [] (Some told)) (sym is) (inr (told, settings, refl, refl)); written = keeps_nothing old }
-settings_told script old whole Memory is settings = nothing_told outcome_of script old (inl refl)
-settings_told script old whole (Io error) is settings = absurd settings
+pub settings_told : (judged : Judges) (script : List ℕ) (old : Option (List ℕ)) (whole : OpenedText) (e : Failure) → opened script ≡ Ok whole → (let read : Result SettingsText Failure = Err e in ReadsText (line_of whole.settings) (GivesSettings whole.settings) read)
+    → let r : Result (Unit {0}) Failure = Err e in Writes old old (outcome_by judged script) r
+settings_told judged script old whole (Refused told) is h =
+    record { text = []; is = subst (λ (o : Result OpenedText ℕ). ChecksOpened judged o [] (Some told)) (sym is) (inr (told, h.0, h.1, refl, refl)); written = keeps_nothing old }
+settings_told judged script old whole Memory is h = nothing_told (outcome_by judged) script old (inl refl)
+settings_told judged script old whole (Io error) is h = absurd h
+
+-- the sections behind the settings
+pub sections_told : (judged : Judges) (script : List ℕ) (old new : Option (List ℕ)) (whole : OpenedText) (settings : SettingsText) (r : Result (Unit {0}) Failure) → opened script ≡ Ok whole → GivesSettings whole.settings (Ok settings)
+    → TellsAll (judged whole settings) old new whole.sections r → Writes old new (outcome_by judged script) r
+sections_told judged script old new whole settings (Ok x) is given h =
+    record { text = h.0; is = subst (λ (o : Result OpenedText ℕ). ChecksOpened judged o h.0 None) (sym is) (inl (settings, given, h.1)); written = h.2 }
+sections_told judged script old new whole settings (Err (Refused told)) is given h =
+    record { text = h.0; is = subst (λ (o : Result OpenedText ℕ). ChecksOpened judged o h.0 (Some told)) (sym is) (inl (settings, given, h.1)); written = h.2 }
+sections_told judged script old new whole settings (Err Memory) is given h =
+    record { text = h.0; begins = inr (subst (λ (o : Result OpenedText ℕ). BeginsOpened judged o h.0) (sym is) (settings, given, h.1)); written = h.2 }
+sections_told judged script old new whole settings (Err (Io error)) is given h =
+    record { text = h.0; begins = inr (subst (λ (o : Result OpenedText ℕ). BeginsOpened judged o h.0) (sym is) (settings, given, h.1)); written = h.2 }
 
 -- nothing is a prefix of what is told of bytes that are no script
 none_told : (old : Option (List ℕ)) (error : TextError) → WritesSome old old (refused_bytes error).Begins

@@ -31,7 +31,7 @@ pub load_refused : (shapes : List Shape) (text : List ℕ) (line : ℕ) (failure
     → let r : Result (Unit {0}) Failure = Err failure in LoadsUnit line shapes shapes text r
 load_refused shapes text line Memory h = tt
 load_refused shapes text line (Io error) h = absurd h
-load_refused shapes text line (Refused told) h = let t = unit_told shapes shapes text None line (Refused told) h in (t.0, t.1)
+load_refused shapes text line (Refused told) h = (unit_told shapes shapes text None line (Refused told) h).0
 
 -- what a line leads to, in other words
 leads_as : (P Q : Taken → Type 0) (after : Serving) (r : Result Bool Failure) → ((taken : Taken) → P taken → Q taken) → Leads P after r → Leads Q after r

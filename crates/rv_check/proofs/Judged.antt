@@ -9,31 +9,25 @@ use Rattle.rv_shape.specs.declared.fault.ShapeFault.{ShapeFault}
 use Rattle.rv_shape.specs.declared.fault.ShapeFault.TheVariants as Shapes
 use Rattle.rv_settings.specs.Settings.{DeviceText, SettingsText}
 use Rattle.rv_script.specs.Openings.{AreNumbered, OpenedText, opened}
-use Rattle.rv_script.proofs.Wrote.{keeps_nothing}
 use Rattle.rv_fault.specs.declared.failure.Failure.{Failure}
 use Rattle.rv_fault.specs.declared.failure.Failure.TheVariants.{Refused, Memory, Io}
 use Rattle.rv_fault.specs.declared.fault.What.{What}
 use Rattle.rv_fault.specs.declared.fault.What.TheVariants as Whats
 use Rattle.rv_fault.specs.declared.fault.ScriptFault.{ScriptFault}
 use Rattle.rv_fault.specs.Sections.{GivesSettings, Just, Reads, if_shape, line_of}
-use Rattle.rv_fault.specs.Written.{Puts, Writes}
+use Rattle.rv_fault.specs.Written.{Writes}
+use Rattle.rv_fault.proofs.Readings.{shape_there}
 use Rattle.rv_check.specs.declared.purpose.Purpose.{Purpose}
-use Rattle.rv_check.specs.Checks.{Telling, TellsAll, WritesOne, shape_line}
+use Rattle.rv_check.specs.Checks.{TellsAll, WritesOne, shape_line}
 use Rattle.rv_check.specs.CommandLines.{CountsCommands, TakesAll, before_commands}
 use Rattle.rv_check.specs.DeviceFaults.{LoadsAll, devices_fault, with_devices}
 use Rattle.rv_check.specs.declared.purpose.Part.{Part}
 use Rattle.rv_check.specs.Purposes.{part_in, purpose_of}
 use Rattle.rv_check.specs.ScriptLines.{lines_behind}
-use Rattle.rv_check.specs.Scripts.{BeginsJudged, JudgesOpened, OfPart, OfRun, OfSteps, as_given, commands_line, fitted, judging, outcome_of_whole, outcome_when}
+use Rattle.rv_check.specs.Scripts.{OfPart, OfRun, OfSteps, as_given, commands_line, fitted, judged, judging, outcome_of_whole, outcome_when}
 use Rattle.rv_check.specs.StepFaults.{CountsSteps}
-use Rattle.rv_check.proofs.Checked.{nothing_told}
-
--- a line that is said
-pub said_one : (old new : Option (List ℕ)) (tells : Telling) (said : List ℕ) (r : Result (Unit {0}) Failure) → tells said None → Puts old new said r → WritesOne old new tells r
-said_one old new tells said (Ok x) t h = (said, t, h)
-said_one old new tells said (Err (Refused told)) t h = absurd h
-said_one old new tells said (Err Memory) t h = inr (said, t, h)
-said_one old new tells said (Err (Io error)) t h = inr (said, t, h)
+use Rattle.rv_check.proofs.Checked.{sections_told}
+use Rattle.rv_check.proofs.Checking.{unread_told}
 
 -- what is told of a section as this part, as that which its opening makes it
 pub as_part : (old new : Option (List ℕ)) (part : Part) (purpose : Purpose) (shapes after : List Shape) (section : SectionText) (r : Result (Unit {0}) Failure) → part ≡ part_in purpose section → WritesOne old new (OfPart part shapes after section) r
@@ -53,26 +47,16 @@ steps_told shapes section old (Io error) h = absurd h
 -- a text for an audit that is no shape
 pub given_unread : (shapes after : List Shape) (text : List ℕ) (old : Option (List ℕ)) (line : ℕ) (e : Failure) → (let read : Result Shape Failure = Err e in Reads line (Just (if_shape (shape_of text))) read)
     → let r : Result (Unit {0}) Failure = Err e in WritesOne old old (as_given shapes after line (shape_of text)) r
-given_unread shapes after text old line Memory h = inl refl
-given_unread shapes after text old line (Io error) h = absurd h
-given_unread shapes after text old line (Refused told) h = (by_shape (shape_of text) h.0, refl)
+given_unread shapes after text old line e read = unread_told (Just (if_shape (shape_of text))) (as_given shapes after line (shape_of text)) old line e (λ what given. by_shape what (shape_of text) given) read
   where
-    as_told : (what : What) → told.what ≡ what → told ≡ record { line = line; what = what }
-    as_told what e = ap (λ (n : ℕ). let f : ScriptFault = record { line = n; what = told.what } in f) h.1 ∙ ap (λ (w : What). let f : ScriptFault = record { line = line; what = w } in f) e
-
-    by_shape : (read : Option Shape) → Just (if_shape read) (Err told.what) → as_given shapes after line read [] (Some told)
-    by_shape (Some other) same = absurd cc
-    by_shape None same = let e : told.what ≡ Whats.Shape Shapes.BadText = cc in (refl, ap Some (as_told _ e))
+    by_shape : (what : What) (read : Option Shape) → Just (if_shape read) (Err what) → as_given shapes after line read [] (Some (record { line = line; what = what }))
+    by_shape what (Some other) same = absurd cc
+    by_shape what None same = let e : what ≡ Whats.Shape Shapes.BadText = cc in (refl, ap (λ (w : What). let f : ScriptFault = record { line = line; what = w } in Some f) e)
 
 -- a shape for an audit that is said
 pub given_said : (shapes after : List Shape) (text : List ℕ) (shape : Shape) (line : ℕ) → Just (if_shape (shape_of text)) (Ok shape) → after ≡ fitted (fault shapes shape) shapes shape → as_given shapes after line (shape_of text) (shape_line shape.name) None
-given_said shapes after text shape line read e = by_shape (shape_of text) read
-  where
-    by_shape : (found : Option Shape) → Just (if_shape found) (Ok shape) → as_given shapes after line found (shape_line shape.name) None
-    by_shape (Some other) same =
-        let is : shape ≡ other = cc in
-        subst (λ (s : Shape). as_given shapes after line (Some s) (shape_line shape.name) None) is (refl, refl, e)
-    by_shape None same = absurd cc
+given_said shapes after text shape line read e =
+    subst (λ (o : Option Shape). as_given shapes after line o (shape_line shape.name) None) (sym (shape_there text shape read)) (refl, refl, e)
 
 -- it stands behind the others where it fits, and is left out where it doesn't
 pub fits_behind : (shapes after : List Shape) (shape : Shape) (found : Option ShapeFault) → found ≡ fault shapes shape → found ≡ None → after ≡ shapes ++ shape ∷ [] → after ≡ fitted (fault shapes shape) shapes shape
@@ -102,36 +86,11 @@ commands_told line devices shapes after section others old (Refused told) loaded
 commands_told line devices shapes after section others old Memory loaded h = inl refl
 commands_told line devices shapes after section others old (Io error) loaded h = absurd h
 
--- text before the first section
-pub front_told : (script : List ℕ) (old : Option (List ℕ)) (line : ℕ) → opened script ≡ Err line → let r : Result (Unit {0}) Failure = Err (Refused (record { line = line; what = Whats.BadSection })) in Writes old old (outcome_of_whole script) r
-front_told script old line e =
-    let told : Option ScriptFault = Some (record { line = line; what = Whats.BadSection }) in
-    record { text = []; is = subst (λ (o : Result OpenedText ℕ). JudgesOpened o [] told) (sym e) (refl, refl); written = keeps_nothing old }
-
--- settings that were refused, or not read
-pub settings_told : (script : List ℕ) (old : Option (List ℕ)) (whole : OpenedText) (e : Failure) → opened script ≡ Ok whole → (let read : Result SettingsText Failure = Err e in Reads (line_of whole.settings) (GivesSettings whole.settings) read)
-    → let r : Result (Unit {0}) Failure = Err e in Writes old old (outcome_of_whole script) r
-settings_told script old whole (Refused told) is h =
-    record { text = []; is = subst (λ (o : Result OpenedText ℕ). JudgesOpened o [] (Some told)) (sym is) (inr (told, h.0, h.1, refl, refl)); written = keeps_nothing old }
-settings_told script old whole Memory is h = nothing_told outcome_of_whole script old (inl refl)
-settings_told script old whole (Io error) is h = absurd h
-
 -- the sections behind the settings
-as_judged : (script : List ℕ) (old new : Option (List ℕ)) (whole : OpenedText) (settings : SettingsText) (r : Result (Unit {0}) Failure) → opened script ≡ Ok whole → GivesSettings whole.settings (Ok settings)
-    → TellsAll (judging (purpose_of whole.sections) (line_of whole.settings) settings.devices) old new whole.sections r → Writes old new (outcome_of_whole script) r
-as_judged script old new whole settings (Ok x) is given h =
-    record { text = h.0; is = subst (λ (o : Result OpenedText ℕ). JudgesOpened o h.0 None) (sym is) (inl (settings, given, h.1)); written = h.2 }
-as_judged script old new whole settings (Err (Refused told)) is given h =
-    record { text = h.0; is = subst (λ (o : Result OpenedText ℕ). JudgesOpened o h.0 (Some told)) (sym is) (inl (settings, given, h.1)); written = h.2 }
-as_judged script old new whole settings (Err Memory) is given h =
-    record { text = h.0; begins = inr (subst (λ (o : Result OpenedText ℕ). BeginsJudged o h.0) (sym is) (settings, given, h.1)); written = h.2 }
-as_judged script old new whole settings (Err (Io error)) is given h =
-    record { text = h.0; begins = inr (subst (λ (o : Result OpenedText ℕ). BeginsJudged o h.0) (sym is) (settings, given, h.1)); written = h.2 }
-
-pub sections_told : (script : List ℕ) (old new : Option (List ℕ)) (whole : OpenedText) (settings : SettingsText) (purpose : Purpose) (line : ℕ) (devices : List DeviceText) (r : Result (Unit {0}) Failure) → opened script ≡ Ok whole → GivesSettings whole.settings (Ok settings)
+pub judged_told : (script : List ℕ) (old new : Option (List ℕ)) (whole : OpenedText) (settings : SettingsText) (purpose : Purpose) (line : ℕ) (devices : List DeviceText) (r : Result (Unit {0}) Failure) → opened script ≡ Ok whole → GivesSettings whole.settings (Ok settings)
     → purpose ≡ purpose_of whole.sections → line ≡ line_of whole.settings → devices ≡ settings.devices → TellsAll (judging purpose line devices) old new whole.sections r → Writes old new (outcome_of_whole script) r
-sections_told script old new whole settings purpose line devices r is given p l d h =
-    as_judged script old new whole settings r is given
+judged_told script old new whole settings purpose line devices r is given p l d h =
+    sections_told judged script old new whole settings r is given
     (subst (λ (x : Purpose). TellsAll (judging x (line_of whole.settings) settings.devices) old new whole.sections r) p
     (subst (λ (x : ℕ). TellsAll (judging purpose x settings.devices) old new whole.sections r) l
     (subst (λ (x : List DeviceText). TellsAll (judging purpose line x) old new whole.sections r) d h)))

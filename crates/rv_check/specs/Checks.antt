@@ -20,14 +20,13 @@ use Rattle.rv_script.specs.Whole.{most_bytes}
 use Rattle.rv_script.specs.UnitTexts.{most_unit_bytes, without_returns}
 use Rattle.rv_script.specs.declared.opening.Opening.{Opening}
 use Rattle.rv_script.specs.declared.opening.Opening.TheVariants as Openings
-use Rattle.rv_settings.specs.Settings.{SettingsText, IsSettings, IsRefused}
-use Rattle.rv_settings.specs.declared.fault.SettingsFault.{SettingsFault}
-use Rattle.rv_settings.specs.declared.fault.SettingsFault.TheVariants as Setting
+use Rattle.rv_settings.specs.Settings.{SettingsText}
 use Rattle.rv_fault.specs.declared.failure.Failure.{Failure}
 use Rattle.rv_fault.specs.declared.failure.Failure.TheVariants.{Refused, Memory, Io}
 use Rattle.rv_fault.specs.declared.fault.What.{What}
 use Rattle.rv_fault.specs.declared.fault.What.TheVariants as Whats
 use Rattle.rv_fault.specs.declared.fault.ScriptFault.{ScriptFault}
+use Rattle.rv_fault.specs.Sections.{GivesSettings, line_of}
 use Rattle.rv_fault.specs.Written.{Known, Ended, Outcome}
 
 -- the lines that are said of sections that are well formed
@@ -92,17 +91,6 @@ abbrev pub shape_failure : ℕ → ShapeFault → Failure
 shape_failure line Shapes.NoMemory = Memory
 shape_failure line told = Refused (record { line = line; what = Whats.Shape told })
 
--- a prefix of what is to be said is written, or nothing yet
-abbrev pub TellsSome : Known → Known → Finding → Type 0
-TellsSome old new finds = (new ≡ old) ⊎ ((said : List ℕ) × finds said None × WritesPrefix old new said)
-
--- what was looked at is told: the line, or what stands against it, with the line of the section's opening
-abbrev pub Tells : Known → Known → ℕ → Finding → Ended → Type 0
-Tells old new line finds (Ok x) = (said : List ℕ) × finds said None × Appends old new said
-Tells old new line finds (Err (Refused told)) = finds [] (Some told.what) × (told.line ≡ line) × (new ≡ old)
-Tells old new line finds (Err Memory) = TellsSome old new finds
-Tells old new line finds (Err (Io error)) = TellsSome old new finds
-
 -- what is said of a section, or of all that is left, and what is told
 abbrev pub Telling : Type 1
 Telling = List ℕ → Option ScriptFault → Type 0
@@ -160,38 +148,33 @@ TellsAll by old new sections (Err (Refused told)) = (said : List ℕ) × Checks 
 TellsAll by old new sections (Err Memory) = (said : List ℕ) × ChecksSome by sections said × WritesPrefix old new said
 TellsAll by old new sections (Err (Io error)) = (said : List ℕ) × ChecksSome by sections said × WritesPrefix old new said
 
--- what stands against the settings of a script, if something does; nothing is said of them
-abbrev pub AreSettings : Option SectionText → Option ScriptFault → Type 0
-AreSettings None told = told ≡ None
-AreSettings (Some section) None = (settings : SettingsText) × IsSettings section.text settings
-AreSettings (Some section) (Some told) =
-    (why : SettingsFault) × IsRefused section.text why × (why ≡ Setting.NoMemory → ⊥) × (told ≡ record { line = section.line; what = Whats.Settings why })
-
--- settings were looked at
-abbrev pub OfSettings : Option SectionText → Ended → Type 0
-OfSettings settings (Ok x) = AreSettings settings None
-OfSettings settings (Err (Refused told)) = AreSettings settings (Some told)
-OfSettings settings (Err Memory) = Unit {0}
-OfSettings settings (Err (Io error)) = ⊥
+-- how the sections of an opened script are judged, by its settings
+abbrev pub Judges : Type 1
+Judges = OpenedText → SettingsText → Judging
 
 -- what is said of a script, and what is told; settings come before the other sections
-abbrev pub ChecksOpened : Result OpenedText ℕ → List ℕ → Option ScriptFault → Type 0
-ChecksOpened (Ok script) said told =
-    (AreSettings script.settings None × Checks checking [] script.sections said told)
-    ⊎ ((fault : ScriptFault) × AreSettings script.settings (Some fault) × (said ≡ []) × (told ≡ Some fault))
-ChecksOpened (Err line) said told = (said ≡ []) × (told ≡ Some (record { line = line; what = Whats.BadSection }))
+abbrev pub ChecksOpened : Judges → Result OpenedText ℕ → List ℕ → Option ScriptFault → Type 0
+ChecksOpened judged (Ok script) said told =
+    ((settings : SettingsText) × GivesSettings script.settings (Ok settings) × Checks (judged script settings) [] script.sections said told)
+    ⊎ ((fault : ScriptFault) × GivesSettings script.settings (Err fault.what) × (fault.line ≡ line_of script.settings) × (said ≡ []) × (told ≡ Some fault))
+ChecksOpened judged (Err line) said told = (said ≡ []) × (told ≡ Some (record { line = line; what = Whats.BadSection }))
 
 -- what is said of some first sections of a script
-abbrev pub BeginsOpened : Result OpenedText ℕ → List ℕ → Type 0
-BeginsOpened (Ok script) said = AreSettings script.settings None × ChecksSome checking script.sections said
-BeginsOpened (Err line) said = ⊥
+abbrev pub BeginsOpened : Judges → Result OpenedText ℕ → List ℕ → Type 0
+BeginsOpened judged (Ok script) said =
+    (settings : SettingsText) × GivesSettings script.settings (Ok settings) × ChecksSome (judged script settings) script.sections said
+BeginsOpened judged (Err line) said = ⊥
 
--- what there is to write of a script; before a failure nothing or what is said of some first sections
-abbrev pub outcome_of : List ℕ → Outcome
-outcome_of script = record {
-  Is = λ said told. ChecksOpened (opened script) said told;
-  Begins = λ said. (said ≡ []) ⊎ BeginsOpened (opened script) said;
+-- what there is to write of a script whose sections are judged so; before a failure nothing or what is said of some first sections
+abbrev pub outcome_by : Judges → List ℕ → Outcome
+outcome_by judged script = record {
+  Is = λ said told. ChecksOpened judged (opened script) said told;
+  Begins = λ said. (said ≡ []) ⊎ BeginsOpened judged (opened script) said;
 }
+
+-- as `check` judges them
+abbrev pub outcome_of : List ℕ → Outcome
+outcome_of = outcome_by (λ script settings. checking)
 
 -- of a script that was refused this was read: its bytes, up to one past the greatest length
 abbrev pub KeepsRefused : Option (List ℕ) → List ℕ → Failure → Type 0

@@ -1,6 +1,6 @@
 -- A whole script that is looked at, its steps, its commands or its journal too: what is said of its sections, and what stands
 -- against them (own).
-use Rattle.std.specs.Prelude.{◌≡◌, ◌⊎◌, Bool, true, false, ℕ, ◌+◌, List, [], ◌∷◌, ◌++◌, length, codes, Option, Some, None, Result, Ok, Err}
+use Rattle.std.specs.Prelude.{◌≡◌, ◌⊎◌, Bool, true, false, ℕ, ◌+◌, List, [], ◌∷◌, ◌++◌, length, codes, Option, Some, None}
 use Rattle.std.specs.Fmt.{decimal}
 use Rattle.std.specs.Str.Lines.{lines}
 use Rattle.rv_text.specs.Sections.{SectionText}
@@ -9,13 +9,12 @@ use Rattle.rv_shape.specs.ShapeText.{shape_of}
 use Rattle.rv_shape.specs.Fits.{fault}
 use Rattle.rv_shape.specs.declared.fault.ShapeFault.{ShapeFault}
 use Rattle.rv_shape.specs.declared.fault.ShapeFault.TheVariants.{BadText}
-use Rattle.rv_script.specs.Openings.{OpenedText, opened}
+use Rattle.rv_script.specs.Openings.{OpenedText}
 use Rattle.rv_settings.specs.Settings.{DeviceText, SettingsText}
-use Rattle.rv_fault.specs.Sections.{GivesSettings, line_of}
+use Rattle.rv_fault.specs.Sections.{line_of}
 use Rattle.rv_fault.specs.declared.fault.What.TheVariants as Whats
-use Rattle.rv_fault.specs.declared.fault.ScriptFault.{ScriptFault}
 use Rattle.rv_fault.specs.Written.{Outcome}
-use Rattle.rv_check.specs.Checks.{Checks, ChecksSome, Judging, OfSection, Telling, at_line, outcome_of, shape_line}
+use Rattle.rv_check.specs.Checks.{Judging, OfSection, Telling, at_line, outcome_by, outcome_of, shape_line}
 use Rattle.rv_check.specs.CommandLines.{TakesAll, before_commands}
 use Rattle.rv_check.specs.ScriptLines.{lines_behind}
 use Rattle.rv_check.specs.DeviceFaults.{devices_fault, with_devices}
@@ -91,25 +90,9 @@ judging purpose line devices = record {
 abbrev pub judged : OpenedText → SettingsText → Judging
 judged script settings = judging (purpose_of script.sections) (line_of script.settings) settings.devices
 
--- what is said of a script, and what is told; settings come before the other sections
-abbrev pub JudgesOpened : Result OpenedText ℕ → List ℕ → Option ScriptFault → Type 0
-JudgesOpened (Ok script) said told =
-    ((settings : SettingsText) × GivesSettings script.settings (Ok settings) × Checks (judged script settings) [] script.sections said told)
-    ⊎ ((fault : ScriptFault) × GivesSettings script.settings (Err fault.what) × (fault.line ≡ line_of script.settings) × (said ≡ []) × (told ≡ Some fault))
-JudgesOpened (Err line) said told = (said ≡ []) × (told ≡ Some (record { line = line; what = Whats.BadSection }))
-
--- what is said of some first sections of a script
-abbrev pub BeginsJudged : Result OpenedText ℕ → List ℕ → Type 0
-BeginsJudged (Ok script) said =
-    (settings : SettingsText) × GivesSettings script.settings (Ok settings) × ChecksSome (judged script settings) script.sections said
-BeginsJudged (Err line) said = ⊥
-
--- what there is to write of a whole script; before a failure nothing or what is said of some first sections
+-- what there is to write of a whole script
 abbrev pub outcome_of_whole : List ℕ → Outcome
-outcome_of_whole script = record {
-  Is = λ said told. JudgesOpened (opened script) said told;
-  Begins = λ said. (said ≡ []) ⊎ BeginsJudged (opened script) said;
-}
+outcome_of_whole = outcome_by judged
 
 -- of a script that is looked at whole, or else section by section
 abbrev pub outcome_when : Bool → List ℕ → Outcome

@@ -4,8 +4,8 @@ ghost use Rattle.std.specs.Prelude.{◌≡◌, []};
 ghost use Rattle.rv_fault.specs.Written.{Writes};
 ghost use Rattle.rv_check.specs.Checks.{TellsAll, checking, outcome_of};
 
-use crate::sections::{check_section, check_settings};
-use rv_fault::{Failure, What, refused};
+use crate::sections::check_section;
+use rv_fault::{Failure, What, refused, settings_of};
 use rv_script::open;
 use rv_shape::catalogue::Catalogue;
 use rv_text::Sections;
@@ -30,7 +30,8 @@ fn check_sections<W: Write>(
     Ok(())
 }
 
-/// Looks at the text of a script: at its sections, up to the first that something stands against.
+/// Looks at the text of a script: at its settings, of which nothing is said, and then at its sections, up to the first that
+/// something stands against.
 pub(crate) fn check_text<W: Write>(alloc: Global, writer: &mut W, text: &str) -> Result<(), Failure>
     ensures { Writes (W.contents writer.old) (W.contents writer.new) (outcome_of text.now) result }
 {
@@ -38,6 +39,6 @@ pub(crate) fn check_text<W: Write>(alloc: Global, writer: &mut W, text: &str) ->
         Ok(script) => script,
         Err(line) => return Err(refused(line, What::BadSection)),
     };
-    check_settings(alloc, &script.settings)?;
+    let _settings = settings_of(alloc, &script.settings)?;
     check_sections(alloc, writer, script.sections)
 }

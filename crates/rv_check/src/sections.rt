@@ -1,12 +1,12 @@
 //! Looks at one section, and says that it is well formed.
 
-ghost use Rattle.std.specs.Prelude.{◌≡◌, ℕ, List, length, IfOk, option_map, string_bytes};
+ghost use Rattle.std.specs.Prelude.{◌≡◌, ℕ, List, length, IfOk, string_bytes};
 ghost use Rattle.rv_fault.specs.Written.{Puts};
-ghost use Rattle.rv_check.specs.Checks.{unit_line, shape_line, list_line, shape_failure, Adds, OfUnit, OfShape, OfList, OfSettings, as_section, Tells};
+ghost use Rattle.rv_check.specs.Checks.{unit_line, shape_line, list_line, shape_failure, Adds, OfUnit, OfShape, OfList, WritesOne, as_section, at_line};
 ghost use Rattle.rv_script.specs.Openings.{opening_of};
 ghost use Rattle.rv_script.specs.UnitTexts.{without_returns};
 
-use rv_fault::{Failure, What, list_of, put, refused, settings_of, shape_of, unit_of};
+use rv_fault::{Failure, What, list_of, put, refused, shape_of, unit_of};
 use rv_script::{Opening, opening_of};
 use rv_shape::catalogue::Catalogue;
 use rv_shape::fault::ShapeFault;
@@ -55,7 +55,8 @@ fn add_unit<W: Write>(
     line: usize,
     unit: &Unit,
 ) -> Result<(), Failure>
-    ensures { Tells (W.contents writer.old) (W.contents writer.new) line (Adds catalogue.old catalogue.new unit.now.shape) result }
+    ensures { WritesOne (W.contents writer.old) (W.contents writer.new)
+        (at_line line (Adds catalogue.old catalogue.new unit.now.shape)) result }
 {
     match catalogue.add(&unit.shape) {
         Ok(()) => say(writer, unit_line(alloc, unit.shape.name())),
@@ -71,8 +72,8 @@ fn check_unit<W: Write>(
     catalogue: &mut Catalogue,
     section: &Section<'_>,
 ) -> Result<(), Failure>
-    ensures { Tells (W.contents writer.old) (W.contents writer.new) section.now.line
-        (OfUnit catalogue.old catalogue.new (without_returns section.now.text.now)) result }
+    ensures { WritesOne (W.contents writer.old) (W.contents writer.new)
+        (at_line section.now.line (OfUnit catalogue.old catalogue.new (without_returns section.now.text.now))) result }
 {
     let unit = unit_of(alloc, catalogue, section.line, section.text)?;
     add_unit(alloc, writer, catalogue, section.line, &unit)
@@ -95,8 +96,8 @@ fn check_shape<W: Write>(
     catalogue: &mut Catalogue,
     section: &Section<'_>,
 ) -> Result<(), Failure>
-    ensures { Tells (W.contents writer.old) (W.contents writer.new) section.now.line
-        (OfShape catalogue.old catalogue.new section.now.text.now) result }
+    ensures { WritesOne (W.contents writer.old) (W.contents writer.new)
+        (at_line section.now.line (OfShape catalogue.old catalogue.new section.now.text.now)) result }
 {
     let shape = shape_of(alloc, section.line, section.text)?;
     match catalogue.add(&shape) {
@@ -107,20 +108,11 @@ fn check_shape<W: Write>(
 
 // Looks at a list.
 fn check_list<W: Write>(alloc: Global, writer: &mut W, section: &Section<'_>) -> Result<(), Failure>
-    ensures { Tells (W.contents writer.old) (W.contents writer.new) section.now.line
-        (OfList section.now.text.now) result }
+    ensures { WritesOne (W.contents writer.old) (W.contents writer.new)
+        (at_line section.now.line (OfList section.now.text.now)) result }
 {
     let list = list_of(alloc, section.line, section.text)?;
     say(writer, list_line(alloc, list.len()))
-}
-
-/// Looks at the settings of a script, if it has some. Nothing is said of them.
-pub fn check_settings(alloc: Global, settings: &Option<Section<'_>>) -> Result<(), Failure>
-    ensures { OfSettings (option_map (λ s. record { line = s.line; opening = s.opening.now; text = s.text.now })
-        settings.now) result }
-{
-    let _settings = settings_of(alloc, settings)?;
-    Ok(())
 }
 
 /// Looks at a section behind the settings. Steps, journals and commands aren't checked.
@@ -130,8 +122,8 @@ pub fn check_section<W: Write>(
     catalogue: &mut Catalogue,
     section: &Section<'_>,
 ) -> Result<(), Failure>
-    ensures { Tells (W.contents writer.old) (W.contents writer.new) section.now.line
-        (as_section catalogue.old catalogue.new section.now.text.now (opening_of section.now.opening.now)) result }
+    ensures { WritesOne (W.contents writer.old) (W.contents writer.new) (at_line section.now.line
+        (as_section catalogue.old catalogue.new section.now.text.now (opening_of section.now.opening.now))) result }
 {
     match opening_of(section.opening) {
         Some(Opening::UnitText) => check_unit(alloc, writer, catalogue, section),

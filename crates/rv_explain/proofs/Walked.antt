@@ -32,37 +32,41 @@ among_more : (section : SectionText) (before : List (List ℕ)) (line : List ℕ
 among_more section before line rest next others whole e =
     whole ∙ ap (λ (l : List (List ℕ)). before ++ line ∷ l) e ∙ sym (append_assoc before (line ∷ []) (next ∷ others))
 
--- the place stands on the next line
-pub on_next : (section : SectionText) (at number : ℕ) (line : List ℕ) (offset : ℕ) (rest : List (List ℕ)) (left : ℕ) (next : List ℕ) (others : List (List ℕ))
-    → Ahead section at number line offset rest left → rest ≡ next ∷ others → left ≤ length next → StandsAt section at (number + 1) next left
-on_next section at number line offset rest left next others ahead e within =
+-- this line comes next, and so many bytes are left from its beginning to the place
+record Next (section : SectionText) (at number : ℕ) (line : List ℕ) (rest : List (List ℕ)) (left : ℕ) : Type 0 where
+  before : List (List ℕ)
+  among : lines_of section ≡ before ++ line ∷ rest
+  counted : number ≡ section.line + length before
+  placed : total before + left ≡ length section.opening + 1 + at
+
+comes_next : (section : SectionText) (at number : ℕ) (line : List ℕ) (offset : ℕ) (rest : List (List ℕ)) (left : ℕ) (next : List ℕ) (others : List (List ℕ))
+    → Ahead section at number line offset rest left → rest ≡ next ∷ others → Next section at (number + 1) next others left
+comes_next section at number line offset rest left next others ahead e =
     let bytes = total_more ahead.before line in
     let count = counted_more ahead.before line in
     let counted = ahead.counted in
     let placed = ahead.placed in
     record {
       before = ahead.before ++ line ∷ [];
-      behind = others;
       among = among_more section ahead.before line rest next others ahead.among e;
       counted = omega arith;
-      reached = inl (within, omega arith);
+      placed = omega arith;
     }
+
+-- the place stands on the next line
+pub on_next : (section : SectionText) (at number : ℕ) (line : List ℕ) (offset : ℕ) (rest : List (List ℕ)) (left : ℕ) (next : List ℕ) (others : List (List ℕ))
+    → Ahead section at number line offset rest left → rest ≡ next ∷ others → left ≤ length next → StandsAt section at (number + 1) next left
+on_next section at number line offset rest left next others ahead e within =
+    let there = comes_next section at number line offset rest left next others ahead e in
+    record { before = there.before; behind = others; among = there.among; counted = there.counted; reached = inl (within, there.placed) }
 
 -- it stands behind the next line
 pub past_next : (section : SectionText) (at number : ℕ) (line : List ℕ) (offset : ℕ) (rest : List (List ℕ)) (left : ℕ) (next : List ℕ) (others : List (List ℕ)) (fewer : ℕ)
     → Ahead section at number line offset rest left → rest ≡ next ∷ others → fewer + (length next + 1) ≡ left → Ahead section at (number + 1) next (length next) others fewer
 past_next section at number line offset rest left next others fewer ahead e less =
-    let bytes = total_more ahead.before line in
-    let count = counted_more ahead.before line in
-    let counted = ahead.counted in
-    let placed = ahead.placed in
-    record {
-      before = ahead.before ++ line ∷ [];
-      among = among_more section ahead.before line rest next others ahead.among e;
-      counted = omega arith;
-      whole = refl;
-      placed = omega arith;
-    }
+    let there = comes_next section at number line offset rest left next others ahead e in
+    let placed = there.placed in
+    record { before = there.before; among = there.among; counted = there.counted; whole = refl; placed = omega arith }
 
 -- a text has no more bytes than its lines, each with its line feed
 within_parts : (parts : List (List ℕ)) → length (joined parts) ≤ total (lines_of_parts parts)

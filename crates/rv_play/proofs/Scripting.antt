@@ -1,5 +1,5 @@
 -- What is told of scripts are steps of the host, which lead to legal histories.
-use Rattle.std.proofs.Common.{◌≡◌, ◌≤◌, ℕ, List, [], ◌∷◌, Some, None, Option, Ok, Err, Result, true, refl, sym, ap, subst, arith}
+use Rattle.std.proofs.Common.{◌≡◌, ◌≤◌, ℕ, List, [], ◌∷◌, Some, None, Option, Ok, Err, Result, true, refl, sym, ap, ◌∙◌, subst, arith}
 use Rattle.std.proofs.lemmas.Bool.Decides.{nat_tests}
 use Rattle.rv_event.specs.declared.entry.Answer.{Answer}
 use Rattle.rv_history.specs.declared.command.Command.{Command}
@@ -10,12 +10,13 @@ use Rattle.rv_history.specs.Steps.{Steps}
 use Rattle.rv_history.proofs.Stepping.{legal_after, is_due}
 use Rattle.rv_text.specs.Sections.{SectionText}
 use Rattle.rv_script.specs.Openings.{OpenedText, opened}
+use Rattle.rv_settings.specs.Settings.{default_settings}
 use Rattle.rv_fault.specs.declared.fault.ScriptFault.{ScriptFault}
 use Rattle.rv_play.specs.Acts.{Act, acts_from}
 use Rattle.rv_play.specs.Laws.{commands, answers, commands_onto, answers_onto}
 use Rattle.rv_play.specs.declared.player.Limits.{Limits}
 use Rattle.rv_play.specs.Stages.{Stage, due_answer, history_after, start}
-use Rattle.rv_play.specs.Scripted.{Told, Run, tell, IsLimits, default_limits, Plays, PlaysActs, PlaysOpened, PlaysScript}
+use Rattle.rv_play.specs.Scripted.{Told, Run, tell, IsLimits, default_limits, limits_in, Plays, PlaysActs, PlaysOpened, PlaysScript}
 
 -- Steps
 
@@ -70,7 +71,10 @@ pub queues_fit : (settings : Option SectionText) (limits : Limits) → IsLimits 
 queues_fit None limits is = subst (λ (l : Limits). is_queue_limit l.queue ≡ true) (sym (same limits is)) refl
   where
     same : (limits : Limits) → IsLimits None (Ok limits) → limits ≡ default_limits
-    same limits is = cc
+    same limits is =
+        let given : Ok is.0 ≡ Ok default_settings = is.1 in
+        let found : is.0 ≡ default_settings = cc in
+        is.2 ∙ ap limits_in found
 queues_fit (Some section) limits is =
     let values = is.1.values in
     subst (λ (l : Limits). is_queue_limit l.queue ≡ true) (sym is.2) (within_queue is.0.queue_limit values.shortest values.longest)

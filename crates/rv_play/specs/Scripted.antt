@@ -14,14 +14,12 @@ use Rattle.rv_history.specs.declared.command.Command.{Command}
 use Rattle.rv_history.specs.declared.command.Command.TheVariants as Commands
 use Rattle.rv_history.specs.History.{History, force}
 use Rattle.rv_script.specs.Openings.{OpenedText, opened}
-use Rattle.rv_settings.specs.Settings.{SettingsText, IsSettings, IsRefused, default_capacity, default_queue_limit, default_budget}
-use Rattle.rv_settings.specs.declared.fault.SettingsFault.{SettingsFault}
-use Rattle.rv_settings.specs.declared.fault.SettingsFault.TheVariants.{NoMemory}
+use Rattle.rv_settings.specs.Settings.{SettingsText, default_settings}
 use Rattle.rv_fault.specs.declared.failure.Failure.{Failure}
 use Rattle.rv_fault.specs.declared.failure.Failure.TheVariants.{Refused, Memory, Io}
-use Rattle.rv_fault.specs.declared.fault.What.{What}
 use Rattle.rv_fault.specs.declared.fault.What.TheVariants as Whats
 use Rattle.rv_fault.specs.declared.fault.ScriptFault.{ScriptFault}
+use Rattle.rv_fault.specs.Sections.{GivesSettings, line_of as settings_line}
 use Rattle.rv_fault.specs.Written.{Known, Ended, Outcome, Puts}
 use Rattle.rv_play.specs.Acts.{Act, acts_from, line_of}
 use Rattle.rv_go.specs.Texts.{texts_view}
@@ -72,17 +70,17 @@ pub record Run : Type 0 where
   pub fault : Option ScriptFault
   pub last : Stage
 
--- the limits of a run: those of the settings, where there are some, or what stands against them
-abbrev pub default_limits : Limits
-default_limits = record { capacity = default_capacity; queue = default_queue_limit; budget = default_budget }
+-- the limits that settings set
+abbrev pub limits_in : SettingsText → Limits
+limits_in settings = record { capacity = settings.capacity; queue = settings.queue_limit; budget = settings.budget }
 
+abbrev pub default_limits : Limits
+default_limits = limits_in default_settings
+
+-- the limits of a run: those of its settings, or what stands against them
 abbrev pub IsLimits : Option SectionText → Result Limits ScriptFault → Type 0
-IsLimits None limits = limits ≡ Ok default_limits
-IsLimits (Some section) (Ok limits) =
-    (settings : SettingsText) × IsSettings section.text settings
-    × (limits ≡ record { capacity = settings.capacity; queue = settings.queue_limit; budget = settings.budget })
-IsLimits (Some section) (Err fault) =
-    (why : SettingsFault) × IsRefused section.text why × (why ≡ NoMemory → ⊥) × (fault ≡ record { line = section.line; what = Whats.Settings why })
+IsLimits section (Ok limits) = (settings : SettingsText) × GivesSettings section (Ok settings) × (limits ≡ limits_in settings)
+IsLimits section (Err fault) = GivesSettings section (Err fault.what) × (fault.line ≡ settings_line section)
 
 -- a call gives what there is, unless memory ran out
 abbrev pub ReadsLimits : Option SectionText → Result Limits Failure → Type 0

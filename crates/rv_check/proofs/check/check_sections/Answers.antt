@@ -1,7 +1,7 @@
 use Rattle.std.proofs.Common.{refl}
 use Rattle.rv_text.specs.Sections.{SectionText}
 use Rattle.rv_check.specs.Checks.{checking}
-use Rattle.rv_check.proofs.Checked.{at_first, one_said, checked_stops, all_said}
+use Rattle.rv_check.proofs.Checked.{at_first, one_said, stopped, all_said}
 use Rattle.rv_check.proofs.check.check_sections.Goals as goal
 
 pub each-preserved : goal.each-preserved
@@ -13,8 +13,8 @@ each-preserved g c =
 pub returns-in-Err : goal.returns-in-Err
 returns-in-Err g c =
     let section : SectionText = record { line = c.in-Some.section.line; opening = c.in-Some.section.opening.now; text = c.in-Some.section.text.now } in
-    checked_stops (g.W.Write.contents c.args.writer.now) (g.W.Write.contents c.each.writer) (g.W.Write.contents c.check_section.new.writer) c.each.catalogue c.check_section.new.catalogue section c.each.sections c.next_section.new.self c.args.sections
-    c.in-Err.failure c.in-Some.ensures.first c.each.invariant c.in-Err.ensures
+    stopped checking (g.W.Write.contents c.args.writer.now) (g.W.Write.contents c.each.writer) (g.W.Write.contents c.check_section.new.writer) c.each.catalogue c.check_section.new.catalogue section c.each.sections c.next_section.new.self c.args.sections
+    c.in-Err.failure refl c.in-Some.ensures.first c.each.invariant c.in-Err.ensures
 
 pub returns : goal.returns
 returns g c =

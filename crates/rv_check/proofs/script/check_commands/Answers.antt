@@ -1,6 +1,7 @@
 use Rattle.rv_text.specs.Sections.{SectionText}
 use Rattle.rv_check.specs.Scripts.{OfRun, commands_line}
-use Rattle.rv_check.proofs.Judged.{commands_said, commands_told, devices_told, said_one}
+use Rattle.rv_check.proofs.Checking.{said_one}
+use Rattle.rv_check.proofs.Judged.{commands_said, commands_told, devices_told}
 use Rattle.rv_check.proofs.script.check_commands.Goals as goal
 
 pub returns-in-Ok-count_commands : goal.returns-in-Ok-count_commands

@@ -2,7 +2,8 @@ use Rattle.std.proofs.Common.{None, sym, subst}
 use Rattle.rv_shape.specs.ShapeText.{shape_of}
 use Rattle.rv_check.specs.Checks.{shape_line}
 use Rattle.rv_check.specs.Scripts.{as_given}
-use Rattle.rv_check.proofs.Judged.{given_said, given_unread, said_one}
+use Rattle.rv_check.proofs.Checking.{said_one}
+use Rattle.rv_check.proofs.Judged.{given_said, given_unread}
 use Rattle.rv_check.proofs.script.check_given.Goals as goal
 
 pub returns-in-Ok-add_where_it_fits : goal.returns-in-Ok-add_where_it_fits

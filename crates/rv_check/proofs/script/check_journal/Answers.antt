@@ -1,6 +1,6 @@
 use Rattle.std.proofs.Common.{ap, refl}
 use Rattle.rv_check.specs.Scripts.{OfJournal, journal_line}
-use Rattle.rv_check.proofs.Judged.{said_one}
+use Rattle.rv_check.proofs.Checking.{said_one}
 use Rattle.rv_check.proofs.script.check_journal.Goals as goal
 
 pub returns : goal.returns

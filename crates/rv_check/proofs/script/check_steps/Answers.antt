@@ -1,6 +1,7 @@
 use Rattle.std.proofs.Common.{ap}
 use Rattle.rv_check.specs.Scripts.{OfSteps, steps_line}
-use Rattle.rv_check.proofs.Judged.{said_one, steps_told}
+use Rattle.rv_check.proofs.Checking.{said_one}
+use Rattle.rv_check.proofs.Judged.{steps_told}
 use Rattle.rv_check.proofs.script.check_steps.Goals as goal
 
 pub returns-in-Ok : goal.returns-in-Ok

@@ -1,12 +1,12 @@
 use Rattle.std.proofs.Common.{None, sym, subst}
 use Rattle.std.proofs.lemmas.Result.{err_from_is_err_and}
-use Rattle.rv_check.specs.Checks.{OfList, list_line}
-use Rattle.rv_check.proofs.Checking.{said_tells, list_read, list_told}
+use Rattle.rv_check.specs.Checks.{OfList, at_line, list_line}
+use Rattle.rv_check.proofs.Checking.{said_one, list_read, list_told}
 use Rattle.rv_check.proofs.sections.check_list.Goals as goal
 
 pub returns : goal.returns
 returns g c =
-    said_tells _ _ c.args.section.now.line (OfList c.args.section.now.text.now) (list_line c.len.result) c.say.result
+    said_one _ _ (at_line c.args.section.now.line (OfList c.args.section.now.text.now)) (list_line c.len.result) c.say.result
     (subst (λ n. OfList c.args.section.now.text.now (list_line n) None) (sym c.len.ensures) (list_read c.args.section.now.text.now _ c.in_ok-list.ensures)) (c.say.ensures _ c.list_line.ensures)
 
 pub returns-in_err-list : goal.returns-in_err-list

@@ -1,14 +1,15 @@
 use Rattle.std.proofs.Common.{None, sym, subst}
 use Rattle.std.proofs.lemmas.Result.{err_from_is_err_and}
-use Rattle.rv_check.specs.Checks.{OfShape, shape_line}
-use Rattle.rv_check.proofs.Checking.{said_tells, shape_read, shape_refused, shape_there, shape_unread}
+use Rattle.rv_check.specs.Checks.{OfShape, at_line, shape_line}
+use Rattle.rv_fault.proofs.Readings.{shape_there}
+use Rattle.rv_check.proofs.Checking.{said_one, shape_read, shape_refused, shape_unread}
 use Rattle.rv_check.proofs.sections.check_shape.Goals as goal
 
 pub returns-in-Ok : goal.returns-in-Ok
 returns-in-Ok g c =
     let text = c.args.section.now.text.now in
     let finds = OfShape c.args.catalogue.now c.add.new.self text in
-    said_tells _ _ c.args.section.now.line finds (shape_line c.name.result.now) c.say.result
+    said_one _ _ (at_line c.args.section.now.line finds) (shape_line c.name.result.now) c.say.result
     (subst (λ n. finds (shape_line n) None) (sym c.name.ensures) (shape_read c.args.catalogue.now c.add.new.self text _ (shape_there text _ c.in_ok-shape.ensures) c.in-Ok.ensures.fits c.in-Ok.ensures.ok)) (c.say.ensures _ c.shape_line.ensures)
 
 pub returns : goal.returns

@@ -6,7 +6,8 @@ use Rattle.rv_shape.specs.ShapeText.{shape_of}
 use Rattle.rv_play.specs.Acts.{load_act}
 use Rattle.rv_play.specs.Scripted.{playing}
 use Rattle.rv_play.specs.Deeds.{Comes, ComesToDeed, just, if_fits}
-use Rattle.rv_play.proofs.Reading.{shape_stands, shape_there}
+use Rattle.rv_fault.proofs.Readings.{shape_there}
+use Rattle.rv_play.proofs.Reading.{shape_stands}
 use Rattle.rv_play.proofs.acts.shape_deed.Goals as goal
 
 pub returns-in_err-shape : goal.returns-in_err-shape
