@@ -403,13 +403,10 @@ misused true does log e = absurd (cc e)
 misused false does log e = (refl, refl)
 
 misused_due : (c : Limits) (log : List Event) (a : ℕ) (ask : Ask) (b : Begun) → changes ask ≡ true → eqb a 0 ≡ false → Due c log a ask (Gives.Answered Misuse b None) log
-misused_due c log a (Wants.Step q) b t e = absurd (cc t)
-misused_due c log a (Wants.Read from) b t e = absurd (cc t)
-misused_due c log a Wants.View b t e = absurd (cc t)
-misused_due c log a Wants.Bodies b t e = absurd (cc t)
 misused_due c log a (Wants.Load s unit) b t e = misused (eqb a 0) _ log e
 misused_due c log a (Wants.LoadWithoutMemory s) b t e = misused (eqb a 0) _ log e
 misused_due c log a (Wants.Change s) b t e = misused (eqb a 0) _ log e
+misused_due c log a ask b t e = absurd (cc t)
 
 pub does_misuse : (h : History) (bodies : Bodies) (a : ℕ) (ask : Ask) (b : Begun) → changes ask ≡ true → Legal h → AreBrought h bodies → (a ≡ 0 → ⊥)
     → Does h.limits (log_in h bodies) a ask (Gives.Answered Misuse b None) (log_in h bodies)

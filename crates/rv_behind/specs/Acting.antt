@@ -1,7 +1,5 @@
 -- What an act of the host behind the turn may do. (own)
 use Rattle.std.specs.Prelude.{◌≡◌, ℕ, Bool, true, false, ◌==◌, ◌&&◌, map, if◌then◌else◌, List, [], ◌∷◌, ◌++◌, Option, Some, None, is_some, length}
-use Rattle.std.proofs.Common.{inl, inr, refl, sym, eqb}
-use Rattle.std.proofs.lemmas.Bool.{eqb-true}
 use Rattle.rv_access.specs.Words.{Words}
 use Rattle.rv_access.specs.declared.change.Change.{Change}
 use Rattle.rv_shape.specs.Shape.{Shape}
@@ -18,7 +16,6 @@ use Rattle.rv_history.specs.Lists.{changed}
 use Rattle.rv_history.specs.Steps.{MayLackMemory, due_change}
 use Rattle.rv_host.specs.Pages.{page}
 use Rattle.rv_view.specs.Views.{shown}
-use Rattle.rv_turn.specs.Histories.{Adds}
 use Rattle.std.specs.Arc.{arc_value}
 use Rattle.rv_code.specs.Bodies as Code
 use Rattle.rv_code.specs.BodyView.{unit_view}
@@ -26,7 +23,7 @@ use Rattle.rv_code.specs.declared.body.UnitBodies.{UnitBodies}
 use Rattle.rv_fits.specs.Fits.{are_of, calls_fit, numbered_as}
 use Rattle.rv_exec.specs.Bodies.{bodies_view, held, units_of}
 use Rattle.rv_exec.specs.declared.bodies.Bodies.{Bodies}
-use Rattle.rv_behind.specs.Events.{by, history_at, catalogue_of, bodies_at, units_at, called, no_operation}
+use Rattle.rv_behind.specs.Events.{history_at, catalogue_of, bodies_at, units_at, called, no_operation}
 use Rattle.rv_behind.specs.declared.event.Lent.{Lent}
 use Rattle.rv_behind.specs.declared.event.Begun.{Begun}
 use Rattle.rv_behind.specs.declared.event.Event.{Event}
@@ -156,82 +153,3 @@ abbrev pub BodiesStayFit : Type 0
 BodiesStayFit =
     (limits : Limits) (log : List Event) (a : ℕ) (ask : Ask) (reply : Reply) (after : List Event)
     → Does limits log a ask reply after → BodiesFit after
-
--- The law: one event of the actor more, or none
-
-entered_adds : (word : Option Recorded) (log : List Event) (a : ℕ) (q : Request) (after : List Event) → after ≡ entered log a q word → Adds by log a after
-entered_adds None log a q after e = inl e
-entered_adds (Some word) log a q after e = inr (Asks a q word, e, refl)
-
-loaded_adds : (b : Bool) (log : List Event) (a : ℕ) (shape : Shape) (unit : UnitBodies) (after : List Event) → 0 ≡ a
-    → after ≡ (if b then log ++ Loads shape (Some unit) ∷ [] else log) → Adds by log a after
-loaded_adds true log a shape unit after is e = inr (Loads shape (Some unit), e, is)
-loaded_adds false log a shape unit after is e = inl e
-
-listed_adds : (list : Option (List Words)) (log : List Event) (a : ℕ) (after : List Event) → 0 ≡ a → after ≡ listed log list → Adds by log a after
-listed_adds None log a after is e = inl e
-listed_adds (Some list) log a after is e = inr (Lists list, e, is)
-
-changed_adds : (b : Bool) (list : Option (List Words)) (log : List Event) (a : ℕ) (after : List Event) → 0 ≡ a
-    → after ≡ (if b then listed log list else log) → Adds by log a after
-changed_adds true list log a after is e = listed_adds list log a after is e
-changed_adds false list log a after is e = inl e
-
-load_adds : (b fits : Bool) (c : Limits) (log : List Event) (a : ℕ) (shape : Shape) (unit : UnitBodies) (r : Answer) (after : List Event) → (b ≡ true → 0 ≡ a)
-    → IfOperator b (LoadedIf fits c log shape unit r after) r log after → Adds by log a after
-load_adds true true c log a shape unit r after is d = loaded_adds (is_some (recorded r)) log a shape unit after (is refl) d.1
-load_adds true false c log a shape unit r after is d = inl d.2
-load_adds false fits c log a shape unit r after is d = inl d.1
-
-unload_adds : (b : Bool) (c : Limits) (log : List Event) (a : ℕ) (shape : Shape) (r : Answer) (after : List Event)
-    → IfOperator b (Unloaded c log shape r after) r log after → Adds by log a after
-unload_adds true c log a shape r after d = inl d.2
-unload_adds false c log a shape r after d = inl d.1
-
-change_adds : (b : Bool) (c : Limits) (log : List Event) (a : ℕ) (change : Change) (r : Answer) (after : List Event) → (b ≡ true → 0 ≡ a)
-    → IfOperator b (Changed c log change r after) r log after → Adds by log a after
-change_adds true c log a change r after is d = changed_adds (is_some (recorded r)) (changed (force (history_at c log)) change) log a after (is refl) d.1
-change_adds false c log a change r after is d = inl d.1
-
-is_zero : (a : ℕ) → eqb a 0 ≡ true → 0 ≡ a
-is_zero a e = sym (eqb-true a 0 e)
-
-due_adds : (c : Limits) (log : List Event) (a : ℕ) (ask : Ask) (reply : Reply) (after : List Event) → Due c log a ask reply after → Adds by log a after
-due_adds c log a (Wants.Step q) (Gives.Answered r b lent) after d = entered_adds (recorded r) log a q after d.0.1
-due_adds c log a (Wants.Load shape unit) (Gives.Answered r b lent) after d = load_adds (eqb a 0) (fits_behind log shape (held unit)) c log a shape (held unit) r after (is_zero a) d
-due_adds c log a (Wants.LoadWithoutMemory shape) (Gives.Answered r b lent) after d = unload_adds (eqb a 0) c log a shape r after d
-due_adds c log a (Wants.Change change) (Gives.Answered r b lent) after d = change_adds (eqb a 0) c log a change r after (is_zero a) d
-due_adds c log a (Wants.Read from) (Gives.Read p) after d = inl d.1
-due_adds c log a (Wants.Read from) Gives.Unread after d = inl d
-due_adds c log a Wants.View (Gives.Viewed view) after d = inl d.1
-due_adds c log a Wants.View Gives.Unread after d = inl d
-due_adds c log a Wants.View (Gives.Answered r b lent) after d = absurd d
-due_adds c log a Wants.View (Gives.Read p) after d = absurd d
-due_adds c log a Wants.View (Gives.Bodies lent) after d = absurd d
-due_adds c log a (Wants.Step q) (Gives.Viewed view) after d = absurd d
-due_adds c log a (Wants.Load shape unit) (Gives.Viewed view) after d = absurd d
-due_adds c log a (Wants.LoadWithoutMemory shape) (Gives.Viewed view) after d = absurd d
-due_adds c log a (Wants.Change change) (Gives.Viewed view) after d = absurd d
-due_adds c log a (Wants.Read from) (Gives.Viewed view) after d = absurd d
-due_adds c log a Wants.Bodies (Gives.Viewed view) after d = absurd d
-due_adds c log a (Wants.Read from) (Gives.Answered r b lent) after d = absurd d
-due_adds c log a (Wants.Step q) (Gives.Read p) after d = absurd d
-due_adds c log a (Wants.Step q) Gives.Unread after d = absurd d
-due_adds c log a (Wants.Load shape unit) (Gives.Read p) after d = absurd d
-due_adds c log a (Wants.Load shape unit) Gives.Unread after d = absurd d
-due_adds c log a (Wants.LoadWithoutMemory shape) (Gives.Read p) after d = absurd d
-due_adds c log a (Wants.LoadWithoutMemory shape) Gives.Unread after d = absurd d
-due_adds c log a (Wants.Change change) (Gives.Read p) after d = absurd d
-due_adds c log a (Wants.Change change) Gives.Unread after d = absurd d
-due_adds c log a (Wants.Step q) (Gives.Bodies lent) after d = absurd d
-due_adds c log a (Wants.Load shape unit) (Gives.Bodies lent) after d = absurd d
-due_adds c log a (Wants.LoadWithoutMemory shape) (Gives.Bodies lent) after d = absurd d
-due_adds c log a (Wants.Change change) (Gives.Bodies lent) after d = absurd d
-due_adds c log a (Wants.Read from) (Gives.Bodies lent) after d = absurd d
-due_adds c log a Wants.Bodies (Gives.Answered r b lent) after d = absurd d
-due_adds c log a Wants.Bodies (Gives.Read p) after d = absurd d
-due_adds c log a Wants.Bodies Gives.Unread after d = absurd d
-due_adds c log a Wants.Bodies (Gives.Bodies lent) after d = inl d.1
-
-pub adds : (limits : Limits) (log : List Event) (a : ℕ) (ask : Ask) (reply : Reply) (after : List Event) → Does limits log a ask reply after → Adds by log a after
-adds limits log a ask reply after d = due_adds limits log a ask reply after d.2

@@ -207,7 +207,8 @@ impl Behind {
 impl Counted for Behind {
     ghost use Rattle.std.specs.Arc.{arc_value};
     ghost use Rattle.rv_behind.specs.Events.{log_in, by};
-    ghost use Rattle.rv_behind.specs.Acting.{Does, adds};
+    ghost use Rattle.rv_behind.specs.Acting.{Does};
+    ghost use Rattle.rv_behind.specs.Adding.{adds};
     ghost use Rattle.rv_behind.specs.declared.event.Ask.{Ask};
     ghost use Rattle.rv_behind.specs.declared.event.Reply.{Reply};
 

@@ -46,21 +46,7 @@ own_grows None a q at seen own own' is t = ⊎_elim (λ x. x.1 ∙ sym (append-n
 
 pub told_recorded : (r : Answer) → recorded (told r) ≡ recorded r
 told_recorded (Answers.Started s) = refl
-told_recorded Answers.Queued = refl
-told_recorded (Answers.Refused rule line version) = refl
-told_recorded (Answers.Done n) = refl
-told_recorded Answers.Suspended = refl
-told_recorded Answers.Delayed = refl
-told_recorded (Answers.Woken s) = refl
-told_recorded (Answers.Accepted n) = refl
-told_recorded Answers.Misuse = refl
-told_recorded Answers.Halted = refl
-told_recorded Answers.Full = refl
-told_recorded Answers.Busy = refl
-told_recorded Answers.Waiting = refl
-told_recorded Answers.Unattached = refl
-told_recorded Answers.BadLine = refl
-told_recorded Answers.OutOfMemory = refl
+told_recorded r = refl
 
 pub noted_one : (word : Option Recorded) (a : ℕ) (q : Request) → length (noted_if word a q []) ≤ 1
 noted_one (Some w) a q = omega arith
@@ -71,8 +57,6 @@ starts_entered (Some w) a q log = (Asks a q w ∷ [], refl)
 starts_entered None a q log = starts_self log
 
 pub not_kept : (r : Answer) → asks_on r ≡ true → recorded r ≡ None
-not_kept Answers.Busy e = refl
-not_kept Answers.Waiting e = refl
 not_kept (Answers.Started s) e = absurd (cc e)
 not_kept Answers.Queued e = absurd (cc e)
 not_kept (Answers.Refused rule line version) e = absurd (cc e)
@@ -81,12 +65,7 @@ not_kept Answers.Suspended e = absurd (cc e)
 not_kept Answers.Delayed e = absurd (cc e)
 not_kept (Answers.Woken s) e = absurd (cc e)
 not_kept (Answers.Accepted n) e = absurd (cc e)
-not_kept Answers.Misuse e = refl
-not_kept Answers.Halted e = refl
-not_kept Answers.Full e = refl
-not_kept Answers.Unattached e = refl
-not_kept Answers.BadLine e = refl
-not_kept Answers.OutOfMemory e = refl
+not_kept r e = refl
 
 -- asks in vain
 
@@ -194,41 +173,16 @@ asked_after v u w q r p x = let sa : u.actor ≡ v.actor = ap (λ (k : Passing).
     }
 
 pub is_told : (r : Answer) → asks_on r ≡ false → IsTold (told r)
-is_told (Answers.Started s) e = tt
-is_told Answers.Queued e = tt
-is_told (Answers.Refused rule line version) e = tt
-is_told (Answers.Done n) e = tt
-is_told Answers.Suspended e = tt
-is_told Answers.Delayed e = tt
-is_told (Answers.Woken s) e = tt
-is_told (Answers.Accepted n) e = tt
-is_told Answers.Misuse e = tt
-is_told Answers.Halted e = tt
-is_told Answers.Full e = tt
 is_told Answers.Busy e = absurd (cc e)
 is_told Answers.Waiting e = absurd (cc e)
-is_told Answers.Unattached e = tt
-is_told Answers.BadLine e = tt
-is_told Answers.OutOfMemory e = tt
+is_told r e = tt
 
 -- what a body is told doesn't leave its request standing
 pub told_stands : (r : Answer) → IsTold r → stands r ≡ false
-told_stands (Answers.Started s) t = refl
-told_stands Answers.Queued t = refl
-told_stands (Answers.Refused rule line version) t = refl
-told_stands (Answers.Done n) t = refl
-told_stands Answers.Suspended t = refl
-told_stands Answers.Delayed t = refl
-told_stands (Answers.Woken s) t = refl
-told_stands (Answers.Accepted n) t = refl
 told_stands Answers.Misuse t = absurd t
-told_stands Answers.Halted t = refl
-told_stands Answers.Full t = refl
 told_stands Answers.Busy t = absurd t
 told_stands Answers.Waiting t = absurd t
-told_stands Answers.Unattached t = refl
-told_stands Answers.BadLine t = refl
-told_stands Answers.OutOfMemory t = refl
+told_stands r t = refl
 
 none_times : (v : Passing) (q : Request) → (in_vain_none v q).times ≡ []
 unfolding in_vain_none

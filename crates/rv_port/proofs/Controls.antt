@@ -22,7 +22,7 @@ use Rattle.rv_behind.proofs.Doing.{none_fit, none_numbered}
 use Rattle.rv_behind.proofs.Fitting.{stay_fit}
 use Rattle.rv_port.specs.Traces.{Passing}
 use Rattle.rv_fits.specs.Fits.{are_of}
-use Rattle.rv_port.specs.Controls.{IsControl, Told, LoadTold, BeginsWith, BringsIf, Brings, no_bodies_of, answer_in}
+use Rattle.rv_port.specs.Controls.{IsControl, Told, LoadTold, BeginsWith, BringsIf, Brings, no_bodies_of, answer_in, LoadsNothing}
 use Rattle.rv_behind.specs.declared.event.Ask.{Ask}
 use Rattle.rv_behind.specs.declared.event.Ask.TheVariants as Wants
 use Rattle.rv_behind.specs.declared.event.Reply.{Reply}
@@ -32,7 +32,7 @@ use Rattle.rv_behind.specs.declared.event.Event.TheVariants.{Loads}
 use Rattle.rv_port.specs.Actors.{is_performer, HasHandler}
 use Rattle.rv_port.proofs.Actors.{performer_handles}
 use Rattle.rv_port.proofs.Fitting.{same_fit}
-use Rattle.rv_port.proofs.Catalogues.{same_catalogue, opened, LoadsNothing, with_event, due_catalogue}
+use Rattle.rv_port.proofs.Catalogues.{same_catalogue, opened, with_event, due_catalogue}
 
 -- the catalogue of the history that an ask of the operator was answered on
 at_catalogue : (turn : TableId) (v : Passing) (given : List ℕ) (catalogue : List Shape) (log : List Event) → IsControl turn v given catalogue → mine by v.actor log ≡ v.base ++ v.own → catalogue ≡ catalogue_of log
@@ -84,10 +84,7 @@ load_due : (c : Limits) (log : List Event) (a : ℕ) (shape : Shape) (unit : Sha
     → catalogue_of after ≡ with_loaded (is_some (recorded (answer_in reply))) (catalogue_of log) shape
 load_due c log a shape unit (Gives.Answered r b lent) after none d =
     if_catalogue (fits_behind log shape (held unit)) c log after shape (held unit) r (subst (λ (n : ℕ). IfOperator (eqb n 0) (LoadedIf (fits_behind log shape (held unit)) c log shape (held unit) r after) r log after) none d)
-load_due c log a shape unit (Gives.Read p) after none d = absurd d
-load_due c log a shape unit Gives.Unread after none d = absurd d
-load_due c log a shape unit (Gives.Viewed view) after none d = absurd d
-load_due c log a shape unit (Gives.Bodies lent) after none d = absurd d
+load_due c log a shape unit reply after none d = absurd d
 
 pub load_told : (turn : TableId) (v w : Passing) (given : List ℕ) (catalogue : List Shape) (shape : Shape) (unit : SharedUnit) (r : Answer) → IsControl turn v given catalogue → Told v (Wants.Load shape unit) r w
     → IsControl turn w given (with_loaded (is_some (recorded r)) catalogue shape)

@@ -178,19 +178,7 @@ unfolding done_last
 ran_end log u m w trace k scalars exit (Answers.Done next) later p x b e f = by_exit u w exit (done_last u m w trace k scalars exit next p x b) (λ is. stop_at log u trace k p.asks later (f is) p.steps)
 ran_end log u m w trace k scalars exit Answers.Misuse later p x b e f = inl (stopped_end u m w trace k scalars exit Answers.Misuse p x refl refl b)
 ran_end log u m w trace k scalars exit Answers.Full later p x b e f = inl (stopped_end u m w trace k scalars exit Answers.Full p x refl refl b)
-ran_end log u m w trace k scalars exit (Answers.Refused rule line version) later p x b e f = absurd (cc e)
-ran_end log u m w trace k scalars exit (Answers.Accepted value) later p x b e f = absurd (cc e)
-ran_end log u m w trace k scalars exit (Answers.Woken s) later p x b e f = absurd (cc e)
-ran_end log u m w trace k scalars exit (Answers.Started s) later p x b e f = absurd (cc e)
-ran_end log u m w trace k scalars exit Answers.Queued later p x b e f = absurd (cc e)
-ran_end log u m w trace k scalars exit Answers.Suspended later p x b e f = absurd (cc e)
-ran_end log u m w trace k scalars exit Answers.Delayed later p x b e f = absurd (cc e)
-ran_end log u m w trace k scalars exit Answers.Halted later p x b e f = absurd (cc e)
-ran_end log u m w trace k scalars exit Answers.Busy later p x b e f = absurd (cc e)
-ran_end log u m w trace k scalars exit Answers.Waiting later p x b e f = absurd (cc e)
-ran_end log u m w trace k scalars exit Answers.Unattached later p x b e f = absurd (cc e)
-ran_end log u m w trace k scalars exit Answers.BadLine later p x b e f = absurd (cc e)
-ran_end log u m w trace k scalars exit Answers.OutOfMemory later p x b e f = absurd (cc e)
+ran_end log u m w trace k scalars exit d later p x b e f = absurd (cc e)
 
 ended_so : (v w : Passing) (scalars : List ℤ) (exit : Exit) (d : Answer) → Asked v (Complete scalars exit) d w → of_end d ≡ true
 ended_so v w scalars exit d x = ap of_end x.due_is ∙ end_gets (history_at (limits_in v.about) x.at) v.actor scalars exit

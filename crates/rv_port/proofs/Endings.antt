@@ -55,21 +55,7 @@ stop_stays c d v w (x ∷ xs) t e = stop_stays t.0 d t.1 w xs t.3
 
 stop_some : (d : Answer) → is_some (stop_of d) ≡ stops_bodies d
 stop_some Answers.Halted = refl
-stop_some Answers.Full = refl
-stop_some Answers.Misuse = refl
-stop_some (Answers.Started s) = refl
-stop_some Answers.Queued = refl
-stop_some (Answers.Refused rule line version) = refl
-stop_some (Answers.Done next) = refl
-stop_some Answers.Suspended = refl
-stop_some Answers.Delayed = refl
-stop_some (Answers.Woken s) = refl
-stop_some (Answers.Accepted value) = refl
-stop_some Answers.Busy = refl
-stop_some Answers.Waiting = refl
-stop_some Answers.Unattached = refl
-stop_some Answers.BadLine = refl
-stop_some Answers.OutOfMemory = refl
+stop_some d = refl
 
 -- what stopped a body was told Halted or Full
 pub body_final : (v w : Passing) (q : Request) (r : Answer) → StopsBody v q r w → is_final r ≡ true

@@ -1,10 +1,8 @@
 -- The calls of the bodies that a control or a port has seen fit the units.
-use Rattle.std.proofs.Common.{◌≡◌, ⊎_elim, Bool, true, false, if◌then◌else◌, eqb, List, [], ◌∷◌, ◌++◌, reverse, map, Some, sym, ap, ◌∙◌, subst}
+use Rattle.std.proofs.Common.{◌≡◌, ⊎_elim, true, false, eqb, List, [], ◌∷◌, reverse, map, Some, sym, ap, ◌∙◌, subst}
 use Rattle.std.specs.Prelude.{Result, Ok, Err, MatchResult}
-use Rattle.std.proofs.lemmas.List.{reverse-append}
 use Rattle.rv_code.specs.Bodies as Code
 use Rattle.rv_code.specs.BodyView.{unit_view}
-use Rattle.rv_code.specs.declared.body.UnitBodies.{UnitBodies}
 use Rattle.rv_exec.specs.Bodies.{all_of}
 use Rattle.rv_fits.specs.Fits.{calls_fit}
 use Rattle.rv_turn.specs.Histories.{mine}
@@ -14,31 +12,21 @@ use Rattle.rv_behind.specs.Acting.{all_numbered, BodiesFit, Does, IsLent}
 use Rattle.rv_behind.specs.Events.{by, catalogue_of, units_in}
 use Rattle.rv_behind.specs.declared.event.Ask.{Ask}
 use Rattle.rv_behind.specs.declared.event.Event.{Event}
-use Rattle.rv_behind.specs.declared.event.Event.TheVariants.{Asks, Loads, Lists}
+use Rattle.rv_behind.specs.declared.event.Event.TheVariants.{Loads}
 use Rattle.rv_behind.specs.declared.event.Reply.{Reply}
 use Rattle.rv_behind.proofs.Fitting.{stay_fit}
 use Rattle.rv_port.specs.Traces.{Passing}
 use Rattle.rv_port.proofs.Bodies.{units-append}
-use Rattle.rv_port.proofs.Catalogues.{same_catalogue}
+use Rattle.rv_port.proofs.Catalogues.{same_catalogue, read_mine}
 
 -- The units' bodies are those of the operator's own events
 
-units_first : (e : Event) (es : List Event) → units_in (reverse (e ∷ es)) ≡ units_in (e ∷ []) ++ units_in (reverse es)
-units_first e es = ap units_in (reverse-append (e ∷ []) es) ∙ units-append (reverse es) (e ∷ [])
-
-units_if : (b : Bool) (e : Event) (es : List Event) (us : List UnitBodies) → (b ≡ false → units_in (e ∷ []) ≡ []) → units_in (reverse es) ≡ us
-    → units_in (reverse (if b then e ∷ es else es)) ≡ units_in (e ∷ []) ++ us
-units_if true e es us none same = units_first e es ∙ ap (λ (z : List UnitBodies). units_in (e ∷ []) ++ z) same
-units_if false e es us none same = same ∙ ap (λ (z : List UnitBodies). z ++ us) (sym (none (λ i. false)))
-
-none_here : (e : Event) → eqb (by e) 0 ≡ false → units_in (e ∷ []) ≡ []
-none_here (Asks a q w) h = λ i. []
-none_here (Loads s u) h = absurd (cc h)
-none_here (Lists l) h = λ i. []
+no_units : (e : Event) → eqb (by e) 0 ≡ false → units_in (e ∷ []) ≡ []
+no_units (Loads s u) h = absurd (cc h)
+no_units e h = λ i. []
 
 units_mine : (log : List Event) → units_in (reverse (mine by 0 log)) ≡ units_in (reverse log)
-units_mine [] = λ i. []
-units_mine (e ∷ es) = units_if (eqb (by e) 0) e (mine by 0 es) (units_in (reverse es)) (none_here e) (units_mine es) ∙ sym (units_first e es)
+units_mine log = read_mine units_in units-append no_units log
 
 -- two histories with the same events of the operator have the same bodies
 pub same_fit : (one two : List Event) → mine by 0 one ≡ mine by 0 two → BodiesFit one → BodiesFit two

@@ -109,23 +109,8 @@ counts_replied v w q r begun lent (Ok u) held after x owns counts is e = e ∙ (
 counts_replied v w q r begun lent (Err u) held after x owns counts is e = absurd (cc is)
 
 more_few : (n held : ℕ) (r : Answer) → n ≡ held_after held r → n ≤ suc held
-more_few n held (Answers.Started s) e = omega (arith, e)
-more_few n held (Answers.Woken None) e = omega (arith, e)
 more_few n held (Answers.Woken (Some s)) e = omega (arith, e)
-more_few n held (Answers.Done d) e = omega (arith, e)
-more_few n held Answers.Queued e = omega (arith, e)
-more_few n held (Answers.Refused rule line version) e = omega (arith, e)
-more_few n held Answers.Suspended e = omega (arith, e)
-more_few n held Answers.Delayed e = omega (arith, e)
-more_few n held (Answers.Accepted value) e = omega (arith, e)
-more_few n held Answers.Halted e = omega (arith, e)
-more_few n held Answers.Full e = omega (arith, e)
-more_few n held Answers.Busy e = omega (arith, e)
-more_few n held Answers.Waiting e = omega (arith, e)
-more_few n held Answers.Misuse e = omega (arith, e)
-more_few n held Answers.Unattached e = omega (arith, e)
-more_few n held Answers.BadLine e = omega (arith, e)
-more_few n held Answers.OutOfMemory e = omega (arith, e)
+more_few n held r e = omega (arith, e)
 
 past_few : (n held : ℕ) (r : Answer) (s : Bool) → n ≡ cond s held (held_after held r) → n ≤ suc held
 past_few n held r true e = omega (arith, e)
@@ -154,10 +139,7 @@ counts_met v w note held m owns counts =
 
 pub bodies_same : (limits : Limits) (log : List Event) (actor : ℕ) (reply : Reply) (after : List Event) → Due limits log actor Wants.Bodies reply after → after ≡ log
 bodies_same limits log actor (Gives.Bodies lent) after d = d.1
-bodies_same limits log actor (Gives.Answered r b lent) after d = absurd d
-bodies_same limits log actor (Gives.Read page) after d = absurd d
-bodies_same limits log actor Gives.Unread after d = absurd d
-bodies_same limits log actor (Gives.Viewed view) after d = absurd d
+bodies_same limits log actor reply after d = absurd d
 
 none_more : (xs : List Event) (e : Event) → xs ≡ xs ++ e ∷ [] → ⊥
 none_more xs e h = let l : length xs ≡ length (xs ++ e ∷ []) = ap length h in let m : length (xs ++ e ∷ []) ≡ length xs + 1 = length-append xs (e ∷ []) in omega (arith, l, m)

@@ -124,21 +124,7 @@ module _ (u w : Passing) (log : List Event) (bodies : UnitBodies) (b : Begun) (s
 
   new_end : (z : Passing) → held_by n.body ≡ held_by u → (d : Answer) (x : Asked n.body asks d z) (values : List ℤ) (exit : Exit) (next : Next) → asks ≡ Complete values exit → d ≡ Answers.Done next → ExplainedEnd (limits_in n.body.about) n.body.actor x.at values exit
   new_end z same (Answers.Done m) x values exit next e f = end_done z same m x values exit e
-  new_end z same (Answers.Started s) x values exit next e f = absurd (cc f)
-  new_end z same Answers.Queued x values exit next e f = absurd (cc f)
-  new_end z same (Answers.Refused rule line version) x values exit next e f = absurd (cc f)
-  new_end z same Answers.Suspended x values exit next e f = absurd (cc f)
-  new_end z same Answers.Delayed x values exit next e f = absurd (cc f)
-  new_end z same (Answers.Woken s) x values exit next e f = absurd (cc f)
-  new_end z same (Answers.Accepted value) x values exit next e f = absurd (cc f)
-  new_end z same Answers.Misuse x values exit next e f = absurd (cc f)
-  new_end z same Answers.Halted x values exit next e f = absurd (cc f)
-  new_end z same Answers.Full x values exit next e f = absurd (cc f)
-  new_end z same Answers.Busy x values exit next e f = absurd (cc f)
-  new_end z same Answers.Waiting x values exit next e f = absurd (cc f)
-  new_end z same Answers.Unattached x values exit next e f = absurd (cc f)
-  new_end z same Answers.BadLine x values exit next e f = absurd (cc f)
-  new_end z same Answers.OutOfMemory x values exit next e f = absurd (cc f)
+  new_end z same d x values exit next e f = absurd (cc f)
 
   ended_explained : (same : Bool) → eqb (held_by n.body) (held_by u) ≡ same → EndsIf same n.body asks n.ended.exit reached w → EndsExplained w
   ended_explained true is e =
@@ -223,12 +209,7 @@ no_end (Call o p vs) t values exit e = cc e
 no_end (DelayUntil time) t values exit e = cc e
 no_end Clock t values exit e = cc e
 no_end Fire t values exit e = cc e
-no_end (Complete vs x) t values exit e = absurd t
-no_end Settle t values exit e = absurd t
-no_end Resume t values exit e = absurd t
-no_end Quit t values exit e = absurd t
-no_end (Tick n) t values exit e = absurd t
-no_end Halt t values exit e = absurd t
+no_end q t values exit e = absurd t
 
 resume_explained : (u k : Passing) (r : Answer) → Asked u Resume r k → Owns u → EndsExplained u → EndsExplained k
 resume_explained u k r y owns old = asked_explained u k Resume r y owns old (λ values exit next e f. absurd (cc e))
@@ -245,22 +226,7 @@ waited_explained u w m q reached t owns owned old f =
   where
     woken_or : (r : Answer) (k : Passing) (y : Asked u Resume r k) → EndsExplained k → Resumed r y.at k m q reached w false → EndsExplained w
     woken_or (Answers.Woken (Some s)) k y now e = f k s y now e
-    woken_or (Answers.Woken None) k y now e = still u k w e.0 now
-    woken_or (Answers.Started s) k y now e = still u k w e.0 now
-    woken_or Answers.Queued k y now e = still u k w e.0 now
-    woken_or (Answers.Refused rule line version) k y now e = still u k w e.0 now
-    woken_or (Answers.Done d) k y now e = still u k w e.0 now
-    woken_or Answers.Suspended k y now e = still u k w e.0 now
-    woken_or Answers.Delayed k y now e = still u k w e.0 now
-    woken_or (Answers.Accepted value) k y now e = still u k w e.0 now
-    woken_or Answers.Misuse k y now e = still u k w e.0 now
-    woken_or Answers.Halted k y now e = still u k w e.0 now
-    woken_or Answers.Full k y now e = still u k w e.0 now
-    woken_or Answers.Busy k y now e = still u k w e.0 now
-    woken_or Answers.Waiting k y now e = still u k w e.0 now
-    woken_or Answers.Unattached k y now e = still u k w e.0 now
-    woken_or Answers.BadLine k y now e = still u k w e.0 now
-    woken_or Answers.OutOfMemory k y now e = still u k w e.0 now
+    woken_or r k y now e = still u k w e.0 now
 
 -- a pause hands nothing over
 pause_explained : (v u w : Passing) (m : Bool) (q : Request) (wait : Recorded) (reached : Reached) → Waits v q wait u → IsPause q wait → Waited u m q reached w false → Owns u → Owns w → EndsExplained u → EndsExplained w
@@ -273,27 +239,14 @@ started_explained v u w m (Call o p vs) s reached x t owns owned old ran = ran_l
 started_explained v u w m Fire s reached x t owns owned old ran = ran_lent u w x.at m (called (catalogue_of x.at) v.actor Fire) s [] reached (fire_start v u s x owns) x.owns owned ran old
 started_explained v u w m (DelayUntil time) s reached x t owns owned old ran = unlike (begins (out (history_at (limits_in v.about) x.at) v.actor (DelayUntil time))) (ap (λ (z : Answer). begins z) (sym x.due_is)) (delay_begins_not (history_at (limits_in v.about) x.at) v.actor time)
 started_explained v u w m Clock s reached x t owns owned old ran = unlike (begins (out (history_at (limits_in v.about) x.at) v.actor Clock)) (ap (λ (z : Answer). begins z) (sym x.due_is)) (clock_begins_not (history_at (limits_in v.about) x.at) v.actor)
-started_explained v u w m (Complete vs e) s reached x t owns owned old ran = absurd t
-started_explained v u w m Settle s reached x t owns owned old ran = absurd t
-started_explained v u w m Resume s reached x t owns owned old ran = absurd t
-started_explained v u w m Quit s reached x t owns owned old ran = absurd t
-started_explained v u w m (Tick n) s reached x t owns owned old ran = absurd t
-started_explained v u w m Halt s reached x t owns owned old ran = absurd t
+started_explained v u w m q s reached x t owns owned old ran = absurd t
 
 -- a call that waits in a queue
 queued_explained : (v u w : Passing) (m : Bool) (q : Request) (reached : Reached) (x : Asked v q Answers.Queued u) → calls q ≡ true → Owns v → Owns w → EndsExplained u → Waited u m q reached w false → EndsExplained w
 queued_explained v u w m (Call o p vs) reached x c owns owned old t =
     waited_explained u w m (Call o p vs) reached t x.owns owned old
     (λ k s y now ran. ran_lent k w y.at m (waited_for (Call o p vs)) s vs reached (queue_start v u k o p vs s x y owns) y.owns owned ran now)
-queued_explained v u w m (DelayUntil time) reached x c owns owned old t = absurd (cc c)
-queued_explained v u w m Clock reached x c owns owned old t = absurd (cc c)
-queued_explained v u w m Fire reached x c owns owned old t = absurd (cc c)
-queued_explained v u w m (Complete vs e) reached x c owns owned old t = absurd (cc c)
-queued_explained v u w m Settle reached x c owns owned old t = absurd (cc c)
-queued_explained v u w m Resume reached x c owns owned old t = absurd (cc c)
-queued_explained v u w m Quit reached x c owns owned old t = absurd (cc c)
-queued_explained v u w m (Tick n) reached x c owns owned old t = absurd (cc c)
-queued_explained v u w m Halt reached x c owns owned old t = absurd (cc c)
+queued_explained v u w m q reached x c owns owned old t = absurd (cc c)
 
 followed_explained : (v u w : Passing) (m : Bool) (q : Request) (r : Answer) (reached : Reached) (x : Asked v q r u) → Performs q → of_first q r ≡ true → Owns v → Owns w → EndsExplained u
     → Followed r x.at (called (catalogue_of x.at) v.actor q) u m q reached w false → EndsExplained w
@@ -303,18 +256,7 @@ followed_explained v u w m q Answers.Suspended reached x t g owns owned old f =
     pause_explained v u w m q Words.Suspended reached (record { answer = Answers.Suspended; asked = x; on = refl; seen_is = x.seen_is; own_is = x.own_is; actor_is = asked_actor v u q _ x }) (suspends q g) f x.owns owned old
 followed_explained v u w m q Answers.Delayed reached x t g owns owned old f =
     pause_explained v u w m q Words.Delayed reached (record { answer = Answers.Delayed; asked = x; on = refl; seen_is = x.seen_is; own_is = x.own_is; actor_is = asked_actor v u q _ x }) (delayed q g) f x.owns owned old
-followed_explained v u w m q (Answers.Refused rule line version) reached x t g owns owned old f = still v u w f.0 old
-followed_explained v u w m q (Answers.Done d) reached x t g owns owned old f = still v u w f.0 old
-followed_explained v u w m q (Answers.Woken s) reached x t g owns owned old f = still v u w f.0 old
-followed_explained v u w m q (Answers.Accepted value) reached x t g owns owned old f = still v u w f.0 old
-followed_explained v u w m q Answers.Misuse reached x t g owns owned old f = still v u w f.0 old
-followed_explained v u w m q Answers.Halted reached x t g owns owned old f = still v u w f.0 old
-followed_explained v u w m q Answers.Full reached x t g owns owned old f = still v u w f.0 old
-followed_explained v u w m q Answers.Busy reached x t g owns owned old f = still v u w f.0 old
-followed_explained v u w m q Answers.Waiting reached x t g owns owned old f = still v u w f.0 old
-followed_explained v u w m q Answers.Unattached reached x t g owns owned old f = still v u w f.0 old
-followed_explained v u w m q Answers.BadLine reached x t g owns owned old f = still v u w f.0 old
-followed_explained v u w m q Answers.OutOfMemory reached x t g owns owned old f = still v u w f.0 old
+followed_explained v u w m q r reached x t g owns owned old f = still v u w f.0 old
 
 first_due : (v u : Passing) (q : Request) (r : Answer) (x : Asked v q r u) → HasHandler (catalogue_of v.seen) v.actor → Performs q → of_first q r ≡ true
 first_due v u q r x has t = ap (λ (z : Answer). of_first q z) x.due_is ∙ first_gets (history_at (limits_in v.about) x.at) v.actor q (handler_at v.seen x.at v.actor x.from has) t
@@ -339,22 +281,7 @@ ran_unmarked u w log m b scalars arguments reached t = by_bodies t.0 t.2 where
 
 resumed_unmarked : (r : Answer) (log : List Event) (u w : Passing) (m : Bool) (q : Request) (reached : Reached) → Resumed r log u m q reached w false → m ≡ false
 resumed_unmarked (Answers.Woken (Some s)) log u w m q reached t = ran_unmarked u w log m (waited_for q) s (arguments_of q) reached t
-resumed_unmarked (Answers.Woken None) log u w m q reached t = sym t.1
-resumed_unmarked (Answers.Started s) log u w m q reached t = sym t.1
-resumed_unmarked Answers.Queued log u w m q reached t = sym t.1
-resumed_unmarked (Answers.Refused rule line version) log u w m q reached t = sym t.1
-resumed_unmarked (Answers.Done d) log u w m q reached t = sym t.1
-resumed_unmarked Answers.Suspended log u w m q reached t = sym t.1
-resumed_unmarked Answers.Delayed log u w m q reached t = sym t.1
-resumed_unmarked (Answers.Accepted value) log u w m q reached t = sym t.1
-resumed_unmarked Answers.Misuse log u w m q reached t = sym t.1
-resumed_unmarked Answers.Halted log u w m q reached t = sym t.1
-resumed_unmarked Answers.Full log u w m q reached t = sym t.1
-resumed_unmarked Answers.Busy log u w m q reached t = sym t.1
-resumed_unmarked Answers.Waiting log u w m q reached t = sym t.1
-resumed_unmarked Answers.Unattached log u w m q reached t = sym t.1
-resumed_unmarked Answers.BadLine log u w m q reached t = sym t.1
-resumed_unmarked Answers.OutOfMemory log u w m q reached t = sym t.1
+resumed_unmarked r log u w m q reached t = sym t.1
 
 waited_unmarked : (u w : Passing) (m : Bool) (q : Request) (reached : Reached) → Waited u m q reached w false → m ≡ false
 waited_unmarked u w m q reached t = ⊎_elim (λ x. sym x.1) (λ x. resumed_unmarked x.0 x.2.at x.1 w m q reached x.4) t
@@ -364,18 +291,7 @@ followed_unmarked (Answers.Started s) log b u w m q reached t = ran_unmarked u w
 followed_unmarked Answers.Queued log b u w m q reached t = waited_unmarked u w m q reached t
 followed_unmarked Answers.Suspended log b u w m q reached t = waited_unmarked u w m q reached t
 followed_unmarked Answers.Delayed log b u w m q reached t = waited_unmarked u w m q reached t
-followed_unmarked (Answers.Woken s) log b u w m q reached t = sym t.1
-followed_unmarked (Answers.Refused rule line version) log b u w m q reached t = sym t.1
-followed_unmarked (Answers.Done d) log b u w m q reached t = sym t.1
-followed_unmarked (Answers.Accepted value) log b u w m q reached t = sym t.1
-followed_unmarked Answers.Misuse log b u w m q reached t = sym t.1
-followed_unmarked Answers.Halted log b u w m q reached t = sym t.1
-followed_unmarked Answers.Full log b u w m q reached t = sym t.1
-followed_unmarked Answers.Busy log b u w m q reached t = sym t.1
-followed_unmarked Answers.Waiting log b u w m q reached t = sym t.1
-followed_unmarked Answers.Unattached log b u w m q reached t = sym t.1
-followed_unmarked Answers.BadLine log b u w m q reached t = sym t.1
-followed_unmarked Answers.OutOfMemory log b u w m q reached t = sym t.1
+followed_unmarked r log b u w m q reached t = sym t.1
 
 unmarked : (v w : Passing) (m : Bool) (q : Request) (reached : Reached) → Performed v m q reached w false → m ≡ false
 unmarked v w m q reached t = ⊎_elim (λ x. sym x.1) (λ x. followed_unmarked x.0 x.2.at (called (catalogue_of x.2.at) v.actor q) x.1 w m q reached x.4) t

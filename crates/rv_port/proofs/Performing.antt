@@ -1,6 +1,6 @@
 -- What a call did, from its parts.
 use Rattle.std.proofs.Common.{◌≡◌, ℕ, ◌+◌, ◌≤◌, Bool, true, false, List, [], ◌++◌, length, Option, Some, None, refl, sym, ap, ◌∙◌, subst, inr, ⊎_elim, append_assoc, append-nil, arith}
-use Rattle.std.specs.Prelude.{ℤ, nat_lt, ◌==◌}
+use Rattle.std.specs.Prelude.{ℤ, nat_lt, ◌==◌, IfSome}
 use Rattle.rv_event.specs.declared.entry.Request.{Request}
 use Rattle.rv_event.specs.declared.entry.Request.TheVariants.{Complete, Resume, Quit}
 use Rattle.rv_event.specs.declared.entry.Answer.{Answer}
@@ -12,13 +12,14 @@ use Rattle.rv_port.specs.Traces.{Passing, Trace, InVain, Went, Asked, Replied, R
 use Rattle.rv_behind.specs.Acting.{begun_by, lent_view}
 use Rattle.rv_code.specs.Bodies.{UnitBodies}
 use Rattle.rv_behind.specs.declared.event.Lent.{Lent}
-use Rattle.rv_port.specs.Reaching.{arguments_of, reads, plain_of, waits_on, waited_for}
+use Rattle.rv_port.specs.Reaching.{arguments_of, reads, plain_of, start_of, waits_on, waited_for}
 use Rattle.rv_port.proofs.Asking.{in_vain_later, asked_later}
 use Rattle.rv_port.proofs.Settles.{settles_to}
 use Rattle.rv_event.specs.declared.entry.Exit.{Exit}
 use Rattle.rv_port.specs.Bodies.{RunsTo}
 use Rattle.rv_port.specs.Held.{held_by, Owns}
 use Rattle.rv_port.specs.Calls.{marked, EndsIf, RanOn, Resumed, Waited, Followed, Performed, QuitBy, Quits, Grown, Stays}
+use Rattle.rv_turn.specs.Histories.{StartsWith}
 use Rattle.rv_turn.specs.Prefixes.{starts_self, starts_both}
 use Rattle.rv_behind.specs.declared.event.Begun.{Begun}
 
@@ -26,37 +27,14 @@ pub plainly : (r : Answer) (log : List Event) (b : Begun) (u : Passing) (m f : B
 plainly (Answers.Started s) log b u m f q reached k never e p = absurd (never s refl)
 plainly Answers.Queued log b u m f q reached k never e p = absurd (cc e)
 plainly Answers.Suspended log b u m f q reached k never e p = absurd (cc e)
-plainly (Answers.Refused rule line version) log b u m f q reached k never e p = (refl, k, p)
-plainly (Answers.Done n) log b u m f q reached k never e p = (refl, k, p)
 plainly Answers.Delayed log b u m f q reached k never e p = absurd (cc e)
-plainly (Answers.Woken s) log b u m f q reached k never e p = (refl, k, p)
-plainly (Answers.Accepted n) log b u m f q reached k never e p = (refl, k, p)
-plainly Answers.Misuse log b u m f q reached k never e p = (refl, k, p)
-plainly Answers.Halted log b u m f q reached k never e p = (refl, k, p)
-plainly Answers.Full log b u m f q reached k never e p = (refl, k, p)
-plainly Answers.Busy log b u m f q reached k never e p = (refl, k, p)
-plainly Answers.Waiting log b u m f q reached k never e p = (refl, k, p)
-plainly Answers.Unattached log b u m f q reached k never e p = (refl, k, p)
-plainly Answers.BadLine log b u m f q reached k never e p = (refl, k, p)
-plainly Answers.OutOfMemory log b u m f q reached k never e p = (refl, k, p)
+plainly r log b u m f q reached k never e p = (refl, k, p)
 
 wait_followed : (r : Answer) (log : List Event) (b : Begun) (u w : Passing) (m f : Bool) (q : Request) (reached : Reached) → waits_on r ≡ true → Waited u m q reached w f → Followed r log b u m q reached w f
 wait_followed Answers.Queued log b u w m f q reached e t = t
 wait_followed Answers.Suspended log b u w m f q reached e t = t
 wait_followed Answers.Delayed log b u w m f q reached e t = t
-wait_followed (Answers.Started s) log b u w m f q reached e t = absurd (cc e)
-wait_followed (Answers.Refused rule line version) log b u w m f q reached e t = absurd (cc e)
-wait_followed (Answers.Done n) log b u w m f q reached e t = absurd (cc e)
-wait_followed (Answers.Woken s) log b u w m f q reached e t = absurd (cc e)
-wait_followed (Answers.Accepted n) log b u w m f q reached e t = absurd (cc e)
-wait_followed Answers.Misuse log b u w m f q reached e t = absurd (cc e)
-wait_followed Answers.Halted log b u w m f q reached e t = absurd (cc e)
-wait_followed Answers.Full log b u w m f q reached e t = absurd (cc e)
-wait_followed Answers.Busy log b u w m f q reached e t = absurd (cc e)
-wait_followed Answers.Waiting log b u w m f q reached e t = absurd (cc e)
-wait_followed Answers.Unattached log b u w m f q reached e t = absurd (cc e)
-wait_followed Answers.BadLine log b u w m f q reached e t = absurd (cc e)
-wait_followed Answers.OutOfMemory log b u w m f q reached e t = absurd (cc e)
+wait_followed r log b u w m f q reached e t = absurd (cc e)
 
 -- the request waits
 pub waited : (v u w : Passing) (m k f : Bool) (q : Request) (r : Answer) (b : Begun) (lent : Option Lent) (reached : Reached) → Replied v q r b lent u → asks_on r ≡ false → waits_on r ≡ true → k ≡ m → Waited u k q reached w f
@@ -95,73 +73,47 @@ first_plain v u m f q r b lent reached x calm k un e p = inr (
 
 resumed_plain : (r : Answer) (log : List Event) (u : Passing) (m f : Bool) (q : Request) (reached : Reached) → f ≡ m → hands r ≡ false → reached ≡ plain_of false r → Resumed r log u m q reached u f
 resumed_plain (Answers.Woken (Some s)) log u m f q reached k un p = absurd (cc un)
-resumed_plain (Answers.Woken None) log u m f q reached k un p = (refl, k, p)
-resumed_plain (Answers.Started s) log u m f q reached k un p = (refl, k, p)
-resumed_plain Answers.Queued log u m f q reached k un p = (refl, k, p)
-resumed_plain (Answers.Refused rule line version) log u m f q reached k un p = (refl, k, p)
-resumed_plain (Answers.Done n) log u m f q reached k un p = (refl, k, p)
-resumed_plain Answers.Suspended log u m f q reached k un p = (refl, k, p)
-resumed_plain Answers.Delayed log u m f q reached k un p = (refl, k, p)
-resumed_plain (Answers.Accepted n) log u m f q reached k un p = (refl, k, p)
-resumed_plain Answers.Misuse log u m f q reached k un p = (refl, k, p)
-resumed_plain Answers.Halted log u m f q reached k un p = (refl, k, p)
-resumed_plain Answers.Full log u m f q reached k un p = (refl, k, p)
-resumed_plain Answers.Busy log u m f q reached k un p = (refl, k, p)
-resumed_plain Answers.Waiting log u m f q reached k un p = (refl, k, p)
-resumed_plain Answers.Unattached log u m f q reached k un p = (refl, k, p)
-resumed_plain Answers.BadLine log u m f q reached k un p = (refl, k, p)
-resumed_plain Answers.OutOfMemory log u m f q reached k un p = (refl, k, p)
+resumed_plain r log u m f q reached k un p = (refl, k, p)
 
 -- a caller that waited wasn't handed the object
 pub not_woken : (v u : Passing) (m f : Bool) (q : Request) (r : Answer) (b : Begun) (lent : Option Lent) (reached : Reached) → Replied v Resume r b lent u → asks_on r ≡ false → f ≡ m → hands r ≡ false → reached ≡ plain_of false r
     → Waited v m q reached u f
 not_woken v u m f q r b lent reached x calm k un p = inr (r, u, x.asked, calm, resumed_plain r x.asked.at u m f q reached k un p)
 
--- a body was started
-pub started : (v u w : Passing) (m n : Bool) (q : Request) (r : Answer) (b : Begun) (lent : Option Lent) (scalars arguments : List ℤ) (reached : Reached) → Replied v q r b lent u → asks_on r ≡ false → r ≡ Answers.Started scalars
-    → arguments ≡ arguments_of q → n ≡ marked m (lent_view lent) → RanOn (lent_view lent) u b scalars arguments reached w → Performed v m q reached w n
-started v u w m n q r b lent scalars arguments reached x calm is same mark ran = inr (
-  r,
-  u,
-  x.asked,
-  calm,
-  subst (λ (z : Answer). Followed z x.asked.at (called (catalogue_of x.asked.at) v.actor q) u m q reached w n) (sym is) (
-    lent_view lent,
-    x.lent_is,
-    mark,
-    subst (λ (z : Begun × List ℤ). RanOn (lent_view lent) u z.0 scalars z.1 reached w)
-        (λ i. ((x.begun_is ∙ ap (begun_by (catalogue_of x.asked.at) v.actor q) is) i, same i)) ran,
-  ),
-)
-
 -- a body ran, and its end was asked
-pub ran_on : (bodies : Option UnitBodies) (u v w : Passing) (begun : Begun) (scalars arguments : List ℤ) (q : Request) (exit : Exit) (reached : Reached) (last first : ℕ) → ((trace : Trace) × RunsTo bodies (held_by u) begun scalars arguments trace q exit × Went u trace v)
-    → Owns v → last ≡ held_by v → first ≡ held_by u → EndsIf (last == first) v q exit reached w → RanOn bodies u begun scalars arguments reached w
-ran_on bodies u v w begun scalars arguments q exit reached last first ran owned e f ends = record {
-  trace = ran.0;
-  ended = ran.1.0;
-  runs = ran.1.1;
-  body = v;
-  went = ran.2;
-  owned = owned;
-  end_is = subst (λ (z : Request × Exit × ℕ × ℕ). EndsIf (z.2 == z.3) v z.0 z.1 reached w) (λ i. (ran.1.2 i, ran.1.3 i, e i, f i)) ends;
-}
+pub ran_on : (bodies : Option UnitBodies) (u v w : Passing) (begun : Begun) (start : Option (List ℤ)) (scalars arguments : List ℤ) (p q : Request) (exit : Exit) (reached : Reached) (last first : ℕ) → start ≡ Some scalars → arguments ≡ arguments_of p
+    → ((trace : Trace) × RunsTo bodies (held_by u) begun scalars arguments trace q exit × Went u trace v) → Owns v → last ≡ held_by v → first ≡ held_by u → EndsIf (last == first) v q exit reached w
+    → IfSome start (λ s. RanOn bodies u begun s (arguments_of p) reached w)
+ran_on bodies u v w begun start scalars arguments p q exit reached last first is same ran owned e f ends =
+    let so : RanOn bodies u begun scalars arguments reached w = record {
+      trace = ran.0;
+      ended = ran.1.0;
+      runs = ran.1.1;
+      body = v;
+      went = ran.2;
+      owned = owned;
+      end_is = subst (λ (z : Request × Exit × ℕ × ℕ). EndsIf (z.2 == z.3) v z.0 z.1 reached w) (λ i. (ran.1.2 i, ran.1.3 i, e i, f i)) ends;
+    } in
+    subst (λ (z : Option (List ℤ) × List ℤ). IfSome z.0 (λ s. RanOn bodies u begun s z.1 reached w)) (λ i. (sym is i, same i)) so
+
+-- a body was started
+pub started : (v u w : Passing) (m n : Bool) (q : Request) (r : Answer) (b : Begun) (lent : Option Lent) (scalars : List ℤ) (reached : Reached) → Replied v q r b lent u → asks_on r ≡ false → r ≡ Answers.Started scalars
+    → n ≡ marked m (lent_view lent) → IfSome (start_of r) (λ s. RanOn (lent_view lent) u b s (arguments_of q) reached w) → Performed v m q reached w n
+started v u w m n q r b lent scalars reached x calm is mark ran =
+    let so : RanOn (lent_view lent) u b scalars (arguments_of q) reached w = subst (λ (z : Answer). IfSome (start_of z) (λ s. RanOn (lent_view lent) u b s (arguments_of q) reached w)) is ran in
+    let begun : b ≡ called (catalogue_of x.asked.at) v.actor q = x.begun_is ∙ ap (begun_by (catalogue_of x.asked.at) v.actor q) is in
+    let follows : Followed (Answers.Started scalars) x.asked.at (called (catalogue_of x.asked.at) v.actor q) u m q reached w n =
+    (lent_view lent, x.lent_is, mark, subst (λ (z : Begun). RanOn (lent_view lent) u z scalars (arguments_of q) reached w) begun so) in
+    inr (r, u, x.asked, calm, subst (λ (z : Answer). Followed z x.asked.at (called (catalogue_of x.asked.at) v.actor q) u m q reached w n) (sym is) follows)
 
 -- a caller that waited was handed the object over
-pub woken : (v u w : Passing) (m n : Bool) (q : Request) (r : Answer) (b : Begun) (lent : Option Lent) (scalars arguments : List ℤ) (begun : Begun) (reached : Reached) → Replied v Resume r b lent u → asks_on r ≡ false
-    → r ≡ Answers.Woken (Some scalars) → begun ≡ waited_for q → arguments ≡ arguments_of q → n ≡ marked m (lent_view lent) → RanOn (lent_view lent) u begun scalars arguments reached w → Waited v m q reached w n
-woken v u w m n q r b lent scalars arguments begun reached x calm is at same mark ran = inr (
-  r,
-  u,
-  x.asked,
-  calm,
-  subst (λ (z : Answer). Resumed z x.asked.at u m q reached w n) (sym is) (
-    lent_view lent,
-    x.lent_is,
-    mark,
-    subst (λ (z : Begun × List ℤ). RanOn (lent_view lent) u z.0 scalars z.1 reached w) (λ i. (at i, same i)) ran,
-  ),
-)
+pub woken : (v u w : Passing) (m n : Bool) (q : Request) (r : Answer) (b : Begun) (lent : Option Lent) (scalars : List ℤ) (begun : Begun) (reached : Reached) → Replied v Resume r b lent u → asks_on r ≡ false
+    → r ≡ Answers.Woken (Some scalars) → begun ≡ waited_for q → n ≡ marked m (lent_view lent) → IfSome (start_of r) (λ s. RanOn (lent_view lent) u begun s (arguments_of q) reached w) → Waited v m q reached w n
+woken v u w m n q r b lent scalars begun reached x calm is at mark ran =
+    let so : RanOn (lent_view lent) u begun scalars (arguments_of q) reached w = subst (λ (z : Answer). IfSome (start_of z) (λ s. RanOn (lent_view lent) u begun s (arguments_of q) reached w)) is ran in
+    let resumes : Resumed (Answers.Woken (Some scalars)) x.asked.at u m q reached w n =
+    (lent_view lent, x.lent_is, mark, subst (λ (z : Begun). RanOn (lent_view lent) u z scalars (arguments_of q) reached w) at so) in
+    inr (r, u, x.asked, calm, subst (λ (z : Answer). Resumed z x.asked.at u m q reached w n) (sym is) resumes)
 
 -- Growth of a pass's own events
 
@@ -189,45 +141,34 @@ stays_both v u w p q = record {
   fewer = let one = p.fewer in let two = q.fewer in omega (arith, one, two);
 }
 
-pub went_stays : (v w : Passing) (xs : Trace) → Went v xs w → Stays v w
-went_stays v w xs p = record {
-  turn = ap (λ (k : Passing). k.turn) p.same;
-  actor = ap (λ (k : Passing). k.actor) p.same;
-  about = ap (λ (k : Passing). k.about) p.same;
-  later = p.later;
-  grown = (p.grew.more, p.grew.own_is);
-  fewer = let less = p.grew.acts in omega (arith, less);
+-- a port of the same turn and actor that has forgotten nothing, and gained no act
+pub stays_by : (v w : Passing) (own : List Event) (left : ℕ) → w ≡ record v { seen = w.seen; own = own; left = left } → StartsWith w.seen v.seen → Grown v w → w.left ≤ v.left → Stays v w
+stays_by v w own left same later grown fewer = record {
+  turn = ap (λ (k : Passing). k.turn) same;
+  actor = ap (λ (k : Passing). k.actor) same;
+  about = ap (λ (k : Passing). k.about) same;
+  later = later;
+  grown = grown;
+  fewer = fewer;
 }
+
+pub went_stays : (v w : Passing) (xs : Trace) → Went v xs w → Stays v w
+went_stays v w xs p = let less = p.grew.acts in stays_by v w w.own w.left p.same p.later (p.grew.more, p.grew.own_is) (omega (arith, less))
 
 pub vain_stays : (v w : Passing) (q : Request) → InVain v q w → Stays v w
-vain_stays v w q p = let acts : w.left + length p.times ≡ v.left = p.acts in record {
-  turn = ap (λ (k : Passing). k.turn) p.same;
-  actor = ap (λ (k : Passing). k.actor) p.same;
-  about = ap (λ (k : Passing). k.about) p.same;
-  later = in_vain_later v w q p;
-  grown = vain_grown v w q p;
-  fewer = omega (arith, acts);
-}
+vain_stays v w q p = let acts : w.left + length p.times ≡ v.left = p.acts in stays_by v w v.own w.left p.same (in_vain_later v w q p) (vain_grown v w q p) (omega (arith, acts))
 
 pub asked_stays : (v w : Passing) (q : Request) (r : Answer) → Asked v q r w → Stays v w
-asked_stays v w q r x = let act : w.left + 1 ≡ x.before.left = x.act in let acts : x.before.left + length x.in_vain.times ≡ v.left = x.in_vain.acts in record {
-  turn = ap (λ (k : Passing). k.turn) x.same;
-  actor = ap (λ (k : Passing). k.actor) x.same;
-  about = ap (λ (k : Passing). k.about) x.same;
-  later = asked_later v w q r x;
-  grown = (_, x.own_is);
-  fewer = omega (arith, act, acts);
-}
+asked_stays v w q r x =
+    let act : w.left + 1 ≡ x.before.left = x.act in
+    let acts : x.before.left + length x.in_vain.times ≡ v.left = x.in_vain.acts in
+    stays_by v w w.own w.left x.same (asked_later v w q r x) (_, x.own_is) (omega (arith, act, acts))
 
 settles_stay : (u w : Passing) (r : Answer) → SettlesBehind r u w → Stays u w
-settles_stay u w r s = let t = settles_to u w r s in let less : w.left + length t.more ≤ u.left = t.acts in record {
-  turn = ap (λ (k : Passing). k.turn) t.same;
-  actor = ap (λ (k : Passing). k.actor) t.same;
-  about = ap (λ (k : Passing). k.about) t.same;
-  later = t.later;
-  grown = (t.more, t.own_is);
-  fewer = omega (arith, less);
-}
+settles_stay u w r s =
+    let t = settles_to u w r s in
+    let less : w.left + length t.more ≤ u.left = t.acts in
+    stays_by u w w.own w.left t.same t.later (t.more, t.own_is) (omega (arith, less))
 
 end_stays : (b : Bool) (v w : Passing) (q : Request) (exit : Exit) (reached : Reached) → EndsIf b v q exit reached w → Stays v w
 end_stays true v w q exit reached e = ⊎_elim (λ wore. vain_stays v w _ wore.0.0) (λ t. stays_both v t.1 w (asked_stays v t.1 _ t.0 t.2) (settles_stay t.1 w t.0 t.5)) e
@@ -242,22 +183,7 @@ flat_stays v u w s is = subst (λ (z : Passing). Stays v z) (sym is) s
 
 resumed_stays : (u w : Passing) (m f : Bool) (r : Answer) (log : List Event) (q : Request) (reached : Reached) → Resumed r log u m q reached w f → Stays u w
 resumed_stays u w m f (Answers.Woken (Some s)) log q reached t = ran_stays u w t.0 (waited_for q) s (arguments_of q) reached t.3
-resumed_stays u w m f (Answers.Woken None) log q reached t = flat_stays u u w (stays_self u) t.0
-resumed_stays u w m f (Answers.Refused rule line version) log q reached t = flat_stays u u w (stays_self u) t.0
-resumed_stays u w m f Answers.Misuse log q reached t = flat_stays u u w (stays_self u) t.0
-resumed_stays u w m f Answers.Halted log q reached t = flat_stays u u w (stays_self u) t.0
-resumed_stays u w m f Answers.Full log q reached t = flat_stays u u w (stays_self u) t.0
-resumed_stays u w m f Answers.Waiting log q reached t = flat_stays u u w (stays_self u) t.0
-resumed_stays u w m f (Answers.Started s) log q reached t = flat_stays u u w (stays_self u) t.0
-resumed_stays u w m f (Answers.Done d) log q reached t = flat_stays u u w (stays_self u) t.0
-resumed_stays u w m f (Answers.Accepted value) log q reached t = flat_stays u u w (stays_self u) t.0
-resumed_stays u w m f Answers.Queued log q reached t = flat_stays u u w (stays_self u) t.0
-resumed_stays u w m f Answers.Suspended log q reached t = flat_stays u u w (stays_self u) t.0
-resumed_stays u w m f Answers.Delayed log q reached t = flat_stays u u w (stays_self u) t.0
-resumed_stays u w m f Answers.Busy log q reached t = flat_stays u u w (stays_self u) t.0
-resumed_stays u w m f Answers.Unattached log q reached t = flat_stays u u w (stays_self u) t.0
-resumed_stays u w m f Answers.BadLine log q reached t = flat_stays u u w (stays_self u) t.0
-resumed_stays u w m f Answers.OutOfMemory log q reached t = flat_stays u u w (stays_self u) t.0
+resumed_stays u w m f r log q reached t = flat_stays u u w (stays_self u) t.0
 
 waited_stays : (v w : Passing) (m f : Bool) (q : Request) (reached : Reached) → Waited v m q reached w f → Stays v w
 waited_stays v w m f q reached t = ⊎_elim (λ wore. vain_stays v w Resume wore.0.0.0) (λ x. stays_both v x.1 w (asked_stays v x.1 Resume x.0 x.2) (resumed_stays x.1 w m f x.0 x.2.at q reached x.4)) t
@@ -267,18 +193,7 @@ followed_stays u w m f q (Answers.Started s) log b reached t = ran_stays u w t.0
 followed_stays u w m f q Answers.Queued log b reached t = waited_stays u w m f q reached t
 followed_stays u w m f q Answers.Suspended log b reached t = waited_stays u w m f q reached t
 followed_stays u w m f q Answers.Delayed log b reached t = waited_stays u w m f q reached t
-followed_stays u w m f q (Answers.Refused rule line version) log b reached t = flat_stays u u w (stays_self u) t.0
-followed_stays u w m f q (Answers.Accepted value) log b reached t = flat_stays u u w (stays_self u) t.0
-followed_stays u w m f q Answers.Misuse log b reached t = flat_stays u u w (stays_self u) t.0
-followed_stays u w m f q Answers.Halted log b reached t = flat_stays u u w (stays_self u) t.0
-followed_stays u w m f q Answers.Full log b reached t = flat_stays u u w (stays_self u) t.0
-followed_stays u w m f q Answers.Busy log b reached t = flat_stays u u w (stays_self u) t.0
-followed_stays u w m f q (Answers.Woken s) log b reached t = flat_stays u u w (stays_self u) t.0
-followed_stays u w m f q (Answers.Done d) log b reached t = flat_stays u u w (stays_self u) t.0
-followed_stays u w m f q Answers.Waiting log b reached t = flat_stays u u w (stays_self u) t.0
-followed_stays u w m f q Answers.Unattached log b reached t = flat_stays u u w (stays_self u) t.0
-followed_stays u w m f q Answers.BadLine log b reached t = flat_stays u u w (stays_self u) t.0
-followed_stays u w m f q Answers.OutOfMemory log b reached t = flat_stays u u w (stays_self u) t.0
+followed_stays u w m f q r log b reached t = flat_stays u u w (stays_self u) t.0
 
 pub performed_stays : (v w : Passing) (m f : Bool) (q : Request) (reached : Reached) → Performed v m q reached w f → Stays v w
 performed_stays v w m f q reached t = ⊎_elim (λ wore. vain_stays v w q wore.0.0.0)

@@ -103,14 +103,7 @@ few_step h a b (Complete vs x) w e few =
     let t = ends h b vs x w e in
     subst (λ (z : Recorded). Few h a (Entered b (Complete vs x) z ∷ h.past)) (sym t.word) (few_end h a b few vs x _ (e ∙ ap (λ (z : Recorded). Some z) t.word))
 few_step h a b Settle w e few = subst (λ (z : Recorded). Few h a (Entered b Settle z ∷ h.past)) (sym (settling h b w e).word) (few_settle h a b few _)
-few_step h a b (Call o p vs) w e few = few
-few_step h a b Resume w e few = few
-few_step h a b (DelayUntil t) w e few = few
-few_step h a b Clock w e few = few
-few_step h a b Fire w e few = few
-few_step h a b Quit w e few = few
-few_step h a b (Tick n) w e few = few
-few_step h a b Halt w e few = few
+few_step h a b q w e few = few
 
 one_left : (c : Limits) (past : List Entry) (shapes : List Shape) (lists : List (List Words)) (a : ℕ) → IsLegal c past shapes lists → length (filter (by a) (unsettled shapes past)) ≤ 1
 one_left c [] shapes lists a l = omega arith
@@ -207,19 +200,7 @@ settle_none u k (Answers.Done next) e x calm =
     (more_none u x.at Settle next (settle_leaves (history_at (limits_in u.about) x.at) u.actor next x.legal calm))
 settle_none u k Answers.Misuse e x calm = unrecorded_none u k Answers.Misuse x refl refl
 settle_none u k Answers.Full e x calm = unrecorded_none u k Answers.Full x refl refl
-settle_none u k (Answers.Started s) e x calm = absurd (off e)
-settle_none u k Answers.Queued e x calm = absurd (off e)
-settle_none u k (Answers.Refused rule line version) e x calm = absurd (off e)
-settle_none u k Answers.Suspended e x calm = absurd (off e)
-settle_none u k Answers.Delayed e x calm = absurd (off e)
-settle_none u k (Answers.Woken s) e x calm = absurd (off e)
-settle_none u k (Answers.Accepted n) e x calm = absurd (off e)
-settle_none u k Answers.Halted e x calm = absurd (off e)
-settle_none u k Answers.Busy e x calm = absurd (off e)
-settle_none u k Answers.Waiting e x calm = absurd (off e)
-settle_none u k Answers.Unattached e x calm = absurd (off e)
-settle_none u k Answers.BadLine e x calm = absurd (off e)
-settle_none u k Answers.OutOfMemory e x calm = absurd (off e)
+settle_none u k r e x calm = absurd (off e)
 
 settled_none : (b : Bool) (answers : List Answer) (u w : Passing) → (b ≡ false → NoneAt u u.seen) → SettledBy b answers u w → (w.left ≡ 0) ⊎ NoneAt w w.seen
 settled_none false [] u w none t = inr (subst (λ (z : Passing). NoneAt z z.seen) (sym t) (none refl))

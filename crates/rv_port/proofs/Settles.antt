@@ -114,14 +114,6 @@ settled_events (Dropped m line) (r ∷ rs) u w t =
     by_answer r t.1 (ap of_end t.1.due_is ∙ settle_gets (history_at (limits_in u.about) t.1.at) u.actor) t.2 (λ next s. settled_events next rs t.0 w s) where
       by_answer : (r : Answer) → Asked u Settle r t.0 → of_end r ≡ true → SettledBy (drops r) rs t.0 w → ((next : Next) → SettledBy (drops (Answers.Done next)) rs t.0 w → Settles next t.0 w) → Settles (Dropped m line) u w
       by_answer (Answers.Done next) x e s more = one_settle m line next u t.0 w x (more next s)
-      by_answer Answers.Misuse x e s more = no_event (Dropped m line) u t.0 w Answers.Misuse rs refl refl x s
-      by_answer Answers.Full x e s more = no_event (Dropped m line) u t.0 w Answers.Full rs refl refl x s
-      by_answer Answers.Halted x e s more = no_event (Dropped m line) u t.0 w Answers.Halted rs refl refl x s
-      by_answer Answers.Busy x e s more = no_event (Dropped m line) u t.0 w Answers.Busy rs refl refl x s
-      by_answer Answers.Waiting x e s more = no_event (Dropped m line) u t.0 w Answers.Waiting rs refl refl x s
-      by_answer Answers.Unattached x e s more = no_event (Dropped m line) u t.0 w Answers.Unattached rs refl refl x s
-      by_answer Answers.BadLine x e s more = no_event (Dropped m line) u t.0 w Answers.BadLine rs refl refl x s
-      by_answer Answers.OutOfMemory x e s more = no_event (Dropped m line) u t.0 w Answers.OutOfMemory rs refl refl x s
       by_answer (Answers.Started c) x e s more = absurd (cc e)
       by_answer Answers.Queued x e s more = absurd (cc e)
       by_answer (Answers.Refused rule at version) x e s more = absurd (cc e)
@@ -129,6 +121,7 @@ settled_events (Dropped m line) (r ∷ rs) u w t =
       by_answer Answers.Delayed x e s more = absurd (cc e)
       by_answer (Answers.Woken c) x e s more = absurd (cc e)
       by_answer (Answers.Accepted n) x e s more = absurd (cc e)
+      by_answer r x e s more = no_event (Dropped m line) u t.0 w r rs refl refl x s
 
 pub settles_events : (next : Next) (u w : Passing) → SettlesBehind (Answers.Done next) u w → Settles next u w
 settles_events next u w s = settled_events next s.0 u w s.1

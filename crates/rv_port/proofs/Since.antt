@@ -55,21 +55,7 @@ next_or other = Nothing
 
 pub done_is : (r : Answer) (next : Next) → recorded r ≡ Some (Words.Done next) → r ≡ Answers.Done next
 done_is (Answers.Done n) next e = ap (λ (o : Option Recorded). Answers.Done (next_or o)) e
-done_is (Answers.Started s) next e = absurd (cc e)
-done_is Answers.Queued next e = absurd (cc e)
-done_is (Answers.Refused rule line version) next e = absurd (cc e)
-done_is Answers.Suspended next e = absurd (cc e)
-done_is Answers.Delayed next e = absurd (cc e)
-done_is (Answers.Woken s) next e = absurd (cc e)
-done_is (Answers.Accepted n) next e = absurd (cc e)
-done_is Answers.Halted next e = absurd (cc e)
-done_is Answers.Full next e = absurd (cc e)
-done_is Answers.Misuse next e = absurd (cc e)
-done_is Answers.Busy next e = absurd (cc e)
-done_is Answers.Waiting next e = absurd (cc e)
-done_is Answers.Unattached next e = absurd (cc e)
-done_is Answers.BadLine next e = absurd (cc e)
-done_is Answers.OutOfMemory next e = absurd (cc e)
+done_is r next e = absurd (cc e)
 
 -- behind an ask without an act left nothing is recorded
 none_noted : (a : ℕ) (behind after : Trace) (q : Request) (r : Answer) (word : Recorded) → recorded r ≡ Some word → noted a (behind ++ (q, r) ∷ after) ≡ [] → ⊥

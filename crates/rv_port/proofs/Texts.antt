@@ -17,19 +17,15 @@ use Rattle.rv_behind.specs.declared.event.Ask.TheVariants as Wants
 use Rattle.rv_behind.specs.declared.event.Reply.{Reply}
 use Rattle.rv_behind.specs.declared.event.Reply.TheVariants as Gives
 use Rattle.rv_port.proofs.Actors.{later_entry}
-use Rattle.rv_port.proofs.Performing.{stays_self, stays_both, went_stays}
+use Rattle.rv_port.proofs.Performing.{stays_self, stays_both, stays_by, went_stays}
 use Rattle.rv_port.proofs.Stopped.{text_stops}
 
 -- one act, whatever it asks
 acted_stays : (v w : Passing) (ask : Ask) (reply : Reply) → Acted by Does v ask reply w → Stays v w
-acted_stays v w ask reply a = let less : w.left ≡ v.left - 1 = ap (λ (k : Passing). k.left) a.same in record {
-  turn = ap (λ (k : Passing). k.turn) a.same;
-  actor = ap (λ (k : Passing). k.actor) a.same;
-  about = ap (λ (k : Passing). k.about) a.same;
-  later = later_entry a.at v.seen v w a.later a.entry;
-  grown = ⊎_elim (λ x. ([], x.1 ∙ sym (append-nil v.own))) (λ x. (x.0 ∷ [], x.3)) a.entry;
-  fewer = omega (arith, less);
-}
+acted_stays v w ask reply a =
+    let less : w.left ≡ v.left - 1 = ap (λ (k : Passing). k.left) a.same in
+    stays_by v w w.own (v.left - 1) a.same (later_entry a.at v.seen v w a.later a.entry)
+    (⊎_elim (λ x. ([], x.1 ∙ sym (append-nil v.own))) (λ x. (x.0 ∷ [], x.3)) a.entry) (omega (arith, less))
 
 -- a text that ran by the bodies that were lent
 unfoldable pub lent_run : (v u w : Passing) (mark same after : Bool) (budget : ℕ) (exit : Exit) (lent : Option Lent) (trace : Trace) → held_by v ≡ 0 → Acted by Does v Wants.Bodies (Gives.Bodies lent) u → same ≡ mark

@@ -94,16 +94,7 @@ tied_queue v u k w m f o p vs Answers.Misuse log reached l a x e n t = no_misuse
 tied_queue v u k w m f o p vs Answers.Halted log reached l a x e n t = as_told v k w m f (Call o p vs) Reaches.Stopped reached (inl (stopped_then v u k (Call o p vs) Words.Queued Answers.Halted a x refl)) t
 tied_queue v u k w m f o p vs Answers.Full log reached l a x e n t = as_told v k w m f (Call o p vs) Reaches.Stopped reached (inl (stopped_then v u k (Call o p vs) Words.Queued Answers.Full a x refl)) t
 tied_queue v u k w m f o p vs Answers.Waiting log reached l a x e n t = absurd (cc n)
-tied_queue v u k w m f o p vs (Answers.Started s) log reached l a x e n t = absurd (cc e)
-tied_queue v u k w m f o p vs (Answers.Done d) log reached l a x e n t = absurd (cc e)
-tied_queue v u k w m f o p vs (Answers.Accepted value) log reached l a x e n t = absurd (cc e)
-tied_queue v u k w m f o p vs Answers.Queued log reached l a x e n t = absurd (cc e)
-tied_queue v u k w m f o p vs Answers.Suspended log reached l a x e n t = absurd (cc e)
-tied_queue v u k w m f o p vs Answers.Delayed log reached l a x e n t = absurd (cc e)
-tied_queue v u k w m f o p vs Answers.Busy log reached l a x e n t = absurd (cc e)
-tied_queue v u k w m f o p vs Answers.Unattached log reached l a x e n t = absurd (cc e)
-tied_queue v u k w m f o p vs Answers.BadLine log reached l a x e n t = absurd (cc e)
-tied_queue v u k w m f o p vs Answers.OutOfMemory log reached l a x e n t = absurd (cc e)
+tied_queue v u k w m f o p vs r log reached l a x e n t = absurd (cc e)
 
 tied_pause : (v u k w : Passing) (m f : Bool) (q : Request) (wait : Recorded) (r : Answer) (log : List Event) (reached : Reached) → Waits v q wait u → IsPause q wait → Asked u Resume r k → of_resume r ≡ true → asks_on r ≡ false
     → Resumed r log k m q reached w f → Tied v q reached w
@@ -116,16 +107,7 @@ tied_pause v u k w m f q wait Answers.Misuse log reached a h x e n t = no_misuse
 tied_pause v u k w m f q wait Answers.Halted log reached a h x e n t = as_told v k w m f q Reaches.Stopped reached (inl (stopped_then v u k q wait Answers.Halted a x refl)) t
 tied_pause v u k w m f q wait Answers.Full log reached a h x e n t = as_told v k w m f q Reaches.Stopped reached (inl (stopped_then v u k q wait Answers.Full a x refl)) t
 tied_pause v u k w m f q wait Answers.Waiting log reached a h x e n t = absurd (cc n)
-tied_pause v u k w m f q wait (Answers.Started s) log reached a h x e n t = absurd (cc e)
-tied_pause v u k w m f q wait (Answers.Done d) log reached a h x e n t = absurd (cc e)
-tied_pause v u k w m f q wait (Answers.Accepted value) log reached a h x e n t = absurd (cc e)
-tied_pause v u k w m f q wait Answers.Queued log reached a h x e n t = absurd (cc e)
-tied_pause v u k w m f q wait Answers.Suspended log reached a h x e n t = absurd (cc e)
-tied_pause v u k w m f q wait Answers.Delayed log reached a h x e n t = absurd (cc e)
-tied_pause v u k w m f q wait Answers.Busy log reached a h x e n t = absurd (cc e)
-tied_pause v u k w m f q wait Answers.Unattached log reached a h x e n t = absurd (cc e)
-tied_pause v u k w m f q wait Answers.BadLine log reached a h x e n t = absurd (cc e)
-tied_pause v u k w m f q wait Answers.OutOfMemory log reached a h x e n t = absurd (cc e)
+tied_pause v u k w m f q wait r log reached a h x e n t = absurd (cc e)
 
 wore_then : (v u w : Passing) (q : Request) (wait : Recorded) (reached : Reached) → Waits v q wait u → Wore u Resume reached w → Tied v q reached w
 wore_then v u w q wait reached k t = subst (λ (z : Reached). Tied v q z w) (sym t.1)
@@ -138,15 +120,7 @@ resumed_so u k r x = ap of_resume x.due_is ∙ resume_gets (history_at (limits_i
 after_queue : (v u w : Passing) (m f : Bool) (q : Request) (reached : Reached) → calls q ≡ true → Waits v q Words.Queued u → Waited u m q reached w f → Tied v q reached w
 after_queue v u w m f (Call o p vs) reached c a t = ⊎_elim (λ wore. wore_then v u w (Call o p vs) Words.Queued reached a wore.0)
     (λ x. tied_queue v u x.1 w m f o p vs x.0 x.2.at reached (asked_grown u x.1 Resume x.0 x.2) a x.2 (resumed_so u x.1 x.0 x.2) x.3 x.4) t
-after_queue v u w m f (DelayUntil time) reached c a t = absurd (cc c)
-after_queue v u w m f Clock reached c a t = absurd (cc c)
-after_queue v u w m f Fire reached c a t = absurd (cc c)
-after_queue v u w m f (Complete vs x) reached c a t = absurd (cc c)
-after_queue v u w m f Settle reached c a t = absurd (cc c)
-after_queue v u w m f Resume reached c a t = absurd (cc c)
-after_queue v u w m f Quit reached c a t = absurd (cc c)
-after_queue v u w m f (Tick n) reached c a t = absurd (cc c)
-after_queue v u w m f Halt reached c a t = absurd (cc c)
+after_queue v u w m f q reached c a t = absurd (cc c)
 
 -- one that paused
 after_pause : (v u w : Passing) (m f : Bool) (q : Request) (wait : Recorded) (reached : Reached) → IsPause q wait → Waits v q wait u → Waited u m q reached w f → Tied v q reached w
@@ -155,27 +129,11 @@ after_pause v u w m f q wait reached h a t = ⊎_elim (λ wore. wore_then v u w 
 
 pub suspends : (q : Request) → calls q ≡ true → IsPause q Words.Suspended
 suspends (Call o p vs) e = tt
-suspends (DelayUntil time) e = absurd (cc e)
-suspends Clock e = absurd (cc e)
-suspends Fire e = absurd (cc e)
-suspends (Complete vs x) e = absurd (cc e)
-suspends Settle e = absurd (cc e)
-suspends Resume e = absurd (cc e)
-suspends Quit e = absurd (cc e)
-suspends (Tick n) e = absurd (cc e)
-suspends Halt e = absurd (cc e)
+suspends q e = absurd (cc e)
 
 pub delayed : (q : Request) → delays q ≡ true → IsPause q Words.Delayed
 delayed (DelayUntil time) e = tt
-delayed (Call o p vs) e = absurd (cc e)
-delayed Clock e = absurd (cc e)
-delayed Fire e = absurd (cc e)
-delayed (Complete vs x) e = absurd (cc e)
-delayed Settle e = absurd (cc e)
-delayed Resume e = absurd (cc e)
-delayed Quit e = absurd (cc e)
-delayed (Tick n) e = absurd (cc e)
-delayed Halt e = absurd (cc e)
+delayed q e = absurd (cc e)
 
 tied_followed : (v u w : Passing) (m f : Bool) (q : Request) (r : Answer) (log : List Event) (b : Begun) (reached : Reached) → StartsWith u.seen log → goes_on q ≡ false → of_first q r ≡ true → asks_on r ≡ false → Asked v q r u
     → Followed r log b u m q reached w f → Tied v q reached w
@@ -192,24 +150,14 @@ tied_followed v u w m f q Answers.Misuse log b reached l g e n x t = as_told v u
 tied_followed v u w m f q Answers.Halted log b reached l g e n x t = as_told v u w m f q Reaches.Stopped reached (inl (stopped_first v u q Answers.Halted x refl)) t
 tied_followed v u w m f q Answers.Full log b reached l g e n x t = as_told v u w m f q Reaches.Stopped reached (inl (stopped_first v u q Answers.Full x refl)) t
 tied_followed v u w m f q Answers.Busy log b reached l g e n x t = absurd (cc n)
-tied_followed v u w m f q (Answers.Woken s) log b reached l g e n x t = absurd (cc e)
-tied_followed v u w m f q (Answers.Done d) log b reached l g e n x t = absurd (cc e)
-tied_followed v u w m f q Answers.Waiting log b reached l g e n x t = absurd (cc e)
-tied_followed v u w m f q Answers.Unattached log b reached l g e n x t = absurd (cc e)
-tied_followed v u w m f q Answers.BadLine log b reached l g e n x t = absurd (cc e)
-tied_followed v u w m f q Answers.OutOfMemory log b reached l g e n x t = absurd (cc e)
+tied_followed v u w m f q r log b reached l g e n x t = absurd (cc e)
 
 stops_on_halt : (q : Request) → Performs q → goes_on q ≡ false
 stops_on_halt (Call o p vs) t = refl
 stops_on_halt (DelayUntil time) t = refl
 stops_on_halt Clock t = refl
 stops_on_halt Fire t = refl
-stops_on_halt (Complete vs x) t = absurd t
-stops_on_halt Settle t = absurd t
-stops_on_halt Resume t = absurd t
-stops_on_halt Quit t = absurd t
-stops_on_halt (Tick n) t = absurd t
-stops_on_halt Halt t = absurd t
+stops_on_halt q t = absurd t
 
 -- one performance, by a line that has its handler or by a task
 pub tied : (v w : Passing) (m f : Bool) (q : Request) (reached : Reached) → HasHandler (catalogue_of v.seen) v.actor → Performs q → Performed v m q reached w f → Tied v q reached w

@@ -67,6 +67,11 @@ answer_in Gives.Unread = Misuse
 answer_in (Gives.Viewed view) = Misuse
 answer_in (Gives.Bodies lent) = Misuse
 
+-- an ask that loads no unit (own)
+abbrev pub LoadsNothing : Ask → Type 0
+LoadsNothing (Ask.Load shape unit) = ⊥
+LoadsNothing ask = Unit {0}
+
 -- An answer to an ask of the operator: it is due on a legal history that begins with all that was seen. (own)
 abbrev pub Told : Passing → Ask → Answer → Passing → Type 0
 Told v ask r w = (reply : Reply) × (r ≡ answer_in reply) × Acted by Does v ask reply w

@@ -1,5 +1,5 @@
 -- What answers and exits come to for the caller. (own)
-use Rattle.std.specs.Prelude.{ℤ, Bool, true, false, ◌==◌, List, [], ◌∷◌, None}
+use Rattle.std.specs.Prelude.{ℤ, Bool, true, false, ◌==◌, List, [], ◌∷◌, Option, Some, None}
 use Rattle.rv_event.specs.declared.entry.Request.{Request}
 use Rattle.rv_event.specs.declared.entry.Request.TheVariants.{Call, DelayUntil, Clock, Fire}
 use Rattle.rv_event.specs.declared.entry.Exit.{Exit}
@@ -55,6 +55,12 @@ reached_by Exits.Stopped = Reaches.Stopped
 abbrev pub end_of : Answer → Exit → Reached
 end_of (Answers.Done next) exit = reached_by exit
 end_of answer exit = Reaches.Stopped
+
+-- the scalars that a body starts on, by the answer that starts it (9.5.1, 9.5.3)
+abbrev pub start_of : Answer → Option (List ℤ)
+start_of (Answers.Started scalars) = Some scalars
+start_of (Answers.Woken scalars) = scalars
+start_of answer = None
 
 -- the answer is that the actor waits (9.5.3, 9.6, D.10)
 abbrev pub waits_on : Answer → Bool

@@ -1,15 +1,18 @@
 //! One performance of a request: its answer, and where a body starts, the body and its end.
 
-ghost use Rattle.std.specs.Prelude.{◌≡◌, ◌==◌};
-ghost use Rattle.rv_port.specs.Calls.{EndsIf, Waited, Performed, Stays, Tied};
+ghost use Rattle.std.specs.Prelude.{◌≡◌, ◌==◌, true, is_some, IfSome};
+ghost use Rattle.rv_behind.specs.Acting.{lent_view};
+ghost use Rattle.rv_port.specs.Calls.{EndsIf, RanOn, Waited, Performed, Stays, Tied, marked};
 ghost use Rattle.rv_port.specs.Ends.{ExplainedUnless};
-ghost use Rattle.rv_port.specs.Reaching.{Performs};
+ghost use Rattle.rv_port.specs.Reaching.{Performs, arguments_of, start_of};
 
 use crate::asker::Asker;
 use crate::body::run;
 use crate::gate::Gate;
-use crate::reached::{Reached, arguments_of, ended_as, is_wait, plain, reads, waited_for};
-use rv_behind::event::Letter;
+use crate::reached::{
+    Reached, arguments_of, ended_as, is_wait, plain, reads, start_of, waited_for,
+};
+use rv_behind::event::{Begun, Letter};
 use rv_event::entry::{Answer, Exit, Request};
 use std::sync::Wait;
 
@@ -39,6 +42,36 @@ impl Asker {
         ended_as(&letter.answer, exit)
     }
 
+    // Runs the body of an operation that a letter's answer starts, with the values of a request, and asks for its end.
+    fn run_begun<R: Wait, G: Gate<R>>(
+        &mut self,
+        rt: &R,
+        gate: &G,
+        letter: &mut Letter,
+        begun: Begun,
+        request: &Request,
+    ) -> Reached
+        requires { is_some (start_of letter.old.answer) ≡ true }
+        ensures ran { IfSome (start_of letter.old.answer) (λ scalars. RanOn (lent_view letter.old.lent) self.old.pass begun scalars (arguments_of request.now) result self.new.pass) }
+        ensures mark { self.new.is_refused ≡ marked self.old.is_refused (lent_view letter.old.lent) }
+    {
+        let Some(scalars) = start_of(&letter.answer) else {
+            unreachable!()
+        };
+        let args = arguments_of(request);
+        let held = self.held;
+        let exit = run(
+            rt,
+            self,
+            &letter.lent,
+            &begun,
+            scalars,
+            &args,
+            &mut letter.request,
+        );
+        self.end_body(rt, gate, letter, &exit, held)
+    }
+
     // Waits for what a request came to.
     fn resume<R: Wait, G: Gate<R>>(&mut self, rt: &R, gate: &G, request: &Request) -> Reached
         ensures { Waited self.old.pass self.old.is_refused request.now result self.new.pass self.new.is_refused }
@@ -47,20 +80,9 @@ impl Asker {
         let Ok(()) = self.insist(rt, &mut letter) else {
             return Reached::Stopped;
         };
-        if let Answer::Woken(Some(scalars)) = &letter.answer {
+        if let Answer::Woken(Some(_)) = &letter.answer {
             let begun = waited_for(request);
-            let args = arguments_of(request);
-            let held = self.held;
-            let exit = run(
-                rt,
-                self,
-                &letter.lent,
-                &begun,
-                scalars,
-                &args,
-                &mut letter.request,
-            );
-            return self.end_body(rt, gate, &mut letter, &exit, held);
+            return self.run_begun(rt, gate, &mut letter, begun, request);
         }
         plain(false, &letter.answer)
     }
@@ -75,19 +97,9 @@ impl Asker {
         let Ok(()) = self.insist(rt, &mut letter) else {
             return Reached::Stopped;
         };
-        if let Answer::Started(scalars) = &letter.answer {
-            let args = arguments_of(request);
-            let held = self.held;
-            let exit = run(
-                rt,
-                self,
-                &letter.lent,
-                &letter.begun,
-                scalars,
-                &args,
-                &mut letter.request,
-            );
-            return self.end_body(rt, gate, &mut letter, &exit, held);
+        if let Answer::Started(_) = &letter.answer {
+            let begun = letter.begun;
+            return self.run_begun(rt, gate, &mut letter, begun, request);
         }
         if is_wait(&letter.answer) {
             self.bell.wait_past(rt, rings);

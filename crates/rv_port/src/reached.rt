@@ -1,11 +1,12 @@
 //! What calls on a port come to.
 
 ghost use Rattle.std.specs.Prelude.{◌≡◌};
-ghost use Rattle.rv_port.specs.Reaching.{plain_of, end_of, reached_by, waits_on, arguments_of, reads, values_of, waited_for};
+ghost use Rattle.std.specs.Option.{option_copied};
+ghost use Rattle.rv_port.specs.Reaching.{plain_of, end_of, reached_by, waits_on, arguments_of, reads, start_of, values_of, waited_for};
 
 use rv_behind::event::Begun;
 use rv_event::entry::{Answer, Exception, Exit, Request, Rule};
-use rv_value::Args;
+use rv_value::{Args, Scalars};
 
 /// What a call on a port came to.
 #[derive(Clone, Copy, PartialEq, Eq, Drop)]
@@ -87,6 +88,16 @@ pub(crate) fn ended_as(answer: &Answer, exit: &Exit) -> Reached
     match *answer {
         Answer::Done(_) => exit_as(exit),
         _ => Reached::Stopped,
+    }
+}
+
+/// The scalars that a body starts on, by the answer that starts it (9.5.1, 9.5.3).
+pub(crate) fn start_of(answer: &Answer) -> Option<&Scalars>
+    ensures { option_copied result ≡ start_of answer.now }
+{
+    match answer {
+        Answer::Started(scalars) | Answer::Woken(Some(scalars)) => Some(scalars),
+        _ => None,
     }
 }
 

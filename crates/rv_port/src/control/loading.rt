@@ -97,8 +97,7 @@ impl Control {
             (λ r. Told self.old (Ask.LoadWithoutMemory shape) r self.new)
             (λ _. IsWorn self.old self.new) }
     {
-        let reply = self.pass.act(rt, Ask::LoadWithoutMemory(shape))?;
-        Ok(heard(&self.bell, &reply))
+        self.act(rt, Ask::LoadWithoutMemory(shape))
     }
 
     // A load with bodies that others may hold.
