@@ -12,15 +12,15 @@ use Rattle.rv_port.proofs.asker.Asker.resume.Goals as goal
 
 pub run_begun-requires : goal.run_begun-requires
 run_begun-requires g c =
-    let is : c.insist.new.letter.answer ≡ Answers.Woken (Some c.in-Woken-Some.field-0-field-0) = search rules in
+    let is : c.insist.new.letter.answer ≡ Answers.Woken (Some c.in-Woken-Some.field-0-0) = search rules in
     ap (λ (z : Answer). is_some (start_of z)) is
 
 pub returns-in-Woken-Some : goal.returns-in-Woken-Some
 returns-in-Woken-Some g c =
     let given = sent_of c.args.self.now.pass c.insist.new.self.pass Resume c.new-letter.result.request c.insist.new.letter.answer c.insist.new.letter.begun c.insist.new.letter.lent c.insist.result _ c.insist.ensures.reply c.new-letter.ensures c.in-Ok.is in
     let mark : c.run_begun.new.self.is_refused ≡ marked c.args.self.now.is_refused (lent_view c.insist.new.letter.lent) = c.run_begun.ensures.mark ∙ ap (λ (b : Bool). marked b (lent_view c.insist.new.letter.lent)) c.insist.ensures.mark in
-    let is : c.insist.new.letter.answer ≡ Answers.Woken (Some c.in-Woken-Some.field-0-field-0) = search rules in
-    woken c.args.self.now.pass c.insist.new.self.pass c.run_begun.new.self.pass c.args.self.now.is_refused c.run_begun.new.self.is_refused c.args.request.now c.insist.new.letter.answer c.insist.new.letter.begun c.insist.new.letter.lent c.in-Woken-Some.field-0-field-0 c.waited_for-begun.result c.run_begun.result
+    let is : c.insist.new.letter.answer ≡ Answers.Woken (Some c.in-Woken-Some.field-0-0) = search rules in
+    woken c.args.self.now.pass c.insist.new.self.pass c.run_begun.new.self.pass c.args.self.now.is_refused c.run_begun.new.self.is_refused c.args.request.now c.insist.new.letter.answer c.insist.new.letter.begun c.insist.new.letter.lent c.in-Woken-Some.field-0-0 c.waited_for-begun.result c.run_begun.result
     given.0 given.1 is c.waited_for-begun.ensures mark c.run_begun.ensures.ran
 
 pub returns : goal.returns
