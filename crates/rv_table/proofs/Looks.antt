@@ -6,14 +6,16 @@ use Rattle.std.specs.List.{AllZip}
 use Rattle.std.proofs.lemmas.Option.{slice_get-map}
 use Rattle.rv_access.specs.Words.{Words}
 use Rattle.rv_access.specs.Lines.{decides, grants, matches}
-use Rattle.rv_shape.specs.Catalogue.{Target, Nowhere, OnProtected, OnSuspension, UnitObject, all_objects, at_object, at_operation, at_suspension, at_unit_object, dotted, numbered, place, suspension_operation_name, suspension_operations, target}
+use Rattle.rv_shape.specs.Catalogue.{Target, UnitObject, all_objects, at_object, at_operation, at_suspension, at_unit_object, by_names, dotted, numbered, place, suspension_operation_name, suspension_operations, target}
+use Rattle.rv_shape.specs.Fits.{object_name}
+use Rattle.rv_shape.specs.Names.{operation_names}
 use Rattle.rv_shape.specs.Objects.{OperationShape}
 use Rattle.rv_shape.specs.Shape.{Shape}
 use Rattle.rv_shape.specs.declared.object.Object.{Object}
 use Rattle.rv_shape.specs.declared.object.Object.TheVariants.{Protected, Suspension}
 use Rattle.rv_shape.specs.declared.suspension.SuspensionOperation.{SuspensionOperation}
 use Rattle.rv_table.specs.Rows.{IsRow, of_site}
-use Rattle.rv_table.specs.Tables.{AreSites, IsCaller, IsSite, IsTable, Marks, decided_at, granted_at, name_of, operation_names, row_in, row_of}
+use Rattle.rv_table.specs.Tables.{AreSites, IsCaller, IsSite, IsTable, Marks, decided_at, granted_at, row_in, row_of}
 
 -- both are there, and R holds of them, or neither is
 abbrev pub Both : {A B : Type 0} → (A → B → Type 0) → Option A → Option B → Type 0
@@ -48,11 +50,6 @@ abbrev by_name : {X : Type 0} → X → (List ℕ → X) → Option (List ℕ) �
 by_name none says None = none
 by_name none says (Some name) = says name
 
-abbrev judged : {X : Type 0} → X → (List ℕ → List ℕ → X) → Target → X
-judged none says Nowhere = none
-judged none says (OnProtected site) = says (dotted site.unit site.object.name) site.operation.name
-judged none says (OnSuspension unit object wanted) = says (dotted unit object) (suspension_operation_name wanted)
-
 -- the line that decides at a tick, and whether it grants
 abbrev line_by : List Words → List ℕ → ℕ → List ℕ → List ℕ → ℕ
 line_by list unit tick object operation = decides list unit object operation tick
@@ -60,29 +57,19 @@ line_by list unit tick object operation = decides list unit object operation tic
 abbrev grant_by : List Words → List ℕ → ℕ → List ℕ → List ℕ → Bool
 grant_by list unit tick object operation = grants list unit object operation tick
 
-decided_is : (list : List Words) (unit : List ℕ) (tick : ℕ) (called : Target) → decided_at list (Some unit) called tick ≡ judged 0 (line_by list unit tick) called
-decided_is list unit tick Nowhere = refl
-decided_is list unit tick (OnProtected site) = refl
-decided_is list unit tick (OnSuspension of_unit object wanted) = refl
-
-granted_is : (list : List Words) (unit : List ℕ) (tick : ℕ) (called : Target) → granted_at list (Some unit) called tick ≡ judged false (grant_by list unit tick) called
-granted_is list unit tick Nowhere = refl
-granted_is list unit tick (OnProtected site) = refl
-granted_is list unit tick (OnSuspension of_unit object wanted) = refl
-
-at_names : {X : Type 0} (none : X) (says : List ℕ → List ℕ → X) (unit : List ℕ) (object : Object) (operation : ℕ) → judged none says (at_object operation unit object) ≡ by_name none (says (dotted unit (name_of object))) (numbered (operation_names object) operation)
+at_names : {X : Type 0} (none : X) (says : List ℕ → List ℕ → X) (unit : List ℕ) (object : Object) (operation : ℕ) → by_names none says (at_object operation unit object) ≡ by_name none (says (dotted unit (object_name object))) (numbered (operation_names object) operation)
 at_names none says unit (Protected p) operation =
     of_operation (numbered p.operations operation)
     ∙ ap (by_name none (says (dotted unit p.name))) (sym (numbered_map (λ (o : OperationShape). o.name) p.operations operation))
   where
-    of_operation : (o : Option OperationShape) → judged none says (at_operation unit p o) ≡ by_name none (says (dotted unit p.name)) (option_map (λ (o : OperationShape). o.name) o)
+    of_operation : (o : Option OperationShape) → by_names none says (at_operation unit p o) ≡ by_name none (says (dotted unit p.name)) (option_map (λ (o : OperationShape). o.name) o)
     of_operation None = refl
     of_operation (Some o) = refl
 at_names none says unit (Suspension s) operation =
     of_operation (numbered suspension_operations operation)
     ∙ ap (by_name none (says (dotted unit s.name))) (sym (numbered_map suspension_operation_name suspension_operations operation))
   where
-    of_operation : (o : Option SuspensionOperation) → judged none says (at_suspension unit s.name o) ≡ by_name none (says (dotted unit s.name)) (option_map suspension_operation_name o)
+    of_operation : (o : Option SuspensionOperation) → by_names none says (at_suspension unit s.name o) ≡ by_name none (says (dotted unit s.name)) (option_map suspension_operation_name o)
     of_operation None = refl
     of_operation (Some o) = refl
 
@@ -99,19 +86,19 @@ abbrev Seen : List Words → Target → Option (List ℕ) → Type 0
 Seen list called None = ((unit : List ℕ) (tick : ℕ) → decided_at list (Some unit) called tick ≡ 0) × ((unit : List ℕ) (tick : ℕ) → granted_at list (Some unit) called tick ≡ false)
 Seen list called (Some row) = Found list called row
 
-of_names : (list : List Words) (unit : List ℕ) (object : Object) (operation : ℕ) (name row : Option (List ℕ)) → numbered (operation_names object) operation ≡ name → Both (IsSite list (dotted unit (name_of object))) name row → Seen list (at_object operation unit object) row
+of_names : (list : List Words) (unit : List ℕ) (object : Object) (operation : ℕ) (name row : Option (List ℕ)) → numbered (operation_names object) operation ≡ name → Both (IsSite list (dotted unit (object_name object))) name row → Seen list (at_object operation unit object) row
 of_names list unit object operation None None is both = (
-  (λ caller tick. decided_is list caller tick (at_object operation unit object) ∙ at_names 0 (line_by list caller tick) unit object operation ∙ ap (by_name 0 (line_by list caller tick (dotted unit (name_of object)))) is),
-  (λ caller tick. granted_is list caller tick (at_object operation unit object) ∙ at_names false (grant_by list caller tick) unit object operation ∙ ap (by_name false (grant_by list caller tick (dotted unit (name_of object)))) is),
+  (λ caller tick. at_names 0 (line_by list caller tick) unit object operation ∙ ap (by_name 0 (line_by list caller tick (dotted unit (object_name object)))) is),
+  (λ caller tick. at_names false (grant_by list caller tick) unit object operation ∙ ap (by_name false (grant_by list caller tick (dotted unit (object_name object)))) is),
 )
 of_names list unit object operation None (Some row) is both = absurd both
 of_names list unit object operation (Some name) None is both = absurd both
 of_names list unit object operation (Some name) (Some row) is both = record {
-  site = dotted unit (name_of object);
+  site = dotted unit (object_name object);
   name = name;
   is_row = both;
-  line = λ caller tick. decided_is list caller tick (at_object operation unit object) ∙ at_names 0 (line_by list caller tick) unit object operation ∙ ap (by_name 0 (line_by list caller tick (dotted unit (name_of object)))) is;
-  grant = λ caller tick. granted_is list caller tick (at_object operation unit object) ∙ at_names false (grant_by list caller tick) unit object operation ∙ ap (by_name false (grant_by list caller tick (dotted unit (name_of object)))) is;
+  line = λ caller tick. at_names 0 (line_by list caller tick) unit object operation ∙ ap (by_name 0 (line_by list caller tick (dotted unit (object_name object)))) is;
+  grant = λ caller tick. at_names false (grant_by list caller tick) unit object operation ∙ ap (by_name false (grant_by list caller tick (dotted unit (object_name object)))) is;
 }
 
 of_place : (list : List Words) (operation : ℕ) (at : Option UnitObject) (rows : Option (List (List ℕ))) → Both (AreSites list) at rows → Seen list (at_unit_object operation at) (row_in rows operation)
@@ -119,7 +106,7 @@ of_place list operation None None both = ((λ unit tick. refl), (λ unit tick. r
 of_place list operation None (Some rows) both = absurd both
 of_place list operation (Some at) None both = absurd both
 of_place list operation (Some at) (Some rows) both =
-    of_names list at.unit at.object operation (numbered (operation_names at.object) operation) (numbered rows operation) refl (numbered_both (IsSite list (dotted at.unit (name_of at.object))) (operation_names at.object) rows operation both)
+    of_names list at.unit at.object operation (numbered (operation_names at.object) operation) (numbered rows operation) refl (numbered_both (IsSite list (dotted at.unit (object_name at.object))) (operation_names at.object) rows operation both)
 
 pub seen : (list : List Words) (shapes : List Shape) (t : Marks) (object operation : ℕ) → IsTable list shapes t → Seen list (target shapes object operation) (row_of t.objects object operation)
 seen list shapes t object operation is =

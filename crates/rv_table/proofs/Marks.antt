@@ -1,5 +1,5 @@
 -- A mark is set, and all others stay.
-use Rattle.std.proofs.Common.{◌≡◌, ◌≢◌, ℕ, ◌+◌, ◌*◌, ◌/◌, ◌%◌, ◌<◌, List, length, get_or, set, Bool, true, false, arith, ap, sym, ◌∙◌, refl, bit_or, w64}
+use Rattle.std.proofs.Common.{◌≡◌, ◌≢◌, ℕ, ◌+◌, ◌*◌, ◌/◌, ◌%◌, ◌<◌, ◌≤◌, List, length, get_or, set, Bool, true, false, arith, ap, sym, ◌∙◌, refl, bit_or, w64}
 use Rattle.std.specs.Prelude.{◌^◌, ◌==◌, bit_and, min}
 use Rattle.std.specs.Int.{bit_at, trailing_zeros}
 use Rattle.std.proofs.lemmas.Bool.Decides.{nat_tests}
@@ -32,18 +32,6 @@ mark_other ws p j some h = by_test (j / 64 == p / 64) refl
         let other : j / 64 ≢ p / 64 = grind (arith, nat_tests) in
         ap (λ n. bit_at n (j % 64)) (get_or-set_other ws (p / 64) (j / 64) (bit_or (get_or ws (p / 64) 0) (1 * 2 ^ (p % 64) % 18446744073709551616)) 0 other)
 
--- no common mark in a word more
-pub none_more : (us ts : List ℕ) (w : ℕ) → ((j : ℕ) → j < 64 * w → min (has us j) (has ts j) ≡ 0) → bit_and (get_or us w 0) (get_or ts w 0) ≡ 0 → (j : ℕ) → j < 64 * (w + 1) → min (has us j) (has ts j) ≡ 0
-none_more us ts w before zero j less = by_test (j / 64 == w) refl
-  where
-    by_test : (t : Bool) → (j / 64 == w) ≡ t → min (has us j) (has ts j) ≡ 0
-    by_test true is =
-        let same : j / 64 ≡ w = grind (arith, nat_tests) in
-        ap (λ v. min (bit_at (get_or us v 0) (j % 64)) (bit_at (get_or ts v 0) (j % 64))) same ∙ sym (bit_at_and (get_or us w 0) (get_or ts w 0) (j % 64)) ∙ ap (λ n. bit_at n (j % 64)) zero ∙ bit_at-zero (j % 64)
-    by_test false is =
-        let other : j / 64 ≢ w = grind (arith, nat_tests) in
-        before j (omega (arith, less, other))
-
 -- the lowest common mark of a word
 pub word_of : (w t : ℕ) → t < 64 → (64 * w + t) / 64 ≡ w
 word_of w t less = omega (arith, less)
@@ -51,7 +39,7 @@ word_of w t less = omega (arith, less)
 pub both_one : (x y : ℕ) → x < 2 → y < 2 → min x y ≡ 1 → (x ≡ 1) × (y ≡ 1)
 both_one x y p q e = (omega (arith, p, q, e), omega (arith, p, q, e))
 
-pub none_before : (us ts : List ℕ) (w t : ℕ) → t < 64 → ((j : ℕ) → j < 64 * w → min (has us j) (has ts j) ≡ 0) → ((i : ℕ) → i < t → bit_at (bit_and (get_or us w 0) (get_or ts w 0)) i ≡ 0) →
+pub none_before : (us ts : List ℕ) (w t : ℕ) → t ≤ 64 → ((j : ℕ) → j < 64 * w → min (has us j) (has ts j) ≡ 0) → ((i : ℕ) → i < t → bit_at (bit_and (get_or us w 0) (get_or ts w 0)) i ≡ 0) →
     (j : ℕ) → j < 64 * w + t → min (has us j) (has ts j) ≡ 0
 none_before us ts w t small before low j less = by_test (j / 64 == w) refl
   where
@@ -63,6 +51,11 @@ none_before us ts w t small before low j less = by_test (j / 64 == w) refl
     by_test false is =
         let other : j / 64 ≢ w = grind (arith, nat_tests) in
         before j (omega (arith, less, small, other))
+
+-- no common mark in a word more
+pub none_more : (us ts : List ℕ) (w : ℕ) → ((j : ℕ) → j < 64 * w → min (has us j) (has ts j) ≡ 0) → bit_and (get_or us w 0) (get_or ts w 0) ≡ 0 → (j : ℕ) → j < 64 * (w + 1) → min (has us j) (has ts j) ≡ 0
+none_more us ts w before zero j less =
+    none_before us ts w 64 (omega arith) before (λ i under. ap (λ n. bit_at n i) zero ∙ bit_at-zero i) j (omega (arith, less))
 
 pub lowest : (a b : ℕ) → a < 2 ^ 64 → bit_and a b ≢ 0 → Lowest a b (trailing_zeros w64 (bit_and a b))
 lowest a b small some =

@@ -4,11 +4,10 @@ use Rattle.std.specs.List.{AllZip}
 use Rattle.rv_access.specs.Limits.{most_lines}
 use Rattle.rv_access.specs.Words.{Words}
 use Rattle.rv_access.specs.Lines.{decides, grants, allows}
-use Rattle.rv_shape.specs.Catalogue.{UnitObject, Target, numbered, Nowhere, OnProtected, OnSuspension, all_objects, target, dotted}
-use Rattle.rv_shape.specs.Catalogue.{suspension_operations, suspension_operation_name}
+use Rattle.rv_shape.specs.Catalogue.{UnitObject, Target, all_objects, by_names, dotted, numbered, target}
+use Rattle.rv_shape.specs.Fits.{object_name}
+use Rattle.rv_shape.specs.Names.{operation_names}
 use Rattle.rv_shape.specs.Shape.{Shape}
-use Rattle.rv_shape.specs.declared.object.Object.{Object}
-use Rattle.rv_shape.specs.declared.object.Object.TheVariants.{Protected, Suspension}
 use Rattle.rv_table.specs.Rows.{IsRow, of_caller, of_site, is_allowing}
 use Rattle.rv_table.specs.Spans.{IsSpans, SpanMarks}
 
@@ -19,20 +18,12 @@ callers shapes = codes "Interrupts" ∷ map (λ shape. shape.name) shapes
 -- the line that decides a call by this caller at a tick, 0 where none does
 abbrev pub decided_at : List Words → Option (List ℕ) → Target → ℕ → ℕ
 decided_at list None called tick = 0
-decided_at list (Some unit) Nowhere tick = 0
-decided_at list (Some unit) (OnProtected site) tick =
-    decides list unit (dotted site.unit site.object.name) site.operation.name tick
-decided_at list (Some unit) (OnSuspension of_unit object wanted) tick =
-    decides list unit (dotted of_unit object) (suspension_operation_name wanted) tick
+decided_at list (Some unit) called tick = by_names 0 (λ object operation. decides list unit object operation tick) called
 
 -- whether the list grants a call by this caller at a tick
 abbrev pub granted_at : List Words → Option (List ℕ) → Target → ℕ → Bool
 granted_at list None called tick = false
-granted_at list (Some unit) Nowhere tick = false
-granted_at list (Some unit) (OnProtected site) tick =
-    grants list unit (dotted site.unit site.object.name) site.operation.name tick
-granted_at list (Some unit) (OnSuspension of_unit object wanted) tick =
-    grants list unit (dotted of_unit object) (suspension_operation_name wanted) tick
+granted_at list (Some unit) called tick = by_names false (λ object operation. grants list unit object operation tick) called
 
 -- the line that decides a call at a tick by the caller of a number, of the operation of these numbers
 abbrev pub decided : List Words → List Shape → ℕ → ℕ → ℕ → ℕ → ℕ
@@ -54,15 +45,6 @@ pub record Marks : Type 0 where
   pub spans : SpanMarks
   pub lines : ℕ
 
--- the names of the operations of an object, in order
-abbrev pub operation_names : Object → List (List ℕ)
-operation_names (Protected object) = map (λ operation. operation.name) object.operations
-operation_names (Suspension object) = map suspension_operation_name suspension_operations
-
-abbrev pub name_of : Object → List ℕ
-name_of (Protected object) = object.name
-name_of (Suspension object) = object.name
-
 -- the row of a caller
 abbrev pub IsCaller : List Words → List ℕ → List ℕ → Type 0
 IsCaller list unit row = IsRow (of_caller unit) list row
@@ -73,7 +55,7 @@ IsSite list object operation row = IsRow (of_site object operation) list row
 
 -- the rows of the operations of an object
 abbrev pub AreSites : List Words → UnitObject → List (List ℕ) → Type 0
-AreSites list at rows = AllZip (IsSite list (dotted at.unit (name_of at.object))) (operation_names at.object) rows
+AreSites list at rows = AllZip (IsSite list (dotted at.unit (object_name at.object))) (operation_names at.object) rows
 
 -- the row of the operation of these numbers, each from 1, if there is one
 abbrev pub row_in : Option (List (List ℕ)) → ℕ → Option (List ℕ)

@@ -6,7 +6,7 @@ ghost use Rattle.std.specs.Option.{option_copied};
 ghost use Rattle.rv_access.specs.Limits.{most_lines};
 ghost use Rattle.rv_shape.specs.Catalogue.{all_objects, dotted, numbered, objects_of, UnitObject};
 ghost use Rattle.rv_shape.specs.Catalogue.{suspension_operations, suspension_operation_name};
-ghost use Rattle.rv_table.specs.Tables.{IsCaller, IsSite, AreSites, callers, operation_names, name_of};
+ghost use Rattle.rv_table.specs.Tables.{IsCaller, IsSite, AreSites, callers};
 
 use crate::row::{Row, caller_row, site_row};
 use rv_access::AccessList;
