@@ -3,7 +3,6 @@
 ghost use Rattle.std.specs.Prelude.{◌≡◌, IfOk, Option, option_map};
 ghost use Rattle.rv_event.specs.declared.entry.Request.{Request};
 ghost use Rattle.rv_exec.specs.Next.{told};
-ghost use Rattle.rv_history.specs.Fitting.{awaits, is_settling};
 ghost use Rattle.rv_go.specs.Texts.{texts_view};
 ghost use Rattle.rv_go.specs.Goes.{task_asks, handler_asks, line_asks, asks};
 
@@ -22,26 +21,6 @@ fn request_in(asked: NextAsk) -> Option<Request>
     match asked {
         NextAsk::Asks(request) => Some(request),
         NextAsk::Ended => None,
-    }
-}
-
-// Whether an actor in this mode waits for an answer.
-pub(crate) fn awaits(mode: Mode) -> bool
-    ensures { result ≡ awaits mode }
-{
-    match mode {
-        Mode::Idle | Mode::InBody | Mode::Settling | Mode::Ended => false,
-        Mode::Queued | Mode::Handed | Mode::Dropped | Mode::Suspended | Mode::Delayed => true,
-    }
-}
-
-// Whether an actor in this mode has an object to settle.
-pub(crate) fn is_settling(mode: Mode) -> bool
-    ensures { result ≡ is_settling mode }
-{
-    match mode {
-        Mode::Settling => true,
-        _ => false,
     }
 }
 
@@ -109,10 +88,10 @@ impl Texts {
         let Some(mode) = host.mode(actor) else {
             return Ok(None);
         };
-        if awaits(mode) {
+        if mode.awaits() {
             return Ok(Some(Request::Resume));
         }
-        if is_settling(mode) {
+        if mode.is_settling() {
             return Ok(Some(Request::Settle));
         }
         match host.catalogue().who(actor) {

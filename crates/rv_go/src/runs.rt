@@ -6,7 +6,6 @@ ghost use Rattle.rv_shape.specs.Readers.{who_of};
 ghost use Rattle.rv_exec.specs.Bodies.{bodies_view, task_of};
 ghost use Rattle.rv_go.specs.Runs.{Runs, asked_by, asks_beside, fires, handler_text, task_text, text_of};
 
-use crate::asking::{awaits, is_settling};
 use crate::texts::{Texts, no_bodies};
 use rv_event::entry::{Mode, Request};
 use rv_exec::bodies::{Bodies, SharedUnit};
@@ -69,10 +68,10 @@ pub fn asks_beside(host: &Host, actor: usize, next: Option<Request>) -> Option<R
     ensures { result ≡ asks_beside next host.now actor }
 {
     let mode = host.mode(actor)?;
-    if awaits(mode) {
+    if mode.awaits() {
         return Some(Request::Resume);
     }
-    if is_settling(mode) {
+    if mode.is_settling() {
         return Some(Request::Settle);
     }
     if fires(host.catalogue().who(actor), mode) {

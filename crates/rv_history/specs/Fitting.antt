@@ -19,6 +19,7 @@ use Rattle.rv_event.specs.declared.entry.Exit.{Exit}
 use Rattle.rv_event.specs.declared.entry.Exit.TheVariants.{Return}
 use Rattle.rv_event.specs.declared.entry.Mode.{Mode}
 use Rattle.rv_event.specs.declared.entry.Mode.TheVariants as Modes
+pub use Rattle.rv_event.specs.Modes.{awaits, is_settling}
 use Rattle.rv_history.specs.History.{History}
 use Rattle.rv_history.specs.Owed.{actors}
 
@@ -74,23 +75,6 @@ idle_task who mode = false
 abbrev pub in_body : Mode → Bool
 in_body Modes.InBody = true
 in_body mode = false
-
--- the modes of one that waits for an answer
-abbrev pub awaits : Mode → Bool
-awaits Modes.Idle = false
-awaits Modes.InBody = false
-awaits Modes.Settling = false
-awaits Modes.Queued = true
-awaits Modes.Handed = true
-awaits Modes.Dropped = true
-awaits Modes.Suspended = true
-awaits Modes.Delayed = true
-awaits Modes.Ended = false
-
--- the actor has an object to settle
-abbrev pub is_settling : Mode → Bool
-is_settling Modes.Settling = true
-is_settling mode = false
 
 -- the actor is the operator
 abbrev pub is_operator : Who → Bool

@@ -106,26 +106,6 @@ fn is_in_body(mode: Mode) -> bool
     }
 }
 
-// Whether an actor in this mode waits for an answer.
-fn awaits(mode: Mode) -> bool
-    ensures { result ≡ fitting.awaits mode }
-{
-    match mode {
-        Mode::Idle | Mode::InBody | Mode::Settling | Mode::Ended => false,
-        Mode::Queued | Mode::Handed | Mode::Dropped | Mode::Suspended | Mode::Delayed => true,
-    }
-}
-
-// Whether an actor in this mode has an object to settle.
-fn is_settling(mode: Mode) -> bool
-    ensures { result ≡ fitting.is_settling mode }
-{
-    match mode {
-        Mode::Settling => true,
-        _ => false,
-    }
-}
-
 // Whether a call has the values that its operation takes, and, of a protected one, its caller holds
 // few enough objects.
 fn fits_callee(callee: &Callee, held: usize, values: &[i64]) -> bool
@@ -200,8 +180,8 @@ fn fits_mode(seen: &Seen, actor: usize, request: &Request, mode: Mode) -> bool
             let body = innermost(seen, actor);
             is_in_body(mode) && fits_end(seen.catalogue, body, scalars.as_slice(), exit)
         }
-        Request::Settle => is_settling(mode),
-        Request::Resume => awaits(mode),
+        Request::Settle => mode.is_settling(),
+        Request::Resume => mode.awaits(),
         Request::DelayUntil(time) => may_call(seen.catalogue, actor, mode) && is_time(*time),
         Request::Clock => may_call(seen.catalogue, actor, mode),
         Request::Fire => is_idle_line(seen.catalogue, actor, mode),
