@@ -6,7 +6,7 @@ ghost use Rattle.rv_exec.specs.Bodies.{no_bodies};
 ghost use Rattle.rv_exec.specs.Stops.{stops_bodies};
 ghost use Rattle.rv_event.specs.Past.{mode};
 ghost use Rattle.rv_history.specs.Due.{out};
-ghost use Rattle.rv_history.specs.Fitting.{is_settling};
+ghost use Rattle.rv_event.specs.Modes.{is_settling};
 ghost use Rattle.rv_history.specs.Legal.{Legal, after, after_list, after_load, empty, out_list, out_load};
 ghost use Rattle.rv_history.specs.Limits.{limits_with};
 ghost use Rattle.rv_ends.specs.Afoot.{answered};

@@ -9,7 +9,7 @@ use Rattle.rv_event.specs.declared.entry.Request.{Request}
 use Rattle.rv_event.specs.declared.entry.Request.TheVariants.{Resume, Fire, Settle}
 use Rattle.rv_history.specs.History.{History}
 use Rattle.rv_history.specs.Owed.{actors}
-use Rattle.rv_history.specs.Fitting.{awaits, is_settling}
+use Rattle.rv_event.specs.Modes.{awaits, is_settling}
 use Rattle.rv_code.specs.Bodies.{Body}
 use Rattle.rv_exec.specs.Bodies.{operation_of, task_of}
 use Rattle.rv_exec.specs.Next.{settling, next_of}
