@@ -7,7 +7,7 @@ use Rattle.std.proofs.lemmas.Bool.Decides.{nat_tests}
 use Rattle.rv_access.specs.Words.{Words as Lines}
 use Rattle.rv_shape.specs.Catalogue.{first_of}
 use Rattle.rv_shape.specs.Shape.{Shape}
-use Rattle.rv_event.specs.Past.{clock, halted, if_named, is_own, last_queued, next_of, or_else, queued_by, released, scalars, stance, stance_of}
+use Rattle.rv_event.specs.Past.{if_named, is_own, last_queued, next_of, or_else, queued_by, scalars, stance, stance_of}
 use Rattle.rv_event.specs.Recorded.{recorded}
 use Rattle.rv_event.specs.declared.entry.Answer.{Answer}
 use Rattle.rv_event.specs.declared.entry.Answer.TheVariants as Answers
@@ -24,8 +24,7 @@ use Rattle.rv_event.specs.declared.entry.Stance.{Stance}
 use Rattle.rv_event.specs.declared.entry.Stance.TheVariants.{Free, InQueue, HandedOver, DroppedBy, WaitsOn, WaitsUntil, Gone}
 use Rattle.rv_exec.specs.Asking.{Trace}
 use Rattle.rv_history.specs.declared.limits.Limits.{Limits}
-use Rattle.rv_history.specs.Due.{out, due, table, gate, within, enough, goes_on, due_resume, or_waiting, scalars_held}
-use Rattle.rv_history.specs.Fitting.{fits}
+use Rattle.rv_history.specs.Due.{out, scalars_held}
 use Rattle.rv_history.specs.HandOver.{IsHanded, served_with}
 use Rattle.rv_history.specs.History.{History}
 use Rattle.rv_history.specs.Journal.{shapes_before, lists_before}
@@ -34,7 +33,8 @@ use Rattle.rv_history.proofs.Growing.{front_is}
 use Rattle.rv_history.proofs.Handing.{handed_wakes}
 use Rattle.rv_history.proofs.Room.{legal_solvent}
 use Rattle.rv_history.proofs.Silent.{neither}
-use Rattle.rv_history.proofs.Stances.{other_queued, queued_actor}
+use Rattle.rv_history.proofs.Stances.{other_queued, own_stances, queued_actor}
+use Rattle.rv_history.proofs.Tells.{out_tells}
 use Rattle.rv_meant.specs.Histories.{ask_of, asked_in, history_of}
 use Rattle.rv_accounts.specs.Given.{HandsScalars, HandedCallsGiveScalars}
 use Rattle.rv_meant.specs.Settles.{is_settle}
@@ -50,20 +50,7 @@ is_handed HandedOver = true
 is_handed other = false
 
 pub own_not_handed : (a : ℕ) (r : Request) (w : Recorded) → is_handed (stance_of (Asked a r w)) ≡ false
-own_not_handed a (Call o p vs) Words.Queued = refl
-own_not_handed a (Call o p vs) Words.Suspended = refl
-own_not_handed a (Call o p vs) w = refl
-own_not_handed a (DelayUntil t) Words.Delayed = refl
-own_not_handed a (DelayUntil t) w = refl
-own_not_handed a Quit (Words.Accepted v) = refl
-own_not_handed a Quit w = refl
-own_not_handed a (Complete vs x) w = refl
-own_not_handed a Settle w = refl
-own_not_handed a Resume w = refl
-own_not_handed a Clock w = refl
-own_not_handed a Fire w = refl
-own_not_handed a (Tick n) w = refl
-own_not_handed a Halt w = refl
+own_not_handed = own_stances (λ s. is_handed s ≡ false) refl refl (λ object. refl) (λ time. refl) refl
 
 unless_own : (b : Bool) (t s : Stance) (X : Type 0) → is_handed t ≡ false → is_handed (or_else (if b then Some t else None) s) ≡ true → (is_handed s ≡ true → X) → X
 unless_own true t s X n h rest = absurd (cc (n, h))
@@ -83,13 +70,7 @@ unless_named a (Dropped m line) b t s X n h here rest = by_test (eqb m a) h wher
 
 pub done_by : (a b : ℕ) (r : Request) (w : Recorded) → next_of (Asked b r w) ≡ HandedTo a → w ≡ Words.Done (HandedTo a)
 done_by a b r (Words.Done next) e = ap Words.Done e
-done_by a b r Words.Started e = absurd (cc e)
-done_by a b r Words.Queued e = absurd (cc e)
-done_by a b r (Words.Refused rule line version) e = absurd (cc e)
-done_by a b r Words.Suspended e = absurd (cc e)
-done_by a b r Words.Delayed e = absurd (cc e)
-done_by a b r Words.Woken e = absurd (cc e)
-done_by a b r (Words.Accepted value) e = absurd (cc e)
+done_by a b r w e = absurd (cc e)
 
 pub itself : (a : ℕ) → eqb a a ≡ true
 itself a = grind (arith, nat_tests)
@@ -123,41 +104,9 @@ handed_among a (Asked b r w ∷ es) olds n h =
     (λ is. record { newer = []; older = es; of = b; request = r; split = ap (λ (z : Recorded). Asked b r z ∷ es) (done_by a b r w is) })
     (λ before. one_more a (Asked b r w) es (handed_among a es olds n before))
 
--- What a resume is answered
-
-abbrev has_scalars : Answer → Bool
-has_scalars (Answers.Woken (Some scalars)) = true
-has_scalars answer = false
-
-waiting_none : (h : History) (ready : Bool) → has_scalars (or_waiting h ready) ≡ false
-waiting_none h true = refl
-waiting_none h false = by_halt (halted h.past) where
-  by_halt : (b : Bool) → has_scalars (if b then Answers.Halted else Answers.Waiting) ≡ false
-  by_halt true = refl
-  by_halt false = refl
-
-within_has : (room : Bool) (r : Answer) → has_scalars (within room r) ≡ true → has_scalars r ≡ true
-within_has true r e = e
-within_has false r e = absurd (cc e)
-
-gate_has : (fit shut : Bool) (r : Answer) → has_scalars (gate fit shut r) ≡ true → has_scalars r ≡ true
-gate_has true true r e = absurd (cc e)
-gate_has true false r e = e
-gate_has false shut r e = absurd (cc e)
-
 -- one that is woken with scalars was handed the object
 pub woken_handed : (h : History) (a : ℕ) (scalars : List ℤ) → out h a Resume ≡ Answers.Woken (Some scalars) → is_handed (stance a h.past) ≡ true
-woken_handed h a scalars e =
-    by_stance (stance a h.past) (gate_has (fits h a Resume) (halted h.past && not (goes_on Resume)) (table h a Resume)
-    (within_has (enough h a Resume (recorded (due h a Resume))) (due h a Resume) (ap has_scalars e))) where
-      by_stance : (s : Stance) → has_scalars (due_resume h a s) ≡ true → is_handed s ≡ true
-      by_stance HandedOver f = refl
-      by_stance (DroppedBy l) f = absurd (cc f)
-      by_stance Free f = absurd (cc f)
-      by_stance Gone f = absurd (cc f)
-      by_stance InQueue f = absurd (cc (waiting_none h false, f))
-      by_stance (WaitsOn object) f = absurd (cc (waiting_none h (released a object h.past), f))
-      by_stance (WaitsUntil time) f = absurd (cc (waiting_none h (int_le time (pos (clock h.past))), f))
+woken_handed h a scalars e = ap is_handed (out_tells h a Resume (Answers.Woken (Some scalars)) e (λ f. cc f)).1.0
 
 -- The last that an actor asked
 
