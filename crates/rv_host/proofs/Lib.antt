@@ -1,3 +1,4 @@
+mod Serving
 pub mod Fits
 pub mod Opening
 pub mod Decided
