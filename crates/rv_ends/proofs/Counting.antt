@@ -1,5 +1,5 @@
 -- The ends of a history are counted, entry by entry.
-use Rattle.std.proofs.Common.{◌≡◌, inl, inr, ℕ, suc, ◌+◌, ◌<◌, ◌≤◌, ◌^◌, List, [], ◌∷◌, ◌++◌, Bool, true, false, Option, Some, None, length, refl, sym, ap, ◌∙◌, subst, arith, append-nil}
+use Rattle.std.proofs.Common.{◌≡◌, inl, inr, ℕ, suc, ◌+◌, ◌<◌, ◌≤◌, ◌^◌, List, [], ◌∷◌, ◌++◌, Bool, true, false, Option, Some, None, length, refl, sym, ap, ◌∙◌, subst, arith}
 use Rattle.std.specs.Prelude.{is_none, is_some, if◌then◌else◌, OnOk, Result, Ok, Err}
 use Rattle.rv_access.specs.Words.{Words}
 use Rattle.rv_shape.specs.Shape.{Shape}
@@ -19,13 +19,12 @@ use Rattle.rv_history.specs.declared.limits.Limits.{Limits}
 use Rattle.rv_ends.specs.Afoot.{Afoot, AreAfoot, is_end}
 use Rattle.rv_ends.specs.Counts.{AreCounted, Counts, IsFirstOther, Loaded, texts_by}
 use Rattle.rv_ends.specs.Ends.{IsMeaning, IsWhole, afoot_of, is_settled, texts_after, texts_of}
-use Rattle.rv_ends.specs.Explained.{IsFront}
 use Rattle.rv_ends.specs.Tally.{Follows, FollowsBy, GoesOn, IsCarriedOut, IsNoted, TakesList, TakesLoad, TakesRequest, loads_behind, noted, one_more, taken_of}
 use Rattle.rv_ends.specs.declared.meaning.Meaning.{Meaning}
 use Rattle.rv_ends.specs.declared.meaning.Meaning.TheVariants as meaning
 use Rattle.rv_ends.specs.declared.tally.Found.{Found}
 use Rattle.rv_ends.specs.declared.tally.Tally.{Tally}
-use Rattle.rv_ends.proofs.Whole.{front_on, list_on, load_on}
+use Rattle.rv_ends.proofs.Whole.{HasOneMore, front_itself, front_on, one_asked, one_list, one_load}
 
 -- Counts
 
@@ -146,15 +145,6 @@ took_end o m n number actor request most solvent end found none c = λ h loads w
       counts = same_counts k loads (noted o.found number it.meaning) n.found (c.found ∙ it.found) counts;
     })
 
-front_itself : (h : History) → Legal h → IsFront h h []
-front_itself h legal = record {
-  limits = refl;
-  past = refl;
-  shapes = ([], sym (append-nil h.shapes));
-  lists = ([], sym (append-nil h.lists));
-  legal = legal;
-}
-
 -- an end whose text means another
 pub took_found : (o m : Tally) (number actor : ℕ) (request : Request) → Legal (taken_of o) → is_end request ≡ true → (IsWhole o.ends → IsNoted o m number actor request) → is_none m.found.other ≡ false → TakesRequest o m number actor request
 took_found o m number actor request legal end found none = λ h loads word g number_is due.
@@ -168,7 +158,7 @@ took_found o m number actor request legal end found none = λ h loads word g num
       request = request;
       word = word;
       later = [];
-      is_front = front_on h h [] (Asked actor request word) (front_itself h (subst Legal g.at legal));
+      is_front = front_on h h k [] (Asked actor request word) (one_asked h actor request word) (front_itself h (subst Legal g.at legal));
       names = it.shapes ∙ ap (λ (x : History). x.shapes) g.at;
       number_is = number_is;
       ends = end;
@@ -227,14 +217,14 @@ took_list o n list whole found history texts = λ h loads g.
 
 -- Behind the first end whose text means another
 
-still_first : (h k : History) (loads : List Loaded) (shapes : List Shape) (number : ℕ) (m : Meaning) (is : IsFirstOther h loads shapes number m) (later : List Entry) → IsFront is.front k (later ++ Asked is.actor is.request is.word ∷ []) → IsFirstOther k loads shapes number m
-still_first h k loads shapes number m is later front = record {
+still_first : (h k : History) (entry : Entry) → HasOneMore h k entry → (loads : List Loaded) (shapes : List Shape) (number : ℕ) (m : Meaning) → IsFirstOther h loads shapes number m → IsFirstOther k loads shapes number m
+still_first h k entry one loads shapes number m is = record {
   front = is.front;
   actor = is.actor;
   request = is.request;
   word = is.word;
-  later = later;
-  is_front = front;
+  later = entry ∷ is.later;
+  is_front = front_on is.front h k (is.later ++ Asked is.actor is.request is.word ∷ []) entry one is.is_front;
   names = is.names;
   number_is = is.number_is;
   ends = is.ends;
@@ -248,19 +238,13 @@ still_first h k loads shapes number m is later front = record {
 }
 
 pub behind_request : (h : History) (loads : List Loaded) (shapes : List Shape) (number : ℕ) (m : Meaning) (actor : ℕ) (request : Request) (word : Recorded) → IsFirstOther h loads shapes number m → IsFirstOther (record h { past = Asked actor request word ∷ h.past }) loads shapes number m
-behind_request h loads shapes number m actor request word is =
-    still_first h (record h { past = Asked actor request word ∷ h.past }) loads shapes number m is (Asked actor request word ∷ is.later)
-    (front_on is.front h (is.later ++ Asked is.actor is.request is.word ∷ []) (Asked actor request word) is.is_front)
+behind_request h loads shapes number m actor request word is = still_first h (record h { past = Asked actor request word ∷ h.past }) (Asked actor request word) (one_asked h actor request word) loads shapes number m is
 
 pub behind_load : (h : History) (loads : List Loaded) (shapes : List Shape) (number : ℕ) (m : Meaning) (shape : Shape) → IsFirstOther h loads shapes number m → IsFirstOther (record h { past = Load ∷ h.past; shapes = h.shapes ++ shape ∷ [] }) loads shapes number m
-behind_load h loads shapes number m shape is =
-    still_first h (record h { past = Load ∷ h.past; shapes = h.shapes ++ shape ∷ [] }) loads shapes number m is (Load ∷ is.later)
-    (load_on is.front h shape (is.later ++ Asked is.actor is.request is.word ∷ []) is.is_front)
+behind_load h loads shapes number m shape is = still_first h (record h { past = Load ∷ h.past; shapes = h.shapes ++ shape ∷ [] }) Load (one_load h shape) loads shapes number m is
 
 pub behind_list : (h : History) (loads : List Loaded) (shapes : List Shape) (number : ℕ) (m : Meaning) (list : List Words) → IsFirstOther h loads shapes number m → IsFirstOther (record h { past = ListChange ∷ h.past; lists = h.lists ++ list ∷ [] }) loads shapes number m
-behind_list h loads shapes number m list is =
-    still_first h (record h { past = ListChange ∷ h.past; lists = h.lists ++ list ∷ [] }) loads shapes number m is (ListChange ∷ is.later)
-    (list_on is.front h list (is.later ++ Asked is.actor is.request is.word ∷ []) is.is_front)
+behind_list h loads shapes number m list is = still_first h (record h { past = ListChange ∷ h.past; lists = h.lists ++ list ∷ [] }) ListChange (one_list h list) loads shapes number m is
 
 -- Where a call went well
 

@@ -1,13 +1,13 @@
 -- What a trace that was played tells: where every ask was the one recorded, it follows what was recorded; and where one wasn't,
 -- it does up to that one.
-use Rattle.std.proofs.Common.{◌≡◌, ◌⊎◌, inl, inr, [], ◌∷◌, ◌++◌, true, false, Option, Some, None, refl, sym, ap, ◌∙◌, subst}
+use Rattle.std.proofs.Common.{◌≡◌, ◌⊎◌, inl, inr, [], ◌∷◌, ◌++◌, true, false, Option, Some, None, refl, sym, ap, ◌∙◌, subst, append-nil}
 use Rattle.std.specs.Prelude.{unwrap_or}
 use Rattle.rv_event.specs.declared.entry.Answer.{Answer}
 use Rattle.rv_event.specs.declared.entry.Answer.TheVariants.{Full}
 use Rattle.rv_event.specs.declared.entry.Request.{Request}
 use Rattle.rv_exec.specs.Asking.{Trace, stands}
 use Rattle.rv_ends.specs.Explained.{AreStoppedEnds, Follows, FollowsToStop, is_stopped_end}
-use Rattle.rv_ends.specs.Following.{Goes, Place, Plays, may_follow, missed_by}
+use Rattle.rv_ends.specs.Following.{Goes, Place, Plays, gone_on, may_follow, missed, missed_by}
 
 some_is_none : {A X : Type 0} (a : A) → Some a ≡ None → X
 some_is_none a e = absurd cc
@@ -15,35 +15,34 @@ some_is_none a e = absurd cc
 pub true_is_false : {X : Type 0} → true ≡ false → X
 true_is_false e = absurd cc
 
--- The first other ask stays.
+-- What an ask leaves, recorded or missed, stays.
+
+stays : (P : Place → Type 0) → ((p : Place) (rest : Trace) (answer : Answer) → P p → P (gone_on p rest answer)) → ((p : Place) (r : Request) → P p → P (missed p r)) → (p q : Place) (trace : Trace) → P p → Plays p trace q → P q
+stays P on past p q [] is h = subst P h is
+stays P on past p q (pair ∷ trace) is h = stays P on past h.0 q trace (by_case h.1) h.2
+  where
+    by_case : Goes p pair h.0 → P h.0
+    by_case (inl g) = subst P (sym g.3) is
+    by_case (inr (inl g)) = subst P (sym g.4) (on p g.2 pair.1 is)
+    by_case (inr (inr g)) = subst P (sym g.3) (past p pair.0 is)
+
+-- So the first other ask does,
 
 missed_other : (o : Option Request) (x : Request) (p : Place) (r : Request) → p.other ≡ o → o ≡ Some x → (missed_by o p r).other ≡ Some x
 missed_other None x p r is e = some_is_none x (sym e)
 missed_other (Some y) x p r is e = is ∙ e
 
-goes_other : (p m : Place) (pair : Request × Answer) (x : Request) → p.other ≡ Some x → Goes p pair m → m.other ≡ Some x
-goes_other p m pair x is (inl g) = some_is_none x (sym is ∙ g.0)
-goes_other p m pair x is (inr (inl g)) = ap (λ (q : Place). q.other) g.4 ∙ is
-goes_other p m pair x is (inr (inr g)) = ap (λ (q : Place). q.other) g.3 ∙ missed_other p.other x p pair.0 refl is
-
 stays_other : (p q : Place) (trace : Trace) (x : Request) → p.other ≡ Some x → Plays p trace q → q.other ≡ Some x
-stays_other p q [] x is h = ap (λ (r : Place). r.other) (sym h) ∙ is
-stays_other p q (pair ∷ trace) x is h = stays_other h.0 q trace x (goes_other p h.0 pair x is h.1) h.2
+stays_other p q trace x is h = stays (λ (m : Place). m.other ≡ Some x) (λ m rest answer e. e) (λ m r e. missed_other m.other x m r refl e) p q trace is h
 
--- And so does something else behind it.
+-- and something else behind it.
 
 missed_broken : (o : Option Request) (p : Place) (r : Request) → p.is_broken ≡ true → (missed_by o p r).is_broken ≡ true
 missed_broken None p r is = is
 missed_broken (Some y) p r is = refl
 
-goes_broken : (p m : Place) (pair : Request × Answer) → p.is_broken ≡ true → Goes p pair m → m.is_broken ≡ true
-goes_broken p m pair is (inl g) = ap (λ (q : Place). q.is_broken) g.3 ∙ is
-goes_broken p m pair is (inr (inl g)) = ap (λ (q : Place). q.is_broken) g.4 ∙ is
-goes_broken p m pair is (inr (inr g)) = ap (λ (q : Place). q.is_broken) g.3 ∙ missed_broken p.other p pair.0 is
-
 stays_broken : (p q : Place) (trace : Trace) → p.is_broken ≡ true → Plays p trace q → q.is_broken ≡ true
-stays_broken p q [] is h = ap (λ (r : Place). r.is_broken) (sym h) ∙ is
-stays_broken p q (pair ∷ trace) is h = stays_broken h.0 q trace (goes_broken p h.0 pair is h.1) h.2
+stays_broken p q trace is h = stays (λ (m : Place). m.is_broken ≡ true) (λ m rest answer e. e) (λ m r e. missed_broken m.other m r e) p q trace is h
 
 -- Behind a miss there is another ask, so without one nothing was missed.
 
@@ -51,113 +50,7 @@ missed_some : (o : Option Request) (p : Place) (r : Request) → p.other ≡ o �
 missed_some None p r is = (r, refl)
 missed_some (Some y) p r is = (y, is)
 
--- Where no ask was another, the trace follows what was recorded.
-
-follows_all : (p q : Place) (trace : Trace) → Plays p trace q → q.other ≡ None → q.asked ≡ [] → Follows p.shapes p.held p.asked trace
-follows_all p q [] h none empty = ap (λ (r : Place). r.asked) h ∙ empty
-follows_all p q (pair ∷ trace) h none empty = by_case (follows_all h.0 q trace h.2 none empty) h.1
-  where
-    m_none : (o : Option Request) → h.0.other ≡ o → o ≡ None
-    m_none None is = refl
-    m_none (Some x) is = some_is_none x (sym (stays_other h.0 q trace x is h.2) ∙ none)
-
-    by_case : Follows h.0.shapes h.0.held h.0.asked trace → Goes p pair h.0 → Follows p.shapes p.held p.asked (pair ∷ trace)
-    by_case rest (inl g) = inl (g.1, g.2, subst (λ (r : Place). Follows r.shapes r.held r.asked trace) g.3 rest)
-    by_case rest (inr (inl g)) =
-        let p_none : p.other ≡ None = sym (ap (λ (r : Place). r.other) g.4) ∙ m_none h.0.other refl in
-        inr (g.0 p_none, g.2, g.3, subst (λ (r : Place). Follows r.shapes r.held r.asked trace) g.4 rest)
-    by_case rest (inr (inr g)) =
-        let x = missed_some p.other p pair.0 refl in
-        some_is_none x.0 (sym (ap (λ (r : Place). r.other) g.3 ∙ x.1) ∙ m_none h.0.other refl)
-
-pub by_recorded : (p q : Place) (trace : Trace) → Plays p trace q → q.other ≡ None → q.asked ≡ [] → Follows p.shapes p.held p.asked trace
-by_recorded = follows_all
-
--- Behind another ask what is played is what was recorded: ends by stopped.
-
-missed_again : (o : Option Request) (x : Request) (p : Place) (r : Request) → o ≡ Some x → (missed_by o p r).is_broken ≡ true
-missed_again None x p r e = some_is_none x (sym e)
-missed_again (Some y) x p r e = refl
-
-follows_some : (o : Option Request) (x r : Request) → o ≡ Some x → may_follow o r ≡ true → is_stopped_end r ≡ true
-follows_some None x r e f = some_is_none x (sym e)
-follows_some (Some y) x r e f = f
-
-unwound : (p q : Place) (trace : Trace) (x : Request) → p.other ≡ Some x → Plays p trace q → q.is_broken ≡ false → q.asked ≡ [] → (p.asked ≡ trace) × AreStoppedEnds trace
-unwound p q [] x is h whole empty = (ap (λ (r : Place). r.asked) h ∙ empty, tt)
-unwound p q (pair ∷ trace) x is h whole empty = by_case (unwound h.0 q trace x (goes_other p h.0 pair x is h.1) h.2 whole empty) h.1
-  where
-    by_case : (h.0.asked ≡ trace) × AreStoppedEnds trace → Goes p pair h.0 → (p.asked ≡ pair ∷ trace) × AreStoppedEnds (pair ∷ trace)
-    by_case rest (inl g) = some_is_none x (sym is ∙ g.0)
-    by_case rest (inr (inl g)) =
-        let tail : g.2 ≡ trace = sym (ap (λ (r : Place). r.asked) g.4) ∙ rest.0 in
-        (g.3 ∙ ap (λ (l : Trace). pair ∷ l) tail, (follows_some p.other x pair.0 is g.1, rest.1))
-    by_case rest (inr (inr g)) =
-        let broken : h.0.is_broken ≡ true = ap (λ (r : Place). r.is_broken) g.3 ∙ missed_again p.other x p pair.0 is in
-        true_is_false (sym (stays_broken h.0 q trace broken h.2) ∙ whole)
-
--- Where one ask was another, and behind it came ends by stopped alone, the trace follows what was recorded up to it.
-
-first_missed : (o : Option Request) (p : Place) (r : Request) → p.other ≡ o → o ≡ None → ((missed_by o p r).other ≡ Some r) × ((missed_by o p r).asked ≡ p.asked)
-first_missed None p r is e = (refl, refl)
-first_missed (Some y) p r is e = some_is_none y e
-
-same_some : (a b : Request) → Some a ≡ Some b → a ≡ b
-same_some a b e = ap (λ (o : Option Request). unwrap_or o a) e
-
-pair_is : (y : Request × Answer) (b : Request) → y.0 ≡ b → y.1 ≡ Full → y ≡ (b, Full)
-pair_is y b e f = λ i. (e i, f i)
-
-to_stop : (p q : Place) (trace : Trace) (x : Request) → p.other ≡ None → Plays p trace q → q.other ≡ Some x → q.is_broken ≡ false → q.asked ≡ []
-    → FollowsToStop p.shapes p.held p.asked x trace
-to_stop p q [] x none h other whole empty = some_is_none x (sym other ∙ sym (ap (λ (r : Place). r.other) h) ∙ none)
-to_stop p q (pair ∷ trace) x none h other whole empty = by_case (λ m_none. to_stop h.0 q trace x m_none h.2 other whole empty) h.1
-  where
-    by_case : (h.0.other ≡ None → FollowsToStop h.0.shapes h.0.held h.0.asked x trace) → Goes p pair h.0 → FollowsToStop p.shapes p.held p.asked x (pair ∷ trace)
-    by_case later (inl g) =
-        let m_none : h.0.other ≡ None = ap (λ (r : Place). r.other) g.3 ∙ none in
-        let s = subst (λ (r : Place). FollowsToStop r.shapes r.held r.asked x trace) g.3 (later m_none) in
-        record {
-          before = pair ∷ s.before;
-          done = s.done;
-          ends = s.ends;
-          recorded_is = s.recorded_is;
-          trace_is = ap (λ (l : Trace). pair ∷ l) s.trace_is;
-          follows = inl (g.1, g.2, s.follows);
-          stopped = s.stopped;
-        }
-    by_case later (inr (inl g)) =
-        let m_none : h.0.other ≡ None = ap (λ (r : Place). r.other) g.4 ∙ none in
-        let s = subst (λ (r : Place). FollowsToStop r.shapes r.held r.asked x trace) g.4 (later m_none) in
-        record {
-          before = pair ∷ s.before;
-          done = pair ∷ s.done;
-          ends = s.ends;
-          recorded_is = g.3 ∙ ap (λ (l : Trace). pair ∷ l) s.recorded_is;
-          trace_is = ap (λ (l : Trace). pair ∷ l) s.trace_is;
-          follows = inr (g.0 none, s.done, refl, s.follows);
-          stopped = s.stopped;
-        }
-    by_case later (inr (inr g)) =
-        let first = first_missed p.other p pair.0 refl none in
-        let m_other : h.0.other ≡ Some pair.0 = ap (λ (r : Place). r.other) g.3 ∙ first.0 in
-        let behind = unwound h.0 q trace pair.0 m_other h.2 whole empty in
-        let same : pair.0 ≡ x = same_some pair.0 x (sym (stays_other h.0 q trace pair.0 m_other h.2) ∙ other) in
-        record {
-          before = [];
-          done = [];
-          ends = trace;
-          recorded_is = sym first.1 ∙ sym (ap (λ (r : Place). r.asked) g.3) ∙ behind.0;
-          trace_is = ap (λ (y : Request × Answer). y ∷ trace) (pair_is pair x same g.0);
-          follows = refl;
-          stopped = behind.1;
-        }
-
-pub by_stop : (p q : Place) (trace : Trace) (x : Request) → p.other ≡ None → Plays p trace q → q.other ≡ Some x → q.is_broken ≡ false → q.asked ≡ []
-    → FollowsToStop p.shapes p.held p.asked x trace
-by_stop = to_stop
-
--- Where no ask was another, the trace follows what was recorded up to what is left.
+-- Where no ask was another, the trace follows what was recorded up to what is left,
 
 pub record FollowsFront (p : Place) (trace left : Trace) : Type 0 where
   pub front : Trace
@@ -188,9 +81,16 @@ follows_front p q (pair ∷ trace) h none = by_case (follows_front h.0 q trace h
         let x = missed_some p.other p pair.0 refl in
         some_is_none x.0 (sym (ap (λ (r : Place). r.other) g.3 ∙ x.1) ∙ m_none h.0.other refl)
 
+-- and where nothing is left, all of it.
+
+pub by_recorded : (p q : Place) (trace : Trace) → Plays p trace q → q.other ≡ None → q.asked ≡ [] → Follows p.shapes p.held p.asked trace
+by_recorded p q trace h none empty =
+    let s = follows_front p q trace h none in
+    subst (λ (l : Trace). Follows p.shapes p.held l trace) (sym (s.recorded_is ∙ ap (λ (l : Trace). s.front ++ l) empty ∙ append-nil s.front)) s.follows
+
 -- Where one ask was another, the trace follows what was recorded up to it.
 
-pub record ComesToOther (p : Place) (trace : Trace) (other : Request) : Type 0 where
+pub record ComesToOther (p q : Place) (trace : Trace) (other : Request) : Type 0 where
   pub front : Trace
   pub left : Trace
   pub before : Trace
@@ -199,42 +99,54 @@ pub record ComesToOther (p : Place) (trace : Trace) (other : Request) : Type 0 w
   pub trace_is : trace ≡ before ++ (other, Full) ∷ behind
   pub follows : Follows p.shapes p.held front before
   pub is_other : (answer : Answer) (rest : Trace) → left ≡ (other, answer) ∷ rest → stands answer ≡ true
+  -- the place behind it, and what is played from there
+  pub at : Place
+  pub at_left : at.asked ≡ left
+  pub at_other : at.other ≡ Some other
+  pub plays : Plays at behind q
+
+first_missed : (o : Option Request) (p : Place) (r : Request) → p.other ≡ o → o ≡ None → ((missed_by o p r).other ≡ Some r) × ((missed_by o p r).asked ≡ p.asked)
+first_missed None p r is e = (refl, refl)
+first_missed (Some y) p r is e = some_is_none y e
+
+same_some : (a b : Request) → Some a ≡ Some b → a ≡ b
+same_some a b e = ap (λ (o : Option Request). unwrap_or o a) e
+
+pair_is : (y : Request × Answer) (b : Request) → y.0 ≡ b → y.1 ≡ Full → y ≡ (b, Full)
+pair_is y b e f = λ i. (e i, f i)
 
 not_false : (o : Option Request) (r : Request) → o ≡ None → may_follow o r ≡ false → ⊥
 not_false None r e f = true_is_false f
 not_false (Some y) r e f = some_is_none y e
 
-pub comes_to_other : (p q : Place) (trace : Trace) (x : Request) → p.other ≡ None → Plays p trace q → q.other ≡ Some x → ComesToOther p trace x
+-- so it does with one ask more before it
+comes_on : (p m q : Place) (pair : Request × Answer) (trace : Trace) (x : Request) (s : ComesToOther m q trace x) (front : Trace) → p.asked ≡ front ++ s.left → Follows p.shapes p.held front (pair ∷ s.before) → ComesToOther p q (pair ∷ trace) x
+comes_on p m q pair trace x s front is follows = record {
+  front = front;
+  left = s.left;
+  before = pair ∷ s.before;
+  behind = s.behind;
+  recorded_is = is;
+  trace_is = ap (λ (l : Trace). pair ∷ l) s.trace_is;
+  follows = follows;
+  is_other = s.is_other;
+  at = s.at;
+  at_left = s.at_left;
+  at_other = s.at_other;
+  plays = s.plays;
+}
+
+pub comes_to_other : (p q : Place) (trace : Trace) (x : Request) → p.other ≡ None → Plays p trace q → q.other ≡ Some x → ComesToOther p q trace x
 comes_to_other p q [] x none h other = some_is_none x (sym other ∙ sym (ap (λ (r : Place). r.other) h) ∙ none)
 comes_to_other p q (pair ∷ trace) x none h other = by_case (λ m_none. comes_to_other h.0 q trace x m_none h.2 other) h.1
   where
-    by_case : (h.0.other ≡ None → ComesToOther h.0 trace x) → Goes p pair h.0 → ComesToOther p (pair ∷ trace) x
+    by_case : (h.0.other ≡ None → ComesToOther h.0 q trace x) → Goes p pair h.0 → ComesToOther p q (pair ∷ trace) x
     by_case later (inl g) =
-        let m_none : h.0.other ≡ None = ap (λ (r : Place). r.other) g.3 ∙ none in
-        let s = subst (λ (r : Place). ComesToOther r trace x) g.3 (later m_none) in
-        record {
-          front = s.front;
-          left = s.left;
-          before = pair ∷ s.before;
-          behind = s.behind;
-          recorded_is = s.recorded_is;
-          trace_is = ap (λ (l : Trace). pair ∷ l) s.trace_is;
-          follows = inl (g.1, g.2, s.follows);
-          is_other = s.is_other;
-        }
+        let s = subst (λ (r : Place). ComesToOther r q trace x) g.3 (later (ap (λ (r : Place). r.other) g.3 ∙ none)) in
+        comes_on p p q pair trace x s s.front s.recorded_is (inl (g.1, g.2, s.follows))
     by_case later (inr (inl g)) =
-        let m_none : h.0.other ≡ None = ap (λ (r : Place). r.other) g.4 ∙ none in
-        let s = subst (λ (r : Place). ComesToOther r trace x) g.4 (later m_none) in
-        record {
-          front = pair ∷ s.front;
-          left = s.left;
-          before = pair ∷ s.before;
-          behind = s.behind;
-          recorded_is = g.3 ∙ ap (λ (l : Trace). pair ∷ l) s.recorded_is;
-          trace_is = ap (λ (l : Trace). pair ∷ l) s.trace_is;
-          follows = inr (g.0 none, s.front, refl, s.follows);
-          is_other = s.is_other;
-        }
+        let s = subst (λ (r : Place). ComesToOther r q trace x) g.4 (later (ap (λ (r : Place). r.other) g.4 ∙ none)) in
+        comes_on p (gone_on p g.2 pair.1) q pair trace x s (pair ∷ s.front) (g.3 ∙ ap (λ (l : Trace). pair ∷ l) s.recorded_is) (inr (g.0 none, s.front, refl, s.follows))
     by_case later (inr (inr g)) =
         let first = first_missed p.other p pair.0 refl none in
         let m_other : h.0.other ≡ Some pair.0 = ap (λ (r : Place). r.other) g.3 ∙ first.0 in
@@ -248,8 +160,52 @@ comes_to_other p q (pair ∷ trace) x none h other = by_case (λ m_none. comes_t
           trace_is = ap (λ (y : Request × Answer). y ∷ trace) (pair_is pair x same g.0);
           follows = refl;
           is_other = λ answer rest at. stands_only answer (g.2 answer rest (at ∙ ap (λ (r : Request). (r, answer) ∷ rest) (sym same)));
+          at = h.0;
+          at_left = ap (λ (r : Place). r.asked) g.3 ∙ first.1;
+          at_other = m_other ∙ ap (λ (r : Request). Some r) same;
+          plays = h.2;
         }
       where
         stands_only : (answer : Answer) → (stands answer ≡ true) ⊎ (may_follow p.other pair.0 ≡ false) → stands answer ≡ true
         stands_only answer (inl is) = is
         stands_only answer (inr is) = absurd (not_false p.other pair.0 none is)
+
+-- Behind another ask what is played is what was recorded: ends by stopped.
+
+missed_again : (o : Option Request) (x : Request) (p : Place) (r : Request) → o ≡ Some x → (missed_by o p r).is_broken ≡ true
+missed_again None x p r e = some_is_none x (sym e)
+missed_again (Some y) x p r e = refl
+
+follows_some : (o : Option Request) (x r : Request) → o ≡ Some x → may_follow o r ≡ true → is_stopped_end r ≡ true
+follows_some None x r e f = some_is_none x (sym e)
+follows_some (Some y) x r e f = f
+
+unwound : (p q : Place) (trace : Trace) (x : Request) → p.other ≡ Some x → Plays p trace q → q.is_broken ≡ false → q.asked ≡ [] → (p.asked ≡ trace) × AreStoppedEnds trace
+unwound p q [] x is h whole empty = (ap (λ (r : Place). r.asked) h ∙ empty, tt)
+unwound p q (pair ∷ trace) x is h whole empty = by_case (unwound h.0 q trace x (stays_other p h.0 (pair ∷ []) x is (h.0, h.1, refl)) h.2 whole empty) h.1
+  where
+    by_case : (h.0.asked ≡ trace) × AreStoppedEnds trace → Goes p pair h.0 → (p.asked ≡ pair ∷ trace) × AreStoppedEnds (pair ∷ trace)
+    by_case rest (inl g) = some_is_none x (sym is ∙ g.0)
+    by_case rest (inr (inl g)) =
+        let tail : g.2 ≡ trace = sym (ap (λ (r : Place). r.asked) g.4) ∙ rest.0 in
+        (g.3 ∙ ap (λ (l : Trace). pair ∷ l) tail, (follows_some p.other x pair.0 is g.1, rest.1))
+    by_case rest (inr (inr g)) =
+        let broken : h.0.is_broken ≡ true = ap (λ (r : Place). r.is_broken) g.3 ∙ missed_again p.other x p pair.0 is in
+        true_is_false (sym (stays_broken h.0 q trace broken h.2) ∙ whole)
+
+-- Where one ask was another, and behind it came ends by stopped alone, they are what else was recorded.
+
+pub by_stop : (p q : Place) (trace : Trace) (x : Request) → p.other ≡ None → Plays p trace q → q.other ≡ Some x → q.is_broken ≡ false → q.asked ≡ []
+    → FollowsToStop p.shapes p.held p.asked x trace
+by_stop p q trace x none h other whole empty =
+    let s = comes_to_other p q trace x none h other in
+    let ends = unwound s.at q s.behind x s.at_other s.plays whole empty in
+    record {
+      before = s.before;
+      done = s.front;
+      ends = s.behind;
+      recorded_is = s.recorded_is ∙ ap (λ (l : Trace). s.front ++ l) (sym s.at_left ∙ ends.0);
+      trace_is = s.trace_is;
+      follows = s.follows;
+      stopped = ends.1;
+    }

@@ -1,5 +1,6 @@
 -- The ends of bodies, entry by entry of a journal (own).
-use Rattle.std.specs.Prelude.{◌≡◌, ℕ, Bool, true, false, ◌==◌, if◌then◌else◌, List, [], ◌∷◌, map, Option, Some, None, is_some}
+use Rattle.std.specs.Prelude.{◌≡◌, ℕ, Bool, true, false, ◌==◌, not, if◌then◌else◌, List, [], ◌∷◌, map, Option, Some, None, is_some}
+use Rattle.std.specs.List.{filter}
 use Rattle.rv_code.specs.Bodies.{UnitBodies}
 use Rattle.rv_event.specs.Recorded.{recorded}
 use Rattle.rv_event.specs.declared.entry.Answer.{Answer}
@@ -36,8 +37,7 @@ AllStopped h (stop ∷ stops) = IsStopped h stop.actor stop.ask × AllStopped h 
 
 -- those that stopped others than this actor
 abbrev pub of_others : ℕ → List Stop → List Stop
-of_others actor [] = []
-of_others actor (stop ∷ stops) = if stop.actor == actor then of_others actor stops else stop ∷ of_others actor stops
+of_others actor stops = filter (λ stop. not (stop.actor == actor)) stops
 
 -- those that are left behind a request of an actor: behind an end by stopped and a settle all
 abbrev pub left_stops : Request → ℕ → List Stop → List Stop

@@ -1,5 +1,6 @@
 //! What is afoot behind the entries of a journal: calls that wait, and bodies that are open.
 
+use crate::others::OfActor;
 use rv_event::entry::{Answer, Request};
 use rv_value::{Args, Scalars};
 
@@ -10,6 +11,14 @@ pub struct QueuedCall {
     pub object: usize,
     pub operation: usize,
     pub values: Args,
+}
+
+impl OfActor for QueuedCall {
+    ghost actor_of = { λ call. call.actor };
+
+    fn actor(&self) -> usize {
+        self.actor
+    }
 }
 
 /// With what a body started (9.5.1).

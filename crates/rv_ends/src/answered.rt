@@ -1,11 +1,12 @@
 //! What an answered request changes of what is afoot.
 
-ghost use Rattle.std.specs.Prelude.{◌≡◌, ◌<◌, ◌≤◌, ◌^◌, ◌∷◌, ◌-◌, suc, length, map, option_map, remove, Some, None, IfOk, OnOk, IfSome, IsNone};
+ghost use Rattle.std.specs.Prelude.{◌≡◌, ◌<◌, ◌≤◌, ◌^◌, ◌∷◌, ◌-◌, suc, length, map, option_map, remove, Some, None, OnOk, IfSome, IsNone};
 ghost use Rattle.rv_event.specs.Past.{named_in};
 ghost use Rattle.rv_ends.specs.Explained.{innermost};
 ghost use Rattle.rv_ends.specs.Afoot.{begun, call_of, called, closed, components_of, fired, handed, handed_next, holding, is_ask, is_end, is_queued, joined, left, next_of, open_view, queued, started, with_ask, without};
 
 use crate::afoot::{OpenBody, QueuedCall, Start};
+use crate::others::of_others;
 use rv_event::entry::{Answer, Exception, Exit, Next, Request, Rule};
 use rv_host::host::Host;
 use rv_value::{Args, Scalars};
@@ -304,20 +305,6 @@ fn next_of(answer: &Answer) -> Next
     }
 }
 
-// The calls without those of an actor.
-fn leave(alloc: Global, calls: &[QueuedCall], actor: usize) -> Result<Vec<QueuedCall>, AllocError>
-    ensures { IfOk result (λ others. others.items ≡ left (Some actor) calls.now) }
-{
-    let Some((first, rest)) = calls.split_first() else {
-        return Ok(Vec::new(alloc));
-    };
-    let mut others = leave(alloc, rest, actor)?;
-    if first.actor != actor {
-        others.insert(0, *first)?;
-    }
-    Ok(others)
-}
-
 // The calls without those of an actor, if one is named.
 fn leave_if(
     alloc: Global,
@@ -329,7 +316,7 @@ fn leave_if(
     let Some(actor) = named else {
         return Ok(());
     };
-    let others = leave(alloc, calls.as_slice(), actor)?;
+    let others = of_others(alloc, calls.as_slice(), actor)?;
     *calls = others;
     Ok(())
 }

@@ -20,6 +20,7 @@ use crate::afoot::{OpenBody, QueuedCall};
 use crate::answered::{begin, close, hear_all, innermost, queue, started};
 use crate::following::is_same;
 use crate::meaning::{Course, Meaning, course_of};
+use crate::others::{OfActor, of_others};
 use rv_access::AccessList;
 use rv_code::UnitBodies;
 use rv_event::entry::{Answer, Exception, Exit, Mode, Next, Request, Rule};
@@ -35,6 +36,14 @@ use std::alloc::{AllocError, Global};
 pub struct Stop {
     pub actor: usize,
     pub ask: Request,
+}
+
+impl OfActor for Stop {
+    ghost actor_of = { λ stop. stop.actor };
+
+    fn actor(&self) -> usize {
+        self.actor
+    }
 }
 
 /// The ends of bodies in a journal that is carried out again: a host of its own, the texts of what was loaded, the calls that
@@ -79,20 +88,6 @@ fn has_settled(host: &Host, actor: usize) -> bool
         Some(mode) => !matches!(mode, Mode::Settling),
         None => false,
     }
-}
-
-// What stopped others than this actor.
-fn without(alloc: Global, stops: &[Stop], actor: usize) -> Result<Vec<Stop>, AllocError>
-    ensures { IfOk result (λ others. others.items ≡ of_others actor stops.now) }
-{
-    let Some((first, rest)) = stops.split_first() else {
-        return Ok(Vec::new(alloc));
-    };
-    let mut others = without(alloc, rest, actor)?;
-    if first.actor != actor {
-        others.insert(0, *first)?;
-    }
-    Ok(others)
 }
 
 // Whether this ask stopped the actor.
@@ -220,7 +215,7 @@ impl Ends {
         if unwinds(request) {
             return Ok(());
         }
-        self.stops = without(self.alloc, self.stops.as_slice(), actor)?;
+        self.stops = of_others(self.alloc, self.stops.as_slice(), actor)?;
         Ok(())
     }
 

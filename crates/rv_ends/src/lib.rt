@@ -7,4 +7,5 @@ mod answered;
 pub mod ends;
 mod following;
 pub mod meaning;
+mod others;
 pub mod tally;

@@ -1,11 +1,11 @@
 use Rattle.std.proofs.Common.{sym, ◌∙◌}
-use Rattle.rv_ends.specs.Tally.{IsCarriedOut, TakesRequest}
-use Rattle.rv_ends.proofs.Counting.{on_ok, took_end, took_found, took_other}
+use Rattle.std.proofs.lemmas.Result.{on_ok_weaker}
+use Rattle.rv_ends.proofs.Counting.{took_end, took_found, took_other}
 use Rattle.rv_ends.proofs.tally.Tally.ask.Goals as goal
 
 pub returns-then-not-is_end : goal.returns-then-not-is_end
 returns-then-not-is_end c =
-    on_ok c.carry_out.result (IsCarriedOut c.args.self.now c.carry_out.new.self c.args.actor c.args.request.now) (TakesRequest c.args.self.now c.carry_out.new.self c.args.number c.args.actor c.args.request.now)
+    on_ok_weaker c.carry_out.result
     (took_other c.args.self.now c.carry_out.new.self c.args.number c.args.actor c.args.request.now (sym c.is_end.ensures ∙ c.if-not-is_end.true)) c.carry_out.ensures
 
 pub returns-then-not-goes_on : goal.returns-then-not-goes_on
@@ -15,6 +15,6 @@ returns-then-not-goes_on c =
 
 pub returns : goal.returns
 returns c =
-    on_ok c.carry_out-2.result (IsCarriedOut c.note.new.self c.carry_out-2.new.self c.args.actor c.args.request.now) (TakesRequest c.args.self.now c.carry_out-2.new.self c.args.number c.args.actor c.args.request.now)
+    on_ok_weaker c.carry_out-2.result
     (took_end c.args.self.now c.note.new.self c.carry_out-2.new.self c.args.number c.args.actor c.args.request.now c.replays.ensures.most c.replays.ensures.solvent
     (sym c.is_end.ensures ∙ c.if-not-is_end.false) c.in_ok-note.ensures (sym c.goes_on.ensures ∙ c.if-not-goes_on.false)) c.carry_out-2.ensures
