@@ -1,12 +1,11 @@
 -- What a trace of a port left in what it has seen.
-use Rattle.std.proofs.Common.{◌≡◌, ◌⊎◌, inl, inr, ⊎_elim, ℕ, List, [], ◌∷◌, ◌++◌, Bool, true, false, cond, eq-eqb, refl, sym, ap, ◌∙◌, subst, append_assoc, append-nil, Option, Some, None}
+use Rattle.std.proofs.Common.{◌≡◌, ◌⊎◌, inl, inr, ⊎_elim, ℕ, List, [], ◌∷◌, ◌++◌, Bool, false, cond, eq-eqb, refl, sym, ap, ◌∙◌, subst, append_assoc, append-nil, Option, Some, None}
 use Rattle.std.specs.Prelude.{is_some}
 use Rattle.rv_event.specs.Recorded.{recorded}
 use Rattle.rv_event.specs.declared.entry.Request.{Request}
 use Rattle.rv_event.specs.declared.entry.Answer.{Answer}
 use Rattle.rv_event.specs.declared.entry.Answer.TheVariants as Answers
 use Rattle.rv_event.specs.declared.entry.Recorded.{Recorded}
-use Rattle.rv_exec.specs.Stops.{is_final, stops_bodies}
 use Rattle.rv_history.specs.declared.limits.Limits.{Limits}
 use Rattle.rv_history.specs.Due.{out}
 use Rattle.rv_turn.specs.Histories.{mine, StartsWith}
@@ -58,21 +57,7 @@ same_asks limits a one other later w z e =
 
 pub told_recorded : (d : Answer) (word : Recorded) → recorded (told d) ≡ Some word → told d ≡ d
 told_recorded Answers.Misuse word e = absurd (cc e)
-told_recorded Answers.Halted word e = refl
-told_recorded Answers.Full word e = refl
-told_recorded (Answers.Started s) word e = refl
-told_recorded Answers.Queued word e = refl
-told_recorded (Answers.Refused rule line version) word e = refl
-told_recorded (Answers.Done n) word e = refl
-told_recorded Answers.Suspended word e = refl
-told_recorded Answers.Delayed word e = refl
-told_recorded (Answers.Woken s) word e = refl
-told_recorded (Answers.Accepted n) word e = refl
-told_recorded Answers.Busy word e = refl
-told_recorded Answers.Waiting word e = refl
-told_recorded Answers.Unattached word e = refl
-told_recorded Answers.BadLine word e = refl
-told_recorded Answers.OutOfMemory word e = refl
+told_recorded d word e = refl
 
 -- The asks of a trace, in what was seen
 

@@ -55,55 +55,19 @@ first_settles : (q : Request) (r : Answer) → of_first q r ≡ true → settles
 first_settles q Answers.Unattached e = e
 first_settles q Answers.BadLine e = e
 first_settles q Answers.OutOfMemory e = e
-first_settles q (Answers.Started s) e = refl
-first_settles q Answers.Queued e = refl
-first_settles q (Answers.Refused rule line version) e = refl
-first_settles q (Answers.Done n) e = refl
-first_settles q Answers.Suspended e = refl
-first_settles q Answers.Delayed e = refl
-first_settles q (Answers.Woken s) e = refl
-first_settles q (Answers.Accepted n) e = refl
-first_settles q Answers.Misuse e = refl
-first_settles q Answers.Halted e = refl
-first_settles q Answers.Full e = refl
-first_settles q Answers.Busy e = refl
-first_settles q Answers.Waiting e = refl
+first_settles q r e = refl
 
 end_settles : (r : Answer) → of_end r ≡ true → settles r ≡ true
-end_settles (Answers.Done n) e = refl
-end_settles Answers.Misuse e = refl
-end_settles Answers.Full e = refl
 end_settles Answers.Unattached e = e
 end_settles Answers.BadLine e = e
 end_settles Answers.OutOfMemory e = e
-end_settles (Answers.Started s) e = refl
-end_settles Answers.Queued e = refl
-end_settles (Answers.Refused rule line version) e = refl
-end_settles Answers.Suspended e = refl
-end_settles Answers.Delayed e = refl
-end_settles (Answers.Woken s) e = refl
-end_settles (Answers.Accepted n) e = refl
-end_settles Answers.Halted e = refl
-end_settles Answers.Busy e = refl
-end_settles Answers.Waiting e = refl
+end_settles r e = refl
 
 resume_settles : (r : Answer) → of_resume r ≡ true → settles r ≡ true
 resume_settles Answers.Unattached e = e
 resume_settles Answers.BadLine e = e
 resume_settles Answers.OutOfMemory e = e
-resume_settles (Answers.Started s) e = refl
-resume_settles Answers.Queued e = refl
-resume_settles (Answers.Refused rule line version) e = refl
-resume_settles (Answers.Done n) e = refl
-resume_settles Answers.Suspended e = refl
-resume_settles Answers.Delayed e = refl
-resume_settles (Answers.Woken s) e = refl
-resume_settles (Answers.Accepted n) e = refl
-resume_settles Answers.Misuse e = refl
-resume_settles Answers.Halted e = refl
-resume_settles Answers.Full e = refl
-resume_settles Answers.Busy e = refl
-resume_settles Answers.Waiting e = refl
+resume_settles r e = refl
 
 plain_settles : (room fit shut : Bool) → settles (within room (gate fit shut nothing_more)) ≡ true
 plain_settles true true true = refl
@@ -130,14 +94,6 @@ Kind d r = (is_some (recorded r) ≡ true) ⊎ ((stops_bodies d ≡ true) × (is
 kind_of : (d r : Answer) → r ≡ told d → settles d ≡ true → asks_on r ≡ false → Kind d r
 kind_of d r e s n = subst (λ (z : Answer). Kind d z) (sym e) (by_answer d s (ap asks_on (sym e) ∙ n)) where
   by_answer : (d : Answer) → settles d ≡ true → asks_on (told d) ≡ false → Kind d (told d)
-  by_answer (Answers.Started c) s n = inl refl
-  by_answer Answers.Queued s n = inl refl
-  by_answer (Answers.Refused rule line version) s n = inl refl
-  by_answer (Answers.Done x) s n = inl refl
-  by_answer Answers.Suspended s n = inl refl
-  by_answer Answers.Delayed s n = inl refl
-  by_answer (Answers.Woken c) s n = inl refl
-  by_answer (Answers.Accepted x) s n = inl refl
   by_answer Answers.Misuse s n = inr (refl, refl)
   by_answer Answers.Halted s n = inr (refl, refl)
   by_answer Answers.Full s n = inr (refl, refl)
@@ -146,24 +102,11 @@ kind_of d r e s n = subst (λ (z : Answer). Kind d z) (sym e) (by_answer d s (ap
   by_answer Answers.Unattached s n = absurd (cc s)
   by_answer Answers.BadLine s n = absurd (cc s)
   by_answer Answers.OutOfMemory s n = absurd (cc s)
+  by_answer d s n = inl refl
 
 told_calm : (d : Answer) → asks_on d ≡ false → asks_on (told d) ≡ false
 told_calm Answers.Misuse e = refl
-told_calm (Answers.Started c) e = e
-told_calm Answers.Queued e = e
-told_calm (Answers.Refused rule line version) e = e
-told_calm (Answers.Done x) e = e
-told_calm Answers.Suspended e = e
-told_calm Answers.Delayed e = e
-told_calm (Answers.Woken c) e = e
-told_calm (Answers.Accepted x) e = e
-told_calm Answers.Halted e = e
-told_calm Answers.Full e = e
-told_calm Answers.Busy e = e
-told_calm Answers.Waiting e = e
-told_calm Answers.Unattached e = e
-told_calm Answers.BadLine e = e
-told_calm Answers.OutOfMemory e = e
+told_calm d e = e
 
 -- none of the answers of a port's steps leaves its request standing
 tells_calm : (v w : Passing) (q : Request) (r : Answer) → Tells v q r w → asks_on r ≡ false

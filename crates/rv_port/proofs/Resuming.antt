@@ -1,18 +1,17 @@
 -- One that waits and asks nothing else: what it is at, and what its resume can be answered.
-use Rattle.std.proofs.Common.{◌≡◌, ℕ, Bool, true, false, eqb, if◌then◌else◌, List, [], ◌∷◌, ◌++◌, length, reverse, Option, Some, None, refl, sym, ap, ◌∙◌, subst, arith, length-append}
-use Rattle.std.specs.Prelude.{ℤ, ◌&&◌, ◌||◌, not, nat_lt, int_le, pos}
+use Rattle.std.proofs.Common.{◌≡◌, ℕ, Bool, true, false, eqb, if◌then◌else◌, List, [], ◌∷◌, ◌++◌, length, reverse, Some, None, refl, sym, ap, ◌∙◌, subst, arith, length-append}
+use Rattle.std.specs.Prelude.{ℤ, ◌&&◌, ◌||◌, not, int_le, pos}
 use Rattle.std.specs.List.{list_any}
 use Rattle.std.proofs.lemmas.Bool.Decides.{nat_tests}
 use Rattle.std.proofs.lemmas.List.{reverse-append, reverse-reverse}
 use Rattle.rv_access.specs.Words.{Words as Words_of}
 use Rattle.rv_shape.specs.Shape.{Shape}
-use Rattle.rv_event.specs.Past.{clock, halted, held, is_own, mode, mode_by, or_settling, released, stance, to_settle}
+use Rattle.rv_event.specs.Past.{clock, halted, is_own, released, stance}
 use Rattle.rv_event.specs.Recorded.{recorded}
-use Rattle.rv_event.specs.declared.entry.Body.{Body}
 use Rattle.rv_event.specs.declared.entry.Answer.{Answer}
 use Rattle.rv_event.specs.declared.entry.Answer.TheVariants as Answers
 use Rattle.rv_event.specs.declared.entry.Stance.{Stance}
-use Rattle.rv_event.specs.declared.entry.Stance.TheVariants.{Free, InQueue, HandedOver, DroppedBy, WaitsOn, WaitsUntil, Gone}
+use Rattle.rv_event.specs.declared.entry.Stance.TheVariants.{Free, InQueue, WaitsOn, WaitsUntil, Gone}
 use Rattle.rv_event.specs.declared.entry.Entry.{Entry}
 use Rattle.rv_event.specs.declared.entry.Entry.TheVariants.{Asked}
 use Rattle.rv_event.specs.declared.entry.Request.{Request}
@@ -22,13 +21,12 @@ use Rattle.rv_event.specs.declared.entry.Recorded.TheVariants as Words
 use Rattle.rv_history.specs.declared.limits.Limits.{Limits}
 use Rattle.rv_history.specs.History.{History}
 use Rattle.rv_history.specs.Legal.{Legal, IsLegal}
-use Rattle.rv_history.specs.Fitting.{awaits, fits}
-use Rattle.rv_history.specs.Owed.{actors}
 use Rattle.rv_history.specs.Due.{out, due, table, gate, within, enough, goes_on, due_resume, or_waiting}
 use Rattle.rv_history.proofs.Frame.{stance_stays}
-use Rattle.rv_history.proofs.Silent.{is_queued, apart_while, known_actor}
-use Rattle.rv_history.proofs.Standing.{legal_standing, none_left as nothing_left}
-use Rattle.rv_history.proofs.Resumes.{to_test}
+use Rattle.rv_history.proofs.Resumes.{resume_fits}
+use Rattle.rv_history.proofs.Silent.{is_queued, apart_while}
+use Rattle.rv_history.proofs.Stances.{is_waiting}
+use Rattle.rv_history.proofs.Tells.{each_waiting, is_pause, out_tells}
 use Rattle.rv_accounts.proofs.Queued.{in_queue, own_now, still_in_queue}
 use Rattle.rv_turn.specs.Histories.{mine, StartsWith}
 use Rattle.rv_turn.specs.Prefixes.{mine-append}
@@ -77,33 +75,21 @@ none_own a (Lists l ∷ es) e =
 
 -- at a wait that starts no body
 abbrev pub paused : Stance → Bool
-paused (WaitsOn object) = true
-paused (WaitsUntil time) = true
-paused s = false
+paused s = is_pause s
 
--- at either
+-- at this or in a queue
 abbrev pub waits : Stance → Bool
-waits Free = false
-waits Gone = false
-waits s = true
+waits s = is_waiting s
 
 pub queue_waits : (s : Stance) → in_queue s ≡ true → waits s ≡ true
-queue_waits InQueue e = refl
-queue_waits HandedOver e = refl
-queue_waits (DroppedBy line) e = refl
 queue_waits Free e = absurd (cc e)
-queue_waits (WaitsOn object) e = refl
-queue_waits (WaitsUntil time) e = refl
 queue_waits Gone e = absurd (cc e)
+queue_waits s e = refl
 
 pub pause_waits : (s : Stance) → paused s ≡ true → waits s ≡ true
-pause_waits InQueue e = refl
-pause_waits HandedOver e = refl
-pause_waits (DroppedBy line) e = refl
 pause_waits Free e = absurd (cc e)
-pause_waits (WaitsOn object) e = refl
-pause_waits (WaitsUntil time) e = refl
 pause_waits Gone e = absurd (cc e)
+pause_waits s e = refl
 
 itself : (a : ℕ) → eqb a a ≡ true
 itself a = grind (arith, nat_tests)
@@ -120,13 +106,8 @@ paused_now a (DelayUntil time) Words.Delayed past t = (own_now (eqb a a) (WaitsU
 paused_now a q wait past t = absurd t
 
 not_queued : (s : Stance) → paused s ≡ true → is_queued s ≡ false
-not_queued (WaitsOn object) e = refl
-not_queued (WaitsUntil time) e = refl
-not_queued Free e = refl
 not_queued InQueue e = absurd (cc e)
-not_queued HandedOver e = refl
-not_queued (DroppedBy line) e = refl
-not_queued Gone e = refl
+not_queued s e = refl
 
 -- nobody names one at a pause
 pub still_paused : (c : Limits) (shapes : List Shape) (lists : List (List Words_of)) (a : ℕ) (q : Request) (wait : Recorded) (later past : List Entry) → IsLegal c (later ++ Asked a q wait ∷ past) shapes lists → IsPause q wait → list_any (is_own a) later ≡ false
@@ -144,86 +125,34 @@ is_sound Answers.Misuse = false
 is_sound r = true
 
 waiting_sound : (h : History) (ready : Bool) → is_sound (or_waiting h ready) ≡ true
-waiting_sound h true = refl
-waiting_sound h false = by_halt (halted h.past) where
-  by_halt : (b : Bool) → is_sound (if b then Answers.Halted else Answers.Waiting) ≡ true
-  by_halt true = refl
-  by_halt false = refl
+waiting_sound h ready = each_waiting (λ r. is_sound r ≡ true) h ready refl refl refl
 
 due_sound : (h : History) (a : ℕ) (s : Stance) → waits s ≡ true → is_sound (due_resume h a s) ≡ true
 due_sound h a Free e = absurd (cc e)
 due_sound h a InQueue e = waiting_sound h false
-due_sound h a HandedOver e = refl
-due_sound h a (DroppedBy line) e = refl
 due_sound h a (WaitsOn object) e = waiting_sound h (released a object h.past)
 due_sound h a (WaitsUntil time) e = waiting_sound h (int_le time (pos (clock h.past)))
 due_sound h a Gone e = absurd (cc e)
+due_sound h a s e = refl
 
 open_sound : (room shut : Bool) (r : Answer) → is_sound r ≡ true → is_sound (within room (gate true shut r)) ≡ true
 open_sound true true r e = refl
 open_sound true false r e = e
 open_sound false shut r e = refl
 
-awaits_at : (bodies : List Body) (s : Stance) → waits s ≡ true → awaits (mode_by bodies s) ≡ true
-awaits_at bodies Free e = absurd (cc e)
-awaits_at bodies InQueue e = refl
-awaits_at bodies HandedOver e = refl
-awaits_at bodies (DroppedBy line) e = refl
-awaits_at bodies (WaitsOn object) e = refl
-awaits_at bodies (WaitsUntil time) e = refl
-awaits_at bodies Gone e = absurd (cc e)
-
-both_true : (b c : Bool) → b ≡ true → c ≡ true → (b && c) ≡ true
-both_true true c e f = f
-both_true false c e f = absurd (cc e)
-
-busy : (h : History) (a : ℕ) → waits (stance a h.past) ≡ true → stance a h.past ≡ Free → ⊥
-busy h a e free = absurd (cc (sym (ap waits free) ∙ e))
-
 -- the resume of one that waits is no misuse
 pub resume_sound : (h : History) (a : ℕ) → Legal h → waits (stance a h.past) ≡ true → is_sound (out h a Resume) ≡ true
 resume_sound h a legal e =
-    let settled : to_settle h.shapes a h.past ≡ None = nothing_left h.shapes h.past a (legal_standing h.limits h.past h.shapes h.lists legal).left (busy h a e) in
-    let fit : fits h a Resume ≡ true = both_true (nat_lt a (actors h.shapes)) (awaits (mode h.shapes a h.past))
-    (to_test a (actors h.shapes) (known_actor h a legal (busy h a e)))
-    (ap (λ (o : Option Body). awaits (or_settling o (mode_by (held h.shapes a h.past) (stance a h.past)))) settled ∙ awaits_at (held h.shapes a h.past) (stance a h.past) e) in
-    ap (λ (f : Bool). is_sound (within (enough h a Resume (recorded (due h a Resume))) (gate f (halted h.past && not (goes_on Resume)) (table h a Resume)))) fit
+    ap (λ (f : Bool). is_sound (within (enough h a Resume (recorded (due h a Resume))) (gate f (halted h.past && not (goes_on Resume)) (table h a Resume)))) (resume_fits h a legal e)
     ∙ open_sound (enough h a Resume (recorded (due h a Resume))) (halted h.past && not (goes_on Resume)) (table h a Resume) (due_sound h a (stance a h.past) e)
-
--- a property of what is due is one of the answer, where neither a refusal by the gate nor Full has it
-through : (P : Answer → Bool) → P Answers.Misuse ≡ false → P Answers.Halted ≡ false → P Answers.Full ≡ false → (room fit shut : Bool) (r : Answer) → P (within room (gate fit shut r)) ≡ true → P r ≡ true
-through P m h f true true true r e = absurd (cc (h, e))
-through P m h f true true false r e = e
-through P m h f true false shut r e = absurd (cc (m, e))
-through P m h f false fit shut r e = absurd (cc (f, e))
-
-resume_has : (P : Answer → Bool) → P Answers.Misuse ≡ false → P Answers.Halted ≡ false → P Answers.Full ≡ false → (h : History) (a : ℕ) → P (out h a Resume) ≡ true → P (due_resume h a (stance a h.past)) ≡ true
-resume_has P m k f h a e =
-    through P m k f (enough h a Resume (recorded (due h a Resume))) (fits h a Resume) (halted h.past && not (goes_on Resume)) (table h a Resume) e
-
--- woken with no scalars
-abbrev pub is_plain : Answer → Bool
-is_plain (Answers.Woken None) = true
-is_plain r = false
-
-queue_not_plain : (h : History) → is_plain (or_waiting h false) ≡ false
-queue_not_plain h = by_halt (halted h.past) where
-  by_halt : (b : Bool) → is_plain (if b then Answers.Halted else Answers.Waiting) ≡ false
-  by_halt true = refl
-  by_halt false = refl
-
-plain_due : (h : History) (a : ℕ) (s : Stance) → in_queue s ≡ true → is_plain (due_resume h a s) ≡ false
-plain_due h a InQueue e = queue_not_plain h
-plain_due h a HandedOver e = refl
-plain_due h a (DroppedBy line) e = refl
-plain_due h a Free e = refl
-plain_due h a (WaitsOn object) e = absurd (cc e)
-plain_due h a (WaitsUntil time) e = absurd (cc e)
-plain_due h a Gone e = refl
 
 -- one that was queued is woken with scalars
 pub queue_wakes : {X : Type 0} (h : History) (a : ℕ) → in_queue (stance a h.past) ≡ true → out h a Resume ≡ Answers.Woken None → X
-queue_wakes h a e is = absurd (cc (resume_has is_plain refl refl refl h a (ap is_plain is), plain_due h a (stance a h.past) e))
+queue_wakes {X = X} h a e is = by_stance (stance a h.past) e (out_tells h a Resume (Answers.Woken None) is (λ f. cc f)).1 where
+  by_stance : (s : Stance) → in_queue s ≡ true → is_pause s ≡ true → X
+  by_stance (WaitsOn object) e f = absurd (cc e)
+  by_stance (WaitsUntil time) e f = absurd (cc e)
+  by_stance s e f = absurd (cc f)
 
 -- woken with scalars, or refused
 abbrev pub is_named : Answer → Bool
@@ -231,25 +160,11 @@ is_named (Answers.Woken (Some scalars)) = true
 is_named (Answers.Refused rule line version) = true
 is_named r = false
 
-waiting_not_named : (h : History) (ready : Bool) → is_named (or_waiting h ready) ≡ false
-waiting_not_named h true = refl
-waiting_not_named h false = by_halt (halted h.past) where
-  by_halt : (b : Bool) → is_named (if b then Answers.Halted else Answers.Waiting) ≡ false
-  by_halt true = refl
-  by_halt false = refl
-
-named_due : (h : History) (a : ℕ) (s : Stance) → paused s ≡ true → is_named (due_resume h a s) ≡ false
-named_due h a InQueue e = absurd (cc e)
-named_due h a HandedOver e = absurd (cc e)
-named_due h a (DroppedBy line) e = absurd (cc e)
-named_due h a Free e = refl
-named_due h a (WaitsOn object) e = waiting_not_named h (released a object h.past)
-named_due h a (WaitsUntil time) e = waiting_not_named h (int_le time (pos (clock h.past)))
-named_due h a Gone e = refl
-
 -- one at a pause is woken with no scalars, and isn't refused
 pub pause_unnamed : {X : Type 0} (h : History) (a : ℕ) (r : Answer) → paused (stance a h.past) ≡ true → out h a Resume ≡ r → is_named r ≡ true → X
-pause_unnamed h a r e is named = absurd (cc (resume_has is_named refl refl refl h a (ap is_named is ∙ named), named_due h a (stance a h.past) e))
+pause_unnamed h a (Answers.Woken (Some s)) e is named = absurd (cc (sym (ap is_pause (out_tells h a Resume (Answers.Woken (Some s)) is (λ f. cc f)).1.0) ∙ e))
+pause_unnamed h a (Answers.Refused rule line version) e is named = absurd (cc (sym (ap is_pause (out_tells h a Resume (Answers.Refused rule line version) is (λ f. cc f)).0) ∙ e))
+pause_unnamed h a r e is named = absurd (cc named)
 
 -- Of events
 

@@ -7,9 +7,8 @@ use Rattle.rv_code.specs.declared.expression.Callee.{Callee}
 use Rattle.rv_code.specs.declared.expression.Callee.TheVariants as Callees
 use Rattle.rv_event.specs.Past.{stance}
 use Rattle.rv_event.specs.declared.entry.Recorded.TheVariants as Words
-use Rattle.rv_event.specs.declared.entry.Rule.{Rule}
 use Rattle.rv_event.specs.declared.entry.Stance.{Stance}
-use Rattle.rv_event.specs.declared.entry.Stance.TheVariants.{Free, InQueue, HandedOver, DroppedBy, WaitsOn, WaitsUntil, Gone}
+use Rattle.rv_event.specs.declared.entry.Stance.TheVariants.{InQueue, HandedOver, DroppedBy, WaitsOn, WaitsUntil}
 use Rattle.rv_fits.specs.Fits.{callee_fits}
 use Rattle.rv_fits.proofs.Keeps.{callee_keeps}
 use Rattle.rv_history.specs.Due.{out}
@@ -25,13 +24,13 @@ use Rattle.rv_turn.specs.Prefixes.{starts_both}
 use Rattle.rv_behind.specs.declared.event.Event.{Event}
 use Rattle.rv_code.specs.Bodies.{UnitBodies}
 use Rattle.rv_event.specs.declared.entry.Request.{Request}
-use Rattle.rv_event.specs.declared.entry.Request.TheVariants.{Call, Complete, Settle, Resume, DelayUntil, Clock, Fire, Quit, Tick, Halt}
+use Rattle.rv_event.specs.declared.entry.Request.TheVariants.{Call, Complete, Resume, DelayUntil}
 use Rattle.rv_event.specs.declared.entry.Exit.{Exit}
 use Rattle.rv_event.specs.declared.entry.Exit.TheVariants as Exits
 use Rattle.rv_event.specs.declared.entry.Answer.{Answer}
 use Rattle.rv_event.specs.declared.entry.Answer.TheVariants as Answers
 use Rattle.rv_exec.specs.Asking.{stands, Along}
-use Rattle.rv_exec.specs.Calls.{can_refuse, done, refusal, replied, request_of, resumed}
+use Rattle.rv_exec.specs.Calls.{can_refuse, done, replied, request_of, resumed}
 use Rattle.rv_exec.specs.Blocks.{operation_run_at}
 use Rattle.rv_exec.specs.Stops.{is_final, is_stopped, stops_at_once, IsUnfit, IsUnfitWoken, EndsNot, Stops, Unwinds, StopsWaiting, StopsIn, stops_bodies}
 use Rattle.rv_exec.proofs.StoppedBodies.{bodies_stop_by, tasks_stop_by}
@@ -47,8 +46,8 @@ use Rattle.rv_behind.specs.Events.{catalogue_of, history_at}
 use Rattle.rv_port.specs.Traces.{Passing, Trace, limits_in, told, asks_on, drops, SettlesBehind, Asked, WoreOut, Tells, Steps, Went}
 use Rattle.rv_port.proofs.Actors.{catalogue-append}
 use Rattle.rv_meant.specs.Settles.{is_settle, NeverSettles}
-use Rattle.rv_meant.proofs.Answered.{waits}
-use Rattle.rv_event.specs.declared.entry.Next.TheVariants.{Nothing, HandedTo, Dropped}
+use Rattle.rv_meant.proofs.Answered.{refused_waits, started_waits, waits}
+use Rattle.rv_event.specs.declared.entry.Next.TheVariants.{Dropped}
 use Rattle.rv_port.proofs.Asking.{is_told, told_stands}
 use Rattle.rv_port.proofs.Settles.{none_behind, tells_later, tells_went}
 use Rattle.rv_port.proofs.Opening.{Waits, here}
@@ -62,51 +61,18 @@ use Rattle.rv_port.proofs.Finals.{final_is}
 
 told_same : (d : Answer) → is_final (told d) ≡ false → told d ≡ d
 told_same Answers.Misuse e = absurd (cc e)
-told_same Answers.Halted e = refl
-told_same Answers.Full e = refl
-told_same (Answers.Started s) e = refl
-told_same Answers.Queued e = refl
-told_same (Answers.Refused rule line version) e = refl
-told_same (Answers.Done n) e = refl
-told_same Answers.Suspended e = refl
-told_same Answers.Delayed e = refl
-told_same (Answers.Woken s) e = refl
-told_same (Answers.Accepted n) e = refl
-told_same Answers.Busy e = refl
-told_same Answers.Waiting e = refl
-told_same Answers.Unattached e = refl
-told_same Answers.BadLine e = refl
-told_same Answers.OutOfMemory e = refl
+told_same d e = refl
 
 end_within : (scalars : List ℤ) (exit : Exit) (d : Answer) → of_end d ≡ true → EndsNot (Complete scalars exit) (told d) → stops_bodies d ≡ true
 end_within scalars exit (Answers.Done next) e t = absurd t
 end_within scalars exit Answers.Misuse e t = refl
 end_within scalars exit Answers.Full e t = refl
 end_within scalars exit Answers.Halted e t = refl
-end_within scalars exit (Answers.Started s) e t = e
-end_within scalars exit Answers.Queued e t = e
-end_within scalars exit (Answers.Refused rule line version) e t = e
-end_within scalars exit Answers.Suspended e t = e
-end_within scalars exit Answers.Delayed e t = e
-end_within scalars exit (Answers.Woken s) e t = e
-end_within scalars exit (Answers.Accepted n) e t = e
-end_within scalars exit Answers.Busy e t = e
-end_within scalars exit Answers.Waiting e t = e
-end_within scalars exit Answers.Unattached e t = e
-end_within scalars exit Answers.BadLine e t = e
-end_within scalars exit Answers.OutOfMemory e t = e
+end_within scalars exit d e t = e
 
 ends_within : (v w : Passing) (q : Request) (d : Answer) → Asked v q d w → EndsNot q (told d) → stops_bodies d ≡ true
 ends_within v w (Complete scalars exit) d x t = end_within scalars exit d (ap of_end x.due_is ∙ end_gets (history_at (limits_in v.about) x.at) v.actor scalars exit) t
-ends_within v w (Call o p vs) d x t = absurd t
-ends_within v w (DelayUntil time) d x t = absurd t
-ends_within v w Clock d x t = absurd t
-ends_within v w Fire d x t = absurd t
-ends_within v w Settle d x t = absurd t
-ends_within v w Resume d x t = absurd t
-ends_within v w Quit d x t = absurd t
-ends_within v w (Tick n) d x t = absurd t
-ends_within v w Halt d x t = absurd t
+ends_within v w q d x t = absurd t
 
 -- What called fits the units, and so no answer is unfit
 
@@ -141,19 +107,12 @@ in_queue_as : (s : Stance) → in_queue s ≡ true → queued s ≡ true
 in_queue_as InQueue e = refl
 in_queue_as HandedOver e = refl
 in_queue_as (DroppedBy line) e = refl
-in_queue_as Free e = absurd (cc e)
-in_queue_as (WaitsOn object) e = absurd (cc e)
-in_queue_as (WaitsUntil time) e = absurd (cc e)
-in_queue_as Gone e = absurd (cc e)
+in_queue_as s e = absurd (cc e)
 
 paused_as : (s : Stance) → paused s ≡ true → is_paused s ≡ true
 paused_as (WaitsOn object) e = refl
 paused_as (WaitsUntil time) e = refl
-paused_as Free e = absurd (cc e)
-paused_as InQueue e = absurd (cc e)
-paused_as HandedOver e = absurd (cc e)
-paused_as (DroppedBy line) e = absurd (cc e)
-paused_as Gone e = absurd (cc e)
+paused_as s e = absurd (cc e)
 
 -- where the actor is at its resume
 abbrev at_resume : (u k : Passing) (r : Answer) → Asked u Resume r k → Stance
@@ -183,94 +142,41 @@ delay_waits_by v u k time q r is x y =
 module _ (v u k : Passing) (q : Request) (r : Answer) (y : Asked u Resume r k) (values : List ℤ) where
   by_queue : (c : Callee) → q ≡ request_of c values → Asked v q Answers.Queued u → waits (replied c Answers.Queued) ≡ true → waits_by c (at_resume u k r y) ≡ true
   by_queue (Callees.Entry o p) is x e = queue_waits_by v u k o p values q r is x y
-  by_queue (Callees.Internal p) is x e = absurd (cc e)
-  by_queue (Callees.Function o p) is x e = absurd (cc e)
-  by_queue (Callees.Procedure o p) is x e = absurd (cc e)
-  by_queue (Callees.SetTrue o) is x e = absurd (cc e)
-  by_queue (Callees.SetFalse o) is x e = absurd (cc e)
-  by_queue (Callees.CurrentState o) is x e = absurd (cc e)
-  by_queue (Callees.SuspendUntilTrue o) is x e = absurd (cc e)
-  by_queue Callees.DelayUntil is x e = absurd (cc e)
-  by_queue Callees.Clock is x e = absurd (cc e)
+  by_queue c is x e = absurd (cc e)
 
   by_suspension : (c : Callee) → q ≡ request_of c values → Asked v q Answers.Suspended u → waits (replied c Answers.Suspended) ≡ true → waits_by c (at_resume u k r y) ≡ true
   by_suspension (Callees.SuspendUntilTrue o) is x e = suspension_waits_by v u k o 4 [] q r is x y
-  by_suspension (Callees.Entry o p) is x e = absurd (cc e)
-  by_suspension (Callees.Internal p) is x e = absurd (cc e)
-  by_suspension (Callees.Function o p) is x e = absurd (cc e)
-  by_suspension (Callees.Procedure o p) is x e = absurd (cc e)
-  by_suspension (Callees.SetTrue o) is x e = absurd (cc e)
-  by_suspension (Callees.SetFalse o) is x e = absurd (cc e)
-  by_suspension (Callees.CurrentState o) is x e = absurd (cc e)
-  by_suspension Callees.DelayUntil is x e = absurd (cc e)
-  by_suspension Callees.Clock is x e = absurd (cc e)
+  by_suspension c is x e = absurd (cc e)
 
   by_delay : (c : Callee) → q ≡ request_of c values → Asked v q Answers.Delayed u → waits (replied c Answers.Delayed) ≡ true → waits_by c (at_resume u k r y) ≡ true
   by_delay Callees.DelayUntil is x e = delay_waits_by v u k (slice_index_or values 0 (pos 0)) q r is x y
-  by_delay (Callees.Entry o p) is x e = absurd (cc e)
-  by_delay (Callees.Internal p) is x e = absurd (cc e)
-  by_delay (Callees.Function o p) is x e = absurd (cc e)
-  by_delay (Callees.Procedure o p) is x e = absurd (cc e)
-  by_delay (Callees.SetTrue o) is x e = absurd (cc e)
-  by_delay (Callees.SetFalse o) is x e = absurd (cc e)
-  by_delay (Callees.CurrentState o) is x e = absurd (cc e)
-  by_delay (Callees.SuspendUntilTrue o) is x e = absurd (cc e)
-  by_delay Callees.Clock is x e = absurd (cc e)
+  by_delay c is x e = absurd (cc e)
 
   settled_not : (b : Bool) (one other : Reply) → waits one ≡ false → waits other ≡ false → waits (cond b one other) ≡ false
   settled_not true one other e f = e
   settled_not false one other e f = f
 
-  started_not : (c : Callee) (s : List ℤ) → waits (replied c (Answers.Started s)) ≡ false
-  started_not (Callees.Entry o p) s = refl
-  started_not (Callees.Internal p) s = refl
-  started_not (Callees.Function o p) s = refl
-  started_not (Callees.Procedure o p) s = refl
-  started_not (Callees.SetTrue o) s = refl
-  started_not (Callees.SetFalse o) s = refl
-  started_not (Callees.CurrentState o) s = refl
-  started_not (Callees.SuspendUntilTrue o) s = refl
-  started_not Callees.DelayUntil s = refl
-  started_not Callees.Clock s = refl
-
-  refused_not : (c : Callee) (rule : Rule) (line version : ℕ) → waits (replied c (Answers.Refused rule line version)) ≡ false
-  refused_not c rule line version =
-      settled_not (can_refuse c rule) (Replies.Settled (Come.Abandoned (cause.Raised (refusal rule)))) (Replies.Settled (Come.Abandoned (cause.Stopped true))) refl refl
-
   done_not : (n : ℤ) → waits (done n) ≡ false
   done_not n = settled_not (is_zero n) (Replies.Settled (Come.Given [])) (Replies.Settled (Come.Abandoned (cause.Stopped true))) refl refl
 
   accepted_not : (c : Callee) (n : ℤ) → waits (replied c (Answers.Accepted n)) ≡ false
-  accepted_not (Callees.Entry o p) n = refl
-  accepted_not (Callees.Internal p) n = refl
-  accepted_not (Callees.Function o p) n = refl
-  accepted_not (Callees.Procedure o p) n = refl
   accepted_not (Callees.SetTrue o) n = done_not n
   accepted_not (Callees.SetFalse o) n = done_not n
   accepted_not (Callees.CurrentState o) n =
       settled_not (int_le (pos 0) n && int_le n (pos 1)) (Replies.Settled (Come.Given (n ∷ []))) (Replies.Settled (Come.Abandoned (cause.Stopped true))) refl refl
   accepted_not (Callees.SuspendUntilTrue o) n = done_not n
   accepted_not Callees.DelayUntil n = done_not n
-  accepted_not Callees.Clock n = refl
+  accepted_not c n = refl
 
   -- what was answered to wait waits as one does by what it asked
   waits_so : (c : Callee) (d : Answer) → q ≡ request_of c values → Asked v q d u → waits (replied c (told d)) ≡ true → waits_by c (at_resume u k r y) ≡ true
   waits_so c Answers.Queued is x e = by_queue c is x e
   waits_so c Answers.Suspended is x e = by_suspension c is x e
   waits_so c Answers.Delayed is x e = by_delay c is x e
-  waits_so c (Answers.Started s) is x e = unlike (waits (replied c (Answers.Started s))) e (started_not c s)
-  waits_so c (Answers.Refused rule line version) is x e = unlike (waits (replied c (Answers.Refused rule line version))) e (refused_not c rule line version)
+  waits_so c (Answers.Started s) is x e = unlike (waits (replied c (Answers.Started s))) e (started_waits c s)
+  waits_so c (Answers.Refused rule line version) is x e = unlike (waits (replied c (Answers.Refused rule line version))) e (refused_waits (can_refuse c rule) rule)
   waits_so c (Answers.Accepted n) is x e = unlike (waits (replied c (Answers.Accepted n))) e (accepted_not c n)
-  waits_so c (Answers.Done next) is x e = absurd (cc e)
-  waits_so c (Answers.Woken s) is x e = absurd (cc e)
-  waits_so c Answers.Misuse is x e = absurd (cc e)
-  waits_so c Answers.Halted is x e = absurd (cc e)
-  waits_so c Answers.Full is x e = absurd (cc e)
-  waits_so c Answers.Busy is x e = absurd (cc e)
-  waits_so c Answers.Waiting is x e = absurd (cc e)
-  waits_so c Answers.Unattached is x e = absurd (cc e)
-  waits_so c Answers.BadLine is x e = absurd (cc e)
-  waits_so c Answers.OutOfMemory is x e = absurd (cc e)
+  waits_so c d is x e = absurd (cc e)
 
 never_unfit_woken : {X : Type 0} (such : Callee → Bool) (v u k : Passing) (q p : Request) (d r : Answer) → Asked v q d u → Asked u p r k → asks_on r ≡ false → IsUnfitWoken such q (told d) p (told r) → X
 never_unfit_woken such v u k q p d r x z n t =
@@ -306,23 +212,7 @@ stop_later u w q r more plain t p = record {
 -- what waits dropped nobody, so nothing was settled behind it
 waits_drops : (c : Callee) (d : Answer) → waits (replied c (told d)) ≡ true → drops d ≡ false
 waits_drops c (Answers.Done (Dropped m line)) e = absurd (cc e)
-waits_drops c (Answers.Done Nothing) e = refl
-waits_drops c (Answers.Done (HandedTo m)) e = refl
-waits_drops c (Answers.Started s) e = refl
-waits_drops c Answers.Queued e = refl
-waits_drops c (Answers.Refused rule line version) e = refl
-waits_drops c Answers.Suspended e = refl
-waits_drops c Answers.Delayed e = refl
-waits_drops c (Answers.Woken s) e = refl
-waits_drops c (Answers.Accepted n) e = refl
-waits_drops c Answers.Misuse e = refl
-waits_drops c Answers.Halted e = refl
-waits_drops c Answers.Full e = refl
-waits_drops c Answers.Busy e = refl
-waits_drops c Answers.Waiting e = refl
-waits_drops c Answers.Unattached e = refl
-waits_drops c Answers.BadLine e = refl
-waits_drops c Answers.OutOfMemory e = refl
+waits_drops c d e = refl
 
 waited_at : (v m u : Passing) (c : Callee) (q : Request) (d r : Answer) → Asked v q d m → r ≡ told d → waits (replied c r) ≡ true → SettlesBehind d m u → Asked v q d u
 waited_at v m u c q d r x is e s =
