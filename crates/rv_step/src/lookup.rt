@@ -3,9 +3,10 @@
 ghost use Rattle.std.specs.Prelude.{◌≡◌, IfOk, string_bytes, option_map};
 ghost use Rattle.rv_step.specs.Lookup.{full_name, actor_of, callee_of, request_of, line_number};
 
-use crate::step::{Asked, Asker, DottedName, Name};
+use crate::step::{Asked, Asker, DottedName};
 use rv_event::entry::Request;
 use rv_shape::catalogue::Catalogue;
+use rv_shape::name::Name;
 use std::alloc::{AllocError, Global};
 
 /// The number of the operator, who loads units and changes the list.

@@ -4,6 +4,7 @@ ghost use Rattle.std.specs.Prelude.{◌≡◌, IfOk, string_bytes};
 
 use rv_access::{Change, ListFault};
 use rv_event::entry::Request;
+use rv_shape::name::Name;
 use rv_value::Args;
 use std::alloc::{AllocError, Global};
 use std::marker::Model;
@@ -46,37 +47,6 @@ impl DottedName {
         ensures { result.now ≡ self.now.name }
     {
         self.name.as_str()
-    }
-}
-
-/// A name.
-#[derive(Drop)]
-pub struct Name {
-    text: String,
-}
-
-impl Model for Name {
-    ghost use Rattle.std.specs.Prelude.{ℕ, List, string_bytes};
-
-    ghost Value = { List ℕ };
-
-    ghost view = { λ n. string_bytes n.text };
-}
-
-impl Name {
-    /// The name that a text is.
-    pub fn new(alloc: Global, text: &str) -> Result<Name, AllocError>
-        ensures { IfOk result (λ n. n ≡ text.now) }
-    {
-        let text = String::from_str(alloc, text)?;
-        Ok(Name { text })
-    }
-
-    /// Its text.
-    pub fn as_str(&self) -> &str
-        ensures { result.now ≡ self.now }
-    {
-        self.text.as_str()
     }
 }
 
