@@ -1,14 +1,13 @@
 -- Bytes that are a script, and bytes that are none.
-use Rattle.std.proofs.Common.{◌≡◌, ℕ, ◌<◌, ◌≤◌, ◌+◌, List, [], Some, None, Option, Err, Result, length, take, refl, sym, ap, ◌∙◌, subst, arith, min, length-take, inl, inr}
-use Rattle.std.specs.Prelude.{Bool, IfSome, ◌⊎◌}
-use Rattle.std.specs.Str.{IsUtf8}
+use Rattle.std.proofs.Common.{◌≡◌, ℕ, ◌<◌, ◌≤◌, List, [], Some, None, Option, Err, Result, length, take, refl, sym, ap, ◌∙◌, subst, arith, min, length-take}
+use Rattle.std.specs.Prelude.{IfSome}
 use Rattle.std.proofs.lemmas.List.{take_all}
-use Rattle.rv_script.specs.Whole.{IsScript, IsRefused, most_bytes}
+use Rattle.rv_script.specs.Whole.{IsScript, IsRefused}
 use Rattle.rv_script.specs.declared.read.TextError.{TextError}
 use Rattle.rv_script.specs.declared.read.TextError.TheVariants.{TooLong, NotText}
 use Rattle.rv_script.proofs.Wrote.{keeps_nothing}
 use Rattle.rv_fault.specs.declared.failure.Failure.{Failure}
-use Rattle.rv_fault.specs.declared.failure.Failure.TheVariants.{Refused, Io}
+use Rattle.rv_fault.specs.declared.failure.Failure.TheVariants.{Refused}
 use Rattle.rv_fault.specs.Faults.{fault_of}
 use Rattle.rv_fault.specs.Written.{Outcome, OverBytes, Writes, WritesScript, refused_bytes}
 

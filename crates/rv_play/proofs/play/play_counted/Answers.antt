@@ -1,6 +1,8 @@
-use Rattle.std.proofs.Common.{◌≡◌, ℕ, List, take, sym, subst}
+use Rattle.std.proofs.Common.{◌≡◌, ℕ, List, Err, take, sym, subst}
 use Rattle.std.specs.Prelude.{IfSome}
 use Rattle.std.proofs.lemmas.Result.{err_from_is_err_and}
+use Rattle.rv_fault.specs.Faults.{fault_of}
+use Rattle.rv_fault.specs.declared.failure.Failure.TheVariants.{Refused}
 use Rattle.rv_fault.proofs.Scripts.{script_read, script_refused, script_written}
 use Rattle.rv_play.specs.Scripted.{outcome_of}
 use Rattle.rv_play.proofs.Beginning.{read_failed}
@@ -17,7 +19,7 @@ returns-in_err-text g c =
     let old = g.W.Write.contents c.args.writer.now in
     let known = g.R.Read.remaining c.args.reader.now in
     let read = subst (λ (bytes : List ℕ). IfSome known (λ input. bytes ≡ take 16777217 input)) (sym c.as_slice.ensures.value) c.in_ok-bytes.ensures.bytes in
-    rw (p.1, p.2) (script_read old old known (outcome_of c.args.all) c.as_slice.result.now _ read (script_refused old (outcome_of c.args.all) c.as_slice.result.now _ c.in_err-text.ensures.err))
+    rw (p.1, p.2) (script_read old old known (outcome_of c.args.all) c.as_slice.result.now (Err (Refused (fault_of c.in_err-text.field-0.0))) read (script_refused old (outcome_of c.args.all) c.as_slice.result.now _ c.in_err-text.ensures.err))
 
 pub returns : goal.returns
 returns g c =
