@@ -7,7 +7,7 @@ ghost use Rattle.rv_check.specs.Scripts.{outcome_when};
 
 use crate::check::check_text;
 use crate::script::check_script_text;
-use rv_fault::{Failure, What, refused};
+use rv_fault::Failure;
 use rv_script::{read_script, text_of};
 use std::alloc::Global;
 use std::io::{Read, Write};
@@ -37,10 +37,8 @@ fn check_bytes<W: Write>(
 ) -> Result<(), Failure>
     ensures { WritesScript (W.contents writer.old) (W.contents writer.new) (outcome_when is_whole) bytes.now result }
 {
-    match text_of(bytes) {
-        Ok(text) => check_given_text(alloc, writer, is_whole, text),
-        Err(error) => Err(refused(1, What::of_bytes(error))),
-    }
+    let text = text_of(bytes)?;
+    check_given_text(alloc, writer, is_whole, text)
 }
 
 /// Looks at the script that a reader gives, and writes a line for each section that is well formed, but none for settings. It

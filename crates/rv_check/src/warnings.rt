@@ -4,10 +4,10 @@
 ghost use Rattle.std.specs.Prelude.{◌≤◌, ◌^◌, ◌+◌, length};
 
 use crate::purpose::{Purpose, purpose_in};
-use rv_access::{AccessList, Change, Line, MOST_LINES};
+use rv_access::{AccessList, Change};
 use rv_event::entry::Request;
 use rv_fault::{Failure, device_unit, list_of, settings_of, shape_of, unit_of};
-use rv_notes::{Note, notes, words_of};
+use rv_notes::{Note, changed, line_changed, new_ones, notes, words_of};
 use rv_script::{Opening, open, opening_of, text_of};
 use rv_settings::{Device, Settings};
 use rv_shape::catalogue::Catalogue;
@@ -84,16 +84,6 @@ fn number_at(lines: &[usize], line: usize) -> usize {
     }
 }
 
-// Whether a note is among these.
-fn is_among(notes: &[Note], note: Note) -> bool {
-    for other in notes {
-        if *other == note {
-            return true;
-        }
-    }
-    false
-}
-
 impl Review {
     // Nothing so far.
     fn new(alloc: Global, runs: bool) -> Review {
@@ -167,44 +157,23 @@ impl Review {
         Ok(())
     }
 
-    // Tells the notes on the list that the step of a line made: those on the line of the list that changed, and those that
-    // weren't there before.
-    fn judge_change(
-        &mut self,
-        line: usize,
-        list: AccessList,
-        changed: usize,
-    ) -> Result<(), AllocError> {
+    // Another list, by the change of one line in the step of a line: tells the notes on the line of the list that changed, and
+    // those that weren't there before.
+    fn judge_change(&mut self, line: usize, change: &Change) -> Result<(), AllocError> {
         let alloc = self.alloc;
+        let Some(list) = changed(&self.list, change)? else {
+            return Ok(());
+        };
         let found = notes(alloc, &self.catalogue, &list)?;
+        let number = line_changed(&list, change);
+        let told = new_ones(alloc, self.notes.as_slice(), found.as_slice(), number)?;
         let place = format!(in alloc; "script line {line}")?;
-        for note in found.as_slice() {
-            if note.line() == changed || !is_among(self.notes.as_slice(), *note) {
-                self.tell(place.as_str(), &list, *note)?;
-            }
+        for note in told.as_slice() {
+            self.tell(place.as_str(), &list, *note)?;
         }
         self.list = list;
         self.notes = found;
         Ok(())
-    }
-
-    // One more line of the list, by the step of a line.
-    fn append(&mut self, line: usize, more: &Line) -> Result<(), AllocError> {
-        let count = self.list.len();
-        if count >= MOST_LINES {
-            return Ok(());
-        }
-        let list = self.list.appended(more)?;
-        self.judge_change(line, list, count + 1)
-    }
-
-    // Another line in place of that of a number.
-    fn replace(&mut self, line: usize, number: usize, other: &Line) -> Result<(), AllocError> {
-        if number < 1 || number > self.list.len() {
-            return Ok(());
-        }
-        let list = self.list.replaced(number, other)?;
-        self.judge_change(line, list, number)
     }
 
     // The list without the line of a number, of which nothing is told.
@@ -224,10 +193,8 @@ impl Review {
             return Ok(());
         }
         match change {
-            Change::Append(more) => self.append(line, more),
-            Change::Replace(number, other) => self.replace(line, *number, other),
             Change::Remove(number) => self.remove(*number),
-            Change::Whole(_) => Ok(()),
+            change => self.judge_change(line, change),
         }
     }
 

@@ -17,17 +17,6 @@ pub simple : is_simple program ≡ true
 unfolding clap_on_literals
 simple = refl
 
-pub taken : (name : Text) (choice : Choice) → takes program (name ∷ line_of choice) ≡ true
-unfolding clap_on_literals
-taken name (Play false) = refl
-taken name (Play true) = refl
-taken name (Check false) = refl
-taken name (Check true) = refl
-taken name Run = refl
-taken name Audit = refl
-taken name (AuditFile false) = refl
-taken name (AuditFile true) = refl
-
 -- the name of a subcommand that was found, and the text of a flag of it
 abbrev name_in : Option (Text × List Row) → Option Text
 name_in = option_map (λ (p : Text × List Row). p.0)
@@ -51,16 +40,23 @@ abbrev flag_text : Bool → Text
 flag_text true = codes "true"
 flag_text false = codes "false"
 
-name_is : (name : Text) (choice : Choice) → name_in (subcommand_of program (name ∷ line_of choice)) ≡ Some (word_of choice)
+-- a plain line is taken, and by this name
+plain : (name : Text) (choice : Choice) → (takes program (name ∷ line_of choice) ≡ true) × (name_in (subcommand_of program (name ∷ line_of choice)) ≡ Some (word_of choice))
 unfolding clap_on_literals
-name_is name (Play false) = refl
-name_is name (Play true) = refl
-name_is name (Check false) = refl
-name_is name (Check true) = refl
-name_is name Run = refl
-name_is name Audit = refl
-name_is name (AuditFile false) = refl
-name_is name (AuditFile true) = refl
+plain name (Play false) = (refl, refl)
+plain name (Play true) = (refl, refl)
+plain name (Check false) = (refl, refl)
+plain name (Check true) = (refl, refl)
+plain name Run = (refl, refl)
+plain name Audit = (refl, refl)
+plain name (AuditFile false) = (refl, refl)
+plain name (AuditFile true) = (refl, refl)
+
+pub taken : (name : Text) (choice : Choice) → takes program (name ∷ line_of choice) ≡ true
+taken name choice = let p = plain name choice in p.0
+
+name_is : (name : Text) (choice : Choice) → name_in (subcommand_of program (name ∷ line_of choice)) ≡ Some (word_of choice)
+name_is name choice = let p = plain name choice in p.1
 
 play_flag : (name : Text) (all : Bool) → flag_in (codes "all") (subcommand_of program (name ∷ line_of (Play all))) ≡ Some (Some (flag_text all))
 unfolding clap_on_literals

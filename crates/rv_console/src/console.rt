@@ -20,7 +20,6 @@ use crate::word::Word;
 use rv_host::pages::Page;
 use rv_keep::page_text;
 use rv_port::control::Control;
-use rv_port::fault::PageFault;
 use rv_shell::{LineFault, Next, put, put_made};
 use rv_tally::Tally;
 use rv_view::View;
@@ -100,11 +99,8 @@ impl Console {
         ensures err { IfErr result (λ fault. NotShown control.old fault control.new) }
         ensures looks { Looks control.old control.new }
     {
-        match control.view(rt) {
-            Ok(view) => Ok(view),
-            Err(PageFault::NoMemory) => Err(LineFault::NoMemory),
-            Err(PageFault::Worn) => Err(LineFault::Worn),
-        }
+        let view = control.view(rt)?;
+        Ok(view)
     }
 
     // The list in force.
@@ -117,13 +113,9 @@ impl Console {
         ensures shows { ShowsOrWorn (λ view. cut_text self.now.columns (list_text view)) (W.contents writer.old) (W.contents writer.new) control.old control.new result }
         ensures looks { Looks control.old control.new }
     {
-        match Console::look(rt, control) {
-            Ok(view) => {
-                let text = list_text(self.alloc, &view);
-                self.put_cut(writer, text)
-            }
-            Err(fault) => Err(fault),
-        }
+        let view = Console::look(rt, control)?;
+        let text = list_text(self.alloc, &view);
+        self.put_cut(writer, text)
     }
 
     // What the host is at.
@@ -139,13 +131,9 @@ impl Console {
             control.old control.new result }
         ensures looks { Looks control.old control.new }
     {
-        match Console::look(rt, control) {
-            Ok(view) => {
-                let text = status_text(self.alloc, control.catalogue(), &view, tally);
-                self.put_cut(writer, text)
-            }
-            Err(fault) => Err(fault),
-        }
+        let view = Console::look(rt, control)?;
+        let text = status_text(self.alloc, control.catalogue(), &view, tally);
+        self.put_cut(writer, text)
     }
 
     // The page of the journal that begins at a number.
@@ -161,15 +149,10 @@ impl Console {
         ensures columns { self.new.columns ≡ self.old.columns }
     {
         let mut page = Page::new(self.alloc);
-        match control.entries(rt, from, &mut page) {
-            Ok(()) => {
-                self.next = from.saturating_add(page.len());
-                let text = page_text(self.alloc, control.catalogue(), from, &page);
-                put_made(writer, text)
-            }
-            Err(PageFault::NoMemory) => Err(LineFault::NoMemory),
-            Err(PageFault::Worn) => Err(LineFault::Worn),
-        }
+        control.entries(rt, from, &mut page)?;
+        self.next = from.saturating_add(page.len());
+        let text = page_text(self.alloc, control.catalogue(), from, &page);
+        put_made(writer, text)
     }
 
     /// Answers a word of the console: nothing is asked but what the host is at. Entries by unit are those of the tally. The

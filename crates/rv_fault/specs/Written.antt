@@ -7,7 +7,7 @@ use Rattle.rv_script.specs.declared.read.TextError.{TextError}
 use Rattle.rv_fault.specs.declared.failure.Failure.{Failure}
 use Rattle.rv_fault.specs.declared.failure.Failure.TheVariants.{Refused, Memory, Io}
 use Rattle.rv_fault.specs.declared.fault.ScriptFault.{ScriptFault}
-use Rattle.rv_fault.specs.Faults.{of_bytes}
+use Rattle.rv_fault.specs.Faults.{fault_of}
 
 -- what a writer holds, where it tells
 abbrev pub Known : Type 0
@@ -54,14 +54,19 @@ Writes old new outcome (Err (Refused told)) = WritesAll old new outcome.Is (Some
 Writes old new outcome (Err Memory) = WritesSome old new outcome.Begins
 Writes old new outcome (Err (Io error)) = WritesSome old new outcome.Begins
 
--- nothing is written of bytes that are no script, and this is told at line 1
+-- nothing is written of bytes that are no script, and that is told
 abbrev pub refused_bytes : TextError → Outcome
 refused_bytes error = record {
-  Is = λ text fault. (text ≡ []) × (fault ≡ Some (record { line = 1; what = of_bytes error }));
+  Is = λ text fault. (text ≡ []) × (fault ≡ Some (fault_of error));
   Begins = λ text. text ≡ [];
 }
 
+-- this of bytes that are a script, and that of bytes that are refused
+pub record OverBytes (bytes : List ℕ) (Said : Type 0) (Of : TextError → Type 0) : Type 0 where
+  pub text : IsScript bytes → Said
+  pub refused : (error : TextError) → IsRefused bytes error → Of error
+
 -- what there is to write of a script is written; bytes that are none are refused
-pub record WritesScript (old new : Known) (outcome_of : List ℕ → Outcome) (bytes : List ℕ) (result : Ended) : Type 0 where
-  pub text : IsScript bytes → Writes old new (outcome_of bytes) result
-  pub refused : (error : TextError) → IsRefused bytes error → Writes old new (refused_bytes error) result
+abbrev pub WritesScript : Known → Known → (List ℕ → Outcome) → List ℕ → Ended → Type 0
+WritesScript old new outcome_of bytes result =
+    OverBytes bytes (Writes old new (outcome_of bytes) result) (λ error. Writes old new (refused_bytes error) result)

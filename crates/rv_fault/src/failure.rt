@@ -2,10 +2,10 @@
 
 ghost use Rattle.std.specs.Prelude.{◌≡◌};
 ghost use Rattle.rv_fault.specs.declared.failure.Failure.TheVariants as Failures;
-ghost use Rattle.rv_fault.specs.Faults.{of_read};
+ghost use Rattle.rv_fault.specs.Faults.{fault_of, of_read};
 
 use crate::fault::{ScriptFault, What};
-use rv_script::ReadError;
+use rv_script::{ReadError, TextError};
 use std::alloc::AllocError;
 use std::io;
 
@@ -43,6 +43,14 @@ impl From<ReadError> for Failure {
             ReadError::Memory => Failure::Memory,
             ReadError::Io(e) => Failure::Io(e),
         }
+    }
+}
+
+impl From<TextError> for Failure {
+    ghost from_gives = { λ error failure. failure ≡ Failures.Refused (fault_of error) };
+
+    fn from(error: TextError) -> Failure {
+        refused(1, What::of_bytes(error))
     }
 }
 

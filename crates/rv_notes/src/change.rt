@@ -37,8 +37,8 @@ fn is_new(before: &[Note], note: Note, number: usize) -> bool
     note.line() == number || !is_among(before, note)
 }
 
-// Of the notes on a list those that are of the line of a number, or weren't there before. Err where memory was refused.
-fn new_ones(
+/// Of the notes on a list those that are of the line of a number, or weren't there before. Err where memory was refused.
+pub fn new_ones(
     alloc: Global,
     before: &[Note],
     found: &[Note],
@@ -55,8 +55,8 @@ fn new_ones(
     Ok(new)
 }
 
-// The list that a change of one line makes, if it does. Err where memory was refused.
-fn changed(before: &AccessList, change: &Change) -> Result<Option<AccessList>, AllocError>
+/// The list that one line more, or another line in place of one, makes, if it does. Err where memory was refused.
+pub fn changed(before: &AccessList, change: &Change) -> Result<Option<AccessList>, AllocError>
     ensures { IfOk result (λ list. list ≡ changed before.now change.now) }
 {
     match change {
@@ -68,8 +68,8 @@ fn changed(before: &AccessList, change: &Change) -> Result<Option<AccessList>, A
     }
 }
 
-// The number of the line that a change is of, in the list that it makes.
-fn line_changed(after: &AccessList, change: &Change) -> usize
+/// The number of the line that a change is of, in the list that it makes.
+pub fn line_changed(after: &AccessList, change: &Change) -> usize
     ensures { result ≡ line_changed after.now change.now }
 {
     match change {

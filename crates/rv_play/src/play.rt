@@ -262,22 +262,6 @@ fn play_text<W: Write>(
     }
 }
 
-// Carries out the script that bytes are, if they are text.
-fn play_bytes<W: Write>(
-    alloc: Global,
-    writer: &mut W,
-    all: bool,
-    bytes: &[u8],
-    counts: &mut Counts,
-) -> Result<(), Failure>
-    ensures { WritesScript (W.contents writer.old) (W.contents writer.new) (outcome_of all) bytes.now result }
-{
-    match text_of(bytes) {
-        Ok(text) => play_text(alloc, writer, all, text, counts),
-        Err(error) => Err(refused(1, What::of_bytes(error))),
-    }
-}
-
 /// As `play`; and gives how many answers there were, and which of them the journal doesn't have.
 pub fn play_counted<R: Read, W: Write>(
     alloc: Global,
@@ -290,7 +274,8 @@ pub fn play_counted<R: Read, W: Write>(
         WritesScript (W.contents writer.old) (W.contents writer.new) (outcome_of all) script result) }
 {
     let bytes = read_script(alloc, reader)?;
-    play_bytes(alloc, writer, all, bytes.as_slice(), counts)
+    let text = text_of(bytes.as_slice())?;
+    play_text(alloc, writer, all, text, counts)
 }
 
 /// Carries out the script that a reader gives, and writes its journal: the line of each entry and,

@@ -4,7 +4,7 @@ use rv_check::reading::{check, check_kept};
 use rv_explain::explain;
 use rv_fault::Failure;
 use rv_play::play::play;
-use rv_verdict::{Watch, audit, audit_explained, audit_file, audit_file_explained};
+use rv_verdict::{Nobody, audit, audit_explained, audit_file, audit_file_explained};
 use std::alloc::Global;
 use std::io;
 
@@ -22,14 +22,6 @@ pub enum Deed<'a> {
     Explain,
     /// The same of one in a file of its own.
     ExplainFile(&'a [u8]),
-}
-
-// Nobody waits for an audit of rows.
-#[derive(Drop)]
-struct Unwatched {}
-
-impl Watch for Unwatched {
-    fn passed(&mut self, _entries: usize) {}
 }
 
 /// Does what is to be done with a script.
@@ -52,7 +44,7 @@ pub fn carry_out<R: io::Read, W: io::Write>(
         }
         Deed::AuditFile(journal) => {
             let mut journal = journal;
-            let mut watch = Unwatched {};
+            let mut watch = Nobody {};
             let _audited = audit_file(alloc, reader, &mut journal, false, &mut watch, written)?;
             Ok(())
         }
@@ -62,7 +54,7 @@ pub fn carry_out<R: io::Read, W: io::Write>(
         }
         Deed::ExplainFile(journal) => {
             let mut journal = journal;
-            let mut watch = Unwatched {};
+            let mut watch = Nobody {};
             let _told = audit_file_explained(
                 alloc,
                 reader,

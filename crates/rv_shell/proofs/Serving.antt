@@ -1,20 +1,22 @@
 -- What is told and written makes what a line does.
-use Rattle.std.proofs.Common.{subst, sym, MatchResult, ◌≡◌, ℕ, List, Ok, Err, inr}
+use Rattle.std.proofs.Common.{subst, sym, refl, MatchResult, ◌≡◌, ℕ, List, Ok, Err, inl, inr}
 use Rattle.std.specs.Prelude.{Result}
 use Rattle.rv_event.specs.declared.entry.Answer.{Answer}
 use Rattle.rv_host.specs.Pages.{Item}
 use Rattle.rv_turn.specs.Passes.{Acted, IsWorn}
 use Rattle.rv_turn.specs.declared.pass.Worn.{Worn as Spent}
 use Rattle.rv_behind.specs.Acting.{Does}
-use Rattle.rv_port.specs.Controls.{Told}
+use Rattle.rv_port.specs.Controls.{Told, PageFailed}
 use Rattle.rv_behind.specs.Events.{by, catalogue_of}
 use Rattle.rv_port.specs.Traces.{Passing}
+use Rattle.rv_port.specs.declared.fault.PageFault.{PageFault}
+use Rattle.rv_port.specs.declared.fault.PageFault.TheVariants as PageFaults
 use Rattle.rv_behind.specs.declared.event.Ask.{Ask}
 use Rattle.rv_behind.specs.declared.event.Reply.TheVariants as Gives
 use Rattle.rv_shell.specs.declared.shell.Next.{Next}
 use Rattle.rv_shell.specs.declared.shell.LineFault.{LineFault}
 use Rattle.rv_shell.specs.declared.shell.LineFault.TheVariants.{NoMemory, Write, Worn}
-use Rattle.rv_shell.specs.Serving.{Written, Writes, RequestsOrWorn, ReadsOrWorn, answer_line}
+use Rattle.rv_shell.specs.Serving.{Written, Writes, RequestsOrWorn, ReadsOrWorn, answer_line, of_page}
 use Rattle.rv_keep.specs.PageText.{page_text}
 
 -- a request was told, and its answer is written
@@ -42,3 +44,8 @@ pages_by old new v w from page (Ok next) told written = record { page = page; to
 pages_by old new v w from page (Err (Write error)) told written = record { page = page; told = told; written = written }
 pages_by old new v w from page (Err NoMemory) told written = inr record { page = page; told = told; written = written }
 pages_by old new v w from page (Err Worn) told written = absurd written
+
+-- no page was read
+pub page_fails : (old : Written) (v w : Passing) (from : ℕ) (fault : PageFault) → PageFailed v from fault w → ReadsOrWorn old old v w from (Err (of_page fault))
+page_fails old v w from PageFaults.NoMemory failed = inl (failed, refl)
+page_fails old v w from PageFaults.Worn failed = (failed, refl)

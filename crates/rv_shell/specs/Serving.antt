@@ -18,6 +18,7 @@ use Rattle.rv_behind.specs.Events.{by, catalogue_of}
 use Rattle.rv_behind.specs.Acting.{Does}
 use Rattle.rv_port.specs.Traces.{Passing}
 use Rattle.rv_port.specs.Controls.{Told, PageFailed}
+use Rattle.rv_port.specs.declared.fault.PageFault.{PageFault}
 use Rattle.rv_port.specs.declared.fault.PageFault.TheVariants as PageFaults
 use Rattle.rv_behind.specs.declared.event.Ask.{Ask}
 use Rattle.rv_behind.specs.declared.event.Reply.TheVariants as Gives
@@ -65,6 +66,11 @@ Writes old new text (Err NoMemory) = new ≡ old
 Writes old new text result = Prints old new text result
 
 -- What is asked
+
+-- why a page or what the host is at is not shown
+abbrev pub of_page : PageFault → LineFault
+of_page PageFaults.NoMemory = NoMemory
+of_page PageFaults.Worn = Worn
 
 -- one request of the operator, and its answer is written
 pub record Requests (old new : Written) (v w : Passing) (ask : Ask) (result : Result Next LineFault) : Type 0 where

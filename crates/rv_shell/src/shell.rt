@@ -3,7 +3,7 @@
 ghost use Rattle.std.specs.Prelude.{◌≡◌, ℕ, List, Err, IfOk, MatchResult, string_bytes};
 ghost use Rattle.rv_text.specs.Words.{words};
 ghost use Rattle.rv_behind.specs.Events.{catalogue_of};
-ghost use Rattle.rv_shell.specs.Serving.{Obeys, Prints, ReadsOrWorn, Serves, Writes, answer_line, fault_line};
+ghost use Rattle.rv_shell.specs.Serving.{Obeys, Prints, ReadsOrWorn, Serves, Writes, answer_line, fault_line, of_page};
 
 use crate::order::{Order, order_of};
 use rv_access::ListFault;
@@ -48,6 +48,17 @@ pub enum LineFault {
     /// The control has no act left.
     #[error("Worn")]
     Worn,
+}
+
+impl From<PageFault> for LineFault {
+    ghost from_gives = { λ fault told. told ≡ of_page fault };
+
+    fn from(fault: PageFault) -> LineFault {
+        match fault {
+            PageFault::NoMemory => LineFault::NoMemory,
+            PageFault::Worn => LineFault::Worn,
+        }
+    }
 }
 
 /// Writes a text.
@@ -154,14 +165,9 @@ impl Shell {
         ensures { ReadsOrWorn (W.contents writer.old) (W.contents writer.new) control.old control.new from result }
     {
         let mut page = Page::new(self.alloc);
-        match control.entries(rt, from, &mut page) {
-            Ok(()) => {
-                let text = page_text(self.alloc, control.catalogue(), from, &page);
-                put_made(writer, text)
-            }
-            Err(PageFault::NoMemory) => Err(LineFault::NoMemory),
-            Err(PageFault::Worn) => Err(LineFault::Worn),
-        }
+        control.entries(rt, from, &mut page)?;
+        let text = page_text(self.alloc, control.catalogue(), from, &page);
+        put_made(writer, text)
     }
 
     // What a command asks.

@@ -25,19 +25,17 @@ counted_line explained without_text =
     then codes "ends " ++ (decimal explained ++ (codes " explained, " ++ (decimal without_text ++ (codes " without a text" ++ 10 ∷ []))))
     else codes "ends " ++ (decimal explained ++ (codes " explained" ++ 10 ∷ []))
 
--- the text of an entry's end gives another end, or asks something
-abbrev pub gives_line : List Shape → ℕ → Request → List ℕ
-gives_line shapes number request = codes "entry " ++ (decimal number ++ (codes ": its text gives " ++ (request_text shapes request ++ 10 ∷ [])))
-
-abbrev pub asks_line : List Shape → ℕ → Request → List ℕ
-asks_line shapes number request = codes "entry " ++ (decimal number ++ (codes ": its text asks " ++ (request_text shapes request ++ 10 ∷ [])))
+-- the text of an entry's end means another request: it gives another end, or asks something
+abbrev pub meant_line : List Shape → ℕ → List ℕ → Request → List ℕ
+meant_line shapes number verb request =
+    codes "entry " ++ (decimal number ++ (codes ": its text " ++ (verb ++ (codes " " ++ (request_text shapes request ++ 10 ∷ [])))))
 
 abbrev pub line_by : List Shape → Found → Option (ℕ × Meaning) → List ℕ
 line_by shapes found None = counted_line found.explained found.without_text
 line_by shapes found (Some (number, meaning.Explained)) = counted_line found.explained found.without_text
 line_by shapes found (Some (number, meaning.WithoutText)) = counted_line found.explained found.without_text
-line_by shapes found (Some (number, meaning.Gives request)) = gives_line shapes number request
-line_by shapes found (Some (number, meaning.Asks request)) = asks_line shapes number request
+line_by shapes found (Some (number, meaning.Gives request)) = meant_line shapes number (codes "gives") request
+line_by shapes found (Some (number, meaning.Asks request)) = meant_line shapes number (codes "asks") request
 
 -- the line of what is found, by the names of what was loaded
 abbrev pub ends_line : List Shape → Found → List ℕ

@@ -9,10 +9,11 @@ ghost use Rattle.rv_reading.specs.Told.{Asks, Lists, Loads};
 ghost use Rattle.rv_shape.specs.Shape.{Shape};
 ghost use Rattle.rv_ends.specs.Tally.{Follows};
 ghost use Rattle.rv_fault.specs.Written.{IsNoFault};
-ghost use Rattle.rv_verdict.specs.Ends.{SaysEnds, asks_line, counted_line, ends_line, gives_line};
+ghost use Rattle.rv_verdict.specs.Ends.{SaysEnds, counted_line, ends_line, meant_line};
 ghost use Rattle.rv_verdict.specs.Explaining.{FollowsBy, TakesLine, TakesTold};
 ghost use Rattle.rv_verdict.specs.Texts.{texts_now};
 
+use crate::file::Taker;
 use crate::texts::{bodies_of, text_named};
 use rv_audit::units::first_unit;
 use rv_ends::meaning::Meaning;
@@ -50,30 +51,18 @@ fn counted_line(alloc: Global, explained: usize, without_text: usize) -> Result<
     }
 }
 
-// The line of an entry whose text gives another end.
-fn gives_line(
+// The line of an entry whose text means another request: that it gives it, or asks it.
+fn meant_line(
     alloc: Global,
     catalogue: &Catalogue,
     number: usize,
+    verb: &str,
     request: &Request,
 ) -> Result<String, AllocError>
-    ensures { IfOk result (λ line. string_bytes line ≡ gives_line catalogue.now number request.now) }
+    ensures { IfOk result (λ line. string_bytes line ≡ meant_line catalogue.now number verb.now request.now) }
 {
     let request = text_of_request(alloc, catalogue, request)?;
-    format!(in alloc; "entry {number}: its text gives {request}\n")
-}
-
-// The line of an entry whose text asks something.
-fn asks_line(
-    alloc: Global,
-    catalogue: &Catalogue,
-    number: usize,
-    request: &Request,
-) -> Result<String, AllocError>
-    ensures { IfOk result (λ line. string_bytes line ≡ asks_line catalogue.now number request.now) }
-{
-    let request = text_of_request(alloc, catalogue, request)?;
-    format!(in alloc; "entry {number}: its text asks {request}\n")
+    format!(in alloc; "entry {number}: its text {verb} {request}\n")
 }
 
 // The line of what is found.
@@ -81,8 +70,12 @@ fn line_of(alloc: Global, catalogue: &Catalogue, found: &Found) -> Result<String
     ensures { IfOk result (λ line. string_bytes line ≡ ends_line catalogue.now found.now) }
 {
     match found.other {
-        Some((number, Meaning::Gives(request))) => gives_line(alloc, catalogue, number, &request),
-        Some((number, Meaning::Asks(request))) => asks_line(alloc, catalogue, number, &request),
+        Some((number, Meaning::Gives(request))) => {
+            meant_line(alloc, catalogue, number, "gives", &request)
+        }
+        Some((number, Meaning::Asks(request))) => {
+            meant_line(alloc, catalogue, number, "asks", &request)
+        }
         _ => counted_line(alloc, found.explained, found.without_text),
     }
 }
@@ -188,25 +181,6 @@ impl Explainer {
         }
     }
 
-    /// Takes the next line of a journal, which is right, without its line feed. Behind an end whose text means another nothing is
-    /// taken.
-    pub fn take(
-        &mut self,
-        units: &[UnitShape],
-        texts: &[Option<&str>],
-        number: usize,
-        line: &[u8],
-    ) -> Result<(), Failure>
-        ensures takes { OnOk result (TakesLine self.old.tally self.new.tally units.now (texts_now texts.now) number line.now) }
-        ensures err { IfErr result IsNoFault }
-    {
-        self.tally.replays();
-        match str::from_utf8(line) {
-            Ok(line) => self.take_text(units, texts, number, line),
-            Err(_) => Ok(()),
-        }
-    }
-
     /// Says what is found, and gives whether no end has a text that means another.
     pub fn say<W: Write>(&self, writer: &mut W) -> Result<bool, Failure>
         ensures { (units : List Shape) (texts : List (Option (List ℕ))) (h : History) → FollowsBy units texts self.now.tally h →
@@ -215,5 +189,24 @@ impl Explainer {
         let line = line_of(self.alloc, self.tally.catalogue(), &self.tally.found())?;
         put(writer, line.as_str())?;
         Ok(self.tally.goes_on())
+    }
+}
+
+impl Taker for Explainer {
+    ghost follows = { λ explainer units texts h. FollowsBy units texts explainer.tally h };
+
+    // Behind an end whose text means another nothing is taken.
+    fn take(
+        &mut self,
+        units: &[UnitShape],
+        texts: &[Option<&str>],
+        number: usize,
+        line: &[u8],
+    ) -> Result<(), Failure> {
+        self.tally.replays();
+        match str::from_utf8(line) {
+            Ok(line) => self.take_text(units, texts, number, line),
+            Err(_) => Ok(()),
+        }
     }
 }

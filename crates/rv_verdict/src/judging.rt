@@ -1,15 +1,18 @@
 //! Audits over any readers and any writer.
 
-ghost use Rattle.std.specs.Prelude.{◌≡◌, ◌≤◌, IfSome, length, true, false};
+ghost use Rattle.std.specs.Prelude.{◌≡◌, ◌≤◌, IfOk, IfSome, length, true, false};
+ghost use Rattle.rv_history.specs.Legal.{empty};
 ghost use Rattle.rv_script.specs.UnitTexts.{without_returns};
 ghost use Rattle.rv_script.specs.Whole.{most_bytes};
 ghost use Rattle.rv_verdict.specs.Audits.{AuditsScript, AuditsText, SaysOf, SaysOfBytes, SaysOfFile, SaysOfSection};
 ghost use Rattle.rv_verdict.specs.Brought.{AreLimits};
+ghost use Rattle.rv_verdict.specs.Judging.{IsFollowed};
+ghost use Rattle.rv_verdict.specs.Texts.{texts_now};
 
-use crate::file::{Watch, judge_file};
+use crate::file::{Nobody, Taker, Watch, judge_lines};
 use crate::said::say;
 use crate::script::{audit_over, script_of};
-use rv_fault::{Failure, What, refused};
+use rv_fault::Failure;
 use rv_history::limits::Limits;
 use rv_script::unit_text::unit_text;
 use rv_script::{read_script, text_of};
@@ -52,16 +55,6 @@ fn audit_text<W: Write>(alloc: Global, writer: &mut W, text: &str) -> Result<boo
     audit_journal(alloc, writer, limits, given.units(), given.journal())
 }
 
-// Judges the journal of the script that bytes are, if they are text.
-fn audit_bytes<W: Write>(alloc: Global, writer: &mut W, bytes: &[u8]) -> Result<bool, Failure>
-    ensures { AuditsScript true SaysOfSection (W.contents writer.old) (W.contents writer.new) bytes.now result }
-{
-    match text_of(bytes) {
-        Ok(text) => audit_text(alloc, writer, text),
-        Err(error) => Err(refused(1, What::of_bytes(error))),
-    }
-}
-
 /// Judges the journal that a script brings in a section, without each carriage return that stands before a line feed, and
 /// writes one line that says what was found. Gives whether it is that of a legal history.
 ///
@@ -75,14 +68,13 @@ pub fn audit<R: Read, W: Write>(
     ensures { IfSome (R.remaining reader.old) (λ script.
         AuditsScript true SaysOfSection (W.contents writer.old) (W.contents writer.new) script result) }
 {
-    match read_script(alloc, reader) {
-        Ok(bytes) => audit_bytes(alloc, writer, bytes.as_slice()),
-        Err(error) => Err(Failure::from(error)),
-    }
+    let bytes = read_script(alloc, reader)?;
+    let text = text_of(bytes.as_slice())?;
+    audit_text(alloc, writer, text)
 }
 
-// Judges what a reader gives, and says what was found.
-fn audit_reader<J: Read, W: Write, H: Watch>(
+/// Judges what a reader gives, and says what was found; the lines that are right are taken.
+pub fn audit_lines<J: Read, W: Write, H: Watch, T: Taker>(
     alloc: Global,
     journal: &mut J,
     takes_torn: bool,
@@ -90,12 +82,18 @@ fn audit_reader<J: Read, W: Write, H: Watch>(
     writer: &mut W,
     limits: Limits,
     units: &[UnitShape],
+    texts: &[Option<&str>],
+    taker: &mut T,
 ) -> Result<Audited, Failure>
     requires { AreLimits limits }
-    ensures { SaysOfBytes (J.remaining journal.old) takes_torn (W.contents writer.old) (W.contents writer.new) limits units.now result }
+    ensures says { SaysOfBytes (J.remaining journal.old) takes_torn (W.contents writer.old) (W.contents writer.new) limits units.now result }
+    ensures follows { IfOk result (λ told. T.follows taker.old units.now (texts_now texts.now) (empty limits) → told.is_legal ≡ true →
+        IsFollowed (J.remaining journal.old) takes_torn limits units.now told.torn (T.follows taker.new units.now (texts_now texts.now))) }
 {
     let mut audit = audit_over(alloc, limits)?;
-    let (verdict, torn) = judge_file(alloc, &mut audit, units, journal, takes_torn, watch)?;
+    let (verdict, torn) = judge_lines(
+        alloc, &mut audit, units, texts, journal, takes_torn, watch, taker,
+    )?;
     let is_legal = say(alloc, writer, audit.catalogue(), &verdict)?;
     Ok(Audited { is_legal, torn })
 }
@@ -113,7 +111,7 @@ fn audit_file_text<J: Read, W: Write, H: Watch>(
     ensures { AuditsText false (SaysOfFile (J.remaining journal.old) takes_torn) (W.contents writer.old) (W.contents writer.new) text.now result }
 {
     let (limits, given) = script_of(alloc, text, false)?;
-    audit_reader(
+    audit_lines(
         alloc,
         journal,
         takes_torn,
@@ -121,24 +119,9 @@ fn audit_file_text<J: Read, W: Write, H: Watch>(
         writer,
         limits,
         given.units(),
+        &[],
+        &mut Nobody {},
     )
-}
-
-// Judges what a reader gives over the script that bytes are, if they are text.
-fn audit_file_bytes<J: Read, W: Write, H: Watch>(
-    alloc: Global,
-    journal: &mut J,
-    takes_torn: bool,
-    watch: &mut H,
-    writer: &mut W,
-    bytes: &[u8],
-) -> Result<Audited, Failure>
-    ensures { AuditsScript false (SaysOfFile (J.remaining journal.old) takes_torn) (W.contents writer.old) (W.contents writer.new) bytes.now result }
-{
-    match text_of(bytes) {
-        Ok(text) => audit_file_text(alloc, journal, takes_torn, watch, writer, text),
-        Err(error) => Err(refused(1, What::of_bytes(error))),
-    }
 }
 
 /// Judges the journal that a reader of its own gives, a line at a time and byte for byte, over the sections of a script,
@@ -158,8 +141,7 @@ pub fn audit_file<R: Read, J: Read, W: Write, H: Watch>(
     ensures { IfSome (R.remaining reader.old) (λ script.
         AuditsScript false (SaysOfFile (J.remaining journal.old) takes_torn) (W.contents writer.old) (W.contents writer.new) script result) }
 {
-    match read_script(alloc, reader) {
-        Ok(bytes) => audit_file_bytes(alloc, journal, takes_torn, watch, writer, bytes.as_slice()),
-        Err(error) => Err(Failure::from(error)),
-    }
+    let bytes = read_script(alloc, reader)?;
+    let text = text_of(bytes.as_slice())?;
+    audit_file_text(alloc, journal, takes_torn, watch, writer, text)
 }

@@ -12,6 +12,6 @@ mod script;
 mod texts;
 mod with_ends;
 
-pub use file::Watch;
+pub use file::{Nobody, Watch};
 pub use judging::{Audited, audit, audit_file};
 pub use with_ends::{Explained, audit_explained, audit_file_explained};

@@ -1,15 +1,22 @@
 use Rattle.std.proofs.Common.{◌≡◌, ℕ, List, take, sym, subst}
 use Rattle.std.specs.Prelude.{IfSome, true}
+use Rattle.std.proofs.lemmas.Result.{err_from_is_err_and}
 use Rattle.rv_verdict.specs.Audits.{SaysOfSection}
-use Rattle.rv_verdict.proofs.Wholly.{script_audited, unread_audited}
+use Rattle.rv_verdict.proofs.Wholly.{bytes_refused, none_read, script_audited}
 use Rattle.rv_verdict.proofs.judging.audit.Goals as goal
 
-pub returns-in-Ok : goal.returns-in-Ok
-returns-in-Ok g c =
-    let known = g.R.Read.remaining c.args.reader.now in
-    let read : IfSome known (λ input. c.as_slice.result.now ≡ take 16777217 input) =
-    subst (λ (bytes : List ℕ). IfSome known (λ input. bytes ≡ take 16777217 input)) (sym c.as_slice.ensures.value) c.in-Ok.ensures.bytes in
-    script_audited true SaysOfSection (g.W.Write.contents c.args.writer.now) (g.W.Write.contents c.audit_bytes.new.writer) known c.as_slice.result.now c.audit_bytes.result read c.audit_bytes.ensures
+pub returns-in_err-bytes : goal.returns-in_err-bytes
+returns-in_err-bytes g c =
+    let p = err_from_is_err_and c.from_residual.result c.from_residual.ensures.1 in
+    rw (p.1, p.2) (none_read true (λ script. SaysOfSection) (g.W.Write.contents c.args.writer.now) (g.R.Read.remaining c.args.reader.now) _)
 
-pub returns-in-Err : goal.returns-in-Err
-returns-in-Err g c = unread_audited true SaysOfSection (g.W.Write.contents c.args.writer.now) (g.R.Read.remaining c.args.reader.now) c.in-Err.error c.from.result c.from.ensures
+pub returns-in_err-text : goal.returns-in_err-text
+returns-in_err-text g c =
+    let p = err_from_is_err_and c.from_residual-in_err-text.result c.from_residual-in_err-text.ensures.1 in
+    let read = subst (λ (bytes : List ℕ). IfSome (g.R.Read.remaining c.args.reader.now) (λ input. bytes ≡ take 16777217 input)) (sym c.as_slice.ensures.value) c.in_ok-bytes.ensures.bytes in
+    rw (p.1, p.2) (bytes_refused true (λ script. SaysOfSection) (g.W.Write.contents c.args.writer.now) (g.R.Read.remaining c.args.reader.now) c.as_slice.result.now _ read c.in_err-text.ensures.err)
+
+pub returns : goal.returns
+returns g c =
+    let read = subst (λ (bytes : List ℕ). IfSome (g.R.Read.remaining c.args.reader.now) (λ input. bytes ≡ take 16777217 input)) (sym c.as_slice.ensures.value) c.in_ok-bytes.ensures.bytes in
+    script_audited true (λ script. SaysOfSection) (g.W.Write.contents c.args.writer.now) (g.W.Write.contents c.audit_text.new.writer) (g.R.Read.remaining c.args.reader.now) c.as_slice.result.now c.in_ok-text.text.now c.audit_text.result read c.in_ok-text.ensures.ok c.audit_text.ensures

@@ -16,7 +16,7 @@ pub returns : goal.returns
 returns g c =
     let journal = g.J.Read.remaining c.args.journal.now in
     let old = g.W.Write.contents c.args.writer.now in
-    let new = g.W.Write.contents c.audit_reader.new.writer in
+    let new = g.W.Write.contents c.audit_lines.new.writer in
     let it : Brought = record { limits = c.in_ok-limits.limits; units = c.in_ok-limits.given.units; journal = c.in_ok-limits.given.journal } in
-    said_of false (SaysOfFile journal c.args.takes_torn) old new c.args.text.now it c.audit_reader.result (file_never journal c.args.takes_torn) c.in_ok-limits.ensures.1
-    (subst (λ (units : List Shape). SaysOfBytes journal c.args.takes_torn old new c.in_ok-limits.limits units c.audit_reader.result) c.units.ensures c.audit_reader.ensures)
+    said_of false (SaysOfFile journal c.args.takes_torn) old new c.args.text.now it c.audit_lines.result (file_never journal c.args.takes_torn) c.in_ok-limits.ensures.1
+    (subst (λ (units : List Shape). SaysOfBytes journal c.args.takes_torn old new c.in_ok-limits.limits units c.audit_lines.result) c.units.ensures c.audit_lines.ensures.says)

@@ -1,13 +1,19 @@
 use Rattle.std.proofs.Common.{◌≡◌, List, ℕ, subst, string_bytes, IfOk}
+use Rattle.std.proofs.lemmas.Result.{err_from_is_err_and}
 use Rattle.rv_shape.specs.Shape.{Shape}
 use Rattle.rv_behind.specs.Events.{catalogue_of}
 use Rattle.rv_keep.specs.PageText.{page_text}
-use Rattle.rv_shell.proofs.Serving.{pages_by}
+use Rattle.rv_shell.proofs.Serving.{page_fails, pages_by}
 use Rattle.rv_shell.proofs.shell.Shell.journal.Goals as goal
 
-pub returns-in-Ok : goal.returns-in-Ok
-returns-in-Ok g c =
+pub returns-in_err-entries : goal.returns-in_err-entries
+returns-in_err-entries g c =
+    let p = err_from_is_err_and c.from_residual.result c.from_residual.ensures.1 in
+    rw (p.1, p.2) (page_fails (g.W.Write.contents c.args.writer.now) c.args.control.now c.entries.new.self c.args.from _ c.in_err-entries.ensures.fault)
+
+pub returns : goal.returns
+returns g c =
     let bytes : List ℕ = page_text (catalogue_of c.entries.new.self.seen) c.args.from c.entries.new.into in
     let line : IfOk c.page_text-text.result (λ l. string_bytes l ≡ bytes) =
     subst (λ (shapes : List Shape). IfOk c.page_text-text.result (λ l. string_bytes l ≡ page_text shapes c.args.from c.entries.new.into)) c.catalogue.ensures c.page_text-text.ensures in
-    pages_by _ _ c.args.control.now c.entries.new.self c.args.from c.entries.new.into _ c.in-Ok.ensures.ok (c.put_made.ensures bytes line)
+    pages_by _ _ c.args.control.now c.entries.new.self c.args.from c.entries.new.into _ c.in_ok-entries.ensures.ok (c.put_made.ensures bytes line)

@@ -3,7 +3,7 @@ use Rattle.std.specs.Prelude.{OnOk}
 use Rattle.rv_verdict.specs.Explaining.{TakesLine}
 use Rattle.rv_verdict.specs.Texts.{texts_now}
 use Rattle.rv_verdict.proofs.Followed.{no_line}
-use Rattle.rv_verdict.proofs.explaining.Explainer.take.Goals as goal
+use Rattle.rv_verdict.proofs.explaining.ExplainerTaker.take.Goals as goal
 
 pub returns-in-Ok-clause-takes : goal.returns-in-Ok-clause-takes
 returns-in-Ok-clause-takes c =
