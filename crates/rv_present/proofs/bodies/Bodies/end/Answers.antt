@@ -67,7 +67,8 @@ returns-clause-kept c = λ bs k.
     let b : Body = body_of a c.in-Some.held in
     let was : ObjectView = get_or f.objects b.object idle in
     let x : ObjectView = record { actions = drop 1 was.actions; unsettled = was.unsettled; scalars = scalars_after c.action_by-action.result was.scalars c.args.given.now } in
-    let in_it = inner c bs k in
+    let in_it : slice_get (filter (by a) bs) 0 ≡ Some b =
+    inner_body shapes a bs c.in-Some.held (ap (λ (hs : List Held). slice_get hs 0) (sym (c.of.ensures ∙ k.stacks a)) ∙ sym c.innermost.ensures ∙ c.in-Some.is) in
     let there = each_inner (IsKnown (length f.stacks) (length f.objects)) a b bs in_it k.known in
     let acts : c.action_by-action.result ≡ action_of shapes b = c.action_by-action.ensures in
     let kept = end_kept shapes bs f a b x there.0 there.1 in_it
@@ -83,7 +84,8 @@ returns-clause-scalars c = λ bs k o.
     let b : Body = body_of a c.in-Some.held in
     let was : ObjectView = get_or f.objects b.object idle in
     let x : ObjectView = record { actions = drop 1 was.actions; unsettled = was.unsettled; scalars = scalars_after c.action_by-action.result was.scalars c.args.given.now } in
-    let in_it = inner c bs k in
+    let in_it : slice_get (filter (by a) bs) 0 ≡ Some b =
+    inner_body shapes a bs c.in-Some.held (ap (λ (hs : List Held). slice_get hs 0) (sym (c.of.ensures ∙ k.stacks a)) ∙ sym c.innermost.ensures ∙ c.in-Some.is) in
     let some : b.object < length f.objects = (each_inner (IsKnown (length f.stacks) (length f.objects)) a b bs in_it k.known).1 in
     ap (λ (xs : List ObjectView). (get_or xs o idle).scalars) c.end-2.ensures.new
     ∙ end_scalars shapes bs f.objects a b x c.args.given.now some in_it (ap (λ (y : Action). scalars_after y was.scalars c.args.given.now) c.action_by-action.ensures) o
