@@ -3,16 +3,15 @@
 ghost use Rattle.std.specs.Coded.{codes};
 ghost use Rattle.std.specs.Prelude.{◌≡◌};
 ghost use Rattle.rv_behind.specs.contracts.event.Event as e;
+ghost use Rattle.rv_crew.specs.Hiring.{hired};
 ghost use Rattle.rv_crew.specs.Teams.{IsOfTurn};
-ghost use Rattle.embedding.specs.Beginning.{begun};
 
 use crate::actuator::{Actuator, actuate};
 use crate::sensor::{Sensor, sense};
-use rv_crew::crew::{Crew, StartFault};
-use rv_crew::job::Job;
+use rv_crew::crew::Crew;
+use rv_crew::hiring::HireFault;
 use rv_port::port::{Finished, Port};
 use std::sync::Wait;
-use std::thread::Threads;
 
 /// What a thread does with its port.
 #[derive(Drop)]
@@ -31,65 +30,30 @@ pub fn act<R: Wait + Input + Print + AllocGlobal>(rt: &R, port: Port, work: Work
     }
 }
 
-/// What became of a port that was to get a thread.
-#[derive(Clone, Copy, Drop)]
-pub enum Begun {
-    /// Its thread runs.
-    Runs,
-    /// No thread can be started. The crew keeps the actor as lost.
-    NoThread,
-    /// Memory was refused, and the port given up. The crew keeps the actor as lost.
-    GivenUp,
-    /// Memory was refused for that too: nobody names the actor.
-    Forgotten,
-}
-
-/// Lets go of a port for whose thread memory was refused.
-pub fn give_up(crew: &mut Crew, port: Port) -> Begun
-    ensures { crew.new ≡ begun crew.old port result }
-{
-    match crew.give_up(port) {
-        Ok(()) => Begun::GivenUp,
-        Err(_port) => Begun::Forgotten,
-    }
-}
-
-/// Starts the thread of a job, or lets go of the port.
-pub fn start<R: Threads>(rt: &R, crew: &mut Crew, job: Job, port: Port) -> Begun
-    requires { port ≡ job.port.value }
-    ensures { crew.new ≡ begun crew.old port result }
-{
-    match crew.start(rt, job, port) {
-        Ok(()) => Begun::Runs,
-        Err(StartFault::NoThread) => Begun::NoThread,
-        Err(StartFault::NoMemory(_job, port)) => give_up(crew, port),
-    }
-}
-
 /// Starts threads by a closure of `main`, which boxes their jobs.
 #[derive(Drop)]
 pub struct Hands {
     /// The closure.
-    pub begin: Box<dyn Fn(&mut Crew, Port, Work) -> Begun + Send>,
+    pub begin: Box<dyn Fn(&mut Crew, Port, Work) -> Result<(), HireFault> + Send>,
     pub ghost callable: { (crew : _) (port : _) (work : _) → pre begin crew port work },
     pub ghost begins: { (crew : _) (port : _) (work : _) (result : _) (after : _)
-        → post begin crew port work result after → after.now ≡ begun crew.now port result } by { Prim.hlevel (codes, e.the_row.coded) },
+        → post begin crew port work result after → after.now ≡ hired crew.now port result } by { Prim.hlevel (codes, e.the_row.coded) },
 }
 
 impl Hands {
     // Calls the closure.
-    fn begin(&self, crew: &mut Crew, port: Port, work: Work) -> Begun
-        ensures { crew.new ≡ begun crew.old port result }
+    fn begin(&self, crew: &mut Crew, port: Port, work: Work) -> Result<(), HireFault>
+        ensures { crew.new ≡ hired crew.old port result }
     {
         (self.begin)(crew, port, work)
     }
 
     /// Starts a thread that does the work of a port's actor. The crew stays of the port's turn.
-    #[tactic(auto, using(crate::proofs::Turns::begun_of_turn))]
+    #[tactic(auto, using(rv_crew::proofs::Turns::hired_of_turn))]
     pub fn start(&self, crew: &mut Crew, port: Port, work: Work)
         requires { IsOfTurn port.turn crew.old }
         ensures { IsOfTurn port.turn crew.new }
     {
-        let _begun = self.begin(crew, port, work);
+        let _hired = self.begin(crew, port, work);
     }
 }

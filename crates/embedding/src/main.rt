@@ -2,7 +2,7 @@
 #![tactic(auto)]
 
 ghost use Rattle.std.specs.Prelude.{◌≡◌};
-ghost use Rattle.embedding.specs.Beginning.{begun};
+ghost use Rattle.rv_crew.specs.Hiring.{hired};
 
 mod actuator;
 mod hands;
@@ -10,8 +10,9 @@ mod host_caller;
 mod plant;
 mod sensor;
 
-use hands::{Begun, Hands, Work, act, give_up, start};
+use hands::{Hands, Work, act};
 use rv_crew::crew::Crew;
+use rv_crew::hiring::{HireFault, give_up, start};
 use rv_crew::job::Job;
 use rv_port::port::{Finished, Port};
 use std::io;
@@ -19,8 +20,8 @@ use std::snapshot::Snapshot;
 
 // The jobs of threads are boxed here, where the runtime is.
 fn main(rt: HostRuntime) -> io::Result<()> {
-    let begin = move |crew: &mut Crew, port: Port, work: Work| -> Begun
-        ensures { crew.new ≡ begun crew.old port result }
+    let begin = move |crew: &mut Crew, port: Port, work: Work| -> Result<(), HireFault>
+        ensures { crew.new ≡ hired crew.old port result }
     {
         let given = Snapshot::of(&port);
         let boxed = Box::new(

@@ -1,6 +1,6 @@
 //! A plant: a tank that a unit text describes, with a sensor and a valve whose jobs are of Rattle.
 
-ghost use Rattle.std.specs.Prelude.{◌≡◌, [], IfSome};
+ghost use Rattle.std.specs.Prelude.{◌≡◌, IfSome};
 ghost use Rattle.rv_crew.specs.Teams.{IsOfTurn};
 
 use crate::actuator::Actuator;
@@ -10,7 +10,6 @@ use crossbeam_channel::{Receiver, Sender, unbounded};
 use rv_access::read_list;
 use rv_crew::crew::{Closed, Crew};
 use rv_crew::laws::joins_keep_the_turn;
-use rv_host::host::Host;
 use rv_port::control::Control;
 use rv_port::port::Port;
 use rv_shape::catalogue::Catalogue;
@@ -23,6 +22,9 @@ use std::thread::Threads;
 
 // How many entries the journal has room for.
 const CAPACITY: usize = 10_000;
+
+// How many callers a queue has room for.
+const QUEUE: usize = 1;
 
 // The tank. The valve opens above 80, and closes below 20; a level that moves nothing is taken at once.
 const TANK: &str = "with Ada.Synchronous_Task_Control; use Ada.Synchronous_Task_Control;
@@ -67,20 +69,6 @@ const LIST: &str = "allow Devices Plant.Tank *
 allow Devices Plant.Taken Suspend_Until_True
 allow Plant Plant.Taken Set_True
 ";
-
-// A new host.
-fn new_host(alloc: Global) -> Option<Host>
-    ensures { IfSome result (λ host. host.past ≡ []) }
-{
-    Host::new(alloc, CAPACITY).ok()
-}
-
-// The control of a host of which nothing was asked.
-fn control_of(alloc: Global, host: Host) -> Option<Control>
-    requires { host.past ≡ [] }
-{
-    Control::make(alloc, host).ok()
-}
 
 // Loads the tank and its devices, and sets their list. None where one isn't taken.
 fn load<R: Wait>(rt: &R, alloc: Global, control: &mut Control) -> Option<()> {
@@ -189,7 +177,7 @@ fn run<R: Threads + Wait + AllocGlobal>(
 
 // The control of a new host with the tank and its devices.
 fn loaded<R: Wait>(rt: &R, alloc: Global) -> Option<Control> {
-    let mut control = control_of(alloc, new_host(alloc)?)?;
+    let mut control = Control::of_new(alloc, CAPACITY, QUEUE)?;
     load(rt, alloc, &mut control)?;
     Some(control)
 }

@@ -1,25 +1,10 @@
 -- Calls and interrupts, one after another.
-use Rattle.std.proofs.Common.{◌≡◌, ℕ, zero, suc, ◌-◌, ◌<◌, Bool, true, false, List, [], ◌++◌, refl, ap, ◌∙◌, subst, arith, append_assoc}
+use Rattle.std.proofs.Common.{◌≡◌, ℕ, zero, suc, ◌-◌, ◌<◌, Bool, true, false, List, [], refl, subst, arith}
 use Rattle.std.specs.Prelude.{ℤ}
-use Rattle.rv_turn.specs.Prefixes.{starts_both}
 use Rattle.rv_event.specs.declared.entry.Request.TheVariants.{Call}
-use Rattle.rv_behind.specs.declared.event.Event.{Event}
 use Rattle.rv_port.specs.declared.reached.Reached.{Reached}
-use Rattle.rv_port.specs.Traces.{Passing}
-use Rattle.rv_port.specs.Calls.{Stays}
 use Rattle.rv_port.specs.Ports.{Porting, PerformedBy}
 use Rattle.rv_crew.specs.Tasks.{If, Calls, goes_on}
-
--- a port stays what it was
-pub stays_both : (v u w : Passing) → Stays v u → Stays u w → Stays v w
-stays_both v u w p q = record {
-  turn = q.turn ∙ p.turn;
-  actor = q.actor ∙ p.actor;
-  about = q.about ∙ p.about;
-  later = starts_both v.seen u.seen w.seen p.later q.later;
-  grown = (p.grown.0 ++ q.grown.0, q.grown.1 ∙ (ap (λ (l : List Event). l ++ q.grown.0) p.grown.1 ∙ append_assoc v.own p.grown.0 q.grown.0));
-  fewer = let one = p.fewer in let two = q.fewer in omega (arith, one, two);
-}
 
 when_false : (b : Bool) (more none : Type 0) → b ≡ false → none → If b more none
 when_false false more none e t = t

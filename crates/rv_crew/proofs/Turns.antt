@@ -1,5 +1,6 @@
 -- A crew whose ports are of one turn, and what stays of a lost one.
-use Rattle.std.proofs.Common.{◌≡◌, ℕ, List, [], ◌∷◌, ◌++◌, map, sym, subst}
+use Rattle.std.proofs.Common.{◌≡◌, ℕ, List, [], ◌∷◌, ◌++◌, map, refl, sym, subst}
+use Rattle.std.specs.Prelude.{Result, Ok, Err}
 use Rattle.atomic_table.specs.Seated.{TableId}
 use Rattle.rv_turn.specs.Histories.{mine, Each, StartsWith}
 use Rattle.rv_turn.specs.Passes.{Noted}
@@ -11,7 +12,10 @@ use Rattle.rv_behind.specs.declared.event.Event.{Event}
 use Rattle.rv_port.proofs.Closings.{mine_later}
 use Rattle.rv_crew.specs.Teams.{Owed, Team, IsOfTurn, no_threads}
 use Rattle.rv_crew.specs.Crews.{HasLost, IsClosedBy, Joins, told_of, note_of, with_started, given_up, with_lost, with_joined}
+use Rattle.rv_crew.specs.Hiring.{hired}
 use Rattle.rv_crew.specs.declared.crew.Closed.{Closed}
+use Rattle.rv_crew.specs.declared.hiring.HireFault.{HireFault}
+use Rattle.rv_crew.specs.declared.hiring.HireFault.TheVariants.{NoThread, GivenUp, NoMemory}
 
 each_both : {X : Type 0} (P : X → Type 0) (xs ys : List X) → Each P xs → Each P ys → Each P (xs ++ ys)
 each_both P [] ys p q = q
@@ -44,6 +48,13 @@ given_up_of_turn turn crew port of is = record {
 -- a port of that turn that is lost with its job
 pub lost_of_turn : (turn : TableId) (crew : Team) (port : Porting) → IsOfTurn turn crew → port.turn ≡ turn → IsOfTurn turn (with_lost crew port)
 lost_of_turn turn crew port of is = let up = given_up_of_turn turn crew port of is in record { out = up.out; back = up.back; gone = up.gone }
+
+-- a port of that turn whose thread begins, or that is lost
+pub hired_of_turn : (crew : Team) (port : Porting) (result : Result (Unit {0}) HireFault) → IsOfTurn port.turn crew → IsOfTurn port.turn (hired crew port result)
+hired_of_turn crew port (Ok x) of = started_of_turn port.turn crew port of refl
+hired_of_turn crew port (Err NoThread) of = lost_of_turn port.turn crew port of refl
+hired_of_turn crew port (Err GivenUp) of = given_up_of_turn port.turn crew port of refl
+hired_of_turn crew port (Err NoMemory) of = of
 
 -- the threads are joined
 pub joined_of_turn : (turn : TableId) (crew after : Team) → IsOfTurn turn crew → Joins crew.joined crew.running after.joined → after ≡ with_joined crew after.joined → IsOfTurn turn after

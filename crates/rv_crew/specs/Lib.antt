@@ -1,3 +1,4 @@
 pub mod Teams
 pub mod Crews
+pub mod Hiring
 pub mod Tasks

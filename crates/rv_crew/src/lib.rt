@@ -2,6 +2,7 @@
 #![tactic(auto)]
 
 pub mod crew;
+pub mod hiring;
 pub mod job;
 pub mod laws;
 pub mod notice;

@@ -9,9 +9,10 @@ use Rattle.rv_event.specs.declared.entry.Request.{Request}
 use Rattle.rv_exec.specs.Asking.{Asking, ended, asking, Trace, Along}
 use Rattle.rv_exec.specs.Blocks.{operation_run_at}
 use Rattle.rv_exec.specs.Bodies.{operation_of}
+use Rattle.rv_exec.specs.Calls.{end_with}
 use Rattle.rv_ends.specs.Afoot.{Open}
 use Rattle.rv_ends.specs.Courses.{IsCourse, IsWeighed}
-use Rattle.rv_ends.specs.Explained.{AsksBehind, ByRecorded, Ends, EndsBy, Follows, HasNoText, calls_without_text, end_by, end_of_body, held_after, is_stopped_end, is_unasked}
+use Rattle.rv_ends.specs.Explained.{AsksBehind, ByRecorded, Ends, EndsBy, Follows, HasNoText, calls_without_text, end_of_body, held_after, is_stopped_end, is_unasked}
 use Rattle.rv_ends.specs.Following.{Place, Plays}
 use Rattle.rv_ends.specs.declared.meaning.Course.{Course}
 use Rattle.rv_ends.specs.declared.meaning.Course.TheVariants as course
@@ -21,9 +22,9 @@ use Rattle.rv_ends.proofs.Sound.{by_recorded, by_stop, comes_to_other, follows_f
 abbrev pub begin_at : List Shape → Open → Place
 begin_at shapes body = record { shapes = shapes; asked = body.asked; held = body.start.held; other = None; is_broken = false }
 
-by_function : (o : Option Body) (is_function : Bool) (end : Exit × List ℤ) → option_map (λ (b : Body). b.is_function) o ≡ Some is_function → end_by is_function end ≡ end_of_body o end
+by_function : (o : Option Body) (is_function : Bool) (end : Exit × List ℤ) → option_map (λ (b : Body). b.is_function) o ≡ Some is_function → end_with is_function end.0 end.1 ≡ end_of_body o end
 by_function None is_function end e = absurd cc
-by_function (Some body) is_function end e = ap (λ (b : Bool). end_by b end) (sym (same body.is_function is_function e))
+by_function (Some body) is_function end e = ap (λ (b : Bool). end_with b end.0 end.1) (sym (same body.is_function is_function e))
   where
     same : (a b : Bool) → Some a ≡ Some b → a ≡ b
     same a b e = cc e
@@ -72,30 +73,30 @@ pub course_is : (bodies : UnitBodies) (shapes : List Shape) (body : Open) (end :
     → calls_without_text bodies body.asked ≡ false
     → option_map (λ (b : Body). b.is_function) (operation_of bodies body.start.object body.start.operation) ≡ Some is_function
     → Along (operation_run_at bodies body.start.held body.start.object body.start.operation body.start.values body.start.components) trace (exit, left) → Plays (begin_at shapes body) trace q
-    → IsWeighed q (end_by is_function (exit, left)) end found → IsCourse bodies shapes body end found
+    → IsWeighed q (end_with is_function exit left) end found → IsCourse bodies shapes body end found
 course_is bodies shapes body end is_function q exit left trace found texts code along plays w = by_found found w
   where
     has_text : HasNoText bodies body → ⊥
     has_text (inl none) = text_there (operation_of bodies body.start.object body.start.operation) is_function code none
     has_text (inr calls) = true_is_false (sym calls ∙ texts)
 
-    ends : end_by is_function (exit, left) ≡ end → Ends bodies body.start trace end
+    ends : end_with is_function exit left ≡ end → Ends bodies body.start trace end
     ends e = ((exit, left), along, sym e ∙ by_function (operation_of bodies body.start.object body.start.operation) is_function (exit, left) code)
 
-    ends_so : (request : Request) → request ≡ end_by is_function (exit, left) → Ends bodies body.start trace request
+    ends_so : (request : Request) → request ≡ end_with is_function exit left → Ends bodies body.start trace request
     ends_so request e = ((exit, left), along, e ∙ by_function (operation_of bodies body.start.object body.start.operation) is_function (exit, left) code)
 
-    by_front : {request : Request} → q.other ≡ None → request ≡ end_by is_function (exit, left) → EndsBy bodies shapes body request
+    by_front : {request : Request} → q.other ≡ None → request ≡ end_with is_function exit left → EndsBy bodies shapes body request
     by_front {request} none e =
         let s = follows_front (begin_at shapes body) q trace plays none in
         record { front = s.front; left = q.asked; trace = trace; recorded_is = s.recorded_is; follows = s.follows; ends = ends_so request e }
 
-    not_so : q.other ≡ None → (q.asked ≡ [] → end_by is_function (exit, left) ≡ end → is_stopped_end end ≡ true) → ByRecorded bodies shapes body end → ⊥
+    not_so : q.other ≡ None → (q.asked ≡ [] → end_with is_function exit left ≡ end → is_stopped_end end ≡ true) → ByRecorded bodies shapes body end → ⊥
     not_so none only r =
         let s = follows_front (begin_at shapes body) q trace plays none in
         let one = one_way shapes (operation_run_at bodies body.start.held body.start.object body.start.operation body.start.values body.start.components) body.start.held trace r.1 s.front q.asked (exit, left) r.3.0 along r.3.1 s.follows
         (subst (λ (l : Trace). Follows shapes body.start.held l r.1) s.recorded_is r.2) in
-        let given : end_by is_function (exit, left) ≡ end =
+        let given : end_with is_function exit left ≡ end =
         by_function (operation_of bodies body.start.object body.start.operation) is_function (exit, left) code
         ∙ ap (λ (x : Exit × List ℤ). end_of_body (operation_of bodies body.start.object body.start.operation) x) one.same ∙ sym r.3.2 in
         true_is_false (sym (only one.none_left given) ∙ r.0)
@@ -115,7 +116,7 @@ course_is bodies shapes body end is_function q exit left trace found texts code 
           is_other = s.is_other;
         }
 
-    by_found : (f : Course) → IsWeighed q (end_by is_function (exit, left)) end f → IsCourse bodies shapes body end f
+    by_found : (f : Course) → IsWeighed q (end_with is_function exit left) end f → IsCourse bodies shapes body end f
     by_found course.Explained w = ((w.3, trace, by_recorded (begin_at shapes body) q trace plays w.0 w.1, ends w.2), has_text)
     by_found course.WithoutText w = absurd w
     by_found (course.Gives request) w = (by_front w.0 w.1, (λ r. not_so w.0 w.2 r), has_text)

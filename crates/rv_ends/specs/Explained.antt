@@ -18,6 +18,7 @@ use Rattle.rv_event.specs.declared.entry.Rule.TheVariants.{Reentry}
 use Rattle.rv_exec.specs.Asking.{Trace, Along, stands}
 use Rattle.rv_exec.specs.Blocks.{operation_run_at}
 use Rattle.rv_exec.specs.Bodies.{operation_of}
+use Rattle.rv_exec.specs.Calls.{end_with}
 use Rattle.rv_exec.specs.Stops.{stops_bodies}
 use Rattle.rv_history.specs.Due.{out}
 use Rattle.rv_history.specs.Fitting.{is_settling}
@@ -80,14 +81,10 @@ pub record FollowsToStop (shapes : List Shape) (held : ℕ) (recorded : Trace) (
 
 -- Ends
 
--- the request that a body's end is, with the components as it leaves them, none for a function (9.5.1)
-abbrev pub end_by : Bool → Exit × List ℤ → Request
-end_by true end = Complete [] end.0
-end_by false end = Complete end.1 end.0
-
+-- the request that a body's end is (9.5.1)
 abbrev pub end_of_body : Option Body → Exit × List ℤ → Request
 end_of_body None end = Complete end.1 end.0
-end_of_body (Some body) end = end_by body.is_function end
+end_of_body (Some body) end = end_with body.is_function end.0 end.1
 
 -- with this trace the text of a body that started so ends by this request
 abbrev pub Ends : UnitBodies → Start → Trace → Request → Type 0

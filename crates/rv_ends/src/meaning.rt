@@ -5,15 +5,15 @@ ghost use Rattle.rv_exec.specs.Bodies.{bodies_view, operation_of};
 ghost use Rattle.rv_ends.specs.Afoot.{open_view};
 ghost use Rattle.rv_ends.specs.Courses.{IsCourse, IsWeighed};
 ghost use Rattle.rv_ends.specs.Following.{place_of};
-ghost use Rattle.rv_ends.specs.Explained.{calls_without_text, end_by, is_without_text};
+ghost use Rattle.rv_ends.specs.Explained.{calls_without_text, is_without_text};
 
 use crate::afoot::OpenBody;
 use crate::following::{Following, is_same, is_stopped_end};
 use rv_event::entry::{Answer, Request};
+use rv_exec::asks::end_with;
 use rv_exec::bodies::Bodies;
-use rv_exec::machine::{Ended, run_body_at};
+use rv_exec::machine::run_body_at;
 use rv_shape::catalogue::Catalogue;
-use rv_value::Scalars;
 
 /// What the text of a body means where an end of the body was recorded.
 #[derive(Clone, Copy, Drop)]
@@ -41,17 +41,6 @@ pub enum Course {
     Stops(Request),
     /// It asks this request, of which there is no entry.
     Asks(Request),
-}
-
-// The request that an end is.
-fn end_by(is_function: bool, ended: Ended) -> Request
-    ensures { result ≡ end_by is_function (ended.exit, ended.scalars) }
-{
-    if is_function {
-        Request::Complete(Scalars::new(), ended.exit)
-    } else {
-        Request::Complete(ended.scalars, ended.exit)
-    }
 }
 
 // Whether an ask started a body that has no text.
@@ -139,7 +128,11 @@ fn run(
         start.values,
         &mut following,
     );
-    weighed(&following, end_by(is_function, ended), end)
+    weighed(
+        &following,
+        end_with(is_function, ended.exit, ended.scalars),
+        end,
+    )
 }
 
 /// What a body comes to, by its text and what was recorded of it, where this end was recorded.

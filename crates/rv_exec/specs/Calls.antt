@@ -201,10 +201,13 @@ abbrev pub completed : Outcome → Answer → Outcome
 completed outcome (answer.Done next) = seen outcome
 completed outcome other = Err (cause.Stopped false)
 
--- the request that ends a body, with the components as it leaves them, none for a function (9.5.1)
+-- the request that ends a body by this exit, with the components as it leaves them, none for a function (9.5.1)
+abbrev pub end_with : Bool → Exit → List ℤ → Request
+end_with true exit components = request.Complete [] exit
+end_with false exit components = request.Complete components exit
+
 abbrev pub end_of : Bool → Outcome → List ℤ → Request
-end_of true outcome components = request.Complete [] (exit_of outcome)
-end_of false outcome components = request.Complete components (exit_of outcome)
+end_of is_function outcome components = end_with is_function (exit_of outcome) components
 
 -- whether its actor is left waiting, or in a body that it called (own)
 abbrev pub is_stuck : Outcome → Bool

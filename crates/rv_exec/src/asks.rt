@@ -2,7 +2,7 @@
 
 ghost use Rattle.std.specs.Prelude.{◌≡◌, ℕ, [], ◌∷◌, Some, None};
 ghost use Rattle.rv_exec.specs.Asking.{Ran};
-ghost use Rattle.rv_exec.specs.Calls.{internal, is_protected, is_past, request_of, refusal, started, queued, suspended, delayed, is_entry, is_suspension, may_block, is_listed, can_refuse, refused, done, state, accepted, replied, woken, dropped, resumed, reached, exit_of, seen, completed, is_stuck, ends_by, end_of, stops, gives};
+ghost use Rattle.rv_exec.specs.Calls.{internal, is_protected, is_past, request_of, refusal, started, queued, suspended, delayed, is_entry, is_suspension, may_block, is_listed, can_refuse, refused, done, state, accepted, replied, woken, dropped, resumed, reached, exit_of, seen, completed, is_stuck, ends_by, end_of, end_with, stops, gives};
 
 use crate::activation::value_at;
 use crate::end::{Asked, Cause, Reply};
@@ -318,16 +318,23 @@ fn completed(outcome: Result<Args, Cause>, answer: Answer) -> Result<Args, Cause
     }
 }
 
-/// The request that ends a body (9.5.1).
-pub fn end_of(is_function: bool, outcome: &Result<Args, Cause>, components: Scalars) -> Request
-    ensures { result ≡ end_of is_function outcome.now components }
+/// The request that ends a body by this exit, with the components as it leaves them, none for a function (9.5.1).
+#[inline(always)]
+pub fn end_with(is_function: bool, exit: Exit, components: Scalars) -> Request
+    ensures { result ≡ end_with is_function exit components }
 {
-    let exit = exit_of(outcome);
     if is_function {
         Request::Complete(Scalars::new(), exit)
     } else {
         Request::Complete(components, exit)
     }
+}
+
+/// The request that ends a body which comes to this (9.5.1).
+pub fn end_of(is_function: bool, outcome: &Result<Args, Cause>, components: Scalars) -> Request
+    ensures { result ≡ end_of is_function outcome.now components }
+{
+    end_with(is_function, exit_of(outcome), components)
 }
 
 /// Whether its actor is left waiting, or in a body that it called.

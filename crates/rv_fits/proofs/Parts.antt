@@ -1,6 +1,7 @@
 -- The parts of links and branches.
 use Rattle.std.proofs.Common.{rules, arith, ◌≡◌, ℕ, Bool, true, ap, sym, ◌∙◌}
 use Rattle.std.specs.Prelude.{◌&&◌}
+use Rattle.std.proofs.lemmas.List.Folds.{list_all-map}
 use Rattle.rv_code.specs.declared.expression.Callee.{Callee}
 use Rattle.rv_code.specs.declared.expression.Expression.{the_lemmas as expression_lemmas}
 use Rattle.rv_code.specs.declared.expression.Link.{Link}
@@ -34,3 +35,6 @@ pub for_calls : (such : Callee → Bool) (x : Statement) (slot : ℕ) (is_revers
     → (expression_calls such low && expression_calls such high) ≡ true → r ≡ statements_call such ss → r ≡ statement_calls such x
 for_calls such x slot is_reverse range low high ss r is bounds e =
     e ∙ (sym (ap (λ (b : Bool). b && statements_call such ss) bounds) ∙ ap (λ (s : Statement). statement_calls such s) (sym is))
+
+-- a test of all in a list that is mapped
+pub ruleset mapped = (list_all-map)

@@ -7,7 +7,7 @@ use Rattle.rv_event.specs.declared.entry.Entry.TheVariants.{Asked, Load, ListCha
 use Rattle.rv_event.specs.declared.entry.Answer.{Answer}
 use Rattle.rv_event.specs.declared.entry.Answer.TheVariants.{Misuse}
 use Rattle.rv_turn.specs.Histories.{mine}
-use Rattle.rv_turn.specs.Passes.{Acted, Parted, IsWorn}
+use Rattle.rv_turn.specs.Passes.{Acted, Parted, IsWorn, opening_of}
 use Rattle.rv_code.specs.Bodies as Code
 use Rattle.rv_code.specs.BodyView.{unit_view}
 use Rattle.rv_code.specs.declared.body.UnitBodies.{UnitBodies}
@@ -96,6 +96,10 @@ Brings shapes shape given unit = BringsIf (are_of shapes shape (unit_view given)
 -- The history that a control begins with is that of the host, whose units have no bodies. (own)
 abbrev pub BeginsWith : History → List Event → Type 0
 BeginsWith h log = (units : List UnitBodies) × (map unit_view units ≡ map no_bodies_of h.shapes) × (log ≡ log_of h units)
+
+-- a control begins with a host (own)
+abbrev pub IsControlOf : History → Passing → Type 0
+IsControlOf host control = BeginsWith host control.seen × (control ≡ opening_of control.turn host.limits by control.seen)
 
 -- The pass of a control is the first of its turn; the control knows who was given a port, and the catalogue; the calls of all
 -- bodies fit the units. (own)

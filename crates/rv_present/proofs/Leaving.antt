@@ -1,6 +1,6 @@
 -- The bodies that left their objects unsettled, as one settles its object or leaves one so.
-use Rattle.std.proofs.Common.{◌≡◌, ℕ, ◌-◌, ◌<◌, ◌≤◌, List, [], ◌∷◌, length, get_or, set, map, drop, Some, None, Option, Bool, true, false, cond, arith, ap, subst, sym, ◌∙◌, refl}
-use Rattle.std.specs.Prelude.{◌==◌, ◌||◌, slice_get}
+use Rattle.std.proofs.Common.{◌≡◌, ℕ, ◌+◌, ◌-◌, ◌<◌, ◌≤◌, List, [], ◌∷◌, length, get_or, set, map, drop, Some, None, Option, Bool, true, false, cond, arith, ap, subst, sym, ◌∙◌, refl}
+use Rattle.std.specs.Prelude.{◌==◌, ◌||◌, is_some, slice_get}
 use Rattle.std.specs.List.{filter, list_any}
 use Rattle.std.proofs.lemmas.List.{length-set}
 use Rattle.rv_object.specs.Actions.{ObjectView}
@@ -17,7 +17,7 @@ use Rattle.rv_present.specs.declared.bodies.Bodies.{Bodies}
 use Rattle.rv_present.specs.Bodies.{IsBodies, IsKnown}
 use Rattle.rv_present.specs.Holdings.{action_of, actions_on, idle}
 use Rattle.rv_present.specs.Unsettled.{AreAlike, AreUnsettled, Leavers, counted, one_or_none}
-use Rattle.rv_present.proofs.UnderWay.{gone}
+use Rattle.rv_present.proofs.UnderWay.{one_fewer}
 
 few_counted : (t : Bool) → counted t ≤ 1
 few_counted true = omega arith
@@ -83,7 +83,7 @@ settled_kept left u objects a b x is settled k =
       known =
           known_as (length (set u.bodies a None)) (length (set objects b.object x)) (length u.bodies) (length objects) (without a left) (length-set u.bodies a None) (length-set objects b.object x)
           (each_without (IsKnown (length u.bodies) (length objects)) a left k.known);
-      count = omega (arith, k.count, gone a b left first);
+      count = omega (arith, k.count, one_fewer a left, ap (λ q. counted (is_some q)) first);
     }
 
 pub nothing_settled : (left : List Body) (u : Leavers) (objects : List ObjectView) (a : ℕ) → get_or u.bodies a None ≡ None → AreUnsettled left u objects → AreUnsettled (without a left) u objects
@@ -92,11 +92,9 @@ nothing_settled left u objects a is k =
 
 -- How many there are
 
-pub fewer : (left : List Body) (u : Leavers) (objects : List ObjectView) (a n : ℕ) (b : Body) → get_or u.bodies a None ≡ Some b → AreUnsettled left u objects → n ≡ u.number - 1 → n ≡ length (without a left)
-fewer left u objects a n b is k less = omega (arith, less, k.count, gone a b left (own_first left u objects a (Some b) is k))
-
-pub as_many : (left : List Body) (u : Leavers) (objects : List ObjectView) (a : ℕ) → get_or u.bodies a None ≡ None → AreUnsettled left u objects → u.number ≡ length (without a left)
-as_many left u objects a is k = k.count ∙ ap (λ bs. length bs) (sym (none_ends a left (own_first left u objects a None is k)))
+pub counted_left : (left : List Body) (u : Leavers) (objects : List ObjectView) (a : ℕ) → AreUnsettled left u objects → u.number ≡ length (without a left) + counted (is_some (get_or u.bodies a None))
+counted_left left u objects a k =
+    omega (arith, k.count, one_fewer a left, ap (λ q. counted (is_some q)) (own_first left u objects a (get_or u.bodies a None) refl k))
 
 pub closed_fewer : (q : Option ℕ) (bs : List Body) → length (closed q bs) ≤ length bs
 closed_fewer None bs = omega arith

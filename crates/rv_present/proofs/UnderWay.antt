@@ -1,6 +1,6 @@
 -- The bodies under way, as one starts or ends.
-use Rattle.std.proofs.Common.{◌≡◌, ◌≢◌, ℕ, suc, ◌+◌, ◌-◌, ◌<◌, List, [], ◌∷◌, length, get_or, set, drop, Some, None, Option, Bool, true, false, cond, arith, ap, subst, sym, ◌∙◌, refl}
-use Rattle.std.specs.Prelude.{ℤ, ◌==◌, not, if◌then◌else◌, slice_get, replicate}
+use Rattle.std.proofs.Common.{◌≡◌, ◌≢◌, ℕ, suc, ◌+◌, ◌-◌, ◌<◌, List, [], ◌∷◌, length, get_or, set, map, drop, Some, None, Option, Bool, true, false, cond, arith, ap, subst, sym, ◌∙◌, refl}
+use Rattle.std.specs.Prelude.{ℤ, ◌==◌, not, if◌then◌else◌, is_some, slice_get, replicate}
 use Rattle.std.specs.List.{filter}
 use Rattle.std.proofs.lemmas.Bool.Decides.{nat_tests}
 use Rattle.std.proofs.lemmas.Grind.{get_or-set_at}
@@ -18,8 +18,9 @@ use Rattle.rv_history.proofs.Bodies.{each_without}
 use Rattle.rv_history.proofs.Stances.{same_number, some_is}
 use Rattle.rv_history.proofs.During.{none_ends}
 use Rattle.rv_present.specs.Ends.{left_by}
-use Rattle.rv_present.specs.Holdings.{action_of, idle}
+use Rattle.rv_present.specs.Holdings.{action_of, held_of, idle}
 use Rattle.rv_present.specs.Bodies.{IsBodies, IsKnown}
+use Rattle.rv_present.specs.Unsettled.{counted}
 use Rattle.rv_present.specs.declared.bodies.Bodies.{Bodies}
 use Rattle.rv_present.proofs.Acting.{actions_end}
 use Rattle.rv_present.proofs.Holding.{stacks_end}
@@ -33,14 +34,22 @@ each_inner P a b (x ∷ bs) e all = by_test (x.actor == a) (λ f. each_inner P a
     by_test true rest f = subst P (some_is x b f) all.0
     by_test false rest f = rest f
 
--- one less after an end
-pub gone : (a : ℕ) (b : Body) (bs : List Body) → slice_get (filter (by a) bs) 0 ≡ Some b → length (without a bs) + 1 ≡ length bs
-gone a b [] e = absurd (cc)
-gone a b (x ∷ bs) e = by_test (x.actor == a) (gone a b bs) e
+-- one of an actor is gone, if it has one
+pub one_fewer : (a : ℕ) (bs : List Body) → length bs ≡ length (without a bs) + counted (is_some (slice_get (filter (by a) bs) 0))
+one_fewer a [] = refl
+one_fewer a (x ∷ bs) = by_test (x.actor == a) (one_fewer a bs)
   where
-    by_test : (t : Bool) → (slice_get (filter (by a) bs) 0 ≡ Some b → length (without a bs) + 1 ≡ length bs) → slice_get (cond t (x ∷ filter (by a) bs) (filter (by a) bs)) 0 ≡ Some b → length (if t then bs else x ∷ without a bs) + 1 ≡ suc (length bs)
-    by_test true rest f = omega arith
-    by_test false rest f = omega (arith, rest f)
+    by_test : (t : Bool) → length bs ≡ length (without a bs) + counted (is_some (slice_get (filter (by a) bs) 0)) → suc (length bs) ≡ length (if t then bs else x ∷ without a bs) + counted (is_some (slice_get (cond t (x ∷ filter (by a) bs) (filter (by a) bs)) 0))
+    by_test true rest = omega arith
+    by_test false rest = omega (arith, rest)
+
+pub counted_bodies : (shapes : List Shape) (bs : List Body) (found : Bodies) (a : ℕ) → IsBodies shapes bs found → found.number ≡ length (without a bs) + counted (is_some (slice_get (get_or found.stacks a []) 0))
+counted_bodies shapes bs found a k =
+    omega (arith, k.count, one_fewer a bs, ap counted (first_held (filter (by a) bs)), ap (λ (hs : List Held). counted (is_some (slice_get hs 0))) (k.stacks a))
+  where
+    first_held : (cs : List Body) → is_some (slice_get (map (held_of shapes) cs) 0) ≡ is_some (slice_get cs 0)
+    first_held [] = refl
+    first_held (c ∷ cs) = refl
 
 -- A body ends
 
@@ -54,7 +63,7 @@ end_kept shapes bs f a b x someone something inner alike is k = record {
   known =
       subst (λ n. Each (IsKnown n (length (set f.objects b.object x))) (without a bs)) (sym (length-set f.stacks a (drop 1 (get_or f.stacks a []))))
       (subst (λ n. Each (IsKnown (length f.stacks) n) (without a bs)) (sym (length-set f.objects b.object x)) (each_without (IsKnown (length f.stacks) (length f.objects)) a bs k.known));
-  count = omega (arith, k.count, gone a b bs inner);
+  count = omega (arith, k.count, one_fewer a bs, ap (λ q. counted (is_some q)) inner);
 }
 
 pub end_none : (shapes : List Shape) (bs : List Body) (f : Bodies) (a : ℕ) → slice_get (filter (by a) bs) 0 ≡ None → IsBodies shapes bs f → IsBodies shapes (without a bs) f

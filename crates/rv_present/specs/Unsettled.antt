@@ -21,7 +21,7 @@ abbrev pub one_or_none : Option Body → List Body
 one_or_none None = []
 one_or_none (Some body) = body ∷ []
 
--- 1 for an unsettled object
+-- 1 for what is so, as that an object is unsettled
 abbrev pub counted : Bool → ℕ
 counted true = 1
 counted false = 0

@@ -10,6 +10,7 @@ ghost use Rattle.rv_present.specs.Bodies.{IsBodies, IsReady};
 ghost use Rattle.rv_present.specs.Ends.{left_after, left_by};
 ghost use Rattle.rv_present.specs.Holdings.{action_of, idle};
 ghost use Rattle.rv_present.specs.Limits.{most_actors, most_places};
+ghost use Rattle.rv_present.specs.Unsettled.{counted};
 ghost use Rattle.rv_shape.specs.Catalogue as catalogues;
 ghost use Rattle.rv_shape.specs.Shape.{Shape};
 
@@ -134,46 +135,14 @@ impl Bodies {
         }
     }
 
-    // How many bodies are under way once an actor ends its own.
-    fn number_without(&self, actor: usize) -> usize
-        requires { (shapes : List Shape) × (bodies : List Body) × IsBodies shapes bodies self.now }
-        ensures value { (shapes : List Shape) (bodies : List Body) →
-            IsBodies shapes bodies self.now → result ≡ length (past.without actor bodies) }
-        ensures within { result ≤ self.now.number }
+    /// Whether an actor, if one is named, is in a body.
+    pub fn has(&self, actor: Option<usize>) -> bool
+        ensures { (shapes : List Shape) (bodies : List Body) → IsBodies shapes bodies self.now →
+            self.now.number ≡ length (past.closed actor bodies) + counted result }
     {
-        match self.stacks.of(actor).innermost() {
-            Some(_held) => self.number - 1,
-            None => self.number,
-        }
-    }
-
-    // How many bodies are under way once an end has happened, if one does.
-    fn number_closed(&self, ended: Option<usize>) -> usize
-        requires { (shapes : List Shape) × (bodies : List Body) × IsBodies shapes bodies self.now }
-        ensures value { (shapes : List Shape) (bodies : List Body) →
-            IsBodies shapes bodies self.now → result ≡ length (past.closed ended bodies) }
-        ensures within { result ≤ self.now.number }
-    {
-        match ended {
-            Some(actor) => self.number_without(actor),
-            None => self.number,
-        }
-    }
-
-    /// How many bodies are under way once one has ended and one has started, if they do.
-    pub fn number_after(&self, ended: Option<usize>, start: Option<Body>) -> usize
-        requires sound { (shapes : List Shape) × (bodies : List Body) ×
-            IsBodies shapes bodies self.now }
-        requires few { self.now.number < 2 ^ 32 }
-        ensures value { (shapes : List Shape) (bodies : List Body) →
-            IsBodies shapes bodies self.now →
-            result ≡ length (past.begun start (past.closed ended bodies)) }
-        ensures within { result ≤ self.now.number + 1 }
-    {
-        let left = self.number_closed(ended);
-        match start {
-            Some(_body) => left + 1,
-            None => left,
+        match actor {
+            Some(actor) => self.stacks.of(actor).innermost().is_some(),
+            None => false,
         }
     }
 

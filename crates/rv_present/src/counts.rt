@@ -1,15 +1,31 @@
 //! How many entries and list changes there were, the clock, and whether the host is halted.
 
-ghost use Rattle.std.specs.Prelude.{◌≡◌, ◌<◌, ◌≤◌, ◌+◌, ◌^◌, ◌∷◌, List, false};
+ghost use Rattle.std.specs.Prelude.{◌≡◌, ◌<◌, ◌≤◌, ◌+◌, ◌^◌, ◌∷◌, List, false, length};
 ghost use Rattle.rv_event.specs.Lent.{whole};
 ghost use Rattle.rv_event.specs.Past as past;
+ghost use Rattle.rv_event.specs.declared.entry.Body.{Body};
 ghost use Rattle.rv_event.specs.declared.entry.Entry.{Entry};
 ghost use Rattle.rv_history.specs.History.{changes};
 ghost use Rattle.rv_history.specs.Owed as owed;
 ghost use Rattle.rv_present.specs.Counts.{AreCounts};
+ghost use Rattle.rv_present.specs.Unsettled.{counted};
 
-use rv_event::entry::EntryRef;
+use rv_event::entry::{Body, EntryRef};
 use rv_event::one_entry::{halts, is_list, ticks};
+
+/// How many bodies there are, of so many, once one is gone, if one is, and one has come, if one has.
+pub fn number_after(number: usize, gone: bool, come: Option<Body>) -> usize
+    requires few { number < 2 ^ 32 }
+    ensures value { (left : List Body) → number ≡ length left + counted gone →
+        result ≡ length (past.begun come left) }
+    ensures within { result ≤ number + 1 }
+{
+    let left = number.saturating_sub(if gone { 1 } else { 0 });
+    match come {
+        Some(_body) => left + 1,
+        None => left,
+    }
+}
 
 /// What entries come to that concern no actor and no object.
 #[derive(Drop)]

@@ -4,6 +4,7 @@
 #![tactic(auto)]
 
 mod bodies;
+mod by_actor;
 mod calls;
 mod counts;
 mod new_objects;

@@ -5,10 +5,10 @@ ghost use Rattle.rv_event.specs.Past as past;
 ghost use Rattle.rv_event.specs.declared.entry.Body.{Body};
 ghost use Rattle.rv_object.specs.Actions.{ObjectView};
 ghost use Rattle.rv_present.specs.Limits.{most_actors};
-ghost use Rattle.rv_present.specs.Unsettled.{AreAlike, AreUnsettled, CanLeave};
+ghost use Rattle.rv_present.specs.Unsettled.{AreAlike, AreUnsettled, CanLeave, counted};
 
+use crate::by_actor::ByActor;
 use crate::objects::Objects;
-use crate::stacks::MOST_ACTORS;
 use rv_event::entry::Body;
 use std::alloc::{AllocError, Global};
 use std::marker::Model;
@@ -16,7 +16,7 @@ use std::marker::Model;
 /// By actor the body whose end left its object unsettled, and how many there are.
 #[derive(Drop)]
 pub struct Unsettled {
-    items: Vec<Option<Body>>,
+    bodies: ByActor,
     number: usize,
 }
 
@@ -25,33 +25,24 @@ impl Model for Unsettled {
 
     ghost Value = { Leavers };
 
-    ghost view = { λ u. record { bodies = u.items.items; number = u.number } };
+    ghost view = { λ u. record { bodies = u.bodies; number = u.number } };
 }
 
 impl Unsettled {
     /// None. Err where memory was refused.
-    #[tactic(auto, using(std::proofs::lemmas::List::replicate_more))]
     pub fn new(alloc: Global) -> Result<Unsettled, AllocError>
         ensures { IfOk result (λ unsettled. unsettled
             ≡ record { bodies = replicate most_actors None; number = 0 }) }
     {
-        let mut items = Vec::with_capacity(alloc, MOST_ACTORS)?;
-        for i in 0..MOST_ACTORS {
-            items.push(None)?;
-        }
-        Ok(Unsettled { items, number: 0 })
+        let bodies = ByActor::new(alloc)?;
+        Ok(Unsettled { bodies, number: 0 })
     }
 
     /// The body whose end left its object unsettled, of an actor.
-    #[tactic(auto, using(std::proofs::lemmas::List::get_or_past))]
     pub fn of(&self, actor: usize) -> Option<Body>
         ensures { result ≡ slice_index_or self.now.bodies actor None }
     {
-        if actor < self.items.len() {
-            self.items[actor]
-        } else {
-            None
-        }
+        self.bodies.of(actor)
     }
 
     /// How many there are.
@@ -69,7 +60,7 @@ impl Unsettled {
           number = self.old.number - 1;
         } }
     {
-        self.items[actor] = None;
+        self.bodies.put(actor, None);
         self.number = self.number.saturating_sub(1);
     }
 
@@ -82,45 +73,18 @@ impl Unsettled {
           number = self.old.number + 1;
         } }
     {
-        self.items[body.actor] = Some(body);
+        self.bodies.put(body.actor, Some(body));
         self.number += 1;
     }
 
-    // How many there are once an actor has settled its object.
-    fn number_without(&self, actor: usize) -> usize
-        ensures value { (left : List Body) (objects : List ObjectView) → AreUnsettled left self.now objects →
-            result ≡ length (past.without actor left) }
-        ensures within { result ≤ self.now.number }
+    /// Whether an actor, if one is named, has an object to settle.
+    pub fn has(&self, actor: Option<usize>) -> bool
+        ensures { (left : List Body) (objects : List ObjectView) → AreUnsettled left self.now objects →
+            self.now.number ≡ length (past.closed actor left) + counted result }
     {
-        match self.of(actor) {
-            Some(_body) => self.number.saturating_sub(1),
-            None => self.number,
-        }
-    }
-
-    // How many there are once an object is settled, if one is.
-    fn number_closed(&self, settles: Option<usize>) -> usize
-        ensures value { (left : List Body) (objects : List ObjectView) → AreUnsettled left self.now objects →
-            result ≡ length (past.closed settles left) }
-        ensures within { result ≤ self.now.number }
-    {
-        match settles {
-            Some(actor) => self.number_without(actor),
-            None => self.number,
-        }
-    }
-
-    /// How many there are once an object is settled and a body leaves one unsettled, if they do.
-    pub fn number_after(&self, settles: Option<usize>, leaver: Option<Body>) -> usize
-        requires few { self.now.number < 2 ^ 32 }
-        ensures value { (left : List Body) (objects : List ObjectView) → AreUnsettled left self.now objects →
-            result ≡ length (past.begun leaver (past.closed settles left)) }
-        ensures within { result ≤ self.now.number + 1 }
-    {
-        let number = self.number_closed(settles);
-        match leaver {
-            Some(_body) => number + 1,
-            None => number,
+        match actor {
+            Some(actor) => self.of(actor).is_some(),
+            None => false,
         }
     }
 }

@@ -11,7 +11,8 @@ use Rattle.rv_staff.specs.Saying.{Known}
 use Rattle.rv_staff.specs.Staffs.{Staffed, no_crew}
 use Rattle.rv_run.specs.Finishing.{Plays, Served}
 use Rattle.rv_run.specs.Preparing.{Prepares}
-use Rattle.rv_run.specs.Running.{IsControlOf, IsPrepared, Opens, Runs}
+use Rattle.rv_port.specs.Controls.{IsControlOf}
+use Rattle.rv_run.specs.Running.{IsPrepared, Opens, Runs}
 
 pub is_prepared : (script : OpenedText) (settings : SettingsText) (first control : Passing) (staff : Staffed)
     → IsControlOf (empty (limits_with settings.capacity settings.queue_limit)) first

@@ -1,24 +1,17 @@
 -- A run that comes to its end: its sections are carried out, and then its commands. (own)
 use Rattle.std.specs.Prelude.{◌≡◌, ◌⊎◌, ℕ, List, [], Bool, Ok, Err}
 use Rattle.rv_fault.specs.Sections.{GivesSettings, line_of}
-use Rattle.rv_history.specs.History.{History}
 use Rattle.rv_history.specs.Legal.{empty}
 use Rattle.rv_history.specs.Limits.{limits_with}
 use Rattle.rv_input.specs.Coming.{GivesBefore, IfTold, Reading, coming, most_before}
-use Rattle.rv_port.specs.Controls.{BeginsWith}
-use Rattle.rv_behind.specs.Events.{by}
+use Rattle.rv_port.specs.Controls.{IsControlOf}
 use Rattle.rv_port.specs.Traces.{Passing}
-use Rattle.rv_turn.specs.Passes.{opening_of}
 use Rattle.rv_script.specs.Openings.{OpenedText, opened}
 use Rattle.rv_settings.specs.Settings.{SettingsText}
 use Rattle.rv_staff.specs.Saying.{Known}
 use Rattle.rv_staff.specs.Staffs.{Staffed, no_crew}
 use Rattle.rv_run.specs.Finishing.{Plays, Served}
 use Rattle.rv_run.specs.Preparing.{Prepares}
-
--- a control begins with a host
-abbrev pub IsControlOf : History → Passing → Type 0
-IsControlOf host control = BeginsWith host control.seen × (control ≡ opening_of control.turn host.limits by control.seen)
 
 -- on a new host within the limits of the settings the sections of a script are carried out, and then its devices loaded
 pub record IsPrepared (script : OpenedText) (settings : SettingsText) (staff : Staffed) : Type 0 where

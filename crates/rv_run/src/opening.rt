@@ -1,15 +1,14 @@
 //! What stands before the commands: units, lists and devices, carried out in order.
 
-ghost use Rattle.std.specs.Prelude.{◌≡◌, [], Some, IfSome};
+ghost use Rattle.std.specs.Prelude.{◌≡◌, Some, IfSome};
 ghost use Rattle.rv_history.specs.Legal.{empty};
 ghost use Rattle.rv_history.specs.Limits.{limits_with};
+ghost use Rattle.rv_port.specs.Controls.{IsControlOf};
 ghost use Rattle.rv_run.specs.Preparing.{CarriesOut, CarriesOutAll, CarriesOutAs, Prepares};
-ghost use Rattle.rv_run.specs.Running.{IsControlOf};
 
 use crate::devices::load_devices;
 use crate::loads::{list_section, load_section};
 use rv_fault::{Failure, What, refused};
-use rv_host::host::Host;
 use rv_port::control::Control;
 use rv_script::{Opening, opening_of};
 use rv_settings::Settings;
@@ -95,23 +94,9 @@ pub(crate) fn prepare<R: Wait>(
     }
 }
 
-// The control of a new host.
-fn made(alloc: Global, host: Host) -> Option<Control>
-    requires { host.past ≡ [] }
-    ensures { IfSome result (IsControlOf host) }
-{
-    match Control::make(alloc, host) {
-        Ok(control) => Some(control),
-        Err(_) => None,
-    }
-}
-
 /// The control of a host without entries, within the limits of settings. None where memory was refused.
 pub(crate) fn control_of(alloc: Global, settings: &Settings) -> Option<Control>
     ensures { IfSome result (IsControlOf (empty (limits_with settings.now.capacity settings.now.queue_limit))) }
 {
-    match Host::with_limit(alloc, settings.capacity(), settings.queue_limit()) {
-        Ok(host) => made(alloc, host),
-        Err(_) => None,
-    }
+    Control::of_new(alloc, settings.capacity(), settings.queue_limit())
 }

@@ -25,9 +25,9 @@ use Rattle.rv_behind.specs.declared.event.Ask.{Ask}
 use Rattle.rv_crew.specs.Crews.{Joins, IsClosedBy, with_joined}
 use Rattle.rv_crew.specs.declared.crew.Closed.{Closed}
 use Rattle.rv_crew.proofs.Turns.{none_of_turn, started_of_turn, given_up_of_turn, lost_of_turn}
-use Rattle.rv_staff.specs.declared.hires.HireFault.{HireFault}
-use Rattle.rv_staff.specs.declared.hires.HireFault.TheVariants.{NoThread, GivenUp, NoMemory}
-use Rattle.rv_staff.specs.Hiring.{hired}
+use Rattle.rv_crew.specs.declared.hiring.HireFault.{HireFault}
+use Rattle.rv_crew.specs.declared.hiring.HireFault.TheVariants.{NoThread, GivenUp, NoMemory}
+use Rattle.rv_crew.specs.Hiring.{hired}
 use Rattle.rv_staff.specs.Staffs.{AreOf, Staffed, no_crew}
 use Rattle.rv_staff.specs.Ending.{Closes, Ended, Halts}
 

@@ -9,9 +9,9 @@ use Rattle.rv_port.specs.Ports.{Porting, pass_of}
 use Rattle.rv_port.specs.Controls.{IsGiven, IsPortFault}
 use Rattle.rv_port.specs.declared.fault.PortFault.{PortFault}
 use Rattle.rv_port.specs.declared.fault.PortFault.TheVariants as Faults
-use Rattle.rv_staff.specs.declared.hires.HireFault.{HireFault}
-use Rattle.rv_staff.specs.declared.hires.HireFault.TheVariants.{NoThread, GivenUp, NoMemory}
-use Rattle.rv_staff.specs.Hiring.{hired}
+use Rattle.rv_crew.specs.declared.hiring.HireFault.{HireFault}
+use Rattle.rv_crew.specs.declared.hiring.HireFault.TheVariants.{NoThread, GivenUp, NoMemory}
+use Rattle.rv_crew.specs.Hiring.{hired}
 use Rattle.rv_staff.specs.Saying.{Known, Says, no_memory_line, no_thread_line}
 use Rattle.rv_staff.specs.Staffs.{Staffed}
 

@@ -1,4 +1,3 @@
-pub mod Hiring
 pub mod Staffs
 pub mod Ending
 pub mod Saying

@@ -10,8 +10,8 @@ mod staff;
 mod staffing;
 mod work;
 
-pub use hands::{Hands, give_up, start};
-pub use hires::{HireFault, Hires};
+pub use hands::Hands;
+pub use hires::Hires;
 pub use raising::raise;
 pub use saying::{NO_MEMORY, notice_line, say, say_lost};
 pub use session::{DeviceJob, Session};

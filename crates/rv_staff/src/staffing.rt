@@ -3,14 +3,15 @@
 ghost use Rattle.std.specs.Prelude.{◌≡◌, ◌+◌, ℕ, List};
 ghost use Rattle.rv_behind.specs.Events.{catalogue_of};
 ghost use Rattle.rv_staff.specs.Giving.{GivesOne, SaidOfHire, Starts, actors_of};
-ghost use Rattle.rv_staff.specs.Hiring.{hired};
+ghost use Rattle.rv_crew.specs.Hiring.{hired};
 ghost use Rattle.rv_staff.specs.Saying.{Says};
 
-use crate::hires::{HireFault, Hires};
+use crate::hires::Hires;
 use crate::saying::{NO_MEMORY, say, say_no_thread};
 use crate::session::{DeviceJob, LineChannel, Session};
 use crate::work::Work;
 use crossbeam_channel::{Sender, unbounded};
+use rv_crew::hiring::HireFault;
 use rv_crew::notice::Notice;
 use rv_port::fault::PortFault;
 use rv_port::port::Port;

@@ -1,12 +1,10 @@
--- A control stays that of its turn, and so does a crew.
-use Rattle.std.proofs.Common.{◌≡◌, ℕ, List, ap, refl}
-use Rattle.atomic_table.specs.Seated.{TableId}
+-- A control stays that of its turn.
+use Rattle.std.proofs.Common.{◌≡◌, ℕ, List, ap}
 use Rattle.std.specs.Prelude.{Result, Ok, Err, MatchResult, OnOk, IfErr}
 use Rattle.rv_event.specs.declared.entry.Answer.{Answer}
 use Rattle.rv_turn.specs.Passes.{Acted, IsWorn}
 use Rattle.rv_turn.specs.declared.pass.Worn.{Worn}
 use Rattle.rv_port.specs.Controls.{PageFailed, Told}
-use Rattle.rv_port.specs.Ports.{Porting}
 use Rattle.rv_port.specs.Traces.{Passing}
 use Rattle.rv_host.specs.Pages.{Item}
 use Rattle.rv_behind.specs.Acting.{Does}
@@ -15,11 +13,6 @@ use Rattle.rv_behind.specs.declared.event.Ask.{Ask}
 use Rattle.rv_behind.specs.declared.event.Reply.TheVariants as Gives
 use Rattle.rv_port.specs.declared.fault.PageFault.{PageFault}
 use Rattle.rv_port.specs.declared.fault.PageFault.TheVariants as PageFaults
-use Rattle.rv_crew.specs.Teams.{Team, IsOfTurn}
-use Rattle.rv_crew.proofs.Turns.{started_of_turn, given_up_of_turn, lost_of_turn}
-use Rattle.rv_staff.specs.declared.hires.HireFault.{HireFault}
-use Rattle.rv_staff.specs.declared.hires.HireFault.TheVariants.{NoThread, GivenUp, NoMemory}
-use Rattle.rv_staff.specs.Hiring.{hired}
 
 pub told_turn : (v w : Passing) (ask : Ask) (answer : Result Answer Worn) → MatchResult answer (λ r. Told v ask r w) (λ _. IsWorn v w) → w.turn ≡ v.turn
 told_turn v w ask (Ok r) t = ap (λ (z : Passing). z.turn) t.2.same
@@ -30,9 +23,3 @@ pub read_turn : (v w : Passing) (from : ℕ) (page : List Item) (result : Result
 read_turn v w from page (Ok x) ok failed = ap (λ (z : Passing). z.turn) ok.same
 read_turn v w from page (Err PageFaults.NoMemory) ok failed = ap (λ (z : Passing). z.turn) failed.same
 read_turn v w from page (Err PageFaults.Worn) ok failed = ap (λ (z : Passing). z.turn) failed.1
-
-pub hired_of_turn : (crew : Team) (port : Porting) (result : Result (Unit {0}) HireFault) → IsOfTurn port.turn crew → IsOfTurn port.turn (hired crew port result)
-hired_of_turn crew port (Ok x) of = started_of_turn port.turn crew port of refl
-hired_of_turn crew port (Err NoThread) of = lost_of_turn port.turn crew port of refl
-hired_of_turn crew port (Err GivenUp) of = given_up_of_turn port.turn crew port of refl
-hired_of_turn crew port (Err NoMemory) of = of

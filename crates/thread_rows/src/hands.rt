@@ -3,15 +3,16 @@
 ghost use Rattle.std.specs.Coded.{codes};
 ghost use Rattle.std.specs.Prelude.{◌≡◌};
 ghost use Rattle.rv_behind.specs.contracts.event.Event as e;
-ghost use Rattle.rv_staff.specs.Hiring.{hired};
+ghost use Rattle.rv_crew.specs.Hiring.{hired};
 ghost use Rattle.thread_rows.specs.Fitting.{Fits};
 
 use crate::crews::told_revoke::{ToldReader, read_told};
 use crate::crews::two_readers::{FirstReader, SecondReader, read_first, read_second};
 use crate::crews::{Caller, call_valve};
 use rv_crew::crew::Crew;
+use rv_crew::hiring::HireFault;
 use rv_port::port::{Finished, Port};
-use rv_staff::{HireFault, Hires, Work, perform};
+use rv_staff::{Hires, Work, perform};
 use std::sync::Wait;
 
 /// What a thread does with the port of its actor.

@@ -17,19 +17,9 @@ pub fn new_host(alloc: Global, queue: usize) -> Option<Host>
     Host::with_limit(alloc, CAPACITY, queue).ok()
 }
 
-// The control of a host of which nothing was asked.
-fn control_of(alloc: Global, host: Host) -> Option<Control>
-    requires { host.past ≡ [] }
-{
-    Control::make(alloc, host).ok()
-}
-
 /// The control of a new host without units, whose queues have room for so many callers.
 pub fn new_control(alloc: Global, queue: usize) -> Option<Control> {
-    match new_host(alloc, queue) {
-        Some(host) => control_of(alloc, host),
-        None => None,
-    }
+    Control::of_new(alloc, CAPACITY, queue)
 }
 
 /// The port of an actor of a control.

@@ -2,7 +2,7 @@
 #![tactic(auto)]
 
 ghost use Rattle.std.specs.Prelude.{◌≡◌};
-ghost use Rattle.rv_staff.specs.Hiring.{hired};
+ghost use Rattle.rv_crew.specs.Hiring.{hired};
 ghost use Rattle.thread_rows.specs.Fitting.{Fits};
 
 mod crews;
@@ -14,10 +14,10 @@ mod units;
 
 use hands::{Hands, Role, act};
 use rv_crew::crew::Crew;
+use rv_crew::hiring::{HireFault, give_up, start};
 use rv_crew::job::Job;
 use rv_exec::machine::STACK_BYTES;
 use rv_port::port::{Finished, Port};
-use rv_staff::{HireFault, give_up, start};
 use std::fs::Files;
 use std::snapshot::Snapshot;
 use std::sync::Wait;

@@ -13,7 +13,7 @@ use std::sync::Wait;
 use std::thread::Threads;
 
 /// Starts a thread of a crew in this role. False where there is none.
-#[tactic(auto, using(crate::proofs::Turns::hired_of_turn))]
+#[tactic(auto, using(rv_crew::proofs::Turns::hired_of_turn))]
 pub fn begin(hands: &Hands, crew: &mut Crew, port: Port, role: Role) -> bool
     requires crew { IsOfTurn port.turn crew.old }
     requires role { Fits role port }

@@ -1,12 +1,13 @@
 //! A run whose ports are all given up, as where memory is refused for their threads.
 
 ghost use Rattle.std.specs.Prelude.{◌≡◌};
-ghost use Rattle.rv_staff.specs.Hiring.{hired};
+ghost use Rattle.rv_crew.specs.Hiring.{hired};
 
 use rv_crew::crew::Crew;
+use rv_crew::hiring::{HireFault, give_up};
 use rv_port::port::Port;
 use rv_run::run::run;
-use rv_staff::{HireFault, Hires, Work, give_up};
+use rv_staff::{Hires, Work};
 use std::alloc::Global;
 use std::sync::Wait;
 use std::thread::Threads;

@@ -1,6 +1,6 @@
 use Rattle.std.proofs.Common.{suc}
 use Rattle.rv_port.specs.Ports.{pass_of}
-use Rattle.rv_crew.proofs.Doing.{stays_both}
+use Rattle.rv_port.proofs.Performing.{stays_both}
 use Rattle.rv_crew.proofs.tasks.fire_each.Goals as goal
 
 pub loop-preserved : goal.loop-preserved

@@ -1,7 +1,8 @@
 use Rattle.std.proofs.Common.{◌≡◌, ◌<◌, true, false, rules, tests, arith}
 use Rattle.rv_crew.specs.Tasks.{goes_on}
 use Rattle.rv_port.specs.Ports.{pass_of}
-use Rattle.rv_crew.proofs.Doing.{stops, goes, stays_both}
+use Rattle.rv_port.proofs.Performing.{stays_both}
+use Rattle.rv_crew.proofs.Doing.{stops, goes}
 use Rattle.rv_crew.proofs.tasks.make_calls.Goals as goal
 
 pub returns-then-not-goes_on-clause-calls : goal.returns-then-not-goes_on-clause-calls

@@ -16,4 +16,4 @@ returns c =
     let trace = c.run_body_at-ended.ensures.trace in
     let plays = subst (λ (l : Trace). Plays (record (begin_at shapes body) { asked = l }) trace behind) c.as_slice.ensures.value c.run_body_at-ended.ensures.outside in
     course_is (bodies_view c.args.bodies.now) shapes body c.args.end.now c.args.is_function behind c.run_body_at-ended.result.exit c.run_body_at-ended.result.scalars trace c.weighed.result
-    c.requires.texts c.requires.code c.run_body_at-ended.ensures.along plays (subst (λ (r : Request). IsWeighed behind r c.args.end.now c.weighed.result) c.end_by.ensures c.weighed.ensures)
+    c.requires.texts c.requires.code c.run_body_at-ended.ensures.along plays (subst (λ (r : Request). IsWeighed behind r c.args.end.now c.weighed.result) c.end_with.ensures c.weighed.ensures)

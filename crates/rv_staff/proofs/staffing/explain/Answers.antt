@@ -1,7 +1,7 @@
 use Rattle.std.proofs.Common.{◌≡◌, List, Err, rules, subst}
 use Rattle.rv_behind.specs.Events.{catalogue_of}
 use Rattle.rv_shape.specs.Shape.{Shape}
-use Rattle.rv_staff.specs.declared.hires.HireFault.TheVariants.{NoThread, GivenUp, NoMemory}
+use Rattle.rv_crew.specs.declared.hiring.HireFault.TheVariants.{NoThread, GivenUp, NoMemory}
 use Rattle.rv_staff.specs.Saying.{SaysNoThread}
 use Rattle.rv_staff.proofs.Starting.{given_up_said, no_memory_said, no_thread_said}
 use Rattle.rv_staff.proofs.staffing.explain.Goals as goal

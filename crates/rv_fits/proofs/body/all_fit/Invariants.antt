@@ -1,0 +1,9 @@
+use Rattle.std.proofs.Common.{◌≡◌, drop}
+use Rattle.std.specs.List.{list_all}
+use Rattle.rv_fits.specs.Fits.{callee_fits}
+use Rattle.rv_fits.proofs.body.all_fit.Given as goal
+
+abbrev pub invariant-loop-part : goal.invariant-loop-part
+invariant-loop-part g l =
+    list_all (g.T.Part.calls (callee_fits l.catalogue)) (drop l.part-index l.parts)
+    ≡ list_all (g.T.Part.calls (callee_fits l.catalogue)) l.parts
