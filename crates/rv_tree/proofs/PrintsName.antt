@@ -26,9 +26,13 @@ identifier_prints i =
 pub literal_prints : (at value : ℕ) → Prints (IsLiteral at value) (number_onto value)
 literal_prints at value =
     let w = one k.Literal (decimal value) at in
-    word_prints (IsLiteral at value) (number_onto value) w (λ out. refl) (λ old new h. (h.0, h.1, λ good.
-    let small : value < 2147483648 = subst (λ (x : ℕ). x < 2147483648) h.4 (literal_small h.0.kind h.0.text good h.2) in
-    (decimal_spelled value small, λ rest. (w, refl, refl, refl, decimal_value value small))))
+    word_prints (IsLiteral at value) (number_onto value) w (λ out. refl) (λ old new h. (
+      h.0,
+      h.1,
+      λ good.
+          let small : value < 2147483648 = subst (λ (x : ℕ). x < 2147483648) h.4 (literal_small h.0.kind h.0.text good h.2) in
+          (decimal_spelled value small, λ rest. (w, refl, refl, refl, decimal_value value small)),
+    ))
 
 pub name_prints : (n : Name) → Prints (IsName n) (name_onto n)
 name_prints n = seq_prints (identifier_prints n.first) (each_prints (After k.Dot IsIdentifier) (after_onto k.Dot identifier_onto) (after_prints k.Dot IsIdentifier identifier_onto refl identifier_prints) n.more)
