@@ -1,8 +1,9 @@
 -- A text is refused as too deep only where its words nest too deep.
-use Rattle.std.proofs.Common.{◌≡◌, inl, inr, List, [], ◌++◌, Ok, Err, refl}
+use Rattle.std.proofs.Common.{◌≡◌, inl, inr, ℕ, Bool, List, [], ◌++◌, Option, Ok, Err, refl}
 use Rattle.rv_lex.specs.declared.kind.Kind.{Kind}
 use Rattle.rv_lex.specs.declared.kind.Kind.TheVariants as k
 use Rattle.rv_lex.specs.Lexes.{Lexeme}
+use Rattle.rv_tree.specs.Names.{Identifier}
 use Rattle.rv_tree.specs.Statements as s
 use Rattle.rv_tree.specs.Bodies as t
 use Rattle.rv_tree.specs.Units as u
@@ -13,9 +14,9 @@ use Rattle.rv_grammar.specs.Reading.{unexpected, too_deep, Outcome, Parser, and_
 use Rattle.rv_grammar.specs.NameRules.{identifier, name}
 use Rattle.rv_grammar.specs.DeclarationRules.{any_expression, range, a_pragma, parameters, protected_unit, task, begins_declaration, declaration}
 use Rattle.rv_grammar.specs.StatementRules.{statements, statement}
-use Rattle.rv_grammar.specs.BodyRules.{any_statements, local_object, begins_local, local_by, a_local, exception_choice, handler, handlers, block, function_body, procedure_body, entry_body, begins_operation_body, operation_body_by, operation_body, protected_body, task_body}
+use Rattle.rv_grammar.specs.BodyRules.{any_statements, local_object, begins_local, local_by, a_local, exception_choice, handler, handlers, block, function_body, procedure_body, entry_body, begins_operation_body, operation_body_by, operation_body, body_of, protected_body, task_body}
 use Rattle.rv_grammar.specs.UnitRules.{with_clause, use_clause, begins_context_item, context_item_by, context_item, specification, body_item, body, unit}
-use Rattle.rv_grammar.specs.Nesting.{NestsTooDeep}
+use Rattle.rv_grammar.specs.Nesting.{opens, closes, NestsTooDeep}
 use Rattle.rv_grammar.specs.Words.{DeepWords}
 use Rattle.rv_grammar.proofs.Tame.{Walk, Tamed, Tame, went, told, tame_too, ◌⊳◌, pure_tame, refuse_tame, if_tame, choice_tame, expect_tame, eat_tame, identifier_tame, by_kind_tame, many_tame, at_least_one_tame, optional_tame, optional_after_tame, listed_tame, name_tame, end_name_tame}
 use Rattle.rv_grammar.proofs.TameExpression.{joined_up}
@@ -103,9 +104,13 @@ operation_body_tame : Tame outer operation_body
 unfolding operation_body
 operation_body_tame = by_kind_tame outer operation_body_by operation_body_by_tame
 
+body_of_tame : {A B : Type 0} (word : Kind) → opens word ≡ 0 → closes word ≡ 0 → (begins : Kind → Bool) (item : Parser A) → Tame outer item → (make : (at : ℕ) → Identifier → List A → Option Identifier → B) → Tame outer (body_of word begins item make)
+unfolding body_of
+body_of_tame word o c begins item item_tame make = expect_tame outer word o c ⊳ (λ x_1. expect_tame outer k.Body refl refl ⊳ (λ x_2. identifier_tame outer ⊳ (λ x_3. expect_tame outer k.Is refl refl ⊳ (λ x_4. many_tame outer item item_tame (starts_by begins) ⊳ (λ x_5. end_name_tame outer ⊳ (λ x_6. pure_tame outer _))))))
+
 protected_body_tame : Tame outer protected_body
 unfolding protected_body
-protected_body_tame = expect_tame outer k.Protected refl refl ⊳ (λ x_1. expect_tame outer k.Body refl refl ⊳ (λ x_2. identifier_tame outer ⊳ (λ x_3. expect_tame outer k.Is refl refl ⊳ (λ x_4. many_tame outer operation_body operation_body_tame (starts_by begins_operation_body) ⊳ (λ x_5. end_name_tame outer ⊳ (λ x_6. pure_tame outer _))))))
+protected_body_tame = body_of_tame k.Protected refl refl begins_operation_body operation_body operation_body_tame _
 
 task_body_tame : Tame outer task_body
 unfolding task_body
@@ -145,7 +150,7 @@ body_item_tame = choice_tame outer (λ i. sees k.Body (next i)) _ _
 
 body_tame : Tame outer body
 unfolding body
-body_tame = expect_tame outer k.Package refl refl ⊳ (λ x_1. expect_tame outer k.Body refl refl ⊳ (λ x_2. identifier_tame outer ⊳ (λ x_3. expect_tame outer k.Is refl refl ⊳ (λ x_4. many_tame outer body_item body_item_tame (starts_by begins_declaration) ⊳ (λ x_5. end_name_tame outer ⊳ (λ x_6. pure_tame outer _))))))
+body_tame = body_of_tame k.Package refl refl begins_declaration body_item body_item_tame _
 
 unit_tame : Tame outer unit
 unfolding unit

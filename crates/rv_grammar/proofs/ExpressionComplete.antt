@@ -1,5 +1,5 @@
 -- An expression of the grammar is read, unless its parentheses nest too deep.
-use Rattle.std.proofs.Common.{◌≡◌, ◌≤◌, ◌<◌, ◌⊎◌, inl, inr, ℕ, zero, suc, Bool, true, false, List, [], ◌∷◌, ◌++◌, length, Option, Some, None, Ok, Err, refl, sym, ap, ◌∙◌, subst, arith, append_assoc, append-nil}
+use Rattle.std.proofs.Common.{◌≡◌, ◌≤◌, ◌<◌, ◌⊎◌, inl, inr, ℕ, zero, suc, Bool, true, false, List, [], ◌∷◌, ◌++◌, length, map, Option, Some, None, Ok, Err, refl, sym, ap, ◌∙◌, subst, arith, append_assoc, append-nil}
 use Rattle.rv_lex.specs.declared.kind.Kind.{Kind}
 use Rattle.rv_lex.specs.declared.kind.Kind.TheVariants as k
 use Rattle.rv_lex.specs.Lexes.{Lexeme}
@@ -13,14 +13,14 @@ use Rattle.rv_tree.specs.declared.expression.MultiplyingOperator.{MultiplyingOpe
 use Rattle.rv_tree.specs.declared.expression.MultiplyingOperator.TheVariants as multiplies
 use Rattle.rv_tree.specs.declared.expression.HighestOperator.{HighestOperator}
 use Rattle.rv_tree.specs.declared.expression.HighestOperator.TheVariants as before
-use Rattle.rv_tree.specs.Phrases.{◌⨾◌, Is, IsAt, When}
+use Rattle.rv_tree.specs.Phrases.{Phrase, ◌⨾◌, Is, IsAt, Nothing, When}
 use Rattle.rv_tree.specs.Names.{Identifier, Name}
 use Rattle.rv_tree.specs.NameGrammar.{IsIdentifier, IsName}
 use Rattle.rv_tree.specs.Expressions as t
 use Rattle.rv_tree.specs.ExpressionGrammar.{IsLogical, relational, adding, multiplying, highest_word, IsLiteral, rule_of, IsExpression, AreArguments, MoreArguments, MoreFactors, MoreTerms, MoreRelations}
 use Rattle.rv_grammar.specs.Reading.{too_deep, Parser, and_then, pure, same_kind, sees, next, eat, place, value, expect, kind, starts_by, more_after}
 use Rattle.rv_grammar.specs.NameRules.{identifier, name}
-use Rattle.rv_grammar.specs.ExpressionRules.{begins_expression, operator, relational_of, adding_of, multiplying_of, highest_of, joining, both_words, joined, literal, opening, inside, arguments_from, arguments, parenthesized, named, primary, factor, factors_from, factors, term, signed_term, terms_from, terms, simple, relation, relations_from, relations, whole, expression}
+use Rattle.rv_grammar.specs.ExpressionRules.{begins_expression, operator, relational_of, adding_of, multiplying_of, highest_of, joining, both_words, joined, literal, opening, inside, arguments_from, arguments, parenthesized, named, primary, linked_from, linked, factor, factors, term, signed_term, terms, simple, relation, relations_from, relations, whole, expression}
 use Rattle.rv_grammar.proofs.Steps.{same_means}
 use Rattle.rv_grammar.proofs.Forward.{Answers, answers_then, if_true, if_false, sees_it, next_it, place_it, after_it, not_after, is_of, not_both, word_then, eaten_then, uneaten_then, identifier_it, Shorter, NotLonger, is_shorter, at_shorter, identifier_shorter, nothing_shorter, each_after_shorter, more_after_it}
 
@@ -197,17 +197,8 @@ begins (t.logical op e t.no_expressions) n ts rest low h = absurd h
 begins (t.logical op e (t.and_expression f fs)) n ts rest low h = begins e n ts h.0 (omega (arith, h.1.0)) h.1.1
 
 pub rule_top : (e : t.Expression) → rule_of e ≤ 6
-rule_top (t.literal at v) = omega arith
-rule_top (t.name x) = omega arith
-rule_top (t.attribute x i) = omega arith
-rule_top (t.call x es) = omega arith
-rule_top (t.parenthesized at e) = omega arith
-rule_top (t.highest at op e) = omega arith
-rule_top (t.product e fs) = omega arith
-rule_top (t.signed at op e) = omega arith
-rule_top (t.sum e ss) = omega arith
-rule_top (t.relation e op f) = omega arith
 rule_top (t.logical op e es) = omega arith
+rule_top _ = omega arith
 
 begins_unlike : (n : ℕ) (what : Kind) (ts : List Lexeme) → n < begins_at what → Begins n ts → sees what ts ≡ false
 unfolding sees
@@ -312,23 +303,42 @@ unfolding expressions_list
 expressions_of_list t.no_expressions = refl
 expressions_of_list (t.and_expression e es) = ap (t.and_expression e) (expressions_of_list es)
 
-factors_list : t.Factors → List t.Factor
-factors_list t.no_factors = []
-factors_list (t.and_factor op e fs) = t.factor_by op e ∷ factors_list fs
+factor_pairs : t.Factors → List (MultiplyingOperator × t.Expression)
+factor_pairs t.no_factors = []
+factor_pairs (t.and_factor op e fs) = (op, e) ∷ factor_pairs fs
 
-factors_of_list : (fs : t.Factors) → t.factors_of (factors_list fs) ≡ fs
-unfolding factors_list
-factors_of_list t.no_factors = refl
-factors_of_list (t.and_factor op e fs) = ap (t.and_factor op e) (factors_of_list fs)
+term_pairs : t.Terms → List (AddingOperator × t.Expression)
+term_pairs t.no_terms = []
+term_pairs (t.and_term op e ss) = (op, e) ∷ term_pairs ss
 
-terms_list : t.Terms → List t.Term
-terms_list t.no_terms = []
-terms_list (t.and_term op e ss) = t.term_by op e ∷ terms_list ss
+-- the parts that pairs make
+abbrev parts : {O A : Type 0} → (O → t.Expression → A) → List (O × t.Expression) → List A
+parts part = map (λ p. part p.0 p.1)
 
-terms_of_list : (ss : t.Terms) → t.terms_of (terms_list ss) ≡ ss
-unfolding terms_list
-terms_of_list t.no_terms = refl
-terms_of_list (t.and_term op e ss) = ap (t.and_term op e) (terms_of_list ss)
+factors_of_pairs : (fs : t.Factors) → t.factors_of (parts t.factor_by (factor_pairs fs)) ≡ fs
+unfolding factor_pairs
+factors_of_pairs t.no_factors = refl
+factors_of_pairs (t.and_factor op e fs) = ap (t.and_factor op e) (factors_of_pairs fs)
+
+terms_of_pairs : (ss : t.Terms) → t.terms_of (parts t.term_by (term_pairs ss)) ≡ ss
+unfolding term_pairs
+terms_of_pairs t.no_terms = refl
+terms_of_pairs (t.and_term op e ss) = ap (t.and_term op e) (terms_of_pairs ss)
+
+-- {operator x}, each x of one of the rules up to this one
+abbrev Links : {O : Type 0} → (O → Kind) → ℕ → List (O × t.Expression) → Phrase
+Links word low [] = Nothing
+Links word low (p ∷ more) = Is (word p.0) ⨾ When (rule_of p.1 ≤ low) (IsExpression p.1) ⨾ Links word low more
+
+factor_links : (fs : t.Factors) (ts rest : List Lexeme) → MoreFactors fs ts rest → Links multiplying 1 (factor_pairs fs) ts rest
+unfolding factor_pairs
+factor_links t.no_factors ts rest h = h
+factor_links (t.and_factor op e fs) ts rest h = (h.0, h.1, (h.2.0, h.2.1, factor_links fs h.2.0 rest h.2.2))
+
+term_links : (ss : t.Terms) (ts rest : List Lexeme) → MoreTerms ss ts rest → Links adding 2 (term_pairs ss) ts rest
+unfolding term_pairs
+term_links t.no_terms ts rest h = h
+term_links (t.and_term op e ss) ts rest h = (h.0, h.1, (h.2.0, h.2.1, term_links ss h.2.0 rest h.2.2))
 
 -- THE RULES
 
@@ -346,14 +356,6 @@ literal_it at v ts rest h = rw (h.1, h.3, h.4) refl
 after_argument : (es : t.Expressions) (ts rest : List Lexeme) → MoreArguments es ts rest → Ends 6 ts
 after_argument t.no_expressions ts rest h = ends_at 6 k.RightParenthesis ts rest h (omega arith)
 after_argument (t.and_expression e es) ts rest h = ends_at 6 k.Comma ts h.0 h.1 (omega arith)
-
-after_factor : (fs : t.Factors) (ts rest : List Lexeme) → MoreFactors fs ts rest → Ends 2 rest → Ends 1 ts
-after_factor t.no_factors ts rest h ends = subst (λ us. Ends 1 us) (sym h) (ends_less 1 2 rest (omega arith) ends)
-after_factor (t.and_factor op e fs) ts rest h ends = ends_at 1 (multiplying op) ts h.0 h.1 (omega (arith, multiplying_goes_on op))
-
-after_term : (ss : t.Terms) (ts rest : List Lexeme) → MoreTerms ss ts rest → Ends 4 rest → Ends 3 ts
-after_term t.no_terms ts rest h ends = subst (λ us. Ends 3 us) (sym h) (ends_less 3 4 rest (omega arith) ends)
-after_term (t.and_term op e ss) ts rest h ends = ends_at 3 (adding op) ts h.0 h.1 (omega (arith, adding_goes_on op))
 
 logical_ends : (op : LogicalOperator) (ts rest : List Lexeme) → IsLogical op ts rest → Ends 5 ts
 logical_ends logic.And ts rest h = ends_at 5 k.And ts rest h (omega arith)
@@ -418,6 +420,30 @@ joined_none logic.Or ts h = eat_none k.Or ts (not_seen k.Or 6 ts (omega arith) h
 joined_none logic.Xor ts h = eat_none k.Xor ts (not_seen k.Xor 6 ts (omega arith) h)
 joined_none logic.AndThen ts h = both_none k.And k.Then ts (not_seen k.And 6 ts (omega arith) h)
 joined_none logic.OrElse ts h = both_none k.Or k.Else ts (not_seen k.Or 6 ts (omega arith) h)
+
+-- {operator x}, where what follows an x is an operator of these, or ends the whole
+module _ {O A : Type 0} (of : Kind → Option O) (word : O → Kind) (word_it : (op : O) → of (word op) ≡ Some op) (part : O → t.Expression → A) (low mid top : ℕ) (below : mid < top) (none : (w : Kind) → top < goes_on w → of w ≡ None) (goes : (op : O) → goes_on (word op) ≡ top) (item : Parser t.Expression) (item_it : (e : t.Expression) (ts rest : List Lexeme) → rule_of e ≤ low → IsExpression e ts rest → Ends mid rest → Answers (item ts) e rest) where
+  after_links : (ps : List (O × t.Expression)) (ts rest : List Lexeme) → Links word low ps ts rest → Ends top rest → Ends mid ts
+  after_links [] ts rest h ends = subst (λ us. Ends mid us) (sym h) (ends_less mid top rest (omega (arith, below)) ends)
+  after_links (p ∷ more) ts rest h ends = ends_at mid (word p.0) ts h.0 h.1 (omega (arith, goes p.0, below))
+
+  linked_from_it : (ps : List (O × t.Expression)) (n : ℕ) (found : List A) (ts rest : List Lexeme) → length ts ≤ n → Links word low ps ts rest → Ends top rest → Answers (linked_from of item part n found ts) (found ++ parts part ps) rest
+  unfolding linked_from
+  linked_from_it [] zero found ts rest enough h ends = rw (append-nil found) (ap (λ us. (found, us)) h)
+  linked_from_it [] (suc n) found ts rest enough h ends =
+      let nothing : operator of ts ≡ None = ap (λ us. operator of us) h ∙ no_operator of top none rest ends in
+      rw (nothing, append-nil found) (ap (λ us. (found, us)) h)
+  linked_from_it (p ∷ more) zero found ts rest enough h ends = absurd (omega (arith, is_shorter _ _ _ h.1))
+  linked_from_it (p ∷ more) (suc n) found ts rest enough h ends =
+      rw (an_operator of (word p.0) p.0 ts h.0 h.1 (word_it p.0), next_it (word p.0) ts h.0 h.1)
+      (answers_then (item h.0) _ p.1 h.2.0 _ _ (item_it p.1 h.0 h.2.0 h.2.1.0 h.2.1.1 (after_links more h.2.0 rest h.2.2 ends))
+      (subst (λ l. Answers (linked_from of item part n (found ++ part p.0 p.1 ∷ []) h.2.0) l rest) (append_assoc found (part p.0 p.1 ∷ []) (parts part more))
+      (linked_from_it more n (found ++ part p.0 p.1 ∷ []) h.2.0 rest (omega (arith, is_shorter _ _ _ h.1, expression_shorter p.1 h.0 h.2.0 h.2.1.1)) h.2.2 ends)))
+
+  -- the x before them ends where they begin
+  linked_it : (ps : List (O × t.Expression)) (ts rest : List Lexeme) → Links word low ps ts rest → Ends top rest → Ends mid ts × Answers (linked of item part ts) (parts part ps) rest
+  unfolding linked
+  linked_it ps ts rest h ends = (after_links ps ts rest h ends, linked_from_it ps (length ts) [] ts rest (omega arith) h ends)
 
 module _ (opens : Parser ℕ) (inner : Parser t.Expression) (opens_it : Opens opens inner) where
   opened_then : {B : Type 0} (at : ℕ) (ts mid : List Lexeme) (f : ℕ → Parser B) (y : B) (rest : List Lexeme) → IsAt k.LeftParenthesis at ts mid → (CompleteAt 6 inner → Answers (f at mid) y rest) → Answers (and_then (opens ts) f) y rest
@@ -496,12 +522,7 @@ module _ (opens : Parser ℕ) (inner : Parser t.Expression) (opens_it : Opens op
       let o = is_of k.LeftParenthesis at ts h.0 h.1 in
       if_false (sees k.Literal ts) _ _ _ _ (not_both k.LeftParenthesis k.Literal ts h.0 o refl)
       (if_false (sees k.Identifier ts) _ _ _ _ (not_both k.LeftParenthesis k.Identifier ts h.0 o refl) (parenthesized_it at e ts rest h))
-  primary_it (t.highest at op e) ts rest low h ends = absurd (omega arith)
-  primary_it (t.product e fs) ts rest low h ends = absurd (omega arith)
-  primary_it (t.signed at op e) ts rest low h ends = absurd (omega arith)
-  primary_it (t.sum e ss) ts rest low h ends = absurd (omega arith)
-  primary_it (t.relation e op f) ts rest low h ends = absurd (omega arith)
-  primary_it (t.logical op e es) ts rest low h ends = absurd (omega arith)
+  primary_it _ ts rest low h ends = absurd (omega arith)
 
   factor_primary : (e : t.Expression) (ts rest : List Lexeme) → rule_of e ≤ 0 → IsExpression e ts rest → Ends 1 rest → Answers (factor opens inner ts) e rest
   unfolding factor
@@ -514,53 +535,27 @@ module _ (opens : Parser ℕ) (inner : Parser t.Expression) (opens_it : Opens op
       let w = is_of (highest_word op) at ts h.0 h.1 in
       rw (an_operator highest_of (highest_word op) op ts h.0 w (highest_it op), next_it (highest_word op) ts h.0 w, place_it (highest_word op) at ts h.0 h.1)
       (answers_then (primary opens inner h.0) _ e rest _ _ (primary_it e h.0 rest h.2.0 h.2.1 (ends_less 0 1 rest (omega arith) ends)) refl)
-  factor_it (t.literal at v) ts rest low h ends = factor_primary (t.literal at v) ts rest (omega arith) h ends
-  factor_it (t.name n) ts rest low h ends = factor_primary (t.name n) ts rest (omega arith) h ends
-  factor_it (t.attribute n i) ts rest low h ends = factor_primary (t.attribute n i) ts rest (omega arith) h ends
-  factor_it (t.call n es) ts rest low h ends = factor_primary (t.call n es) ts rest (omega arith) h ends
-  factor_it (t.parenthesized at e) ts rest low h ends = factor_primary (t.parenthesized at e) ts rest (omega arith) h ends
-  factor_it (t.product e fs) ts rest low h ends = absurd (omega arith)
-  factor_it (t.signed at op e) ts rest low h ends = absurd (omega arith)
-  factor_it (t.sum e ss) ts rest low h ends = absurd (omega arith)
-  factor_it (t.relation e op f) ts rest low h ends = absurd (omega arith)
-  factor_it (t.logical op e es) ts rest low h ends = absurd (omega arith)
+  factor_it e ts rest low h ends = factor_primary e ts rest (omega arith) h ends
 
-  factors_from_it : (fs : t.Factors) (n : ℕ) (found : List t.Factor) (ts rest : List Lexeme) → length ts ≤ n → MoreFactors fs ts rest → Ends 2 rest → Answers (factors_from opens inner n found ts) (found ++ factors_list fs) rest
-  unfolding factors_from factors_list
-  factors_from_it t.no_factors zero found ts rest enough h ends = rw (append-nil found) (ap (λ us. (found, us)) h)
-  factors_from_it t.no_factors (suc n) found ts rest enough h ends =
-      let none : operator multiplying_of ts ≡ None = ap (λ us. operator multiplying_of us) h ∙ no_operator multiplying_of 2 multiplying_none rest ends in
-      rw (none, append-nil found) (ap (λ us. (found, us)) h)
-  factors_from_it (t.and_factor op e fs) zero found ts rest enough h ends = absurd (omega (arith, is_shorter _ _ _ h.1))
-  factors_from_it (t.and_factor op e fs) (suc n) found ts rest enough h ends =
-      rw (an_operator multiplying_of (multiplying op) op ts h.0 h.1 (multiplying_it op), next_it (multiplying op) ts h.0 h.1)
-      (answers_then (factor opens inner h.0) _ e h.2.0 _ _ (factor_it e h.0 h.2.0 h.2.1.0 h.2.1.1 (after_factor fs h.2.0 rest h.2.2 ends))
-      (subst (λ l. Answers (factors_from opens inner n (found ++ t.factor_by op e ∷ []) h.2.0) l rest) (append_assoc found (t.factor_by op e ∷ []) (factors_list fs))
-      (factors_from_it fs n (found ++ t.factor_by op e ∷ []) h.2.0 rest (omega (arith, is_shorter _ _ _ h.1, expression_shorter e h.0 h.2.0 h.2.1.1)) h.2.2 ends)))
+  factors_it : (fs : t.Factors) (ts rest : List Lexeme) → MoreFactors fs ts rest → Ends 2 rest → Ends 1 ts × Answers (factors opens inner ts) (parts t.factor_by (factor_pairs fs)) rest
+  factors_it fs ts rest h ends =
+      linked_it multiplying_of multiplying multiplying_it t.factor_by 1 1 2 (omega arith) multiplying_none multiplying_goes_on (factor opens inner) factor_it (factor_pairs fs) ts rest (factor_links fs ts rest h) ends
 
   one_factor : (e : t.Expression) (ts rest : List Lexeme) → rule_of e ≤ 1 → IsExpression e ts rest → Ends 2 rest → Answers (term opens inner ts) e rest
-  unfolding term factors factors_list
+  unfolding term factor_pairs
   one_factor e ts rest low h ends =
-      answers_then (factor opens inner ts) _ e rest _ _ (factor_it e ts rest low h (ends_less 1 2 rest (omega arith) ends))
-      (answers_then (factors_from opens inner (length rest) [] rest) _ [] rest _ _ (factors_from_it t.no_factors (length rest) [] rest rest (omega arith) refl ends) refl)
+      let m = factors_it t.no_factors rest rest refl ends in
+      answers_then (factor opens inner ts) _ e rest _ _ (factor_it e ts rest low h m.0) (answers_then (factors opens inner rest) _ [] rest _ _ m.1 refl)
 
   term_it : CompleteAt 2 (term opens inner)
-  unfolding term factors factors_list
+  unfolding term factor_pairs
   term_it (t.product e t.no_factors) ts rest low h ends = absurd h
   term_it (t.product e (t.and_factor op f fs)) ts rest low h ends =
-      answers_then (factor opens inner ts) _ e h.0 _ _ (factor_it e ts h.0 h.1.0 h.1.1 (after_factor (t.and_factor op f fs) h.0 rest h.2 ends))
-      (answers_then (factors_from opens inner (length h.0) [] h.0) _ (factors_list (t.and_factor op f fs)) rest _ _ (factors_from_it (t.and_factor op f fs) (length h.0) [] h.0 rest (omega arith) h.2 ends)
-      (ap (λ l. (t.product e l, rest)) (factors_of_list (t.and_factor op f fs))))
-  term_it (t.literal at v) ts rest low h ends = one_factor (t.literal at v) ts rest (omega arith) h ends
-  term_it (t.name n) ts rest low h ends = one_factor (t.name n) ts rest (omega arith) h ends
-  term_it (t.attribute n i) ts rest low h ends = one_factor (t.attribute n i) ts rest (omega arith) h ends
-  term_it (t.call n es) ts rest low h ends = one_factor (t.call n es) ts rest (omega arith) h ends
-  term_it (t.parenthesized at e) ts rest low h ends = one_factor (t.parenthesized at e) ts rest (omega arith) h ends
-  term_it (t.highest at op e) ts rest low h ends = one_factor (t.highest at op e) ts rest (omega arith) h ends
-  term_it (t.signed at op e) ts rest low h ends = absurd (omega arith)
-  term_it (t.sum e ss) ts rest low h ends = absurd (omega arith)
-  term_it (t.relation e op f) ts rest low h ends = absurd (omega arith)
-  term_it (t.logical op e es) ts rest low h ends = absurd (omega arith)
+      let m = factors_it (t.and_factor op f fs) h.0 rest h.2 ends in
+      answers_then (factor opens inner ts) _ e h.0 _ _ (factor_it e ts h.0 h.1.0 h.1.1 m.0)
+      (answers_then (factors opens inner h.0) _ (parts t.factor_by (factor_pairs (t.and_factor op f fs))) rest _ _ m.1
+      (ap (λ l. (t.product e l, rest)) (factors_of_pairs (t.and_factor op f fs))))
+  term_it e ts rest low h ends = one_factor e ts rest (omega arith) h ends
 
   unsigned : (e : t.Expression) (ts rest : List Lexeme) → rule_of e ≤ 2 → IsExpression e ts rest → Ends 3 rest → Answers (signed_term opens inner ts) e rest
   unfolding signed_term
@@ -573,53 +568,28 @@ module _ (opens : Parser ℕ) (inner : Parser t.Expression) (opens_it : Opens op
       let w = is_of (adding op) at ts h.0 h.1 in
       rw (an_operator adding_of (adding op) op ts h.0 w (adding_it op), next_it (adding op) ts h.0 w, place_it (adding op) at ts h.0 h.1)
       (answers_then (term opens inner h.0) _ e rest _ _ (term_it e h.0 rest h.2.0 h.2.1 (ends_less 2 3 rest (omega arith) ends)) refl)
-  signed_term_it (t.literal at v) ts rest low h ends = unsigned (t.literal at v) ts rest (omega arith) h ends
-  signed_term_it (t.name n) ts rest low h ends = unsigned (t.name n) ts rest (omega arith) h ends
-  signed_term_it (t.attribute n i) ts rest low h ends = unsigned (t.attribute n i) ts rest (omega arith) h ends
-  signed_term_it (t.call n es) ts rest low h ends = unsigned (t.call n es) ts rest (omega arith) h ends
-  signed_term_it (t.parenthesized at e) ts rest low h ends = unsigned (t.parenthesized at e) ts rest (omega arith) h ends
-  signed_term_it (t.highest at op e) ts rest low h ends = unsigned (t.highest at op e) ts rest (omega arith) h ends
-  signed_term_it (t.product e fs) ts rest low h ends = unsigned (t.product e fs) ts rest (omega arith) h ends
-  signed_term_it (t.sum e ss) ts rest low h ends = absurd (omega arith)
-  signed_term_it (t.relation e op f) ts rest low h ends = absurd (omega arith)
-  signed_term_it (t.logical op e es) ts rest low h ends = absurd (omega arith)
+  signed_term_it e ts rest low h ends = unsigned e ts rest (omega arith) h ends
 
-  terms_from_it : (ss : t.Terms) (n : ℕ) (found : List t.Term) (ts rest : List Lexeme) → length ts ≤ n → MoreTerms ss ts rest → Ends 4 rest → Answers (terms_from opens inner n found ts) (found ++ terms_list ss) rest
-  unfolding terms_from terms_list
-  terms_from_it t.no_terms zero found ts rest enough h ends = rw (append-nil found) (ap (λ us. (found, us)) h)
-  terms_from_it t.no_terms (suc n) found ts rest enough h ends =
-      let none : operator adding_of ts ≡ None = ap (λ us. operator adding_of us) h ∙ no_operator adding_of 4 adding_none rest ends in
-      rw (none, append-nil found) (ap (λ us. (found, us)) h)
-  terms_from_it (t.and_term op e ss) zero found ts rest enough h ends = absurd (omega (arith, is_shorter _ _ _ h.1))
-  terms_from_it (t.and_term op e ss) (suc n) found ts rest enough h ends =
-      rw (an_operator adding_of (adding op) op ts h.0 h.1 (adding_it op), next_it (adding op) ts h.0 h.1)
-      (answers_then (term opens inner h.0) _ e h.2.0 _ _ (term_it e h.0 h.2.0 h.2.1.0 h.2.1.1 (ends_less 2 3 h.2.0 (omega arith) (after_term ss h.2.0 rest h.2.2 ends)))
-      (subst (λ l. Answers (terms_from opens inner n (found ++ t.term_by op e ∷ []) h.2.0) l rest) (append_assoc found (t.term_by op e ∷ []) (terms_list ss))
-      (terms_from_it ss n (found ++ t.term_by op e ∷ []) h.2.0 rest (omega (arith, is_shorter _ _ _ h.1, expression_shorter e h.0 h.2.0 h.2.1.1)) h.2.2 ends)))
+  terms_it : (ss : t.Terms) (ts rest : List Lexeme) → MoreTerms ss ts rest → Ends 4 rest → Ends 3 ts × Answers (terms opens inner ts) (parts t.term_by (term_pairs ss)) rest
+  terms_it ss ts rest h ends =
+      linked_it adding_of adding adding_it t.term_by 2 3 4 (omega arith) adding_none adding_goes_on (term opens inner)
+      (λ e us vs low h ends. term_it e us vs low h (ends_less 2 3 vs (omega arith) ends)) (term_pairs ss) ts rest (term_links ss ts rest h) ends
 
   one_term : (e : t.Expression) (ts rest : List Lexeme) → rule_of e ≤ 3 → IsExpression e ts rest → Ends 4 rest → Answers (simple opens inner ts) e rest
-  unfolding simple terms terms_list
+  unfolding simple term_pairs
   one_term e ts rest low h ends =
-      answers_then (signed_term opens inner ts) _ e rest _ _ (signed_term_it e ts rest low h (ends_less 3 4 rest (omega arith) ends))
-      (answers_then (terms_from opens inner (length rest) [] rest) _ [] rest _ _ (terms_from_it t.no_terms (length rest) [] rest rest (omega arith) refl ends) refl)
+      let m = terms_it t.no_terms rest rest refl ends in
+      answers_then (signed_term opens inner ts) _ e rest _ _ (signed_term_it e ts rest low h m.0) (answers_then (terms opens inner rest) _ [] rest _ _ m.1 refl)
 
   simple_it : CompleteAt 4 (simple opens inner)
-  unfolding simple terms terms_list
+  unfolding simple term_pairs
   simple_it (t.sum e t.no_terms) ts rest low h ends = absurd h
   simple_it (t.sum e (t.and_term op s ss)) ts rest low h ends =
-      answers_then (signed_term opens inner ts) _ e h.0 _ _ (signed_term_it e ts h.0 h.1.0 h.1.1 (after_term (t.and_term op s ss) h.0 rest h.2 ends))
-      (answers_then (terms_from opens inner (length h.0) [] h.0) _ (terms_list (t.and_term op s ss)) rest _ _ (terms_from_it (t.and_term op s ss) (length h.0) [] h.0 rest (omega arith) h.2 ends)
-      (ap (λ l. (t.sum e l, rest)) (terms_of_list (t.and_term op s ss))))
-  simple_it (t.literal at v) ts rest low h ends = one_term (t.literal at v) ts rest (omega arith) h ends
-  simple_it (t.name n) ts rest low h ends = one_term (t.name n) ts rest (omega arith) h ends
-  simple_it (t.attribute n i) ts rest low h ends = one_term (t.attribute n i) ts rest (omega arith) h ends
-  simple_it (t.call n es) ts rest low h ends = one_term (t.call n es) ts rest (omega arith) h ends
-  simple_it (t.parenthesized at e) ts rest low h ends = one_term (t.parenthesized at e) ts rest (omega arith) h ends
-  simple_it (t.highest at op e) ts rest low h ends = one_term (t.highest at op e) ts rest (omega arith) h ends
-  simple_it (t.product e fs) ts rest low h ends = one_term (t.product e fs) ts rest (omega arith) h ends
-  simple_it (t.signed at op e) ts rest low h ends = one_term (t.signed at op e) ts rest (omega arith) h ends
-  simple_it (t.relation e op f) ts rest low h ends = absurd (omega arith)
-  simple_it (t.logical op e es) ts rest low h ends = absurd (omega arith)
+      let m = terms_it (t.and_term op s ss) h.0 rest h.2 ends in
+      answers_then (signed_term opens inner ts) _ e h.0 _ _ (signed_term_it e ts h.0 h.1.0 h.1.1 m.0)
+      (answers_then (terms opens inner h.0) _ (parts t.term_by (term_pairs (t.and_term op s ss))) rest _ _ m.1
+      (ap (λ l. (t.sum e l, rest)) (terms_of_pairs (t.and_term op s ss))))
+  simple_it e ts rest low h ends = one_term e ts rest (omega arith) h ends
 
   one_simple : (e : t.Expression) (ts rest : List Lexeme) → rule_of e ≤ 4 → IsExpression e ts rest → Ends 5 rest → Answers (relation opens inner ts) e rest
   unfolding relation
@@ -633,16 +603,7 @@ module _ (opens : Parser ℕ) (inner : Parser t.Expression) (opens_it : Opens op
       answers_then (simple opens inner ts) _ e h.0 _ _ (simple_it e ts h.0 h.1.0 h.1.1 (ends_at 4 (relational op) h.0 h.2.0 h.2.1 (omega (arith, relational_goes_on op))))
       (rw (an_operator relational_of (relational op) op h.0 h.2.0 h.2.1 (relational_it op), next_it (relational op) h.0 h.2.0 h.2.1)
       (answers_then (simple opens inner h.2.0) _ f rest _ _ (simple_it f h.2.0 rest h.2.2.0 h.2.2.1 (ends_less 4 5 rest (omega arith) ends)) refl))
-  relation_it (t.literal at v) ts rest low h ends = one_simple (t.literal at v) ts rest (omega arith) h ends
-  relation_it (t.name n) ts rest low h ends = one_simple (t.name n) ts rest (omega arith) h ends
-  relation_it (t.attribute n i) ts rest low h ends = one_simple (t.attribute n i) ts rest (omega arith) h ends
-  relation_it (t.call n es) ts rest low h ends = one_simple (t.call n es) ts rest (omega arith) h ends
-  relation_it (t.parenthesized at e) ts rest low h ends = one_simple (t.parenthesized at e) ts rest (omega arith) h ends
-  relation_it (t.highest at op e) ts rest low h ends = one_simple (t.highest at op e) ts rest (omega arith) h ends
-  relation_it (t.product e fs) ts rest low h ends = one_simple (t.product e fs) ts rest (omega arith) h ends
-  relation_it (t.signed at op e) ts rest low h ends = one_simple (t.signed at op e) ts rest (omega arith) h ends
-  relation_it (t.sum e ss) ts rest low h ends = one_simple (t.sum e ss) ts rest (omega arith) h ends
-  relation_it (t.logical op e es) ts rest low h ends = absurd (omega arith)
+  relation_it e ts rest low h ends = one_simple e ts rest (omega arith) h ends
 
   -- the relations behind an operator
   relations_from_it : (op : LogicalOperator) (e : t.Expression) (es : t.Expressions) (n : ℕ) (found : List t.Expression) (ts mid rest : List Lexeme) → length ts ≤ n → When (rule_of e ≤ 5) (IsExpression e) ts mid → MoreRelations op es mid rest → Ends 6 rest → Answers (relations_from opens inner op n found ts) (found ++ e ∷ expressions_list es) rest
@@ -672,16 +633,7 @@ module _ (opens : Parser ℕ) (inner : Parser t.Expression) (opens_it : Opens op
       (answers_then (joining h.0) _ (Some op) m.0 _ _ (joining_it op h.0 m.0 m.1 (begins f 6 m.0 m.2.0 (rule_top f) m.2.1.1))
       (answers_then (relations_from opens inner op (length m.0) [] m.0) _ (f ∷ expressions_list fs) rest _ _ (relations_from_it op f fs (length m.0) [] m.0 m.2.0 rest (omega arith) m.2.1 m.2.2 ends)
       (ap (λ l. (t.logical op e l, rest)) (expressions_of_list (t.and_expression f fs)))))
-  whole_it (t.literal at v) ts rest low h ends = one_relation (t.literal at v) ts rest (omega arith) h ends
-  whole_it (t.name n) ts rest low h ends = one_relation (t.name n) ts rest (omega arith) h ends
-  whole_it (t.attribute n i) ts rest low h ends = one_relation (t.attribute n i) ts rest (omega arith) h ends
-  whole_it (t.call n es) ts rest low h ends = one_relation (t.call n es) ts rest (omega arith) h ends
-  whole_it (t.parenthesized at e) ts rest low h ends = one_relation (t.parenthesized at e) ts rest (omega arith) h ends
-  whole_it (t.highest at op e) ts rest low h ends = one_relation (t.highest at op e) ts rest (omega arith) h ends
-  whole_it (t.product e fs) ts rest low h ends = one_relation (t.product e fs) ts rest (omega arith) h ends
-  whole_it (t.signed at op e) ts rest low h ends = one_relation (t.signed at op e) ts rest (omega arith) h ends
-  whole_it (t.sum e ss) ts rest low h ends = one_relation (t.sum e ss) ts rest (omega arith) h ends
-  whole_it (t.relation e op f) ts rest low h ends = one_relation (t.relation e op f) ts rest (omega arith) h ends
+  whole_it e ts rest low h ends = one_relation e ts rest (omega arith) h ends
 
   pub maybe_list : (es : t.Expressions) (ts rest : List Lexeme) → AreArguments es ts rest → Answers (and_then (arguments opens inner ts) (λ xs. pure (t.expressions_of xs))) es rest
   maybe_list es ts rest h = answers_then (arguments opens inner ts) _ (expressions_list es) rest _ _ (arguments_it es ts rest h) (ap (λ l. (l, rest)) (expressions_of_list es))

@@ -1,12 +1,12 @@
 -- What is read as an expression is one of the grammar.
 use Rattle.std.proofs.Common.{◌≡◌, ◌≤◌, inl, inr, ℕ, zero, suc, Bool, true, false, cond, List, [], ◌∷◌, ◌++◌, length, Option, Some, None, Ok, refl, sym, ap, ◌∙◌, subst, arith, append_assoc, append-nil}
+use Rattle.rv_lex.specs.declared.kind.Kind.{Kind}
 use Rattle.rv_lex.specs.declared.kind.Kind.TheVariants as k
 use Rattle.rv_lex.specs.Lexes.{Lexeme}
 use Rattle.rv_lex.specs.Literals.{value_of}
 use Rattle.rv_tree.specs.declared.expression.LogicalOperator.{LogicalOperator}
 use Rattle.rv_tree.specs.declared.expression.RelationalOperator.{RelationalOperator}
 use Rattle.rv_tree.specs.declared.expression.AddingOperator.{AddingOperator}
-use Rattle.rv_tree.specs.declared.expression.MultiplyingOperator.{MultiplyingOperator}
 use Rattle.rv_tree.specs.declared.expression.HighestOperator.{HighestOperator}
 use Rattle.rv_tree.specs.Phrases.{Phrase, ◌⨾◌, Is, IsAt, When}
 use Rattle.rv_tree.specs.NameGrammar.{IsIdentifier, IsName}
@@ -14,7 +14,7 @@ use Rattle.rv_tree.specs.Expressions as t
 use Rattle.rv_tree.specs.ExpressionGrammar.{a_primary, a_factor, a_term, a_signed_term, a_simple_expression, a_relation, rule_of, IsExpression, AreArguments, MoreArguments, MoreFactors, MoreTerms, MoreRelations}
 use Rattle.rv_grammar.specs.Reading.{Parser, and_then, pure, sees, next, after, place, value, expect, more_after}
 use Rattle.rv_grammar.specs.NameRules.{identifier, name}
-use Rattle.rv_grammar.specs.ExpressionRules.{operator, relational_of, adding_of, multiplying_of, highest_of, joining, joined, literal, opening, inside, arguments_from, arguments, parenthesized, named, primary, factor_by, factor, factors_by, factors_from, factors, product_of, term, signed_term_by, signed_term, terms_by, terms_from, terms, sum_of, simple, relation_by, relation, relations_from, relations, whole_by, whole, expression}
+use Rattle.rv_grammar.specs.ExpressionRules.{operator, relational_of, adding_of, multiplying_of, highest_of, joining, joined, linked_by, linked_from, linked, literal, opening, inside, arguments_from, arguments, parenthesized, named, primary, factor_by, factor, factors, product_of, term, signed_term_by, signed_term, terms, sum_of, simple, relation_by, relation, relations_from, relations, whole_by, whole, expression}
 use Rattle.rv_grammar.proofs.Steps.{Sound, bind_ok, ok_is, given, branch_ok, chosen, sees_means, eaten, not_eaten, expected, expected_at, identifier_sound, more_after_sound}
 use Rattle.rv_grammar.proofs.Operators.{relational_at, adding_at, multiplying_at, highest_at, IsJoining, joining_sound, IsJoined, joined_sound}
 
@@ -37,6 +37,36 @@ literal_sound (x ∷ ts) r seen h =
     let same : x ≡ s.0 = cc in
     let read : UpTo a_primary (t.literal (place (x ∷ ts)) (value (x ∷ ts))) (x ∷ ts) (next (x ∷ ts)) = (omega arith, (s.0, s.1, s.2, s.3, ap (λ (y : Lexeme). value_of y.text) (sym same))) in
     given (UpTo a_primary) (x ∷ ts) _ r h read
+
+-- {operator x}, where one more operator and x are one more part
+module _ {O A : Type 0} (of : Kind → Option O) (item : Parser t.Expression) (part : O → t.Expression → A) (is : t.Expression → Phrase) (sound : Sound is item) (More : List A → Phrase) (none : (ts : List Lexeme) → More [] ts ts) (one_more : (op : O) (e : t.Expression) (more : List A) (ts rest : List Lexeme) → operator of ts ≡ Some op → (is e ⨾ More more) (next ts) rest → More (part op e ∷ more) ts rest) where
+  -- what was found, and more of it
+  abbrev LinkedSound : (List A → Parser (List A)) → Type 0
+  LinkedSound p = (found : List A) (ts : List Lexeme) (r : List A × List Lexeme) → p found ts ≡ Ok r → (more : List A) × (r.0 ≡ found ++ more) × More more ts r.1
+
+  no_more_sound : LinkedSound (λ found. pure found)
+  no_more_sound found ts r h =
+      let e = ok_is _ _ h in
+      ([], sym (append-nil found ∙ ap (λ (q : List A × List Lexeme). q.0) e), subst (λ us. More [] ts us) (ap (λ (q : List A × List Lexeme). q.1) e) (none ts))
+
+  linked_by_sound : (again : List A → Parser (List A)) → LinkedSound again → (found : List A) (ts : List Lexeme) (r : List A × List Lexeme) (o : Option O) → operator of ts ≡ o → linked_by of item part again found o ts ≡ Ok r → (more : List A) × (r.0 ≡ found ++ more) × More more ts r.1
+  linked_by_sound again ih found ts r None e h = no_more_sound found ts r h
+  linked_by_sound again ih found ts r (Some op) e h =
+      let a = bind_ok (item (next ts)) _ r h in
+      let p = part op a.0.0 in
+      let b = ih (found ++ p ∷ []) a.0.1 r a.2 in
+      (p ∷ b.0, b.1 ∙ append_assoc found (p ∷ []) b.0, one_more op a.0.0 b.0 ts r.1 e (a.0.1, sound _ a.0 a.1, b.2))
+
+  linked_from_sound : (n : ℕ) → LinkedSound (linked_from of item part n)
+  unfolding linked_from
+  linked_from_sound zero found ts r h = no_more_sound found ts r h
+  linked_from_sound (suc n) found ts r h = linked_by_sound (linked_from of item part n) (linked_from_sound n) found ts r (operator of ts) refl h
+
+  linked_sound : Sound More (linked of item part)
+  unfolding linked
+  linked_sound ts r h =
+      let m = linked_from_sound (length ts) [] ts r h in
+      subst (λ l. More l ts r.1) (sym m.1) m.2
 
 module _ (opens : Parser ℕ) (opens_sound : Sound (IsAt k.LeftParenthesis) opens) (inner : Parser t.Expression) (inner_sound : Sound IsExpression inner) where
   opened : (ts : List Lexeme) (p : ℕ × List Lexeme) → opens ts ≡ Ok p → Is k.LeftParenthesis ts p.1
@@ -115,40 +145,19 @@ module _ (opens : Parser ℕ) (opens_sound : Sound (IsAt k.LeftParenthesis) open
           let p = primary_sound _ a.0 a.1 in
           given (UpTo a_factor) ts _ r a.2 (omega arith, (next ts, highest_at ts op e, p))
 
-  -- what was found, and more of it
-  abbrev FactorsSound : (List t.Factor → Parser (List t.Factor)) → Type 0
-  FactorsSound p = (found : List t.Factor) (ts : List Lexeme) (r : List t.Factor × List Lexeme) → p found ts ≡ Ok r → (more : List t.Factor) × (r.0 ≡ found ++ more) × MoreFactors (t.factors_of more) ts r.1
-
-  no_factors_sound : FactorsSound (λ found. pure found)
-  no_factors_sound found ts r h =
-      let e = ok_is _ _ h in
-      ([], sym (append-nil found ∙ ap (λ (q : List t.Factor × List Lexeme). q.0) e), ap (λ (q : List t.Factor × List Lexeme). q.1) e)
-
-  factors_by_sound : (again : List t.Factor → Parser (List t.Factor)) → FactorsSound again → (found : List t.Factor) (ts : List Lexeme) (r : List t.Factor × List Lexeme) (o : Option MultiplyingOperator) → operator multiplying_of ts ≡ o → factors_by opens inner again found o ts ≡ Ok r → (more : List t.Factor) × (r.0 ≡ found ++ more) × MoreFactors (t.factors_of more) ts r.1
-  factors_by_sound again ih found ts r None e h = no_factors_sound found ts r h
-  factors_by_sound again ih found ts r (Some op) e h =
-      let a = bind_ok (factor opens inner (next ts)) _ r h in
-      let p = t.factor_by op a.0.0 in
-      let b = ih (found ++ p ∷ []) a.0.1 r a.2 in
-      (p ∷ b.0, b.1 ∙ append_assoc found (p ∷ []) b.0, (next ts, multiplying_at ts op e, (a.0.1, factor_sound _ a.0 a.1, b.2)))
-
-  factors_from_sound : (n : ℕ) → FactorsSound (factors_from opens inner n)
-  unfolding factors_from
-  factors_from_sound zero found ts r h = no_factors_sound found ts r h
-  factors_from_sound (suc n) found ts r h = factors_by_sound (factors_from opens inner n) (factors_from_sound n) found ts r (operator multiplying_of ts) refl h
+  factors_sound : Sound (λ fs. MoreFactors (t.factors_of fs)) (factors opens inner)
+  factors_sound = linked_sound multiplying_of (factor opens inner) t.factor_by (UpTo a_factor) factor_sound (λ fs. MoreFactors (t.factors_of fs)) (λ ts. refl) (λ op e more ts rest o h. (next ts, multiplying_at ts op o, h))
 
   product_sound : (e : t.Expression) (fs : List t.Factor) (ts a rest : List Lexeme) → UpTo a_factor e ts a → MoreFactors (t.factors_of fs) a rest → UpTo a_term (product_of opens inner e fs) ts rest
   product_sound e [] ts a rest h m = (omega (arith, h.0), subst (λ us. IsExpression e ts us) m h.1)
   product_sound e (f ∷ fs) ts a rest h m = (omega arith, (a, h, m))
 
   term_sound : Sound (UpTo a_term) (term opens inner)
-  unfolding term factors
+  unfolding term
   term_sound ts r h =
       let a = bind_ok (factor opens inner ts) _ r h in
       let b = bind_ok (factors opens inner a.0.1) _ r a.2 in
-      let m = factors_from_sound (length a.0.1) [] a.0.1 b.0 b.1 in
-      let all : MoreFactors (t.factors_of b.0.0) a.0.1 b.0.1 = subst (λ fs. MoreFactors (t.factors_of fs) a.0.1 b.0.1) (sym m.1) m.2 in
-      given (UpTo a_term) ts _ r b.2 (product_sound a.0.0 b.0.0 ts a.0.1 b.0.1 (factor_sound ts a.0 a.1) all)
+      given (UpTo a_term) ts _ r b.2 (product_sound a.0.0 b.0.0 ts a.0.1 b.0.1 (factor_sound ts a.0 a.1) (factors_sound a.0.1 b.0 b.1))
 
   signed_term_sound : Sound (UpTo a_signed_term) (signed_term opens inner)
   unfolding signed_term
@@ -160,40 +169,19 @@ module _ (opens : Parser ℕ) (opens_sound : Sound (IsAt k.LeftParenthesis) open
           let a = bind_ok (term opens inner (next ts)) _ r h in
           given (UpTo a_signed_term) ts _ r a.2 (omega arith, (next ts, adding_at ts op e, term_sound _ a.0 a.1))
 
-  abbrev TermsSound : (List t.Term → Parser (List t.Term)) → Type 0
-  TermsSound p = (found : List t.Term) (ts : List Lexeme) (r : List t.Term × List Lexeme) → p found ts ≡ Ok r → (more : List t.Term) × (r.0 ≡ found ++ more) × MoreTerms (t.terms_of more) ts r.1
-
-  no_terms_sound : TermsSound (λ found. pure found)
-  no_terms_sound found ts r h =
-      let e = ok_is _ _ h in
-      ([], sym (append-nil found ∙ ap (λ (q : List t.Term × List Lexeme). q.0) e), ap (λ (q : List t.Term × List Lexeme). q.1) e)
-
-  terms_by_sound : (again : List t.Term → Parser (List t.Term)) → TermsSound again → (found : List t.Term) (ts : List Lexeme) (r : List t.Term × List Lexeme) (o : Option AddingOperator) → operator adding_of ts ≡ o → terms_by opens inner again found o ts ≡ Ok r → (more : List t.Term) × (r.0 ≡ found ++ more) × MoreTerms (t.terms_of more) ts r.1
-  terms_by_sound again ih found ts r None e h = no_terms_sound found ts r h
-  terms_by_sound again ih found ts r (Some op) e h =
-      let a = bind_ok (term opens inner (next ts)) _ r h in
-      let p = t.term_by op a.0.0 in
-      let b = ih (found ++ p ∷ []) a.0.1 r a.2 in
-      let sign = adding_at ts op e in
-      (p ∷ b.0, b.1 ∙ append_assoc found (p ∷ []) b.0, (next ts, (sign.0, sign.1, sign.2), (a.0.1, term_sound _ a.0 a.1, b.2)))
-
-  terms_from_sound : (n : ℕ) → TermsSound (terms_from opens inner n)
-  unfolding terms_from
-  terms_from_sound zero found ts r h = no_terms_sound found ts r h
-  terms_from_sound (suc n) found ts r h = terms_by_sound (terms_from opens inner n) (terms_from_sound n) found ts r (operator adding_of ts) refl h
+  terms_sound : Sound (λ ss. MoreTerms (t.terms_of ss)) (terms opens inner)
+  terms_sound = linked_sound adding_of (term opens inner) t.term_by (UpTo a_term) term_sound (λ ss. MoreTerms (t.terms_of ss)) (λ ts. refl) (λ op e more ts rest o h. let w = adding_at ts op o in (next ts, (w.0, w.1, w.2), h))
 
   sum_sound : (e : t.Expression) (ss : List t.Term) (ts a rest : List Lexeme) → UpTo a_signed_term e ts a → MoreTerms (t.terms_of ss) a rest → UpTo a_simple_expression (sum_of opens inner e ss) ts rest
   sum_sound e [] ts a rest h m = (omega (arith, h.0), subst (λ us. IsExpression e ts us) m h.1)
   sum_sound e (s ∷ ss) ts a rest h m = (omega arith, (a, h, m))
 
   simple_sound : Sound (UpTo a_simple_expression) (simple opens inner)
-  unfolding simple terms
+  unfolding simple
   simple_sound ts r h =
       let a = bind_ok (signed_term opens inner ts) _ r h in
       let b = bind_ok (terms opens inner a.0.1) _ r a.2 in
-      let m = terms_from_sound (length a.0.1) [] a.0.1 b.0 b.1 in
-      let all : MoreTerms (t.terms_of b.0.0) a.0.1 b.0.1 = subst (λ ss. MoreTerms (t.terms_of ss) a.0.1 b.0.1) (sym m.1) m.2 in
-      given (UpTo a_simple_expression) ts _ r b.2 (sum_sound a.0.0 b.0.0 ts a.0.1 b.0.1 (signed_term_sound ts a.0 a.1) all)
+      given (UpTo a_simple_expression) ts _ r b.2 (sum_sound a.0.0 b.0.0 ts a.0.1 b.0.1 (signed_term_sound ts a.0 a.1) (terms_sound a.0.1 b.0 b.1))
 
   relation_sound : Sound (UpTo a_relation) (relation opens inner)
   unfolding relation

@@ -17,7 +17,7 @@ use Rattle.rv_tree.specs.Phrases.{Is}
 use Rattle.rv_tree.specs.Expressions as t
 use Rattle.rv_tree.specs.ExpressionGrammar.{relational, adding, multiplying, highest_word}
 use Rattle.rv_grammar.specs.Reading.{unexpected, too_deep, Outcome, Parser, and_then, pure, refuse, sees, next, after, place, expect}
-use Rattle.rv_grammar.specs.ExpressionRules.{operator, relational_of, adding_of, multiplying_of, highest_of, joining, both_words, joined, literal, opening, inside, arguments_from, arguments, parenthesized, named, primary, factor_by, factor, factors_by, factors_from, factors, product_of, term, signed_term_by, signed_term, terms_by, terms_from, terms, sum_of, simple, relation_by, relation, relations_from, relations, whole_by, whole, expression}
+use Rattle.rv_grammar.specs.ExpressionRules.{operator, relational_of, adding_of, multiplying_of, highest_of, joining, both_words, joined, linked_by, linked_from, linked, literal, opening, inside, arguments_from, arguments, parenthesized, named, primary, factor_by, factor, factors, product_of, term, signed_term_by, signed_term, terms, sum_of, simple, relation_by, relation, relations_from, relations, whole_by, whole, expression}
 use Rattle.rv_grammar.specs.Nesting.{opens, closes, opened, closed}
 use Rattle.rv_grammar.proofs.Steps.{taken}
 use Rattle.rv_grammar.proofs.Operators.{relational_at, adding_at, multiplying_at, highest_at}
@@ -221,6 +221,12 @@ adding_plain : (op : AddingOperator) → (opens (adding op) ≡ 0) × (closes (a
 adding_plain adds.Plus = (refl, refl)
 adding_plain adds.Minus = (refl, refl)
 
+multiplying_even : (op : MultiplyingOperator) (ts : List Lexeme) → operator multiplying_of ts ≡ Some op → Even ts (next ts)
+multiplying_even op ts e = even_word (multiplying op) ts (next ts) (multiplying_plain op).0 (multiplying_plain op).1 (multiplying_at ts op e)
+
+adding_even : (op : AddingOperator) (ts : List Lexeme) → operator adding_of ts ≡ Some op → Even ts (next ts)
+adding_even op ts e = let h = adding_at ts op e in even_word (adding op) ts (next ts) (adding_plain op).0 (adding_plain op).1 (h.0, h.1, h.2)
+
 relational_plain : (op : RelationalOperator) → (opens (relational op) ≡ 0) × (closes (relational op) ≡ 0)
 relational_plain relates.Equal = (refl, refl)
 relational_plain relates.NotEqual = (refl, refl)
@@ -248,6 +254,23 @@ module _ (w : Walk) where
   joined_tame logic.Xor = eat_tame w k.Xor refl refl
   joined_tame logic.AndThen = both_words_tame k.And k.Then refl refl refl refl
   joined_tame logic.OrElse = both_words_tame k.Or k.Else refl refl refl refl
+
+-- {operator x}
+module _ (w : Walk) {O A : Type 0} (of : Kind → Option O) (item : Parser t.Expression) (part : O → t.Expression → A) (item_tame : Tame w item) (over : (op : O) (ts : List Lexeme) → operator of ts ≡ Some op → w.via ts (next ts)) where
+  linked_by_tame : (again : List A → Parser (List A)) → ((found : List A) → Tame w (again found)) → (found : List A) (ts : List Lexeme) (o : Option O) → operator of ts ≡ o → Tamed w ts (linked_by of item part again found o ts)
+  linked_by_tame again again_tame found ts None e = here_tamed w found ts
+  linked_by_tame again again_tame found ts (Some op) e =
+      from_there w ts (next ts) _ (over op ts e)
+      (then_tamed w (next ts) (item (next ts)) _ (item_tame.at (next ts)) (λ e. again_tame (found ++ part op e ∷ [])))
+
+  linked_from_tame : (n : ℕ) (found : List A) → Tame w (linked_from of item part n found)
+  unfolding linked_from
+  linked_from_tame zero found = pure_tame w found
+  linked_from_tame (suc n) found = record { at = λ ts. linked_by_tame (linked_from of item part n) (linked_from_tame n) found ts (operator of ts) refl }
+
+  linked_tame : Tame w (linked of item part)
+  unfolding linked
+  linked_tame = record { at = λ ts. (linked_from_tame (length ts) []).at ts }
 
 module _ (many : ℕ) (opens_here : Parser ℕ) (opens_it : (ts : List Lexeme) → Opened many ts (opens_here ts)) (inner : Parser t.Expression) (inner_tame : Tame (walk many) inner) where
   parenthesized_tame : Tame (walk (suc many)) (parenthesized opens_here inner)
@@ -295,20 +318,8 @@ module _ (many : ℕ) (opens_here : Parser ℕ) (opens_it : (ts : List Lexeme) �
           from_there w ts (next ts) _ (even_word (highest_word op) ts (next ts) (highest_plain op).0 (highest_plain op).1 (h.0, h.1, h.2))
           (then_tamed w (next ts) (primary opens_here inner (next ts)) _ (primary_tame.at (next ts)) (λ e. pure_tame w _))
 
-  factors_by_tame : (again : List t.Factor → Parser (List t.Factor)) → ((found : List t.Factor) → Tame w (again found)) → (found : List t.Factor) (ts : List Lexeme) (o : Option MultiplyingOperator) → operator multiplying_of ts ≡ o → Tamed w ts (factors_by opens_here inner again found o ts)
-  factors_by_tame again again_tame found ts None e = here_tamed w found ts
-  factors_by_tame again again_tame found ts (Some op) e =
-      from_there w ts (next ts) _ (even_word (multiplying op) ts (next ts) (multiplying_plain op).0 (multiplying_plain op).1 (multiplying_at ts op e))
-      (then_tamed w (next ts) (factor opens_here inner (next ts)) _ (factor_tame.at (next ts)) (λ e. again_tame (found ++ record { operator = op; operand = e } ∷ [])))
-
-  factors_from_tame : (n : ℕ) (found : List t.Factor) → Tame w (factors_from opens_here inner n found)
-  unfolding factors_from
-  factors_from_tame zero found = pure_tame w found
-  factors_from_tame (suc n) found = record { at = λ ts. factors_by_tame (factors_from opens_here inner n) (factors_from_tame n) found ts (operator multiplying_of ts) refl }
-
   factors_tame : Tame w (factors opens_here inner)
-  unfolding factors
-  factors_tame = record { at = λ ts. (factors_from_tame (length ts) []).at ts }
+  factors_tame = linked_tame w multiplying_of (factor opens_here inner) t.factor_by factor_tame multiplying_even
 
   term_tame : Tame w (term opens_here inner)
   unfolding term
@@ -317,29 +328,15 @@ module _ (many : ℕ) (opens_here : Parser ℕ) (opens_it : (ts : List Lexeme) �
   signed_term_by_tame : (ts : List Lexeme) (o : Option AddingOperator) → operator adding_of ts ≡ o → Tamed w ts (signed_term_by opens_here inner o ts)
   signed_term_by_tame ts None e = term_tame.at ts
   signed_term_by_tame ts (Some op) e =
-      let h = adding_at ts op e in
-      from_there w ts (next ts) _ (even_word (adding op) ts (next ts) (adding_plain op).0 (adding_plain op).1 (h.0, h.1, h.2))
+      from_there w ts (next ts) _ (adding_even op ts e)
       (then_tamed w (next ts) (term opens_here inner (next ts)) _ (term_tame.at (next ts)) (λ e. pure_tame w _))
 
   signed_term_tame : Tame w (signed_term opens_here inner)
   unfolding signed_term
   signed_term_tame = record { at = λ ts. signed_term_by_tame ts (operator adding_of ts) refl }
 
-  terms_by_tame : (again : List t.Term → Parser (List t.Term)) → ((found : List t.Term) → Tame w (again found)) → (found : List t.Term) (ts : List Lexeme) (o : Option AddingOperator) → operator adding_of ts ≡ o → Tamed w ts (terms_by opens_here inner again found o ts)
-  terms_by_tame again again_tame found ts None e = here_tamed w found ts
-  terms_by_tame again again_tame found ts (Some op) e =
-      let h = adding_at ts op e in
-      from_there w ts (next ts) _ (even_word (adding op) ts (next ts) (adding_plain op).0 (adding_plain op).1 (h.0, h.1, h.2))
-      (then_tamed w (next ts) (term opens_here inner (next ts)) _ (term_tame.at (next ts)) (λ e. again_tame (found ++ record { operator = op; operand = e } ∷ [])))
-
-  terms_from_tame : (n : ℕ) (found : List t.Term) → Tame w (terms_from opens_here inner n found)
-  unfolding terms_from
-  terms_from_tame zero found = pure_tame w found
-  terms_from_tame (suc n) found = record { at = λ ts. terms_by_tame (terms_from opens_here inner n) (terms_from_tame n) found ts (operator adding_of ts) refl }
-
   terms_tame : Tame w (terms opens_here inner)
-  unfolding terms
-  terms_tame = record { at = λ ts. (terms_from_tame (length ts) []).at ts }
+  terms_tame = linked_tame w adding_of (term opens_here inner) t.term_by term_tame adding_even
 
   simple_tame : Tame w (simple opens_here inner)
   unfolding simple

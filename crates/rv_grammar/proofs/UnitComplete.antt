@@ -1,11 +1,11 @@
 -- Bodies and unit texts of the grammar are read, unless they nest too deep.
-use Rattle.std.proofs.Common.{◌≡◌, Bool, true, false, List, [], ◌∷◌, Option, refl, ap, ◌∙◌, arith}
+use Rattle.std.proofs.Common.{◌≡◌, ℕ, Bool, true, false, List, [], ◌∷◌, Option, refl, ap, ◌∙◌, arith}
 use Rattle.rv_lex.specs.declared.kind.Kind.{Kind}
 use Rattle.rv_lex.specs.declared.kind.Kind.TheVariants as k
 use Rattle.rv_lex.specs.Lexes.{Lexeme}
-use Rattle.rv_tree.specs.Phrases.{Is, Flag}
+use Rattle.rv_tree.specs.Phrases.{Phrase, ◌⨾◌, Is, IsAt, Flag, Each}
 use Rattle.rv_tree.specs.Names.{Identifier, Name}
-use Rattle.rv_tree.specs.NameGrammar.{IsName, AreNames}
+use Rattle.rv_tree.specs.NameGrammar.{IsIdentifier, IsName, AreNames, IsEnd}
 use Rattle.rv_tree.specs.Expressions as e
 use Rattle.rv_tree.specs.DeclarationGrammar.{IsProtectedUnit, IsDeclaration}
 use Rattle.rv_tree.specs.Declarations as d
@@ -15,11 +15,11 @@ use Rattle.rv_tree.specs.Bodies as t
 use Rattle.rv_tree.specs.BodyGrammar.{IsLocal, IsExceptionChoice, IsHandler, AreHandlers, IsBlock, IsOperationBody, IsProtectedBody, IsTaskBody}
 use Rattle.rv_tree.specs.Units as u
 use Rattle.rv_tree.specs.UnitGrammar.{IsContextItem, IsSpecification, IsBodyItem, IsBody, IsUnit}
-use Rattle.rv_grammar.specs.Reading.{and_then, pure, same_kind, sees, next, starts_by, many, listed, optional, optional_after}
+use Rattle.rv_grammar.specs.Reading.{Parser, and_then, pure, same_kind, sees, next, starts_by, many, listed, optional, optional_after}
 use Rattle.rv_grammar.specs.NameRules.{identifier, name, end_name}
 use Rattle.rv_grammar.specs.DeclarationRules.{any_expression, range, a_pragma, parameters, protected_unit, task, begins_declaration, declaration}
 use Rattle.rv_grammar.specs.StatementRules.{sees_statement, statement}
-use Rattle.rv_grammar.specs.BodyRules.{any_statements, local_object, begins_local, local_by, a_local, exception_choice, handler, handlers, block, function_body, procedure_body, entry_body, begins_operation_body, operation_body_by, operation_body, protected_body, task_body}
+use Rattle.rv_grammar.specs.BodyRules.{any_statements, local_object, begins_local, local_by, a_local, exception_choice, handler, handlers, block, function_body, procedure_body, entry_body, begins_operation_body, operation_body_by, operation_body, body_of, protected_body, task_body}
 use Rattle.rv_grammar.specs.UnitRules.{with_clause, use_clause, begins_context_item, context_item_by, context_item, specification, body_item, body, unit}
 use Rattle.rv_grammar.proofs.Forward.{Answers, answers_then, if_true, if_false, sees_it, next_it, is_of, not_both, at_then, word_then, eaten_then, uneaten_then, flag_seen, flag_after, identifier_it, Shorter, NotLonger, is_shorter, at_shorter, identifier_shorter, nothing_shorter, flag_shorter, each_shorter, listed_shorter, Complete, many_it, at_least_one_it, listed_it}
 use Rattle.rv_grammar.proofs.ExpressionComplete.{name_shorter, name_it, ends_at, expression_shorter}
@@ -192,18 +192,25 @@ operation_body_shorter (t.entry_body at n ps c b) old new h =
     let z = y.2 in
     omega (arith, at_shorter _ _ old h.0 h.1, identifier_shorter n h.0 h.2.0 h.2.1, parameters_shorter ps h.2.0 h.2.2.0 h.2.2.1, is_shorter _ h.2.2.0 x.0 x.1, expression_shorter c x.0 y.0 y.1, is_shorter _ y.0 z.0 z.1, block_shorter b z.0 new z.2)
 
+-- word "body" id "is" {x} "end" [id] ";"
+module _ {A B : Type 0} (word : Kind) (begins : Kind → Bool) (is : A → Phrase) (item : Parser A) (item_it : Complete is item Anything) (shorter : (a : A) (old new : List Lexeme) → is a old new → Shorter old new) (starts : (a : A) (ts rest : List Lexeme) → is a ts rest → starts_by begins ts ≡ true) (ends : begins k.End ≡ false) (make : (at : ℕ) → Identifier → List A → Option Identifier → B) where
+  body_of_it : (at : ℕ) (n : Identifier) (xs : List A) (end : Option Identifier) (ts rest : List Lexeme) → (IsAt word at ⨾ Is k.Body ⨾ IsIdentifier n ⨾ Is k.Is ⨾ Each is xs ⨾ IsEnd end) ts rest → Answers (body_of word begins item make ts) (make at n xs end) rest
+  unfolding body_of
+  body_of_it at n xs end ts rest h =
+      let y = h.2.2.2 in
+      let z = y.2 in
+      at_then word at ts h.0 _ _ _ h.1
+      (word_then k.Body h.0 h.2.0 _ _ _ h.2.1
+      (answers_then (identifier h.2.0) _ n h.2.2.0 _ _ (identifier_it n h.2.0 h.2.2.0 h.2.2.1)
+      (word_then k.Is h.2.2.0 y.0 _ _ _ y.1
+      (answers_then (many (starts_by begins) item y.0) _ xs z.0 _ _
+      (many_it is item Anything item_it shorter (starts_by begins) starts (λ _ _ _ _. tt) xs y.0 z.0 z.1 (starts_is begins k.End z.0 z.2.0 z.2.1 ∙ ends) tt)
+      (answers_then (end_name z.0) _ end rest _ _ (end_it end z.0 rest z.2) refl)))))
+
 protected_body_it : Complete IsProtectedBody protected_body Anything
 unfolding protected_body
 protected_body_it b ts rest h _ =
-    let x = h.2.2.2 in
-    let y = x.2 in
-    at_then k.Protected b.at ts h.0 _ _ _ h.1
-    (word_then k.Body h.0 h.2.0 _ _ _ h.2.1
-    (answers_then (identifier h.2.0) _ b.name h.2.2.0 _ _ (identifier_it b.name h.2.0 h.2.2.0 h.2.2.1)
-    (word_then k.Is h.2.2.0 x.0 _ _ _ x.1
-    (answers_then (many (starts_by begins_operation_body) operation_body x.0) _ b.operations y.0 _ _
-    (many_it IsOperationBody operation_body Anything operation_body_it operation_body_shorter (starts_by begins_operation_body) operation_body_starts (λ _ _ _ _. tt) b.operations x.0 y.0 y.1 (starts_is begins_operation_body k.End y.0 y.2.0 y.2.1) tt)
-    (answers_then (end_name y.0) _ b.end_name rest _ _ (end_it b.end_name y.0 rest y.2) refl)))))
+    body_of_it k.Protected begins_operation_body IsOperationBody operation_body operation_body_it operation_body_shorter operation_body_starts refl _ b.at b.name b.operations b.end_name ts rest h
 
 protected_body_shorter : (b : t.ProtectedBody) (old new : List Lexeme) → IsProtectedBody b old new → Shorter old new
 protected_body_shorter b old new h =
@@ -338,15 +345,7 @@ body_item_shorter (u.body_task b) old new h = task_body_shorter b old new h
 body_it : Complete IsBody body Anything
 unfolding body
 body_it x ts rest h _ =
-    let y = h.2.2.2 in
-    let z = y.2 in
-    at_then k.Package x.at ts h.0 _ _ _ h.1
-    (word_then k.Body h.0 h.2.0 _ _ _ h.2.1
-    (answers_then (identifier h.2.0) _ x.name h.2.2.0 _ _ (identifier_it x.name h.2.0 h.2.2.0 h.2.2.1)
-    (word_then k.Is h.2.2.0 y.0 _ _ _ y.1
-    (answers_then (many (starts_by begins_declaration) body_item y.0) _ x.items z.0 _ _
-    (many_it IsBodyItem body_item Anything body_item_it body_item_shorter (starts_by begins_declaration) body_item_starts (λ _ _ _ _. tt) x.items y.0 z.0 z.1 (starts_is begins_declaration k.End z.0 z.2.0 z.2.1) tt)
-    (answers_then (end_name z.0) _ x.end_name rest _ _ (end_it x.end_name z.0 rest z.2) refl)))))
+    body_of_it k.Package begins_declaration IsBodyItem body_item body_item_it body_item_shorter body_item_starts refl _ x.at x.name x.items x.end_name ts rest h
 
 pub unit_it : (x : u.UnitTree) (ts rest : List Lexeme) → IsUnit x ts rest → Answers (unit ts) x rest
 unfolding unit

@@ -1,10 +1,11 @@
 -- What is read as a body or a unit text is one of the grammar.
-use Rattle.std.proofs.Common.{◌≡◌, inl, inr, List, [], ◌∷◌, Ok, sym}
+use Rattle.std.proofs.Common.{◌≡◌, inl, inr, ℕ, Bool, List, [], ◌∷◌, Option, Ok, sym}
 use Rattle.rv_lex.specs.declared.kind.Kind.{Kind}
 use Rattle.rv_lex.specs.declared.kind.Kind.TheVariants as k
 use Rattle.rv_lex.specs.Lexes.{Lexeme}
-use Rattle.rv_tree.specs.Phrases.{Is, AtLeastOne}
-use Rattle.rv_tree.specs.NameGrammar.{IsName}
+use Rattle.rv_tree.specs.Phrases.{Phrase, ◌⨾◌, Is, IsAt, Each, AtLeastOne}
+use Rattle.rv_tree.specs.Names.{Identifier}
+use Rattle.rv_tree.specs.NameGrammar.{IsIdentifier, IsName, IsEnd}
 use Rattle.rv_tree.specs.ExpressionGrammar.{IsExpression, IsRange}
 use Rattle.rv_tree.specs.DeclarationGrammar.{IsDeclaration}
 use Rattle.rv_tree.specs.Statements as s
@@ -13,11 +14,11 @@ use Rattle.rv_tree.specs.Bodies as t
 use Rattle.rv_tree.specs.BodyGrammar.{IsLocal, IsExceptionChoice, IsHandler, AreHandlers, IsBlock, IsOperationBody, IsProtectedBody, IsTaskBody}
 use Rattle.rv_tree.specs.Units as u
 use Rattle.rv_tree.specs.UnitGrammar.{IsContextItem, IsSpecification, IsBodyItem, IsBody, IsUnit}
-use Rattle.rv_grammar.specs.Reading.{and_then, pure, sees, next, after, starts_by, expect, many, listed, optional, optional_after}
+use Rattle.rv_grammar.specs.Reading.{Parser, and_then, pure, sees, next, after, starts_by, expect, many, listed, optional, optional_after}
 use Rattle.rv_grammar.specs.NameRules.{identifier, name, end_name}
 use Rattle.rv_grammar.specs.DeclarationRules.{any_expression, range, a_pragma, parameters, protected_unit, task, begins_declaration, declaration}
 use Rattle.rv_grammar.specs.StatementRules.{statement}
-use Rattle.rv_grammar.specs.BodyRules.{any_statements, local_object, begins_local, local_by, a_local, exception_choice, handler, handlers, block, function_body, procedure_body, entry_body, begins_operation_body, operation_body_by, operation_body, protected_body, task_body}
+use Rattle.rv_grammar.specs.BodyRules.{any_statements, local_object, begins_local, local_by, a_local, exception_choice, handler, handlers, block, function_body, procedure_body, entry_body, begins_operation_body, operation_body_by, operation_body, body_of, protected_body, task_body}
 use Rattle.rv_grammar.specs.UnitRules.{with_clause, use_clause, begins_context_item, context_item_by, context_item, specification, body_item, body, unit}
 use Rattle.rv_grammar.proofs.Steps.{Sound, bind_ok, given, branch_ok, chosen, eaten, not_eaten, expected, expected_at, flag_sound, identifier_sound, many_sound, at_least_one_sound, listed_sound, optional_sound, optional_after_sound}
 use Rattle.rv_grammar.proofs.ExpressionSound.{name_sound}
@@ -131,16 +132,22 @@ operation_body_sound : Sound IsOperationBody operation_body
 unfolding operation_body
 operation_body_sound = kind_sound IsOperationBody operation_body_by operation_body_by_sound
 
-protected_body_sound : Sound IsProtectedBody protected_body
-unfolding protected_body
-protected_body_sound ts r h =
-    let a = bind_ok (expect k.Protected ts) _ r h in
+-- word "body" id "is" {x} "end" [id] ";"
+body_of_sound : {A B : Type 0} (word : Kind) (begins : Kind → Bool) (is : A → Phrase) (item : Parser A) (make : (at : ℕ) → Identifier → List A → Option Identifier → B) (is_body : B → Phrase) → Sound is item → ((at : ℕ) (n : Identifier) (xs : List A) (end : Option Identifier) (ts rest : List Lexeme) → (IsAt word at ⨾ Is k.Body ⨾ IsIdentifier n ⨾ Is k.Is ⨾ Each is xs ⨾ IsEnd end) ts rest → is_body (make at n xs end) ts rest) → Sound is_body (body_of word begins item make)
+unfolding body_of
+body_of_sound word begins is item make is_body item_sound made ts r h =
+    let a = bind_ok (expect word ts) _ r h in
     let b = bind_ok (expect k.Body a.0.1) _ r a.2 in
     let c = bind_ok (identifier b.0.1) _ r b.2 in
     let d = bind_ok (expect k.Is c.0.1) _ r c.2 in
-    let e = bind_ok (many (starts_by begins_operation_body) operation_body d.0.1) _ r d.2 in
+    let e = bind_ok (many (starts_by begins) item d.0.1) _ r d.2 in
     let f = bind_ok (end_name e.0.1) _ r e.2 in
-    given IsProtectedBody ts _ r f.2 (a.0.1, expected_at k.Protected ts a.0 a.1, (b.0.1, expected k.Body _ b.0 b.1, (c.0.1, identifier_sound _ c.0 c.1, (d.0.1, expected k.Is _ d.0 d.1, (e.0.1, many_sound IsOperationBody operation_body operation_body_sound (starts_by begins_operation_body) _ e.0 e.1, end_name_sound _ f.0 f.1)))))
+    given is_body ts _ r f.2 (made a.0.0 c.0.0 e.0.0 f.0.0 ts f.0.1
+    (a.0.1, expected_at word ts a.0 a.1, (b.0.1, expected k.Body _ b.0 b.1, (c.0.1, identifier_sound _ c.0 c.1, (d.0.1, expected k.Is _ d.0 d.1, (e.0.1, many_sound is item item_sound (starts_by begins) _ e.0 e.1, end_name_sound _ f.0 f.1))))))
+
+protected_body_sound : Sound IsProtectedBody protected_body
+unfolding protected_body
+protected_body_sound = body_of_sound k.Protected begins_operation_body IsOperationBody operation_body _ IsProtectedBody operation_body_sound (λ at n xs end ts rest h. h)
 
 task_body_sound : Sound IsTaskBody task_body
 unfolding task_body
@@ -206,14 +213,7 @@ body_item_sound ts r h = elim (chosen (sees k.Body (next ts)) _ _ _ h) [
 
 body_sound : Sound IsBody body
 unfolding body
-body_sound ts r h =
-    let a = bind_ok (expect k.Package ts) _ r h in
-    let b = bind_ok (expect k.Body a.0.1) _ r a.2 in
-    let c = bind_ok (identifier b.0.1) _ r b.2 in
-    let d = bind_ok (expect k.Is c.0.1) _ r c.2 in
-    let e = bind_ok (many (starts_by begins_declaration) body_item d.0.1) _ r d.2 in
-    let f = bind_ok (end_name e.0.1) _ r e.2 in
-    given IsBody ts _ r f.2 (a.0.1, expected_at k.Package ts a.0 a.1, (b.0.1, expected k.Body _ b.0 b.1, (c.0.1, identifier_sound _ c.0 c.1, (d.0.1, expected k.Is _ d.0 d.1, (e.0.1, many_sound IsBodyItem body_item body_item_sound (starts_by begins_declaration) _ e.0 e.1, end_name_sound _ f.0 f.1)))))
+body_sound = body_of_sound k.Package begins_declaration IsBodyItem body_item _ IsBody body_item_sound (λ at n xs end ts rest h. h)
 
 pub unit_sound : Sound IsUnit unit
 unfolding unit

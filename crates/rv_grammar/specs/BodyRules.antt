@@ -1,7 +1,8 @@
 -- How blocks and bodies are read.
-use Rattle.std.specs.Prelude.{Bool, true, false, if◌then◌else◌, List, []}
+use Rattle.std.specs.Prelude.{ℕ, Bool, true, false, if◌then◌else◌, List, [], Option}
 use Rattle.rv_lex.specs.declared.kind.Kind.{Kind}
 use Rattle.rv_lex.specs.declared.kind.Kind.TheVariants as k
+use Rattle.rv_tree.specs.Names.{Identifier}
 use Rattle.rv_tree.specs.Statements as s
 use Rattle.rv_tree.specs.Bodies as t
 use Rattle.rv_grammar.specs.Reading.{Parser, ◌>>=◌, ◌>>◌, pure, refuse, sees, by_kind, starts_by, eat, expect, many, at_least_one, listed, optional, optional_after}
@@ -118,15 +119,20 @@ operation_body_by _ = refuse
 unfoldable pub operation_body : Parser t.OperationBody
 operation_body = by_kind operation_body_by
 
-unfoldable pub protected_body : Parser t.ProtectedBody
-protected_body = do
-  at ← expect k.Protected
+-- word "body" id "is" {x} "end" [id] ";", and what is made of them
+unfoldable pub body_of : {A B : Type 0} → Kind → (Kind → Bool) → Parser A → ((at : ℕ) → Identifier → List A → Option Identifier → B) → Parser B
+body_of word begins item make = do
+  at ← expect word
   expect k.Body
   n ← identifier
   expect k.Is
-  os ← many (starts_by begins_operation_body) operation_body
+  items ← many (starts_by begins) item
   end ← end_name
-  pure (record { at = at; name = n; operations = os; end_name = end })
+  pure (make at n items end)
+
+unfoldable pub protected_body : Parser t.ProtectedBody
+protected_body = body_of k.Protected begins_operation_body operation_body
+    (λ at n os end. record { at = at; name = n; operations = os; end_name = end })
 
 unfoldable pub task_body : Parser t.TaskBody
 task_body = do

@@ -89,6 +89,20 @@ unfoldable pub opening : ℕ → Parser ℕ
 opening zero = λ i. if sees k.LeftParenthesis i then Err too_deep else Err unexpected
 opening (suc n) = expect k.LeftParenthesis
 
+-- {operator x}, each operator and the x behind it as one part
+module _ {O A : Type 0} (of : Kind → Option O) (item : Parser t.Expression) (part : O → t.Expression → A) where
+  abbrev pub linked_by : (List A → Parser (List A)) → List A → Option O → Parser (List A)
+  linked_by again found None = pure found
+  linked_by again found (Some op) = λ i. (item >>= λ e. again (found ++ part op e ∷ [])) (next i)
+
+  -- at most so many, behind those that were found
+  unfoldable pub linked_from : ℕ → List A → Parser (List A)
+  linked_from zero found = pure found
+  linked_from (suc n) found = λ i. linked_by (linked_from n) found (operator of i) i
+
+  unfoldable pub linked : Parser (List A)
+  linked = λ i. linked_from (length i) [] i
+
 module _ (opening : Parser ℕ) (inner : Parser t.Expression) where
   -- {"," expr} ")", after those that were found
   unfoldable pub arguments_from : ℕ → List t.Expression → Parser (List t.Expression)
@@ -126,16 +140,9 @@ module _ (opening : Parser ℕ) (inner : Parser t.Expression) where
   unfoldable pub factor : Parser t.Expression
   factor = λ i. factor_by (operator highest_of i) i
 
-  abbrev pub factors_by : (List t.Factor → Parser (List t.Factor)) → List t.Factor → Option MultiplyingOperator → Parser (List t.Factor)
-  factors_by again found None = pure found
-  factors_by again found (Some op) = λ i. (factor >>= λ e. again (found ++ record { operator = op; operand = e } ∷ [])) (next i)
-
-  unfoldable pub factors_from : ℕ → List t.Factor → Parser (List t.Factor)
-  factors_from zero found = pure found
-  factors_from (suc n) found = λ i. factors_by (factors_from n) found (operator multiplying_of i) i
-
-  unfoldable pub factors : Parser (List t.Factor)
-  factors = λ i. factors_from (length i) [] i
+  -- {multiplying factor}
+  abbrev pub factors : Parser (List t.Factor)
+  factors = linked multiplying_of factor t.factor_by
 
   abbrev pub product_of : t.Expression → List t.Factor → t.Expression
   product_of e [] = e
@@ -154,16 +161,9 @@ module _ (opening : Parser ℕ) (inner : Parser t.Expression) where
   unfoldable pub signed_term : Parser t.Expression
   signed_term = λ i. signed_term_by (operator adding_of i) i
 
-  abbrev pub terms_by : (List t.Term → Parser (List t.Term)) → List t.Term → Option AddingOperator → Parser (List t.Term)
-  terms_by again found None = pure found
-  terms_by again found (Some op) = λ i. (term >>= λ e. again (found ++ record { operator = op; operand = e } ∷ [])) (next i)
-
-  unfoldable pub terms_from : ℕ → List t.Term → Parser (List t.Term)
-  terms_from zero found = pure found
-  terms_from (suc n) found = λ i. terms_by (terms_from n) found (operator adding_of i) i
-
-  unfoldable pub terms : Parser (List t.Term)
-  terms = λ i. terms_from (length i) [] i
+  -- {adding term}
+  abbrev pub terms : Parser (List t.Term)
+  terms = linked adding_of term t.term_by
 
   abbrev pub sum_of : t.Expression → List t.Term → t.Expression
   sum_of e [] = e

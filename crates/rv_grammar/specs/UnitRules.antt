@@ -6,7 +6,7 @@ use Rattle.rv_tree.specs.Units as t
 use Rattle.rv_grammar.specs.Reading.{Parser, ◌>>=◌, ◌>>◌, pure, refuse, sees, next, by_kind, starts_by, eat, expect, many, listed}
 use Rattle.rv_grammar.specs.NameRules.{identifier, name, end_name}
 use Rattle.rv_grammar.specs.DeclarationRules.{a_pragma, begins_declaration, declaration}
-use Rattle.rv_grammar.specs.BodyRules.{protected_body, task_body}
+use Rattle.rv_grammar.specs.BodyRules.{body_of, protected_body, task_body}
 
 unfoldable pub with_clause : Parser t.ContextItem
 with_clause = do
@@ -55,14 +55,7 @@ body_item = λ i. if sees k.Body (next i)
     else (declaration >>= λ d. pure (t.body_declaration d)) i
 
 unfoldable pub body : Parser t.PackageBody
-body = do
-  at ← expect k.Package
-  expect k.Body
-  n ← identifier
-  expect k.Is
-  items ← many (starts_by begins_declaration) body_item
-  end ← end_name
-  pure (record { at = at; name = n; items = items; end_name = end })
+body = body_of k.Package begins_declaration body_item (λ at n items end. record { at = at; name = n; items = items; end_name = end })
 
 unfoldable pub unit : Parser t.UnitTree
 unit = do

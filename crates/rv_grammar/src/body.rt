@@ -248,7 +248,7 @@ impl Phrase for OperationBody {
 }
 
 /// `"protected" "body" id "is" {obody} "end" [id] ";"`.
-#[tactic(auto, unfolding(crate::specs::BodyRules::protected_body))]
+#[tactic(auto, unfolding(crate::specs::BodyRules::protected_body, crate::specs::BodyRules::body_of))]
 pub fn protected_body(alloc: Global, tokens: &mut Cursor<'_>) -> Result<ProtectedBody, ParseFault>
     ensures { Reads view.protected_body_view (rules.protected_body tokens.old) result tokens.new }
 {

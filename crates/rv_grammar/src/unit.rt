@@ -123,7 +123,7 @@ impl Phrase for BodyItem {
 }
 
 // "package" "body" id "is" {decl | pbody | tbody} "end" [id] ";"
-#[tactic(auto, unfolding(crate::specs::UnitRules::body))]
+#[tactic(auto, unfolding(crate::specs::UnitRules::body, crate::specs::BodyRules::body_of))]
 fn body(alloc: Global, tokens: &mut Cursor<'_>) -> Result<PackageBody, ParseFault>
     ensures { Reads view.body_view (rules.body tokens.old) result tokens.new }
 {

@@ -4,7 +4,7 @@ use Rattle.std.proofs.lemmas.List.{append-nil}
 use Rattle.rv_lex.specs.declared.kind.Kind.{Kind}
 use Rattle.rv_lex.specs.Kinds.{spelling}
 use Rattle.rv_lex.specs.Lexes.{Lexeme}
-use Rattle.rv_lex.specs.Spaced.{Spelled, AreSpelled}
+use Rattle.rv_lex.specs.Spaced.{Spelled, IsSpelled, AreSpelled}
 use Rattle.rv_lex.specs.Words.{IsWord}
 use Rattle.rv_lex.proofs.Spellings.{has_spelling, spelling_is}
 use Rattle.rv_tree.specs.Phrases.{Phrase, ◌⨾◌, Is, IsAt, Nothing, Never, When, Flag, Maybe, Each, After, Listed, Enclosed}
@@ -56,27 +56,31 @@ never_prints f = record { prints = λ old new h good. absurd h }
 abbrev pub one : Kind → List ℕ → ℕ → Lexeme
 one kind text at = record { kind = kind; text = text; place = at }
 
-pub one_text : (t : Lexeme) (out : List ℕ) → out ++ 32 ∷ t.text ≡ out ++ words_text (t ∷ [])
+one_text : (t : Lexeme) (out : List ℕ) → out ++ 32 ∷ t.text ≡ out ++ words_text (t ∷ [])
 one_text t out = ap (λ l. out ++ 32 ∷ l) (sym (append-nil t.text))
 
-pub behind : (t : Lexeme) (old new : List Lexeme) → old ≡ t ∷ new → AreWords old → IsWord t.kind t.text × AreWords new
+behind : (t : Lexeme) (old new : List Lexeme) → old ≡ t ∷ new → AreWords old → IsWord t.kind t.text × AreWords new
 behind t old new e good = subst AreWords e good
 
-pub is_prints : (kind : Kind) → has_spelling kind ≡ true → Prints (Is kind) (kind_onto kind)
-is_prints kind some = record {
-  prints = λ old new h good. (
-    (behind h.0 old new h.1 good).1,
-    record { words = one kind (spelling kind) 0 ∷ []; whole = λ rest. (one kind (spelling kind) 0, refl, refl); spell = (spelling_is kind some, tt); text = λ out. one_text (one kind (spelling kind) 0) out },
-  );
+-- a phrase of one word, told by the word that stands there: what is printed is spelled, and is the phrase too
+pub word_prints : (p : Phrase) (f : Onto) (w : Lexeme) → ((out : List ℕ) → f out ≡ out ++ 32 ∷ w.text) → ((old new : List Lexeme) → p old new → (t : Lexeme) × (old ≡ t ∷ new) × (IsWord t.kind t.text → IsSpelled (spelled w) × ((rest : List Lexeme) → p (w ∷ rest) rest))) → Prints p f
+word_prints p f w text word = record {
+  prints = λ old new h good.
+      let s = word old new h in
+      let b = behind s.0 old new s.1 good in
+      let g = s.2 b.0 in
+      (b.1, record { words = w ∷ []; whole = g.1; spell = (g.0, tt); text = λ out. text out ∙ one_text w out });
 }
 
+pub is_prints : (kind : Kind) → has_spelling kind ≡ true → Prints (Is kind) (kind_onto kind)
+is_prints kind some =
+    let w = one kind (spelling kind) 0 in
+    word_prints (Is kind) (kind_onto kind) w (λ out. refl) (λ old new h. (h.0, h.1, λ _. (spelling_is kind some, λ rest. (w, refl, refl))))
+
 pub is_at_prints : (kind : Kind) (at : ℕ) → has_spelling kind ≡ true → Prints (IsAt kind at) (kind_onto kind)
-is_at_prints kind at some = record {
-  prints = λ old new h good. (
-    (behind h.0 old new h.1 good).1,
-    record { words = one kind (spelling kind) at ∷ []; whole = λ rest. (one kind (spelling kind) at, refl, refl, refl); spell = (spelling_is kind some, tt); text = λ out. one_text (one kind (spelling kind) at) out },
-  );
-}
+is_at_prints kind at some =
+    let w = one kind (spelling kind) at in
+    word_prints (IsAt kind at) (kind_onto kind) w (λ out. refl) (λ old new h. (h.0, h.1, λ _. (spelling_is kind some, λ rest. (w, refl, refl, refl))))
 
 seq_written : (p q : Phrase) (f g : Onto) → Written p f → Written q g → Written (p ⨾ q) (f ▷ g)
 seq_written p q f g a b = record {
