@@ -55,7 +55,7 @@ fn task_unit(task: &TaskUnit, scope: &mut Scope, faults: &mut Faults) -> Result<
     ensures scope { OnOk result (scope.new ≡ declaring_task (task_view task.now) scope.old) }
 {
     hide(&task.name, scope)?;
-    aspects(&task.aspects, scope, faults);
+    aspects(task.aspects.as_slice(), scope, faults);
     definition(&task.definition, scope, faults);
     task_rules(task, faults);
     scope.declare(&task.name, Some(Declared::Task(task.name.at)))
@@ -131,12 +131,7 @@ pub(crate) fn declaration<'a>(
             stray_pragma(pragma, faults);
             Ok(())
         }
-        Declaration::Subtype {
-            at: _,
-            name: declared,
-            mark,
-            range: part,
-        } => subtype(declared, mark, part, scope, faults),
+        Declaration::Subtype { name: declared, mark, range: part, .. } => subtype(declared, mark, part, scope, faults),
         Declaration::Protected(unit) => protected_unit(unit, scope, faults),
         Declaration::Task(task) => task_unit(task, scope, faults),
         Declaration::Variable { names, mark } => variables(names, mark, scope, faults),

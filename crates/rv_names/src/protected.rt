@@ -82,58 +82,29 @@ fn profile(
     Ok(())
 }
 
-fn function(
+// An operation of this kind and name, with the mark of a function's result and the aspects of a procedure.
+fn declared(
+    kind: OperationKind,
     declared: &Identifier,
     list: &Vec<Parameter>,
-    mark: &Name,
+    mark: Option<&Name>,
+    given: &[Aspect],
     scope: &mut Scope,
     faults: &mut Faults,
 ) -> Result<(), AllocError>
     ensures faults { OnOk result (faults.new
         ≡ (parameters_uses judged (entered scope.old) (map parameter_view list.now.items)
-        ▷ judged (with_parameters (map parameter_view list.now.items) (entered scope.old)) Wanted.Subtype (name_view mark.now)) faults.old) }
+        ▷ maybe_uses (judged (with_parameters (map parameter_view list.now.items) (entered scope.old)) Wanted.Subtype)
+        (maybe (λ n. name_view n.now) mark.entry)
+        ▷ aspects_uses judged (hiding (identifier_view declared.now) scope.old) (map aspect_view given.now)) faults.old) }
     ensures scope { OnOk result (scope.new
-        ≡ declaring_operation OperationKind.Function (identifier_view declared.now) (hiding (identifier_view declared.now) scope.old)) }
+        ≡ declaring_operation kind (identifier_view declared.now) (hiding (identifier_view declared.now) scope.old)) }
 {
-    profile(list, Some(mark), scope, faults)?;
-    hide(declared, scope)?;
-    declare_operation(declared, OperationKind::Function, scope)
-}
-
-fn procedure(
-    declared: &Identifier,
-    list: &Vec<Parameter>,
-    given: &Vec<Aspect>,
-    scope: &mut Scope,
-    faults: &mut Faults,
-) -> Result<(), AllocError>
-    ensures faults { OnOk result (faults.new
-        ≡ (parameters_uses judged (entered scope.old) (map parameter_view list.now.items)
-        ▷ aspects_uses judged (hiding (identifier_view declared.now) scope.old) (map aspect_view given.now.items)) faults.old) }
-    ensures scope { OnOk result (scope.new
-        ≡ declaring_operation OperationKind.Procedure (identifier_view declared.now) (hiding (identifier_view declared.now) scope.old)) }
-{
-    profile(list, None, scope, faults)?;
+    profile(list, mark, scope, faults)?;
     hide(declared, scope)?;
     aspects(given, scope, faults);
     procedure_rules(list, given, faults);
-    declare_operation(declared, OperationKind::Procedure, scope)
-}
-
-fn entry(
-    declared: &Identifier,
-    list: &Vec<Parameter>,
-    scope: &mut Scope,
-    faults: &mut Faults,
-) -> Result<(), AllocError>
-    ensures faults { OnOk result (faults.new
-        ≡ parameters_uses judged (entered scope.old) (map parameter_view list.now.items) faults.old) }
-    ensures scope { OnOk result (scope.new
-        ≡ declaring_operation OperationKind.Entry (identifier_view declared.now) (hiding (identifier_view declared.now) scope.old)) }
-{
-    profile(list, None, scope, faults)?;
-    hide(declared, scope)?;
-    declare_operation(declared, OperationKind::Entry, scope)
+    declare_operation(declared, kind, scope)
 }
 
 fn operation(
@@ -149,19 +120,15 @@ fn operation(
             pragma(one, scope, faults);
             Ok(())
         }
-        OperationDeclaration::Function {
-            at: _,
-            name: declared,
-            parameters: list,
-            mark,
-        } => function(declared, list, mark, scope, faults),
-        OperationDeclaration::Procedure {
-            at: _,
-            name: declared,
-            parameters: list,
-            aspects: given,
-        } => procedure(declared, list, given, scope, faults),
-        OperationDeclaration::Entry(one) => entry(&one.name, &one.parameters, scope, faults),
+        OperationDeclaration::Function { name, parameters: list, mark, .. } => {
+            declared(OperationKind::Function, name, list, Some(mark), &[], scope, faults)
+        }
+        OperationDeclaration::Procedure { name, parameters: list, aspects, .. } => {
+            declared(OperationKind::Procedure, name, list, None, aspects.as_slice(), scope, faults)
+        }
+        OperationDeclaration::Entry(one) => {
+            declared(OperationKind::Entry, &one.name, &one.parameters, None, &[], scope, faults)
+        }
     }
 }
 
@@ -253,7 +220,7 @@ fn parts<'a>(
     let around = scope.current();
     scope.set_current(Some(unit.name.at));
     faults.set_unit(Some(unit));
-    aspects(&unit.aspects, scope, faults);
+    aspects(unit.aspects.as_slice(), scope, faults);
     protected_rules(unit, faults);
     members(unit, scope, faults)?;
     faults.set_unit(None);
