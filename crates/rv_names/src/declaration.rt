@@ -131,7 +131,12 @@ pub(crate) fn declaration<'a>(
             stray_pragma(pragma, faults);
             Ok(())
         }
-        Declaration::Subtype { name: declared, mark, range: part, .. } => subtype(declared, mark, part, scope, faults),
+        Declaration::Subtype {
+            name: declared,
+            mark,
+            range: part,
+            ..
+        } => subtype(declared, mark, part, scope, faults),
         Declaration::Protected(unit) => protected_unit(unit, scope, faults),
         Declaration::Task(task) => task_unit(task, scope, faults),
         Declaration::Variable { names, mark } => variables(names, mark, scope, faults),

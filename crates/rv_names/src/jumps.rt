@@ -34,7 +34,12 @@ fn statement_fault(statement: &Statement, in_loop: bool, in_handler: bool) -> Op
         Statement::Exit(at, _) => fault_unless(in_loop, *at),
         Statement::Raise(at, exception) => fault_unless(exception.is_some() || in_handler, *at),
         Statement::Loop { statements, .. } => statements_fault(statements, true, in_handler),
-        Statement::If { statements, elsif_parts, else_statements, .. } => {
+        Statement::If {
+            statements,
+            elsif_parts,
+            else_statements,
+            ..
+        } => {
             if let Some(fault) = statements_fault(statements, in_loop, in_handler) {
                 return Some(fault);
             }
@@ -43,7 +48,11 @@ fn statement_fault(statement: &Statement, in_loop: bool, in_handler: bool) -> Op
             }
             statements_fault(else_statements, in_loop, in_handler)
         }
-        Statement::Case { alternatives, .. } => alternatives_fault(alternatives, in_loop, in_handler),
+        Statement::Case { alternatives, .. } => alternatives_fault(
+            alternatives,
+            in_loop,
+            in_handler,
+        ),
         _ => None,
     }
 }

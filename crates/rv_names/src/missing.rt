@@ -50,9 +50,8 @@ fn block_declares(block: &Block, name: &str) -> bool {
 // Whether a library package has a name, or declares it.
 fn library_declares(name: &str) -> bool {
     Library::root(name).is_some()
-        || LIBRARIES
-            .iter()
-            .any(|library| library.declaration(name).is_some() || library.child(name).is_some())
+        || LIBRARIES.iter().any(|library| library.declaration(name).is_some()
+            || library.child(name).is_some())
 }
 
 fn has_operation(operations: &[Operation], name: &str) -> bool {

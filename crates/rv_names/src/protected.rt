@@ -120,14 +120,48 @@ fn operation(
             pragma(one, scope, faults);
             Ok(())
         }
-        OperationDeclaration::Function { name, parameters: list, mark, .. } => {
-            declared(OperationKind::Function, name, list, Some(mark), &[], scope, faults)
+        OperationDeclaration::Function {
+            name,
+            parameters: list,
+            mark,
+            ..
+        } => {
+            declared(
+                OperationKind::Function,
+                name,
+                list,
+                Some(mark),
+                &[],
+                scope,
+                faults,
+            )
         }
-        OperationDeclaration::Procedure { name, parameters: list, aspects, .. } => {
-            declared(OperationKind::Procedure, name, list, None, aspects.as_slice(), scope, faults)
+        OperationDeclaration::Procedure {
+            name,
+            parameters: list,
+            aspects,
+            ..
+        } => {
+            declared(
+                OperationKind::Procedure,
+                name,
+                list,
+                None,
+                aspects.as_slice(),
+                scope,
+                faults,
+            )
         }
         OperationDeclaration::Entry(one) => {
-            declared(OperationKind::Entry, &one.name, &one.parameters, None, &[], scope, faults)
+            declared(
+                OperationKind::Entry,
+                &one.name,
+                &one.parameters,
+                None,
+                &[],
+                scope,
+                faults,
+            )
         }
     }
 }

@@ -92,17 +92,31 @@ fn statement(
             name(called, Wanted::Procedure, scope, faults);
             expressions(arguments, scope, faults);
         }
-        Statement::If { condition, statements: chosen, elsif_parts: parts, else_statements: otherwise, .. } => {
+        Statement::If {
+            condition,
+            statements: chosen,
+            elsif_parts: parts,
+            else_statements: otherwise,
+            ..
+        } => {
             value(condition, scope, faults);
             statements(chosen, scope, faults)?;
             elsif_parts(parts, scope, faults)?;
             statements(otherwise, scope, faults)?;
         }
-        Statement::Case { selector, alternatives: choices, .. } => {
+        Statement::Case {
+            selector,
+            alternatives: choices,
+            ..
+        } => {
             value(selector, scope, faults);
             alternatives(choices, scope, faults)?;
         }
-        Statement::Loop { iteration, statements: body, .. } => turns(iteration, body, scope, faults)?,
+        Statement::Loop {
+            iteration,
+            statements: body,
+            ..
+        } => turns(iteration, body, scope, faults)?,
         Statement::Exit(_, condition) => maybe_value(condition, scope, faults),
         Statement::Return(_, returned) => maybe_value(returned, scope, faults),
         Statement::Raise(_, exception) => maybe_name(exception, Wanted::Exception, scope, faults),
@@ -132,7 +146,11 @@ fn turns(
             value(condition, scope, faults);
             statements(body, scope, faults)
         }
-        Iteration::For { parameter, bounds: over, .. } => {
+        Iteration::For {
+            parameter,
+            bounds: over,
+            ..
+        } => {
             scope.enter()?;
             hide(parameter, scope)?;
             bounds(over, scope, faults);

@@ -88,17 +88,31 @@ fn statement(statement: &Statement, first: &mut First)
         Statement::Null(_) => {}
         Statement::Assignment(_, value) => value.judge(first),
         Statement::Call(_, arguments) => expressions(arguments, first),
-        Statement::If { condition, statements: chosen, elsif_parts: parts, else_statements: otherwise, .. } => {
+        Statement::If {
+            condition,
+            statements: chosen,
+            elsif_parts: parts,
+            else_statements: otherwise,
+            ..
+        } => {
             condition.judge(first);
             statements(chosen, first);
             elsif_parts(parts, first);
             statements(otherwise, first);
         }
-        Statement::Case { selector, alternatives: choices, .. } => {
+        Statement::Case {
+            selector,
+            alternatives: choices,
+            ..
+        } => {
             selector.judge(first);
             alternatives(choices, first);
         }
-        Statement::Loop { iteration: turns, statements: body, .. } => {
+        Statement::Loop {
+            iteration: turns,
+            statements: body,
+            ..
+        } => {
             iteration(turns, first);
             statements(body, first);
         }
@@ -108,7 +122,10 @@ fn statement(statement: &Statement, first: &mut First)
         Statement::Delay { at, is_until, time } => delay(*at, *is_until, time, first),
         Statement::Abort(at, _) => first.note(Restriction::NoAbortStatements, *at),
         Statement::Requeue { at, .. } => first.note(Restriction::NoRequeueStatements, *at),
-        Statement::Accept { statements: body, .. } => statements(body, first),
+        Statement::Accept {
+            statements: body,
+            ..
+        } => statements(body, first),
         Statement::Select {
             at,
             alternatives: choices,

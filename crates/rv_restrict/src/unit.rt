@@ -21,8 +21,8 @@ use crate::mark::names_protected_type;
 use crate::statement::statements;
 use crate::violation::{Restriction, Violation};
 use rv_tree::{
-    Block, BodyItem, ContextItem, Expression, Handler, Local, Name, OperationBody,
-    Parameter, ProtectedBody, UnitTree,
+    Block, BodyItem, ContextItem, Expression, Handler, Local, Name, OperationBody, Parameter,
+    ProtectedBody, UnitTree,
 };
 
 // The mark of an object of a block, which isn't looked up behind a violation.
@@ -60,7 +60,12 @@ fn local(
     ensures { first.new ≡ local_noted earlier (unit_view tree.now) unit.now (map parameter_view parameters.now) (map local_view locals.now.items) (local_view local.now) first.old }
 {
     match local {
-        Local::Object { mark, range, value, .. } => {
+        Local::Object {
+            mark,
+            range,
+            value,
+            ..
+        } => {
             local_mark(tree, unit, parameters, locals, local.place(), mark, first);
             first.maybe(range);
             first.maybe(value);
