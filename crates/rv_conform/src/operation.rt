@@ -9,11 +9,10 @@ ghost use Rattle.rv_scope.specs.DeclarationUses.{with_parameters};
 ghost use Rattle.rv_conform.specs.Profiles.{declared_head as head_of_declaration, body_head as head_of_body, mark_at, formal_of, parameter_formals, formals_in, operation_in};
 
 use crate::mark::Mark;
-use crate::statics::Statics;
 use rv_scope::declare::{Form, declare_all};
 use rv_scope::declared::OperationKind;
 use rv_scope::members::hide_all;
-use rv_scope::scope::Scope;
+use rv_scope::{Scope, Table};
 use rv_tree::body::OperationBody;
 use rv_tree::declaration::{Mode, OperationDeclaration, Parameter};
 use rv_tree::name::{Identifier, Name};
@@ -195,7 +194,7 @@ fn push_formals<'a>(
 fn parameter<'a>(
     part: &'a Parameter,
     scope: &mut Scope,
-    statics: &Statics,
+    statics: &Table,
     done: &mut Vec<Formal<'a>>,
 ) -> Result<(), AllocError>
     ensures done { OnOk result (done.new.items ≡ done.old.items ++ parameter_formals statics.now scope.old (parameter_view part.now)) }
@@ -214,7 +213,7 @@ fn parameter<'a>(
 fn formals<'a>(
     list: &'a Vec<Parameter>,
     scope: &mut Scope,
-    statics: &Statics,
+    statics: &Table,
 ) -> Result<Vec<Formal<'a>>, AllocError>
     ensures value { IfOk result (λ all. all.items ≡ formals_in statics.now scope.old (map parameter_view list.now.items)) }
     ensures scope { OnOk result (scope.new ≡ with_parameters (map parameter_view list.now.items) scope.old) }
@@ -228,7 +227,7 @@ fn formals<'a>(
 }
 
 // What the mark of a result denotes, if there is one.
-fn result_mark(mark: Option<&Name>, scope: &Scope, statics: &Statics) -> Option<Mark>
+fn result_mark(mark: Option<&Name>, scope: &Scope, statics: &Table) -> Option<Mark>
     ensures { result ≡ maybe (mark_at statics.now scope.now) (maybe (λ n. name_view n.now) mark.entry) }
 {
     match mark {
@@ -241,7 +240,7 @@ fn result_mark(mark: Option<&Name>, scope: &Scope, statics: &Statics) -> Option<
 pub(crate) fn profiled<'a>(
     head: &Head<'a>,
     scope: &mut Scope,
-    statics: &Statics,
+    statics: &Table,
 ) -> Result<Operation<'a>, AllocError>
     ensures value { IfOk result (λ o. o ≡ operation_in statics.now scope.old head.now) }
     ensures only { OnOk result (OnlyDeclares scope.old scope.new) }

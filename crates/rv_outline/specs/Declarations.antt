@@ -20,9 +20,9 @@ use Rattle.rv_scope.specs.DeclarationUses.{with_parameters, with_declaration, wi
 use Rattle.rv_scope.specs.UnitUses.{in_protected_unit, unit_of_body, with_body_item, package_scope, protected_units}
 use Rattle.rv_outline.specs.declared.outline.ObjectType.{ObjectType}
 use Rattle.rv_outline.specs.declared.outline.ObjectType.TheVariants as sort
-use Rattle.rv_outline.specs.Known.{means}
+use Rattle.rv_scope.specs.Statics.{means}
 use Rattle.rv_outline.specs.Drafts.{Draft, empty_draft, noted, knowing, knowing_all, adding_objects, having_kind}
-use Rattle.rv_outline.specs.Subtypes.{subtype_known, constant_known}
+use Rattle.rv_scope.specs.Subtypes.{subtype_known, constant_known}
 use Rattle.rv_outline.specs.Barriers.{barrier_of}
 use Rattle.rv_outline.specs.ProtectedUnits.{protected_unit_outlined, task_outlined}
 

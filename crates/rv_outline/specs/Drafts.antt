@@ -4,12 +4,12 @@ use Rattle.rv_tree.specs.Names.{Identifier}
 use Rattle.rv_shape.specs.declared.kind.Component.{Component}
 use Rattle.rv_shape.specs.declared.kind.Kind.{Kind}
 use Rattle.rv_shape.specs.Objects.{OperationShape, TaskShape}
-use Rattle.rv_outline.specs.ByPlace.{ByPlace, with_place}
-use Rattle.rv_outline.specs.declared.known.Known.{Known}
-use Rattle.rv_outline.specs.declared.known.Known.TheVariants as k
+use Rattle.rv_scope.specs.ByPlace.{ByPlace, with_place}
+use Rattle.rv_scope.specs.declared.known.Known.{Known}
+use Rattle.rv_scope.specs.declared.known.Known.TheVariants as k
 use Rattle.rv_outline.specs.declared.outline.ObjectType.{ObjectType}
 use Rattle.rv_outline.specs.declared.draft.OperationDraft.{OperationDraft}
-use Rattle.rv_outline.specs.Known.{Table, default_priority}
+use Rattle.rv_scope.specs.Statics.{Table, default_priority}
 
 -- the kinds that aspects, pragmas and bodies give to operations, by the places of their identifiers: those of handlers
 -- (C.3.1), and those of entries, with their barriers (9.5.2)

@@ -17,7 +17,7 @@ use Rattle.rv_scope.specs.Scope.{ScopeView, declaring_all, hiding_all, entered}
 use Rattle.rv_scope.specs.DeclarationUses.{with_parameters}
 use Rattle.rv_static.specs.Meanings.{range_in}
 use Rattle.rv_static.specs.Static.{◌>>=◌}
-use Rattle.rv_outline.specs.Known.{Table, means}
+use Rattle.rv_scope.specs.Statics.{Table, means}
 
 -- how a parameter is passed; a mode that isn't written is `in`
 abbrev pub passing : Mode → ParameterMode

@@ -8,9 +8,9 @@ use Rattle.rv_scope.specs.Scope.{ScopeView, hiding, hiding_all, entered, within_
 use Rattle.rv_scope.specs.DeclarationUses.{is_priority, is_attachment, with_operation, with_operations, with_element, naming_unit}
 use Rattle.rv_outline.specs.declared.outline.ObjectType.TheVariants as sort
 use Rattle.rv_outline.specs.declared.handler.Attachment.{Attachment}
-use Rattle.rv_outline.specs.Known.{means}
+use Rattle.rv_scope.specs.Statics.{means}
 use Rattle.rv_outline.specs.Drafts.{Draft, noted, started, giving_priority, adding_components, adding_operation, adding_object, having_kind, finished, finished_task}
-use Rattle.rv_outline.specs.Subtypes.{component_of}
+use Rattle.rv_scope.specs.Subtypes.{component_of}
 use Rattle.rv_outline.specs.Profiles.{function_of, procedure_of, entry_of}
 use Rattle.rv_outline.specs.Priorities.{aspect_priority, pragma_priority}
 use Rattle.rv_outline.specs.Handlers.{aspect_line, attachment}

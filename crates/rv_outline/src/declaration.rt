@@ -7,9 +7,9 @@ ghost use Rattle.rv_tree.specs.DeclarationView.{maybe, declaration_view};
 ghost use Rattle.rv_scope.specs.Scope.{declaring, declaring_all, hiding, hiding_all};
 ghost use Rattle.rv_scope.specs.Visible.{visible};
 ghost use Rattle.rv_scope.specs.DeclarationUses.{object_form as form_of_objects, with_declaration, with_declarations};
-ghost use Rattle.rv_outline.specs.Known.{means};
+ghost use Rattle.rv_scope.specs.Statics.{means};
 ghost use Rattle.rv_outline.specs.Drafts.{noted, knowing, knowing_all, adding_objects};
-ghost use Rattle.rv_outline.specs.Subtypes.{subtype_known, constant_known};
+ghost use Rattle.rv_scope.specs.Subtypes.{subtype_known, constant_known};
 ghost use Rattle.rv_outline.specs.Declarations.{object_type as type_of_objects, declaration_outlined, declarations_outlined};
 
 use crate::draft::Draft;

@@ -6,9 +6,9 @@ ghost use Rattle.rv_tree.specs.ExpressionView.{expression_view, range_view};
 ghost use Rattle.rv_tree.specs.DeclarationView.{maybe, aspect_view, parameter_view, operation_view, element_view, protected_unit_view};
 ghost use Rattle.rv_scope.specs.Scope.{OnlyDeclares, declaring_all, hiding_all, hiding, entered, within_unit};
 ghost use Rattle.rv_scope.specs.DeclarationUses.{declaring_operation, with_operation, with_operations, with_element, with_elements, declaring_protected_unit};
-ghost use Rattle.rv_outline.specs.Known.{means};
+ghost use Rattle.rv_scope.specs.Statics.{means};
 ghost use Rattle.rv_outline.specs.Drafts.{noted, started, finished, adding_operation, adding_found, adding_components};
-ghost use Rattle.rv_outline.specs.Subtypes.{component_of};
+ghost use Rattle.rv_scope.specs.Subtypes.{component_of};
 ghost use Rattle.rv_outline.specs.Profiles.{function_of, procedure_of, entry_of};
 ghost use Rattle.rv_outline.specs.ProtectedUnits.{procedure_aspects_outlined, operation_outlined, operations_outlined, element_outlined, elements_outlined, private_outlined, parts_outlined, single_outlined, protected_unit_outlined};
 

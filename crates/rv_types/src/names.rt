@@ -8,7 +8,7 @@ use crate::denoted::{Denoted, SuspensionOperation};
 use crate::point::Point;
 use rv_code::Callee;
 use rv_event::entry::Exception;
-use rv_outline::known::Known;
+use rv_scope::known::Known;
 use rv_scope::{Declared, OperationKind, Predefined};
 use rv_shape::catalogue::Catalogue;
 use rv_shape::kind::{Kind, Parameter};

@@ -1,14 +1,14 @@
 //! Points of a text, and what names mean there in static expressions.
 
 ghost use Rattle.std.specs.Prelude.{◌≡◌};
-ghost use Rattle.rv_outline.specs.Known.{known_meaning as meaning_of_known, meaning_of, means as means_at};
+ghost use Rattle.rv_scope.specs.Statics.{known_meaning as meaning_of_known, meaning_of, means as means_at};
 
+use crate::declared::Declared;
 use crate::known::{Known, Table};
-use rv_scope::library_meaning::predefined_meaning;
-pub use rv_scope::library_meaning::whole_range;
-use rv_scope::{Declared, Scope};
+use crate::library_meaning::predefined_meaning;
+use crate::scope::Scope;
 use rv_static::{Meaning, Meanings};
-use rv_tree::Name;
+use rv_tree::name::Name;
 
 /// A point of a text: what is declared there, and what is known of it.
 #[derive(Clone, Copy)]

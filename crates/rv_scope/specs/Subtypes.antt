@@ -1,17 +1,17 @@
--- What subtypes, constants and components mean (ISO/IEC 8652:2012, 3.2.2, 3.3.1, 3.3.2, 9.4).
-use Rattle.std.specs.Prelude.{Option, Some, None}
-use Rattle.rv_tree.specs.Names.{Name}
+-- What is known of subtypes and constants (ISO/IEC 8652:2012, 3.2.2, 3.3.1, 3.3.2).
+use Rattle.std.specs.Prelude.{List, Option, Some, None}
+use Rattle.rv_tree.specs.Names.{Identifier, Name}
 use Rattle.rv_tree.specs.Expressions.{Expression, RangeConstraint}
 use Rattle.rv_shape.specs.declared.kind.ValueType.TheVariants.{Integer}
 use Rattle.rv_shape.specs.declared.kind.Range.{Range}
-use Rattle.rv_shape.specs.declared.kind.Component.{Component}
 use Rattle.rv_static.specs.declared.meaning.Meaning.{Meaning}
 use Rattle.rv_static.specs.Static.{◌>>=◌}
 use Rattle.rv_static.specs.Meanings.{range_in}
-use Rattle.rv_static.specs.Ranges.{narrowed, value_in, start_of}
-use Rattle.rv_outline.specs.declared.known.Known.{Known}
-use Rattle.rv_outline.specs.declared.known.Known.TheVariants as k
-use Rattle.rv_outline.specs.Known.{whole_range}
+use Rattle.rv_static.specs.Ranges.{narrowed, value_in}
+use Rattle.rv_scope.specs.declared.known.Known.{Known}
+use Rattle.rv_scope.specs.declared.known.Known.TheVariants as k
+use Rattle.rv_scope.specs.ByPlace.{with_places}
+use Rattle.rv_scope.specs.Statics.{Table, whole_range}
 
 -- the range of a mark with a range constraint, if one is written
 abbrev pub subtype_of : (Name → Meaning) → Name → Option RangeConstraint → Option Range
@@ -31,7 +31,7 @@ abbrev pub constant_known : (Name → Meaning) → Option Name → Expression �
 constant_known means mark initial =
     constant_range means mark >>= λ range. value_in means range initial >>= λ value. Some (k.Constant range value)
 
--- a component: its subtype, and what it starts at
-abbrev pub component_of : (Name → Meaning) → Name → Option RangeConstraint → Option Expression → Option Component
-component_of means mark range initial =
-    subtype_of means mark range >>= λ part. start_of means part initial >>= λ start. Some (record { range = part; start = start })
+-- what is known, and of these identifiers this too, if it is something
+abbrev pub knowing_if : Option Known → List Identifier → Table → Table
+knowing_if None names known = known
+knowing_if (Some one) names known = with_places known names one

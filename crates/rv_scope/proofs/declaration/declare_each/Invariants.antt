@@ -1,7 +1,7 @@
 use Rattle.std.proofs.Common.{◌≡◌, drop, map}
 use Rattle.rv_tree.specs.DeclarationView.{declaration_view}
 use Rattle.rv_scope.specs.DeclarationUses.{with_declarations}
-use Rattle.rv_types.proofs.declarations.declare_all_of.Given as goal
+use Rattle.rv_scope.proofs.declaration.declare_each.Given as goal
 
 abbrev pub invariant-loop-one : goal.invariant-loop-one
 invariant-loop-one l =

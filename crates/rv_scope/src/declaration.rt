@@ -1,4 +1,4 @@
-//! What the declarations of the package declare, as far as its bodies see it.
+//! What the declarations of a package declare, of whose parts nothing else is asked.
 
 ghost use Rattle.std.specs.Prelude.{◌≡◌, OnOk, Some, map};
 ghost use Rattle.rv_tree.specs.NameView.{identifier_view, identifiers_view, name_view};
@@ -7,10 +7,11 @@ ghost use Rattle.rv_scope.specs.Scope.{declaring_all, hiding, hiding_all, with_m
 ghost use Rattle.rv_scope.specs.Visible.{visible};
 ghost use Rattle.rv_scope.specs.DeclarationUses.{declaring_protected_unit, object_form as form_of_objects, with_declaration, with_declarations};
 
-use rv_scope::declare::Form;
-use rv_scope::members::{declare_names, declare_variables, hide, hide_all};
-use rv_scope::{Declared, Scope};
-use rv_tree::declaration::{Declaration, ProtectedUnit};
+use crate::declare::Form;
+use crate::declared::Declared;
+use crate::members::{declare_identifier, declare_names, declare_variables, hide_all};
+use crate::scope::Scope;
+use rv_tree::declaration::Declaration;
 use rv_tree::name::{Identifier, Name};
 use std::alloc::AllocError;
 
@@ -24,24 +25,8 @@ fn variable(names: &Vec<Identifier>, mark: &Name, scope: &mut Scope) -> Result<(
     Ok(())
 }
 
-// An identifier, and what it denotes behind its declaration.
-fn identifier(declared: &Identifier, meaning: Declared, scope: &mut Scope) -> Result<(), AllocError>
-    ensures { OnOk result (scope.new ≡ with_meaning (identifier_view declared.now) (Some meaning) (hiding (identifier_view declared.now) scope.old)) }
-{
-    hide(declared, scope)?;
-    scope.declare(declared, Some(meaning))
-}
-
-// A protected unit, with what others see of it.
-fn protected_unit(unit: &ProtectedUnit, scope: &mut Scope) -> Result<(), AllocError>
-    ensures { OnOk result (scope.new ≡ declaring_protected_unit (protected_unit_view unit.now) scope.old) }
-{
-    hide(&unit.name, scope)?;
-    scope.declare_protected_unit(unit)
-}
-
 /// A declaration of the package.
-pub(crate) fn declare(one: &Declaration, scope: &mut Scope) -> Result<(), AllocError>
+pub fn declare(one: &Declaration, scope: &mut Scope) -> Result<(), AllocError>
     ensures { OnOk result (scope.new ≡ with_declaration (declaration_view one.now) scope.old) }
 {
     match one {
@@ -51,9 +36,13 @@ pub(crate) fn declare(one: &Declaration, scope: &mut Scope) -> Result<(), AllocE
             name,
             mark: _,
             range: _,
-        } => identifier(name, Declared::Subtype(name.at), scope),
-        Declaration::Protected(unit) => protected_unit(unit, scope),
-        Declaration::Task(task) => identifier(&task.name, Declared::Task(task.name.at), scope),
+        } => declare_identifier(name, Declared::Subtype(name.at), scope),
+        Declaration::Protected(unit) => scope.declare_protected_unit(unit),
+        Declaration::Task(task) => declare_identifier(
+            &task.name,
+            Declared::Task(task.name.at),
+            scope,
+        ),
         Declaration::Variable { names, mark } => variable(names, mark, scope),
         Declaration::Constant {
             names,
@@ -64,7 +53,7 @@ pub(crate) fn declare(one: &Declaration, scope: &mut Scope) -> Result<(), AllocE
 }
 
 /// The declarations of the package's specification.
-pub(crate) fn declare_all_of(list: &Vec<Declaration>, scope: &mut Scope) -> Result<(), AllocError>
+pub fn declare_each(list: &Vec<Declaration>, scope: &mut Scope) -> Result<(), AllocError>
     ensures { OnOk result (scope.new ≡ with_declarations (map declaration_view list.now.items) scope.old) }
 {
     for one in list {

@@ -3,7 +3,7 @@ use Rattle.rv_tree.specs.NameView.{identifiers_view, name_view}
 use Rattle.rv_scope.specs.Scope.{ScopeView, declaring_all}
 use Rattle.rv_scope.specs.Visible.{visible}
 use Rattle.rv_scope.specs.DeclarationUses.{object_form}
-use Rattle.rv_types.proofs.declarations.variable.Goals as goal
+use Rattle.rv_scope.proofs.declaration.variable.Goals as goal
 
 pub returns : goal.returns
 returns c =

@@ -1,5 +1,5 @@
 use Rattle.rv_scope.proofs.Scopes.{left, declares_on}
-use Rattle.rv_conform.proofs.declared.members.Goals as goal
+use Rattle.rv_conform.proofs.declared.unit_operations.Goals as goal
 
 pub returns-clause-scope : goal.returns-clause-scope
 returns-clause-scope c =

@@ -1,9 +1,11 @@
 //! What is found for identifiers, by their places.
 
 ghost use Rattle.std.specs.Prelude.{◌≡◌, [], OnOk};
-ghost use Rattle.rv_outline.specs.ByPlace.{at_place, with_place};
+ghost use Rattle.rv_tree.specs.NameView.{identifiers_view};
+ghost use Rattle.rv_scope.specs.ByPlace.{at_place, with_place, with_places};
 
 use indexmap::IndexMap;
+use rv_tree::name::Identifier;
 use std::alloc::{AllocError, Global};
 use std::marker::Model;
 
@@ -23,7 +25,7 @@ impl<T: Copy + Drop> Drop for ByPlace<T> {
 
 impl<T: Copy + Drop> Model for ByPlace<T> {
     ghost use Rattle.std.specs.Coded.{coded×, coded_ℕ, coded_list};
-    ghost use Rattle.rv_outline.specs.ByPlace.{ByPlace as ByPlaceView};
+    ghost use Rattle.rv_scope.specs.ByPlace.{ByPlace as ByPlaceView};
 
     ghost Value = { ByPlaceView T };
 
@@ -54,6 +56,15 @@ impl<T: Copy + Drop> ByPlace<T> {
         ensures { OnOk result (self.new ≡ with_place self.old at found) }
     {
         self.found.insert(at, found)?;
+        Ok(())
+    }
+    /// The same, of several.
+    pub fn note_all(&mut self, names: &Vec<Identifier>, found: T) -> Result<(), AllocError>
+        ensures { OnOk result (self.new ≡ with_places self.old (identifiers_view names.now.items) found) }
+    {
+        for declared in names {
+            self.note(declared.at, found)?;
+        }
         Ok(())
     }
 }
