@@ -9,9 +9,7 @@ ghost use Rattle.rv_shape.specs.Forms.{is_in as is_in_mode};
 ghost use Rattle.rv_static.specs.Told.{told_unless};
 ghost use Rattle.rv_outline.specs.Profiles.{passing as passing_of, for_each_name, parameter_of, parameters_onto, operation_of, function_in, function_of, callable_in, callable_of};
 
-use crate::known::Table;
-use crate::point::Point;
-use rv_scope::Scope;
+use rv_scope::{Point, Scope, Table};
 use rv_scope::declare::{Form, declare_all};
 use rv_scope::members::hide_all;
 use rv_shape::kind::{Kind, Parameter, ParameterMode};

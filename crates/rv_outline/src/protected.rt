@@ -14,13 +14,12 @@ ghost use Rattle.rv_outline.specs.ProtectedUnits.{procedure_aspects_outlined, op
 
 use crate::draft::Draft;
 use crate::outline::ObjectType;
-use crate::point::Point;
 use crate::pragma::{aspects, pragma, procedure_aspects};
 use crate::profile::{Heading, callable, function};
 use crate::subtype::component;
 use rv_scope::declare::{Form, declare_all};
 use rv_scope::members::{declare_operation, hide, hide_all};
-use rv_scope::{OperationKind, Scope};
+use rv_scope::{OperationKind, Point, Scope};
 use rv_shape::kind::{Barrier, Kind};
 use rv_shape::object::Operation;
 use rv_tree::{
