@@ -28,3 +28,5 @@ pub mod BodyPrint
 pub mod UnitPrint
 pub mod Printed
 pub mod Places
+pub mod Operations
+pub mod DeclaredNames

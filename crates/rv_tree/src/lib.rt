@@ -3,9 +3,11 @@
 
 pub mod body;
 pub mod declaration;
+mod declared_names;
 pub mod expression;
 pub mod laws;
 pub mod name;
+mod operation;
 mod place;
 mod print_body;
 mod print_declaration;
