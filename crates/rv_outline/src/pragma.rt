@@ -63,12 +63,12 @@ fn procedure_aspect(
 /// The aspects of a procedure.
 pub(crate) fn procedure_aspects(
     declared: &Identifier,
-    list: &Vec<Aspect>,
+    list: &[Aspect],
     scope: &Scope,
     draft: &mut Draft,
 ) -> Result<(), AllocError>
     ensures { OnOk result (draft.new
-        ≡ procedure_aspects_outlined scope.now (identifier_view declared.now) (map aspect_view list.now.items) draft.old) }
+        ≡ procedure_aspects_outlined scope.now (identifier_view declared.now) (map aspect_view list.now) draft.old) }
 {
     for one in list {
         procedure_aspect(declared, one, scope, draft)?;
