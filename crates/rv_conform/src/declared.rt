@@ -8,7 +8,7 @@ ghost use Rattle.rv_scope.specs.Heads.{declared_head as head_of_declaration};
 ghost use Rattle.rv_conform.specs.Profiles.{operation_in, outer_operations, operations_declared, element_declared, elements_declared, private_declared, unit_declared};
 
 use crate::operation::{Operation, profiled};
-use rv_scope::{Scope, Table, members};
+use rv_scope::{Head, Scope, Table, declared_head, members};
 use rv_tree::declaration::{OperationDeclaration, ProtectedElement, ProtectedUnit};
 use std::alloc::AllocError;
 
