@@ -27,9 +27,13 @@ pub record UnitBodies : Type 0 where
   pub objects : List (List Body)
   pub tasks : List (Option Body)
 
--- those of a unit that is a shape alone: none of its operations and tasks has a body (own)
+-- so many objects and tasks, none with a body (own)
+abbrev pub bodiless : ℕ → ℕ → UnitBodies
+bodiless objects tasks = record { objects = replicate objects []; tasks = replicate tasks None }
+
+-- those of a unit that is a shape alone (own)
 abbrev pub without_bodies : Shape → UnitBodies
-without_bodies shape = record { objects = replicate (length shape.objects) []; tasks = replicate (length shape.tasks) None }
+without_bodies shape = bodiless (length shape.objects) (length shape.tasks)
 
 -- how many nodes it has: a measure of what is left to run (own)
 abbrev pub declarations_size : List Declaration → ℕ

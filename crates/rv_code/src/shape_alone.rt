@@ -1,7 +1,7 @@
 //! Units that are a shape alone.
 
 ghost use Rattle.std.specs.Prelude.{◌≡◌, [], map, replicate, None, IfOk};
-ghost use Rattle.rv_code.specs.Bodies.{without_bodies};
+ghost use Rattle.rv_code.specs.Bodies.{bodiless, without_bodies};
 ghost use Rattle.rv_code.specs.BodyView.{object_view, maybe_body_view, unit_view};
 
 use crate::body::{Body, ObjectBodies, UnitBodies};
@@ -33,13 +33,20 @@ fn tasks_without(alloc: Global, count: usize) -> Result<Vec<Option<Body>>, Alloc
 }
 
 impl UnitBodies {
+    /// Those of so many objects and tasks, none of which has a body. Err where memory was refused.
+    pub fn empty(alloc: Global, objects: usize, tasks: usize) -> Result<UnitBodies, AllocError>
+        ensures { IfOk result (λ bodies. unit_view bodies ≡ bodiless objects tasks) }
+    {
+        let objects = objects_without(alloc, objects)?;
+        let tasks = tasks_without(alloc, tasks)?;
+        Ok(UnitBodies { objects, tasks })
+    }
+
     /// The bodies of a unit that is a shape alone: none of its operations and tasks has one. Err where memory was
     /// refused.
     pub fn of_shape(alloc: Global, shape: &UnitShape) -> Result<UnitBodies, AllocError>
         ensures { IfOk result (λ bodies. unit_view bodies ≡ without_bodies shape.now) }
     {
-        let objects = objects_without(alloc, shape.objects().len())?;
-        let tasks = tasks_without(alloc, shape.tasks().len())?;
-        Ok(UnitBodies { objects, tasks })
+        UnitBodies::empty(alloc, shape.objects().len(), shape.tasks().len())
     }
 }

@@ -2,9 +2,10 @@
 use Rattle.std.specs.Prelude.{ℕ, List, [], ◌∷◌, ◌++◌, Option, Some, None, map}
 use Rattle.rv_tree.specs.Names.{Identifier, Name}
 use Rattle.rv_tree.specs.declared.declaration.Mode.{Mode}
-use Rattle.rv_tree.specs.Declarations.{Parameter, OperationDeclaration, a_pragma, a_function, a_procedure, an_entry, ProtectedElement, an_operation, a_component, ProtectedUnit}
+use Rattle.rv_tree.specs.Declarations.{Parameter, OperationDeclaration, ProtectedElement, an_operation, a_component, ProtectedUnit}
 use Rattle.rv_tree.specs.DeclarationView.{maybe}
 use Rattle.rv_tree.specs.Bodies.{OperationBody, function_body, procedure_body, entry_body}
+use Rattle.rv_tree.specs.Operations.{operation_body_name, operation_body_parameters, operation_body_mark}
 use Rattle.rv_static.specs.Meanings.{range_in}
 use Rattle.rv_scope.specs.declared.declared.Declared.{Declared}
 use Rattle.rv_scope.specs.declared.declared.Declared.TheVariants as d
@@ -13,35 +14,25 @@ use Rattle.rv_scope.specs.declared.declared.OperationKind.TheVariants as kind
 use Rattle.rv_scope.specs.declared.declare.Form.TheVariants as f
 use Rattle.rv_scope.specs.Scope.{ScopeView, declaring_all, hiding_all, entered, in_body}
 use Rattle.rv_scope.specs.Visible.{visible}
+use Rattle.rv_scope.specs.Heads.{Head, declared_head}
 use Rattle.rv_scope.specs.Statics.{Table, meaning_of}
 use Rattle.rv_scope.specs.DeclarationUses.{with_parameters, with_operation, with_operations, with_element}
 use Rattle.rv_conform.specs.declared.mark.Mark.{Mark}
 
--- What the text says of an operation
+-- What a body says of its operation
 
--- an operation's name and kind, its parameters, and the mark of a function's result
-pub record Head : Type 0 where
-  pub name : Identifier
-  pub kind : OperationKind
-  pub parameters : List Parameter
-  pub mark : Option Name
-
-abbrev pub declared_head : OperationDeclaration → Option Head
-declared_head (a_pragma pragma) = None
-declared_head (a_function at i parameters mark) =
-    Some (record { name = i; kind = kind.Function; parameters = parameters; mark = Some mark })
-declared_head (a_procedure at i parameters aspects) =
-    Some (record { name = i; kind = kind.Procedure; parameters = parameters; mark = None })
-declared_head (an_entry entry) =
-    Some (record { name = entry.name; kind = kind.Entry; parameters = entry.parameters; mark = None })
+abbrev pub body_kind : OperationBody → OperationKind
+body_kind (function_body at i parameters mark block) = kind.Function
+body_kind (procedure_body at i parameters block) = kind.Procedure
+body_kind (entry_body at i parameters barrier block) = kind.Entry
 
 abbrev pub body_head : OperationBody → Head
-body_head (function_body at i parameters mark block) =
-    record { name = i; kind = kind.Function; parameters = parameters; mark = Some mark }
-body_head (procedure_body at i parameters block) =
-    record { name = i; kind = kind.Procedure; parameters = parameters; mark = None }
-body_head (entry_body at i parameters barrier block) =
-    record { name = i; kind = kind.Entry; parameters = parameters; mark = None }
+body_head body = record {
+  name = operation_body_name body;
+  kind = body_kind body;
+  parameters = operation_body_parameters body;
+  mark = operation_body_mark body;
+}
 
 -- What it means where it stands
 

@@ -4,10 +4,11 @@ ghost use Rattle.std.specs.Prelude.{◌≡◌, ◌++◌, [], map, OnOk, IfOk};
 ghost use Rattle.rv_tree.specs.DeclarationView.{maybe, operation_view, element_view, protected_unit_view};
 ghost use Rattle.rv_scope.specs.Scope.{OnlyDeclares, entered};
 ghost use Rattle.rv_scope.specs.DeclarationUses.{with_operations, with_element};
-ghost use Rattle.rv_conform.specs.Profiles.{declared_head as head_of_declaration, operation_in, outer_operations, operations_declared, element_declared, elements_declared, private_declared, unit_declared};
+ghost use Rattle.rv_scope.specs.Heads.{declared_head as head_of_declaration};
+ghost use Rattle.rv_conform.specs.Profiles.{operation_in, outer_operations, operations_declared, element_declared, elements_declared, private_declared, unit_declared};
 
-use crate::operation::{Head, Operation, declared_head, profiled};
-use rv_scope::{Scope, Table, members};
+use crate::operation::{Operation, profiled};
+use rv_scope::{Head, Scope, Table, declared_head, members};
 use rv_tree::declaration::{OperationDeclaration, ProtectedElement, ProtectedUnit};
 use std::alloc::AllocError;
 

@@ -9,6 +9,7 @@ ghost use Rattle.rv_conform.specs.Conforms.{package_at, operations_of, with_unit
 use crate::declared::unit_operations;
 use crate::operation::Operation;
 use rv_scope::context::package_scope;
+use rv_scope::declaration::declare as declare_only;
 use rv_scope::subtype::{declare_constants, declare_subtype};
 use rv_scope::{Scope, Table};
 use rv_shape::catalogue::Catalogue;
@@ -128,7 +129,7 @@ fn declare<'a>(
         } => declare_constants(names, mark, initial, scope, statics, &mut faults),
         Declaration::Protected(unit) => protected_unit(unit, scope, statics, units),
         Declaration::Pragma(_) | Declaration::Task(_) | Declaration::Variable { .. } => {
-            rv_scope::declaration::declare(one, scope)
+            declare_only(one, scope)
         }
     }
 }

@@ -5,6 +5,7 @@ pub mod Wanted
 pub mod ByPlace
 pub mod Statics
 pub mod Subtypes
+pub mod Heads
 pub mod ExpressionUses
 pub mod StatementUses
 pub mod DeclarationUses

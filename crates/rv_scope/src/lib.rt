@@ -17,6 +17,7 @@ pub mod declaration;
 pub mod declare;
 pub mod declared;
 pub mod find;
+pub mod head;
 pub mod known;
 pub mod library_meaning;
 pub mod members;
@@ -35,6 +36,7 @@ pub mod wanted;
 
 pub use by_place::ByPlace;
 pub use declared::{Declared, OperationKind};
+pub use head::{Head, declared_head};
 pub use known::{Known, Table};
 pub use point::Point;
 pub use predefined::{Library, Predefined};

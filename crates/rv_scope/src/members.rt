@@ -10,6 +10,7 @@ ghost use Rattle.rv_scope.specs.DeclarationUses.{declaring_operation, declared_o
 
 use crate::declare::{Form, declare_all};
 use crate::declared::{Declared, OperationKind};
+use crate::head::declared_head;
 use crate::scope::Scope;
 use crate::units::object_form;
 use rv_tree::declaration::{OperationDeclaration, Parameter, ProtectedElement, ProtectedUnit};
@@ -102,12 +103,8 @@ pub fn declare_operation(
 pub fn declared_operation(one: &OperationDeclaration) -> Option<(&Identifier, OperationKind)>
     ensures { option_map (λ named. (identifier_view named.0.now, named.1)) result ≡ operation_declared (operation_view one.now) }
 {
-    match one {
-        OperationDeclaration::Pragma(_) => None,
-        OperationDeclaration::Function { name, .. } => Some((name, OperationKind::Function)),
-        OperationDeclaration::Procedure { name, .. } => Some((name, OperationKind::Procedure)),
-        OperationDeclaration::Entry(entry) => Some((&entry.name, OperationKind::Entry)),
-    }
+    let head = declared_head(one)?;
+    Some((head.name, head.kind))
 }
 
 /// The identifier that an operation's declaration declares.
