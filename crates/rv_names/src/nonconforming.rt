@@ -10,6 +10,16 @@ use rv_shape::catalogue::Catalogue;
 use rv_tree::unit::UnitTree;
 use std::alloc::{AllocError, Global};
 
+// The fault of a body that doesn't conform, from the place of its name.
+fn fault(mismatch: Option<usize>) -> Option<NameFault>
+    ensures { result ≡ None → mismatch ≡ None }
+{
+    match mismatch {
+        None => None,
+        Some(at) => Some(NameFault::WrongKind(at)),
+    }
+}
+
 /// The fault of the first body of an operation that conforms to no declaration of its protected unit. Err where memory was
 /// refused.
 pub(crate) fn nonconforming(
@@ -19,5 +29,5 @@ pub(crate) fn nonconforming(
 ) -> Result<Option<NameFault>, AllocError>
     ensures { IfOk result (λ fault. fault ≡ None → bodies_conform catalogue.now (unit_view tree.now) ≡ true) }
 {
-    Ok(profile_mismatch(alloc, tree, catalogue)?.map(NameFault::WrongKind))
+    Ok(fault(profile_mismatch(alloc, tree, catalogue)?))
 }

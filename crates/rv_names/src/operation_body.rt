@@ -78,11 +78,13 @@ fn operation_body<'a>(
     ensures scope { OnOk result (scope.new ≡ scope.old) }
 {
     let declared = body.name();
+    let list = body.parameters();
+    let part = body.block();
     body_name(declared, body_wanted(body), scope, faults);
     let around = scope.enter_body(declared)?;
-    parameters(body.parameters(), scope, faults)?;
+    parameters(list, scope, faults)?;
     mark_or_barrier(body, scope, faults);
-    block(body.block(), scope, faults)?;
+    block(part, scope, faults)?;
     scope.leave_body(around);
     Ok(())
 }

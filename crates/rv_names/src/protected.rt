@@ -83,7 +83,7 @@ fn profile(
 }
 
 // An operation of this kind and name, with the mark of a function's result and the aspects of a procedure.
-fn declared(
+fn operation_declaration(
     kind: OperationKind,
     declared: &Identifier,
     list: &Vec<Parameter>,
@@ -126,7 +126,7 @@ fn operation(
             mark,
             ..
         } => {
-            declared(
+            operation_declaration(
                 OperationKind::Function,
                 name,
                 list,
@@ -142,7 +142,7 @@ fn operation(
             aspects,
             ..
         } => {
-            declared(
+            operation_declaration(
                 OperationKind::Procedure,
                 name,
                 list,
@@ -153,7 +153,7 @@ fn operation(
             )
         }
         OperationDeclaration::Entry(one) => {
-            declared(
+            operation_declaration(
                 OperationKind::Entry,
                 &one.name,
                 &one.parameters,
