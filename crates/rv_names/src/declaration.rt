@@ -55,7 +55,7 @@ fn task_unit(task: &TaskUnit, scope: &mut Scope, faults: &mut Faults) -> Result<
     ensures scope { OnOk result (scope.new ≡ declaring_task (task_view task.now) scope.old) }
 {
     hide(&task.name, scope)?;
-    aspects(task.aspects.as_slice(), scope, faults);
+    aspects(&task.aspects, scope, faults);
     definition(&task.definition, scope, faults);
     task_rules(task, faults);
     scope.declare(&task.name, Some(Declared::Task(task.name.at)))

@@ -41,8 +41,8 @@ pub(crate) fn pragma(pragma: &Pragma, scope: &Scope, faults: &mut Faults)
 }
 
 /// The aspects of a declaration.
-pub(crate) fn aspects(list: &[Aspect], scope: &Scope, faults: &mut Faults)
-    ensures { faults.new ≡ aspects_uses judged scope.now (map aspect_view list.now) faults.old }
+pub(crate) fn aspects(list: &Vec<Aspect>, scope: &Scope, faults: &mut Faults)
+    ensures { faults.new ≡ aspects_uses judged scope.now (map aspect_view list.now.items) faults.old }
 {
     for aspect in list {
         maybe_value(&aspect.value, scope, faults);
@@ -66,7 +66,7 @@ fn given(name: &Identifier, before: bool, faults: &mut Faults)
 }
 
 /// The aspects of a procedure: one without parameters may be attached to a line (C.3.1).
-pub(crate) fn procedure_rules(parameters: &Vec<Parameter>, list: &[Aspect], faults: &mut Faults)
+pub(crate) fn procedure_rules(parameters: &Vec<Parameter>, list: &Vec<Aspect>, faults: &mut Faults)
     ensures { faults.new ≡ faults.old }
 {
     let mut is_given = false;

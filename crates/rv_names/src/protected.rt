@@ -82,29 +82,58 @@ fn profile(
     Ok(())
 }
 
-// An operation of this kind and name, with the mark of a function's result and the aspects of a procedure.
-fn operation_declaration(
-    kind: OperationKind,
+fn function(
     declared: &Identifier,
     list: &Vec<Parameter>,
-    mark: Option<&Name>,
-    given: &[Aspect],
+    mark: &Name,
     scope: &mut Scope,
     faults: &mut Faults,
 ) -> Result<(), AllocError>
     ensures faults { OnOk result (faults.new
         ≡ (parameters_uses judged (entered scope.old) (map parameter_view list.now.items)
-        ▷ maybe_uses (judged (with_parameters (map parameter_view list.now.items) (entered scope.old)) Wanted.Subtype)
-        (maybe (λ n. name_view n.now) mark.entry)
-        ▷ aspects_uses judged (hiding (identifier_view declared.now) scope.old) (map aspect_view given.now)) faults.old) }
+        ▷ judged (with_parameters (map parameter_view list.now.items) (entered scope.old)) Wanted.Subtype (name_view mark.now)) faults.old) }
     ensures scope { OnOk result (scope.new
-        ≡ declaring_operation kind (identifier_view declared.now) (hiding (identifier_view declared.now) scope.old)) }
+        ≡ declaring_operation OperationKind.Function (identifier_view declared.now) (hiding (identifier_view declared.now) scope.old)) }
 {
-    profile(list, mark, scope, faults)?;
+    profile(list, Some(mark), scope, faults)?;
+    hide(declared, scope)?;
+    declare_operation(declared, OperationKind::Function, scope)
+}
+
+fn procedure(
+    declared: &Identifier,
+    list: &Vec<Parameter>,
+    given: &Vec<Aspect>,
+    scope: &mut Scope,
+    faults: &mut Faults,
+) -> Result<(), AllocError>
+    ensures faults { OnOk result (faults.new
+        ≡ (parameters_uses judged (entered scope.old) (map parameter_view list.now.items)
+        ▷ aspects_uses judged (hiding (identifier_view declared.now) scope.old) (map aspect_view given.now.items)) faults.old) }
+    ensures scope { OnOk result (scope.new
+        ≡ declaring_operation OperationKind.Procedure (identifier_view declared.now) (hiding (identifier_view declared.now) scope.old)) }
+{
+    profile(list, None, scope, faults)?;
     hide(declared, scope)?;
     aspects(given, scope, faults);
     procedure_rules(list, given, faults);
-    declare_operation(declared, kind, scope)
+    declare_operation(declared, OperationKind::Procedure, scope)
+}
+
+fn entry(
+    declared: &Identifier,
+    list: &Vec<Parameter>,
+    scope: &mut Scope,
+    faults: &mut Faults,
+) -> Result<(), AllocError>
+    ensures faults { OnOk result (faults.new
+        ≡ parameters_uses judged (entered scope.old) (map parameter_view list.now.items) faults.old) }
+    ensures scope { OnOk result (scope.new
+        ≡ declaring_operation OperationKind.Entry (identifier_view declared.now) (hiding (identifier_view declared.now) scope.old)) }
+{
+    profile(list, None, scope, faults)?;
+    hide(declared, scope)?;
+    declare_operation(declared, OperationKind::Entry, scope)
 }
 
 fn operation(
@@ -121,48 +150,18 @@ fn operation(
             Ok(())
         }
         OperationDeclaration::Function {
-            name,
+            name: declared,
             parameters: list,
             mark,
             ..
-        } => {
-            operation_declaration(
-                OperationKind::Function,
-                name,
-                list,
-                Some(mark),
-                &[],
-                scope,
-                faults,
-            )
-        }
+        } => function(declared, list, mark, scope, faults),
         OperationDeclaration::Procedure {
-            name,
+            name: declared,
             parameters: list,
-            aspects,
+            aspects: given,
             ..
-        } => {
-            operation_declaration(
-                OperationKind::Procedure,
-                name,
-                list,
-                None,
-                aspects.as_slice(),
-                scope,
-                faults,
-            )
-        }
-        OperationDeclaration::Entry(one) => {
-            operation_declaration(
-                OperationKind::Entry,
-                &one.name,
-                &one.parameters,
-                None,
-                &[],
-                scope,
-                faults,
-            )
-        }
+        } => procedure(declared, list, given, scope, faults),
+        OperationDeclaration::Entry(one) => entry(&one.name, &one.parameters, scope, faults),
     }
 }
 
@@ -251,7 +250,7 @@ fn parts<'a>(
     ensures scope { OnOk result (scope.new ≡ scope.old) }
 {
     faults.set_unit(Some(unit));
-    aspects(unit.aspects.as_slice(), scope, faults);
+    aspects(&unit.aspects, scope, faults);
     protected_rules(unit, faults);
     members(unit, scope, faults)?;
     faults.set_unit(None);

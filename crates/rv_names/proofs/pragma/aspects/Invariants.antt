@@ -6,5 +6,5 @@ use Rattle.rv_names.proofs.pragma.aspects.Given as goal
 
 abbrev pub invariant-loop-aspect : goal.invariant-loop-aspect
 invariant-loop-aspect l =
-    aspects_uses judged l.scope (map aspect_view (drop l.aspect-index l.list)) l.faults
-    ≡ aspects_uses judged l.scope (map aspect_view l.list) l.initial.faults
+    aspects_uses judged l.scope (map aspect_view (drop l.aspect-index l.aspect-items)) l.faults
+    ≡ aspects_uses judged l.scope (map aspect_view l.aspect-items) l.initial.faults
