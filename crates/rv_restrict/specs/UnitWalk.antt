@@ -1,6 +1,6 @@
 -- The violations of blocks, bodies and whole units, their own and those of their parts (ISO/IEC 8652:2012, D.7, D.13).
-use Rattle.std.specs.Prelude.{ℕ, not, List, [], ◌∷◌}
-use Rattle.rv_tree.specs.Names.{Identifier, Name}
+use Rattle.std.specs.Prelude.{ℕ, not, List, []}
+use Rattle.rv_tree.specs.Names.{Name}
 use Rattle.rv_tree.specs.Expressions.{Expression}
 use Rattle.rv_tree.specs.Declarations.{Parameter}
 use Rattle.rv_tree.specs.Bodies.{Local, an_object, local_pragma, local_protected_unit, local_task, Handler, Block, OperationBody, function_body, procedure_body, entry_body, ProtectedBody, TaskBody}
