@@ -7,7 +7,7 @@ use Rattle.rv_tree.specs.declared.declaration.Parameter as declared
 use Rattle.rv_tree.specs.DeclarationView.{parameter_view}
 use Rattle.rv_scope.specs.declared.declare.Form.TheVariants as f
 use Rattle.rv_scope.specs.Scope.{ScopeView, declaring_all, hiding_all}
-use Rattle.rv_scope.specs.Statics.{Statics}
+use Rattle.rv_scope.specs.Statics.{Table}
 use Rattle.rv_scope.specs.DeclarationUses.{with_parameters}
 use Rattle.rv_conform.specs.Profiles.{Formal, parameter_formals, formals_in}
 use Rattle.rv_conform.specs.Conforms.{formal_conforms, formals_conform}
@@ -49,7 +49,7 @@ one_left items i one is lt =
     ∙ ap (λ (n : ℕ). one ∷ drop n items) (sym (add-one i))
 
 -- a loop over parameters: what is left behind one more
-pub formals_on : (statics : Statics) (s s' : ScopeView) (done done' target : List Formal) (items : List declared.Parameter) (i : ℕ) (one : declared.Parameter) →
+pub formals_on : (statics : Table) (s s' : ScopeView) (done done' target : List Formal) (items : List declared.Parameter) (i : ℕ) (one : declared.Parameter) →
     one ≡ get_or items i one → i < length items →
     done' ≡ done ++ parameter_formals statics s (parameter_view one) →
     s' ≡ declaring_all f.Parameter (parameter_view one).names (hiding_all (parameter_view one).names s) →

@@ -5,7 +5,7 @@ use Rattle.std.specs.List.{list_any, list_all}
 use Rattle.rv_text.specs.Names.{is_same_name}
 use Rattle.rv_tree.specs.declared.declaration.Mode.{Mode}
 use Rattle.rv_tree.specs.declared.declaration.Mode.TheVariants as mode
-use Rattle.rv_tree.specs.Declarations.{ProtectedUnit, Declaration, package_pragma, a_subtype, a_protected_unit, a_task, a_variable, a_constant}
+use Rattle.rv_tree.specs.Declarations.{ProtectedUnit, Declaration, a_subtype, a_protected_unit, a_constant}
 use Rattle.rv_tree.specs.Bodies.{OperationBody, ProtectedBody}
 use Rattle.rv_tree.specs.Units.{BodyItem, body_declaration, body_protected, body_task, UnitTree}
 use Rattle.rv_shape.specs.Shape.{Shape}
@@ -13,32 +13,21 @@ use Rattle.rv_shape.specs.declared.kind.Range.{Range}
 use Rattle.rv_static.specs.Meanings.{same_type}
 use Rattle.rv_scope.specs.declared.declared.OperationKind.{OperationKind}
 use Rattle.rv_scope.specs.declared.declared.OperationKind.TheVariants as kind
-use Rattle.rv_scope.specs.Scope.{ScopeView, within_unit}
-use Rattle.rv_scope.specs.Statics.{Statics}
+use Rattle.rv_scope.specs.Scope.{ScopeView, hiding, hiding_all, within_unit}
+use Rattle.rv_scope.specs.Statics.{Table, means}
+use Rattle.rv_scope.specs.Subtypes.{subtype_known, constant_known, knowing_if}
 use Rattle.rv_scope.specs.DeclarationUses.{with_declaration, naming_unit}
 use Rattle.rv_scope.specs.UnitUses.{in_protected_unit, unit_of_body, package_scope, protected_units}
 use Rattle.rv_conform.specs.declared.mark.Mark.{Mark}
-use Rattle.rv_conform.specs.Statics.{with_static}
 use Rattle.rv_conform.specs.Profiles.{Formal, Operation, body_operation, unit_declared}
 
 -- Profiles (6.3.1)
 
-abbrev pub is_function : OperationKind → Bool
-is_function kind.Function = true
-is_function other = false
-
-abbrev pub is_procedure : OperationKind → Bool
-is_procedure kind.Procedure = true
-is_procedure other = false
-
-abbrev pub is_entry : OperationKind → Bool
-is_entry kind.Entry = true
-is_entry other = false
-
 abbrev pub is_same_kind : OperationKind → OperationKind → Bool
-is_same_kind kind.Function other = is_function other
-is_same_kind kind.Procedure other = is_procedure other
-is_same_kind kind.Entry other = is_entry other
+is_same_kind kind.Function kind.Function = true
+is_same_kind kind.Procedure kind.Procedure = true
+is_same_kind kind.Entry kind.Entry = true
+is_same_kind one other = false
 
 -- a mode that isn't written is `in` (6.1)
 abbrev pub is_in : Mode → Bool
@@ -46,19 +35,10 @@ is_in mode.NotWritten = true
 is_in mode.In = true
 is_in other = false
 
-abbrev pub is_out : Mode → Bool
-is_out mode.Out = true
-is_out other = false
-
-abbrev pub is_in_out : Mode → Bool
-is_in_out mode.InOut = true
-is_in_out other = false
-
 abbrev pub is_same_mode : Mode → Mode → Bool
-is_same_mode mode.NotWritten other = is_in other
-is_same_mode mode.In other = is_in other
-is_same_mode mode.Out other = is_out other
-is_same_mode mode.InOut other = is_in_out other
+is_same_mode mode.Out mode.Out = true
+is_same_mode mode.InOut mode.InOut = true
+is_same_mode one other = is_in one && is_in other
 
 -- both are the subtype of one place of the text
 abbrev pub is_one_subtype : Option ℕ → Option ℕ → Bool
@@ -111,7 +91,7 @@ pub record PackageView : Type 0 where
   -- what is declared
   pub scope : ScopeView
   -- what of it is static
-  pub statics : Statics
+  pub statics : Table
   -- the operations of the protected units that are declared so far, by the numbers of these
   pub units : List (List Operation)
 
@@ -119,16 +99,20 @@ abbrev pub package_at : List Shape → UnitTree → PackageView
 package_at shapes tree = record { scope = package_scope shapes tree; statics = []; units = [] }
 
 -- the operations of a protected unit that is declared at this point
-abbrev pub operations_of : ScopeView → Statics → ProtectedUnit → List Operation
+abbrev pub operations_of : ScopeView → Table → ProtectedUnit → List Operation
 operations_of scope statics unit = unit_declared statics (within_unit unit.name.at (naming_unit unit scope)) unit
 
-abbrev pub with_unit : ScopeView → Statics → Declaration → List (List Operation) → List (List Operation)
-with_unit scope statics (package_pragma pragma) units = units
-with_unit scope statics (a_subtype at i mark range) units = units
+abbrev pub with_unit : ScopeView → Table → Declaration → List (List Operation) → List (List Operation)
 with_unit scope statics (a_protected_unit unit) units = units ++ operations_of scope statics unit ∷ []
-with_unit scope statics (a_task task) units = units
-with_unit scope statics (a_variable names mark) units = units
-with_unit scope statics (a_constant names mark initial) units = units
+with_unit scope statics other units = units
+
+-- what is static behind a declaration, at its point. What is wrong with the types of one leaves it out
+abbrev pub with_static : ScopeView → Declaration → Table → Table
+with_static scope (a_subtype at i mark range) statics =
+    knowing_if (subtype_known (means (hiding i scope) statics) mark range) (i ∷ []) statics
+with_static scope (a_constant names mark initial) statics =
+    knowing_if (constant_known (means (hiding_all names scope) statics) mark initial) names statics
+with_static scope other statics = statics
 
 -- the package behind a declaration
 abbrev pub behind : Declaration → PackageView → PackageView
@@ -147,7 +131,7 @@ abbrev pub is_declared : List Operation → Operation → Bool
 is_declared operations body = list_any (completes body) operations
 
 -- the body completes one of these operations, at a point in the body of their protected unit
-unfoldable pub completes_one : List Operation → Statics → ScopeView → OperationBody → Bool
+unfoldable pub completes_one : List Operation → Table → ScopeView → OperationBody → Bool
 completes_one operations statics scope body = is_declared operations (body_operation statics scope body)
 
 -- each of these bodies completes one of these operations of the protected unit, if they are known

@@ -1,3 +1,2 @@
-pub mod Statics
 pub mod Profiles
 pub mod Conforms

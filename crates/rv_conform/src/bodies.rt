@@ -13,9 +13,8 @@ ghost use Rattle.rv_conform.specs.Conforms.{completes_one, complete_in, complete
 use crate::conforms::is_declared;
 use crate::operation::{Operation, body_head, profiled};
 use crate::package::{Package, UnitOperations, declaration, declarations};
-use crate::statics::Statics;
 use rv_scope::named::protected_units;
-use rv_scope::scope::Scope;
+use rv_scope::{Scope, Table};
 use rv_shape::catalogue::Catalogue;
 use rv_tree::body::{OperationBody, ProtectedBody};
 use rv_tree::declaration::ProtectedUnit;
@@ -26,7 +25,7 @@ use std::alloc::{AllocError, Global};
 fn body_operation<'a>(
     body: &'a OperationBody,
     scope: &mut Scope,
-    statics: &Statics,
+    statics: &Table,
 ) -> Result<Operation<'a>, AllocError>
     ensures value { IfOk result (λ o. o ≡ operation_of_body statics.now scope.old (operation_body_view body.now)) }
     ensures scope { OnOk result (scope.new ≡ scope.old) }
@@ -44,7 +43,7 @@ fn mismatch(
     body: &OperationBody,
     operations: &UnitOperations,
     scope: &mut Scope,
-    statics: &Statics,
+    statics: &Table,
 ) -> Result<Option<usize>, AllocError>
     ensures value { IfOk result (λ at. is_none at ≡ completes_one operations.now statics.now scope.old (operation_body_view body.now)) }
     ensures scope { OnOk result (scope.new ≡ scope.old) }
@@ -62,7 +61,7 @@ fn first_mismatch(
     list: &Vec<OperationBody>,
     operations: &UnitOperations,
     scope: &mut Scope,
-    statics: &Statics,
+    statics: &Table,
 ) -> Result<Option<usize>, AllocError>
     ensures value { IfOk result (λ at. is_none at
         ≡ list_all (completes_one operations.now statics.now scope.old) (map operation_body_view list.now.items)) }
@@ -82,7 +81,7 @@ fn in_unit(
     unit: &ProtectedUnit,
     operations: &UnitOperations,
     scope: &mut Scope,
-    statics: &Statics,
+    statics: &Table,
 ) -> Result<Option<usize>, AllocError>
     ensures value { IfOk result (λ at. is_none at
         ≡ list_all (completes_one operations.now statics.now (in_protected_unit (protected_unit_view unit.now) scope.old))

@@ -2,53 +2,47 @@
 
 ghost use Rattle.std.specs.Prelude.{◌≡◌};
 ghost use Rattle.std.specs.List.{list_any};
-ghost use Rattle.rv_static.specs.Meanings.{same_type};
-ghost use Rattle.rv_conform.specs.Conforms.{is_same_kind as same_kind, is_same_mode as same_mode, is_one_subtype as one_subtype, is_same_range as same_range, have_same_range as same_ranges, match_statically as marks_match, formal_conforms as formal_is_same, formals_conform as formals_are_same, results_conform as results_are_same, completes as completes_operation, is_declared as declared_among};
+ghost use Rattle.rv_conform.specs.Conforms.{is_same_kind as same_kind, is_in as in_mode, is_same_mode as same_mode, is_one_subtype as one_subtype, is_same_range as same_range, have_same_range as same_ranges, match_statically as marks_match, formal_conforms as formal_is_same, formals_conform as formals_are_same, results_conform as results_are_same, completes as completes_operation, is_declared as declared_among};
 
 use crate::mark::Mark;
 use crate::operation::{Formal, Operation};
 use rv_scope::declared::OperationKind;
-use rv_shape::kind::{Range, ValueType};
+use rv_shape::kind::Range;
+use rv_static::same_type;
 use rv_text::is_same_name;
 use rv_tree::declaration::Mode;
 
 fn is_same_kind(one: OperationKind, other: OperationKind) -> bool
     ensures { result ≡ same_kind one other }
 {
-    match one {
-        OperationKind::Function => matches!(other, OperationKind::Function),
-        OperationKind::Procedure => matches!(other, OperationKind::Procedure),
-        OperationKind::Entry => matches!(other, OperationKind::Entry),
-    }
+    matches!(
+        (one, other),
+        (OperationKind::Function, OperationKind::Function)
+            | (OperationKind::Procedure, OperationKind::Procedure)
+            | (OperationKind::Entry, OperationKind::Entry)
+    )
 }
 
 // A mode that is not written is `in`.
 fn is_same_mode(one: Mode, other: Mode) -> bool
     ensures { result ≡ same_mode one other }
 {
-    match one {
-        Mode::NotWritten => matches!(other, Mode::NotWritten | Mode::In),
-        Mode::In => matches!(other, Mode::NotWritten | Mode::In),
-        Mode::Out => matches!(other, Mode::Out),
-        Mode::InOut => matches!(other, Mode::InOut),
+    match (one, other) {
+        (Mode::Out, Mode::Out) | (Mode::InOut, Mode::InOut) => true,
+        _ => is_in(one) && is_in(other),
     }
 }
 
-fn is_same_type(one: ValueType, other: ValueType) -> bool
-    ensures { result ≡ same_type one other }
+fn is_in(mode: Mode) -> bool
+    ensures { result ≡ in_mode mode }
 {
-    match one {
-        ValueType::Integer => matches!(other, ValueType::Integer),
-        ValueType::Boolean => matches!(other, ValueType::Boolean),
-        ValueType::Time => matches!(other, ValueType::Time),
-        ValueType::TimeSpan => matches!(other, ValueType::TimeSpan),
-    }
+    matches!(mode, Mode::NotWritten | Mode::In)
 }
 
 fn is_same_range(one: Range, other: Range) -> bool
     ensures { result ≡ same_range one other }
 {
-    is_same_type(one.of, other.of)
+    same_type(one.of, other.of)
         && (one.low <= other.low && other.low <= one.low)
         && (one.high <= other.high && other.high <= one.high)
 }

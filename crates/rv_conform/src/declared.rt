@@ -2,14 +2,13 @@
 
 ghost use Rattle.std.specs.Prelude.{◌≡◌, ◌++◌, [], map, OnOk, IfOk};
 ghost use Rattle.rv_tree.specs.DeclarationView.{maybe, operation_view, element_view, protected_unit_view};
-ghost use Rattle.rv_scope.specs.Scope.{OnlyDeclares, entered, within_unit};
+ghost use Rattle.rv_scope.specs.Scope.{OnlyDeclares, entered};
 ghost use Rattle.rv_scope.specs.DeclarationUses.{with_operations, with_element};
-ghost use Rattle.rv_conform.specs.Profiles.{declared_head as head_of_declaration, operation_in, outer_operations, operations_declared, element_declared, elements_declared, private_declared, unit_declared};
+ghost use Rattle.rv_scope.specs.Heads.{declared_head as head_of_declaration};
+ghost use Rattle.rv_conform.specs.Profiles.{operation_in, outer_operations, operations_declared, element_declared, elements_declared, private_declared, unit_declared};
 
-use crate::operation::{Head, Operation, declared_head, profiled};
-use crate::statics::Statics;
-use rv_scope::members;
-use rv_scope::scope::Scope;
+use crate::operation::{Operation, profiled};
+use rv_scope::{Head, Scope, Table, declared_head, members};
 use rv_tree::declaration::{OperationDeclaration, ProtectedElement, ProtectedUnit};
 use std::alloc::AllocError;
 
@@ -17,7 +16,7 @@ use std::alloc::AllocError;
 fn outer_operation<'a>(
     head: &Head<'a>,
     scope: &mut Scope,
-    statics: &Statics,
+    statics: &Table,
 ) -> Result<Operation<'a>, AllocError>
     ensures value { IfOk result (λ o. o ≡ operation_in statics.now (entered scope.old) head.now) }
     ensures scope { OnOk result (scope.new ≡ scope.old) }
@@ -32,7 +31,7 @@ fn outer_operation<'a>(
 fn add_operation<'a>(
     one: &'a OperationDeclaration,
     scope: &mut Scope,
-    statics: &Statics,
+    statics: &Table,
     done: &mut Vec<Operation<'a>>,
 ) -> Result<(), AllocError>
     ensures done { OnOk result (done.new.items
@@ -52,7 +51,7 @@ fn add_operation<'a>(
 fn operations<'a>(
     list: &'a Vec<OperationDeclaration>,
     scope: &mut Scope,
-    statics: &Statics,
+    statics: &Table,
     done: &mut Vec<Operation<'a>>,
 ) -> Result<(), AllocError>
     ensures done { OnOk result (done.new.items
@@ -70,7 +69,7 @@ fn operations<'a>(
 fn add_element<'a>(
     one: &'a ProtectedElement,
     scope: &mut Scope,
-    statics: &Statics,
+    statics: &Table,
     done: &mut Vec<Operation<'a>>,
 ) -> Result<(), AllocError>
     ensures done { OnOk result (done.new.items ≡ done.old.items ++ element_declared statics.now scope.old (element_view one.now)) }
@@ -90,7 +89,7 @@ fn add_element<'a>(
 fn elements<'a>(
     list: &'a Vec<ProtectedElement>,
     scope: &mut Scope,
-    statics: &Statics,
+    statics: &Table,
     done: &mut Vec<Operation<'a>>,
 ) -> Result<(), AllocError>
     ensures done { OnOk result (done.new.items
@@ -107,7 +106,7 @@ fn elements<'a>(
 fn private_part<'a>(
     part: &'a Option<Vec<ProtectedElement>>,
     scope: &mut Scope,
-    statics: &Statics,
+    statics: &Table,
     done: &mut Vec<Operation<'a>>,
 ) -> Result<(), AllocError>
     ensures done { OnOk result (done.new.items
@@ -120,11 +119,11 @@ fn private_part<'a>(
     }
 }
 
-// All operations of a protected unit, in a region of its own.
-fn members<'a>(
+/// All operations of a protected unit, at a point within its declaration. Err where memory was refused.
+pub(crate) fn unit_operations<'a>(
     unit: &'a ProtectedUnit,
     scope: &mut Scope,
-    statics: &Statics,
+    statics: &Table,
 ) -> Result<Vec<Operation<'a>>, AllocError>
     ensures value { IfOk result (λ all. all.items ≡ unit_declared statics.now scope.old (protected_unit_view unit.now)) }
     ensures scope { OnOk result (scope.new ≡ scope.old) }
@@ -135,21 +134,4 @@ fn members<'a>(
     private_part(&unit.private, scope, statics, &mut done)?;
     scope.leave();
     Ok(done)
-}
-
-/// All operations of a protected unit, at the point behind its identifier. Err where memory was refused.
-pub(crate) fn unit_operations<'a>(
-    unit: &'a ProtectedUnit,
-    scope: &mut Scope,
-    statics: &Statics,
-) -> Result<Vec<Operation<'a>>, AllocError>
-    ensures value { IfOk result (λ all. all.items
-        ≡ unit_declared statics.now (within_unit unit.now.name.at scope.old) (protected_unit_view unit.now)) }
-    ensures scope { OnOk result (scope.new ≡ scope.old) }
-{
-    let around = scope.current();
-    scope.set_current(Some(unit.name.at));
-    let found = members(unit, scope, statics)?;
-    scope.set_current(around);
-    Ok(found)
 }

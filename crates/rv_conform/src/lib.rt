@@ -10,6 +10,5 @@ mod declared;
 mod mark;
 mod operation;
 mod package;
-mod statics;
 
 pub use bodies::profile_mismatch;

@@ -2,12 +2,13 @@
 
 ghost use Rattle.std.specs.Prelude.{◌≡◌};
 ghost use Rattle.rv_tree.specs.NameView.{name_view};
+ghost use Rattle.rv_static.specs.Meanings.{range_in};
 ghost use Rattle.rv_conform.specs.Profiles.{subtype_place as place_of_subtype, mark_at};
 
-use crate::statics::Statics;
-use rv_scope::declared::Declared;
-use rv_scope::scope::Scope;
+use rv_scope::point::meaning;
+use rv_scope::{Declared, Scope, Table};
 use rv_shape::kind::Range;
+use rv_static::Meaning;
 use rv_tree::name::Name;
 
 /// What a mark denotes where it stands.
@@ -29,15 +30,25 @@ fn subtype_place(found: Option<Declared>) -> Option<usize>
     }
 }
 
+// The range of a subtype, if that is what is meant.
+fn static_range(meaning: Meaning) -> Option<Range>
+    ensures { result ≡ range_in meaning }
+{
+    match meaning {
+        Meaning::Subtype(range) => Some(range),
+        _ => None,
+    }
+}
+
 impl Mark {
     /// What a mark denotes at the point.
-    pub(crate) fn of(name: &Name, scope: &Scope, statics: &Statics) -> Mark
+    pub(crate) fn of(name: &Name, scope: &Scope, statics: &Table) -> Mark
         ensures { result ≡ mark_at statics.now scope.now (name_view name.now) }
     {
         let found = scope.visible(name);
         Mark {
             declared: subtype_place(found),
-            range: statics.range(found),
+            range: static_range(meaning(statics, found)),
         }
     }
 }

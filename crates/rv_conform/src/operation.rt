@@ -2,48 +2,21 @@
 
 ghost use Rattle.std.specs.Prelude.{◌≡◌, ◌++◌, map, OnOk, IfOk};
 ghost use Rattle.rv_tree.specs.NameView.{identifier_view, identifiers_view, name_view};
-ghost use Rattle.rv_tree.specs.DeclarationView.{maybe, parameter_view, operation_view};
+ghost use Rattle.rv_tree.specs.DeclarationView.{maybe, parameter_view};
 ghost use Rattle.rv_tree.specs.BodyView.{operation_body_view};
 ghost use Rattle.rv_scope.specs.Scope.{OnlyDeclares, hiding_all, declaring_all};
 ghost use Rattle.rv_scope.specs.DeclarationUses.{with_parameters};
-ghost use Rattle.rv_conform.specs.Profiles.{declared_head as head_of_declaration, body_head as head_of_body, mark_at, formal_of, parameter_formals, formals_in, operation_in};
+ghost use Rattle.rv_conform.specs.Profiles.{body_kind as kind_of_body, body_head as head_of_body, mark_at, formal_of, parameter_formals, formals_in, operation_in};
 
 use crate::mark::Mark;
-use crate::statics::Statics;
 use rv_scope::declare::{Form, declare_all};
-use rv_scope::declared::OperationKind;
 use rv_scope::members::hide_all;
-use rv_scope::scope::Scope;
+use rv_scope::{Head, OperationKind, Scope, Table};
 use rv_tree::body::OperationBody;
-use rv_tree::declaration::{Mode, OperationDeclaration, Parameter};
+use rv_tree::declaration::{Mode, Parameter};
 use rv_tree::name::{Identifier, Name};
 use std::alloc::AllocError;
 use std::marker::Model;
-
-/// What the text says of an operation: its name and kind, its parameters, and the mark of a function's result.
-#[derive(Drop)]
-pub(crate) struct Head<'a> {
-    pub(crate) name: &'a Identifier,
-    pub(crate) kind: OperationKind,
-    pub(crate) parameters: &'a Vec<Parameter>,
-    pub(crate) mark: Option<&'a Name>,
-}
-
-impl<'a> Model for Head<'a> {
-    ghost use Rattle.std.specs.Prelude.{map};
-    ghost use Rattle.rv_tree.specs.NameView.{identifier_view, name_view};
-    ghost use Rattle.rv_tree.specs.DeclarationView.{maybe, parameter_view};
-    ghost use Rattle.rv_conform.specs.Profiles.{Head as HeadView};
-
-    ghost Value = { HeadView };
-
-    ghost view = { λ h. record {
-      name = identifier_view h.name.now;
-      kind = h.kind;
-      parameters = map parameter_view h.parameters.now.items;
-      mark = maybe (λ n. name_view n.now) h.mark;
-    } };
-}
 
 /// A formal parameter.
 #[derive(Drop)]
@@ -95,40 +68,13 @@ impl<'a> Model for Operation<'a> {
     } };
 }
 
-/// What a declaration says of an operation, if it is none of a pragma.
-pub(crate) fn declared_head(one: &OperationDeclaration) -> Option<Head<'_>>
-    ensures { result ≡ head_of_declaration (operation_view one.now) }
+fn body_kind(body: &OperationBody) -> OperationKind
+    ensures { result ≡ kind_of_body (operation_body_view body.now) }
 {
-    match one {
-        OperationDeclaration::Pragma(_) => None,
-        OperationDeclaration::Function {
-            at: _,
-            name,
-            parameters,
-            mark,
-        } => Some(Head {
-            name,
-            kind: OperationKind::Function,
-            parameters,
-            mark: Some(mark),
-        }),
-        OperationDeclaration::Procedure {
-            at: _,
-            name,
-            parameters,
-            aspects: _,
-        } => Some(Head {
-            name,
-            kind: OperationKind::Procedure,
-            parameters,
-            mark: None,
-        }),
-        OperationDeclaration::Entry(entry) => Some(Head {
-            name: &entry.name,
-            kind: OperationKind::Entry,
-            parameters: &entry.parameters,
-            mark: None,
-        }),
+    match body {
+        OperationBody::Function { .. } => OperationKind::Function,
+        OperationBody::Procedure { .. } => OperationKind::Procedure,
+        OperationBody::Entry { .. } => OperationKind::Entry,
     }
 }
 
@@ -136,42 +82,11 @@ pub(crate) fn declared_head(one: &OperationDeclaration) -> Option<Head<'_>>
 pub(crate) fn body_head(body: &OperationBody) -> Head<'_>
     ensures { result ≡ head_of_body (operation_body_view body.now) }
 {
-    match body {
-        OperationBody::Function {
-            at: _,
-            name,
-            parameters,
-            mark,
-            block: _,
-        } => Head {
-            name,
-            kind: OperationKind::Function,
-            parameters,
-            mark: Some(mark),
-        },
-        OperationBody::Procedure {
-            at: _,
-            name,
-            parameters,
-            block: _,
-        } => Head {
-            name,
-            kind: OperationKind::Procedure,
-            parameters,
-            mark: None,
-        },
-        OperationBody::Entry {
-            at: _,
-            name,
-            parameters,
-            barrier: _,
-            block: _,
-        } => Head {
-            name,
-            kind: OperationKind::Entry,
-            parameters,
-            mark: None,
-        },
+    Head {
+        name: body.name(),
+        kind: body_kind(body),
+        parameters: body.parameters(),
+        mark: body.mark(),
     }
 }
 
@@ -195,7 +110,7 @@ fn push_formals<'a>(
 fn parameter<'a>(
     part: &'a Parameter,
     scope: &mut Scope,
-    statics: &Statics,
+    statics: &Table,
     done: &mut Vec<Formal<'a>>,
 ) -> Result<(), AllocError>
     ensures done { OnOk result (done.new.items ≡ done.old.items ++ parameter_formals statics.now scope.old (parameter_view part.now)) }
@@ -214,7 +129,7 @@ fn parameter<'a>(
 fn formals<'a>(
     list: &'a Vec<Parameter>,
     scope: &mut Scope,
-    statics: &Statics,
+    statics: &Table,
 ) -> Result<Vec<Formal<'a>>, AllocError>
     ensures value { IfOk result (λ all. all.items ≡ formals_in statics.now scope.old (map parameter_view list.now.items)) }
     ensures scope { OnOk result (scope.new ≡ with_parameters (map parameter_view list.now.items) scope.old) }
@@ -228,7 +143,7 @@ fn formals<'a>(
 }
 
 // What the mark of a result denotes, if there is one.
-fn result_mark(mark: Option<&Name>, scope: &Scope, statics: &Statics) -> Option<Mark>
+fn result_mark(mark: Option<&Name>, scope: &Scope, statics: &Table) -> Option<Mark>
     ensures { result ≡ maybe (mark_at statics.now scope.now) (maybe (λ n. name_view n.now) mark.entry) }
 {
     match mark {
@@ -241,7 +156,7 @@ fn result_mark(mark: Option<&Name>, scope: &Scope, statics: &Statics) -> Option<
 pub(crate) fn profiled<'a>(
     head: &Head<'a>,
     scope: &mut Scope,
-    statics: &Statics,
+    statics: &Table,
 ) -> Result<Operation<'a>, AllocError>
     ensures value { IfOk result (λ o. o ≡ operation_in statics.now scope.old head.now) }
     ensures only { OnOk result (OnlyDeclares scope.old scope.new) }

@@ -3,7 +3,7 @@ use Rattle.std.specs.Prelude.{Bool, List, [], ◌∷◌, map}
 use Rattle.std.specs.List.{flat_map, list_all}
 use Rattle.rv_tree.specs.Names.{Identifier}
 use Rattle.rv_tree.specs.Units.{BodyItem, body_declaration, body_protected, body_task, UnitTree}
-use Rattle.rv_distinct.specs.OperationBodies.{operation_body_name}
+use Rattle.rv_tree.specs.Operations.{operation_body_name}
 use Rattle.rv_distinct.specs.Regions.{are_distinct}
 
 -- the body of a protected unit or of a task

@@ -1,3 +1,2 @@
-pub mod OperationBodies
 pub mod Regions
 pub mod BodyNames

@@ -5,10 +5,9 @@ ghost use Rattle.std.specs.List.{flat_map};
 ghost use Rattle.std.specs.Option.{is_none};
 ghost use Rattle.rv_tree.specs.BodyView.{operation_body_view};
 ghost use Rattle.rv_tree.specs.UnitView.{body_item_view, unit_view};
-ghost use Rattle.rv_distinct.specs.OperationBodies.{operation_body_name as name_of_body};
+ghost use Rattle.rv_tree.specs.Operations.{operation_body_name};
 ghost use Rattle.rv_distinct.specs.BodyNames.{item_bodies, operation_bodies as bodies_of_operations, body_names as all_body_names, has_one_body_each};
 
-use crate::operation_body::operation_body_name;
 use crate::region::{Region, first_again};
 use rv_tree::body::OperationBody;
 use rv_tree::unit::{BodyItem, UnitTree};
@@ -40,11 +39,11 @@ fn operation_bodies<'a>(
     alloc: Global,
     list: &'a Vec<OperationBody>,
 ) -> Result<Region<'a>, AllocError>
-    ensures { IfOk result (λ region. region ≡ map name_of_body (map operation_body_view list.now.items)) }
+    ensures { IfOk result (λ region. region ≡ map operation_body_name (map operation_body_view list.now.items)) }
 {
     let mut region = Region::new(alloc);
     for body in list {
-        region.declare(operation_body_name(body))?;
+        region.declare(body.name())?;
     }
     Ok(region)
 }

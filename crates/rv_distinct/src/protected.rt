@@ -4,23 +4,13 @@ ghost use Rattle.std.specs.Prelude.{◌≡◌, ◌++◌, ◌∷◌, [], map, OnO
 ghost use Rattle.std.specs.List.{flat_map};
 ghost use Rattle.std.specs.Option.{unwrap_or};
 ghost use Rattle.rv_tree.specs.DeclarationView.{maybe, parameter_view, operation_view, element_view, protected_unit_view};
-ghost use Rattle.rv_distinct.specs.Regions.{parameter_names, operation_names, profile_regions, element_names, element_regions, member_names, unit_regions};
+ghost use Rattle.rv_tree.specs.DeclaredNames.{operation_names, element_names};
+ghost use Rattle.rv_distinct.specs.Regions.{parameter_names, profile_regions, element_regions, member_names, unit_regions};
 
 use crate::names::parameters;
 use crate::region::Region;
 use rv_tree::declaration::{OperationDeclaration, Parameter, ProtectedElement, ProtectedUnit};
 use std::alloc::{AllocError, Global};
-
-fn operation<'a>(one: &'a OperationDeclaration, region: &mut Region<'a>) -> Result<(), AllocError>
-    ensures { OnOk result (region.new ≡ region.old ++ operation_names (operation_view one.now)) }
-{
-    match one {
-        OperationDeclaration::Pragma(_) => Ok(()),
-        OperationDeclaration::Function { name, .. }
-        | OperationDeclaration::Procedure { name, .. } => region.declare(name),
-        OperationDeclaration::Entry(entry) => region.declare(&entry.name),
-    }
-}
 
 fn operations<'a>(
     list: &'a Vec<OperationDeclaration>,
@@ -29,30 +19,16 @@ fn operations<'a>(
     ensures { OnOk result (region.new ≡ region.old ++ flat_map operation_names (map operation_view list.now.items)) }
 {
     for one in list {
-        operation(one, region)?;
+        region.declare_all(one.names())?;
     }
     Ok(())
-}
-
-fn element<'a>(one: &'a ProtectedElement, region: &mut Region<'a>) -> Result<(), AllocError>
-    ensures { OnOk result (region.new ≡ region.old ++ element_names (element_view one.now)) }
-{
-    match one {
-        ProtectedElement::Operation(one) => operation(one, region),
-        ProtectedElement::Component {
-            names,
-            mark: _,
-            range: _,
-            value: _,
-        } => region.declare_all(names),
-    }
 }
 
 fn elements<'a>(list: &'a Vec<ProtectedElement>, region: &mut Region<'a>) -> Result<(), AllocError>
     ensures { OnOk result (region.new ≡ region.old ++ flat_map element_names (map element_view list.now.items)) }
 {
     for one in list {
-        element(one, region)?;
+        region.declare_all(one.names())?;
     }
     Ok(())
 }
@@ -89,17 +65,9 @@ fn operation_profile<'a>(
 ) -> Result<(), AllocError>
     ensures { OnOk result (regions.new.items ≡ regions.old.items ++ profile_regions (operation_view one.now)) }
 {
-    match one {
-        OperationDeclaration::Pragma(_) => Ok(()),
-        OperationDeclaration::Function {
-            parameters: list,
-            ..
-        }
-        | OperationDeclaration::Procedure {
-            parameters: list,
-            ..
-        } => profile(alloc, list, regions),
-        OperationDeclaration::Entry(entry) => profile(alloc, &entry.parameters, regions),
+    match one.parameters() {
+        None => Ok(()),
+        Some(list) => profile(alloc, list, regions),
     }
 }
 
@@ -125,12 +93,7 @@ fn element_profile<'a>(
 {
     match one {
         ProtectedElement::Operation(one) => operation_profile(alloc, one, regions),
-        ProtectedElement::Component {
-            names: _,
-            mark: _,
-            range: _,
-            value: _,
-        } => Ok(()),
+        ProtectedElement::Component { .. } => Ok(()),
     }
 }
 

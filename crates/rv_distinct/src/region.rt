@@ -48,8 +48,8 @@ impl<'a> Region<'a> {
     }
 
     /// Declares several.
-    pub(crate) fn declare_all(&mut self, identifiers: &'a Vec<Identifier>) -> Result<(), AllocError>
-        ensures { OnOk result (self.new ≡ self.old ++ identifiers_view identifiers.now.items) }
+    pub(crate) fn declare_all(&mut self, identifiers: &'a [Identifier]) -> Result<(), AllocError>
+        ensures { OnOk result (self.new ≡ self.old ++ identifiers_view identifiers.now) }
     {
         for identifier in identifiers {
             self.declare(identifier)?;

@@ -9,7 +9,6 @@ ghost use Rattle.rv_tree.specs.UnitView.{body_item_view, unit_view};
 ghost use Rattle.rv_distinct.specs.Regions.{package_region, declaration_regions, body_region as region_of_body, item_regions, regions as all_regions, block_names, names_are_distinct};
 
 use crate::names::{block, declarations, items, parameters};
-use crate::operation_body::{operation_body_block, operation_body_parameters};
 use crate::protected::protected_unit;
 use crate::region::{Region, first_again};
 use rv_tree::body::{Block, OperationBody};
@@ -58,8 +57,8 @@ fn body_region<'a>(alloc: Global, body: &'a OperationBody) -> Result<Region<'a>,
     ensures { IfOk result (λ region. region ≡ region_of_body (operation_body_view body.now)) }
 {
     let mut region = Region::new(alloc);
-    parameters(operation_body_parameters(body), &mut region)?;
-    block(operation_body_block(body), &mut region)?;
+    parameters(body.parameters(), &mut region)?;
+    block(body.block(), &mut region)?;
     Ok(region)
 }
 

@@ -19,6 +19,7 @@ use Rattle.rv_scope.specs.declared.declare.Form.{Form}
 use Rattle.rv_scope.specs.declared.declare.Form.TheVariants as f
 use Rattle.rv_scope.specs.Visible.{visible}
 use Rattle.rv_tree.specs.Bodies.{Local, an_object, local_pragma, local_protected_unit, local_task, ExceptionChoice, exception_named, other_exceptions, Handler, Block, OperationBody, function_body, procedure_body, entry_body, ProtectedBody, TaskBody}
+use Rattle.rv_tree.specs.Operations.{operation_body_name, operation_body_parameters, operation_body_block}
 use Rattle.rv_tree.specs.Units.{ContextItem, context_pragma, with_clause, use_clause, PackageSpecification, BodyItem, body_declaration, body_protected, body_task, PackageBody, UnitTree}
 use Rattle.rv_shape.specs.Shape.{Shape}
 use Rattle.rv_scope.specs.declared.predefined.Library.{Library}
@@ -26,7 +27,7 @@ use Rattle.rv_scope.specs.declared.predefined.Library.TheVariants as l
 use Rattle.rv_scope.specs.Wanted.{denoted, is_found, suits, sort}
 use Rattle.rv_scope.specs.StatementUses.{statements_uses, choice_uses, choices_uses, bounds_uses, iteration_uses, statement_uses, elsif_parts_uses, alternatives_uses, in_loop}
 use Rattle.rv_scope.specs.DeclarationUses.{parameters_uses, with_parameters, with_members, declaration_uses, with_declaration, declarations_uses, with_declarations, arguments_uses, pragma_uses, aspects_uses, operation_uses, operations_uses, element_uses, elements_uses, private_uses, parts_uses, protected_unit_uses, naming_unit, task_item_uses, task_items_uses, definition_uses, task_uses, is_priority, is_attachment, with_operation, with_operations, with_element, with_elements, with_private}
-use Rattle.rv_scope.specs.UnitUses.{unit_uses, local_uses, locals_uses, exception_uses, exceptions_uses, handlers_uses, block_uses, operation_body_uses, operation_bodies_uses, bodies_of_unit, protected_body_uses, task_body_uses, body_item_uses, body_items_uses, with_names_uses, use_names_uses, context_item_uses, context_uses, in_protected_unit, unit_of_body, with_body_item, withed, with_names, used_by, use_names, with_context_item, with_context, package_scope, protected_units, with_local, with_locals}
+use Rattle.rv_scope.specs.UnitUses.{unit_uses, local_uses, locals_uses, exception_uses, exceptions_uses, handlers_uses, block_uses, body_wanted, mark_or_barrier_uses, with_profile, operation_body_uses, operation_bodies_uses, bodies_of_unit, protected_body_uses, task_body_uses, body_item_uses, body_items_uses, with_names_uses, use_names_uses, context_item_uses, context_uses, in_protected_unit, unit_of_body, with_body_item, withed, with_names, used_by, use_names, with_context_item, with_context, package_scope, protected_units, with_local, with_locals}
 use Rattle.rv_scope.specs.Bound.{judged, Used, listed, uses, IsBound, AllBound}
 
 -- where the one finds all bound, all that the other lists is bound
@@ -243,10 +244,13 @@ handlers_shown scope (handler ∷ more) = exceptions_shown scope handler.choices
 block_shown : (x0 : ScopeView) (x1 : Block) → Shows (block_uses judged x0 x1) (block_uses listed x0 x1)
 block_shown scope block = locals_shown scope block.locals and statements_shown (with_locals block.locals scope) block.statements and handlers_shown (with_locals block.locals scope) block.handlers
 
+mark_or_barrier_shown : (x0 : ScopeView) (x1 : OperationBody) → Shows (mark_or_barrier_uses judged x0 x1) (mark_or_barrier_uses listed x0 x1)
+mark_or_barrier_shown scope (function_body at i parameters mark block) = use_shown scope w.Subtype mark
+mark_or_barrier_shown scope (procedure_body at i parameters block) = none_shown
+mark_or_barrier_shown scope (entry_body at i parameters barrier block) = value_shown scope barrier
+
 operation_body_shown : (x0 : ScopeView) (x1 : OperationBody) → Shows (operation_body_uses judged x0 x1) (operation_body_uses listed x0 x1)
-operation_body_shown scope (function_body at i parameters mark block) = use_shown scope w.FunctionBody (simple i) and parameters_shown (in_body i scope) parameters and use_shown (with_parameters parameters (in_body i scope)) w.Subtype mark and block_shown (with_parameters parameters (in_body i scope)) block
-operation_body_shown scope (procedure_body at i parameters block) = use_shown scope w.ProcedureBody (simple i) and parameters_shown (in_body i scope) parameters and block_shown (with_parameters parameters (in_body i scope)) block
-operation_body_shown scope (entry_body at i parameters barrier block) = use_shown scope w.EntryBody (simple i) and parameters_shown (in_body i scope) parameters and value_shown (with_parameters parameters (in_body i scope)) barrier and block_shown (with_parameters parameters (in_body i scope)) block
+operation_body_shown scope body = use_shown scope (body_wanted body) (simple (operation_body_name body)) and parameters_shown (in_body (operation_body_name body) scope) (operation_body_parameters body) and mark_or_barrier_shown (with_profile body scope) body and block_shown (with_profile body scope) (operation_body_block body)
 
 operation_bodies_shown : (x0 : ScopeView) (x1 : List OperationBody) → Shows (operation_bodies_uses judged x0 x1) (operation_bodies_uses listed x0 x1)
 operation_bodies_shown scope [] = none_shown

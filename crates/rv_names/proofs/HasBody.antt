@@ -11,7 +11,7 @@ use Rattle.rv_tree.specs.Units.{BodyItem, body_declaration, body_protected, body
 use Rattle.rv_scope.specs.declared.declared.Declared.{Declared}
 use Rattle.rv_scope.specs.Scope.{Region}
 use Rattle.rv_scope.specs.Predefined.{named}
-use Rattle.rv_distinct.specs.OperationBodies.{operation_body_name}
+use Rattle.rv_tree.specs.Operations.{operation_body_name}
 use Rattle.rv_names.specs.Completed.{is_body_of, wants_among, item_wants_among, has_body, unit_is_completed, has_operation_body, operation_wants, element_wants, private_wants, unit_wants, with_body, with_bodies, with_operation_bodies, with_bodies_of, with_all_bodies_of, is_in}
 
 -- a name that is noted

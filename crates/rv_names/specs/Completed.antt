@@ -2,15 +2,16 @@
 -- 3.11.1, 9.1, 9.4).
 use Rattle.std.specs.Prelude.{ℕ, Bool, true, false, ◌&&◌, List, [], ◌∷◌, Option, Some, None, is_some, if◌then◌else◌}
 use Rattle.std.specs.List.{list_all, list_any}
+use Rattle.std.specs.Option.{option_map, unwrap_or}
 use Rattle.indexmap.specs.IndexMap.{insert_entry}
 use Rattle.rv_text.specs.Names.{is_same_name}
-use Rattle.rv_tree.specs.Declarations.{OperationDeclaration, a_pragma, a_function, a_procedure, an_entry, ProtectedElement, an_operation, a_component, ProtectedUnit, Declaration, a_protected_unit, a_task}
+use Rattle.rv_tree.specs.Declarations.{OperationDeclaration, ProtectedElement, an_operation, a_component, ProtectedUnit, Declaration, a_protected_unit, a_task}
 use Rattle.rv_tree.specs.Bodies.{OperationBody}
 use Rattle.rv_tree.specs.Units.{BodyItem, body_declaration, body_protected, body_task, UnitTree}
 use Rattle.rv_scope.specs.Scope.{Region}
 use Rattle.rv_scope.specs.Predefined.{named}
 use Rattle.rv_scope.specs.UnitUses.{protected_units}
-use Rattle.rv_distinct.specs.OperationBodies.{operation_body_name}
+use Rattle.rv_tree.specs.Operations.{operation_name, operation_body_name}
 
 -- the item is a body of this name
 abbrev pub is_body_of : List ℕ → BodyItem → Bool
@@ -52,10 +53,7 @@ has_operation_body items unit operation = list_any (is_operation_body_of unit op
 
 -- these names hold that of the operation that is declared
 abbrev pub operation_wants : (List ℕ → Bool) → OperationDeclaration → Bool
-operation_wants has (a_pragma pragma) = true
-operation_wants has (a_function at i parameters mark) = has i.text
-operation_wants has (a_procedure at i parameters aspects) = has i.text
-operation_wants has (an_entry entry) = has entry.name.text
+operation_wants has operation = unwrap_or (option_map (λ i. has i.text) (operation_name operation)) true
 
 abbrev pub element_wants : (List ℕ → Bool) → ProtectedElement → Bool
 element_wants has (an_operation operation) = operation_wants has operation

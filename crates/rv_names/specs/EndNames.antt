@@ -6,7 +6,7 @@ use Rattle.rv_tree.specs.Names.{Identifier}
 use Rattle.rv_tree.specs.Declarations.{TaskDefinition, Declaration, a_protected_unit, a_task}
 use Rattle.rv_tree.specs.Bodies.{OperationBody}
 use Rattle.rv_tree.specs.Units.{BodyItem, body_declaration, body_protected, body_task, UnitTree}
-use Rattle.rv_distinct.specs.OperationBodies.{operation_body_name, operation_body_block}
+use Rattle.rv_tree.specs.Operations.{operation_body_name, operation_body_block}
 
 -- what a name opens ends without a name, or with that name
 abbrev pub ends : Identifier → Option Identifier → Bool

@@ -4,7 +4,7 @@ use Rattle.std.specs.List.{list_all}
 use Rattle.rv_tree.specs.Statements.{Statement, null_statement, assignment, call_statement, if_statement, case_statement, loop_statement, exit_statement, return_statement, raise_statement, delay_statement, abort_statement, requeue_statement, accept_statement, select_statement, Statements, no_statements, and_statement, ElsifParts, no_elsif_parts, and_elsif_part, Alternatives, no_alternatives, and_alternative}
 use Rattle.rv_tree.specs.Bodies.{Handler, Block, OperationBody}
 use Rattle.rv_tree.specs.Units.{BodyItem, body_declaration, body_protected, body_task, UnitTree}
-use Rattle.rv_distinct.specs.OperationBodies.{operation_body_block}
+use Rattle.rv_tree.specs.Operations.{operation_body_block}
 
 -- in a loop or not, and in a handler or not
 abbrev mutual

@@ -47,21 +47,9 @@ fn declare(
     found: &mut Completion,
 ) -> Result<(), AllocError> {
     match declaration {
-        Declaration::Pragma(_) => Ok(()),
-        Declaration::Subtype {
-            at: _,
-            name,
-            mark: _,
-            range: _,
-        } => found.declare(alloc, name),
         Declaration::Protected(unit) => found.want(alloc, Kind::Protected, &unit.name),
         Declaration::Task(task) => found.want(alloc, Kind::Task, &task.name),
-        Declaration::Variable { names, mark: _ } => found.declare_all(alloc, names),
-        Declaration::Constant {
-            names,
-            mark: _,
-            value: _,
-        } => found.declare_all(alloc, names),
+        _ => found.declare_all(alloc, declaration.names()),
     }
 }
 

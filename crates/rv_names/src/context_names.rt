@@ -1,11 +1,10 @@
 //! The names that context clauses use (8.4, 10.1.2).
 
 ghost use Rattle.std.specs.Prelude.{◌≡◌, OnOk, map};
-ghost use Rattle.rv_tree.specs.NameView.{name_view, names_view};
+ghost use Rattle.rv_tree.specs.NameView.{names_view};
 ghost use Rattle.rv_tree.specs.UnitView.{context_item_view};
 ghost use Rattle.rv_scope.specs.Bound.{judged};
-ghost use Rattle.rv_scope.specs.Wanted.{denoted};
-ghost use Rattle.rv_scope.specs.UnitUses.{withed as scope_withed, used_by as scope_used_by, with_names_uses, with_names as scope_with_names, use_names_uses, use_names as scope_use_names, context_item_uses, with_context_item, context_uses, with_context};
+ghost use Rattle.rv_scope.specs.UnitUses.{with_names_uses, with_names as scope_with_names, use_names_uses, use_names as scope_use_names, context_item_uses, with_context_item, context_uses, with_context};
 
 use crate::expression::name;
 use crate::fault::Faults;
@@ -17,32 +16,15 @@ use rv_tree::name::Name;
 use rv_tree::unit::ContextItem;
 use std::alloc::AllocError;
 
-// A library unit that a `with` names.
-fn with_named(one: &Name, scope: &mut Scope, faults: &mut Faults) -> Result<(), AllocError>
-    ensures faults { OnOk result (faults.new ≡ judged scope.old Wanted.With (name_view one.now) faults.old) }
-    ensures scope { OnOk result (scope.new ≡ scope_withed (denoted Wanted.With scope.old (name_view one.now)) scope.old) }
-{
-    name(one, Wanted::With, scope, faults);
-    with_name(one, scope)
-}
-
 fn with_names(list: &Vec<Name>, scope: &mut Scope, faults: &mut Faults) -> Result<(), AllocError>
     ensures faults { OnOk result (faults.new ≡ with_names_uses judged scope.old (names_view list.now.items) faults.old) }
     ensures scope { OnOk result (scope.new ≡ scope_with_names (names_view list.now.items) scope.old) }
 {
     for one in list {
-        with_named(one, scope, faults)?;
+        name(one, Wanted::With, scope, faults);
+        with_name(one, scope)?;
     }
     Ok(())
-}
-
-// A package that a `use` names.
-fn use_named(one: &Name, scope: &mut Scope, faults: &mut Faults) -> Result<(), AllocError>
-    ensures faults { OnOk result (faults.new ≡ judged scope.old Wanted.Use (name_view one.now) faults.old) }
-    ensures scope { OnOk result (scope.new ≡ scope_used_by (denoted Wanted.Use scope.old (name_view one.now)) scope.old) }
-{
-    name(one, Wanted::Use, scope, faults);
-    use_name(one, scope)
 }
 
 fn use_names(list: &Vec<Name>, scope: &mut Scope, faults: &mut Faults) -> Result<(), AllocError>
@@ -50,7 +32,8 @@ fn use_names(list: &Vec<Name>, scope: &mut Scope, faults: &mut Faults) -> Result
     ensures scope { OnOk result (scope.new ≡ scope_use_names (names_view list.now.items) scope.old) }
 {
     for one in list {
-        use_named(one, scope, faults)?;
+        name(one, Wanted::Use, scope, faults);
+        use_name(one, scope)?;
     }
     Ok(())
 }
@@ -69,11 +52,7 @@ fn context_item(
             Ok(())
         }
         ContextItem::With(_, names) => with_names(names, scope, faults),
-        ContextItem::Use {
-            at: _,
-            is_type,
-            names,
-        } => {
+        ContextItem::Use { is_type, names, .. } => {
             if *is_type {
                 return Ok(());
             }

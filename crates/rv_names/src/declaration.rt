@@ -132,10 +132,10 @@ pub(crate) fn declaration<'a>(
             Ok(())
         }
         Declaration::Subtype {
-            at: _,
             name: declared,
             mark,
             range: part,
+            ..
         } => subtype(declared, mark, part, scope, faults),
         Declaration::Protected(unit) => protected_unit(unit, scope, faults),
         Declaration::Task(task) => task_unit(task, scope, faults),

@@ -11,7 +11,6 @@ ghost use Rattle.rv_tree.specs.UnitView.{body_item_view, unit_view};
 ghost use Rattle.rv_names.specs.EndNames.{ends, definition_ends, declaration_ends, operation_body_ends, body_item_ends, unit_ends};
 
 use crate::fault::NameFault;
-use rv_distinct::{operation_body_block, operation_body_name};
 use rv_text::is_same_name;
 use rv_tree::body::{OperationBody, ProtectedBody};
 use rv_tree::declaration::{Declaration, TaskDefinition};
@@ -67,10 +66,7 @@ fn declarations_fault(list: &Vec<Declaration>) -> Option<NameFault>
 fn operation_fault(body: &OperationBody) -> Option<NameFault>
     ensures { result ≡ None → operation_body_ends (operation_body_view body.now) ≡ true }
 {
-    end_fault(
-        operation_body_name(body),
-        &operation_body_block(body).end_name,
-    )
+    end_fault(body.name(), &body.block().end_name)
 }
 
 fn operations_fault(list: &Vec<OperationBody>) -> Option<NameFault>

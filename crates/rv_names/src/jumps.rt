@@ -11,7 +11,6 @@ ghost use Rattle.rv_tree.specs.UnitView.{body_item_view, unit_view};
 ghost use Rattle.rv_names.specs.Jumps.{is_placed, are_placed, parts_are_placed, alternatives_are_placed, handler_is_placed, block_is_placed, operation_is_placed, item_is_placed, unit_is_placed};
 
 use crate::fault::NameFault;
-use rv_distinct::operation_body_block;
 use rv_tree::body::{Block, Handler, OperationBody};
 use rv_tree::statement::{CaseAlternative, ElsifPart, Statement};
 use rv_tree::unit::{BodyItem, UnitTree};
@@ -34,17 +33,12 @@ fn statement_fault(statement: &Statement, in_loop: bool, in_handler: bool) -> Op
     match statement {
         Statement::Exit(at, _) => fault_unless(in_loop, *at),
         Statement::Raise(at, exception) => fault_unless(exception.is_some() || in_handler, *at),
-        Statement::Loop {
-            at: _,
-            iteration: _,
-            statements,
-        } => statements_fault(statements, true, in_handler),
+        Statement::Loop { statements, .. } => statements_fault(statements, true, in_handler),
         Statement::If {
-            at: _,
-            condition: _,
             statements,
             elsif_parts,
             else_statements,
+            ..
         } => {
             if let Some(fault) = statements_fault(statements, in_loop, in_handler) {
                 return Some(fault);
@@ -54,11 +48,11 @@ fn statement_fault(statement: &Statement, in_loop: bool, in_handler: bool) -> Op
             }
             statements_fault(else_statements, in_loop, in_handler)
         }
-        Statement::Case {
-            at: _,
-            selector: _,
+        Statement::Case { alternatives, .. } => alternatives_fault(
             alternatives,
-        } => alternatives_fault(alternatives, in_loop, in_handler),
+            in_loop,
+            in_handler,
+        ),
         _ => None,
     }
 }
@@ -129,7 +123,7 @@ fn block_fault(block: &Block) -> Option<NameFault>
 fn operation_fault(body: &OperationBody) -> Option<NameFault>
     ensures { result ≡ None → operation_is_placed (operation_body_view body.now) ≡ true }
 {
-    block_fault(operation_body_block(body))
+    block_fault(body.block())
 }
 
 fn operations_fault(list: &Vec<OperationBody>) -> Option<NameFault>

@@ -38,46 +38,26 @@ const LIBRARIES: [Library; 8] = [
 
 fn is_local(local: &Local, name: &str) -> bool {
     match local {
-        Local::Object {
-            names,
-            is_constant: _,
-            mark: _,
-            range: _,
-            value: _,
-        } => is_among(name, names),
+        Local::Object { names, .. } => is_among(name, names.as_slice()),
         _ => false,
     }
 }
 
 fn block_declares(block: &Block, name: &str) -> bool {
-    for local in &block.locals {
-        if is_local(local, name) {
-            return true;
-        }
-    }
-    false
+    block.locals.iter().any(|local| is_local(local, name))
 }
 
 // Whether a library package has a name, or declares it.
 fn library_declares(name: &str) -> bool {
-    if Library::root(name).is_some() {
-        return true;
-    }
-    for library in &LIBRARIES {
-        if library.declaration(name).is_some() || library.child(name).is_some() {
-            return true;
-        }
-    }
-    false
+    Library::root(name).is_some()
+        || LIBRARIES.iter().any(|library| library.declaration(name).is_some()
+            || library.child(name).is_some())
 }
 
 fn has_operation(operations: &[Operation], name: &str) -> bool {
-    for operation in operations {
-        if is_same_name(name, operation.name()) {
-            return true;
-        }
-    }
-    false
+    operations
+        .iter()
+        .any(|operation| is_same_name(name, operation.name()))
 }
 
 impl<'a> Around<'a> {

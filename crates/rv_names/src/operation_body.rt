@@ -1,16 +1,12 @@
 //! The names that bodies of operations use.
 
 ghost use Rattle.std.specs.Prelude.{◌≡◌, true, OnOk, map};
-ghost use Rattle.rv_tree.specs.NameView.{identifier_view, name_view};
-ghost use Rattle.rv_tree.specs.ExpressionView.{expression_view};
-ghost use Rattle.rv_tree.specs.DeclarationView.{parameter_view};
-ghost use Rattle.rv_tree.specs.BodyView.{block_view, operation_body_view};
+ghost use Rattle.rv_tree.specs.NameView.{identifier_view};
+ghost use Rattle.rv_tree.specs.BodyView.{operation_body_view};
 ghost use Rattle.rv_scope.specs.Bound.{judged};
-ghost use Rattle.rv_scope.specs.Scope.{in_body};
 ghost use Rattle.rv_scope.specs.Wanted.{is_body};
-ghost use Rattle.rv_scope.specs.ExpressionUses.{◌▷◌, simple as simple_name, value_uses};
-ghost use Rattle.rv_scope.specs.DeclarationUses.{parameters_uses, with_parameters};
-ghost use Rattle.rv_scope.specs.UnitUses.{block_uses, operation_body_uses, operation_bodies_uses};
+ghost use Rattle.rv_scope.specs.ExpressionUses.{simple as simple_name};
+ghost use Rattle.rv_scope.specs.UnitUses.{body_wanted as wanted_by_body, mark_or_barrier_uses, operation_body_uses, operation_bodies_uses};
 
 use crate::body::block;
 use crate::expression::{name, value};
@@ -18,10 +14,8 @@ use crate::fault::{Faults, NameFault};
 use crate::protected::parameters;
 use rv_scope::scope::Scope;
 use rv_scope::wanted::Wanted;
-use rv_tree::body::{Block, OperationBody};
-use rv_tree::declaration::Parameter;
-use rv_tree::expression::Expression;
-use rv_tree::name::{Identifier, Name};
+use rv_tree::body::OperationBody;
+use rv_tree::name::Identifier;
 use std::alloc::AllocError;
 
 /// The name of a body: a declaration of it must stand in the innermost region.
@@ -52,73 +46,27 @@ fn undeclared(declared: &Identifier, wanted: Wanted, faults: &Faults) -> NameFau
     }
 }
 
-fn function_body<'a>(
-    declared: &'a Identifier,
-    list: &Vec<Parameter>,
-    mark: &Name,
-    part: &'a Block,
-    scope: &mut Scope,
-    faults: &mut Faults<'a>,
-) -> Result<(), AllocError>
-    ensures faults { OnOk result (faults.new
-        ≡ (judged scope.old Wanted.FunctionBody (simple_name (identifier_view declared.now))
-        ▷ parameters_uses judged (in_body (identifier_view declared.now) scope.old) (map parameter_view list.now.items)
-        ▷ judged (with_parameters (map parameter_view list.now.items) (in_body (identifier_view declared.now) scope.old)) Wanted.Subtype (name_view mark.now)
-        ▷ block_uses judged (with_parameters (map parameter_view list.now.items) (in_body (identifier_view declared.now) scope.old)) (block_view part.now)) faults.old) }
-    ensures scope { OnOk result (scope.new ≡ scope.old) }
+// What a body of an operation wants to be declared.
+fn body_wanted(body: &OperationBody) -> Wanted
+    ensures wanted { result ≡ wanted_by_body (operation_body_view body.now) }
+    ensures is_body { is_body result ≡ true }
 {
-    body_name(declared, Wanted::FunctionBody, scope, faults);
-    let around = scope.enter_body(declared)?;
-    parameters(list, scope, faults)?;
-    name(mark, Wanted::Subtype, scope, faults);
-    block(part, scope, faults)?;
-    scope.leave_body(around);
-    Ok(())
+    match body {
+        OperationBody::Function { .. } => Wanted::FunctionBody,
+        OperationBody::Procedure { .. } => Wanted::ProcedureBody,
+        OperationBody::Entry { .. } => Wanted::EntryBody,
+    }
 }
 
-fn procedure_body<'a>(
-    declared: &'a Identifier,
-    list: &Vec<Parameter>,
-    part: &'a Block,
-    scope: &mut Scope,
-    faults: &mut Faults<'a>,
-) -> Result<(), AllocError>
-    ensures faults { OnOk result (faults.new
-        ≡ (judged scope.old Wanted.ProcedureBody (simple_name (identifier_view declared.now))
-        ▷ parameters_uses judged (in_body (identifier_view declared.now) scope.old) (map parameter_view list.now.items)
-        ▷ block_uses judged (with_parameters (map parameter_view list.now.items) (in_body (identifier_view declared.now) scope.old)) (block_view part.now)) faults.old) }
-    ensures scope { OnOk result (scope.new ≡ scope.old) }
+// The mark of a function's result, or the barrier of an entry.
+fn mark_or_barrier(body: &OperationBody, scope: &Scope, faults: &mut Faults)
+    ensures { faults.new ≡ mark_or_barrier_uses judged scope.now (operation_body_view body.now) faults.old }
 {
-    body_name(declared, Wanted::ProcedureBody, scope, faults);
-    let around = scope.enter_body(declared)?;
-    parameters(list, scope, faults)?;
-    block(part, scope, faults)?;
-    scope.leave_body(around);
-    Ok(())
-}
-
-fn entry_body<'a>(
-    declared: &'a Identifier,
-    list: &Vec<Parameter>,
-    barrier: &Expression,
-    part: &'a Block,
-    scope: &mut Scope,
-    faults: &mut Faults<'a>,
-) -> Result<(), AllocError>
-    ensures faults { OnOk result (faults.new
-        ≡ (judged scope.old Wanted.EntryBody (simple_name (identifier_view declared.now))
-        ▷ parameters_uses judged (in_body (identifier_view declared.now) scope.old) (map parameter_view list.now.items)
-        ▷ value_uses judged (with_parameters (map parameter_view list.now.items) (in_body (identifier_view declared.now) scope.old)) (expression_view barrier.now)
-        ▷ block_uses judged (with_parameters (map parameter_view list.now.items) (in_body (identifier_view declared.now) scope.old)) (block_view part.now)) faults.old) }
-    ensures scope { OnOk result (scope.new ≡ scope.old) }
-{
-    body_name(declared, Wanted::EntryBody, scope, faults);
-    let around = scope.enter_body(declared)?;
-    parameters(list, scope, faults)?;
-    value(barrier, scope, faults);
-    block(part, scope, faults)?;
-    scope.leave_body(around);
-    Ok(())
+    match body {
+        OperationBody::Function { mark, .. } => name(mark, Wanted::Subtype, scope, faults),
+        OperationBody::Procedure { .. } => {}
+        OperationBody::Entry { barrier, .. } => value(barrier, scope, faults),
+    }
 }
 
 fn operation_body<'a>(
@@ -129,28 +77,16 @@ fn operation_body<'a>(
     ensures faults { OnOk result (faults.new ≡ operation_body_uses judged scope.old (operation_body_view body.now) faults.old) }
     ensures scope { OnOk result (scope.new ≡ scope.old) }
 {
-    match body {
-        OperationBody::Function {
-            at: _,
-            name: declared,
-            parameters: list,
-            mark,
-            block: part,
-        } => function_body(declared, list, mark, part, scope, faults),
-        OperationBody::Procedure {
-            at: _,
-            name: declared,
-            parameters: list,
-            block: part,
-        } => procedure_body(declared, list, part, scope, faults),
-        OperationBody::Entry {
-            at: _,
-            name: declared,
-            parameters: list,
-            barrier,
-            block: part,
-        } => entry_body(declared, list, barrier, part, scope, faults),
-    }
+    let declared = body.name();
+    let list = body.parameters();
+    let part = body.block();
+    body_name(declared, body_wanted(body), scope, faults);
+    let around = scope.enter_body(declared)?;
+    parameters(list, scope, faults)?;
+    mark_or_barrier(body, scope, faults);
+    block(part, scope, faults)?;
+    scope.leave_body(around);
+    Ok(())
 }
 
 /// The bodies of a protected unit's operations.

@@ -3,36 +3,19 @@
 ghost use Rattle.std.specs.Prelude.{◌≡◌, map};
 ghost use Rattle.rv_tree.specs.DeclarationView.{pragma_view, pragma_argument_view, aspect_view};
 ghost use Rattle.rv_scope.specs.Bound.{judged};
-ghost use Rattle.rv_scope.specs.DeclarationUses.{is_priority as is_priority_name, is_attachment as is_attachment_name, arguments_uses, pragma_uses, aspects_uses};
+ghost use Rattle.rv_scope.specs.DeclarationUses.{arguments_uses, pragma_uses, aspects_uses};
 
 use crate::expression::{expression, maybe_value};
 use crate::fault::{Faults, NameFault};
+use rv_scope::pragma::{is_attachment, is_priority};
 use rv_scope::scope::Scope;
 use rv_scope::wanted::Wanted;
-use rv_text::is_same_name;
 use rv_tree::declaration::{
     Aspect, OperationDeclaration, Parameter, Pragma, PragmaArgument, ProtectedElement,
     ProtectedUnit, TaskItem, TaskUnit,
 };
 use rv_tree::expression::Expression;
 use rv_tree::name::Identifier;
-
-// Whether a pragma or an aspect of this name gives a priority (D.1).
-fn is_priority(name: &str) -> bool
-    ensures { result ≡ is_priority_name name.now }
-{
-    if is_same_name(name, "Priority") {
-        return true;
-    }
-    is_same_name(name, "Interrupt_Priority")
-}
-
-// Whether it attaches a procedure to a line (C.3.1).
-fn is_attachment(name: &str) -> bool
-    ensures { result ≡ is_attachment_name name.now }
-{
-    is_same_name(name, "Attach_Handler")
-}
 
 // The arguments of a pragma, all but the first being values.
 fn arguments(list: &Vec<PragmaArgument>, first: Wanted, scope: &Scope, faults: &mut Faults)

@@ -4,7 +4,7 @@ ghost use Rattle.std.specs.Prelude.{◌≡◌, OnOk, map};
 ghost use Rattle.rv_tree.specs.NameView.{identifier_view, identifiers_view, name_view};
 ghost use Rattle.rv_tree.specs.DeclarationView.{maybe, aspect_view, parameter_view, operation_view, element_view, protected_unit_view};
 ghost use Rattle.rv_scope.specs.Bound.{judged};
-ghost use Rattle.rv_scope.specs.Scope.{OnlyDeclares, declaring_all, hiding_all, hiding, entered, within_unit};
+ghost use Rattle.rv_scope.specs.Scope.{OnlyDeclares, declaring_all, hiding_all, hiding, entered};
 ghost use Rattle.rv_scope.specs.ExpressionUses.{◌▷◌, maybe_uses};
 ghost use Rattle.rv_scope.specs.DeclarationUses.{aspects_uses, parameters_uses, with_parameters, declaring_operation, operation_uses, with_operation, operations_uses, with_operations, element_uses, with_element, elements_uses, with_elements, private_uses, with_private, with_members, parts_uses, protected_unit_uses, declaring_protected_unit};
 
@@ -150,16 +150,16 @@ fn operation(
             Ok(())
         }
         OperationDeclaration::Function {
-            at: _,
             name: declared,
             parameters: list,
             mark,
+            ..
         } => function(declared, list, mark, scope, faults),
         OperationDeclaration::Procedure {
-            at: _,
             name: declared,
             parameters: list,
             aspects: given,
+            ..
         } => procedure(declared, list, given, scope, faults),
         OperationDeclaration::Entry(one) => entry(&one.name, &one.parameters, scope, faults),
     }
@@ -246,18 +246,14 @@ fn parts<'a>(
     scope: &mut Scope,
     faults: &mut Faults<'a>,
 ) -> Result<(), AllocError>
-    ensures faults { OnOk result (faults.new
-        ≡ parts_uses judged (within_unit unit.now.name.at scope.old) (protected_unit_view unit.now) faults.old) }
+    ensures faults { OnOk result (faults.new ≡ parts_uses judged scope.old (protected_unit_view unit.now) faults.old) }
     ensures scope { OnOk result (scope.new ≡ scope.old) }
 {
-    let around = scope.current();
-    scope.set_current(Some(unit.name.at));
     faults.set_unit(Some(unit));
     aspects(&unit.aspects, scope, faults);
     protected_rules(unit, faults);
     members(unit, scope, faults)?;
     faults.set_unit(None);
-    scope.set_current(around);
     Ok(())
 }
 
@@ -270,8 +266,7 @@ pub(crate) fn protected_unit<'a>(
     ensures faults { OnOk result (faults.new ≡ protected_unit_uses judged scope.old (protected_unit_view unit.now) faults.old) }
     ensures scope { OnOk result (scope.new ≡ declaring_protected_unit (protected_unit_view unit.now) scope.old) }
 {
-    hide(&unit.name, scope)?;
-    scope.name_protected_unit(unit)?;
+    let around = scope.enter_declaration(unit)?;
     parts(unit, scope, faults)?;
-    scope.show_protected_unit(unit)
+    scope.leave_declaration(unit, around)
 }

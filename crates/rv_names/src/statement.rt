@@ -93,11 +93,11 @@ fn statement(
             expressions(arguments, scope, faults);
         }
         Statement::If {
-            at: _,
             condition,
             statements: chosen,
             elsif_parts: parts,
             else_statements: otherwise,
+            ..
         } => {
             value(condition, scope, faults);
             statements(chosen, scope, faults)?;
@@ -105,45 +105,26 @@ fn statement(
             statements(otherwise, scope, faults)?;
         }
         Statement::Case {
-            at: _,
             selector,
             alternatives: choices,
+            ..
         } => {
             value(selector, scope, faults);
             alternatives(choices, scope, faults)?;
         }
         Statement::Loop {
-            at: _,
             iteration,
             statements: body,
+            ..
         } => turns(iteration, body, scope, faults)?,
         Statement::Exit(_, condition) => maybe_value(condition, scope, faults),
         Statement::Return(_, returned) => maybe_value(returned, scope, faults),
         Statement::Raise(_, exception) => maybe_name(exception, Wanted::Exception, scope, faults),
-        Statement::Delay {
-            at: _,
-            is_until: _,
-            time,
-        } => value(time, scope, faults),
+        Statement::Delay { time, .. } => value(time, scope, faults),
         Statement::Abort(at, _) => refuse(*at, scope, faults),
-        Statement::Requeue {
-            at,
-            target: _,
-            with_abort: _,
-        } => refuse(*at, scope, faults),
-        Statement::Accept {
-            at: _,
-            entry,
-            parameters: _,
-            statements: _,
-            end_name: _,
-        } => accept(entry, scope, faults),
-        Statement::Select {
-            at,
-            alternatives: _,
-            else_statements: _,
-            abort_statements: _,
-        } => refuse(*at, scope, faults),
+        Statement::Requeue { at, .. } => refuse(*at, scope, faults),
+        Statement::Accept { entry, .. } => accept(entry, scope, faults),
+        Statement::Select { at, .. } => refuse(*at, scope, faults),
     }
     Ok(())
 }
@@ -167,8 +148,8 @@ fn turns(
         }
         Iteration::For {
             parameter,
-            is_reverse: _,
             bounds: over,
+            ..
         } => {
             scope.enter()?;
             hide(parameter, scope)?;

@@ -14,10 +14,10 @@ use Rattle.rv_static.specs.Static.{◌>>=◌}
 use Rattle.rv_static.specs.Meanings.{same_type}
 use Rattle.rv_static.specs.Operators.{is_true}
 use Rattle.rv_static.specs.Ranges.{static_number}
-use Rattle.rv_outline.specs.declared.known.Known.{Known}
-use Rattle.rv_outline.specs.declared.known.Known.TheVariants as k
-use Rattle.rv_outline.specs.ByPlace.{at_place}
-use Rattle.rv_outline.specs.Known.{Table, whole_range, means}
+use Rattle.rv_scope.specs.declared.known.Known.{Known}
+use Rattle.rv_scope.specs.declared.known.Known.TheVariants as k
+use Rattle.rv_scope.specs.ByPlace.{at_place}
+use Rattle.rv_scope.specs.Statics.{Table, whole_range, means}
 
 -- the place of the component that a declaration is
 abbrev pub component_place : Option Declared → Option ℕ

@@ -20,9 +20,9 @@ use Rattle.rv_scope.specs.DeclarationUses.{with_parameters, with_declaration, wi
 use Rattle.rv_scope.specs.UnitUses.{in_protected_unit, unit_of_body, with_body_item, package_scope, protected_units}
 use Rattle.rv_outline.specs.declared.outline.ObjectType.{ObjectType}
 use Rattle.rv_outline.specs.declared.outline.ObjectType.TheVariants as sort
-use Rattle.rv_outline.specs.Known.{means}
-use Rattle.rv_outline.specs.Drafts.{Draft, empty_draft, noted, knowing, knowing_all, adding_objects, having_kind}
-use Rattle.rv_outline.specs.Subtypes.{subtype_known, constant_known}
+use Rattle.rv_scope.specs.Statics.{means}
+use Rattle.rv_outline.specs.Drafts.{Draft, empty_draft, noted, knowing_found, adding_objects, having_kind}
+use Rattle.rv_scope.specs.Subtypes.{subtype_known, constant_known}
 use Rattle.rv_outline.specs.Barriers.{barrier_of}
 use Rattle.rv_outline.specs.ProtectedUnits.{protected_unit_outlined, task_outlined}
 
@@ -35,13 +35,13 @@ object_type other = sort.Suspension
 abbrev pub declaration_outlined : ScopeView → Bool → Declaration → Draft → Draft
 declaration_outlined scope is_visible (package_pragma pragma) draft = draft
 declaration_outlined scope is_visible (a_subtype at i mark range) draft =
-    noted (subtype_known (means (hiding i scope) draft.known) mark range) (knowing i) draft
+    knowing_found (subtype_known (means (hiding i scope) draft.known) mark range) (i ∷ []) draft
 declaration_outlined scope is_visible (a_protected_unit unit) draft = protected_unit_outlined scope is_visible unit draft
 declaration_outlined scope is_visible (a_task task) draft = task_outlined scope task draft
 declaration_outlined scope is_visible (a_variable names mark) draft =
     adding_objects is_visible (object_type (visible (hiding_all names scope) mark)) names draft
 declaration_outlined scope is_visible (a_constant names mark initial) draft =
-    noted (constant_known (means (hiding_all names scope) draft.known) mark initial) (knowing_all names) draft
+    knowing_found (constant_known (means (hiding_all names scope) draft.known) mark initial) names draft
 
 abbrev pub declarations_outlined : ScopeView → List Declaration → Draft → Draft
 declarations_outlined scope [] draft = draft

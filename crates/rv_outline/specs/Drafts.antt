@@ -4,12 +4,14 @@ use Rattle.rv_tree.specs.Names.{Identifier}
 use Rattle.rv_shape.specs.declared.kind.Component.{Component}
 use Rattle.rv_shape.specs.declared.kind.Kind.{Kind}
 use Rattle.rv_shape.specs.Objects.{OperationShape, TaskShape}
-use Rattle.rv_outline.specs.ByPlace.{ByPlace, with_place}
-use Rattle.rv_outline.specs.declared.known.Known.{Known}
-use Rattle.rv_outline.specs.declared.known.Known.TheVariants as k
+use Rattle.rv_static.specs.Told.{told_unless}
+use Rattle.rv_scope.specs.ByPlace.{ByPlace, with_place}
+use Rattle.rv_scope.specs.Subtypes.{knowing_if}
+use Rattle.rv_scope.specs.declared.known.Known.{Known}
+use Rattle.rv_scope.specs.declared.known.Known.TheVariants as k
 use Rattle.rv_outline.specs.declared.outline.ObjectType.{ObjectType}
 use Rattle.rv_outline.specs.declared.draft.OperationDraft.{OperationDraft}
-use Rattle.rv_outline.specs.Known.{Table, default_priority}
+use Rattle.rv_scope.specs.Statics.{Table, default_priority}
 
 -- the kinds that aspects, pragmas and bodies give to operations, by the places of their identifiers: those of handlers
 -- (C.3.1), and those of entries, with their barriers (9.5.2)
@@ -71,9 +73,10 @@ noted (Some found) next draft = next found draft
 abbrev pub knowing : Identifier → Known → Draft → Draft
 knowing i known draft = record draft { known = with_place draft.known i.at known }
 
-abbrev pub knowing_all : List Identifier → Known → Draft → Draft
-knowing_all [] known draft = draft
-knowing_all (i ∷ more) known draft = knowing_all more known (knowing i known draft)
+-- what was found of the declaration of these identifiers is known; else a fault is told
+abbrev pub knowing_found : Option Known → List Identifier → Draft → Draft
+knowing_found found names draft =
+    record draft { told = told_unless found draft.told; known = knowing_if found names draft.known }
 
 -- Protected units and tasks
 

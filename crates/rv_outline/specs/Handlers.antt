@@ -10,11 +10,11 @@ use Rattle.rv_scope.specs.declared.predefined.Predefined.TheVariants as p
 use Rattle.rv_scope.specs.Scope.{ScopeView}
 use Rattle.rv_scope.specs.Visible.{visible}
 use Rattle.rv_static.specs.Static.{◌>>=◌}
-use Rattle.rv_outline.specs.declared.known.Known.{Known}
-use Rattle.rv_outline.specs.declared.known.Known.TheVariants as k
+use Rattle.rv_scope.specs.declared.known.Known.{Known}
+use Rattle.rv_scope.specs.declared.known.Known.TheVariants as k
 use Rattle.rv_outline.specs.declared.draft.OperationDraft.{OperationDraft}
 use Rattle.rv_outline.specs.declared.handler.Attachment.{Attachment}
-use Rattle.rv_outline.specs.ByPlace.{at_place}
+use Rattle.rv_scope.specs.ByPlace.{at_place}
 use Rattle.rv_outline.specs.Drafts.{Draft}
 
 -- the line that a declaration is: one of Ada.Interrupts.Names

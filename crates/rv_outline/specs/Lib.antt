@@ -1,7 +1,4 @@
-pub mod ByPlace
-pub mod Known
 pub mod Drafts
-pub mod Subtypes
 pub mod Profiles
 pub mod Priorities
 pub mod Handlers

@@ -10,7 +10,7 @@ use Rattle.rv_shape.specs.Limits.{last_priority}
 use Rattle.rv_static.specs.declared.meaning.Meaning.{Meaning}
 use Rattle.rv_static.specs.Static.{◌>>=◌}
 use Rattle.rv_static.specs.Ranges.{value_in}
-use Rattle.rv_outline.specs.Known.{any_priority_range, interrupt_priority_range}
+use Rattle.rv_scope.specs.Statics.{any_priority_range, interrupt_priority_range}
 
 -- the values that `Priority` or `Interrupt_Priority` takes (own)
 abbrev pub range_of_priority : List ℕ → Range

@@ -1,5 +1,5 @@
 -- The parameters and results of operations (ISO/IEC 8652:2012, 6.1).
-use Rattle.std.specs.Prelude.{Bool, true, false, ◌&&◌, not, if◌then◌else◌, List, [], ◌∷◌, ◌++◌, Option, Some, None}
+use Rattle.std.specs.Prelude.{Bool, ◌&&◌, not, if◌then◌else◌, List, [], ◌∷◌, ◌++◌, Option, Some, None, is_some}
 use Rattle.rv_tree.specs.Names.{Identifier, Name}
 use Rattle.rv_tree.specs.Declarations as t
 use Rattle.rv_tree.specs.declared.declaration.Mode.{Mode}
@@ -13,11 +13,15 @@ use Rattle.rv_shape.specs.declared.kind.Barrier.TheVariants.{AlwaysClosed}
 use Rattle.rv_shape.specs.Forms.{is_in}
 use Rattle.rv_shape.specs.Objects.{OperationShape}
 use Rattle.rv_scope.specs.declared.declare.Form.TheVariants as f
-use Rattle.rv_scope.specs.Scope.{ScopeView, declaring_all, hiding_all, entered}
+use Rattle.rv_scope.specs.Scope.{ScopeView, declaring_all, hiding_all}
 use Rattle.rv_scope.specs.DeclarationUses.{with_parameters}
+use Rattle.rv_scope.specs.declared.declared.OperationKind.{OperationKind}
+use Rattle.rv_scope.specs.declared.declared.OperationKind.TheVariants as kind
+use Rattle.rv_scope.specs.Heads.{Head}
+use Rattle.rv_static.specs.declared.meaning.Meaning.{Meaning}
 use Rattle.rv_static.specs.Meanings.{range_in}
 use Rattle.rv_static.specs.Static.{◌>>=◌}
-use Rattle.rv_outline.specs.Known.{Table, means}
+use Rattle.rv_scope.specs.Statics.{Table, means}
 
 -- how a parameter is passed; a mode that isn't written is `in`
 abbrev pub passing : Mode → ParameterMode
@@ -50,29 +54,19 @@ abbrev pub operation_of : Identifier → Kind → Bool → List Parameter → Op
 operation_of i kind is_visible parameters =
     record { name = i.text; kind = kind; parameters = parameters; is_visible = is_visible }
 
--- a function whose parameters are declared in the innermost region
-abbrev pub function_in : Table → ScopeView → Bool → Identifier → List t.Parameter → Name → Option OperationShape
-function_in table scope is_visible i parameters mark =
-    parameters_onto true table scope parameters [] >>= λ all.
-    range_in (means (with_parameters parameters scope) table mark) >>= λ range.
-    Some (operation_of i (Function range) is_visible all)
+-- the kind of an operation, if no other is given to it: a function has the range of its mark, a procedure handles no line,
+-- and an entry is closed
+abbrev pub kind_in : (Name → Meaning) → OperationKind → Option Name → Option Kind
+kind_in means of (Some mark) = range_in (means mark) >>= λ range. Some (Function range)
+kind_in means kind.Entry None = Some (Entry AlwaysClosed)
+kind_in means of None = Some Procedure
 
--- a function, in a region of its own
-abbrev pub function_of : Table → ScopeView → Bool → Identifier → List t.Parameter → Name → Option OperationShape
-function_of table scope is_visible i parameters mark = function_in table (entered scope) is_visible i parameters mark
+abbrev pub kind_of_head : (Name → Meaning) → Head → Option Kind
+kind_of_head means head = kind_in means head.kind head.mark
 
--- a procedure or an entry, likewise
-abbrev pub callable_in : Kind → Table → ScopeView → Bool → Identifier → List t.Parameter → Option OperationShape
-callable_in kind table scope is_visible i parameters =
-    parameters_onto false table scope parameters [] >>= λ all. Some (operation_of i kind is_visible all)
-
-abbrev pub callable_of : Kind → Table → ScopeView → Bool → Identifier → List t.Parameter → Option OperationShape
-callable_of kind table scope is_visible i parameters = callable_in kind table (entered scope) is_visible i parameters
-
--- a procedure handles no line, unless a kind is given to it
-abbrev pub procedure_of : Table → ScopeView → Bool → Identifier → List t.Parameter → Option OperationShape
-procedure_of = callable_of Procedure
-
--- an entry is closed, unless its body gives it a barrier
-abbrev pub entry_of : Table → ScopeView → Bool → Identifier → List t.Parameter → Option OperationShape
-entry_of = callable_of (Entry AlwaysClosed)
+-- an operation whose parameters are declared in the innermost region
+abbrev pub operation_in : Table → ScopeView → Bool → Head → Option OperationShape
+operation_in table scope is_visible head =
+    parameters_onto (is_some head.mark) table scope head.parameters [] >>= λ all.
+    kind_of_head (means (with_parameters head.parameters scope) table) head >>= λ found.
+    Some (operation_of head.name found is_visible all)

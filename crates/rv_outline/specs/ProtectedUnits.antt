@@ -1,17 +1,23 @@
 -- What protected units and tasks add to an outline, part by part in the order of the text (ISO/IEC 8652:2012, 9.1, 9.4,
 -- C.3.1, D.1, D.3).
 use Rattle.std.specs.Prelude.{ℕ, Bool, true, false, if◌then◌else◌, List, [], ◌∷◌, Option, Some, None, length}
-use Rattle.rv_tree.specs.Names.{Identifier}
-use Rattle.rv_tree.specs.Declarations.{Pragma, Aspect, OperationDeclaration, a_pragma, a_function, a_procedure, an_entry, ProtectedElement, an_operation, a_component, ProtectedUnit, TaskItem, task_pragma, task_entry, TaskDefinition, TaskUnit}
+use Rattle.rv_tree.specs.Names.{Identifier, Name}
+use Rattle.rv_tree.specs.Expressions.{Expression, RangeConstraint}
+use Rattle.rv_tree.specs.Declarations.{Pragma, Aspect, OperationDeclaration, a_pragma, a_procedure, ProtectedElement, an_operation, a_component, ProtectedUnit, TaskItem, task_pragma, task_entry, TaskDefinition, TaskUnit}
 use Rattle.rv_shape.specs.declared.kind.Kind.TheVariants.{Handler}
+use Rattle.rv_shape.specs.declared.kind.Component.{Component}
+use Rattle.rv_static.specs.declared.meaning.Meaning.{Meaning}
+use Rattle.rv_static.specs.Static.{◌>>=◌}
+use Rattle.rv_static.specs.Ranges.{start_of}
 use Rattle.rv_scope.specs.Scope.{ScopeView, hiding, hiding_all, entered, within_unit}
+use Rattle.rv_scope.specs.Heads.{Head, declared_head}
 use Rattle.rv_scope.specs.DeclarationUses.{is_priority, is_attachment, with_operation, with_operations, with_element, naming_unit}
 use Rattle.rv_outline.specs.declared.outline.ObjectType.TheVariants as sort
 use Rattle.rv_outline.specs.declared.handler.Attachment.{Attachment}
-use Rattle.rv_outline.specs.Known.{means}
+use Rattle.rv_scope.specs.Statics.{means}
 use Rattle.rv_outline.specs.Drafts.{Draft, noted, started, giving_priority, adding_components, adding_operation, adding_object, having_kind, finished, finished_task}
-use Rattle.rv_outline.specs.Subtypes.{component_of}
-use Rattle.rv_outline.specs.Profiles.{function_of, procedure_of, entry_of}
+use Rattle.rv_scope.specs.Subtypes.{subtype_of}
+use Rattle.rv_outline.specs.Profiles.{operation_in}
 use Rattle.rv_outline.specs.Priorities.{aspect_priority, pragma_priority}
 use Rattle.rv_outline.specs.Handlers.{aspect_line, attachment}
 
@@ -60,17 +66,18 @@ pragma_outlined scope pragma draft =
 
 -- Operations and components
 
--- the identifier of an operation isn't declared yet in its own profile (8.2)
+-- an operation that is declared with the aspects of a procedure; its identifier isn't declared yet in its own profile (8.2)
+abbrev pub declared_outlined : ScopeView → Bool → Option Head → List Aspect → Draft → Draft
+declared_outlined scope is_visible None aspects draft = draft
+declared_outlined scope is_visible (Some head) aspects draft =
+    procedure_aspects_outlined (hiding head.name scope) head.name aspects
+    (noted (operation_in draft.known (entered scope) is_visible head) (adding_operation head.name) draft)
+
 abbrev pub operation_outlined : ScopeView → Bool → OperationDeclaration → Draft → Draft
 operation_outlined scope is_visible (a_pragma pragma) draft = pragma_outlined scope pragma draft
-operation_outlined scope is_visible (a_function at i parameters mark) draft =
-    noted (function_of draft.known scope is_visible i parameters mark) (adding_operation i) draft
 operation_outlined scope is_visible (a_procedure at i parameters aspects) draft =
-    procedure_aspects_outlined (hiding i scope) i aspects
-    (noted (procedure_of draft.known scope is_visible i parameters) (adding_operation i) draft)
-operation_outlined scope is_visible (an_entry entry) draft =
-    noted (entry_of draft.known scope is_visible entry.name entry.parameters)
-    (adding_operation entry.name) draft
+    declared_outlined scope is_visible (declared_head (a_procedure at i parameters aspects)) aspects draft
+operation_outlined scope is_visible other draft = declared_outlined scope is_visible (declared_head other) [] draft
 
 -- what stands before `private` is visible
 abbrev pub operations_outlined : ScopeView → List OperationDeclaration → Draft → Draft
@@ -78,7 +85,12 @@ operations_outlined scope [] draft = draft
 operations_outlined scope (o ∷ more) draft =
     operations_outlined (with_operation o scope) more (operation_outlined scope true o draft)
 
--- what stands after it isn't
+-- a component: its subtype, and what it starts at
+abbrev pub component_of : (Name → Meaning) → Name → Option RangeConstraint → Option Expression → Option Component
+component_of means mark range initial =
+    subtype_of means mark range >>= λ part. start_of means part initial >>= λ start. Some (record { range = part; start = start })
+
+-- what stands after it isn't visible
 abbrev pub element_outlined : ScopeView → ProtectedElement → Draft → Draft
 element_outlined scope (an_operation o) draft = operation_outlined scope false o draft
 element_outlined scope (a_component names mark range initial) draft =

@@ -12,8 +12,8 @@ use Rattle.rv_shape.specs.Shape.{Shape}
 use Rattle.rv_outline.specs.declared.outline.ObjectType.{ObjectType}
 use Rattle.rv_outline.specs.declared.outline.ObjectType.TheVariants as sort
 use Rattle.rv_outline.specs.declared.draft.OperationDraft.{OperationDraft}
-use Rattle.rv_outline.specs.ByPlace.{at_place}
-use Rattle.rv_outline.specs.Known.{Table}
+use Rattle.rv_scope.specs.ByPlace.{at_place}
+use Rattle.rv_scope.specs.Statics.{Table}
 use Rattle.rv_outline.specs.Drafts.{Kinds, UnitDraft, ObjectDraft, Draft, priority_or}
 use Rattle.rv_outline.specs.Declarations.{drafted}
 

@@ -2,17 +2,13 @@
 
 ghost use Rattle.std.specs.Prelude.{◌≡◌};
 ghost use Rattle.rv_tree.specs.ExpressionView.{expression_view};
-ghost use Rattle.rv_shape.specs.declared.kind.ValueType.TheVariants.{Boolean};
-ghost use Rattle.rv_static.specs.Meanings.{same_type};
 ghost use Rattle.rv_static.specs.Told.{told_unless};
 ghost use Rattle.rv_outline.specs.Barriers.{component_place as place_of_component, component_named as component_of_name, component_barrier as barrier_of_component, is_whole_boolean as whole_boolean, fixed_barrier as barrier_of_value, barrier_of};
 
-use crate::known::{Known, Table};
-use crate::point::Point;
 use rv_scope::library_meaning::whole_range;
-use rv_scope::{Declared, Scope};
+use rv_scope::{Declared, Known, Point, Scope, Table};
 use rv_shape::kind::{Barrier, Range, ValueType};
-use rv_static::{Faults, TypeFault, static_number};
+use rv_static::{Faults, TypeFault, same_type, static_number};
 use rv_tree::Expression;
 
 // The place of the component that a declaration is.
@@ -35,20 +31,11 @@ fn component_named(e: &Expression, scope: &Scope) -> Option<usize>
     }
 }
 
-fn is_boolean(of: ValueType) -> bool
-    ensures { result ≡ same_type of Boolean }
-{
-    match of {
-        ValueType::Boolean => true,
-        _ => false,
-    }
-}
-
 // Whether a component of this subtype is a barrier: it is all of Boolean.
 fn is_whole_boolean(range: Range) -> bool
     ensures { result ≡ whole_boolean range }
 {
-    is_boolean(range.of) && range.low == 0 && range.high == 1
+    same_type(range.of, ValueType::Boolean) && range.low == 0 && range.high == 1
 }
 
 // The barrier that is a component.

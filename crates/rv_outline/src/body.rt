@@ -18,9 +18,8 @@ ghost use Rattle.rv_outline.specs.Declarations.{entry_barred, operation_body_out
 use crate::barrier::barrier;
 use crate::declaration::declaration;
 use crate::draft::Draft;
-use crate::known::Table;
 use rv_scope::members::declare_parameters;
-use rv_scope::{Declared, OperationKind, Scope, Wanted};
+use rv_scope::{Declared, OperationKind, Scope, Table, Wanted};
 use rv_shape::kind::{Barrier, Kind};
 use rv_static::Faults;
 use rv_tree::{

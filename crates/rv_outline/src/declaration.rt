@@ -1,78 +1,23 @@
 //! What the declarations of a package add to an outline (3.2.2, 3.3.1, 3.3.2, 7.1).
 
 ghost use Rattle.std.specs.Prelude.{◌≡◌, OnOk, map, true, false};
-ghost use Rattle.rv_tree.specs.NameView.{identifier_view, identifiers_view, name_view};
-ghost use Rattle.rv_tree.specs.ExpressionView.{expression_view, range_view};
-ghost use Rattle.rv_tree.specs.DeclarationView.{maybe, declaration_view};
-ghost use Rattle.rv_scope.specs.Scope.{declaring, declaring_all, hiding, hiding_all};
+ghost use Rattle.rv_tree.specs.NameView.{identifiers_view, name_view};
+ghost use Rattle.rv_tree.specs.DeclarationView.{declaration_view};
+ghost use Rattle.rv_scope.specs.Scope.{declaring_all, hiding_all};
 ghost use Rattle.rv_scope.specs.Visible.{visible};
 ghost use Rattle.rv_scope.specs.DeclarationUses.{object_form as form_of_objects, with_declaration, with_declarations};
-ghost use Rattle.rv_outline.specs.Known.{means};
-ghost use Rattle.rv_outline.specs.Drafts.{noted, knowing, knowing_all, adding_objects};
-ghost use Rattle.rv_outline.specs.Subtypes.{subtype_known, constant_known};
+ghost use Rattle.rv_outline.specs.Drafts.{adding_objects};
 ghost use Rattle.rv_outline.specs.Declarations.{object_type as type_of_objects, declaration_outlined, declarations_outlined};
 
 use crate::draft::Draft;
 use crate::outline::ObjectType;
-use crate::point::Point;
 use crate::protected::protected_unit;
-use crate::subtype::{known_constant, known_subtype};
 use crate::task::task_unit;
-use rv_scope::declare::{Form, declare_all};
-use rv_scope::members::{declare_variables, hide, hide_all};
+use rv_scope::members::{declare_variables, hide_all};
+use rv_scope::subtype::{declare_constants, declare_subtype};
 use rv_scope::{Declared, Scope};
-use rv_tree::{Declaration, Expression, Identifier, Name, RangeConstraint};
+use rv_tree::{Declaration, Identifier, Name};
 use std::alloc::AllocError;
-
-fn subtype(
-    declared: &Identifier,
-    mark: &Name,
-    range: &Option<RangeConstraint>,
-    scope: &mut Scope,
-    draft: &mut Draft,
-) -> Result<(), AllocError>
-    ensures draft { OnOk result (draft.new
-        ≡ noted (subtype_known (means (hiding (identifier_view declared.now) scope.old) draft.old.known) (name_view mark.now)
-        (maybe range_view range.now)) (knowing (identifier_view declared.now)) draft.old) }
-    ensures scope { OnOk result (scope.new
-        ≡ declaring Declared.Subtype (identifier_view declared.now) (hiding (identifier_view declared.now) scope.old)) }
-{
-    hide(declared, scope)?;
-    let point = Point {
-        scope,
-        known: &draft.known,
-    };
-    let found = known_subtype(mark, range, &point, &mut draft.faults);
-    if let Some(known) = found {
-        draft.know(declared, known)?;
-    }
-    scope.declare(declared, Some(Declared::Subtype(declared.at)))
-}
-
-fn constants(
-    names: &Vec<Identifier>,
-    mark: &Option<Name>,
-    initial: &Expression,
-    scope: &mut Scope,
-    draft: &mut Draft,
-) -> Result<(), AllocError>
-    ensures draft { OnOk result (draft.new
-        ≡ noted (constant_known (means (hiding_all (identifiers_view names.now.items) scope.old) draft.old.known)
-        (maybe name_view mark.now) (expression_view initial.now)) (knowing_all (identifiers_view names.now.items)) draft.old) }
-    ensures scope { OnOk result (scope.new
-        ≡ declaring_all Form.Constant (identifiers_view names.now.items) (hiding_all (identifiers_view names.now.items) scope.old)) }
-{
-    hide_all(names, scope)?;
-    let point = Point {
-        scope,
-        known: &draft.known,
-    };
-    let found = known_constant(mark, initial, &point, &mut draft.faults);
-    if let Some(known) = found {
-        draft.know_all(names, known)?;
-    }
-    declare_all(names, Form::Constant, scope)
-}
 
 // What the objects of a mark are.
 fn object_type(mark: Option<Declared>) -> ObjectType
@@ -123,7 +68,14 @@ pub(crate) fn declaration(
             name: declared,
             mark,
             range,
-        } => subtype(declared, mark, range, scope, draft),
+        } => declare_subtype(
+            declared,
+            mark,
+            range,
+            scope,
+            &mut draft.known,
+            &mut draft.faults,
+        ),
         Declaration::Protected(unit) => protected_unit(unit, is_visible, scope, draft),
         Declaration::Task(task) => task_unit(task, scope, draft),
         Declaration::Variable { names, mark } => objects(names, mark, is_visible, scope, draft),
@@ -131,7 +83,14 @@ pub(crate) fn declaration(
             names,
             mark,
             value: initial,
-        } => constants(names, mark, initial, scope, draft),
+        } => declare_constants(
+            names,
+            mark,
+            initial,
+            scope,
+            &mut draft.known,
+            &mut draft.faults,
+        ),
     }
 }
 

@@ -2,11 +2,10 @@
 
 ghost use Rattle.std.specs.Prelude.{◌≡◌, ◌≤◌, ◌++◌, ◌∷◌, [], OnOk, length, map, string_bytes, false};
 ghost use Rattle.rv_tree.specs.NameView.{identifier_view, identifiers_view};
-ghost use Rattle.rv_outline.specs.Drafts.{UnitDraft as UnitView, empty_draft, empty_unit, knowing as known_of, knowing_all as known_of_all, adding_component, adding_components, adding_operation, adding_object, adding_objects, giving_priority, started, finished, finished_task, having_kind};
+ghost use Rattle.rv_outline.specs.Drafts.{UnitDraft as UnitView, empty_draft, empty_unit, knowing as known_of, adding_component, adding_components, adding_operation, adding_object, adding_objects, giving_priority, started, finished, finished_task, having_kind};
 
-use crate::by_place::ByPlace;
-use crate::known::{Known, Table};
 use crate::outline::ObjectType;
+use rv_scope::{ByPlace, Known, Table};
 use rv_shape::kind::{Component, Kind};
 use rv_shape::object::Operation;
 use rv_shape::task::Task;
@@ -219,25 +218,11 @@ impl Draft {
         (known, tasks)
     }
 
-    /// Something is known of the declaration of an identifier.
-    pub(crate) fn know(&mut self, declared: &Identifier, known: Known) -> Result<(), AllocError>
+    // Something is known of the declaration of an identifier.
+    fn know(&mut self, declared: &Identifier, known: Known) -> Result<(), AllocError>
         ensures { OnOk result (self.new ≡ known_of (identifier_view declared.now) known self.old) }
     {
         self.known.note(declared.at, known)
-    }
-
-    /// The same, of several.
-    pub(crate) fn know_all(
-        &mut self,
-        names: &Vec<Identifier>,
-        known: Known,
-    ) -> Result<(), AllocError>
-        ensures { OnOk result (self.new ≡ known_of_all (identifiers_view names.now.items) known self.old) }
-    {
-        for declared in names {
-            self.know(declared, known)?;
-        }
-        Ok(())
     }
 
     /// The declaration of a protected unit or a task begins.

@@ -8,8 +8,7 @@ ghost use Rattle.rv_static.specs.Told.{told_unless};
 ghost use Rattle.rv_outline.specs.Handlers.{line_in, line_of, aspect_line as line_of_aspect, procedure_in, procedure_named as procedure_of_name, operation_index, operation_at as operation_of_place, unattached as unattached_of, handler_named as handler_of_name, attachment as attachment_of};
 
 use crate::draft::{Draft, OperationDraft};
-use crate::known::Known;
-use rv_scope::{Declared, OperationKind, Predefined, Scope};
+use rv_scope::{Declared, Known, OperationKind, Predefined, Scope};
 use rv_static::{Faults, TypeFault};
 use rv_tree::{Aspect, Expression, Pragma};
 

@@ -11,11 +11,10 @@ ghost use Rattle.rv_outline.specs.Shapes.{outline_of as outline_of_draft, outlin
 use crate::body::body_items;
 use crate::declaration::declarations;
 use crate::draft::Draft;
-use crate::known::Table;
 use crate::shape::{objects, types, unit_shapes};
-use rv_scope::Scope;
 use rv_scope::context::package_scope;
 use rv_scope::named::{Named, protected_units};
+use rv_scope::{Scope, Table};
 use rv_shape::object::ProtectedObject;
 use rv_shape::shape::UnitShape;
 use rv_static::Faults;

@@ -3,33 +3,17 @@
 ghost use Rattle.std.specs.Prelude.{◌≡◌, OnOk, map};
 ghost use Rattle.rv_tree.specs.NameView.{identifier_view};
 ghost use Rattle.rv_tree.specs.DeclarationView.{pragma_view, aspect_view};
-ghost use Rattle.rv_scope.specs.DeclarationUses.{is_priority as is_priority_name, is_attachment as is_attachment_name};
 ghost use Rattle.rv_outline.specs.Drafts.{noted, giving_priority};
 ghost use Rattle.rv_outline.specs.ProtectedUnits.{aspect_outlined, aspects_outlined, handling, procedure_aspect_outlined, procedure_aspects_outlined, priority_pragma_outlined, attachment_outlined, pragma_outlined};
 
 use crate::draft::Draft;
 use crate::handler::{aspect_line, attached_by};
-use crate::point::Point;
 use crate::priority::{aspect_priority, pragma_priority};
-use rv_scope::Scope;
+use rv_scope::pragma::{is_attachment, is_priority};
+use rv_scope::{Point, Scope};
 use rv_shape::kind::Kind;
-use rv_text::is_same_name;
 use rv_tree::{Aspect, Identifier, Pragma};
 use std::alloc::AllocError;
-
-// Whether a pragma or an aspect of this name gives a priority (D.1).
-fn is_priority(name: &str) -> bool
-    ensures { result ≡ is_priority_name name.now }
-{
-    is_same_name(name, "Priority") || is_same_name(name, "Interrupt_Priority")
-}
-
-// Whether it attaches a procedure to a line (C.3.1).
-fn is_attachment(name: &str) -> bool
-    ensures { result ≡ is_attachment_name name.now }
-{
-    is_same_name(name, "Attach_Handler")
-}
 
 // An aspect of a protected unit or a task: a priority, or nothing.
 fn aspect(one: &Aspect, scope: &Scope, draft: &mut Draft)
@@ -79,12 +63,12 @@ fn procedure_aspect(
 /// The aspects of a procedure.
 pub(crate) fn procedure_aspects(
     declared: &Identifier,
-    list: &Vec<Aspect>,
+    list: &[Aspect],
     scope: &Scope,
     draft: &mut Draft,
 ) -> Result<(), AllocError>
     ensures { OnOk result (draft.new
-        ≡ procedure_aspects_outlined scope.now (identifier_view declared.now) (map aspect_view list.now.items) draft.old) }
+        ≡ procedure_aspects_outlined scope.now (identifier_view declared.now) (map aspect_view list.now) draft.old) }
 {
     for one in list {
         procedure_aspect(declared, one, scope, draft)?;

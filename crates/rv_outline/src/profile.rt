@@ -1,23 +1,22 @@
 //! The parameters and results of operations (6.1).
 
-ghost use Rattle.std.specs.Prelude.{◌≡◌, OnOk, IfOk, IfSome, map, [], Some, true, false};
-ghost use Rattle.rv_tree.specs.NameView.{identifier_view, identifiers_view, name_view};
+ghost use Rattle.std.specs.Prelude.{◌≡◌, OnOk, IfOk, IfSome, map, [], Some, is_some};
+ghost use Rattle.rv_tree.specs.NameView.{identifier_view, identifiers_view};
 ghost use Rattle.rv_tree.specs.DeclarationView.{maybe, parameter_view};
 ghost use Rattle.rv_scope.specs.Scope.{OnlyDeclares, entered};
 ghost use Rattle.rv_scope.specs.DeclarationUses.{with_parameters};
+ghost use Rattle.rv_scope.specs.Statics.{means};
 ghost use Rattle.rv_shape.specs.Forms.{is_in as is_in_mode};
 ghost use Rattle.rv_static.specs.Told.{told_unless};
-ghost use Rattle.rv_outline.specs.Profiles.{passing as passing_of, for_each_name, parameter_of, parameters_onto, operation_of, function_in, function_of, callable_in, callable_of};
+ghost use Rattle.rv_outline.specs.Profiles.{passing as passing_of, for_each_name, parameter_of, parameters_onto, operation_of, kind_of_head, operation_in};
 
-use crate::known::Table;
-use crate::point::Point;
-use rv_scope::Scope;
 use rv_scope::declare::{Form, declare_all};
 use rv_scope::members::hide_all;
-use rv_shape::kind::{Kind, Parameter, ParameterMode};
+use rv_scope::{Head, OperationKind, Point, Scope, Table};
+use rv_shape::kind::{Barrier, Kind, Parameter, ParameterMode};
 use rv_shape::object::Operation;
 use rv_static::{Faults, TypeFault, subtype};
-use rv_tree::{Identifier, Mode, Name};
+use rv_tree::{Identifier, Mode};
 use std::alloc::{AllocError, Global};
 
 /// How a parameter is passed; a mode that isn't written is `in`.
@@ -126,101 +125,72 @@ fn operation(
     Ok(Operation::new(name, kind, parameters, is_visible))
 }
 
-/// What the identifier of an operation declares, and where it stands.
-#[derive(Clone, Copy)]
-pub(crate) struct Heading<'h> {
-    pub(crate) declared: &'h Identifier,
-    pub(crate) parameters: &'h Vec<rv_tree::Parameter>,
-    pub(crate) is_visible: bool,
+fn is_function(head: &Head) -> bool
+    ensures { result ≡ is_some head.now.mark }
+{
+    match head.mark {
+        Some(_) => true,
+        None => false,
+    }
 }
 
-// A function whose parameters are declared in the innermost region.
-fn function_inside(
+// The kind of an operation, if no other is given to it: a function has the range of its mark, a procedure handles no line,
+// and an entry is closed. `None`, where a fault was told.
+fn kind_declared(head: &Head, scope: &Scope, known: &Table, faults: &mut Faults) -> Option<Kind>
+    ensures value { result ≡ kind_of_head (means scope.now known.now) head.now }
+    ensures told { faults.new ≡ told_unless result faults.old }
+{
+    match head.mark {
+        Some(mark) => {
+            let range = subtype(mark, &Point { scope, known }, faults)?;
+            Some(Kind::Function(range))
+        }
+        None => match head.kind {
+            OperationKind::Entry => Some(Kind::Entry(Barrier::AlwaysClosed)),
+            _ => Some(Kind::Procedure),
+        },
+    }
+}
+
+// An operation whose parameters are declared in the innermost region.
+fn operation_inside(
     alloc: Global,
-    heading: &Heading,
-    mark: &Name,
+    head: &Head,
+    is_visible: bool,
     scope: &mut Scope,
     known: &Table,
     faults: &mut Faults,
 ) -> Result<Option<Operation>, AllocError>
-    ensures value { IfOk result (λ found. found ≡ function_in known.now scope.old heading.now.is_visible
-        (identifier_view heading.now.declared.now) (map parameter_view heading.now.parameters.now.items) (name_view mark.now)) }
+    ensures value { IfOk result (λ found. found ≡ operation_in known.now scope.old is_visible head.now) }
     ensures told { IfOk result (λ found. faults.new ≡ told_unless found faults.old) }
     ensures only { OnOk result (OnlyDeclares scope.old scope.new) }
 {
-    let Some(all) = parameters(alloc, true, heading.parameters, scope, known, faults)? else {
+    let of_function = is_function(head);
+    let Some(all) = parameters(alloc, of_function, head.parameters, scope, known, faults)? else {
         return Ok(None);
     };
-    let Some(range) = subtype(mark, &Point { scope, known }, faults) else {
+    let Some(kind) = kind_declared(head, scope, known, faults) else {
         return Ok(None);
     };
-    let found = operation(
-        alloc,
-        heading.declared,
-        Kind::Function(range),
-        heading.is_visible,
-        all,
-    )?;
+    let found = operation(alloc, head.name, kind, is_visible, all)?;
     Ok(Some(found))
 }
 
-/// A function, at the point where its declaration begins; or `None`, where a fault was told.
-pub(crate) fn function(
+/// An operation, at the point where its declaration begins; or `None`, where a fault was told.
+pub(crate) fn operation_declared(
     alloc: Global,
-    heading: &Heading,
-    mark: &Name,
+    head: &Head,
+    is_visible: bool,
     scope: &mut Scope,
     known: &Table,
     faults: &mut Faults,
 ) -> Result<Option<Operation>, AllocError>
-    ensures value { IfOk result (λ found. found ≡ function_of known.now scope.old heading.now.is_visible
-        (identifier_view heading.now.declared.now) (map parameter_view heading.now.parameters.now.items) (name_view mark.now)) }
+    ensures value { IfOk result (λ found. found ≡ operation_in known.now (entered scope.old) is_visible head.now) }
     ensures told { IfOk result (λ found. faults.new ≡ told_unless found faults.old) }
     ensures scope { OnOk result (scope.new ≡ scope.old) }
 {
     scope.enter()?;
-    let found = function_inside(alloc, heading, mark, scope, known, faults)?;
-    scope.leave();
-    Ok(found)
-}
-
-// A procedure or an entry whose parameters are declared in the innermost region.
-fn callable_inside(
-    alloc: Global,
-    kind: Kind,
-    heading: &Heading,
-    scope: &mut Scope,
-    known: &Table,
-    faults: &mut Faults,
-) -> Result<Option<Operation>, AllocError>
-    ensures value { IfOk result (λ found. found ≡ callable_in kind known.now scope.old heading.now.is_visible
-        (identifier_view heading.now.declared.now) (map parameter_view heading.now.parameters.now.items)) }
-    ensures told { IfOk result (λ found. faults.new ≡ told_unless found faults.old) }
-    ensures only { OnOk result (OnlyDeclares scope.old scope.new) }
-{
-    let Some(all) = parameters(alloc, false, heading.parameters, scope, known, faults)? else {
-        return Ok(None);
-    };
-    let found = operation(alloc, heading.declared, kind, heading.is_visible, all)?;
-    Ok(Some(found))
-}
-
-/// A procedure or an entry, at the point where its declaration begins; or `None`, where a fault was told.
-pub(crate) fn callable(
-    alloc: Global,
-    kind: Kind,
-    heading: &Heading,
-    scope: &mut Scope,
-    known: &Table,
-    faults: &mut Faults,
-) -> Result<Option<Operation>, AllocError>
-    ensures value { IfOk result (λ found. found ≡ callable_of kind known.now scope.old heading.now.is_visible
-        (identifier_view heading.now.declared.now) (map parameter_view heading.now.parameters.now.items)) }
-    ensures told { IfOk result (λ found. faults.new ≡ told_unless found faults.old) }
-    ensures scope { OnOk result (scope.new ≡ scope.old) }
-{
-    scope.enter()?;
-    let found = callable_inside(alloc, kind, heading, scope, known, faults)?;
+    let found = operation_inside(alloc, head, is_visible, scope, known, faults)?;
     scope.leave();
     Ok(found)
 }

@@ -3,26 +3,26 @@
 ghost use Rattle.std.specs.Prelude.{◌≡◌, OnOk, map, length};
 ghost use Rattle.rv_tree.specs.NameView.{identifier_view, identifiers_view, name_view};
 ghost use Rattle.rv_tree.specs.ExpressionView.{expression_view, range_view};
-ghost use Rattle.rv_tree.specs.DeclarationView.{maybe, aspect_view, parameter_view, operation_view, element_view, protected_unit_view};
-ghost use Rattle.rv_scope.specs.Scope.{OnlyDeclares, declaring_all, hiding_all, hiding, entered, within_unit};
-ghost use Rattle.rv_scope.specs.DeclarationUses.{declaring_operation, with_operation, with_operations, with_element, with_elements, declaring_protected_unit};
-ghost use Rattle.rv_outline.specs.Known.{means};
-ghost use Rattle.rv_outline.specs.Drafts.{noted, started, finished, adding_operation, adding_found, adding_components};
-ghost use Rattle.rv_outline.specs.Subtypes.{component_of};
-ghost use Rattle.rv_outline.specs.Profiles.{function_of, procedure_of, entry_of};
-ghost use Rattle.rv_outline.specs.ProtectedUnits.{procedure_aspects_outlined, operation_outlined, operations_outlined, element_outlined, elements_outlined, private_outlined, parts_outlined, single_outlined, protected_unit_outlined};
+ghost use Rattle.rv_tree.specs.DeclarationView.{maybe, aspect_view, operation_view, element_view, protected_unit_view};
+ghost use Rattle.rv_scope.specs.Scope.{OnlyDeclares, declaring_all, hiding_all};
+ghost use Rattle.rv_scope.specs.Statics.{means};
+ghost use Rattle.rv_scope.specs.Heads.{declared_head as head_of_declaration};
+ghost use Rattle.rv_scope.specs.DeclarationUses.{with_operation, with_operations, with_element, declaring_protected_unit};
+ghost use Rattle.rv_static.specs.Told.{told_unless};
+ghost use Rattle.rv_outline.specs.Drafts.{noted, started, finished, adding_found, adding_components};
+ghost use Rattle.rv_outline.specs.ProtectedUnits.{declared_outlined, operation_outlined, operations_outlined, component_of, element_outlined, elements_outlined, private_outlined, parts_outlined, single_outlined, protected_unit_outlined};
 
 use crate::draft::Draft;
 use crate::outline::ObjectType;
-use crate::point::Point;
 use crate::pragma::{aspects, pragma, procedure_aspects};
-use crate::profile::{Heading, callable, function};
-use crate::subtype::component;
+use crate::profile::operation_declared;
 use rv_scope::declare::{Form, declare_all};
 use rv_scope::members::{declare_operation, hide, hide_all};
-use rv_scope::{OperationKind, Scope};
-use rv_shape::kind::{Barrier, Kind};
+use rv_scope::subtype::constrained_subtype;
+use rv_scope::{Point, Scope, declared_head};
+use rv_shape::kind::Component;
 use rv_shape::object::Operation;
+use rv_static::{Faults, Meanings, start};
 use rv_tree::{
     Aspect, Expression, Identifier, Name, OperationDeclaration, ProtectedElement, ProtectedUnit,
     RangeConstraint,
@@ -43,77 +43,35 @@ fn add_operation(
     }
 }
 
-// A function, and its identifier behind it.
-fn function_declaration(
-    heading: &Heading,
-    mark: &Name,
+// An operation with the aspects of a procedure, and its identifier behind it. A pragma declares none.
+fn declared(
+    one: &OperationDeclaration,
+    given: &[Aspect],
+    is_visible: bool,
     scope: &mut Scope,
     draft: &mut Draft,
 ) -> Result<(), AllocError>
     ensures draft { OnOk result (draft.new
-        ≡ noted (function_of draft.old.known scope.old heading.now.is_visible
-        (identifier_view heading.now.declared.now) (map parameter_view heading.now.parameters.now.items) (name_view mark.now))
-        (adding_operation (identifier_view heading.now.declared.now)) draft.old) }
-    ensures scope { OnOk result (scope.new ≡ declaring_operation OperationKind.Function (identifier_view heading.now.declared.now)
-        (hiding (identifier_view heading.now.declared.now) scope.old)) }
+        ≡ declared_outlined scope.old is_visible (head_of_declaration (operation_view one.now)) (map aspect_view given.now) draft.old) }
+    ensures scope { OnOk result (scope.new ≡ with_operation (operation_view one.now) scope.old) }
+    ensures only { OnOk result (OnlyDeclares scope.old scope.new) }
 {
+    let Some(head) = declared_head(one) else {
+        return Ok(());
+    };
     let known = &draft.known;
-    let found = function(draft.alloc, heading, mark, scope, known, &mut draft.faults)?;
-    add_operation(heading.declared, found, draft)?;
-    hide(heading.declared, scope)?;
-    declare_operation(heading.declared, OperationKind::Function, scope)
-}
-
-// A procedure with its aspects, and its identifier behind it.
-fn procedure_declaration(
-    heading: &Heading,
-    given: &Vec<Aspect>,
-    scope: &mut Scope,
-    draft: &mut Draft,
-) -> Result<(), AllocError>
-    ensures draft { OnOk result (draft.new
-        ≡ procedure_aspects_outlined (hiding (identifier_view heading.now.declared.now) scope.old)
-        (identifier_view heading.now.declared.now) (map aspect_view given.now.items)
-        (noted (procedure_of draft.old.known scope.old heading.now.is_visible
-        (identifier_view heading.now.declared.now) (map parameter_view heading.now.parameters.now.items))
-        (adding_operation (identifier_view heading.now.declared.now)) draft.old)) }
-    ensures scope { OnOk result (scope.new ≡ declaring_operation OperationKind.Procedure (identifier_view heading.now.declared.now)
-        (hiding (identifier_view heading.now.declared.now) scope.old)) }
-{
-    let known = &draft.known;
-    let found = callable(
+    let found = operation_declared(
         draft.alloc,
-        Kind::Procedure,
-        heading,
+        &head,
+        is_visible,
         scope,
         known,
         &mut draft.faults,
     )?;
-    add_operation(heading.declared, found, draft)?;
-    hide(heading.declared, scope)?;
-    procedure_aspects(heading.declared, given, scope, draft)?;
-    declare_operation(heading.declared, OperationKind::Procedure, scope)
-}
-
-// An entry, and its identifier behind it.
-fn entry_declaration(
-    heading: &Heading,
-    scope: &mut Scope,
-    draft: &mut Draft,
-) -> Result<(), AllocError>
-    ensures draft { OnOk result (draft.new
-        ≡ noted (entry_of draft.old.known scope.old heading.now.is_visible
-        (identifier_view heading.now.declared.now) (map parameter_view heading.now.parameters.now.items))
-        (adding_operation (identifier_view heading.now.declared.now)) draft.old) }
-    ensures scope { OnOk result (scope.new ≡ declaring_operation OperationKind.Entry (identifier_view heading.now.declared.now)
-        (hiding (identifier_view heading.now.declared.now) scope.old)) }
-{
-    let known = &draft.known;
-    let kind = Kind::Entry(Barrier::AlwaysClosed);
-    let found = callable(draft.alloc, kind, heading, scope, known, &mut draft.faults)?;
-    add_operation(heading.declared, found, draft)?;
-    hide(heading.declared, scope)?;
-    declare_operation(heading.declared, OperationKind::Entry, scope)
+    add_operation(head.name, found, draft)?;
+    hide(head.name, scope)?;
+    procedure_aspects(head.name, given, scope, draft)?;
+    declare_operation(head.name, head.kind, scope)
 }
 
 fn operation(
@@ -128,39 +86,11 @@ fn operation(
 {
     match one {
         OperationDeclaration::Pragma(one) => pragma(one, scope, draft),
-        OperationDeclaration::Function {
-            at: _,
-            name: declared,
-            parameters,
-            mark,
-        } => {
-            let heading = Heading {
-                declared,
-                parameters,
-                is_visible,
-            };
-            function_declaration(&heading, mark, scope, draft)
+        OperationDeclaration::Procedure { aspects, .. } => {
+            declared(one, aspects.as_slice(), is_visible, scope, draft)
         }
-        OperationDeclaration::Procedure {
-            at: _,
-            name: declared,
-            parameters,
-            aspects: given,
-        } => {
-            let heading = Heading {
-                declared,
-                parameters,
-                is_visible,
-            };
-            procedure_declaration(&heading, given, scope, draft)
-        }
-        OperationDeclaration::Entry(entry) => {
-            let heading = Heading {
-                declared: &entry.name,
-                parameters: &entry.parameters,
-                is_visible,
-            };
-            entry_declaration(&heading, scope, draft)
+        OperationDeclaration::Function { .. } | OperationDeclaration::Entry(_) => {
+            declared(one, &[], is_visible, scope, draft)
         }
     }
 }
@@ -178,6 +108,22 @@ fn operations(
         operation(one, true, scope, draft)?;
     }
     Ok(())
+}
+
+// A component; or `None`, where a fault was told.
+fn component<N: Meanings>(
+    mark: &Name,
+    range: &Option<RangeConstraint>,
+    initial: &Option<Expression>,
+    names: &N,
+    faults: &mut Faults,
+) -> Option<Component>
+    ensures value { result ≡ component_of (N.means names.now) (name_view mark.now) (maybe range_view range.now) (maybe expression_view initial.now) }
+    ensures told { faults.new ≡ told_unless result faults.old }
+{
+    let range = constrained_subtype(mark, range, names, faults)?;
+    let start = start(range, initial, names, faults)?;
+    Some(Component { range, start })
 }
 
 fn components(
@@ -251,7 +197,7 @@ fn private_part(
     }
 }
 
-// All parts of a protected unit, in a region of its own.
+// All parts of a protected unit, at a point within its declaration.
 fn parts(unit: &ProtectedUnit, scope: &mut Scope, draft: &mut Draft) -> Result<(), AllocError>
     ensures draft { OnOk result (draft.new ≡ parts_outlined scope.old (protected_unit_view unit.now) draft.old) }
     ensures scope { OnOk result (scope.new ≡ scope.old) }
@@ -280,20 +226,7 @@ fn single(
     draft.add_object(is_visible, ObjectType::Protected(number), &unit.name)
 }
 
-// All parts of a protected unit, at a point within its declaration.
-fn within(unit: &ProtectedUnit, scope: &mut Scope, draft: &mut Draft) -> Result<(), AllocError>
-    ensures draft { OnOk result (draft.new
-        ≡ parts_outlined (within_unit unit.now.name.at scope.old) (protected_unit_view unit.now) draft.old) }
-    ensures scope { OnOk result (scope.new ≡ scope.old) }
-{
-    let around = scope.current();
-    scope.set_current(Some(unit.name.at));
-    parts(unit, scope, draft)?;
-    scope.set_current(around);
-    Ok(())
-}
-
-// A protected unit whose identifier is declared.
+// A protected unit, at a point within its declaration.
 fn outline_unit(
     unit: &ProtectedUnit,
     is_visible: bool,
@@ -301,12 +234,12 @@ fn outline_unit(
     draft: &mut Draft,
 ) -> Result<(), AllocError>
     ensures draft { OnOk result (draft.new ≡ single_outlined unit.now.is_type is_visible (length draft.old.units) (identifier_view unit.now.name)
-        (finished (parts_outlined (within_unit unit.now.name.at scope.old) (protected_unit_view unit.now) (started (identifier_view unit.now.name) is_visible draft.old)))) }
+        (finished (parts_outlined scope.old (protected_unit_view unit.now) (started (identifier_view unit.now.name) is_visible draft.old)))) }
     ensures scope { OnOk result (scope.new ≡ scope.old) }
 {
     let number = draft.units.len();
     draft.start(&unit.name, is_visible)?;
-    within(unit, scope, draft)?;
+    parts(unit, scope, draft)?;
     draft.finish_unit()?;
     single(unit, is_visible, number, draft)
 }
@@ -321,8 +254,7 @@ pub(crate) fn protected_unit(
     ensures draft { OnOk result (draft.new ≡ protected_unit_outlined scope.old is_visible (protected_unit_view unit.now) draft.old) }
     ensures scope { OnOk result (scope.new ≡ declaring_protected_unit (protected_unit_view unit.now) scope.old) }
 {
-    hide(&unit.name, scope)?;
-    scope.name_protected_unit(unit)?;
+    let around = scope.enter_declaration(unit)?;
     outline_unit(unit, is_visible, scope, draft)?;
-    scope.show_protected_unit(unit)
+    scope.leave_declaration(unit, around)
 }

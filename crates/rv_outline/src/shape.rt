@@ -4,7 +4,7 @@ ghost use Rattle.std.specs.Prelude.{◌≡◌, OnOk, IfOk, ◌+◌, map, take, s
 ghost use Rattle.std.specs.List.{list_any};
 ghost use Rattle.rv_shape.specs.Kinds.{is_handler};
 ghost use Rattle.rv_shape.specs.Limits.{most_objects, most_operations, most_components, most_parameters};
-ghost use Rattle.rv_outline.specs.ByPlace.{at_place};
+ghost use Rattle.rv_scope.specs.ByPlace.{at_place};
 ghost use Rattle.rv_outline.specs.Shapes.{default_ceiling as ceiling_by_default, kind_or, operation_shape as shape_of_operation, operation_shapes as shapes_of_operations, unit_with, unit_shape as shape_of_unit, cut_operation as operation_cut, protected_object as object_of_unit, suspension_object as suspension_of, with_object, objects_onto};
 
 use crate::draft::{Draft, Kinds, ObjectDraft, OperationDraft, UnitDraft};

@@ -1,3 +1,4 @@
 pub mod Behind
 pub mod FirstOf
 pub mod Noted
+pub mod Viewed

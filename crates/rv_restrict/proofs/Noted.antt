@@ -8,7 +8,7 @@ use Rattle.rv_tree.specs.Statements.{Choice, others, value, between, LoopBounds,
 use Rattle.rv_tree.specs.Declarations.{PragmaArgument, Pragma, Aspect, Parameter, OperationDeclaration, a_pragma, a_function, a_procedure, an_entry, ProtectedElement, an_operation, a_component, ProtectedUnit, TaskItem, task_pragma, task_entry, TaskDefinition, TaskUnit, Declaration, package_pragma, a_subtype, a_protected_unit, a_task, a_variable, a_constant}
 use Rattle.rv_tree.specs.Bodies.{Local, an_object, local_pragma, local_protected_unit, local_task, Handler, Block, OperationBody, function_body, procedure_body, entry_body, ProtectedBody}
 use Rattle.rv_tree.specs.Units.{ContextItem, context_pragma, with_clause, use_clause, BodyItem, body_declaration, body_protected, body_task, UnitTree}
-use Rattle.rv_tree.specs.Places.{expression_place}
+use Rattle.rv_tree.specs.Places.{names_place, expression_place}
 use Rattle.rv_restrict.specs.declared.violation.Restriction.TheVariants.{NoAbortStatements, NoRequeueStatements, NoSelectStatements, NoRelativeDelay, NoLocalProtectedObjects, NoTaskHierarchy, MaxProtectedEntries, MaxTaskEntries, SimpleBarriers, NoDynamicPriorities, NoDependence}
 use Rattle.rv_restrict.specs.declared.violation.Restriction.{Restriction}
 use Rattle.rv_restrict.specs.declared.violation.Violation.{Violation}
@@ -19,7 +19,7 @@ use Rattle.rv_restrict.specs.Dependences.{is_excluded, is_dynamic_priorities}
 use Rattle.rv_restrict.specs.ExpressionWalk.{attribute_noted, expression_noted, expressions_noted, factors_noted, terms_noted, range_noted}
 use Rattle.rv_restrict.specs.StatementWalk.{choice_noted, bounds_noted, iteration_noted, guard_noted, delay_noted, statement_noted, statements_noted, elsif_parts_noted, alternatives_noted, selective_noted, selectives_noted}
 use Rattle.rv_restrict.specs.DeclarationWalk.{argument_noted, pragma_noted, aspect_noted, is_entry, operation_noted, operations_noted, had_entry, is_entry_element, element_noted, elements_noted, protected_noted, task_item_noted, definition_noted, task_noted, declaration_noted}
-use Rattle.rv_restrict.specs.UnitWalk.{first_place, local_noted, handler_noted, block_noted, barrier_noted, operation_body_noted, protected_body_noted, item_noted, with_noted, context_noted, unit_noted}
+use Rattle.rv_restrict.specs.UnitWalk.{local_noted, handler_noted, block_noted, barrier_noted, operation_body_noted, protected_body_noted, item_noted, with_noted, context_noted, unit_noted}
 
 abbrev all : Note (List Violation)
 all v vs = v ∷ vs
@@ -204,7 +204,7 @@ declaration_keeps (a_constant names mark e) = expression_keeps e
 
 local_keeps : (tree : UnitTree) (unit : List ℕ) (parameters : List Parameter) (locals : List Local) (l : Local) → Keeps (local_noted earlier tree unit parameters locals l) (local_noted all tree unit parameters locals l)
 local_keeps tree unit parameters locals (an_object names is_constant mark range start) =
-    kept_unless (not (names_protected_type tree unit parameters locals mark)) NoLocalProtectedObjects (first_place names)
+    kept_unless (not (names_protected_type tree unit parameters locals mark)) NoLocalProtectedObjects (names_place names)
     and maybe_range_keeps range and maybe_expression_keeps start
 local_keeps tree unit parameters locals (local_pragma p) = pragma_keeps p
 local_keeps tree unit parameters locals (local_protected_unit u) = kept_unless u.is_type NoLocalProtectedObjects u.at and protected_keeps u

@@ -1,29 +1,24 @@
 -- What a package and its protected units declare, by name (ISO/IEC 8652:2012, 8.3).
 use Rattle.std.specs.Prelude.{ℕ, nat_lt, Bool, true, false, ◌||◌, ◌&&◌, not, if◌then◌else◌, List, [], ◌∷◌, Option, Some, None}
+use Rattle.std.specs.List.{list_any}
 use Rattle.rv_text.specs.Names.{is_same_name}
 use Rattle.rv_tree.specs.Names.{Identifier, Name}
-use Rattle.rv_tree.specs.Declarations.{Parameter, OperationDeclaration, a_pragma, a_function, a_procedure, an_entry, ProtectedElement, an_operation, a_component, ProtectedUnit, Declaration, package_pragma, a_subtype, a_protected_unit, a_task, a_variable, a_constant}
+use Rattle.rv_tree.specs.Declarations.{Parameter, OperationDeclaration, ProtectedElement, an_operation, a_component, ProtectedUnit, Declaration, package_pragma, a_subtype, a_protected_unit, a_task, a_variable, a_constant}
 use Rattle.rv_tree.specs.Bodies.{Local, an_object, local_pragma, local_protected_unit, local_task}
+use Rattle.rv_tree.specs.DeclaredNames.{declaration_names, operation_names, element_names, local_names}
 use Rattle.rv_tree.specs.Units.{BodyItem, body_declaration, body_protected, body_task, UnitTree}
 
 -- a name is among these
 abbrev pub is_among : List ℕ → List Identifier → Bool
-is_among n [] = false
-is_among n (i ∷ more) = is_same_name i.text n || is_among n more
+is_among n names = list_any (λ i. is_same_name i.text n) names
 
 -- a parameter has the name
 abbrev pub is_parameter : List ℕ → List Parameter → Bool
-is_parameter n [] = false
-is_parameter n (p ∷ more) = is_among n p.names || is_parameter n more
+is_parameter n parameters = list_any (λ p. is_among n p.names) parameters
 
 -- this declaration has the name
 abbrev pub declares : List ℕ → Declaration → Bool
-declares n (package_pragma p) = false
-declares n (a_subtype at i mark range) = is_same_name i.text n
-declares n (a_protected_unit u) = is_same_name u.name.text n
-declares n (a_task t) = is_same_name t.name.text n
-declares n (a_variable names mark) = is_among n names
-declares n (a_constant names mark e) = is_among n names
+declares n d = is_among n (declaration_names d)
 
 -- the first of these that has the name
 abbrev pub first_declared : List ℕ → List Declaration → Option Declaration
@@ -72,24 +67,12 @@ is_fixed (Some (a_variable names mark)) = false
 is_fixed (Some (a_constant names mark e)) = true
 
 -- an operation has the name
-abbrev pub is_operation : List ℕ → OperationDeclaration → Bool
-is_operation n (a_pragma p) = false
-is_operation n (a_function at i parameters mark) = is_same_name i.text n
-is_operation n (a_procedure at i parameters aspects) = is_same_name i.text n
-is_operation n (an_entry e) = is_same_name e.name.text n
-
 abbrev pub is_among_operations : List ℕ → List OperationDeclaration → Bool
-is_among_operations n [] = false
-is_among_operations n (o ∷ more) = is_operation n o || is_among_operations n more
+is_among_operations n operations = list_any (λ o. is_among n (operation_names o)) operations
 
 -- a component or an operation after `private` has the name
-abbrev pub is_element : List ℕ → ProtectedElement → Bool
-is_element n (an_operation o) = is_operation n o
-is_element n (a_component names mark range value) = is_among n names
-
 abbrev pub is_among_elements : List ℕ → List ProtectedElement → Bool
-is_among_elements n [] = false
-is_among_elements n (e ∷ more) = is_element n e || is_among_elements n more
+is_among_elements n elements = list_any (λ e. is_among n (element_names e)) elements
 
 -- a component has the name
 abbrev pub is_component : List ℕ → ProtectedElement → Bool
@@ -97,8 +80,7 @@ is_component n (an_operation o) = false
 is_component n (a_component names mark range value) = is_among n names
 
 abbrev pub is_among_components : List ℕ → List ProtectedElement → Bool
-is_among_components n [] = false
-is_among_components n (e ∷ more) = is_component n e || is_among_components n more
+is_among_components n elements = list_any (is_component n) elements
 
 -- what stands after `private`
 abbrev pub elements_of : Option (List ProtectedElement) → List ProtectedElement
@@ -126,20 +108,11 @@ is_package_name tree unit parameters n = not (is_hidden tree unit parameters n) 
 
 -- a name is among these, before a place
 abbrev pub is_among_before : ℕ → List ℕ → List Identifier → Bool
-is_among_before at n [] = false
-is_among_before at n (i ∷ more) = (nat_lt i.at at && is_same_name i.text n) || is_among_before at n more
-
--- a declaration of a block has the name, before a place
-abbrev pub is_local : ℕ → List ℕ → Local → Bool
-is_local at n (an_object names is_constant mark range value) = is_among_before at n names
-is_local at n (local_pragma p) = false
-is_local at n (local_protected_unit u) = nat_lt u.name.at at && is_same_name u.name.text n
-is_local at n (local_task t) = nat_lt t.name.at at && is_same_name t.name.text n
+is_among_before at n names = list_any (λ i. nat_lt i.at at && is_same_name i.text n) names
 
 -- a declaration of the block before a place hides the name
 abbrev pub is_among_locals : ℕ → List ℕ → List Local → Bool
-is_among_locals at n [] = false
-is_among_locals at n (one ∷ more) = is_local at n one || is_among_locals at n more
+is_among_locals at n locals = list_any (λ one. is_among_before at n (local_names one)) locals
 
 -- it is a protected type of this name, before a place
 abbrev pub is_local_type : ℕ → List ℕ → Local → Bool
@@ -149,8 +122,7 @@ is_local_type at n (local_protected_unit u) = u.is_type && nat_lt u.name.at at &
 is_local_type at n (local_task t) = false
 
 abbrev pub is_among_local_types : ℕ → List ℕ → List Local → Bool
-is_among_local_types at n [] = false
-is_among_local_types at n (one ∷ more) = is_local_type at n one || is_among_local_types at n more
+is_among_local_types at n locals = list_any (is_local_type at n) locals
 
 -- the protected unit is a type that is declared before a place
 abbrev pub is_type_before : ℕ → Option ProtectedUnit → Bool

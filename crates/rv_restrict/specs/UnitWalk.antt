@@ -1,11 +1,11 @@
 -- The violations of blocks, bodies and whole units, their own and those of their parts (ISO/IEC 8652:2012, D.7, D.13).
-use Rattle.std.specs.Prelude.{ℕ, not, List, [], ◌∷◌}
-use Rattle.rv_tree.specs.Names.{Identifier, Name}
+use Rattle.std.specs.Prelude.{ℕ, not, List, []}
+use Rattle.rv_tree.specs.Names.{Name}
 use Rattle.rv_tree.specs.Expressions.{Expression}
 use Rattle.rv_tree.specs.Declarations.{Parameter}
 use Rattle.rv_tree.specs.Bodies.{Local, an_object, local_pragma, local_protected_unit, local_task, Handler, Block, OperationBody, function_body, procedure_body, entry_body, ProtectedBody, TaskBody}
 use Rattle.rv_tree.specs.Units.{ContextItem, context_pragma, with_clause, use_clause, BodyItem, body_declaration, body_protected, body_task, UnitTree}
-use Rattle.rv_tree.specs.Places.{expression_place}
+use Rattle.rv_tree.specs.Places.{names_place, expression_place}
 use Rattle.rv_restrict.specs.declared.violation.Restriction.TheVariants.{NoLocalProtectedObjects, NoTaskHierarchy, SimpleBarriers, NoDynamicPriorities, NoDependence}
 use Rattle.rv_restrict.specs.Found.{Note, ◌▷◌, nothing, broken, broken_unless, maybe_noted, each_noted}
 use Rattle.rv_restrict.specs.Scope.{names_protected_type}
@@ -15,15 +15,10 @@ use Rattle.rv_restrict.specs.ExpressionWalk.{expression_noted, range_noted}
 use Rattle.rv_restrict.specs.StatementWalk.{statements_noted}
 use Rattle.rv_restrict.specs.DeclarationWalk.{pragma_noted, protected_noted, task_noted, declaration_noted}
 
--- the place of a declaration that begins with these names
-abbrev pub first_place : List Identifier → ℕ
-first_place [] = 0
-first_place (i ∷ more) = i.at
-
 -- a declaration of a block
 abbrev pub local_noted : {A : Type 0} → Note A → UnitTree → List ℕ → List Parameter → List Local → Local → A → A
 local_noted note tree unit parameters locals (an_object names is_constant mark range value) =
-    broken_unless note (not (names_protected_type tree unit parameters locals mark)) NoLocalProtectedObjects (first_place names)
+    broken_unless note (not (names_protected_type tree unit parameters locals mark)) NoLocalProtectedObjects (names_place names)
     ▷ maybe_noted (range_noted note) range ▷ maybe_noted (expression_noted note) value
 local_noted note tree unit parameters locals (local_pragma p) = pragma_noted note p
 local_noted note tree unit parameters locals (local_protected_unit u) =

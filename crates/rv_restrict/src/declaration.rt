@@ -1,10 +1,11 @@
 //! Violations in declarations.
 
 ghost use Rattle.std.specs.Prelude.{◌≡◌, false, map};
-ghost use Rattle.rv_tree.specs.DeclarationView.{pragma_view, operation_view, element_view, protected_unit_view, task_view, maybe};
+ghost use Rattle.rv_tree.specs.Declarations as tree;
+ghost use Rattle.rv_tree.specs.DeclarationView.{pragma_view, operation_view, element_view, protected_unit_view, task_view, maybe, pragma_argument_view, aspect_view, task_item_view, task_definition_view, declaration_view};
 ghost use Rattle.rv_restrict.specs.Scope.{elements_of};
 ghost use Rattle.rv_restrict.specs.Found.{earlier};
-ghost use Rattle.rv_restrict.specs.DeclarationWalk.{is_entry, had_entry, is_entry_element, operation_noted, operations_noted, element_noted, elements_noted};
+ghost use Rattle.rv_restrict.specs.DeclarationWalk.{is_entry, had_entry, is_entry_element, operation_noted, operations_noted, element_noted, elements_noted, argument_noted, pragma_noted, aspect_noted, protected_noted, task_item_noted, definition_noted, task_noted, declaration_noted};
 
 use crate::first::{First, Judged};
 use crate::violation::Restriction;
@@ -14,11 +15,6 @@ use rv_tree::{
 };
 
 impl Judged for PragmaArgument {
-    ghost use Rattle.rv_tree.specs.Declarations as tree;
-    ghost use Rattle.rv_tree.specs.DeclarationView.{pragma_argument_view};
-    ghost use Rattle.rv_restrict.specs.Found.{earlier};
-    ghost use Rattle.rv_restrict.specs.DeclarationWalk.{argument_noted};
-
     ghost Tree = { tree.PragmaArgument };
 
     ghost view = { pragma_argument_view };
@@ -31,11 +27,6 @@ impl Judged for PragmaArgument {
 }
 
 impl Judged for Pragma {
-    ghost use Rattle.rv_tree.specs.Declarations as tree;
-    ghost use Rattle.rv_tree.specs.DeclarationView.{pragma_view};
-    ghost use Rattle.rv_restrict.specs.Found.{earlier};
-    ghost use Rattle.rv_restrict.specs.DeclarationWalk.{pragma_noted};
-
     ghost Tree = { tree.Pragma };
 
     ghost view = { pragma_view };
@@ -48,11 +39,6 @@ impl Judged for Pragma {
 }
 
 impl Judged for Aspect {
-    ghost use Rattle.rv_tree.specs.Declarations as tree;
-    ghost use Rattle.rv_tree.specs.DeclarationView.{aspect_view};
-    ghost use Rattle.rv_restrict.specs.Found.{earlier};
-    ghost use Rattle.rv_restrict.specs.DeclarationWalk.{aspect_noted};
-
     ghost Tree = { tree.Aspect };
 
     ghost view = { aspect_view };
@@ -80,18 +66,8 @@ fn operation(operation: &OperationDeclaration, had: bool, first: &mut First)
 {
     match operation {
         OperationDeclaration::Pragma(pragma) => pragma.judge(first),
-        OperationDeclaration::Function {
-            at: _,
-            name: _,
-            parameters: _,
-            mark: _,
-        } => {}
-        OperationDeclaration::Procedure {
-            at: _,
-            name: _,
-            parameters: _,
-            aspects,
-        } => first.each(aspects.as_slice()),
+        OperationDeclaration::Function { .. } => {}
+        OperationDeclaration::Procedure { aspects, .. } => first.each(aspects.as_slice()),
         OperationDeclaration::Entry(entry) => {
             first.note_unless(!had, Restriction::MaxProtectedEntries, entry.at);
         }
@@ -117,12 +93,7 @@ fn is_entry_element(element: &ProtectedElement) -> bool
 {
     match element {
         ProtectedElement::Operation(operation) => is_entry(operation),
-        ProtectedElement::Component {
-            names: _,
-            mark: _,
-            range: _,
-            value: _,
-        } => false,
+        ProtectedElement::Component { .. } => false,
     }
 }
 
@@ -131,12 +102,7 @@ fn element(element: &ProtectedElement, had: bool, first: &mut First)
 {
     match element {
         ProtectedElement::Operation(one) => operation(one, had, first),
-        ProtectedElement::Component {
-            names: _,
-            mark: _,
-            range,
-            value,
-        } => {
+        ProtectedElement::Component { range, value, .. } => {
             first.maybe(range);
             first.maybe(value);
         }
@@ -155,11 +121,6 @@ fn elements(list: &[ProtectedElement], had_before: bool, first: &mut First)
 }
 
 impl Judged for ProtectedUnit {
-    ghost use Rattle.rv_tree.specs.Declarations as tree;
-    ghost use Rattle.rv_tree.specs.DeclarationView.{protected_unit_view};
-    ghost use Rattle.rv_restrict.specs.Found.{earlier};
-    ghost use Rattle.rv_restrict.specs.DeclarationWalk.{protected_noted};
-
     ghost Tree = { tree.ProtectedUnit };
 
     ghost view = { protected_unit_view };
@@ -177,11 +138,6 @@ impl Judged for ProtectedUnit {
 }
 
 impl Judged for TaskItem {
-    ghost use Rattle.rv_tree.specs.Declarations as tree;
-    ghost use Rattle.rv_tree.specs.DeclarationView.{task_item_view};
-    ghost use Rattle.rv_restrict.specs.Found.{earlier};
-    ghost use Rattle.rv_restrict.specs.DeclarationWalk.{task_item_noted};
-
     ghost Tree = { tree.TaskItem };
 
     ghost view = { task_item_view };
@@ -197,11 +153,6 @@ impl Judged for TaskItem {
 }
 
 impl Judged for TaskDefinition {
-    ghost use Rattle.rv_tree.specs.Declarations as tree;
-    ghost use Rattle.rv_tree.specs.DeclarationView.{task_definition_view};
-    ghost use Rattle.rv_restrict.specs.Found.{earlier};
-    ghost use Rattle.rv_restrict.specs.DeclarationWalk.{definition_noted};
-
     ghost Tree = { tree.TaskDefinition };
 
     ghost view = { task_definition_view };
@@ -214,11 +165,6 @@ impl Judged for TaskDefinition {
 }
 
 impl Judged for TaskUnit {
-    ghost use Rattle.rv_tree.specs.Declarations as tree;
-    ghost use Rattle.rv_tree.specs.DeclarationView.{task_view};
-    ghost use Rattle.rv_restrict.specs.Found.{earlier};
-    ghost use Rattle.rv_restrict.specs.DeclarationWalk.{task_noted};
-
     ghost Tree = { tree.TaskUnit };
 
     ghost view = { task_view };
@@ -232,11 +178,6 @@ impl Judged for TaskUnit {
 }
 
 impl Judged for Declaration {
-    ghost use Rattle.rv_tree.specs.Declarations as tree;
-    ghost use Rattle.rv_tree.specs.DeclarationView.{declaration_view};
-    ghost use Rattle.rv_restrict.specs.Found.{earlier};
-    ghost use Rattle.rv_restrict.specs.DeclarationWalk.{declaration_noted};
-
     ghost Tree = { tree.Declaration };
 
     ghost view = { declaration_view };
@@ -246,20 +187,11 @@ impl Judged for Declaration {
     fn judge(&self, first: &mut First) {
         match self {
             Declaration::Pragma(pragma) => pragma.judge(first),
-            Declaration::Subtype {
-                at: _,
-                name: _,
-                mark: _,
-                range,
-            } => first.maybe(range),
+            Declaration::Subtype { range, .. } => first.maybe(range),
             Declaration::Protected(unit) => unit.judge(first),
             Declaration::Task(task) => task.judge(first),
-            Declaration::Variable { names: _, mark: _ } => {}
-            Declaration::Constant {
-                names: _,
-                mark: _,
-                value,
-            } => value.judge(first),
+            Declaration::Variable { .. } => {}
+            Declaration::Constant { value, .. } => value.judge(first),
         }
     }
 }

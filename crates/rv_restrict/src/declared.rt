@@ -4,7 +4,7 @@ ghost use Rattle.std.specs.Prelude.{◌≡◌, Some, map};
 ghost use Rattle.rv_tree.specs.NameView.{identifier_view, identifiers_view};
 ghost use Rattle.rv_tree.specs.DeclarationView.{maybe, parameter_view, operation_view, element_view, protected_unit_view, declaration_view};
 ghost use Rattle.rv_tree.specs.UnitView.{body_item_view, unit_view};
-ghost use Rattle.rv_restrict.specs.Scope.{is_among, is_parameter, declares, first_declared, declarations_of, declared, unit_of, is_fixed, is_operation, is_among_operations, is_element, is_among_elements, elements_of, is_component, is_among_components, has_component, declares_inside, is_declaration, is_hidden, is_package_name};
+ghost use Rattle.rv_restrict.specs.Scope.{is_among, is_parameter, first_declared, declarations_of, declared, unit_of, is_fixed, is_among_operations, is_among_elements, elements_of, is_component, is_among_components, has_component, declares_inside, is_declaration, is_hidden, is_package_name};
 
 use rv_text::is_same_name;
 use rv_tree::{
@@ -13,50 +13,21 @@ use rv_tree::{
 };
 
 /// Whether a name is among these.
-pub fn is_among(name: &str, names: &Vec<Identifier>) -> bool
-    ensures { result ≡ is_among name.now (identifiers_view names.now.items) }
+pub fn is_among(name: &str, names: &[Identifier]) -> bool
+    ensures { result ≡ is_among name.now (identifiers_view names.now) }
 {
-    for one in names {
-        if is_same_name(one.text.as_str(), name) {
-            return true;
-        }
-    }
-    false
+    names
+        .iter()
+        .any(|one| is_same_name(one.text.as_str(), name))
 }
 
 // Whether a parameter has the name.
 pub(crate) fn is_parameter(name: &str, parameters: &[Parameter]) -> bool
     ensures { result ≡ is_parameter name.now (map parameter_view parameters.now) }
 {
-    for parameter in parameters {
-        if is_among(name, &parameter.names) {
-            return true;
-        }
-    }
-    false
-}
-
-// Whether this declaration has the name.
-fn declares(name: &str, declaration: &Declaration) -> bool
-    ensures { result ≡ declares name.now (declaration_view declaration.now) }
-{
-    match declaration {
-        Declaration::Pragma(_) => false,
-        Declaration::Subtype {
-            at: _,
-            name: own,
-            mark: _,
-            range: _,
-        } => is_same_name(own.text.as_str(), name),
-        Declaration::Protected(unit) => is_same_name(unit.name.text.as_str(), name),
-        Declaration::Task(task) => is_same_name(task.name.text.as_str(), name),
-        Declaration::Variable { names, mark: _ } => is_among(name, names),
-        Declaration::Constant {
-            names,
-            mark: _,
-            value: _,
-        } => is_among(name, names),
-    }
+    parameters
+        .iter()
+        .any(|one| is_among(name, one.names.as_slice()))
 }
 
 // The first of these that has the name.
@@ -64,7 +35,7 @@ fn first_declared<'a>(name: &str, list: &'a Vec<Declaration>) -> Option<&'a Decl
     ensures { maybe (λ d. declaration_view d.now) result ≡ first_declared name.now (map declaration_view list.now.items) }
 {
     for declaration in list {
-        if declares(name, declaration) {
+        if is_among(name, declaration.names()) {
             return Some(declaration);
         }
     }
@@ -77,7 +48,7 @@ fn first_declared_in_body<'a>(name: &str, items: &'a Vec<BodyItem>) -> Option<&'
 {
     for item in items {
         if let BodyItem::Declaration(declaration) = item {
-            if declares(name, declaration) {
+            if is_among(name, declaration.names()) {
                 return Some(declaration);
             }
         }
@@ -124,61 +95,16 @@ pub(crate) fn is_fixed(tree: &UnitTree, name: &str) -> bool
     }
 }
 
-fn is_operation(name: &str, operation: &OperationDeclaration) -> bool
-    ensures { result ≡ is_operation name.now (operation_view operation.now) }
-{
-    match operation {
-        OperationDeclaration::Pragma(_) => false,
-        OperationDeclaration::Function {
-            at: _,
-            name: own,
-            parameters: _,
-            mark: _,
-        } => is_same_name(own.text.as_str(), name),
-        OperationDeclaration::Procedure {
-            at: _,
-            name: own,
-            parameters: _,
-            aspects: _,
-        } => is_same_name(own.text.as_str(), name),
-        OperationDeclaration::Entry(entry) => is_same_name(entry.name.text.as_str(), name),
-    }
-}
-
 fn is_among_operations(name: &str, list: &Vec<OperationDeclaration>) -> bool
     ensures { result ≡ is_among_operations name.now (map operation_view list.now.items) }
 {
-    for operation in list {
-        if is_operation(name, operation) {
-            return true;
-        }
-    }
-    false
-}
-
-fn is_element(name: &str, element: &ProtectedElement) -> bool
-    ensures { result ≡ is_element name.now (element_view element.now) }
-{
-    match element {
-        ProtectedElement::Operation(operation) => is_operation(name, operation),
-        ProtectedElement::Component {
-            names,
-            mark: _,
-            range: _,
-            value: _,
-        } => is_among(name, names),
-    }
+    list.iter().any(|one| is_among(name, one.names()))
 }
 
 fn is_among_elements(name: &str, list: &Vec<ProtectedElement>) -> bool
     ensures { result ≡ is_among_elements name.now (map element_view list.now.items) }
 {
-    for element in list {
-        if is_element(name, element) {
-            return true;
-        }
-    }
-    false
+    list.iter().any(|one| is_among(name, one.names()))
 }
 
 fn is_component(name: &str, element: &ProtectedElement) -> bool
@@ -186,24 +112,14 @@ fn is_component(name: &str, element: &ProtectedElement) -> bool
 {
     match element {
         ProtectedElement::Operation(_) => false,
-        ProtectedElement::Component {
-            names,
-            mark: _,
-            range: _,
-            value: _,
-        } => is_among(name, names),
+        ProtectedElement::Component { names, .. } => is_among(name, names.as_slice()),
     }
 }
 
 fn is_among_components(name: &str, list: &Vec<ProtectedElement>) -> bool
     ensures { result ≡ is_among_components name.now (map element_view list.now.items) }
 {
-    for element in list {
-        if is_component(name, element) {
-            return true;
-        }
-    }
-    false
+    list.iter().any(|one| is_component(name, one))
 }
 
 // Whether the protected unit has a component of this name.

@@ -1,11 +1,12 @@
 //! Violations in expressions.
 
 ghost use Rattle.std.specs.Prelude.{◌≡◌};
+ghost use Rattle.rv_tree.specs.Expressions as tree;
 ghost use Rattle.rv_tree.specs.NameView.{name_view, identifier_view};
 ghost use Rattle.rv_tree.specs.Expressions.{expressions_of, factors_of, terms_of};
-ghost use Rattle.rv_tree.specs.ExpressionView.{expression_view, expressions_view, factors_view, terms_view};
+ghost use Rattle.rv_tree.specs.ExpressionView.{expression_view, expressions_view, factors_view, terms_view, range_view};
 ghost use Rattle.rv_restrict.specs.Found.{earlier};
-ghost use Rattle.rv_restrict.specs.ExpressionWalk.{attribute_noted, expression_noted, expressions_noted, factors_noted, terms_noted};
+ghost use Rattle.rv_restrict.specs.ExpressionWalk.{attribute_noted, expression_noted, expressions_noted, factors_noted, terms_noted, range_noted};
 
 use crate::first::{First, Judged};
 use crate::violation::Restriction;
@@ -79,11 +80,6 @@ fn terms(more: &Vec<Term>, first: &mut First)
 }
 
 impl Judged for Expression {
-    ghost use Rattle.rv_tree.specs.Expressions as tree;
-    ghost use Rattle.rv_tree.specs.ExpressionView.{expression_view};
-    ghost use Rattle.rv_restrict.specs.Found.{earlier};
-    ghost use Rattle.rv_restrict.specs.ExpressionWalk.{expression_noted};
-
     ghost Tree = { tree.Expression };
 
     ghost view = { expression_view };
@@ -96,11 +92,6 @@ impl Judged for Expression {
 }
 
 impl Judged for RangeConstraint {
-    ghost use Rattle.rv_tree.specs.Expressions as tree;
-    ghost use Rattle.rv_tree.specs.ExpressionView.{range_view};
-    ghost use Rattle.rv_restrict.specs.Found.{earlier};
-    ghost use Rattle.rv_restrict.specs.ExpressionWalk.{range_noted};
-
     ghost Tree = { tree.RangeConstraint };
 
     ghost view = { range_view };

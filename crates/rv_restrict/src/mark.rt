@@ -5,54 +5,28 @@ ghost use Rattle.rv_tree.specs.NameView.{identifier_view, identifiers_view, name
 ghost use Rattle.rv_tree.specs.DeclarationView.{parameter_view};
 ghost use Rattle.rv_tree.specs.BodyView.{local_view};
 ghost use Rattle.rv_tree.specs.UnitView.{unit_view};
-ghost use Rattle.rv_restrict.specs.Scope.{declared, unit_of, is_among_before, is_local, is_among_locals, is_local_type, is_among_local_types, is_type_before, type_named, names_protected_type};
+ghost use Rattle.rv_restrict.specs.Scope.{declared, unit_of, is_among_before, is_among_locals, is_local_type, is_among_local_types, is_type_before, type_named, names_protected_type};
 
 use crate::declared::{is_hidden, is_package_name, protected_unit};
 use rv_text::is_same_name;
 use rv_tree::{Identifier, Local, Name, Parameter, UnitTree};
 
 // Whether a name is among these, before a place.
-fn is_among_before(at: usize, name: &str, names: &Vec<Identifier>) -> bool
-    ensures { result ≡ is_among_before at name.now (identifiers_view names.now.items) }
+fn is_among_before(at: usize, name: &str, names: &[Identifier]) -> bool
+    ensures { result ≡ is_among_before at name.now (identifiers_view names.now) }
 {
-    for one in names {
-        if one.at < at && is_same_name(one.text.as_str(), name) {
-            return true;
-        }
-    }
-    false
-}
-
-// Whether a declaration of a block has the name, before a place.
-fn is_local(at: usize, name: &str, local: &Local) -> bool
-    ensures { result ≡ is_local at name.now (local_view local.now) }
-{
-    match local {
-        Local::Object {
-            names,
-            is_constant: _,
-            mark: _,
-            range: _,
-            value: _,
-        } => is_among_before(at, name, names),
-        Local::Pragma(_) => false,
-        Local::Protected(unit) => {
-            unit.name.at < at && is_same_name(unit.name.text.as_str(), name)
-        }
-        Local::Task(task) => task.name.at < at && is_same_name(task.name.text.as_str(), name),
-    }
+    names
+        .iter()
+        .any(|one| one.at < at && is_same_name(one.text.as_str(), name))
 }
 
 // Whether a declaration of the block before a place hides the name.
 fn is_among_locals(at: usize, name: &str, locals: &Vec<Local>) -> bool
     ensures { result ≡ is_among_locals at name.now (map local_view locals.now.items) }
 {
-    for local in locals {
-        if is_local(at, name, local) {
-            return true;
-        }
-    }
-    false
+    locals
+        .iter()
+        .any(|one| is_among_before(at, name, one.names()))
 }
 
 // Whether it is a protected type of this name, before a place.
@@ -70,12 +44,7 @@ fn is_local_type(at: usize, name: &str, local: &Local) -> bool
 fn is_among_local_types(at: usize, name: &str, locals: &Vec<Local>) -> bool
     ensures { result ≡ is_among_local_types at name.now (map local_view locals.now.items) }
 {
-    for local in locals {
-        if is_local_type(at, name, local) {
-            return true;
-        }
-    }
-    false
+    locals.iter().any(|one| is_local_type(at, name, one))
 }
 
 // Whether the package declares a protected type by this name, before a place.

@@ -1,12 +1,13 @@
 //! Violations in statements.
 
 ghost use Rattle.std.specs.Prelude.{◌≡◌};
+ghost use Rattle.rv_tree.specs.Statements as tree;
 ghost use Rattle.rv_tree.specs.ExpressionView.{expression_view};
 ghost use Rattle.rv_tree.specs.Statements.{statements_of, elsif_parts_of, alternatives_of, selectives_of};
-ghost use Rattle.rv_tree.specs.StatementView.{statement_view, statements_view, elsif_parts_view, alternatives_view, selective_view, selectives_view, bounds_view, iteration_view};
+ghost use Rattle.rv_tree.specs.StatementView.{statement_view, statements_view, elsif_parts_view, alternatives_view, selective_view, selectives_view, bounds_view, iteration_view, guard_view, choice_view};
 ghost use Rattle.rv_restrict.specs.Found.{earlier, ◌▷◌};
 ghost use Rattle.rv_restrict.specs.ExpressionWalk.{expression_noted};
-ghost use Rattle.rv_restrict.specs.StatementWalk.{bounds_noted, iteration_noted, delay_noted, statement_noted, statements_noted, elsif_parts_noted, alternatives_noted, selective_noted, selectives_noted};
+ghost use Rattle.rv_restrict.specs.StatementWalk.{bounds_noted, iteration_noted, delay_noted, statement_noted, statements_noted, elsif_parts_noted, alternatives_noted, selective_noted, selectives_noted, guard_noted, choice_noted};
 
 use crate::expression::expressions;
 use crate::first::{First, Judged};
@@ -17,11 +18,6 @@ use rv_tree::{
 };
 
 impl Judged for Guard {
-    ghost use Rattle.rv_tree.specs.Statements as tree;
-    ghost use Rattle.rv_tree.specs.StatementView.{guard_view};
-    ghost use Rattle.rv_restrict.specs.Found.{earlier};
-    ghost use Rattle.rv_restrict.specs.StatementWalk.{guard_noted};
-
     ghost Tree = { tree.Guard };
 
     ghost view = { guard_view };
@@ -34,11 +30,6 @@ impl Judged for Guard {
 }
 
 impl Judged for Choice {
-    ghost use Rattle.rv_tree.specs.Statements as tree;
-    ghost use Rattle.rv_tree.specs.StatementView.{choice_view};
-    ghost use Rattle.rv_restrict.specs.Found.{earlier};
-    ghost use Rattle.rv_restrict.specs.StatementWalk.{choice_noted};
-
     ghost Tree = { tree.Choice };
 
     ghost view = { choice_view };
@@ -76,11 +67,7 @@ fn iteration(iteration: &Iteration, first: &mut First)
     match iteration {
         Iteration::Forever => {}
         Iteration::While(condition) => condition.judge(first),
-        Iteration::For {
-            parameter: _,
-            is_reverse: _,
-            bounds: over,
-        } => bounds(over, first),
+        Iteration::For { bounds: over, .. } => bounds(over, first),
     }
 }
 
@@ -102,11 +89,11 @@ fn statement(statement: &Statement, first: &mut First)
         Statement::Assignment(_, value) => value.judge(first),
         Statement::Call(_, arguments) => expressions(arguments, first),
         Statement::If {
-            at: _,
             condition,
             statements: chosen,
             elsif_parts: parts,
             else_statements: otherwise,
+            ..
         } => {
             condition.judge(first);
             statements(chosen, first);
@@ -114,17 +101,17 @@ fn statement(statement: &Statement, first: &mut First)
             statements(otherwise, first);
         }
         Statement::Case {
-            at: _,
             selector,
             alternatives: choices,
+            ..
         } => {
             selector.judge(first);
             alternatives(choices, first);
         }
         Statement::Loop {
-            at: _,
             iteration: turns,
             statements: body,
+            ..
         } => {
             iteration(turns, first);
             statements(body, first);
@@ -134,17 +121,10 @@ fn statement(statement: &Statement, first: &mut First)
         Statement::Raise(_, _) => {}
         Statement::Delay { at, is_until, time } => delay(*at, *is_until, time, first),
         Statement::Abort(at, _) => first.note(Restriction::NoAbortStatements, *at),
-        Statement::Requeue {
-            at,
-            target: _,
-            with_abort: _,
-        } => first.note(Restriction::NoRequeueStatements, *at),
+        Statement::Requeue { at, .. } => first.note(Restriction::NoRequeueStatements, *at),
         Statement::Accept {
-            at: _,
-            entry: _,
-            parameters: _,
             statements: body,
-            end_name: _,
+            ..
         } => statements(body, first),
         Statement::Select {
             at,

@@ -1,16 +1,18 @@
 //! Violations in blocks, bodies and whole units.
 
 ghost use Rattle.std.specs.Prelude.{◌≡◌, ◌↔◌, not, map, None, IfSome};
-ghost use Rattle.rv_tree.specs.NameView.{name_view, identifiers_view, names_view};
+ghost use Rattle.rv_tree.specs.Bodies as bodies;
+ghost use Rattle.rv_tree.specs.Units as units;
+ghost use Rattle.rv_tree.specs.NameView.{name_view, names_view};
 ghost use Rattle.rv_tree.specs.ExpressionView.{expression_view};
 ghost use Rattle.rv_tree.specs.DeclarationView.{parameter_view};
-ghost use Rattle.rv_tree.specs.BodyView.{local_view, block_view, operation_body_view, protected_body_view};
-ghost use Rattle.rv_tree.specs.UnitView.{body_item_view, unit_view};
+ghost use Rattle.rv_tree.specs.BodyView.{local_view, block_view, operation_body_view, protected_body_view, handler_view};
+ghost use Rattle.rv_tree.specs.UnitView.{body_item_view, unit_view, context_item_view};
 ghost use Rattle.rv_restrict.specs.Conforms.{violations, Conforms, IsFirst};
 ghost use Rattle.rv_restrict.specs.Found.{earlier, broken_unless, first_of, each_noted};
 ghost use Rattle.rv_restrict.specs.Scope.{names_protected_type as protected_type_is_named};
 ghost use Rattle.rv_restrict.specs.declared.violation.Restriction.TheVariants.{NoLocalProtectedObjects};
-ghost use Rattle.rv_restrict.specs.UnitWalk.{first_place, local_noted, block_noted, barrier_noted, with_noted, operation_body_noted, protected_body_noted, item_noted, unit_noted};
+ghost use Rattle.rv_restrict.specs.UnitWalk.{local_noted, block_noted, barrier_noted, with_noted, operation_body_noted, protected_body_noted, item_noted, unit_noted, handler_noted, context_noted};
 
 use crate::barrier::is_simple_barrier;
 use crate::dependence::{is_dynamic_priorities, is_excluded};
@@ -19,19 +21,9 @@ use crate::mark::names_protected_type;
 use crate::statement::statements;
 use crate::violation::{Restriction, Violation};
 use rv_tree::{
-    Block, BodyItem, ContextItem, Expression, Handler, Identifier, Local, Name, OperationBody,
-    Parameter, ProtectedBody, UnitTree,
+    Block, BodyItem, ContextItem, Expression, Handler, Local, Name, OperationBody, Parameter,
+    ProtectedBody, UnitTree,
 };
-
-// The place of a declaration that begins with these names.
-fn first_place(names: &Vec<Identifier>) -> usize
-    ensures { result ≡ first_place (identifiers_view names.now.items) }
-{
-    match names.as_slice() {
-        [] => 0,
-        [first, ..] => first.at,
-    }
-}
 
 // The mark of an object of a block, which isn't looked up behind a violation.
 #[tactic(auto, using(crate::proofs::Behind::unchanged))]
@@ -40,15 +32,14 @@ fn local_mark(
     unit: &str,
     parameters: &[Parameter],
     locals: &Vec<Local>,
-    names: &Vec<Identifier>,
+    place: usize,
     mark: &Name,
     first: &mut First,
 )
     ensures { first.new ≡ broken_unless earlier
         (not (protected_type_is_named (unit_view tree.now) unit.now (map parameter_view parameters.now) (map local_view locals.now.items) (name_view mark.now)))
-        NoLocalProtectedObjects (first_place (identifiers_view names.now.items)) first.old }
+        NoLocalProtectedObjects place first.old }
 {
-    let place = first_place(names);
     let restriction = Restriction::NoLocalProtectedObjects;
     if first.precedes(Violation { restriction, place }) {
         return;
@@ -70,13 +61,12 @@ fn local(
 {
     match local {
         Local::Object {
-            names,
-            is_constant: _,
             mark,
             range,
             value,
+            ..
         } => {
-            local_mark(tree, unit, parameters, locals, names, mark, first);
+            local_mark(tree, unit, parameters, locals, local.place(), mark, first);
             first.maybe(range);
             first.maybe(value);
         }
@@ -111,12 +101,7 @@ fn locals(
 }
 
 impl Judged for Handler {
-    ghost use Rattle.rv_tree.specs.Bodies as tree;
-    ghost use Rattle.rv_tree.specs.BodyView.{handler_view};
-    ghost use Rattle.rv_restrict.specs.Found.{earlier};
-    ghost use Rattle.rv_restrict.specs.UnitWalk.{handler_noted};
-
-    ghost Tree = { tree.Handler };
+    ghost Tree = { bodies.Handler };
 
     ghost view = { handler_view };
 
@@ -149,32 +134,11 @@ fn barrier(tree: &UnitTree, unit: &str, parameters: &[Parameter], e: &Expression
 fn operation_body(tree: &UnitTree, unit: &str, body: &OperationBody, first: &mut First)
     ensures { first.new ≡ operation_body_noted earlier (unit_view tree.now) unit.now (operation_body_view body.now) first.old }
 {
-    match body {
-        OperationBody::Function {
-            at: _,
-            name: _,
-            parameters,
-            mark: _,
-            block: inner,
-        } => block(tree, unit, parameters.as_slice(), inner, first),
-        OperationBody::Procedure {
-            at: _,
-            name: _,
-            parameters,
-            block: inner,
-        } => block(tree, unit, parameters.as_slice(), inner, first),
-        OperationBody::Entry {
-            at: _,
-            name: _,
-            parameters,
-            barrier: condition,
-            block: inner,
-        } => {
-            let parameters = parameters.as_slice();
-            barrier(tree, unit, parameters, condition, first);
-            block(tree, unit, parameters, inner, first);
-        }
+    let parameters = body.parameters().as_slice();
+    if let OperationBody::Entry { barrier: e, .. } = body {
+        barrier(tree, unit, parameters, e, first);
     }
+    block(tree, unit, parameters, body.block(), first);
 }
 
 fn protected_body(tree: &UnitTree, body: &ProtectedBody, first: &mut First)
@@ -227,12 +191,7 @@ fn withs(names: &Vec<Name>, first: &mut First)
 }
 
 impl Judged for ContextItem {
-    ghost use Rattle.rv_tree.specs.Units as tree;
-    ghost use Rattle.rv_tree.specs.UnitView.{context_item_view};
-    ghost use Rattle.rv_restrict.specs.Found.{earlier};
-    ghost use Rattle.rv_restrict.specs.UnitWalk.{context_noted};
-
-    ghost Tree = { tree.ContextItem };
+    ghost Tree = { units.ContextItem };
 
     ghost view = { context_item_view };
 
@@ -242,11 +201,7 @@ impl Judged for ContextItem {
         match self {
             ContextItem::Pragma(pragma) => pragma.judge(first),
             ContextItem::With(_, names) => withs(names, first),
-            ContextItem::Use {
-                at: _,
-                is_type: _,
-                names: _,
-            } => {}
+            ContextItem::Use { .. } => {}
         }
     }
 }

@@ -14,7 +14,9 @@ use Rattle.rv_scope.specs.declared.declare.Form.TheVariants as f
 use Rattle.rv_scope.specs.declared.wanted.Wanted.{Wanted}
 use Rattle.rv_scope.specs.declared.wanted.Wanted.TheVariants as w
 use Rattle.rv_scope.specs.Scope.{ScopeView, declaring, declaring_all, hiding, hiding_all, entered, within_unit, showing, Region}
+use Rattle.rv_static.specs.Static.{◌>>=◌}
 use Rattle.rv_scope.specs.Visible.{visible}
+use Rattle.rv_scope.specs.Heads.{declared_head}
 use Rattle.rv_scope.specs.ExpressionUses.{Use, ◌▷◌, nothing, refused, expression_uses, value_uses, maybe_uses, range_uses}
 
 -- Pragmas and aspects (2.8, 13.1.1)
@@ -74,10 +76,7 @@ operation_uses at_use scope (an_entry entry) = parameters_uses at_use (entered s
 
 -- the identifier that the declaration of an operation declares, and the operation's kind
 abbrev pub declared_operation : OperationDeclaration → Option (Identifier × OperationKind)
-declared_operation (a_pragma pragma) = None
-declared_operation (a_function at i parameters mark) = Some (i, kind.Function)
-declared_operation (a_procedure at i parameters aspects) = Some (i, kind.Procedure)
-declared_operation (an_entry entry) = Some (entry.name, kind.Entry)
+declared_operation o = declared_head o >>= λ head. Some (head.name, head.kind)
 
 -- an operation of this identifier and kind is declared, behind its declaration, in which the identifier is hidden
 abbrev pub naming_operation : Option (Identifier × OperationKind) → ScopeView → ScopeView

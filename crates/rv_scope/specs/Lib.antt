@@ -2,7 +2,10 @@ pub mod Predefined
 pub mod Scope
 pub mod Visible
 pub mod Wanted
+pub mod ByPlace
 pub mod Statics
+pub mod Subtypes
+pub mod Heads
 pub mod ExpressionUses
 pub mod StatementUses
 pub mod DeclarationUses

@@ -1,8 +1,6 @@
 -- What names mean in static expressions (ISO/IEC 8652:2012, 3.2, 3.3, 4.9): those of library packages, and those of a text of
--- which something is static.
-use Rattle.std.specs.Prelude.{ℕ, ℤ, pos, nat_eq, List, Option, Some, None}
-use Rattle.std.specs.Map.{lookup}
-use Rattle.indexmap.specs.IndexMap.{insert_entry}
+-- whose declarations something is known.
+use Rattle.std.specs.Prelude.{ℕ, ℤ, pos, Option, Some}
 use Rattle.rv_tree.specs.Names.{Name}
 use Rattle.rv_shape.specs.declared.kind.ValueType.{ValueType}
 use Rattle.rv_shape.specs.declared.kind.ValueType.TheVariants.{Integer, Boolean, Time, TimeSpan}
@@ -16,6 +14,9 @@ use Rattle.rv_scope.specs.declared.predefined.Predefined.{Predefined}
 use Rattle.rv_scope.specs.declared.predefined.Predefined.TheVariants as p
 use Rattle.rv_scope.specs.Scope.{ScopeView}
 use Rattle.rv_scope.specs.Visible.{visible}
+use Rattle.rv_scope.specs.ByPlace.{ByPlace, at_place}
+use Rattle.rv_scope.specs.declared.known.Known.{Known}
+use Rattle.rv_scope.specs.declared.known.Known.TheVariants as k
 
 -- all values of a type
 abbrev pub whole_range : ValueType → Range
@@ -63,25 +64,23 @@ predefined_meaning p.TimeSpan = m.Subtype (whole_range TimeSpan)
 predefined_meaning p.Milliseconds = m.Milliseconds
 predefined_meaning other = m.NotStatic
 
--- what declarations of a text mean, by the places of their identifiers
-abbrev pub Statics : Type 0
-Statics = List (ℕ × Meaning)
+-- what is known of declarations, by the places of their identifiers
+abbrev pub Table : Type 0
+Table = ByPlace Known
 
-abbrev pub with_meaning : Statics → ℕ → Meaning → Statics
-with_meaning statics at meaning = insert_entry nat_eq statics at meaning
+-- what is known means in a static expression
+abbrev pub known_meaning : Option Known → Meaning
+known_meaning (Some (k.Subtype range)) = m.Subtype range
+known_meaning (Some (k.Constant range value)) = m.Constant range.of value
+known_meaning other = m.NotStatic
 
--- this meaning; where there is none, nothing static
-abbrev pub or_not_static : Option Meaning → Meaning
-or_not_static None = m.NotStatic
-or_not_static (Some meaning) = meaning
+-- what a declaration means in a static expression
+abbrev pub meaning_of : Table → Option Declared → Meaning
+meaning_of known (Some (d.Subtype at)) = known_meaning (at_place known at)
+meaning_of known (Some (d.Constant at)) = known_meaning (at_place known at)
+meaning_of known (Some (d.Predefined item)) = predefined_meaning item
+meaning_of known other = m.NotStatic
 
--- what a declaration means: a subtype or a constant of the text what was found of it
-abbrev pub meaning_of : Statics → Option Declared → Meaning
-meaning_of statics (Some (d.Subtype at)) = or_not_static (lookup (nat_eq at) statics)
-meaning_of statics (Some (d.Constant at)) = or_not_static (lookup (nat_eq at) statics)
-meaning_of statics (Some (d.Predefined item)) = predefined_meaning item
-meaning_of statics other = m.NotStatic
-
--- what a name means at a point
-abbrev pub means : ScopeView → Statics → Name → Meaning
-means scope statics name = meaning_of statics (visible scope name)
+-- what a name means at a point: what is known of the declaration that is visible there
+abbrev pub means : ScopeView → Table → Name → Meaning
+means scope known name = meaning_of known (visible scope name)

@@ -4,6 +4,7 @@ use Rattle.std.specs.Prelude.{ℕ, Bool, true, false, List, [], ◌∷◌, ◌++
 use Rattle.rv_tree.specs.Names.{Identifier, Name}
 use Rattle.rv_tree.specs.Declarations.{ProtectedUnit, Declaration, a_protected_unit}
 use Rattle.rv_tree.specs.Bodies.{Local, an_object, local_pragma, local_protected_unit, local_task, ExceptionChoice, exception_named, other_exceptions, Handler, Block, OperationBody, function_body, procedure_body, entry_body, ProtectedBody, TaskBody}
+use Rattle.rv_tree.specs.Operations.{operation_body_name, operation_body_parameters, operation_body_block}
 use Rattle.rv_tree.specs.Units.{ContextItem, context_pragma, with_clause, use_clause, BodyItem, body_declaration, body_protected, body_task, UnitTree}
 use Rattle.rv_shape.specs.Shape.{Shape}
 use Rattle.rv_static.specs.Static.{◌>>=◌}
@@ -13,6 +14,7 @@ use Rattle.rv_scope.specs.declared.declare.Form.{Form}
 use Rattle.rv_scope.specs.declared.declare.Form.TheVariants as f
 use Rattle.rv_scope.specs.declared.predefined.Library.{Library}
 use Rattle.rv_scope.specs.declared.predefined.Library.TheVariants as l
+use Rattle.rv_scope.specs.declared.wanted.Wanted.{Wanted}
 use Rattle.rv_scope.specs.declared.wanted.Wanted.TheVariants as w
 use Rattle.rv_scope.specs.Scope.{ScopeView, declaring_all, hiding_all, in_body, within_unit, with_unit, with_library, using_library, empty_scope}
 use Rattle.rv_scope.specs.Wanted.{denoted}
@@ -72,22 +74,27 @@ block_uses at_use scope block =
 
 -- Bodies of operations, protected units and tasks (9.1, 9.4)
 
+-- the declaration that a body of an operation wants
+abbrev pub body_wanted : OperationBody → Wanted
+body_wanted (function_body at i parameters mark block) = w.FunctionBody
+body_wanted (procedure_body at i parameters block) = w.ProcedureBody
+body_wanted (entry_body at i parameters barrier block) = w.EntryBody
+
+abbrev pub mark_or_barrier_uses : {A : Type 0} → Use A → ScopeView → OperationBody → A → A
+mark_or_barrier_uses at_use scope (function_body at i parameters mark block) = at_use scope w.Subtype mark
+mark_or_barrier_uses at_use scope (procedure_body at i parameters block) = nothing
+mark_or_barrier_uses at_use scope (entry_body at i parameters barrier block) = value_uses at_use scope barrier
+
 -- the parameters are declared in the region of the body, and those of an entry in its barrier too (9.5.2)
+abbrev pub with_profile : OperationBody → ScopeView → ScopeView
+with_profile body scope = with_parameters (operation_body_parameters body) (in_body (operation_body_name body) scope)
+
 abbrev pub operation_body_uses : {A : Type 0} → Use A → ScopeView → OperationBody → A → A
-operation_body_uses at_use scope (function_body at i parameters mark block) =
-    at_use scope w.FunctionBody (simple i)
-    ▷ parameters_uses at_use (in_body i scope) parameters
-    ▷ at_use (with_parameters parameters (in_body i scope)) w.Subtype mark
-    ▷ block_uses at_use (with_parameters parameters (in_body i scope)) block
-operation_body_uses at_use scope (procedure_body at i parameters block) =
-    at_use scope w.ProcedureBody (simple i)
-    ▷ parameters_uses at_use (in_body i scope) parameters
-    ▷ block_uses at_use (with_parameters parameters (in_body i scope)) block
-operation_body_uses at_use scope (entry_body at i parameters barrier block) =
-    at_use scope w.EntryBody (simple i)
-    ▷ parameters_uses at_use (in_body i scope) parameters
-    ▷ value_uses at_use (with_parameters parameters (in_body i scope)) barrier
-    ▷ block_uses at_use (with_parameters parameters (in_body i scope)) block
+operation_body_uses at_use scope body =
+    at_use scope (body_wanted body) (simple (operation_body_name body))
+    ▷ parameters_uses at_use (in_body (operation_body_name body) scope) (operation_body_parameters body)
+    ▷ mark_or_barrier_uses at_use (with_profile body scope) body
+    ▷ block_uses at_use (with_profile body scope) (operation_body_block body)
 
 abbrev pub operation_bodies_uses : {A : Type 0} → Use A → ScopeView → List OperationBody → A → A
 operation_bodies_uses at_use scope [] = nothing

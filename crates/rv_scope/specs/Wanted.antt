@@ -1,5 +1,5 @@
 -- What a name is wanted for, and what may stand there (ISO/IEC 8652:2012, 8.6; own).
-use Rattle.std.specs.Prelude.{Bool, true, false, ◌||◌, Option, Some, None}
+use Rattle.std.specs.Prelude.{Bool, true, false, Option, Some, None}
 use Rattle.rv_tree.specs.Names.{Name}
 use Rattle.rv_scope.specs.declared.declared.Declared.{Declared}
 use Rattle.rv_scope.specs.declared.declared.Declared.TheVariants as d
@@ -77,83 +77,33 @@ is_value s.Function = true
 is_value s.Suspension = true
 is_value other = false
 
-abbrev pub is_subtype : Sort → Bool
-is_subtype s.Subtype = true
-is_subtype other = false
-
-abbrev pub is_called : Sort → Bool
-is_called s.Function = true
-is_called s.Subtype = true
-is_called other = false
-
-abbrev pub is_target : Sort → Bool
-is_target s.Variable = true
-is_target s.Constant = true
-is_target other = false
-
-abbrev pub is_procedure : Sort → Bool
-is_procedure s.Procedure = true
-is_procedure other = false
-
-abbrev pub is_entry : Sort → Bool
-is_entry s.Entry = true
-is_entry other = false
-
-abbrev pub is_function : Sort → Bool
-is_function s.Function = true
-is_function other = false
-
-abbrev pub is_exception : Sort → Bool
-is_exception s.Exception = true
-is_exception other = false
-
-abbrev pub is_library : Sort → Bool
-is_library s.Library = true
-is_library other = false
-
-abbrev pub is_library_unit : Sort → Bool
-is_library_unit s.Library = true
-is_library_unit s.Unit = true
-is_library_unit other = false
-
-abbrev pub is_object_type : Sort → Bool
-is_object_type s.ProtectedType = true
-is_object_type s.SuspensionType = true
-is_object_type other = false
-
-abbrev pub is_protected_unit : Sort → Bool
-is_protected_unit s.ProtectedType = true
-is_protected_unit s.SingleProtected = true
-is_protected_unit other = false
-
-abbrev pub is_task : Sort → Bool
-is_task s.Task = true
-is_task other = false
-
-abbrev pub is_own_unit : Sort → Bool
-is_own_unit s.OwnUnit = true
-is_own_unit other = false
-
 -- what is wanted is of such a sort
 abbrev pub suits : Wanted → Sort → Bool
-suits w.With found = is_library_unit found
-suits w.Use found = is_library found
-suits w.Subtype found = is_subtype found
-suits w.ObjectType found = is_object_type found
+suits w.With s.Library = true
+suits w.With s.Unit = true
+suits w.Use s.Library = true
+suits w.Subtype s.Subtype = true
+suits w.ObjectType s.ProtectedType = true
+suits w.ObjectType s.SuspensionType = true
 suits w.Value found = is_value found
-suits w.Choice found = is_value found || is_subtype found
-suits w.Called found = is_called found
-suits w.Target found = is_target found
-suits w.Procedure found = is_procedure found || is_entry found
-suits w.Exception found = is_exception found
-suits w.Handler found = is_procedure found
-suits w.PackageBody found = is_own_unit found
-suits w.ProtectedBody found = is_protected_unit found
-suits w.TaskBody found = is_task found
-suits w.FunctionBody found = is_function found
-suits w.ProcedureBody found = is_procedure found
-suits w.EntryBody found = is_entry found
-suits w.Nothing found = false
+suits w.Choice s.Subtype = true
+suits w.Choice found = is_value found
+suits w.Called s.Function = true
+suits w.Called s.Subtype = true
+suits w.Target s.Variable = true
+suits w.Target s.Constant = true
+suits w.Procedure s.Procedure = true
+suits w.Procedure s.Entry = true
+suits w.Exception s.Exception = true
+suits w.Handler s.Procedure = true
+suits w.PackageBody s.OwnUnit = true
+suits w.ProtectedBody s.ProtectedType = true
+suits w.ProtectedBody s.SingleProtected = true
+suits w.TaskBody s.Task = true
+suits w.FunctionBody s.Function = true
+suits w.ProcedureBody s.Procedure = true
+suits w.EntryBody s.Entry = true
+suits wanted found = false
 
 -- a body is wanted of what the name denotes
 abbrev pub is_body : Wanted → Bool

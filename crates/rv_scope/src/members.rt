@@ -1,15 +1,16 @@
 //! Points of a text: what a walk through its declarations declares on the way (8.1, 8.3).
 
-ghost use Rattle.std.specs.Prelude.{◌≡◌, OnOk, map};
+ghost use Rattle.std.specs.Prelude.{◌≡◌, OnOk, Some, map};
 ghost use Rattle.std.specs.Option.{option_map};
 ghost use Rattle.rv_tree.specs.NameView.{identifier_view, identifiers_view, name_view};
 ghost use Rattle.rv_tree.specs.DeclarationView.{parameter_view, operation_view, element_view, protected_unit_view};
-ghost use Rattle.rv_scope.specs.Scope.{hiding, hiding_all, declaring_all, OnlyDeclares, entered};
+ghost use Rattle.rv_scope.specs.Scope.{with_meaning, hiding, hiding_all, declaring_all, OnlyDeclares, entered};
 ghost use Rattle.rv_scope.specs.Visible.{visible};
 ghost use Rattle.rv_scope.specs.DeclarationUses.{declaring_operation, declared_operation as operation_declared, object_form as form_of_objects, with_parameters, with_operation, with_operations, with_element, with_elements, with_members};
 
 use crate::declare::{Form, declare_all};
 use crate::declared::{Declared, OperationKind};
+use crate::head::declared_head;
 use crate::scope::Scope;
 use crate::units::object_form;
 use rv_tree::declaration::{OperationDeclaration, Parameter, ProtectedElement, ProtectedUnit};
@@ -23,7 +24,20 @@ pub fn hide(declared: &Identifier, scope: &mut Scope) -> Result<(), AllocError>
     scope.declare(declared, None)
 }
 
-/// The same, of several.
+/// An identifier: hidden in its declaration, and behind it declared.
+pub fn declare_identifier(
+    declared: &Identifier,
+    meaning: Declared,
+    scope: &mut Scope,
+) -> Result<(), AllocError>
+    ensures { OnOk result (scope.new
+        ≡ with_meaning (identifier_view declared.now) (Some meaning) (hiding (identifier_view declared.now) scope.old)) }
+{
+    hide(declared, scope)?;
+    scope.declare(declared, Some(meaning))
+}
+
+/// Identifiers inside their own declaration.
 pub fn hide_all(declared: &Vec<Identifier>, scope: &mut Scope) -> Result<(), AllocError>
     ensures scope { OnOk result (scope.new ≡ hiding_all (identifiers_view declared.now.items) scope.old) }
     ensures only { OnOk result (OnlyDeclares scope.old scope.new) }
@@ -89,25 +103,8 @@ pub fn declare_operation(
 pub fn declared_operation(one: &OperationDeclaration) -> Option<(&Identifier, OperationKind)>
     ensures { option_map (λ named. (identifier_view named.0.now, named.1)) result ≡ operation_declared (operation_view one.now) }
 {
-    match one {
-        OperationDeclaration::Pragma(_) => None,
-        OperationDeclaration::Function { name, .. } => Some((name, OperationKind::Function)),
-        OperationDeclaration::Procedure { name, .. } => Some((name, OperationKind::Procedure)),
-        OperationDeclaration::Entry(entry) => Some((&entry.name, OperationKind::Entry)),
-    }
-}
-
-// The identifier of an operation in its region.
-fn operation_name(
-    declared: &Identifier,
-    kind: OperationKind,
-    scope: &mut Scope,
-) -> Result<(), AllocError>
-    ensures { OnOk result (scope.new
-        ≡ declaring_operation kind (identifier_view declared.now) (hiding (identifier_view declared.now) scope.old)) }
-{
-    hide(declared, scope)?;
-    declare_operation(declared, kind, scope)
+    let head = declared_head(one)?;
+    Some((head.name, head.kind))
 }
 
 /// The identifier that an operation's declaration declares.
@@ -117,7 +114,9 @@ pub fn operation(one: &OperationDeclaration, scope: &mut Scope) -> Result<(), Al
 {
     match declared_operation(one) {
         None => Ok(()),
-        Some((declared, kind)) => operation_name(declared, kind, scope),
+        Some((declared, kind)) => {
+            declare_identifier(declared, Declared::Operation(declared.at, kind), scope)
+        }
     }
 }
 

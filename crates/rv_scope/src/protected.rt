@@ -2,12 +2,12 @@
 
 ghost use Rattle.std.specs.Prelude.{◌≡◌, OnOk, IfOk, map, length, []};
 ghost use Rattle.rv_tree.specs.NameView.{identifier_view};
-ghost use Rattle.rv_tree.specs.DeclarationView.{operation_view};
-ghost use Rattle.rv_scope.specs.Scope.{declaring, showing};
-ghost use Rattle.rv_scope.specs.DeclarationUses.{protected_meaning as meaning_of_unit, with_shown, with_all_shown};
+ghost use Rattle.rv_tree.specs.DeclarationView.{operation_view, protected_unit_view};
+ghost use Rattle.rv_scope.specs.Scope.{declaring, showing, within_unit};
+ghost use Rattle.rv_scope.specs.DeclarationUses.{protected_meaning as meaning_of_unit, with_shown, with_all_shown, naming_unit, declaring_protected_unit};
 
 use crate::declared::Declared;
-use crate::members::declared_operation;
+use crate::members::{declared_operation, hide};
 use crate::region::Region;
 use crate::scope::Scope;
 use rv_tree::declaration::{OperationDeclaration, ProtectedUnit};
@@ -66,13 +66,40 @@ impl<'a> Scope<'a> {
         self.show(operations)
     }
 
-    /// The identifier of a protected unit, and what others see of the unit.
+    /// A protected unit of the package, of whose parts nothing else is asked.
     pub fn declare_protected_unit(&mut self, unit: &ProtectedUnit) -> Result<(), AllocError>
-        ensures { OnOk result (self.new
-            ≡ showing (with_all_shown (map operation_view unit.now.operations.items) [])
-            (declaring (meaning_of_unit unit.now.is_type (length self.old.shown)) (identifier_view unit.now.name) self.old)) }
+        ensures { OnOk result (self.new ≡ declaring_protected_unit (protected_unit_view unit.now) self.old) }
     {
+        hide(&unit.name, self)?;
         self.name_protected_unit(unit)?;
+        self.show_protected_unit(unit)
+    }
+
+    /// Begins the declaration of a protected unit, whose identifier denotes the unit there too (8.3).
+    /// What it gives is for `leave_declaration`.
+    pub fn enter_declaration(&mut self, unit: &ProtectedUnit) -> Result<Option<usize>, AllocError>
+        ensures scope { OnOk result (self.new
+            ≡ within_unit unit.now.name.at (naming_unit (protected_unit_view unit.now) self.old)) }
+        ensures around { IfOk result (λ around. around ≡ self.old.current) }
+    {
+        let around = self.current();
+        hide(&unit.name, self)?;
+        self.name_protected_unit(unit)?;
+        self.set_current(Some(unit.name.at));
+        Ok(around)
+    }
+
+    /// Ends the declaration of a protected unit, whose operations before `private` others see behind it (9.4); the point
+    /// is then in this one, if in any.
+    pub fn leave_declaration(
+        &mut self,
+        unit: &ProtectedUnit,
+        around: Option<usize>,
+    ) -> Result<(), AllocError>
+        ensures { OnOk result (self.new
+            ≡ showing (with_all_shown (map operation_view unit.now.operations.items) []) (record self.old { current = around })) }
+    {
+        self.set_current(around);
         self.show_protected_unit(unit)
     }
 }

@@ -308,31 +308,6 @@ impl<'a> Scope<'a> {
         declared_in(self.innermost(), name)
     }
 
-    /// What a name denotes where this is wanted: a `with` names library units, a `use` what is visible in a context
-    /// clause, a body what the innermost region declares, and all else what is visible.
-    pub fn denoted(&self, wanted: Wanted, name: &Name) -> Option<Declared>
-        ensures { result ≡ denoted wanted self.now (name_view name.now) }
-    {
-        let simple = name.first.text.as_str();
-        match wanted {
-            Wanted::With => self.library_unit(name),
-            Wanted::Use => self.visible_in_context(name),
-            Wanted::PackageBody => match self.own_unit(simple) {
-                Some(meaning) => meaning,
-                None => None,
-            },
-            Wanted::ProtectedBody
-            | Wanted::TaskBody
-            | Wanted::FunctionBody
-            | Wanted::ProcedureBody
-            | Wanted::EntryBody => self.in_innermost(simple),
-            Wanted::Nothing => None,
-            _ => self.visible(name),
-        }
-    }
-}
-
-impl<'a> Scope<'a> {
     /// What the name of a body denotes.
     pub fn denoted_by_body(&self, wanted: Wanted, declared: &Identifier) -> Option<Declared>
         requires { is_body wanted ≡ true }
@@ -344,23 +319,26 @@ impl<'a> Scope<'a> {
                 Some(meaning) => meaning,
                 None => None,
             },
-            Wanted::ProtectedBody
+            _ => self.in_innermost(text),
+        }
+    }
+
+    /// What a name denotes where this is wanted: a `with` names library units, a `use` what is visible in a context
+    /// clause, a body what the innermost region declares, and all else what is visible.
+    pub fn denoted(&self, wanted: Wanted, name: &Name) -> Option<Declared>
+        ensures { result ≡ denoted wanted self.now (name_view name.now) }
+    {
+        match wanted {
+            Wanted::With => self.library_unit(name),
+            Wanted::Use => self.visible_in_context(name),
+            Wanted::PackageBody
+            | Wanted::ProtectedBody
             | Wanted::TaskBody
             | Wanted::FunctionBody
             | Wanted::ProcedureBody
-            | Wanted::EntryBody => self.in_innermost(text),
-            Wanted::With
-            | Wanted::Use
-            | Wanted::Subtype
-            | Wanted::ObjectType
-            | Wanted::Value
-            | Wanted::Choice
-            | Wanted::Called
-            | Wanted::Target
-            | Wanted::Procedure
-            | Wanted::Exception
-            | Wanted::Handler
-            | Wanted::Nothing => None,
+            | Wanted::EntryBody => self.denoted_by_body(wanted, &name.first),
+            Wanted::Nothing => None,
+            _ => self.visible(name),
         }
     }
 }

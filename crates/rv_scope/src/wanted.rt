@@ -1,7 +1,7 @@
 //! What a name is wanted for, and what may stand there.
 
 ghost use Rattle.std.specs.Prelude.{◌≡◌};
-ghost use Rattle.rv_scope.specs.Wanted.{sort, operation_sort as operation_sort_of, predefined_sort as predefined_sort_of, suits, is_value, is_called, is_target};
+ghost use Rattle.rv_scope.specs.Wanted.{sort, operation_sort as operation_sort_of, predefined_sort as predefined_sort_of, suits, is_value};
 
 use crate::declared::{Declared, OperationKind};
 use crate::predefined::Predefined;
@@ -145,26 +145,6 @@ impl Sort {
             _ => false,
         }
     }
-
-    // Whether it may be called with arguments in an expression.
-    fn is_called(self) -> bool
-        ensures { result ≡ is_called self }
-    {
-        match self {
-            Sort::Function | Sort::Subtype => true,
-            _ => false,
-        }
-    }
-
-    // Whether it is an object or a constant; which of them may be written is a question of types.
-    fn is_target(self) -> bool
-        ensures { result ≡ is_target self }
-    {
-        match self {
-            Sort::Variable | Sort::Constant => true,
-            _ => false,
-        }
-    }
 }
 
 impl Wanted {
@@ -179,8 +159,8 @@ impl Wanted {
             Wanted::ObjectType => matches!(found, Sort::ProtectedType | Sort::SuspensionType),
             Wanted::Value => found.is_value(),
             Wanted::Choice => found.is_value() || matches!(found, Sort::Subtype),
-            Wanted::Called => found.is_called(),
-            Wanted::Target => found.is_target(),
+            Wanted::Called => matches!(found, Sort::Function | Sort::Subtype),
+            Wanted::Target => matches!(found, Sort::Variable | Sort::Constant),
             Wanted::Procedure => matches!(found, Sort::Procedure | Sort::Entry),
             Wanted::Exception => matches!(found, Sort::Exception),
             Wanted::Handler | Wanted::ProcedureBody => matches!(found, Sort::Procedure),

@@ -178,18 +178,10 @@ fn joins(operator: LogicalOperator, left: bool, right: bool) -> bool
 pub(crate) fn decides(operator: LogicalOperator, left: Number) -> bool
     ensures { result ≡ decides operator left }
 {
-    match operator {
-        LogicalOperator::And => false,
-        LogicalOperator::Or => false,
-        LogicalOperator::Xor => false,
-        LogicalOperator::AndThen => match left {
-            Number::Skipped => false,
-            Number::Known(number) => !is_true(number),
-        },
-        LogicalOperator::OrElse => match left {
-            Number::Skipped => false,
-            Number::Known(number) => is_true(number),
-        },
+    match (operator, left) {
+        (LogicalOperator::AndThen, Number::Known(number)) => !is_true(number),
+        (LogicalOperator::OrElse, Number::Known(number)) => is_true(number),
+        _ => false,
     }
 }
 

@@ -11,6 +11,6 @@ mod value;
 pub use arithmetic::{added, multiplied};
 pub use fault::{Faults, TypeFault};
 pub use meaning::{Meaning, Meanings, Number, Static};
-pub use primary::is_discrete;
+pub use primary::{is_discrete, same_type};
 pub use range::{default_start, narrowed, start, static_number, subtype, value_in};
 pub use value::static_value;

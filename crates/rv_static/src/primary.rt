@@ -23,26 +23,16 @@ fn shown(is_evaluated: bool, number: i64) -> Number
     }
 }
 
-pub(crate) fn same_type(left: ValueType, right: ValueType) -> bool
+/// Whether two types are the same.
+pub fn same_type(left: ValueType, right: ValueType) -> bool
     ensures { result ≡ same_type left right }
 {
-    match left {
-        ValueType::Integer => match right {
-            ValueType::Integer => true,
-            _ => false,
-        },
-        ValueType::Boolean => match right {
-            ValueType::Boolean => true,
-            _ => false,
-        },
-        ValueType::Time => match right {
-            ValueType::Time => true,
-            _ => false,
-        },
-        ValueType::TimeSpan => match right {
-            ValueType::TimeSpan => true,
-            _ => false,
-        },
+    match (left, right) {
+        (ValueType::Integer, ValueType::Integer)
+        | (ValueType::Boolean, ValueType::Boolean)
+        | (ValueType::Time, ValueType::Time)
+        | (ValueType::TimeSpan, ValueType::TimeSpan) => true,
+        _ => false,
     }
 }
 

@@ -239,13 +239,8 @@ fn factors<N: Meanings>(
 {
     let mut total = left;
     for factor in more {
-        let right = operand(
-            ValueType::Integer,
-            &factor.operand,
-            is_evaluated,
-            names,
-            faults,
-        )?;
+        let e = &factor.operand;
+        let right = operand(ValueType::Integer, e, is_evaluated, names, faults)?;
         total = multiplied(factor.operator, total, right, at, faults)?;
     }
     Some(total)
@@ -266,13 +261,8 @@ fn terms<N: Meanings>(
 {
     let mut total = left;
     for term in more {
-        let right = operand(
-            ValueType::Integer,
-            &term.operand,
-            is_evaluated,
-            names,
-            faults,
-        )?;
+        let e = &term.operand;
+        let right = operand(ValueType::Integer, e, is_evaluated, names, faults)?;
         total = added(term.operator, total, right, at, faults)?;
     }
     Some(total)

@@ -10,8 +10,8 @@ use Rattle.rv_scope.specs.Scope.{declaring_all, hiding_all}
 use Rattle.rv_scope.specs.UnitUses.{local_form}
 use Rattle.rv_static.specs.Static.{◌>>=◌}
 use Rattle.rv_static.specs.Ranges.{value_in, default_start}
-use Rattle.rv_outline.specs.declared.known.Known.TheVariants as k
-use Rattle.rv_outline.specs.Subtypes.{subtype_of}
+use Rattle.rv_scope.specs.declared.known.Known.TheVariants as k
+use Rattle.rv_scope.specs.Subtypes.{subtype_of}
 use Rattle.rv_code.specs.Expressions as code
 use Rattle.rv_code.specs.Statements.{statements_of}
 use Rattle.rv_code.specs.Statements as codes

@@ -5,7 +5,7 @@ use Rattle.rv_tree.specs.Names.{Identifier, Name}
 use Rattle.rv_tree.specs.Declarations.{Parameter, ProtectedUnit}
 use Rattle.rv_tree.specs.Bodies.{Block, OperationBody, ProtectedBody, TaskBody}
 use Rattle.rv_tree.specs.Units.{ContextItem, context_pragma, with_clause, use_clause, BodyItem, body_declaration, body_protected, body_task, UnitTree}
-use Rattle.rv_distinct.specs.OperationBodies.{operation_body_name, operation_body_parameters, operation_body_block}
+use Rattle.rv_tree.specs.Operations.{operation_body_name, operation_body_parameters, operation_body_block}
 use Rattle.rv_shape.specs.declared.kind.Range.{Range}
 use Rattle.rv_shape.specs.declared.kind.Parameter as shape
 use Rattle.rv_shape.specs.declared.kind.Kind.{Kind}
@@ -28,7 +28,7 @@ use Rattle.rv_outline.specs.declared.outline.ObjectType.{ObjectType}
 use Rattle.rv_outline.specs.declared.outline.ObjectType.TheVariants as sort
 use Rattle.rv_outline.specs.Declarations.{body_scope}
 use Rattle.rv_outline.specs.Shapes.{OutlineView, outlined}
-use Rattle.rv_code.specs.Bodies.{Body, UnitBodies}
+use Rattle.rv_code.specs.Bodies.{Body, UnitBodies, bodiless}
 use Rattle.rv_types.specs.Points.{PointView, taking_slot}
 use Rattle.rv_types.specs.Blocks.{block_of}
 
@@ -195,16 +195,8 @@ items_compiled s units scope (one ∷ more) u =
     item_compiled s units scope one u >>= items_compiled s units (with_body_item one scope) more
 
 -- no bodies yet: a suspension object has none
-abbrev pub no_objects_onto : List ObjectType → List (List Body) → List (List Body)
-no_objects_onto [] done = done
-no_objects_onto (object ∷ more) done = no_objects_onto more (done ++ [] ∷ [])
-
-abbrev pub no_tasks_onto : List TaskShape → List (Option Body) → List (Option Body)
-no_tasks_onto [] done = done
-no_tasks_onto (task ∷ more) done = no_tasks_onto more (done ++ None ∷ [])
-
 abbrev pub no_bodies : OutlineView → UnitBodies
-no_bodies outline = record { objects = no_objects_onto outline.objects []; tasks = no_tasks_onto outline.shape.tasks [] }
+no_bodies outline = bodiless (length outline.objects) (length outline.shape.tasks)
 
 -- a `with` names Ada.Real_Time (D.8)
 abbrev pub is_real_time : Option Declared → Bool

@@ -9,7 +9,7 @@ use Rattle.rv_static.specs.Meanings.{same_type, range_in}
 use Rattle.rv_static.specs.Static.{◌>>=◌}
 use Rattle.rv_static.specs.Ranges.{bounded, static_number}
 use Rattle.rv_static.specs.Static.{is_discrete}
-use Rattle.rv_outline.specs.Known.{whole_range}
+use Rattle.rv_scope.specs.Statics.{whole_range}
 use Rattle.rv_code.specs.Expressions as code
 use Rattle.rv_code.specs.declared.statement.Choice.{Choice}
 use Rattle.rv_code.specs.declared.statement.Choice.TheVariants as choice

@@ -21,10 +21,10 @@ use Rattle.rv_scope.specs.Scope.{ScopeView, declaring, hiding, entered}
 use Rattle.rv_scope.specs.Visible.{visible}
 use Rattle.rv_static.specs.Static.{◌>>=◌}
 use Rattle.rv_static.specs.declared.meaning.Meaning.{Meaning}
-use Rattle.rv_outline.specs.declared.known.Known.{Known}
-use Rattle.rv_outline.specs.declared.known.Known.TheVariants as k
-use Rattle.rv_outline.specs.ByPlace.{at_place}
-use Rattle.rv_outline.specs.Known.{Table, known_meaning, meaning_of}
+use Rattle.rv_scope.specs.declared.known.Known.{Known}
+use Rattle.rv_scope.specs.declared.known.Known.TheVariants as k
+use Rattle.rv_scope.specs.ByPlace.{at_place}
+use Rattle.rv_scope.specs.Statics.{Table, known_meaning, meaning_of}
 use Rattle.rv_types.specs.declared.point.Local.{Local}
 use Rattle.rv_types.specs.declared.denoted.Denoted.{Denoted}
 use Rattle.rv_types.specs.declared.denoted.Denoted.TheVariants as denoted

@@ -10,9 +10,9 @@ use Rattle.rv_scope.specs.Visible.{visible}
 use Rattle.rv_static.specs.declared.meaning.Meaning.{Meaning}
 use Rattle.rv_static.specs.declared.meaning.Meaning.TheVariants.{Subtype}
 use Rattle.rv_scope.specs.declared.predefined.Predefined.TheVariants.{DefaultPriority}
-use Rattle.rv_outline.specs.Known.{priority_range}
-use Rattle.rv_outline.specs.declared.known.Known.{Known}
-use Rattle.rv_outline.specs.declared.known.Known.TheVariants as k
+use Rattle.rv_scope.specs.Statics.{priority_range}
+use Rattle.rv_scope.specs.declared.known.Known.{Known}
+use Rattle.rv_scope.specs.declared.known.Known.TheVariants as k
 use Rattle.rv_types.specs.declared.denoted.Denoted.{Denoted}
 use Rattle.rv_types.specs.declared.denoted.Denoted.TheVariants as denoted
 use Rattle.rv_types.specs.Points.{PointView, known_in, static_meaning, denotes}

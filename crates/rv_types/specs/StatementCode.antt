@@ -6,7 +6,7 @@ use Rattle.rv_tree.specs.Statements.{LoopBounds, forever, while_true, for_each, 
 use Rattle.rv_shape.specs.declared.kind.Range.{Range}
 use Rattle.rv_shape.specs.declared.kind.ValueType.TheVariants.{Boolean, Time}
 use Rattle.rv_static.specs.Static.{◌>>=◌}
-use Rattle.rv_outline.specs.Known.{whole_range}
+use Rattle.rv_scope.specs.Statics.{whole_range}
 use Rattle.rv_code.specs.Expressions as c
 use Rattle.rv_code.specs.Expressions.{literal, within, no_expressions, and_expression}
 use Rattle.rv_code.specs.Statements as code

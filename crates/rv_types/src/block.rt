@@ -6,7 +6,7 @@ ghost use Rattle.rv_tree.specs.ExpressionView.{expression_view, range_view};
 ghost use Rattle.rv_tree.specs.DeclarationView.{maybe};
 ghost use Rattle.rv_tree.specs.BodyView.{local_view, exception_choice_view, handler_view as tree_handler_view, block_view};
 ghost use Rattle.rv_static.specs.Ranges.{value_in as value_in_range};
-ghost use Rattle.rv_outline.specs.Subtypes.{subtype_of as subtype_of_mark};
+ghost use Rattle.rv_scope.specs.Subtypes.{subtype_of as subtype_of_mark};
 ghost use Rattle.rv_code.specs.ExpressionView.{expression_view as code_view};
 ghost use Rattle.rv_code.specs.BodyView.{declaration_view, handler_view, body_view};
 ghost use Rattle.rv_code.specs.StatementView.{statement_view as action_view};
@@ -24,8 +24,8 @@ use rv_code::{
     Body, Declaration, ExceptionChoice as Caught, Expression as Code, Handler as CodeHandler,
     Place, Statement as Action, Target,
 };
-use rv_outline::known::Known;
-use rv_outline::subtype::constrained_subtype;
+use rv_scope::known::Known;
+use rv_scope::subtype::constrained_subtype;
 use rv_shape::kind::{Parameter, Range};
 use rv_static::{Faults, TypeFault, default_start, value_in};
 use rv_tree::{

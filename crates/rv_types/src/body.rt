@@ -13,7 +13,6 @@ use crate::point::Point;
 use crate::refused::{Refused, mismatch};
 use crate::setting::Setting;
 use rv_code::Body;
-use rv_distinct::{operation_body_block, operation_body_name, operation_body_parameters};
 use rv_scope::Scope;
 use rv_scope::members::declare_parameters;
 use rv_shape::kind::{Kind, Parameter, Range};
@@ -138,9 +137,9 @@ pub(crate) fn operation_body<'a>(
         setting,
         object,
         operation,
-        operation_body_name(body),
-        operation_body_parameters(body),
-        operation_body_block(body),
+        body.name(),
+        body.parameters(),
+        body.block(),
         scope,
     )
 }
@@ -150,7 +149,7 @@ fn body_named<'b>(name: &str, bodies: &'b Vec<OperationBody>) -> Option<&'b Oper
     ensures { option_map (λ b. operation_body_view b.now) result ≡ body_of_name name.now (map operation_body_view bodies.now.items) }
 {
     for body in bodies {
-        if is_same_name(name, operation_body_name(body).text.as_str()) {
+        if is_same_name(name, body.name().text.as_str()) {
             return Some(body);
         }
     }

@@ -18,7 +18,7 @@ use crate::point::Point;
 use crate::refused::{Refused, least, mismatch};
 use crate::typed::{Typed, literal_in};
 use rv_code::Expression as Code;
-use rv_outline::point::whole_range;
+use rv_scope::library_meaning::whole_range;
 use rv_shape::kind::{Range, ValueType};
 use rv_static::{Meaning, Meanings, TypeFault, is_discrete};
 use rv_tree::{Expression, LoopBounds, Name, RangeConstraint};

@@ -8,7 +8,6 @@ ghost use Rattle.rv_code.specs.BodyView.{unit_view};
 ghost use Rattle.rv_types.specs.BodiesOf.{is_real_time as is_times, names_times as names_are_times, item_times as item_is_times, context_times as context_is_times, setting_of, bodies_of};
 ghost use Rattle.rv_outline.specs.Declarations.{body_scope};
 
-use crate::declarations::declare_all_of;
 use crate::refused::{Refused, least};
 use crate::setting::Setting;
 use crate::text_order::look_in_order;
@@ -16,6 +15,7 @@ use crate::unit::{items, no_bodies};
 use rv_code::{Unit, UnitBodies};
 use rv_outline::outline::{Outline, outline_of};
 use rv_scope::context::package_scope;
+use rv_scope::declaration::declare_each;
 use rv_scope::named::{Named, protected_units};
 use rv_scope::{Declared, Library, Scope, Wanted};
 use rv_static::{Faults, TypeFault};
@@ -88,7 +88,7 @@ fn start<'a>(
         catalogue: named.catalogue,
         times,
     };
-    declare_all_of(&named.tree.specification.declarations, &mut scope)?;
+    declare_each(&named.tree.specification.declarations, &mut scope)?;
     Ok((setting, scope))
 }
 

@@ -11,10 +11,9 @@ ghost use Rattle.rv_tree.specs.Statements.{value as one_choice};
 use crate::bounds::subtype_named;
 use crate::point::Point;
 use crate::refused::{Refused, mismatch, told};
-use crate::typed::same_type;
 use rv_code::Choice as Covered;
 use rv_shape::kind::Range;
-use rv_static::{Faults, TypeFault, static_number};
+use rv_static::{Faults, TypeFault, same_type, static_number};
 use rv_tree::{Choice, Expression};
 use std::alloc::Global;
 

@@ -14,8 +14,8 @@ mod call;
 use crate::expression::call::{call, named};
 use crate::operators::{
     Adder, adder_of, chain_of, is_decided, is_related, joined_value, logical_operator,
-    multiplying_operator, pair_of, prefixed_by, product_so_far, push_link, relational_operator,
-    signed_by, sum_so_far, takes_left,
+    multiplying_operator, pair_of, prefixed_by, push_link, relational_operator, signed_by,
+    small_enough, takes_left,
 };
 use crate::point::Point;
 use crate::refused::{Refused, least, mismatch};
@@ -24,7 +24,7 @@ use crate::typed::{Sum, Typed, literal_in, number_of, static_value_code};
 pub(crate) use call::suspension_argument;
 use rv_code::{Expression as Code, Link, Prefix};
 use rv_shape::kind::ValueType;
-use rv_static::{Faults, Number, Static, static_value};
+use rv_static::{Faults, Number, Static, added, multiplied, static_value};
 use rv_tree::{Expression, Factor, HighestOperator, LogicalOperator, RelationalOperator, Term};
 use std::alloc::Global;
 
@@ -199,7 +199,10 @@ fn factor_links(
             is_evaluated,
             point,
         )?;
-        total = product_so_far(factor.operator, total, number_of(&right, is_evaluated), at)?;
+        let number = number_of(&right, is_evaluated);
+        let mut faults = Faults::new();
+        let product = multiplied(factor.operator, total, number, at, &mut faults);
+        total = small_enough(product, at)?;
         push_link(&mut links, multiplying_operator(factor.operator), right)?;
     }
     Ok(links)
@@ -247,7 +250,9 @@ fn term_links(
         let right = expression(alloc, &term.operand, is_evaluated, point)?;
         let adder = adder_for(times, sort, term, right.of)?;
         let code = right.into_code();
-        total = sum_so_far(term.operator, total, number_of(&code, is_evaluated), at)?;
+        let number = number_of(&code, is_evaluated);
+        let mut faults = Faults::new();
+        total = small_enough(added(term.operator, total, number, at, &mut faults), at)?;
         push_link(&mut links, adder.operator, code)?;
         sort = adder.of;
     }

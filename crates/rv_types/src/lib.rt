@@ -12,7 +12,6 @@ pub mod check;
 mod choice;
 mod coverage;
 mod covers;
-mod declarations;
 pub mod denoted;
 mod expression;
 mod names;

@@ -1,7 +1,6 @@
 //! Operators of computed expressions.
 
 ghost use Rattle.std.specs.Prelude.{◌≡◌, ◌++◌, ◌∷◌, [], IfOk, OnOk, Some, List, map};
-ghost use Rattle.rv_static.specs.Operators.{added, multiplied};
 ghost use Rattle.rv_code.specs.Expressions.{chain, and_link, no_links, within, prefixed, links_of};
 ghost use Rattle.rv_code.specs.ExpressionView.{expression_view as code_view, link_view};
 ghost use Rattle.rv_types.specs.Typed.{adds as adds_by_types, is_related as related, value_of, chained, signed_code as code_signed, multiplying_operator as operator_of_factor, relational_operator as operator_of_relation, logical_code as operator_of_logic, link as link_to, is_decided as is_decided_by, joined_value as value_joined};
@@ -11,7 +10,7 @@ use crate::refused::Refused;
 use crate::typed::Typed;
 use rv_code::{Expression as Code, Link, Operator, Prefix};
 use rv_shape::kind::{Range, ValueType};
-use rv_static::{Faults, Number, TypeFault, added, multiplied};
+use rv_static::{Number, TypeFault};
 use rv_tree::{AddingOperator, LogicalOperator, MultiplyingOperator, RelationalOperator};
 use std::alloc::Global;
 
@@ -144,35 +143,12 @@ pub(crate) fn joined_value(
     }
 }
 
-/// The product of the operands so far, where they are static. It has to be an Integer: else it is too large
-/// at the place of the first of them.
-pub(crate) fn product_so_far(
-    operator: MultiplyingOperator,
-    left: Number,
-    right: Number,
-    at: usize,
-) -> Result<Number, Refused>
-    ensures { IfOk result (λ n. multiplied operator left right ≡ Some n) }
+/// The number of the operands so far, which has to be an Integer: else it is too large at the place of the first of them.
+pub(crate) fn small_enough(found: Option<Number>, at: usize) -> Result<Number, Refused>
+    ensures { IfOk result (λ n. found ≡ Some n) }
 {
-    let mut faults = Faults::new();
-    match multiplied(operator, left, right, at, &mut faults) {
-        Some(product) => Ok(product),
-        None => Err(Refused(TypeFault::TooLarge(at))),
-    }
-}
-
-/// The same of a sum.
-pub(crate) fn sum_so_far(
-    operator: AddingOperator,
-    left: Number,
-    right: Number,
-    at: usize,
-) -> Result<Number, Refused>
-    ensures { IfOk result (λ n. added operator left right ≡ Some n) }
-{
-    let mut faults = Faults::new();
-    match added(operator, left, right, at, &mut faults) {
-        Some(sum) => Ok(sum),
+    match found {
+        Some(number) => Ok(number),
         None => Err(Refused(TypeFault::TooLarge(at))),
     }
 }

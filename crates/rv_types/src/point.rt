@@ -8,21 +8,20 @@ ghost use Rattle.rv_scope.specs.Visible.{visible};
 ghost use Rattle.rv_types.specs.Blocks.{hidden, revealed};
 ghost use Rattle.rv_types.specs.BodiesOf.{point_in};
 ghost use Rattle.rv_types.specs.Selectors.{constant_range, constant_subtype, declared_range};
-ghost use Rattle.rv_outline.specs.Known.{priority_range};
 ghost use Rattle.rv_types.specs.Points.{PointView, static_meaning, point_meaning, denotes, denoted_by, profile, profile_of, shows_times, local_at, known_in, noting, taking_slot, has_slot, has_constant_slot, taking_constant, has_object_slot, taking_object, behind_parameters, in_bounds as inside_bounds, with_loop_parameter};
 
 use crate::denoted::Denoted;
 use crate::names::{denoted_by as denoted_declaration, profile_of as profile_of_declaration};
 use crate::refused::Refused;
 use crate::setting::Setting;
-use rv_outline::known::Known;
 use rv_outline::outline::Outline;
-use rv_outline::point::{known_meaning, meaning};
 use rv_scope::declare::{Form, declare_all};
+use rv_scope::library_meaning::integers;
 use rv_scope::members::hide_all;
-use rv_scope::{Declared, Predefined, Scope};
+use rv_scope::point::{known_meaning, meaning};
+use rv_scope::{Declared, Known, Predefined, Scope};
 use rv_shape::catalogue::Catalogue;
-use rv_shape::kind::{Parameter, Range, ValueType};
+use rv_shape::kind::{Parameter, Range};
 use rv_static::{Meaning, Meanings, TypeFault};
 use rv_tree::{Identifier, Name};
 use std::alloc::Global;
@@ -33,17 +32,6 @@ const MOST_VARIABLES: usize = 64;
 
 // How many constants of a body have a value that isn't static (own).
 const MOST_CONSTANTS: usize = 64;
-
-// The subtype Priority (13.7).
-fn priorities() -> Range
-    ensures { result ≡ priority_range }
-{
-    Range {
-        of: ValueType::Integer,
-        low: 1,
-        high: 30,
-    }
-}
 
 // The subtype of a constant with a static value.
 fn constant_range(known: Option<Known>) -> Option<Range>
@@ -208,7 +196,7 @@ impl<'a> Point<'a> {
     {
         match found {
             Some(Declared::Constant(at)) => constant_range(self.known(at)),
-            Some(Declared::Predefined(Predefined::DefaultPriority)) => Some(priorities()),
+            Some(Declared::Predefined(Predefined::DefaultPriority)) => Some(integers(1, 30)),
             _ => None,
         }
     }

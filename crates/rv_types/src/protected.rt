@@ -6,7 +6,7 @@ ghost use Rattle.rv_tree.specs.BodyView.{operation_body_view, protected_body_vie
 ghost use Rattle.rv_scope.specs.UnitUses.{in_protected_unit};
 ghost use Rattle.rv_code.specs.Bodies.{UnitBodies as UnitBodiesView};
 ghost use Rattle.rv_code.specs.BodyView.{body_view, unit_view};
-ghost use Rattle.rv_types.specs.BodiesOf.{with_object_bodies, object_compiled, perhaps_compiled, objects_compiled, is_object_of as is_of_unit, has_object as unit_has_object, without_object as compiled_without_object, unit_bodies as unit_bodies_compiled, protected_body_compiled};
+ghost use Rattle.rv_types.specs.BodiesOf.{object_bodies, with_object_bodies, object_compiled, perhaps_compiled, objects_compiled, is_object_of as is_of_unit, has_object as unit_has_object, without_object as compiled_without_object, unit_bodies as unit_bodies_compiled, protected_body_compiled};
 
 use crate::body::operation_bodies;
 use crate::refused::{Refused, mismatch};
@@ -34,8 +34,35 @@ fn put_object(
     Err(mismatch(at))
 }
 
+// The bodies of the operations of the protected unit of a number, for an object; 0 is none.
+fn bodies_for<'a>(
+    alloc: Global,
+    setting: &Setting<'a>,
+    object: usize,
+    number: usize,
+    body: &ProtectedBody,
+    scope: Scope<'a>,
+) -> Result<(Vec<Body>, Scope<'a>), Refused>
+    ensures code { IfOk result (λ r. object_bodies setting.now scope.entry object number (map operation_body_view body.now.operations.items) ≡ Some (map body_view r.0.items)) }
+    ensures scope { IfOk result (λ r. r.1 ≡ scope.entry) }
+{
+    let at = body.name.at;
+    let Some(unit) = setting.outline.units().get(number) else {
+        return Err(mismatch(at));
+    };
+    operation_bodies(
+        alloc,
+        setting,
+        object,
+        unit.operations(),
+        &body.operations,
+        at,
+        scope,
+    )
+}
+
 // The bodies of an object of an index, of the protected unit of a number.
-fn object_bodies<'a>(
+fn object_of_unit<'a>(
     alloc: Global,
     setting: &Setting<'a>,
     number: usize,
@@ -48,21 +75,9 @@ fn object_bodies<'a>(
     ensures code { IfOk result (λ _. object_compiled setting.now scope.entry number (map operation_body_view body.now.operations.items) index (unit_view compiled.old) ≡ Some (unit_view compiled.new)) }
     ensures scope { IfOk result (λ s. s ≡ scope.entry) }
 {
-    let at = body.name.at;
-    let Some(unit) = setting.outline.units().get(number) else {
-        return Err(mismatch(at));
-    };
     let object = setting.catalogue.objects() + 1 + index;
-    let (bodies, left) = operation_bodies(
-        alloc,
-        setting,
-        object,
-        unit.operations(),
-        &body.operations,
-        at,
-        scope,
-    )?;
-    put_object(compiled, index, bodies, at)?;
+    let (bodies, left) = bodies_for(alloc, setting, object, number, body, scope)?;
+    put_object(compiled, index, bodies, body.name.at)?;
     Ok(left)
 }
 
@@ -85,7 +100,7 @@ fn perhaps_bodies<'a>(
         ObjectType::Suspension => Ok(scope),
         ObjectType::Protected(unit) => {
             if unit == number {
-                object_bodies(alloc, setting, number, body, index, compiled, scope)
+                object_of_unit(alloc, setting, number, body, index, compiled, scope)
             } else {
                 Ok(scope)
             }
@@ -151,19 +166,7 @@ fn without_object<'a>(
     ensures code { IfOk result (λ _. (u : UnitBodiesView) → compiled_without_object setting.now scope.entry number (map operation_body_view body.now.operations.items) u ≡ Some u) }
     ensures scope { IfOk result (λ s. s ≡ scope.entry) }
 {
-    let at = body.name.at;
-    let Some(unit) = setting.outline.units().get(number) else {
-        return Err(mismatch(at));
-    };
-    let (_, left) = operation_bodies(
-        alloc,
-        setting,
-        0,
-        unit.operations(),
-        &body.operations,
-        at,
-        scope,
-    )?;
+    let (_, left) = bodies_for(alloc, setting, 0, number, body, scope)?;
     Ok(left)
 }
 

@@ -28,7 +28,7 @@ use crate::typed::Typed;
 use rv_code::{
     Alternative, Branch, Callee, Choice as Covered, Expression as Code, Statement as Action,
 };
-use rv_outline::point::whole_range;
+use rv_scope::library_meaning::whole_range;
 use rv_shape::kind::{Range, ValueType};
 use rv_static::TypeFault;
 use rv_tree::{

@@ -16,10 +16,9 @@ use crate::expression::{expression, expression_as, suspension_argument};
 use crate::operators::within_range;
 use crate::point::Point;
 use crate::refused::{Refused, least, mismatch};
-use crate::typed::same_type;
 use rv_code::{Callee, Expression as Code, Place, Statement as Action, Target};
 use rv_shape::kind::{Parameter, ParameterMode};
-use rv_static::TypeFault;
+use rv_static::{TypeFault, same_type};
 use rv_tree::{Expression, Name};
 use std::alloc::Global;
 

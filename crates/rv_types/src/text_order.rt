@@ -3,11 +3,10 @@
 //! Operations are compiled in the order of their declarations, and their bodies may stand in another order.
 
 use crate::body::{operation_body, task_body};
-use crate::declarations::declare;
 use crate::refused::{Refused, mismatch};
 use crate::setting::Setting;
-use rv_distinct::operation_body_name;
 use rv_scope::Scope;
+use rv_scope::declaration::declare;
 use rv_shape::object::Operation;
 use rv_text::is_same_name;
 use rv_tree::body::{OperationBody, ProtectedBody};
@@ -17,7 +16,7 @@ use std::alloc::Global;
 
 // The operation that a body is of.
 fn operation_of<'o>(body: &OperationBody, operations: &'o [Operation]) -> Option<&'o Operation> {
-    let name = operation_body_name(body).text.as_str();
+    let name = body.name().text.as_str();
     for operation in operations {
         if is_same_name(name, operation.name()) {
             return Some(operation);

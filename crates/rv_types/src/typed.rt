@@ -1,7 +1,6 @@
 //! Typed expressions.
 
 ghost use Rattle.std.specs.Prelude.{◌≡◌, IfOk, Some};
-ghost use Rattle.rv_static.specs.Meanings.{same_type as types_same};
 ghost use Rattle.rv_code.specs.Expressions.{no_expressions};
 ghost use Rattle.rv_code.specs.ExpressionView.{expression_view as code_view};
 ghost use Rattle.rv_types.specs.Typed.{of_type as code_of_type, value_of, static_code as code_of_number, static_typed, is_decided as decides_all, literal_in as literal_of, number_of as number_of_code};
@@ -10,7 +9,7 @@ ghost use Rattle.rv_types.specs.TypedView.{typed_view};
 use crate::refused::{Refused, mismatch};
 use rv_code::{Expression as Code, Link};
 use rv_shape::kind::ValueType;
-use rv_static::{Number, Static};
+use rv_static::{Number, Static, same_type};
 use rv_tree::LogicalOperator;
 
 /// The type of an expression, and the code that gives its value.
@@ -25,18 +24,6 @@ pub struct Typed {
 pub struct Sum {
     pub of: ValueType,
     pub links: Vec<Link>,
-}
-
-pub(crate) fn same_type(left: ValueType, right: ValueType) -> bool
-    ensures { result ≡ types_same left right }
-{
-    match (left, right) {
-        (ValueType::Integer, ValueType::Integer)
-        | (ValueType::Boolean, ValueType::Boolean)
-        | (ValueType::Time, ValueType::Time)
-        | (ValueType::TimeSpan, ValueType::TimeSpan) => true,
-        _ => false,
-    }
 }
 
 impl Typed {

@@ -1,21 +1,21 @@
 //! The bodies of a unit.
 
-ghost use Rattle.std.specs.Prelude.{◌≡◌, ◌++◌, ◌∷◌, [], None, IfOk, OnOk, Some, map};
+ghost use Rattle.std.specs.Prelude.{◌≡◌, IfOk, OnOk, Some, map};
 ghost use Rattle.rv_tree.specs.DeclarationView.{protected_unit_view};
 ghost use Rattle.rv_tree.specs.BodyView.{task_body_view};
 ghost use Rattle.rv_tree.specs.UnitView.{body_item_view};
 ghost use Rattle.rv_scope.specs.UnitUses.{with_body_item};
-ghost use Rattle.rv_code.specs.BodyView.{body_view, maybe_body_view, object_view, unit_view};
-ghost use Rattle.rv_types.specs.BodiesOf.{task_index as index_of_task, with_task_body, task_body_compiled, item_compiled, items_compiled, no_objects_onto, no_tasks_onto, no_bodies as no_bodies_of};
+ghost use Rattle.rv_code.specs.BodyView.{body_view, unit_view};
+ghost use Rattle.rv_types.specs.BodiesOf.{task_index as index_of_task, with_task_body, task_body_compiled, item_compiled, items_compiled, no_bodies as no_bodies_of};
 
 use crate::body::task_body;
-use crate::declarations::declare;
 use crate::protected::protected_body;
 use crate::refused::{Refused, mismatch};
 use crate::setting::Setting;
-use rv_code::{Body, ObjectBodies, UnitBodies};
-use rv_outline::outline::{ObjectType, Outline};
+use rv_code::{Body, UnitBodies};
+use rv_outline::outline::Outline;
 use rv_scope::Scope;
+use rv_scope::declaration::declare;
 use rv_shape::task::Task;
 use rv_text::is_same_name;
 use rv_tree::body::TaskBody;
@@ -107,53 +107,13 @@ pub(crate) fn items<'a>(
     Ok(())
 }
 
-fn push_object(done: &mut Vec<ObjectBodies>, operations: Vec<Body>) -> Result<(), AllocError>
-    ensures { OnOk result (map object_view done.new.items ≡ map object_view done.old.items ++ map body_view operations.items ∷ []) }
-{
-    done.push(ObjectBodies { operations })?;
-    Ok(())
-}
-
-// No bodies, behind those of other objects.
-fn push_nothing(alloc: Global, done: &mut Vec<ObjectBodies>) -> Result<(), AllocError>
-    ensures { OnOk result (map object_view done.new.items ≡ map object_view done.old.items ++ [] ∷ []) }
-{
-    push_object(done, Vec::new(alloc))?;
-    Ok(())
-}
-
-fn push_task(done: &mut Vec<Option<Body>>) -> Result<(), AllocError>
-    ensures { OnOk result (map maybe_body_view done.new.items ≡ map maybe_body_view done.old.items ++ None ∷ []) }
-{
-    done.push(None)?;
-    Ok(())
-}
-
-fn no_objects(alloc: Global, list: &[ObjectType]) -> Result<Vec<ObjectBodies>, AllocError>
-    ensures { IfOk result (λ v. no_objects_onto list.now [] ≡ map object_view v.items) }
-{
-    let mut done = Vec::new(alloc);
-    for _object in list {
-        push_nothing(alloc, &mut done)?;
-    }
-    Ok(done)
-}
-
-fn no_tasks(alloc: Global, list: &[Task]) -> Result<Vec<Option<Body>>, AllocError>
-    ensures { IfOk result (λ v. no_tasks_onto list.now [] ≡ map maybe_body_view v.items) }
-{
-    let mut done = Vec::new(alloc);
-    for _task in list {
-        push_task(&mut done)?;
-    }
-    Ok(done)
-}
-
 /// No bodies yet.
 pub(crate) fn no_bodies(alloc: Global, outline: &Outline) -> Result<UnitBodies, AllocError>
     ensures { IfOk result (λ u. no_bodies_of outline.now ≡ unit_view u) }
 {
-    let objects = no_objects(alloc, outline.objects())?;
-    let tasks = no_tasks(alloc, outline.shape().tasks())?;
-    Ok(UnitBodies { objects, tasks })
+    UnitBodies::empty(
+        alloc,
+        outline.objects().len(),
+        outline.shape().tasks().len(),
+    )
 }

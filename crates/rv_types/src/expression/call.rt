@@ -15,10 +15,10 @@ use crate::expression::operand;
 use crate::operators::within_range;
 use crate::point::Point;
 use crate::refused::{Refused, mismatch};
-use crate::typed::{Typed, same_type};
+use crate::typed::Typed;
 use rv_code::{Callee, Expression as Code};
 use rv_shape::kind::{Parameter, Range, ValueType};
-use rv_static::{Meaning, Meanings};
+use rv_static::{Meaning, Meanings, same_type};
 use rv_tree::{Expression, Name};
 use std::alloc::Global;
 
@@ -77,11 +77,8 @@ pub(crate) fn suspension_argument(
     ensures { IfOk result (λ k. suspension_of point.now (expressions_of (expressions_view arguments.now.items)) ≡ Some k) }
 {
     match arguments.as_slice() {
-        [] => Err(mismatch(at)),
-        [one, others @ ..] => match others {
-            [] => suspension_named_by(one, point),
-            [_other, _more @ ..] => Err(mismatch(at)),
-        },
+        [one] => suspension_named_by(one, point),
+        _ => Err(mismatch(at)),
     }
 }
 
@@ -145,11 +142,8 @@ fn only_argument(
     ensures { IfOk result (λ c. only_integer point.now is_evaluated (expressions_of (expressions_view list.now.items)) ≡ Some (code_view c)) }
 {
     match list.as_slice() {
-        [] => Err(mismatch(name.first.at)),
-        [one, others @ ..] => match others {
-            [] => operand(alloc, ValueType::Integer, one, is_evaluated, point),
-            [_other, _more @ ..] => Err(mismatch(name.first.at)),
-        },
+        [one] => operand(alloc, ValueType::Integer, one, is_evaluated, point),
+        _ => Err(mismatch(name.first.at)),
     }
 }
 

@@ -1,6 +1,6 @@
 use Rattle.std.proofs.Common.{◌≡◌, ◌++◌, drop, map}
 use Rattle.rv_tree.specs.BodyView.{operation_body_view}
-use Rattle.rv_distinct.specs.OperationBodies.{operation_body_name}
+use Rattle.rv_tree.specs.Operations.{operation_body_name}
 use Rattle.rv_distinct.proofs.bodies.operation_bodies.Given as goal
 
 abbrev pub invariant-loop-body : goal.invariant-loop-body

@@ -1,7 +1,7 @@
 use Rattle.std.proofs.Common.{◌≡◌, ◌++◌, drop, map}
 use Rattle.std.specs.List.{flat_map}
 use Rattle.rv_tree.specs.DeclarationView.{element_view}
-use Rattle.rv_distinct.specs.Regions.{element_names}
+use Rattle.rv_tree.specs.DeclaredNames.{element_names}
 use Rattle.rv_distinct.proofs.protected.elements.Given as goal
 
 abbrev pub invariant-loop-one : goal.invariant-loop-one

@@ -6,8 +6,8 @@ pub loop-one-preserved : goal.loop-one-preserved
 loop-one-preserved c =
     let lt : c.loop-one.one-index < length c.deref-one-items.result.now = omega arith in
     record {
-      faults = uses_on c.loop-one.scope c.use_named.new.scope c.loop-one.faults c.use_named.new.faults _ c.deref-one-items.result.now
-          c.loop-one.one-index c.one-item.result c.one-item.is lt c.in_ok-use_named.ensures.scope c.in_ok-use_named.ensures.faults c.loop-one.invariant.faults;
-      scope = scope_on c.loop-one.scope c.use_named.new.scope _ c.deref-one-items.result.now
-          c.loop-one.one-index c.one-item.result c.one-item.is lt c.in_ok-use_named.ensures.scope c.loop-one.invariant.scope;
+      faults = uses_on c.loop-one.scope c.use_name.new.scope c.loop-one.faults c.name.new.faults _ c.deref-one-items.result.now
+          c.loop-one.one-index c.one-item.result c.one-item.is lt c.in_ok-use_name.ensures c.name.ensures c.loop-one.invariant.faults;
+      scope = scope_on c.loop-one.scope c.use_name.new.scope _ c.deref-one-items.result.now
+          c.loop-one.one-index c.one-item.result c.one-item.is lt c.in_ok-use_name.ensures c.loop-one.invariant.scope;
     }

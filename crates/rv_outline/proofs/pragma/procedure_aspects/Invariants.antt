@@ -6,5 +6,5 @@ use Rattle.rv_outline.proofs.pragma.procedure_aspects.Given as goal
 
 abbrev pub invariant-loop-one : goal.invariant-loop-one
 invariant-loop-one l =
-    procedure_aspects_outlined l.scope (identifier_view l.declared) (map aspect_view (drop l.one-index l.one-items)) l.draft
-    ≡ procedure_aspects_outlined l.scope (identifier_view l.declared) (map aspect_view l.one-items) l.initial.draft
+    procedure_aspects_outlined l.scope (identifier_view l.declared) (map aspect_view (drop l.one-index l.list)) l.draft
+    ≡ procedure_aspects_outlined l.scope (identifier_view l.declared) (map aspect_view l.list) l.initial.draft

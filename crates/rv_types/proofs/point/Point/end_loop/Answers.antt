@@ -1,5 +1,5 @@
 use Rattle.std.proofs.Common.{◌∙◌, ap, arith, false}
-use Rattle.rv_outline.specs.declared.known.Known.TheVariants as k
+use Rattle.rv_scope.specs.declared.known.Known.TheVariants as k
 use Rattle.rv_types.specs.Points.{PointView, in_bounds, with_loop_parameter}
 use Rattle.rv_types.proofs.Ended.{loop_ended, before_last}
 use Rattle.rv_types.proofs.point.Point.end_loop.Goals as goal

@@ -1,8 +1,0 @@
-use Rattle.std.proofs.Common.{◌≡◌, drop, map}
-use Rattle.rv_tree.specs.DeclarationView.{declaration_view}
-use Rattle.rv_scope.specs.DeclarationUses.{with_declarations}
-use Rattle.rv_types.proofs.declarations.declare_all_of.Given as goal
-
-abbrev pub invariant-loop-one : goal.invariant-loop-one
-invariant-loop-one l =
-    with_declarations (map declaration_view (drop l.one-index l.one-items)) l.scope ≡ with_declarations (map declaration_view l.one-items) l.initial.scope
