@@ -142,8 +142,11 @@ fn only_argument(
     ensures { IfOk result (λ c. only_integer point.now is_evaluated (expressions_of (expressions_view list.now.items)) ≡ Some (code_view c)) }
 {
     match list.as_slice() {
-        [one] => operand(alloc, ValueType::Integer, one, is_evaluated, point),
-        _ => Err(mismatch(name.first.at)),
+        [] => Err(mismatch(name.first.at)),
+        [one, others @ ..] => match others {
+            [] => operand(alloc, ValueType::Integer, one, is_evaluated, point),
+            [_other, _more @ ..] => Err(mismatch(name.first.at)),
+        },
     }
 }
 
