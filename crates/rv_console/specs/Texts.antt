@@ -13,20 +13,20 @@ use Rattle.rv_shape.specs.Shape.{Shape}
 use Rattle.rv_tally.specs.Wording.{room_line}
 use Rattle.rv_view.specs.Views.{Shown}
 
+-- lines of these, the first of which has this number
+abbrev pub lines_from : {A : Type 0} → (ℕ → A → List ℕ) → ℕ → List A → List ℕ
+lines_from line number [] = []
+lines_from line number (one ∷ more) = line number one ++ lines_from line (number + 1) more
+
 -- The list
 
 -- a line of a list behind its number
 abbrev pub numbered_line : ℕ → Words → List ℕ
 numbered_line number line = decimal number ++ 32 ∷ (line_text line ++ 10 ∷ [])
 
--- lines of a list, the first of which has this number
-abbrev pub numbered_lines : ℕ → List Words → List ℕ
-numbered_lines number [] = []
-numbered_lines number (line ∷ lines) = numbered_line number line ++ numbered_lines (number + 1) lines
-
 -- the version of the list in force, and its lines as `remove` and `replace` count them
 abbrev pub list_text : Shown → List ℕ
-list_text view = (codes "version " ++ (decimal view.version ++ 10 ∷ [])) ++ numbered_lines 1 view.list
+list_text view = (codes "version " ++ (decimal view.version ++ 10 ∷ [])) ++ lines_from numbered_line 1 view.list
 
 -- The status
 
@@ -45,11 +45,6 @@ mode_word Ended = codes "ended"
 -- what a task is at
 abbrev pub task_line : List Shape → ℕ → Mode → List ℕ
 task_line shapes actor mode = codes "task " ++ (actor_text (who shapes actor) ++ (codes ": " ++ (mode_word mode ++ 10 ∷ [])))
-
--- tasks, the first of which is this actor
-abbrev pub task_lines : List Shape → ℕ → List Mode → List ℕ
-task_lines shapes actor [] = []
-task_lines shapes actor (mode ∷ modes) = task_line shapes actor mode ++ task_lines shapes (actor + 1) modes
 
 abbrev pub name_at : Option UnitObject → List ℕ
 name_at None = codes "?"
@@ -74,20 +69,11 @@ queue_line shapes object [] = []
 queue_line shapes object (caller ∷ callers) =
     ((codes "queue of " ++ (object_name shapes object ++ codes ":")) ++ actor_names shapes (codes " ") (caller ∷ callers)) ++ 10 ∷ []
 
--- objects, the first of which has this number
-abbrev pub queue_lines : List Shape → ℕ → List (List ℕ) → List ℕ
-queue_lines shapes object [] = []
-queue_lines shapes object (queue ∷ queues) = queue_line shapes object queue ++ queue_lines shapes (object + 1) queues
-
 -- who waits on a suspension object, if somebody does
 abbrev pub waiter_line : List Shape → ℕ → Option ℕ → List ℕ
 waiter_line shapes object None = []
 waiter_line shapes object (Some actor) =
     codes "suspended on " ++ (object_name shapes object ++ (codes ": " ++ (actor_text (who shapes actor) ++ 10 ∷ [])))
-
-abbrev pub waiter_lines : List Shape → ℕ → List (Option ℕ) → List ℕ
-waiter_lines shapes object [] = []
-waiter_lines shapes object (waiter ∷ waiters) = waiter_line shapes object waiter ++ waiter_lines shapes (object + 1) waiters
 
 abbrev pub halted_word : Bool → List ℕ
 halted_word true = codes ", halted"
@@ -110,7 +96,8 @@ head_text view = (clock_line view ++ place_line view) ++ list_line view
 -- what the tasks are at, and who waits where
 abbrev pub actors_text : List Shape → Shown → List ℕ
 actors_text shapes view =
-    task_lines shapes first_task view.modes ++ (queue_lines shapes 1 view.queues ++ waiter_lines shapes 1 view.waiters)
+    lines_from (task_line shapes) first_task view.modes
+    ++ (lines_from (queue_line shapes) 1 view.queues ++ lines_from (waiter_line shapes) 1 view.waiters)
 
 -- The clock, the room, the list, the tasks, who waits where, and, of the entries that were counted, how many the tasks of each
 -- unit have added.

@@ -4,6 +4,7 @@
 mod console;
 mod cut;
 mod list;
+mod numbered;
 mod status;
 mod word;
 

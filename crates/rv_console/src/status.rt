@@ -1,10 +1,11 @@
 //! What the host is at, as the console shows it.
 
 ghost use Rattle.std.specs.Prelude.{◌≡◌, ◌++◌, ◌<◌, ◌^◌, IfOk, List, OnOk, codes, length, string_bytes};
-ghost use Rattle.rv_console.specs.Texts.{actor_names, actors_text, clock_line, halted_word, head_text, list_line, marked_actor, place_line, mode_word, object_name, queue_line, queue_lines, status_text, task_line, task_lines, waiter_line, waiter_lines};
+ghost use Rattle.rv_console.specs.Texts.{actor_names, actors_text, clock_line, halted_word, head_text, list_line, marked_actor, place_line, mode_word, object_name, queue_line, status_text, task_line, waiter_line};
 ghost use Rattle.rv_event.specs.declared.entry.Entry.{Entry};
 ghost use Rattle.rv_tally.specs.Tallying.{IsTally};
 
+use crate::numbered::{Numbered, put_each};
 use rv_event::entry::Mode;
 use rv_shape::actor::FIRST_TASK;
 use rv_shape::catalogue::Catalogue;
@@ -29,40 +30,20 @@ fn mode_word(mode: Mode) -> &'static str
     }
 }
 
-// What a task is at.
-fn task_line(
-    alloc: Global,
-    catalogue: &Catalogue,
-    actor: usize,
-    mode: Mode,
-) -> Result<String, AllocError>
-    ensures { IfOk result (λ line. string_bytes line ≡ task_line catalogue.now actor mode) }
-{
-    let who = catalogue.who(actor);
-    let word = mode_word(mode);
-    format!(in alloc; "task {who}: {word}\n")
-}
+impl Numbered<Catalogue> for Mode {
+    ghost line_of = { task_line };
 
-// Adds what tasks are at, the first of which is this actor.
-fn put_tasks(
-    text: &mut String,
-    alloc: Global,
-    catalogue: &Catalogue,
-    actor: usize,
-    modes: &[Mode],
-) -> Result<(), AllocError>
-    ensures { OnOk result (string_bytes text.new ≡ string_bytes text.old ++ task_lines catalogue.now actor modes.now) }
-{
-    let Some((mode, others)) = modes.split_first() else {
-        return Ok(());
-    };
-    let line = task_line(alloc, catalogue, actor, *mode)?;
-    text.push_str(line.as_str())?;
-    // No host has so many tasks that their numbers end.
-    let Some(next) = actor.checked_add(1) else {
-        return Err(AllocError);
-    };
-    put_tasks(text, alloc, catalogue, next, others)
+    // What the task of this number is at.
+    fn line(
+        &self,
+        alloc: Global,
+        catalogue: &Catalogue,
+        actor: usize,
+    ) -> Result<String, AllocError> {
+        let who = catalogue.who(actor);
+        let word = mode_word(*self);
+        format!(in alloc; "task {who}: {word}\n")
+    }
 }
 
 // The whole name of an object.
@@ -130,66 +111,37 @@ fn queue_line(
     Ok(line)
 }
 
-// Adds who waits in queues, of objects the first of which has this number.
-fn put_queues(
-    text: &mut String,
-    alloc: Global,
-    catalogue: &Catalogue,
-    object: usize,
-    queues: &[Queue],
-) -> Result<(), AllocError>
-    ensures { OnOk result (string_bytes text.new ≡ string_bytes text.old ++ queue_lines catalogue.now object queues.now) }
-{
-    let Some((queue, others)) = queues.split_first() else {
-        return Ok(());
-    };
-    let line = queue_line(alloc, catalogue, object, queue.callers())?;
-    text.push_str(line.as_str())?;
-    // No host has so many objects that their numbers end.
-    let Some(next) = object.checked_add(1) else {
-        return Err(AllocError);
-    };
-    put_queues(text, alloc, catalogue, next, others)
+impl Numbered<Catalogue> for Queue {
+    ghost line_of = { queue_line };
+
+    fn line(
+        &self,
+        alloc: Global,
+        catalogue: &Catalogue,
+        object: usize,
+    ) -> Result<String, AllocError> {
+        queue_line(alloc, catalogue, object, self.callers())
+    }
 }
 
-// Who waits on a suspension object; nothing where nobody does.
-fn waiter_line(
-    alloc: Global,
-    catalogue: &Catalogue,
-    object: usize,
-    waiter: Option<usize>,
-) -> Result<String, AllocError>
-    ensures { IfOk result (λ line. string_bytes line ≡ waiter_line catalogue.now object waiter) }
-{
-    let Some(actor) = waiter else {
-        return Ok(String::new(alloc));
-    };
-    let name = object_name(alloc, catalogue, object)?;
-    let name = name.as_str();
-    let who = catalogue.who(actor);
-    format!(in alloc; "suspended on {name}: {who}\n")
-}
+impl Numbered<Catalogue> for Option<usize> {
+    ghost line_of = { waiter_line };
 
-// Adds who waits on suspension objects, of objects the first of which has this number.
-fn put_waiters(
-    text: &mut String,
-    alloc: Global,
-    catalogue: &Catalogue,
-    object: usize,
-    waiters: &[Option<usize>],
-) -> Result<(), AllocError>
-    ensures { OnOk result (string_bytes text.new ≡ string_bytes text.old ++ waiter_lines catalogue.now object waiters.now) }
-{
-    let Some((waiter, others)) = waiters.split_first() else {
-        return Ok(());
-    };
-    let line = waiter_line(alloc, catalogue, object, *waiter)?;
-    text.push_str(line.as_str())?;
-    // No host has so many objects that their numbers end.
-    let Some(next) = object.checked_add(1) else {
-        return Err(AllocError);
-    };
-    put_waiters(text, alloc, catalogue, next, others)
+    // Who waits on the suspension object of this number; nothing where nobody does.
+    fn line(
+        &self,
+        alloc: Global,
+        catalogue: &Catalogue,
+        object: usize,
+    ) -> Result<String, AllocError> {
+        let Some(actor) = *self else {
+            return Ok(String::new(alloc));
+        };
+        let name = object_name(alloc, catalogue, object)?;
+        let name = name.as_str();
+        let who = catalogue.who(actor);
+        format!(in alloc; "suspended on {name}: {who}\n")
+    }
 }
 
 // What is said of a host that is halted.
@@ -244,9 +196,9 @@ fn put_actors_of(
 ) -> Result<(), AllocError>
     ensures { OnOk result (string_bytes text.new ≡ string_bytes text.old ++ actors_text catalogue.now view.now) }
 {
-    put_tasks(text, alloc, catalogue, FIRST_TASK, view.modes())?;
-    put_queues(text, alloc, catalogue, 1, view.queues())?;
-    put_waiters(text, alloc, catalogue, 1, view.waiters())
+    put_each(text, alloc, catalogue, FIRST_TASK, view.modes())?;
+    put_each(text, alloc, catalogue, 1, view.queues())?;
+    put_each(text, alloc, catalogue, 1, view.waiters())
 }
 
 /// What the host is at: its clock, its room, its list, each task, who waits where, and how many entries the tasks of each

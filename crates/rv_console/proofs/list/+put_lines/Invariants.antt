@@ -1,5 +1,0 @@
-use Rattle.std.proofs.Common.{length}
-use Rattle.rv_console.proofs.list.+put_lines.Given as goal
-
-abbrev pub decreases-put_lines : goal.decreases-put_lines
-decreases-put_lines l = length l.lines.now
