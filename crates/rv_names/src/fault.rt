@@ -6,7 +6,7 @@ ghost use Rattle.rv_names.specs.declared.fault.NameFault.TheVariants.{NoMemory};
 use crate::missing::Around;
 use rv_text::is_same_name;
 use rv_tree::body::Block;
-use rv_tree::declaration::ProtectedUnit;
+use rv_tree::declaration::{Parameter, ProtectedUnit};
 use rv_tree::name::Identifier;
 use std::alloc::{AllocError, AllocFailed};
 use std::marker::Model;
@@ -187,6 +187,13 @@ impl<'a> Faults<'a> {
         ensures { self.new ≡ self.old }
     {
         self.around.unit = unit;
+    }
+
+    /// The point is among these parameters of an operation, or among none.
+    pub(crate) fn set_parameters(&mut self, parameters: Option<&'a Vec<Parameter>>)
+        ensures { self.new ≡ self.old }
+    {
+        self.around.parameters = parameters;
     }
 
     /// The point is in a block, or in none.

@@ -9,7 +9,7 @@ use rv_scope::wanted::Wanted;
 use rv_shape::object::Operation;
 use rv_text::is_same_name;
 use rv_tree::body::{Block, Local};
-use rv_tree::declaration::ProtectedUnit;
+use rv_tree::declaration::{Parameter, ProtectedUnit};
 use rv_tree::name::{Identifier, Name};
 use rv_tree::unit::UnitTree;
 
@@ -21,6 +21,8 @@ pub(crate) struct Around<'a> {
     pub(crate) units: &'a [&'a ProtectedUnit],
     /// The protected unit that the point is in.
     pub(crate) unit: Option<&'a ProtectedUnit>,
+    /// The parameters that the point is among.
+    pub(crate) parameters: Option<&'a Vec<Parameter>>,
     /// The block that the point is in.
     pub(crate) block: Option<&'a Block>,
 }
@@ -45,6 +47,12 @@ fn is_local(local: &Local, name: &str) -> bool {
 
 fn block_declares(block: &Block, name: &str) -> bool {
     block.locals.iter().any(|local| is_local(local, name))
+}
+
+fn parameters_declare(parameters: &[Parameter], name: &str) -> bool {
+    parameters
+        .iter()
+        .any(|one| is_among(name, one.names.as_slice()))
 }
 
 // Whether a library package has a name, or declares it.
@@ -77,8 +85,11 @@ impl<'a> Around<'a> {
         is_loaded(scope, name) || is_hidden(scope, name) || library_declares(name)
     }
 
-    // Whether the block around the point declares a name.
+    // Whether the block around the point, or the parameters that it is among, declare a name.
     fn has_later_local(&self, name: &str) -> bool {
+        if let Some(parameters) = self.parameters {
+            return parameters_declare(parameters.as_slice(), name);
+        }
         match self.block {
             Some(block) => block_declares(block, name),
             None => false,

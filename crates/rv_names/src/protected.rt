@@ -36,8 +36,8 @@ fn parameter(part: &Parameter, scope: &mut Scope, faults: &mut Faults) -> Result
     declare_all(&part.names, Form::Parameter, scope)
 }
 
-/// The parameters of an operation, in the innermost region.
-pub(crate) fn parameters(
+// Parameter specifications, one after another.
+fn parameter_list(
     list: &Vec<Parameter>,
     scope: &mut Scope,
     faults: &mut Faults,
@@ -49,6 +49,22 @@ pub(crate) fn parameters(
     for one in list {
         parameter(one, scope, faults)?;
     }
+    Ok(())
+}
+
+/// The parameters of an operation, in the innermost region.
+pub(crate) fn parameters<'a>(
+    list: &'a Vec<Parameter>,
+    scope: &mut Scope,
+    faults: &mut Faults<'a>,
+) -> Result<(), AllocError>
+    ensures faults { OnOk result (faults.new ≡ parameters_uses judged scope.old (map parameter_view list.now.items) faults.old) }
+    ensures scope { OnOk result (scope.new ≡ with_parameters (map parameter_view list.now.items) scope.old) }
+    ensures only { OnOk result (OnlyDeclares scope.old scope.new) }
+{
+    faults.set_parameters(Some(list));
+    parameter_list(list, scope, faults)?;
+    faults.set_parameters(None);
     Ok(())
 }
 
@@ -64,11 +80,11 @@ fn result_mark(mark: Option<&Name>, scope: &Scope, faults: &mut Faults)
 }
 
 // The parameters of a declaration, which stand in a region of their own, and the mark of a result behind them.
-fn profile(
-    list: &Vec<Parameter>,
+fn profile<'a>(
+    list: &'a Vec<Parameter>,
     mark: Option<&Name>,
     scope: &mut Scope,
-    faults: &mut Faults,
+    faults: &mut Faults<'a>,
 ) -> Result<(), AllocError>
     ensures faults { OnOk result (faults.new ≡ (parameters_uses judged (entered scope.old) (map parameter_view list.now.items)
         ▷ maybe_uses (judged (with_parameters (map parameter_view list.now.items) (entered scope.old)) Wanted.Subtype)
@@ -82,12 +98,12 @@ fn profile(
     Ok(())
 }
 
-fn function(
+fn function<'a>(
     declared: &Identifier,
-    list: &Vec<Parameter>,
+    list: &'a Vec<Parameter>,
     mark: &Name,
     scope: &mut Scope,
-    faults: &mut Faults,
+    faults: &mut Faults<'a>,
 ) -> Result<(), AllocError>
     ensures faults { OnOk result (faults.new
         ≡ (parameters_uses judged (entered scope.old) (map parameter_view list.now.items)
@@ -100,12 +116,12 @@ fn function(
     declare_operation(declared, OperationKind::Function, scope)
 }
 
-fn procedure(
+fn procedure<'a>(
     declared: &Identifier,
-    list: &Vec<Parameter>,
+    list: &'a Vec<Parameter>,
     given: &Vec<Aspect>,
     scope: &mut Scope,
-    faults: &mut Faults,
+    faults: &mut Faults<'a>,
 ) -> Result<(), AllocError>
     ensures faults { OnOk result (faults.new
         ≡ (parameters_uses judged (entered scope.old) (map parameter_view list.now.items)
@@ -120,11 +136,11 @@ fn procedure(
     declare_operation(declared, OperationKind::Procedure, scope)
 }
 
-fn entry(
+fn entry<'a>(
     declared: &Identifier,
-    list: &Vec<Parameter>,
+    list: &'a Vec<Parameter>,
     scope: &mut Scope,
-    faults: &mut Faults,
+    faults: &mut Faults<'a>,
 ) -> Result<(), AllocError>
     ensures faults { OnOk result (faults.new
         ≡ parameters_uses judged (entered scope.old) (map parameter_view list.now.items) faults.old) }
@@ -136,10 +152,10 @@ fn entry(
     declare_operation(declared, OperationKind::Entry, scope)
 }
 
-fn operation(
-    one: &OperationDeclaration,
+fn operation<'a>(
+    one: &'a OperationDeclaration,
     scope: &mut Scope,
-    faults: &mut Faults,
+    faults: &mut Faults<'a>,
 ) -> Result<(), AllocError>
     ensures faults { OnOk result (faults.new ≡ operation_uses judged scope.old (operation_view one.now) faults.old) }
     ensures scope { OnOk result (scope.new ≡ with_operation (operation_view one.now) scope.old) }
@@ -165,10 +181,10 @@ fn operation(
     }
 }
 
-fn operations(
-    list: &Vec<OperationDeclaration>,
+fn operations<'a>(
+    list: &'a Vec<OperationDeclaration>,
     scope: &mut Scope,
-    faults: &mut Faults,
+    faults: &mut Faults<'a>,
 ) -> Result<(), AllocError>
     ensures faults { OnOk result (faults.new ≡ operations_uses judged scope.old (map operation_view list.now.items) faults.old) }
     ensures scope { OnOk result (scope.new ≡ with_operations (map operation_view list.now.items) scope.old) }
@@ -180,7 +196,11 @@ fn operations(
     Ok(())
 }
 
-fn element(one: &ProtectedElement, scope: &mut Scope, faults: &mut Faults) -> Result<(), AllocError>
+fn element<'a>(
+    one: &'a ProtectedElement,
+    scope: &mut Scope,
+    faults: &mut Faults<'a>,
+) -> Result<(), AllocError>
     ensures faults { OnOk result (faults.new ≡ element_uses judged scope.old (element_view one.now) faults.old) }
     ensures scope { OnOk result (scope.new ≡ with_element (element_view one.now) scope.old) }
     ensures only { OnOk result (OnlyDeclares scope.old scope.new) }
@@ -196,10 +216,10 @@ fn element(one: &ProtectedElement, scope: &mut Scope, faults: &mut Faults) -> Re
     }
 }
 
-fn elements(
-    list: &Vec<ProtectedElement>,
+fn elements<'a>(
+    list: &'a Vec<ProtectedElement>,
     scope: &mut Scope,
-    faults: &mut Faults,
+    faults: &mut Faults<'a>,
 ) -> Result<(), AllocError>
     ensures faults { OnOk result (faults.new ≡ elements_uses judged scope.old (map element_view list.now.items) faults.old) }
     ensures scope { OnOk result (scope.new ≡ with_elements (map element_view list.now.items) scope.old) }
@@ -211,10 +231,10 @@ fn elements(
     Ok(())
 }
 
-fn private_part(
-    part: &Option<Vec<ProtectedElement>>,
+fn private_part<'a>(
+    part: &'a Option<Vec<ProtectedElement>>,
     scope: &mut Scope,
-    faults: &mut Faults,
+    faults: &mut Faults<'a>,
 ) -> Result<(), AllocError>
     ensures faults { OnOk result (faults.new ≡ private_uses judged scope.old (maybe (λ v. map element_view v.items) part.now) faults.old) }
     ensures only { OnOk result (OnlyDeclares scope.old scope.new) }
@@ -226,7 +246,11 @@ fn private_part(
 }
 
 // What a protected unit declares, in a region of its own.
-fn members(unit: &ProtectedUnit, scope: &mut Scope, faults: &mut Faults) -> Result<(), AllocError>
+fn members<'a>(
+    unit: &'a ProtectedUnit,
+    scope: &mut Scope,
+    faults: &mut Faults<'a>,
+) -> Result<(), AllocError>
     ensures faults { OnOk result (faults.new
         ≡ (operations_uses judged (entered scope.old) (map operation_view unit.now.operations.items)
         ▷ private_uses judged (with_operations (map operation_view unit.now.operations.items) (entered scope.old))

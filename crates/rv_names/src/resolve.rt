@@ -63,6 +63,7 @@ fn least_fault(
         tree,
         units: units.as_slice(),
         unit: None,
+        parameters: None,
         block: None,
     };
     let mut faults = Faults::new(around);

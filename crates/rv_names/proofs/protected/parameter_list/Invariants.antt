@@ -3,7 +3,7 @@ use Rattle.rv_tree.specs.DeclarationView.{parameter_view}
 use Rattle.rv_scope.specs.Bound.{judged}
 use Rattle.rv_scope.specs.Scope.{OnlyDeclares}
 use Rattle.rv_scope.specs.DeclarationUses.{parameters_uses, with_parameters}
-use Rattle.rv_names.proofs.protected.parameters.Given as goal
+use Rattle.rv_names.proofs.protected.parameter_list.Given as goal
 
 abbrev pub invariant-loop-one : goal.invariant-loop-one
 invariant-loop-one l = record {
