@@ -1,8 +1,6 @@
 -- What is told of a section that was looked at.
 use Rattle.std.proofs.Common.{◌≡◌, ◌≢◌, ◌≤◌, ℕ, List, [], ◌∷◌, ◌++◌, Some, None, Option, Ok, Err, Result, length, refl, sym, ◌∙◌, subst, inl, inr}
 use Rattle.rv_script.specs.UnitTexts.{most_unit_bytes}
-use Rattle.rv_code.specs.Bodies.{UnitBodies}
-use Rattle.rv_unit.specs.Compiles.{IsUnit, IsCompiled}
 use Rattle.rv_code.specs.declared.unit.Unit.{Unit as Compiled}
 use Rattle.rv_fault.specs.declared.failure.Failure.{Failure}
 use Rattle.rv_fault.specs.declared.failure.Failure.TheVariants.{Refused, Memory, Io}
@@ -19,7 +17,7 @@ use Rattle.rv_shape.specs.ShapeText.{shape_of}
 use Rattle.rv_shape.specs.Fits.{fault}
 use Rattle.rv_shape.specs.declared.fault.ShapeFault.{ShapeFault}
 use Rattle.rv_shape.specs.declared.fault.ShapeFault.TheVariants as Shapes
-use Rattle.rv_check.specs.Checks.{Adds, OfUnit, OfShape, OfList, Telling, WritesOne, as_list, as_shape, at_line, fitting, list_line, shape_line, shape_failure}
+use Rattle.rv_check.specs.Checks.{Adds, Compiles, OfUnit, OfShape, OfList, Telling, WritesOne, as_list, as_shape, at_line, fitting, list_line, shape_line, shape_failure}
 
 -- a line that is said
 pub said_one : (old new : Option (List ℕ)) (tells : Telling) (said : List ℕ) (r : Result (Unit {0}) Failure) → tells said None → Puts old new said r → WritesOne old new tells r
@@ -44,12 +42,8 @@ unit_told shapes after text old line failure read = unread_told (GivesUnit shape
     by_what (Whats.Unit fault) given = (given.0, given.1, given.2, refl)
     by_what _ given = absurd given
 
--- a text that is compiled is a unit
-pub compiled_unit : (shapes : List Shape) (text : List ℕ) (shape : Shape) (code : UnitBodies) → IsCompiled shapes text shape code → IsUnit shapes text shape
-compiled_unit shapes text shape code compiled = record { tree = compiled.tree; derives = compiled.derives; gives = compiled.gives }
-
 -- a unit that a text gives was added, or its line wasn't written whole
-pub adds_told : (old new : Option (List ℕ)) (line : ℕ) (shapes after : List Shape) (shape : Shape) (text : List ℕ) → length text ≤ most_unit_bytes → IsUnit shapes text shape → (r : Result (Unit {0}) Failure) → WritesOne old new (at_line line (Adds shapes after shape)) r → WritesOne old new (at_line line (OfUnit shapes after text)) r
+pub adds_told : (old new : Option (List ℕ)) (line : ℕ) (shapes after : List Shape) (shape : Shape) (text : List ℕ) → length text ≤ most_unit_bytes → Compiles shapes text shape → (r : Result (Unit {0}) Failure) → WritesOne old new (at_line line (Adds shapes after shape)) r → WritesOne old new (at_line line (OfUnit shapes after text)) r
 adds_told old new line shapes after shape text few unit (Ok x) h = (h.0, (shape, few, unit, h.1), h.2)
 adds_told old new line shapes after shape text few unit (Err (Refused told)) h = absurd h.0.0
 adds_told old new line shapes after shape text few unit (Err Memory) (inl same) = inl same

@@ -12,7 +12,8 @@ use Rattle.rv_shape.specs.Fits.{fault}
 use Rattle.rv_shape.specs.declared.fault.ShapeFault.{ShapeFault}
 use Rattle.rv_shape.specs.declared.fault.ShapeFault.TheVariants.{BadText}
 use Rattle.rv_shape.specs.declared.fault.ShapeFault.TheVariants as Shapes
-use Rattle.rv_unit.specs.Compiles.{IsUnit, IsRefused as IsNoUnit}
+use Rattle.rv_code.specs.Bodies.{UnitBodies}
+use Rattle.rv_unit.specs.Compiles.{IsCompiled, IsRefused as IsNoUnit}
 use Rattle.rv_unit.specs.declared.fault.UnitFault.TheVariants as Units
 use Rattle.rv_script.specs.Openings.{OpenedText, opened, opening_of}
 use Rattle.rv_script.specs.Prefixes.{WritesPrefix}
@@ -48,9 +49,13 @@ abbrev pub Adds : List Shape → List Shape → Shape → Finding
 Adds shapes after shape said None = (said ≡ unit_line shape.name) × (after ≡ shapes ++ shape ∷ [])
 Adds shapes after shape said (Some what) = ⊥
 
+-- a text is a unit of this shape, and its bodies are compiled
+abbrev pub Compiles : List Shape → List ℕ → Shape → Type 0
+Compiles shapes text shape = (code : UnitBodies) × IsCompiled shapes text shape code
+
 -- a unit text, which has no carriage return before a line feed, gives a unit that fits; one that is too long is refused whatever its words
 abbrev pub OfUnit : List Shape → List Shape → List ℕ → Finding
-OfUnit shapes after text said None = (shape : Shape) × (length text ≤ most_unit_bytes) × IsUnit shapes text shape × Adds shapes after shape said None
+OfUnit shapes after text said None = (shape : Shape) × (length text ≤ most_unit_bytes) × Compiles shapes text shape × Adds shapes after shape said None
 OfUnit shapes after text said (Some Whats.TooLong) = (most_unit_bytes < length text) × (said ≡ [])
 OfUnit shapes after text said (Some (Whats.Unit told)) = (length text ≤ most_unit_bytes) × IsNoUnit shapes text told × (told ≡ Units.NoMemory → ⊥) × (said ≡ [])
 OfUnit shapes after text said (Some what) = ⊥

@@ -8,13 +8,12 @@ use Rattle.rv_shell.specs.Orders.{order_of}
 use Rattle.rv_shell.specs.declared.order.Order.{Order}
 use Rattle.rv_shell.specs.declared.order.Order.TheVariants as Orders
 use Rattle.rv_script.specs.UnitTexts.{most_unit_bytes}
-use Rattle.rv_unit.specs.Compiles.{IsUnit}
 use Rattle.rv_fault.specs.declared.failure.Failure.{Failure}
 use Rattle.rv_fault.specs.declared.failure.Failure.TheVariants.{Refused, Memory, Io}
 use Rattle.rv_fault.specs.declared.fault.What.TheVariants as Whats
 use Rattle.rv_fault.specs.declared.fault.ScriptFault.{ScriptFault}
 use Rattle.rv_fault.specs.Written.{Ended}
-use Rattle.rv_check.specs.Checks.{OfUnit}
+use Rattle.rv_check.specs.Checks.{Compiles, OfUnit}
 use Rattle.rv_check.specs.ScriptLines.{LineText}
 
 -- how many commands a run reads at most
@@ -57,7 +56,7 @@ unless_most false serving taken = taken
 
 -- a text is a unit over those that are loaded, and stands behind them from then on
 abbrev pub IsLoaded : List Shape → List Shape → List ℕ → Type 0
-IsLoaded shapes after text = (shape : Shape) × (length text ≤ most_unit_bytes) × IsUnit shapes text shape × (after ≡ shapes ++ shape ∷ [])
+IsLoaded shapes after text = (shape : Shape) × (length text ≤ most_unit_bytes) × Compiles shapes text shape × (after ≡ shapes ++ shape ∷ [])
 
 -- a unit text that is whole is loaded; its fault is told at its command
 abbrev pub Loads : Serving → LoadText → Taken → Type 0

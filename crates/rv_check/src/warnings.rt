@@ -14,7 +14,7 @@ use rv_shape::catalogue::Catalogue;
 use rv_shape::fault::ShapeFault;
 use rv_shape::shape::UnitShape;
 use rv_step::reading::{StepError, step_of};
-use rv_step::step::Asked;
+use rv_step::step::{Asked, Asker, Step};
 use rv_text::{Section, Sections, has_words, next_line};
 use std::alloc::{AllocError, Global};
 use std::mem;
@@ -198,12 +198,19 @@ impl Review {
         }
     }
 
+    // A halt, which is misuse where others than the operator ask for it.
+    fn halt(&mut self, asker: &Asker) {
+        if let Asker::Operator = asker {
+            self.is_halted = true;
+        }
+    }
+
     // What the step of a line asks. False where it can't.
-    fn ask(&mut self, line: usize, asked: &Asked) -> Result<bool, AllocError> {
+    fn ask(&mut self, line: usize, step: &Step) -> Result<bool, AllocError> {
         self.judge()?;
         self.is_under_way = true;
-        match asked {
-            Asked::Plain(Request::Halt) => self.is_halted = true,
+        match &step.asked {
+            Asked::Plain(Request::Halt) => self.halt(&step.asker),
             Asked::Change(Ok(change), _) => self.change(line, change)?,
             Asked::Change(Err(_), _) => return Ok(false),
             _ => {}
@@ -217,7 +224,7 @@ impl Review {
             return Ok(true);
         }
         match step_of(self.alloc, text) {
-            Ok(step) => Ok(self.ask(line, &step.asked)?),
+            Ok(step) => Ok(self.ask(line, &step)?),
             Err(StepError::BadStep) => Ok(false),
             Err(StepError::NoMemory) => Err(Failure::Memory),
         }
