@@ -1,5 +1,5 @@
 -- What the sections of a script and its devices ask of the host, in order, up to the first fault. (own)
-use Rattle.std.specs.Prelude.{◌≡◌, ◌⊎◌, ℕ, List, [], ◌∷◌, Option, Some, Result, Ok, Err, MatchResult}
+use Rattle.std.specs.Prelude.{◌≡◌, ◌⊎◌, ℕ, List, [], ◌∷◌, Option, Some, None, Result, Ok, Err, MatchResult}
 use Rattle.rv_access.specs.Reading.{list_of}
 use Rattle.rv_access.specs.Words.{Words}
 use Rattle.rv_access.specs.declared.change.Change.TheVariants as Changes
@@ -13,7 +13,7 @@ use Rattle.rv_behind.specs.Events.{catalogue_of}
 use Rattle.rv_port.specs.Traces.{Passing}
 use Rattle.rv_port.specs.Controls.{LoadTold, Told, no_bodies_of}
 use Rattle.rv_behind.specs.declared.event.Ask.{Ask}
-use Rattle.rv_fault.specs.Devices.{RefusesDevice}
+use Rattle.rv_fault.specs.Devices.{RefusesDevice, device_fault}
 use Rattle.rv_fault.specs.Sections.{GivesUnit, Just, Reads, device_shape, if_list}
 use Rattle.rv_fault.specs.declared.failure.Failure.{Failure}
 use Rattle.rv_fault.specs.declared.failure.Failure.TheVariants.{Refused, Memory, Io}
@@ -108,7 +108,7 @@ LoadsUnitOf v w device result =
 
 abbrev pub LoadsDevice : Passing → Passing → ℕ → DeviceText → Done → Type 0
 LoadsDevice v w line device result =
-    LoadsUnitOf v w device result
+    ((device_fault (catalogue_of v.seen) device ≡ None) × LoadsUnitOf v w device result)
     ⊎ ((failure : Failure) × RefusesDevice line (catalogue_of v.seen) device failure × AsksNothing v w failure result)
 
 -- devices are loaded one after another, up to the first that fails

@@ -1,7 +1,7 @@
 //! The devices of settings: each becomes a unit of one task, and a job for it.
 
-ghost use Rattle.std.specs.Prelude.{◌≡◌, ◌⊎◌, Some, Ok, Err, IfOk, IfErr};
-ghost use Rattle.rv_fault.specs.Devices.{RefusesDevice, called};
+ghost use Rattle.std.specs.Prelude.{◌≡◌, ◌⊎◌, Some, None, Ok, Err, IfOk, IfErr};
+ghost use Rattle.rv_fault.specs.Devices.{RefusesDevice, called, device_fault};
 ghost use Rattle.rv_fault.specs.Sections.{device_shape};
 ghost use Rattle.rv_behind.specs.Events.{catalogue_of};
 ghost use Rattle.rv_run.specs.Preparing.{HeardOf, KeptAnswer, LoadsDevice, LoadsDevices};
@@ -27,6 +27,7 @@ fn fitting(
 ) -> Result<(UnitShape, DeviceJob), Failure>
     ensures ok { IfOk result (λ p. p.0 ≡ device_shape device.now) }
     ensures job { IfOk result (λ p. called catalogue.now device.now ≡ Some (p.1.object, p.1.operation)) }
+    ensures fits { IfOk result (λ p. device_fault catalogue.now device.now ≡ None) }
     ensures err { IfErr result (RefusesDevice line catalogue.now device.now) }
 {
     match fitting_device(alloc, catalogue, line, device) {
