@@ -216,21 +216,6 @@ fn element<'a>(
     }
 }
 
-fn elements<'a>(
-    list: &'a Vec<ProtectedElement>,
-    scope: &mut Scope,
-    faults: &mut Faults<'a>,
-) -> Result<(), AllocError>
-    ensures faults { OnOk result (faults.new ≡ elements_uses judged scope.old (map element_view list.now.items) faults.old) }
-    ensures scope { OnOk result (scope.new ≡ with_elements (map element_view list.now.items) scope.old) }
-    ensures only { OnOk result (OnlyDeclares scope.old scope.new) }
-{
-    for one in list {
-        element(one, scope, faults)?;
-    }
-    Ok(())
-}
-
 fn private_part<'a>(
     part: &'a Option<Vec<ProtectedElement>>,
     scope: &mut Scope,
@@ -278,6 +263,22 @@ fn parts<'a>(
     protected_rules(unit, faults);
     members(unit, scope, faults)?;
     faults.set_unit(None);
+    Ok(())
+}
+
+// The operations and components after `private`.
+fn elements<'a>(
+    list: &'a Vec<ProtectedElement>,
+    scope: &mut Scope,
+    faults: &mut Faults<'a>,
+) -> Result<(), AllocError>
+    ensures faults { OnOk result (faults.new ≡ elements_uses judged scope.old (map element_view list.now.items) faults.old) }
+    ensures scope { OnOk result (scope.new ≡ with_elements (map element_view list.now.items) scope.old) }
+    ensures only { OnOk result (OnlyDeclares scope.old scope.new) }
+{
+    for one in list {
+        element(one, scope, faults)?;
+    }
     Ok(())
 }
 
