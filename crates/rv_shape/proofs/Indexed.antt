@@ -74,11 +74,17 @@ in_units parts before (s ∷ shapes) =
     ∙ (λ i. here i ++ next i)
     ∙ sym (map-append Some (parts s) (flat_map parts shapes))
 
-pub count_is : {X : Type 0} (parts : Shape → List X) (shapes : List Shape) → length (places parts 1 shapes) ≡ length (flat_map parts shapes)
+count_is : {X : Type 0} (parts : Shape → List X) (shapes : List Shape) → length (places parts 1 shapes) ≡ length (flat_map parts shapes)
 count_is parts shapes =
     sym (length-map (places parts 1 shapes) (part_at parts shapes))
     ∙ ap (λ xs. length xs) (in_units parts [] shapes)
     ∙ length-map (flat_map parts shapes) Some
+
+-- as many parts as places are kept of them
+pub counted : {X : Type 0} (parts : Shape → List X) (at : List Place) (kept shapes : List Shape) →
+    at ≡ places parts 1 kept → kept ≡ shapes → length at ≡ length (flat_map parts shapes)
+counted parts at kept shapes are same =
+    ap (λ ps. length ps) are ∙ count_is parts kept ∙ ap (λ xs. length (flat_map parts xs)) same
 
 -- a place is that of a part, or there is neither
 abbrev pub Stands : {X : Type 0} → (Shape → List X) → List Shape → Option Place → Option X → Type 0

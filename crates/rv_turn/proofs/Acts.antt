@@ -14,9 +14,9 @@ use lib.ListN.{get_elem?}
 
 module _ {E A Q R : Type 0} (by : E → ℕ) (answers : A → List E → ℕ → Q → R → List E → Type 0) where
   -- an act of the value that adds no entry
-  pub acted_none : (v w : View E A) (q : Q) (r : R) (t : ℕ) (x : A) (at after : List E) → StartsWith at v.seen → mine by v.actor at ≡ v.base ++ v.own → 0 < v.acts → v.about ≡ Some x → answers x at v.actor q r after → after ≡ at
-      → w ≡ served (turned (queued v t) at) → ActedAt by answers v q r w
-  acted_none v w q r t x at after later owns some_acts fixed answer same is = subst (λ (z : View E A). ActedAt by answers v q r z) (sym is) record {
+  pub acted_none : (turn : TableId) (v w : View E A) (q : Q) (r : R) (t : ℕ) (x : A) (at after : List E) → StartsWith at v.seen → mine by v.actor at ≡ v.base ++ v.own → 0 < v.acts → v.about ≡ Some x → answers x at v.actor q r after → after ≡ at
+      → w ≡ served (turned (queued v t) at) → ActedAt by answers turn v q r w
+  acted_none turn v w q r t x at after later owns some_acts fixed answer same is = subst (λ (z : View E A). ActedAt by answers turn v q r z) (sym is) record {
     at = at;
     later = later;
     owned = owns;
@@ -25,14 +25,14 @@ module _ {E A Q R : Type 0} (by : E → ℕ) (answers : A → List E → ℕ →
     answer = subst (λ (l : List E). answers x at v.actor q r l) same answer;
     entry = inl (refl, refl);
     owns = owns;
-    acts = omega arith;
-    same = (refl, refl, refl, refl, refl);
+    some_left = some_acts;
+    same = refl;
   }
 
   -- an act of the value that adds one entry
-  pub acted_one : (v w : View E A) (q : Q) (r : R) (t : ℕ) (x : A) (at after : List E) (e : E) → StartsWith at v.seen → mine by v.actor at ≡ v.base ++ v.own → 0 < v.acts → v.about ≡ Some x → answers x at v.actor q r after
-      → after ≡ at ++ e ∷ [] → by e ≡ v.actor → w ≡ served (grown (turned (queued v t) at) after e) → ActedAt by answers v q r w
-  acted_one v w q r t x at after e later owns some_acts fixed answer more mine_is is = subst (λ (z : View E A). ActedAt by answers v q r z) (sym is) record {
+  pub acted_one : (turn : TableId) (v w : View E A) (q : Q) (r : R) (t : ℕ) (x : A) (at after : List E) (e : E) → StartsWith at v.seen → mine by v.actor at ≡ v.base ++ v.own → 0 < v.acts → v.about ≡ Some x → answers x at v.actor q r after
+      → after ≡ at ++ e ∷ [] → by e ≡ v.actor → w ≡ served (grown (turned (queued v t) at) after e) → ActedAt by answers turn v q r w
+  acted_one turn v w q r t x at after e later owns some_acts fixed answer more mine_is is = subst (λ (z : View E A). ActedAt by answers turn v q r z) (sym is) record {
     at = at;
     later = later;
     owned = owns;
@@ -41,13 +41,13 @@ module _ {E A Q R : Type 0} (by : E → ℕ) (answers : A → List E → ℕ →
     answer = answer;
     entry = inr (e, mine_is, more, refl);
     owns = ap (mine by v.actor) more ∙ (mine_more by v.actor at e mine_is ∙ (ap (λ (l : List E). l ++ e ∷ []) owns ∙ append_assoc v.base v.own (e ∷ [])));
-    acts = omega arith;
-    same = (refl, refl, refl, refl, refl);
+    some_left = some_acts;
+    same = refl;
   }
 
   -- what a pass shows of an act of its seat
-  pub acted_known : (turn turn' : TableId) (v w : View E A) (n : ℕ) (q : Q) (r : R) → turn' ≡ turn → v.acts ≡ n + spare v.first → 0 < n → ActedAt by answers v q r w → Acted by answers (known_of turn v n) q r (known_of turn' w (n - 1))
-  acted_known turn turn' v w n q r here acts some_left a = record {
+  pub acted_known : (turn turn' : TableId) (v w : View E A) (n : ℕ) (q : Q) (r : R) → turn' ≡ turn → 0 < n → ActedAt by answers turn v q r w → Acted by answers (known_of turn v n) q r (known_of turn' w (n - 1))
+  acted_known turn turn' v w n q r here some_left a = record {
     at = a.at;
     later = a.later;
     owned = a.owned;
@@ -57,7 +57,7 @@ module _ {E A Q R : Type 0} (by : E → ℕ) (answers : A → List E → ℕ →
     entry = a.entry;
     owns = a.owns;
     some_left = some_left;
-    same = λ i. record { turn = here i; actor = a.same.0 i; left = n - 1; first = a.same.1 i; seen = w.seen; own = w.own; base = a.same.2 i; given = a.same.3 i; about = a.same.4 i };
+    same = λ i. record (a.same i) { turn = here i; left = n - 1 };
   }
 
 abbrev pick : {C : Type 0} → C → List (ℕ × Option C) → C
@@ -91,15 +91,15 @@ acts_le (x ∷ xs) zero v e = omega (arith, ap (λ (z : View _ _). z.acts) (some
 acts_le (x ∷ xs) (suc i) v e = omega (arith, acts_le xs i v e)
 
 module _ {C E A Q R : Type 0} (history : C → List E) (about : C → A) (by : E → ℕ) (answers : A → List E → ℕ → Q → R → List E → Type 0) where
-  acted_as : (v : View E A) (q : Q) (r : R) (t : ℕ) (x : A) (at after : List E) (more : Bool) (m : Me (Option C) (View E A)) → StartsWith at v.seen → mine by v.actor at ≡ v.base ++ v.own → 0 < v.acts → v.about ≡ Some x
-      → answers x at v.actor q r after → Releases by (turned (queued v t) at) after more m → ActedAt by answers v q r m.0
-  acted_as v q r t x at after true m later owns some_acts fixed answer z = acted_one by answers v m.0 q r t x at after z.0 later owns some_acts fixed answer z.1 z.2 (ap (λ (z : Me (Option C) (View E A)). z.0) z.3)
-  acted_as v q r t x at after false m later owns some_acts fixed answer z = acted_none by answers v m.0 q r t x at after later owns some_acts fixed answer z.0 (ap (λ (z : Me (Option C) (View E A)). z.0) z.1)
+  acted_as : (turn : TableId) (v : View E A) (q : Q) (r : R) (t : ℕ) (x : A) (at after : List E) (more : Bool) (m : Me (Option C) (View E A)) → StartsWith at v.seen → mine by v.actor at ≡ v.base ++ v.own → 0 < v.acts → v.about ≡ Some x
+      → answers x at v.actor q r after → Releases by (turned (queued v t) at) after more m → ActedAt by answers turn v q r m.0
+  acted_as turn v q r t x at after true m later owns some_acts fixed answer z = acted_one by answers turn v m.0 q r t x at after z.0 later owns some_acts fixed answer z.1 z.2 (ap (λ (z : Me (Option C) (View E A)). z.0) z.3)
+  acted_as turn v q r t x at after false m later owns some_acts fixed answer z = acted_none by answers turn v m.0 q r t x at after later owns some_acts fixed answer z.0 (ap (λ (z : Me (Option C) (View E A)). z.0) z.1)
 
   -- the turn, the act, and the release
-  pub acted_now : (v : View E A) (x y : C) (q : Q) (r : R) (more : Bool) (m n : Me (Option C) (View E A)) → Holds history about by v x m → Releases by m.0 (history y) more n → answers (about x) (history x) v.actor q r (history y) → 0 < v.acts → ActedAt by answers v q r n.0
-  acted_now v x y q r more m n h rel answer some_acts =
-      acted_as v q r h.0 (about x) (history x) (history y) more n h.2 h.4 some_acts h.5 answer (subst (λ (z : Me (Option C) (View E A)). Releases by z.0 (history y) more n) h.1 rel)
+  pub acted_now : (turn : TableId) (v : View E A) (x y : C) (q : Q) (r : R) (more : Bool) (m n : Me (Option C) (View E A)) → Holds history about by v x m → Releases by m.0 (history y) more n → answers (about x) (history x) v.actor q r (history y) → 0 < v.acts → ActedAt by answers turn v q r n.0
+  acted_now turn v x y q r more m n h rel answer some_acts =
+      acted_as turn v q r h.0 (about x) (history x) (history y) more n h.2 h.4 some_acts h.5 answer (subst (λ (z : Me (Option C) (View E A)). Releases by z.0 (history y) more n) h.1 rel)
 
 module _ {C E A : Type 0} (history : C → List E) (about : C → A) (by : E → ℕ) (made : C) where
   pub starts_at : (n : ℕ) (l : List (Option C)) → n ≡ length (history made) → l ≡ Some made ∷ [] → n < 18446744073709551616 → ((a : ℕ) → 0 < a → mine by a (history made) ≡ [])

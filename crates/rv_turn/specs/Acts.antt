@@ -1,7 +1,9 @@
 -- What one act leaves of a seat, from its ticket on. (own)
-use Rattle.std.specs.Prelude.{◌≡◌, ◌⊎◌, ℕ, ◌+◌, Bool, true, false, List, [], ◌∷◌, ◌++◌, Option, Some, None}
+use Rattle.std.specs.Prelude.{◌≡◌, ℕ, Bool, true, false, List, [], ◌∷◌, ◌++◌, Option, Some, None}
 use Rattle.atomic_table.specs.Table.{Me}
+use Rattle.atomic_table.specs.Seated.{TableId}
 use Rattle.rv_turn.specs.Histories.{mine, StartsWith}
+use Rattle.rv_turn.specs.Passes.{Acted, known_of}
 use Rattle.rv_turn.specs.Views.{queued, turned, grown, served}
 use Rattle.rv_turn.specs.declared.view.View.{View}
 
@@ -25,16 +27,6 @@ module _ {C E A : Type 0} (by : E → ℕ) where
   Releases v after false w = (after ≡ v.seen) × (w ≡ (served v, []))
 
 module _ {E A Q R : Type 0} (by : E → ℕ) (answers : A → List E → ℕ → Q → R → List E → Type 0) where
-  -- one act of a seat: it is answered on a history that begins with what was seen, and at most one entry is made (own)
-  pub record ActedAt (v : View E A) (q : Q) (r : R) (w : View E A) : Type 0 where
-    pub at : List E
-    pub later : StartsWith at v.seen
-    pub owned : mine by v.actor at ≡ v.base ++ v.own
-    pub about : A
-    pub about_is : v.about ≡ Some about
-    pub answer : answers about at v.actor q r w.seen
-    pub entry : ((w.seen ≡ at) × (w.own ≡ v.own))
-        ⊎ ((e : E) × (by e ≡ v.actor) × (w.seen ≡ at ++ e ∷ []) × (w.own ≡ v.own ++ e ∷ []))
-    pub owns : mine by w.actor w.seen ≡ w.base ++ w.own
-    pub acts : w.acts + 1 ≡ v.acts
-    pub same : (w.actor ≡ v.actor) × (w.first ≡ v.first) × (w.base ≡ v.base) × (w.given ≡ v.given) × (w.about ≡ v.about)
+  -- one act of a seat, as a pass with all acts of the seat shows it (own)
+  abbrev pub ActedAt : TableId → View E A → Q → R → View E A → Type 0
+  ActedAt turn v q r w = Acted by answers (known_of turn v v.acts) q r (known_of turn w w.acts)

@@ -109,7 +109,7 @@ fn act_at<C: Counted, R: Wait>(
         × (place.old.me.0.actor ≡ actor) }
     ensures same { place.new.table_id ≡ place.old.table_id }
     ensures idle { is_idle place.new.me.0 × (place.new.me.1 ≡ []) }
-    ensures acted { ActedAt C.actor_of C.answers place.old.me.0 ask result place.new.me.0 }
+    ensures acted { ActedAt C.actor_of C.answers place.old.table_id place.old.me.0 ask result place.new.me.0 }
 {
     let (mut value, before) = hold::<C, R>(rt, hall, place);
     let reply = value.act(actor, ask);
@@ -134,7 +134,7 @@ fn send_at<C: Counted, R: Wait>(
         × (place.old.me.0.actor ≡ actor) }
     ensures same { place.new.table_id ≡ place.old.table_id }
     ensures idle { is_idle place.new.me.0 × (place.new.me.1 ≡ []) }
-    ensures acted { ActedAt C.actor_of C.answers place.old.me.0 (C.asked letter.old)
+    ensures acted { ActedAt C.actor_of C.answers place.old.table_id place.old.me.0 (C.asked letter.old)
         (C.replied letter.new) place.new.me.0 }
     ensures asked { C.asked letter.new ≡ C.asked letter.old }
 {
