@@ -28,7 +28,7 @@ use Rattle.rv_history.specs.History.{History, version, changes}
 use Rattle.rv_history.specs.Subject.{subject}
 use Rattle.rv_history.specs.Exclusion.{excluded, barrier_at, opens_on, is_barred, full_queue}
 use Rattle.rv_history.specs.Rules.{decided, granted, holds_any, breaks}
-use Rattle.rv_history.specs.Owed.{has_room}
+use Rattle.rv_history.specs.Owed.{has_room, is_paid}
 use Rattle.rv_history.specs.Fitting.{fits}
 
 -- the answer to a call of a protected operation, or to a fired line, from what is asked of it, in this order; a start
@@ -161,18 +161,10 @@ table h actor Quit = nothing_more
 table h actor (Tick n) = nothing_more
 table h actor Halt = nothing_more
 
--- answered on a halted host too
+-- answered on a halted host too: an end, a settle, a resume and a quit, which pay for themselves
 abbrev pub goes_on : Request → Bool
-goes_on (Call object operation values) = false
-goes_on (Complete values exit) = true
-goes_on Settle = true
-goes_on Resume = true
-goes_on (DelayUntil time) = false
-goes_on Clock = false
-goes_on Fire = false
-goes_on Quit = true
-goes_on (Tick n) = false
 goes_on Halt = false
+goes_on request = is_paid request
 
 -- Misuse where it does not fit, Halted where the host is shut for it
 abbrev pub gate : Bool → Bool → Answer → Answer
