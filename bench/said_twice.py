@@ -43,12 +43,8 @@ KEPT = (
     ("rv_grammar/src/fault.rt", "rv_names/src/fault.rt", 1, "the conversions of two errors"),
     ("rv_tree/src/print_body.rt", "rv_tree/src/print_unit.rt", 1, "printing of two productions"),
     ("rv_restrict/proofs/.*Invariants.antt", "rv_restrict/proofs/.*Invariants.antt", 1, "measures of two recursions"),
-    ("rv_shape/proofs/catalogue/.*", "rv_shape/proofs/catalogue/.*", 1, "answers of two functions"),
-    ("rv_shape/src/fits/.*", "rv_shape/src/fits/.*", 2, "a loop over objects, and which of them are protected"),
     ("rv_outline/src/draft.rt", "rv_shape/src/object.rt", 1, "fields and a model"),
     ("rv_accounts/src/lib.rt", "rv_meant/src/lib.rt", 4, "laws, each a function that does nothing"),
-    ("rv_history/specs/Due.antt", "rv_history/specs/Owed.antt", 1, "tables over all requests"),
-    ("rv_turn/specs/Acts.antt", "rv_turn/specs/Passes.antt", 1, "an act as its seat and as its pass have it"),
     ("embedding/src/main.rt", "ravenhost/src/main.rt", 1, "an example stands alone"),
     ("thread_rows/src/crews/crowd.rt", "", 1, "texts of a test"),
 )
