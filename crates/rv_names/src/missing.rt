@@ -79,14 +79,14 @@ impl<'a> Around<'a> {
                 return true;
             }
         }
-        if self.has_later_local(name) {
+        if self.has_later_declaration(name) {
             return true;
         }
         is_loaded(scope, name) || is_hidden(scope, name) || library_declares(name)
     }
 
     // Whether the block around the point, or the parameters that it is among, declare a name.
-    fn has_later_local(&self, name: &str) -> bool {
+    fn has_later_declaration(&self, name: &str) -> bool {
         if let Some(parameters) = self.parameters {
             return parameters_declare(parameters.as_slice(), name);
         }
@@ -115,7 +115,7 @@ impl<'a> Around<'a> {
             }
             Declared::ProtectedObject(_, number) => self.has_hidden_member(number, name),
             Declared::Operation(at, _) | Declared::Task(at) => {
-                scope.is_around(at) && self.has_later_local(name)
+                scope.is_around(at) && self.has_later_declaration(name)
             }
             _ => false,
         }
