@@ -5,7 +5,8 @@ ghost use Rattle.std.specs.Io.KnownBytes.{Consumes};
 ghost use Rattle.rv_script.specs.Whole.{most_bytes};
 
 use rv_fault::Failure;
-use rv_input::{Before, InputFault};
+use rv_input::Before;
+use rv_run::command::of_input;
 use rv_script::read_script;
 use std::alloc::Global;
 use std::io::Read;
@@ -27,7 +28,6 @@ pub fn read_before<R: Read>(alloc: Global, reader: &mut R) -> Result<Before, Fai
 {
     match rv_input::read_before(alloc, reader) {
         Ok(before) => Ok(before),
-        Err(InputFault::Memory) => Err(Failure::Memory),
-        Err(InputFault::Io(e)) => Err(Failure::Io(e)),
+        Err(fault) => Err(of_input(fault)),
     }
 }

@@ -15,6 +15,7 @@ use rv_fault::Failure;
 use rv_feed::Listening;
 use rv_input::{Before, Input};
 use rv_keep::{Keeper, Syncing};
+use rv_run::command::of_io;
 use rv_run::run::run;
 use rv_staff::Hires;
 use std::alloc::Global;
@@ -40,11 +41,13 @@ fn told_before<R: Eprint, I: Read>(
     }
     match read_before(alloc, reader) {
         Ok(before) => {
-            warn(
-                rt,
-                telling,
-                run_warnings_of(alloc, before.sections.as_slice()),
-            )?;
+            if telling.is_shown || telling.are_errors {
+                warn(
+                    rt,
+                    telling,
+                    run_warnings_of(alloc, before.sections.as_slice()),
+                )?;
+            }
             Ok(before)
         }
         Err(failure) => Err(Stop::Failed(failure)),
@@ -143,7 +146,7 @@ where
     ended(rt, alloc, telling, before.sections.as_slice(), done)?;
     match flushed {
         Ok(()) => Ok(()),
-        Err(e) => Err(Stop::Failed(Failure::Io(e))),
+        Err(e) => Err(Stop::Failed(of_io(e))),
     }
 }
 

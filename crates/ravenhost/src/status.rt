@@ -21,7 +21,7 @@ pub enum Stop {
     Explained,
     /// A note on a list was told, and notes are errors.
     Warned,
-    /// The file of a run's journal can't be written, which was said.
+    /// The file of a run's journal can't be written, or the pipe that is to end it not be opened, which was said.
     Unkept,
     /// No thread can be started, which was said.
     NoThread,

@@ -2,23 +2,37 @@
 
 ghost use Rattle.std.specs.Prelude.{◌<◌, ◌≤◌, IfSome, length};
 
-use rv_input::MOST_BYTES;
-use rv_text::next_word;
+use rv_input::{Input, MOST_BYTES};
+use rv_text::{next_word, without_return};
 
 // The lines that end a unit text, as they come.
 const END: &[u8] = b"@end\n";
 
 const END_BEHIND_RETURN: &[u8] = b"@end\r\n";
 
-// Whether a line, which comes with its line feed, is `load`: its unit text follows.
+// Where a unit text ends.
+#[derive(Clone, Copy, Drop)]
+struct TextEnd {
+    // How many bytes stand before the line that ends it.
+    at: usize,
+    // How many there are with that line.
+    behind: usize,
+    // Whether that is `@end`; else it isn't UTF-8, and is as the end of input.
+    is_whole: bool,
+}
+
+// Whether a line, which comes with its line feed, is the command `load`: its unit text follows.
 fn is_load(line: &[u8]) -> bool {
     let Ok(line) = str::from_utf8(line) else {
         return false;
     };
-    let Some((key, rest)) = next_word(line.trim_end()) else {
+    let Some(line) = line.strip_suffix('\n') else {
         return false;
     };
-    key == "load" && next_word(rest).is_none()
+    match next_word(without_return(line)) {
+        Some((key, rest)) => key == "load" && next_word(rest).is_none(),
+        None => false,
+    }
 }
 
 // The length of the first line with its line feed; none where it hasn't come.
@@ -38,15 +52,20 @@ fn is_end(line: &[u8]) -> bool {
     line == END || line == END_BEHIND_RETURN
 }
 
-// How many bytes a unit text has before its line `@end`, and with it; none where that hasn't come.
-fn text_end(bytes: &[u8]) -> Option<(usize, usize)> {
+// Where the unit text ends that bytes begin with; none where its end hasn't come.
+fn text_end(bytes: &[u8]) -> Option<TextEnd> {
     let mut rest = bytes;
     let mut at = 0usize;
     while let Some(count) = first_line(rest) {
         let (line, after) = rest.split_at(count);
         let behind = at.saturating_add(count);
-        if is_end(line) {
-            return Some((at, behind));
+        let is_whole = is_end(line);
+        if is_whole || str::from_utf8(line).is_err() {
+            return Some(TextEnd {
+                at,
+                behind,
+                is_whole,
+            });
         }
         at = behind;
         rest = after;
@@ -56,34 +75,45 @@ fn text_end(bytes: &[u8]) -> Option<(usize, usize)> {
 
 /// The unit text that bytes begin with, up to its line `@end`; none where that hasn't come.
 pub(crate) fn load_text(bytes: &[u8]) -> Option<&[u8]> {
-    let (at, _) = text_end(bytes)?;
-    bytes.get(..at)
+    match text_end(bytes) {
+        Some(end) if end.is_whole => bytes.get(..end.at),
+        _ => None,
+    }
 }
 
 /// The same with that line; nothing where it hasn't come.
 pub(crate) fn load_bytes(bytes: &[u8]) -> &[u8] {
     match text_end(bytes) {
-        Some((_, behind)) => bytes.get(..behind).unwrap_or(&[]),
-        None => &[],
+        Some(end) if end.is_whole => bytes.get(..end.behind).unwrap_or(&[]),
+        _ => &[],
     }
 }
 
-/// Whether the next command has come whole, or no more is waited for.
-pub(crate) fn has_command(bytes: &[u8]) -> bool {
+// Whether bytes behind so many that were given go past the greatest length of an input.
+fn is_past(given: usize, bytes: &[u8]) -> bool {
+    bytes.len() > MOST_BYTES.saturating_sub(given)
+}
+
+// Whether a command has come whole of these bytes, behind so many that were given.
+fn has_whole(given: usize, bytes: &[u8]) -> bool {
     let Some(count) = first_line(bytes) else {
-        return bytes.len() > MOST_BYTES;
+        return is_past(given, bytes);
     };
     let (line, rest) = bytes.split_at(count);
-    !is_load(line) || text_end(rest).is_some() || bytes.len() > MOST_BYTES
+    !is_load(line) || text_end(rest).is_some() || is_past(given, bytes)
+}
+
+/// Whether the next command has come whole, or no more is waited for: the input went past its greatest length, or a unit text
+/// has a line that is as the end of input.
+pub(crate) fn has_command(input: &Input) -> bool {
+    has_whole(input.given(), input.ahead())
 }
 
 /// The same, where so many bytes had come before and no command: without a line feed more there is none.
-pub(crate) fn has_command_now(bytes: &[u8], before: usize) -> bool {
-    if bytes.len() > MOST_BYTES {
-        return true;
+pub(crate) fn has_command_now(input: &Input, before: usize) -> bool {
+    let bytes = input.ahead();
+    if before > bytes.len() || is_past(input.given(), bytes) {
+        return has_command(input);
     }
-    if before > bytes.len() {
-        return has_command(bytes);
-    }
-    first_line(&bytes[before..]).is_some() && has_command(bytes)
+    first_line(&bytes[before..]).is_some() && has_command(input)
 }

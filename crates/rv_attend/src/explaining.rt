@@ -71,6 +71,12 @@ impl Given {
         }
     }
 
+    /// Keeps a line that was read.
+    pub(crate) fn keep_line(&mut self, line: &str) {
+        self.keep(line.as_bytes());
+        self.keep(b"\n");
+    }
+
     // Explains a fault of the line of this number.
     fn tell<E: Write>(&self, line: usize, what: What, errors: &mut E) {
         let fault = ScriptFault { line, what };
@@ -89,8 +95,7 @@ impl Given {
         errors: &mut E,
     ) {
         let number = self.lines.saturating_add(1);
-        self.keep(line.as_bytes());
-        self.keep(b"\n");
+        self.keep_line(line);
         if let Ok(Order::Load) = order_of(self.alloc, line) {
             self.keep(load_bytes(behind));
         }

@@ -83,6 +83,17 @@ fn explain_if<E: Write, T, F>(
     }
 }
 
+/// Keeps a word of the console, which is no command: it counts among the lines where commands are explained.
+pub(crate) fn keep_word<T, F>(follower: &mut Follower<'_, T, F>, line: &str)
+    ensures input { follower.new.input ≡ follower.old.input }
+    ensures keeper { follower.new.keeper ≡ follower.old.keeper }
+    ensures asked { follower.new.asked ≡ follower.old.asked }
+{
+    if follower.asked.explains {
+        follower.given.keep_line(line);
+    }
+}
+
 /// Tells the notes on a command, where notes are told, and explains what stands against it, where that is asked for.
 pub(crate) fn tell_before<T: Wait, E: Write, F>(
     rt: &T,

@@ -11,10 +11,10 @@ use crate::attention::Attention;
 use crate::console::{answer_word, leave, prompt};
 use crate::due::do_chores;
 use crate::follower::{Follower, KeptFailure, Outputs};
-use crate::notes::tell_before;
+use crate::notes::{keep_word, tell_before};
 use crate::waiting::wait_caught_up;
 use rv_fault::Failure;
-use rv_run::command::{Goes, command, of_input, of_write};
+use rv_run::command::{Goes, command, of_input, of_io};
 use rv_run::run::{MOST_COMMANDS, wrote};
 use rv_staff::{Hires, Session};
 use std::io;
@@ -40,7 +40,7 @@ fn hand_on<W: Write>(asked: &Attention, goes: Goes, writer: &mut W) -> Result<()
     let prompted = prompt(asked, goes, writer);
     match writer.flush() {
         Ok(()) => wrote(prompted),
-        Err(e) => Err(of_write(e)),
+        Err(e) => Err(of_io(e)),
     }
 }
 
@@ -104,7 +104,10 @@ fn heed<T: Wait, W: Write, E: Write, F>(
     ensures asked { follower.new.asked ≡ follower.old.asked }
 {
     match answer_word(rt, session, follower, line, &mut outputs.writer) {
-        Some(answered) => Some(answered),
+        Some(answered) => {
+            keep_word(follower, line);
+            Some(answered)
+        }
         None => {
             tell_before(rt, session, follower, line, &mut outputs.errors);
             None

@@ -54,7 +54,7 @@ fn hear<T: Wait + Clock>(
 {
     let before = input.ahead().len();
     match source.hear(input, most) {
-        Ok(Came::Bytes) if has_command_now(input.ahead(), before) => Ok(Heard::Command),
+        Ok(Came::Bytes) if has_command_now(input, before) => Ok(Heard::Command),
         Ok(Came::Bytes) => Ok(Heard::More),
         Ok(Came::Over) => Ok(Heard::Command),
         Ok(Came::Nothing) => Ok(Heard::Nothing),
@@ -121,7 +121,7 @@ pub(crate) fn wait_command<T: Wait + Clock, E: Write, F: Write>(
         (at session.new.staff (F.contents follower.new.keeper.file) follower.new.keeper.next follower.new.asked) result }
     ensures heard { Grows follower.old.input follower.new.input }
 {
-    if has_command(follower.input.ahead()) {
+    if has_command(&follower.input) {
         return Ok(unless_stopped(&follower.source, Goes::On));
     }
     let mut millis = SHORTEST;

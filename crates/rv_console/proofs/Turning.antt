@@ -11,7 +11,7 @@ use Rattle.rv_shell.specs.declared.shell.Next.{Next}
 use Rattle.rv_console.specs.Console.{Turned, TurnsPage}
 
 pub turned : (old new : Written) (text : List ℕ) (first from : ℕ) (v w : Passing) (next : ℕ) (result : Result Next LineFault) → Writes old new text result
-    → Turned from v w next → TurnsPage first from v w next result
+    → Turned first from v w next → TurnsPage first from v w next result
 turned old new text first from v w next (Ok go) written is = is
 turned old new text first from v w next (Err (Write error)) written is = is
 turned old new text first from v w next (Err NoMemory) written is = inr is

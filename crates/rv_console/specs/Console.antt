@@ -1,5 +1,5 @@
 -- What the console has beside the commands of a run: words by which the operator looks, and asks nothing that adds an entry. (own)
-use Rattle.std.specs.Prelude.{◌≡◌, ◌⊎◌, ℕ, ◌+◌, ◌-◌, ◌^◌, min, length, List, [], ◌∷◌, codes, if◌then◌else◌, Option, Some, None, Result, Err}
+use Rattle.std.specs.Prelude.{◌≡◌, ◌⊎◌, ℕ, ◌+◌, ◌-◌, ◌^◌, ◌==◌, min, length, List, [], ◌∷◌, codes, if◌then◌else◌, Option, Some, None, Result, Err}
 use Rattle.std.specs.Str.{bytes_eq}
 use Rattle.rv_behind.specs.Acting.{Does}
 use Rattle.rv_behind.specs.Events.{by, catalogue_of}
@@ -79,16 +79,20 @@ ShowsOrWorn text old new v w (Err NoMemory) =
     (NotViewed v PageFaults.NoMemory w × (new ≡ old)) ⊎ Shows text old new v w (Err NoMemory)
 ShowsOrWorn text old new v w result = Shows text old new v w result
 
+-- the next page begins behind this one; where that is empty, with the entry that it would have begun with before
+abbrev pub behind_page : ℕ → ℕ → List Item → ℕ
+behind_page old from page = if length page == 0 then old else min (from + length page) (2 ^ 64 - 1)
+
 -- a page from an entry on was read, and the next one begins behind it
-abbrev pub Turned : ℕ → Passing → Passing → ℕ → Type 0
-Turned from v w next =
-    (page : List Item) × Acted by Does v (Ask.Read from) (Gives.Read page) w × (next ≡ min (from + length page) (2 ^ 64 - 1))
+abbrev pub Turned : ℕ → ℕ → Passing → Passing → ℕ → Type 0
+Turned old from v w next =
+    (page : List Item) × Acted by Does v (Ask.Read from) (Gives.Read page) w × (next ≡ behind_page old from page)
 
 -- unless there was none for want of memory or of an act
 abbrev pub TurnsPage : ℕ → ℕ → Passing → Passing → ℕ → Result Next LineFault → Type 0
 TurnsPage old from v w new (Err Worn) = new ≡ old
-TurnsPage old from v w new (Err NoMemory) = (new ≡ old) ⊎ Turned from v w new
-TurnsPage old from v w new result = Turned from v w new
+TurnsPage old from v w new (Err NoMemory) = (new ≡ old) ⊎ Turned old from v w new
+TurnsPage old from v w new result = Turned old from v w new
 
 -- with which entry the next page begins, before a word and behind it
 abbrev pub Turns : ℕ → ℕ → Passing → Passing → Word → Result Next LineFault → Type 0

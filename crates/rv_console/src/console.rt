@@ -5,7 +5,7 @@ ghost use Rattle.rv_behind.specs.Acting.{Does};
 ghost use Rattle.rv_behind.specs.Events.{by, catalogue_of};
 ghost use Rattle.rv_behind.specs.declared.event.Ask.{Ask};
 ghost use Rattle.rv_behind.specs.declared.event.Reply.{Reply};
-ghost use Rattle.rv_console.specs.Console.{Answers, Looks, NotShown, ShowsOrWorn, Turns, TurnsPage};
+ghost use Rattle.rv_console.specs.Console.{Answers, behind_page, Looks, NotShown, ShowsOrWorn, Turns, TurnsPage};
 ghost use Rattle.rv_console.specs.Cut.{cut_text};
 ghost use Rattle.rv_console.specs.Texts.{list_text, status_text};
 ghost use Rattle.rv_event.specs.declared.entry.Entry.{Entry};
@@ -61,6 +61,17 @@ impl Model for Console {
     ghost Value = { Screen };
 
     ghost view = { λ c. record { next = c.next; columns = c.columns } };
+}
+
+// The number of the entry that the next page begins with, behind a page from a number on; behind an empty one as before.
+fn behind_page(before: usize, from: usize, page: &Page) -> usize
+    ensures { result ≡ behind_page before from page.now }
+{
+    if page.len() == 0 {
+        before
+    } else {
+        from.saturating_add(page.len())
+    }
 }
 
 impl Console {
@@ -150,7 +161,7 @@ impl Console {
     {
         let mut page = Page::new(self.alloc);
         control.entries(rt, from, &mut page)?;
-        self.next = from.saturating_add(page.len());
+        self.next = behind_page(self.next, from, &page);
         let text = page_text(self.alloc, control.catalogue(), from, &page);
         put_made(writer, text)
     }

@@ -27,7 +27,8 @@ pub(crate) fn section_at(script: &str, line: usize) -> Option<Section<'_>>
     None
 }
 
-/// The section of a script that a line stands in, behind its opening.
+/// The section of a script that a line stands in, behind its opening. Behind `@run` commands follow, also what looks like an
+/// opening.
 pub(crate) fn opening_before(script: &str, line: usize) -> Option<Opening> {
     if script.len() > 16_777_216 {
         return None;
@@ -35,7 +36,7 @@ pub(crate) fn opening_before(script: &str, line: usize) -> Option<Opening> {
     let (_, mut sections) = open_script(script);
     let mut last = None;
     'each: while let Some(section) = sections.next_section() {
-        if section.line >= line {
+        if section.line >= line || last == Some(Opening::Run) {
             return last;
         }
         last = opening_of(section.opening).or(last);

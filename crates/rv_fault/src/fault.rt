@@ -22,16 +22,16 @@ pub enum What {
     /// A line that opens no section known here, or text before the first section.
     #[error("BadSection")]
     BadSection,
-    /// A line that is no step.
+    /// A line that is no step, or of a script for `run` no command, or a `load` without `@end`.
     #[error("BadStep")]
     BadStep,
-    /// A step that names what isn't loaded.
+    /// A step, or a device of the settings, that names what isn't loaded.
     #[error("UnknownName")]
     UnknownName,
     /// A first section whose text is no settings.
     #[error("settings {0}")]
     Settings(SettingsFault),
-    /// A section whose text is no shape, or one that doesn't fit.
+    /// A section whose text is no shape, or one that doesn't fit, or a device's unit that doesn't.
     #[error("shape {0}")]
     Shape(ShapeFault),
     /// A section whose text is no list.

@@ -134,6 +134,13 @@ impl Input {
         Ok(line)
     }
 
+    /// How many bytes it gave.
+    pub fn given(&self) -> usize
+        ensures { result ≡ self.now.given }
+    {
+        self.given
+    }
+
     /// What was read ahead of what was given, for whoever reads on by other means.
     pub fn ahead(&self) -> &[u8]
         ensures { result.now ≡ self.now.ahead }

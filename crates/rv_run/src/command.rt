@@ -28,8 +28,8 @@ pub enum Goes {
     Out,
 }
 
-/// The failure of a write. Want of memory is told as such.
-pub fn of_write(error: io::Error) -> Failure
+/// The failure of a read or a write. Want of memory is told as such.
+pub fn of_io(error: io::Error) -> Failure
     ensures { IsNoFault result }
 {
     if error.kind() == ErrorKind::OutOfMemory {
@@ -46,7 +46,7 @@ fn said(written: io::Result<()>) -> Result<Goes, Failure>
 {
     match written {
         Ok(()) => Ok(Goes::On),
-        Err(e) => Err(of_write(e)),
+        Err(e) => Err(of_io(e)),
     }
 }
 
@@ -56,7 +56,7 @@ pub fn of_input(fault: InputFault) -> Failure
 {
     match fault {
         InputFault::Memory => Failure::Memory,
-        InputFault::Io(e) => Failure::Io(e),
+        InputFault::Io(e) => of_io(e),
     }
 }
 
@@ -174,7 +174,7 @@ fn after_fault<W: Write>(fault: LineFault, writer: &mut W) -> Result<Goes, Failu
     match fault {
         LineFault::Worn => Ok(Goes::Out),
         LineFault::NoMemory => said(say(writer, NO_MEMORY)),
-        LineFault::Write(e) => Err(of_write(e)),
+        LineFault::Write(e) => Err(of_io(e)),
     }
 }
 

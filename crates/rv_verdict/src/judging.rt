@@ -125,8 +125,8 @@ fn audit_file_text<J: Read, W: Write, H: Watch>(
 }
 
 /// Judges the journal that a reader of its own gives, a line at a time and byte for byte, over the sections of a script,
-/// and writes one line that says what was found. Where `takes_torn`, a last line without its line feed is taken as cut
-/// off, and isn't judged.
+/// and writes one line that says what was found. Where `takes_torn`, a last line of at most 162,304 bytes without its
+/// line feed is taken as cut off, and isn't judged.
 ///
 /// # Errors
 /// As `audit`. A section that holds a journal is refused.

@@ -1,5 +1,4 @@
-use Rattle.std.proofs.Common.{◌≡◌, ◌∙◌, ◌+◌, ◌-◌, ◌^◌, List, ℕ, ap, subst, string_bytes, IfOk}
-use Rattle.std.specs.Prelude.{min}
+use Rattle.std.proofs.Common.{◌≡◌, List, ℕ, subst, string_bytes, IfOk}
 use Rattle.std.proofs.lemmas.Result.{err_from_is_err_and}
 use Rattle.rv_behind.specs.Events.{catalogue_of}
 use Rattle.rv_keep.specs.PageText.{page_text}
@@ -31,4 +30,4 @@ returns-clause-turns g c =
     let line : IfOk c.page_text-text.result (λ l. string_bytes l ≡ bytes) =
     subst (λ (shapes : List Shape). IfOk c.page_text-text.result (λ l. string_bytes l ≡ page_text shapes c.args.from c.entries.new.into)) c.catalogue.ensures c.page_text-text.ensures in
     turned _ _ bytes _ c.args.from c.args.control.now c.entries.new.self _ _ (c.put_made.ensures bytes line)
-    (c.entries.new.into, c.in_ok-entries.ensures.ok, c.saturating_add-self-inside.ensures ∙ ap (λ (n : ℕ). min (c.args.from + n) (2 ^ 64 - 1)) c.len.ensures)
+    (c.entries.new.into, c.in_ok-entries.ensures.ok, c.behind_page-self-inside.ensures)
