@@ -2,7 +2,7 @@
 use Rattle.std.specs.Prelude.{ℕ, Result, Ok, Err}
 use Rattle.rv_fault.specs.declared.failure.Failure.TheVariants.{Refused, Memory, Io}
 use Rattle.ravenhost.specs.declared.status.Stop.{Stop}
-use Rattle.ravenhost.specs.declared.status.Stop.TheVariants.{Usage, Told, Failed, Explained, Warned, Unkept, NoThread, NotLegal}
+use Rattle.ravenhost.specs.declared.status.Stop.TheVariants.{Usage, Told, Failed, Explained, Warned, BadFile, NoThread, NotLegal}
 
 -- 1 a refused script, one with notes that are errors or a journal that isn't legal, 2 usage or help, 3 want of memory or of a thread, 4 a failed read or write
 abbrev pub failed_status : Stop → ℕ
@@ -15,7 +15,7 @@ failed_status Usage = 2
 failed_status (Failed Memory) = 3
 failed_status NoThread = 3
 failed_status (Failed (Io error)) = 4
-failed_status Unkept = 4
+failed_status BadFile = 4
 
 -- 0 where all was carried out, or told
 abbrev pub status_of : {X : Type 0} → Result X Stop → ℕ

@@ -71,7 +71,7 @@ pub fn unless_unkept<R: Eprint>(
         Err(KeptFailure::Run(failure)) => Ok(Err(failure)),
         Err(KeptFailure::File(e)) => {
             let _ = eprintln!(rt; "ravenhost: {name}: {e}");
-            Err(Stop::Unkept)
+            Err(Stop::BadFile)
         }
     }
 }

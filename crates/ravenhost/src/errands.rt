@@ -77,7 +77,7 @@ pub fn stop_of<R: Files + Eprint>(
     };
     if let Err(e) = fs::metadata(rt, name) {
         let _ = eprintln!(rt; "ravenhost: {name}: {e}");
-        return Err(Stop::Unkept);
+        return Err(Stop::BadFile);
     }
     let Ok(owned) = String::from_str(alloc, name) else {
         return Err(Stop::Failed(Failure::Memory));

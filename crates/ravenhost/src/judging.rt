@@ -84,9 +84,13 @@ pub fn judge_file<R: Files + Clock + Eprint, I: Read, W: Write>(
     reader: &mut I,
     writer: &mut W,
 ) -> Result<(), Stop> {
-    let mut journal = match fs::open(rt, file.name) {
+    let name = file.name;
+    let mut journal = match fs::open(rt, name) {
         Ok(journal) => journal,
-        Err(e) => return Err(Stop::Failed(Failure::Io(e))),
+        Err(e) => {
+            let _ = eprintln!(rt; "ravenhost: {name}: {e}");
+            return Err(Stop::BadFile);
+        }
     };
     let mut progress = Progress::new(rt, file.is_watched);
     match judged(alloc, file, reader, &mut journal, &mut progress, writer) {

@@ -21,8 +21,8 @@ pub enum Stop {
     Explained,
     /// A note on a list was told, and notes are errors.
     Warned,
-    /// The file of a run's journal can't be written, or the pipe that is to end it not be opened, which was said.
-    Unkept,
+    /// A file that a flag names can't be opened, read or written, which was said.
+    BadFile,
     /// No thread can be started, which was said.
     NoThread,
     /// A journal isn't that of a legal history, or an end in it isn't what its text means, which was said.
@@ -40,6 +40,6 @@ pub fn status_of(outcome: &Result<(), Stop>) -> u8
             1,
         Err(Stop::Usage) => 2,
         Err(Stop::Failed(Failure::Memory) | Stop::NoThread) => 3,
-        Err(Stop::Failed(Failure::Io(_)) | Stop::Unkept) => 4,
+        Err(Stop::Failed(Failure::Io(_)) | Stop::BadFile) => 4,
     }
 }
