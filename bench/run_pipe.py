@@ -523,6 +523,36 @@ def unread(program):
         expect("what is said of it", run.process.stderr.read(), b"ravenhost: nobody reads the output: 16 MiB of it wait\n")
 
 
+def come(program):
+    """What counts as a command that has come, or as the end of input, while the pipe stays open: attended or not."""
+    script = "@list\nallow * * *\n@run\n"
+    padded = "@list\nallow * * *\n" + 10_000 * ("#" + 998 * "x" + "\n") + "@run\n"
+    for words in ((), ("--tick", "3600000")):
+        run = Run(program, script, words)
+        for line in ("load\u00a0", "load\v", "load\r\r"):
+            expect(f"{line!r} with {words}", run.ask(line), "bad command")
+        run.end()
+        for what, before, rest in (("no UTF-8 in a unit text", script, b"load\npackage A is\n\xff\n"),
+                                   ("past the greatest length", padded, 7_000_000 * b"x"),
+                                   ("past it behind load", padded, b"load\n" + 7_000_000 * b"x")):
+            run = Run(program, before, words)
+            run.process.stdin.write(rest)
+            run.process.stdin.flush()
+            expect(f"{what} with {words}", run.line(), "entries 1\n")
+            expect(f"the status of {what} with {words}", run.end("")[1:], ("", 0))
+
+
+def told_at_console(program):
+    """Words of a console count among the lines that are explained, and what opens a section is no opening behind `@run`."""
+    run = Run(program, "@list\nallow * * *\n@run\n", ("--console", "--explain", "--notes", "never"))
+    _, err, status = run.end("help\n\nfrob\n@list\nfrob\njournal\nfrob\nquit\n")
+    expect("lines explained at a console", re.findall(r"^script line (\d+): BadStep$", err, re.M), ["6", "7", "8", "10"])
+    expect_that("their causes", err.count(" is no command; there are ") == 4 and status == 0, err)
+    run = Run(program, "@list\nallow * * *\n@run\n", ("--console", "--notes", "never"))
+    out, _, status = run.end(60 * "tick 1\n" + "journal 1\njournal 1000\njournal\nquit\n")
+    expect_that("the page behind an empty one", "> journal 1000\n> journal\n51 operator tick 1 -> " in out and status == 0, out[-400:])
+
+
 ENDS = """with Ada.Interrupts.Names; with Ada.Real_Time;
 package Ends is
    protected Bell with Interrupt_Priority => 36 is
@@ -865,7 +895,7 @@ def main():
         return 1 if faults else 0
     program = os.path.abspath(sys.argv[1]) if sys.argv[1:] else os.path.join(TOP, "crates/ravenhost/out/ravenhost")
     for part in (commands, row, device, two_devices, deepest, deepest_of_all, live, no_thread, refused, closed, edges, ticks, usage, prompt,
-                 stops, all_flags, quota, halt_below, unread, reasons, console, columns, notes_at_commands, explains):
+                 stops, all_flags, quota, halt_below, unread, come, reasons, console, told_at_console, columns, notes_at_commands, explains):
         try:
             part(program)
         except BrokenPipeError:
