@@ -29,8 +29,7 @@ use std::marker::Model;
 use std::sync::Wait;
 
 /// What may be asked.
-pub const HELP: &str =
-    "append LINE     a line more at the end of the list: append allow Safety * *
+pub const HELP: &str = "append LINE     a line more at the end of the list: append allow Safety * *
 remove N        a line less: the lines count as `list` numbers them
 replace N LINE  another line in place of one
 tick N          N ticks of the clock go by, 1 .. 1000000
