@@ -50,7 +50,11 @@ const NUMBERED: [&str; 4] = ["tick", "remove", "raise", "journal"];
 // The number of the word at fault of a command that takes something.
 fn at_fault(line: &Line<'_>) -> usize {
     let is_more = line.is(0, "replace") || line.has(2) && is_listed(&NUMBERED, line.word(0));
-    if is_more && is_number(line.word(1)) { 2 } else { 1 }
+    if is_more && is_number(line.word(1)) {
+        2
+    } else {
+        1
+    }
 }
 
 /// Why a line is no command.

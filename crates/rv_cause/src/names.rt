@@ -263,7 +263,8 @@ const PLACES: [Place; 5] = [
     },
 ];
 
-const OBJECT: &str = "; packages have no variables here: an object is of a protected type or Suspension_Object";
+const OBJECT: &str =
+    "; packages have no variables here: an object is of a protected type or Suspension_Object";
 
 const RAISED: &str = "; a handler takes exceptions (11.2)";
 

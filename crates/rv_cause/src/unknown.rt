@@ -164,7 +164,10 @@ fn in_context<'a>(
         return Ok(words.cause(0, "{0} is this package itself; with takes others (10.1.2)"));
     }
     match known.near(alloc, word, Group::Units)? {
-        near if near.is_empty() || is_same_name(near, own) => Ok(words.cause(0, "no unit {0} is loaded before this one (10.1.2)")),
+        near if near.is_empty() || is_same_name(near, own) => Ok(words.cause(
+            0,
+            "no unit {0} is loaded before this one (10.1.2)",
+        )),
         near => Ok(Cause::new(at, "no unit {0} is loaded here; {1} is", [word, near, ""])),
     }
 }
