@@ -446,9 +446,10 @@ fn missing_within(device: &str) -> Option<&'static str> {
     None
 }
 
-// The first key that one of the devices lacks that are written in a line.
+// The first key that one of the devices lacks that are written, and end, in a line.
 fn missing_in_line(whole: &str) -> Option<&'static str> {
-    for device in whole.split('}') {
+    let (ended, _) = whole.rsplit_once('}')?;
+    for device in ended.split('}') {
         if device.contains("{") {
             if let Some(key) = missing_within(device) {
                 return Some(key);
