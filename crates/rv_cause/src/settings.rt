@@ -258,13 +258,17 @@ impl<'a> Entry<'a> {
             && table_of(table_name(self.value)) == Some(Table::Top)
     }
 
+    // The key that it is of: its own, or that which a table has as its name.
+    fn name(&self) -> &'a str {
+        if self.is_key_as_table() {
+            return table_name(self.value);
+        }
+        self.key
+    }
+
     // What is said of its value, if that isn't as it is to be; the key is `{0}`.
     fn bad_value(&self) -> Option<Cause<'a>> {
-        let name = if self.is_key_as_table() {
-            table_name(self.value)
-        } else {
-            self.key
-        };
+        let name = self.name();
         for key in &KEYS {
             if key.is(name) && (self.key.is_empty() || !is_taken(key.taken, self)) {
                 return Some(Cause::of(self.at, key.said, name));
