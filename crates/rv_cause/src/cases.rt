@@ -27,6 +27,8 @@ pub enum Within {
     NoFunction,
     /// A name that a predefined library package declares.
     Library,
+    /// A reserved word of Ada.
+    Reserved,
     /// A reserved word of Ada that no production has.
     OtherAda,
 }
@@ -55,6 +57,7 @@ fn is_within(within: Within, words: &Words<'_, '_>, around: &Around<'_>) -> bool
         Within::Function => around.is_function,
         Within::NoFunction => !around.is_function,
         Within::Library => library::home_of(words.word(0)).is_some(),
+        Within::Reserved => words.is_reserved(),
         Within::OtherAda => is_other_ada(words.word(0)),
     }
 }

@@ -36,12 +36,37 @@ fn filling<'a>(words: &[&'a str; 6], hole: &str) -> &'a str {
     }
 }
 
+// How many characters of a word are said.
+const MOST: usize = 100;
+
+/// A character as it is shown: none but a tab may move what stands behind it.
+pub fn shown(character: char) -> char {
+    let code = character as u32;
+    if code == 9 || code >= 32 && code != 127 && !(code >= 128 && code < 160) && code != 65_279 {
+        return character;
+    }
+    '?'
+}
+
+// Adds a word to a sentence, as it is shown; of a long one the first part.
+fn put_word(text: &mut String, word: &str) -> Result<(), AllocError> {
+    let mut count = 0usize;
+    for character in word.chars() {
+        if count >= MOST {
+            return text.push_str("...");
+        }
+        text.push(shown(character))?;
+        count = count.saturating_add(1);
+    }
+    Ok(())
+}
+
 // Adds a part of a sentence: the first, or one that begins with a hole.
 fn put_part(text: &mut String, words: &[&str; 6], part: &str) -> Result<(), AllocError> {
     let Some((hole, behind)) = part.split_once('}') else {
         return text.push_str(part);
     };
-    text.push_str(filling(words, hole))?;
+    put_word(text, filling(words, hole))?;
     text.push_str(behind)
 }
 

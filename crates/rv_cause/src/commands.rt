@@ -1,7 +1,7 @@
 //! Lines behind a line `@run` that are no commands.
 
 use crate::cause::Cause;
-use crate::line::{Form, Line, said_of};
+use crate::line::{Form, Line, is_listed, is_number, said_of};
 
 const ENDING: &str = "nothing may stand behind halt, nor behind quit";
 
@@ -45,10 +45,25 @@ const COMMANDS: [Form; 9] = [
     },
 ];
 
+const NUMBERED: [&str; 4] = ["tick", "remove", "raise", "journal"];
+
+// The number of the word at fault of a command that takes something.
+fn at_fault(line: &Line<'_>) -> usize {
+    let is_more = line.is(0, "replace") || line.has(2) && is_listed(&NUMBERED, line.word(0));
+    if is_more && is_number(line.word(1)) {
+        2
+    } else {
+        1
+    }
+}
+
 /// Why a line is no command.
 pub fn bad_command<'a>(line: &Line<'a>) -> Cause<'a> {
+    if line.count() == 0 {
+        return line.cause(0, "a blank line is no command");
+    }
     match said_of(&COMMANDS, line.word(0)) {
-        Some(said) => line.cause(1, said),
+        Some(said) => line.cause(at_fault(line), said),
         None => line.cause(
             0,
             "{0} is no command; there are append, remove, replace, tick, raise, halt, load, journal and quit",

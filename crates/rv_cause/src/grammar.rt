@@ -67,7 +67,7 @@ const BEGINNINGS: [&str; 20] = [
 ];
 
 // What can't be declared here, and names that are none.
-const DECLARATIONS: [Case; 10] = [
+const DECLARATIONS: [Case; 11] = [
     Case {
         within: Within::End,
         words: "; ^_",
@@ -104,14 +104,19 @@ const DECLARATIONS: [Case; 10] = [
         said: "there are no expression functions here; write begin return .. ; end (6.8)",
     },
     Case {
-        within: Within::Anywhere,
+        within: Within::Reserved,
         words: "protected|task|function|procedure|package ^NAME",
         said: RESERVED,
     },
     Case {
-        within: Within::Anywhere,
+        within: Within::Reserved,
         words: "subtype|entry|for|. ^NAME",
         said: RESERVED,
+    },
+    Case {
+        within: Within::Anywhere,
+        words: "package ^NAME",
+        said: "body is missing before {0}: behind the package stands its body only",
     },
     Case {
         within: Within::OtherAda,
@@ -121,6 +126,8 @@ const DECLARATIONS: [Case; 10] = [
 ];
 
 const RESERVED: &str = "{0} is a reserved word, and no name (2.9)";
+
+const FIRST: &str = "{0} begins no unit text: with, use, pragma or package does";
 
 const BEHIND: &str = "{0} can't stand behind {3} here (docs/GRAMMAR.md)";
 
@@ -240,6 +247,9 @@ fn unexpected_word<'a>(words: &Words<'_, 'a>, around: &Around<'a>) -> Cause<'a> 
     if is_behind_end(words, around) {
         let said = "{0} is missing behind {1}";
         return Cause::pair(words.place(0), said, missing_before(words), words.back(1));
+    }
+    if words.back(1).is_empty() {
+        return words.cause(0, FIRST);
     }
     match first_of(&OPERATORS, words, around) {
         Some(cause) => cause,

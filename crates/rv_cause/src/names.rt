@@ -263,6 +263,42 @@ const PLACES: [Place; 5] = [
     },
 ];
 
+const OBJECT: &str =
+    "; packages have no variables here: an object is of a protected type or Suspension_Object";
+
+const RAISED: &str = "; a handler takes exceptions (11.2)";
+
+// Whether the type of an object of a package stands here.
+fn is_object(words: &Words<'_, '_>, around: &Around<'_>) -> bool {
+    around.home.is_empty() && around.parentheses == 0 && words.was(1, ":")
+}
+
+// Whether an exception of a handler stands here.
+fn is_in_handler(words: &Words<'_, '_>) -> bool {
+    if !words.was(1, "when") && !words.was(1, "|") || words.was(2, "exit") {
+        return false;
+    }
+    let mut ended = 0usize;
+    for count in 2..4096usize {
+        if words.was(count, "exception") {
+            return true;
+        }
+        if words.was(count, "case") {
+            if words.was(count.saturating_add(1), "end") {
+                ended = ended.saturating_add(1);
+            } else if ended == 0 {
+                return false;
+            } else {
+                ended = ended.saturating_sub(1);
+            }
+        }
+        if words.back(count).is_empty() || words.was(count, "entry") {
+            return false;
+        }
+    }
+    false
+}
+
 // What would have to stand where a name stands whose last part is so many words behind.
 fn wanted<'w>(words: &Words<'_, '_>, around: &Around<'_>, behind: usize) -> &'w str {
     if is_attached(words) {
@@ -270,6 +306,12 @@ fn wanted<'w>(words: &Words<'_, '_>, around: &Around<'_>, behind: usize) -> &'w 
     }
     if around.is_in_head && words.fit("=> ^_") {
         return VALUE;
+    }
+    if is_object(words, around) {
+        return OBJECT;
+    }
+    if is_in_handler(words) {
+        return RAISED;
     }
     let next = words.word(behind.saturating_add(1));
     for place in &PLACES {
@@ -285,9 +327,10 @@ fn bad_sort<'a>(words: &Words<'_, 'a>, around: &Around<'a>, known: &Known<'a>) -
     if let Some((item, behind)) = known.denoted(words, around) {
         return is_a(words.place(behind), item, wanted(words, around, behind));
     }
-    let word = words.word(0);
+    let last = words.last_part();
+    let word = words.word(last);
     match library::words_of(word) {
-        Some(sort) => phrase(words.place(0), word, sort, wanted(words, around, 0)),
+        Some(sort) => phrase(words.place(last), word, sort, wanted(words, around, last)),
         None => words.cause(0, "{0} denotes nothing that can stand here (8.6)"),
     }
 }

@@ -1,14 +1,13 @@
 //! Restrictions that are broken, in the words of the text.
 
 use crate::around::Around;
-use crate::cases::told;
 use crate::cause::Cause;
 use crate::declared::{Sort, is_a};
 use crate::known::Known;
 use crate::words::Words;
 
-/// What is said of a library unit that the profile doesn't allow.
-pub const LIBRARY_UNIT: &str = "{0}{1}{2} can't be used in the profile Ravenscar (D.13)";
+// What is said of a library unit that the profile doesn't allow.
+const LIBRARY_UNIT: &str = "{0}{1}{2}{3}{4} can't be used in the profile Ravenscar (D.13)";
 
 /// What is said of priorities that change, or are read.
 pub const PRIORITY: &str =
@@ -31,10 +30,21 @@ pub fn barrier<'a>(words: &Words<'_, 'a>, around: &Around<'a>, known: &Known<'a>
     words.cause(0, BARRIER)
 }
 
+/// A library unit that the profile doesn't allow.
+pub fn library_unit<'a>(words: &Words<'_, 'a>, around: &Around<'a>) -> Cause<'a> {
+    let [first, point, second, next, third, _] = words.name();
+    let name = if around.unit.is_empty() {
+        [first, point, second, next, third, ""]
+    } else {
+        [first, point, second, "", "", ""]
+    };
+    Cause::full(words.place(0), LIBRARY_UNIT, name)
+}
+
 /// Priorities that change, or are read.
 pub fn dynamic_priority<'a>(words: &Words<'_, 'a>, around: &Around<'a>) -> Cause<'a> {
     if words.is(2, "Dynamic_Priorities") {
-        return told(words, around, LIBRARY_UNIT);
+        return library_unit(words, around);
     }
     words.cause(0, PRIORITY)
 }

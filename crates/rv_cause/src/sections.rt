@@ -16,8 +16,27 @@ const OPENINGS: [&str; 7] = [
     "@run",
 ];
 
-// What is said of a line that opens something elsewhere.
-fn elsewhere(opening: Opening) -> &'static str {
+// Whether one command alone takes such a section.
+fn is_of_one_command(opening: Opening) -> bool {
+    match opening {
+        Opening::Steps | Opening::Run | Opening::Journal => true,
+        _ => false,
+    }
+}
+
+// What is said of a line that opens something elsewhere, behind a section of this opening.
+fn elsewhere(opening: Opening, before: Option<Opening>) -> &'static str {
+    if is_of_one_command(opening) {
+        match before {
+            Some(Opening::Steps) => {
+                return "{0} can't stand behind @steps: a script is for one command";
+            }
+            Some(Opening::Journal) => {
+                return "{0} can't stand behind @journal: a script is for one command";
+            }
+            _ => {}
+        }
+    }
     match opening {
         Opening::Settings => "{0} may only stand first",
         Opening::Steps => "only play takes steps; check looks at them with --script",
@@ -39,15 +58,23 @@ fn unknown<'a>(alloc: Global, word: &'a str) -> Result<Cause<'a>, AllocError> {
     }
 }
 
-/// Why a line opens no section.
-pub fn bad_section<'a>(alloc: Global, line: &'a str) -> Result<Cause<'a>, AllocError> {
+/// Why a line opens no section, behind a section of this opening.
+pub fn bad_section<'a>(
+    alloc: Global,
+    line: &'a str,
+    before: Option<Opening>,
+) -> Result<Cause<'a>, AllocError> {
+    if let Some(behind) = line.strip_prefix("\u{feff}") {
+        let said = "a byte order mark stands before {0}; a script has none";
+        return Ok(Cause::of(0, said, behind));
+    }
     let words = Line::of(alloc, line, 0)?;
     let word = words.word(0);
     if !line.starts_with("@") {
         return Ok(words.cause(0, "{0} stands before the first section"));
     }
     if let Some(opening) = opening_of(line) {
-        return Ok(Cause::of(0, elsewhere(opening), word));
+        return Ok(Cause::of(0, elsewhere(opening, before), word));
     }
     if opening_of(word).is_some() {
         let said = "nothing may stand behind {0}, not even a blank";

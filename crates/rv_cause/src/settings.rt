@@ -150,12 +150,38 @@ fn entry_of<'a>(table: Table, line: &'a str, at: usize) -> Option<Entry<'a>> {
         return Some(Entry::new(table, "", word, at));
     }
     if word.starts_with("{") {
-        return Some(Entry::new(table, "device", line, at));
+        return Some(Entry {
+            table,
+            key: "device",
+            value: "[",
+            whole: line,
+            at,
+        });
     }
     let (left, right) = line.split_once('=')?;
-    let key = first_word(left)?;
+    let key = without_quotes(first_word(left)?);
     let _ = first_word(right)?;
     Some(Entry::new(table, key, right, at))
+}
+
+// A key without the quotes that it may stand in.
+fn without_quotes(key: &str) -> &str {
+    for quote in &["'", "\""] {
+        if let Some(inner) = key.strip_prefix(*quote) {
+            return inner.strip_suffix(*quote).unwrap_or(key);
+        }
+    }
+    key
+}
+
+// The first part of the name of a table that a word opens; empty where it opens none.
+fn table_name(word: &str) -> &str {
+    let Some((_, inner)) = word.rsplit_once('[') else {
+        return "";
+    };
+    let (name, _) = inner.split_once(']').unwrap_or((inner, ""));
+    let (first, _) = name.split_once('.').unwrap_or((name, ""));
+    first
 }
 
 // The first word of a line, if it has one.
@@ -225,15 +251,28 @@ impl<'a> Entry<'a> {
         }
     }
 
-    // What is said of its value, if that isn't as it is to be.
-    fn said_of_value(&self) -> Option<&'static str> {
-        for key in &KEYS {
-            if key.is(self.key) && !is_taken(key.taken, self.value) {
-                return Some(key.said);
-            }
+    // Whether it opens a table that has the name of a key.
+    fn is_key_as_table(&self) -> bool {
+        self.key.is_empty()
+            && self.table == Table::Other
+            && table_of(table_name(self.value)) == Some(Table::Top)
+    }
+
+    // The key that it is of: its own, or that which a table has as its name.
+    fn name(&self) -> &'a str {
+        if self.is_key_as_table() {
+            return table_name(self.value);
         }
-        if self.value == "[device]" {
-            return Some(TABLE);
+        self.key
+    }
+
+    // What is said of its value, if that isn't as it is to be; the key is `{0}`.
+    fn bad_value(&self) -> Option<Cause<'a>> {
+        let name = self.name();
+        for key in &KEYS {
+            if key.is(name) && (self.key.is_empty() || !is_taken(key.taken, self)) {
+                return Some(Cause::of(self.at, key.said, name));
+            }
         }
         None
     }
@@ -247,24 +286,51 @@ fn is_within(value: &str, least: i64, most: i64) -> bool {
     }
 }
 
-// The text of a value in quotes, if it is one.
-fn quoted(value: &str) -> Option<&str> {
-    let inner = value.strip_prefix("\"")?;
-    let (text, _) = inner.split_once('"')?;
+// What stands between the first two of a quote in a value.
+fn between(whole: &str, quote: char) -> Option<&str> {
+    let (_, inner) = whole.split_once(quote)?;
+    let (text, _) = inner.split_once(quote)?;
     Some(text)
 }
 
-// Whether a value is as it is to be; of one in single quotes it isn't known, and taken so.
-fn is_taken(taken: Taken, value: &str) -> bool {
-    let text = match taken {
-        Taken::Number(least, most) => return is_within(value, least, most),
-        Taken::Table => return false,
-        _ => quoted(value),
-    };
+// The text of a value in quotes, if it is one.
+fn quoted<'a>(entry: &Entry<'a>) -> Option<&'a str> {
+    if entry.value.starts_with("\"") {
+        return between(entry.whole, '"');
+    }
+    if entry.value.starts_with("'") {
+        return between(entry.whole, '\'');
+    }
+    None
+}
+
+// Whether a text isn't known from its line: it has escapes, or three quotes.
+fn is_elsewhere(entry: &Entry<'_>) -> bool {
+    entry.value.starts_with("\"\"\"")
+        || entry.value.starts_with("'''")
+        || entry.whole.contains("\\")
+}
+
+// Whether a value is as it is to be; of a text that isn't known it is taken so.
+fn is_taken(taken: Taken, entry: &Entry<'_>) -> bool {
+    match taken {
+        Taken::Number(least, most) => is_within(entry.value, least, most),
+        Taken::Table => entry.value == "[]" || are_tables(entry),
+        _ => is_elsewhere(entry) || is_text_taken(taken, quoted(entry)),
+    }
+}
+
+// Whether a value is one of tables, or goes on below its line.
+fn are_tables(entry: &Entry<'_>) -> bool {
+    entry.value.starts_with("[") && (entry.whole.contains("{") || !entry.whole.contains("]"))
+}
+
+// Whether a text is as it is to be.
+fn is_text_taken(taken: Taken, text: Option<&str>) -> bool {
     match (text, taken) {
         (Some(text), Taken::Name) => is_identifier(text),
         (Some(text), _) => dotted_parts(text).is_some(),
-        _ => value.starts_with("'"),
+        _ => false,
     }
 }
 
@@ -328,7 +394,7 @@ pub fn unknown_key<'a>(alloc: Global, entries: &[Entry<'a>]) -> Result<Cause<'a>
         if !entry.key.is_empty() && !entry.is_key() {
             return unknown(alloc, entry);
         }
-        if entry.key.is_empty() && entry.table == Table::Other && entry.value != "[device]" {
+        if entry.key.is_empty() && entry.table == Table::Other && !entry.is_key_as_table() {
             let said = "unknown table {0}; devices are [[device]]";
             return Ok(Cause::of(entry.at, said, entry.value));
         }
@@ -364,9 +430,47 @@ fn missing_key(entries: &[Entry<'_>], from: usize) -> Option<&'static str> {
     None
 }
 
+// Whether a key stands in a device that is written in one line.
+fn has_key_within(device: &str, key: &str) -> bool {
+    for part in device.split(',') {
+        if key_within(part) == Some(key) {
+            return true;
+        }
+    }
+    false
+}
+
+// The first key that a device lacks that is written in one line.
+fn missing_within(device: &str) -> Option<&'static str> {
+    for key in &DEVICE_KEYS {
+        if !has_key_within(device, key) {
+            return Some(*key);
+        }
+    }
+    None
+}
+
+// The first key that one of the devices lacks that are written, and end, in a line.
+fn missing_in_line(whole: &str) -> Option<&'static str> {
+    let (ended, _) = whole.rsplit_once('}')?;
+    for device in ended.split('}') {
+        if device.contains("{") {
+            if let Some(key) = missing_within(device) {
+                return Some(key);
+            }
+        }
+    }
+    None
+}
+
 // The key that the first device lacks that lacks one.
 fn lacking<'a>(entries: &[Entry<'a>]) -> Option<Cause<'a>> {
     for (opening, entry) in entries.iter().enumerate() {
+        if entry.key == "device" {
+            if let Some(key) = missing_in_line(entry.whole) {
+                return Some(Cause::of(entry.at, "this device lacks the key {0}", key));
+            }
+        }
         if entry.key.is_empty() && entry.table == Table::Device {
             if let Some(key) = missing_key(entries, opening.saturating_add(1)) {
                 return Some(Cause::of(entry.at, "this device lacks the key {0}", key));
@@ -379,8 +483,8 @@ fn lacking<'a>(entries: &[Entry<'a>]) -> Option<Cause<'a>> {
 /// Which value isn't as it should be, or which key a device lacks.
 pub fn bad_value<'a>(entries: &[Entry<'a>]) -> Cause<'a> {
     for entry in entries {
-        if let Some(said) = entry.said_of_value() {
-            return Cause::of(entry.at, said, entry.key);
+        if let Some(cause) = entry.bad_value() {
+            return cause;
         }
     }
     if let Some(cause) = lacking(entries) {

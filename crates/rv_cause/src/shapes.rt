@@ -8,8 +8,6 @@ use std::alloc::{AllocError, Global};
 
 const PARTS: [&str; 5] = ["scalar", "function", "procedure", "entry", "handler"];
 
-const MODES: [&str; 3] = ["in", "out", "inout"];
-
 const RESERVED: [&str; 5] = ["Ada", "System", "Standard", "Host", "Interrupts"];
 
 const TAKEN: &str = "line {0} has a handler already (C.3.1)";
@@ -76,8 +74,7 @@ fn is_part(line: &Line<'_>) -> bool {
 // Whether a word is as a form has it: MODE, NAME, BARRIER, another word in capitals for a number, or the word itself.
 fn is_formed(word: &str, form: &str) -> bool {
     match form {
-        "MODE" => is_listed(&MODES, word),
-        "in" => is_listed(&MODES, word) && word != "out" && word != "inout",
+        "MODE" => word == "in" || word == "out" || word == "inout",
         "NAME" => is_identifier(word),
         "BARRIER" => !word.is_empty(),
         "LOW" | "HIGH" | "HIGH}" | "START" | "PRIORITY" | "CEILING" | "K" => is_number(word),
@@ -110,6 +107,46 @@ fn are_repeated(line: &Line<'_>, from: usize, form: &str) -> bool {
     line.count().saturating_sub(from) % 3 == 0
 }
 
+// Whether a word begins with a letter.
+fn begins_as_name(word: &str) -> bool {
+    match word.as_bytes() {
+        [first, ..] => first.is_ascii_alphabetic(),
+        [] => false,
+    }
+}
+
+// That the second word of a line, which begins as a name, is none.
+fn bad_name<'a>(line: &Line<'a>) -> Option<Cause<'a>> {
+    let word = line.word(1);
+    if line.is(0, "scalar") || is_identifier(word) || !begins_as_name(word) {
+        return None;
+    }
+    Some(line.cause(
+        1,
+        "{0} is no name: letters, digits and single underscores between them, 64 at most",
+    ))
+}
+
+// Whether a word is digits, but too many for a number.
+fn is_too_long(word: &str) -> bool {
+    for (place, byte) in word.as_bytes().iter().enumerate() {
+        if !byte.is_ascii_digit() && (*byte != b'-' || place > 0) {
+            return false;
+        }
+    }
+    word.len() > 18
+}
+
+// That a word of a line has too many digits for a number.
+fn bad_digits<'a>(line: &Line<'a>) -> Option<Cause<'a>> {
+    for word in 1..line.count() {
+        if is_too_long(line.word(word)) {
+            return Some(line.cause(word, "{0} is no number: those have 1 to 18 digits"));
+        }
+    }
+    None
+}
+
 // What stands against a line behind the first, where it stands in a protected object or not.
 fn bad_line<'a>(line: &Line<'a>, is_inside: bool) -> Option<Cause<'a>> {
     let Some(form) = said_of(&FORMS, line.word(0)) else {
@@ -120,6 +157,12 @@ fn bad_line<'a>(line: &Line<'a>, is_inside: bool) -> Option<Cause<'a>> {
     }
     if fits(line, form) {
         return None;
+    }
+    if let Some(cause) = bad_name(line) {
+        return Some(cause);
+    }
+    if let Some(cause) = bad_digits(line) {
+        return Some(cause);
     }
     Some(Cause::of(line.at(0), "this line has to be: {0}", form))
 }
@@ -230,6 +273,7 @@ fn is_before(lines: &[Line<'_>], line: &Line<'_>) -> bool {
         if is_part(before) == is_part(line)
             && is_same_name(before.word(1), line.word(1))
             && !before.is(0, "scalar")
+            && !before.is(0, "unit")
         {
             is_found = true;
         }
@@ -420,6 +464,15 @@ impl Object {
     }
 }
 
+// The number of the word that the fifth parameter of an operation begins with.
+fn fifth_parameter(line: &Line<'_>) -> usize {
+    match line.word(0) {
+        "procedure" => 14,
+        "entry" => 15,
+        _ => 16,
+    }
+}
+
 /// What there is too much of.
 pub fn too_many<'a>(lines: &[Line<'a>]) -> Cause<'a> {
     let mut object = Object::nothing();
@@ -430,8 +483,14 @@ pub fn too_many<'a>(lines: &[Line<'a>]) -> Cause<'a> {
                 "{0} is a second entry of its object; one is the most (D.7)",
             );
         }
+        if line.count() > 16 {
+            return line.cause(
+                fifth_parameter(line),
+                "a fifth parameter begins here; an operation has 4 at most",
+            );
+        }
         object = object.with(line);
-        if object.scalars > 32 || object.operations > 16 || line.count() > 16 {
+        if object.scalars > 32 || object.operations > 16 {
             return line.cause(
                 0,
                 "this line is one too many: see the limits in docs/SCRIPTS.md",

@@ -115,7 +115,8 @@ fn taking<'a>(line: &Line<'a>, said: &'static str) -> Cause<'a> {
     if is_change && !is_same_name(line.word(0), "operator") {
         return line.cause(0, "{0} can't change the list; the operator does");
     }
-    let is_behind = said == NUMBERED && is_number(line.word(2));
+    let is_more = line.is(1, "replace") || line.has(3) && !line.is(1, "append");
+    let is_behind = is_more && is_number(line.word(2));
     let at = line.at(if is_behind { 3 } else { 2 });
     Cause::of(at, said, line.word(1))
 }

@@ -7,6 +7,7 @@ use crate::known::{Group, Known, near_among};
 use crate::library;
 use crate::names::is_body;
 use crate::words::Words;
+use rv_text::is_same_name;
 use std::alloc::{AllocError, Global};
 
 // What is said of an attribute, and of a body that has no declaration.
@@ -155,11 +156,18 @@ fn in_context<'a>(
     let word = words.word(0);
     let at = words.place(0);
     if words.is(1, ".") {
-        let said = "this host has no library package {0}.{1} (10.1.2)";
-        return Ok(Cause::new(at, said, [word, words.word(2), ""]));
+        let said = "this host has no library package {0}{1}{2}{3}{4} (10.1.2)";
+        return Ok(Cause::full(at, said, words.name()));
+    }
+    let own = words.package();
+    if is_same_name(own, word) {
+        return Ok(words.cause(0, "{0} is this package itself; with takes others (10.1.2)"));
     }
     match known.near(alloc, word, Group::Units)? {
-        "" => Ok(words.cause(0, "no unit {0} is loaded before this one (10.1.2)")),
+        near if near.is_empty() || is_same_name(near, own) => Ok(words.cause(
+            0,
+            "no unit {0} is loaded before this one (10.1.2)",
+        )),
         near => Ok(Cause::new(at, "no unit {0} is loaded here; {1} is", [word, near, ""])),
     }
 }

@@ -1,6 +1,7 @@
 //! The words of a unit text around a place.
 
 use crate::cause::Cause;
+use rv_lex::kind::Kind;
 use rv_lex::token::Token;
 use rv_text::{is_identifier, is_same_name};
 
@@ -104,6 +105,43 @@ impl<'t, 'a> Words<'t, 'a> {
             }
         }
         0
+    }
+
+    // The word that stands so many behind, where that is at most the last.
+    fn up_to(&self, last: usize, count: usize) -> &'a str {
+        if count <= last { self.word(count) } else { "" }
+    }
+
+    /// The words of the name that begins here, points among them, of three parts at most; what is left is empty.
+    pub fn name(&self) -> [&'a str; 6] {
+        let last = self.last_part();
+        [
+            self.word(0),
+            self.up_to(last, 1),
+            self.up_to(last, 2),
+            self.up_to(last, 3),
+            self.up_to(last, 4),
+            "",
+        ]
+    }
+
+    /// Whether a reserved word stands here.
+    pub fn is_reserved(&self) -> bool {
+        match self.tokens.get(self.here) {
+            Some(token) => token.kind != Kind::Identifier && is_identifier(token.text),
+            None => false,
+        }
+    }
+
+    /// The name of the text's package; empty where there is none.
+    pub fn package(&self) -> &'a str {
+        for here in 0..self.tokens.len() {
+            let words = Words::from(self.tokens, here);
+            if words.was(1, "package") {
+                return words.word(0);
+            }
+        }
+        ""
     }
 
     /// Whether so many words behind, from 0, stands this one.

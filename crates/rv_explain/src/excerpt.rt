@@ -1,6 +1,7 @@
 //! A line of a script with a caret under a place, as compilers show it.
 
 use crate::spot::Spot;
+use rv_cause::cause::shown;
 use std::fmt;
 
 // How many characters of a line are shown before the place, and from it on.
@@ -34,15 +35,6 @@ fn put_blanks<W: fmt::Write>(f: &mut fmt::Formatter<W>, count: usize) -> fmt::Re
         f.write_str(" ")?;
     }
     Ok(())
-}
-
-// A character as it is shown: none but a tab may move what stands behind it.
-fn shown(character: char) -> char {
-    let code = character as u32;
-    if code == 9 || code >= 32 && code != 127 && !(code >= 128 && code < 160) {
-        return character;
-    }
-    '?'
 }
 
 impl<'a> Excerpt<'a> {

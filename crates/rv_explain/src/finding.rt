@@ -125,7 +125,7 @@ fn cause_of_line<'a>(
     what: What,
 ) -> Result<Cause<'a>, AllocError> {
     match what {
-        What::BadSection => sections::bad_section(alloc, text),
+        What::BadSection => sections::bad_section(alloc, text, opening_before(script, line)),
         What::UnknownName => Ok(Cause::plain(0, UNKNOWN_IN_A_DEVICE)),
         What::TooLong => Ok(Cause::plain(0, TOO_LONG)),
         _ => cause_of_step(alloc, script, line, text),

@@ -83,7 +83,7 @@ fn said_of_restriction(restriction: Restriction) -> &'static str {
         Restriction::MaxTaskEntries => "{1} is an entry of a task; tasks have none (D.7)",
         Restriction::SimpleBarriers => restrictions::BARRIER,
         Restriction::NoDynamicPriorities => restrictions::PRIORITY,
-        Restriction::NoDependence => restrictions::LIBRARY_UNIT,
+        Restriction::NoDependence => "this can't be used in the profile Ravenscar (D.13)",
     }
 }
 
@@ -96,6 +96,7 @@ fn of_restriction<'a>(seen: &Seen<'_, 'a, '_>, restriction: Restriction) -> Caus
         Restriction::NoDynamicPriorities => {
             restrictions::dynamic_priority(&seen.words, &seen.around)
         }
+        Restriction::NoDependence => restrictions::library_unit(&seen.words, &seen.around),
         _ => told(&seen.words, &seen.around, said_of_restriction(restriction)),
     }
 }
