@@ -533,12 +533,12 @@ def come(program):
             expect(f"{line!r} with {words}", run.ask(line), "bad command")
         run.end()
         for what, before, rest in (("no UTF-8 in a unit text", script, b"load\npackage A is\n\xff\n"),
-                                   ("past the greatest length", padded, 7_000_000 * b"x"),
-                                   ("past it behind load", padded, b"load\n" + 7_000_000 * b"x")):
+                                   ("past the greatest length", padded, b"x" * (16_777_217 - len(padded))),
+                                   ("past it behind load", padded, b"load\n" + b"x" * (16_777_212 - len(padded)))):
             run = Run(program, before, words)
             run.process.stdin.write(rest)
             run.process.stdin.flush()
-            expect(f"{what} with {words}", run.line(), "entries 1\n")
+            expect(f"{what} with {words}", run.line(), "entries 2\n")
             expect(f"the status of {what} with {words}", run.end("")[1:], ("", 0))
 
 
