@@ -112,12 +112,14 @@ errors = collections.defaultdict(set)
 for line in open(sys.argv[1]):
     file, number = line.rstrip("\n").rsplit(":", 1)
     errors[os.path.basename(file)[:-len(".raven")]].add(int(number))
-# Faults of a line's own words, but where a number is the fault, a word of the console, or a section that another command serves.
+# Faults of a line's own words, but where a number is the fault, a word of the console, a section that another command serves, or
+# nothing that an editor shows.
 told = ("BadStep", "BadSection", "list BadWord", "list BadName", "lex BadCharacter", "lex NotAscii")
 not_told = {"go_zero_times", "go_below_zero_times", "step_calls_with_5_values", "step_operator_without_request",
             "step_raises_with_a_letter_past_ascii", "step_without_request", "list_name_ends_in_underscore", "cause_command_journal",
-            "cause_command_raise", "cause_load_of_a_section", "cause_step_33_components", "cause_step_alone", "cause_step_go",
-            "cause_step_values_5", "whole_load_without_end", "cause_command_unknown", "whole_bad_command"}
+            "cause_command_raise", "cause_command_blank", "cause_mark_before_a_section", "cause_load_of_a_section",
+            "cause_step_33_components", "cause_step_alone", "cause_step_go", "cause_step_values_5", "whole_load_without_end",
+            "cause_command_unknown", "whole_bad_command"}
 served = {b"@unit", b"@shape", b"@list", b"@steps", b"@run", b"@journal", b"@host.toml"}
 count, wrong = collections.Counter(), 0
 for file in sorted(os.listdir(data)):
