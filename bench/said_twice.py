@@ -46,7 +46,6 @@ KEPT = (
     ("rv_outline/src/draft.rt", "rv_shape/src/object.rt", 1, "fields and a model"),
     ("rv_accounts/src/lib.rt", "rv_meant/src/lib.rt", 4, "laws, each a function that does nothing"),
     ("embedding/src/main.rt", "ravenhost/src/main.rt", 1, "an example stands alone"),
-    ("thread_rows/src/crews/crowd.rt", "", 1, "texts of a test"),
 )
 
 
