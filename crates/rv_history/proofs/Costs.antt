@@ -18,8 +18,7 @@ use Rattle.rv_history.specs.Legal.{Legal}
 use Rattle.rv_history.specs.Owed.{IsSolvent, actors, dues, each, halt_due, has_room, is_paid, owed, room, surcharge, unfinished}
 use Rattle.rv_history.proofs.Answered.{off, and_true}
 use Rattle.rv_history.proofs.Ends.{end_never_full, settle_never_full}
-use Rattle.rv_history.proofs.Loaded.{left_stays, way_stays}
-use Rattle.rv_history.proofs.Naming.{tasks_append}
+use Rattle.rv_history.proofs.Loaded.{left_stays, tasks_append, way_stays}
 use Rattle.rv_history.proofs.NeverFull.{never_due}
 use Rattle.rv_history.proofs.Pays.{Pays, fit_parts, out_due, pays_halt, quit_never_full, resume_never_full}
 use Rattle.rv_history.proofs.Room.{from_room, to_room}

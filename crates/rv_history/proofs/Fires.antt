@@ -25,7 +25,7 @@ use Rattle.rv_history.specs.Owed.{actors, has_room}
 use Rattle.rv_history.specs.Rules.{Aim, aim, aim_at, breaks, granted, holds_any}
 use Rattle.rv_history.specs.Subject.{active, base_of, home, subject, subject_of}
 use Rattle.rv_history.proofs.Answered.{off, both, and_false}
-use Rattle.rv_history.proofs.Exactly.{exactly, nowhere_else}
+use Rattle.rv_history.proofs.Exactly.{allowed_recorded, nowhere_else, started_allowed}
 use Rattle.rv_history.proofs.Handled.{handler_enters, handler_is}
 use Rattle.rv_history.proofs.Modes.{fires_at}
 use Rattle.rv_history.proofs.Orderly.{idle_none}
@@ -167,7 +167,8 @@ allowed_from h a line is m =
     lawful j Ceiling = ap (λ p. nat_lt m.site.object.ceiling p) j.priority ∙ m.low
     lawful j other = refl
 
-pub fires_exactly : (h : History) (a line : ℕ) → who h.shapes a ≡ Line line → has_room h.limits.capacity h.shapes (Asked a Fire Started ∷ h.past) ≡ true → (recorded (out h a Fire) ≡ Some Started) ↔ MayFire h a line
-fires_exactly h a line is room =
-    let both_ways = exactly h a Fire room in
-    (λ e. attached_at h a line is (both_ways.0 e), λ m. both_ways.1 (allowed_from h a line is m))
+pub fired_may : (h : History) (a line : ℕ) → who h.shapes a ≡ Line line → recorded (out h a Fire) ≡ Some Started → MayFire h a line
+fired_may h a line is e = attached_at h a line is (started_allowed h a Fire e)
+
+pub may_fires : (h : History) (a line : ℕ) → who h.shapes a ≡ Line line → has_room h.limits.capacity h.shapes (Asked a Fire Started ∷ h.past) ≡ true → MayFire h a line → recorded (out h a Fire) ≡ Some Started
+may_fires h a line is room m = allowed_recorded h a Fire room (allowed_from h a line is m)

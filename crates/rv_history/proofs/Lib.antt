@@ -7,6 +7,7 @@ pub mod Sums
 pub mod Arrays
 pub mod Modes
 -- Starts and refusals
+pub mod Violations
 pub mod Tells
 pub mod Exactly
 pub mod Fires
@@ -57,3 +58,6 @@ pub mod Said
 pub mod Few
 pub mod Told
 pub mod Lines
+-- The headline at each entry, and what never fits, is due or lets anybody in
+pub mod Headlined
+pub mod Entering

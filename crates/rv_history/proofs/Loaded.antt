@@ -1,12 +1,12 @@
 -- What was under way on a legal history, and the scalars of what there was, stay when more shapes are loaded.
-use Rattle.std.proofs.Common.{◌≡◌, ℕ, ◌-◌, List, [], ◌∷◌, ◌++◌, Some, None, Option, Bool, true, false, arith, ap, sym, ◌∙◌, refl, append_assoc}
-use Rattle.std.specs.Prelude.{◌==◌, not, slice_get, if◌then◌else◌}
+use Rattle.std.proofs.Common.{◌≡◌, ℕ, zero, suc, ◌-◌, ◌<◌, ◌≤◌, length, List, [], ◌∷◌, ◌++◌, Some, None, Option, Bool, true, false, arith, ap, sym, ◌∙◌, refl, append_assoc}
+use Rattle.std.specs.Prelude.{◌==◌, nat_lt, not, slice_get, if◌then◌else◌}
 use Rattle.std.specs.List.{filter}
 use Rattle.std.proofs.lemmas.Bool.Decides.{nat_tests}
 use Rattle.rv_access.specs.Words.{Words}
 use Rattle.rv_shape.specs.Shape.{Shape}
 use Rattle.rv_event.specs.Recorded.{recorded}
-use Rattle.rv_shape.specs.Catalogue.{OperationNumber, UnitObject, Site, Nowhere, OnProtected, place, target, at_unit_object, starts_at, shares, handler}
+use Rattle.rv_shape.specs.Catalogue.{OperationNumber, UnitObject, Site, Operator, Line, Nowhere, OnProtected, all_tasks, place, target, task_of, tasks_of, at_unit_object, starts_at, shares, handler, who}
 use Rattle.rv_event.specs.Past.{started, ended, closed, without, begun, fired, under_way, innermost, first_by, left_by, unsettled, writes, scalars, scalars_after}
 use Rattle.rv_shape.proofs.Stay.{handler_stays, object_stays, target_stays}
 use Rattle.rv_event.specs.declared.entry.Entry.{Entry}
@@ -21,6 +21,7 @@ use Rattle.rv_history.specs.History.{History}
 use Rattle.rv_history.specs.Rules.{aim_at, is_protected}
 use Rattle.rv_history.specs.Due.{out}
 use Rattle.rv_history.specs.Legal.{IsLegal, Legal}
+use Rattle.rv_history.specs.Owed.{actors}
 use Rattle.rv_history.proofs.Answered.{off}
 use Rattle.rv_history.proofs.Exactly.{started_allowed, nowhere_else}
 
@@ -144,3 +145,26 @@ scalars_stay h more o p l at =
     let none : h.shapes ++ [] ≡ h.shapes = append_none h.shapes in
     same_scalars h.limits h.past h.shapes more [] h.lists o l (object_stays h.shapes more o p at ∙ sym (ap (λ ss. place ss o) none ∙ at))
     ∙ ap (λ (ss : List Shape). scalars ss o h.past) none
+
+-- each actor that there is stays who it is
+
+pub tasks_append : (old more : List Shape) → all_tasks (old ++ more) ≡ all_tasks old ++ all_tasks more
+tasks_append [] more = refl
+tasks_append (s ∷ old) more = ap (λ ts. tasks_of s ++ ts) (tasks_append old more) ∙ sym (append_assoc (tasks_of s) (all_tasks old) (all_tasks more))
+
+get_front : {X : Type 0} (xs ys : List X) (n : ℕ) → n < length xs → slice_get (xs ++ ys) n ≡ slice_get xs n
+get_front [] ys n lt = absurd (omega (arith, lt))
+get_front (x ∷ xs) ys zero lt = refl
+get_front (x ∷ xs) ys (suc n) lt = get_front xs ys n (omega (arith, lt))
+
+pub who_stays : (old more : List Shape) (a : ℕ) → a < actors old → who (old ++ more) a ≡ who old a
+who_stays old more a lt = by_tests (a == 0) (nat_lt a 11) refl
+  where
+    by_tests : (b c : Bool) → nat_lt a 11 ≡ c →
+        (if b then Operator else (if c then Line (a - 1) else task_of (slice_get (all_tasks (old ++ more)) (a - 11))))
+        ≡ (if b then Operator else (if c then Line (a - 1) else task_of (slice_get (all_tasks old) (a - 11))))
+    by_tests true c e = refl
+    by_tests false true e = refl
+    by_tests false false e =
+        let from_11 : 11 ≤ a = grind (arith, nat_tests) in
+        ap task_of (ap (λ ts. slice_get ts (a - 11)) (tasks_append old more) ∙ get_front (all_tasks old) (all_tasks more) (a - 11) (omega (arith, lt, from_11)))

@@ -35,7 +35,7 @@ use Rattle.rv_history.proofs.Ending.{head_waits, names_at}
 use Rattle.rv_history.proofs.Loaded.{left_stays, way_stays}
 use Rattle.rv_history.proofs.Modes.{ends_at, free_in, settler_free}
 use Rattle.rv_history.proofs.Stances.{below, first_actor, is_other, is_waiting, itself, left_is, queued_actor, same_number}
-use Rattle.rv_history.proofs.Waits.{Waits, AllWait, more_tasks, more_wait, new_wait, others_stay, silent}
+use Rattle.rv_history.proofs.Waits.{Waits, AllWait, low_stays, more_tasks, more_wait, new_wait, others_stay, silent}
 
 -- What holds of a body that left its object unsettled.
 pub record HasLeft (shapes : List Shape) (past : List Entry) (body : Body) : Type 0 where
@@ -245,7 +245,7 @@ legal_standing c (Load ∷ past) shapes lists l =
     each_map (HasLeft l.0 past) (HasLeft more (Load ∷ past)) (unsettled l.0 past) (λ b v. record { at = v.at; known = omega (arith, v.known, more_tasks l.0 l.1) }) k.left in
     let now : Standing more (Load ∷ past) = record {
       wait = more_wait l.0 more past Load (waiting past)
-          (λ b v. record { at = v.at; task = v.task; known = omega (arith, v.known, more_tasks l.0 l.1); last = v.last; none = ap (λ bs. filter (λ c. c.actor == b.actor) bs) ways ∙ v.none }) k.wait;
+          (λ b v. record { at = v.at; task = v.task; known = omega (arith, v.known, more_tasks l.0 l.1); last = v.last; none = ap (λ bs. filter (λ c. c.actor == b.actor) bs) ways ∙ v.none; low = low_stays l.0 (l.1 ∷ []) b v.known v.low }) k.wait;
       once = k.once;
       left = subst (Each (HasLeft more (Load ∷ past))) (sym (left_stays c past l.0 (l.1 ∷ []) lists l.3)) left;
     } in
@@ -253,7 +253,7 @@ legal_standing c (Load ∷ past) shapes lists l =
 legal_standing c (ListChange ∷ past) shapes lists l =
     let k : Standing shapes past = legal_standing c past shapes l.0 l.3 in
     record {
-      wait = more_wait shapes shapes past ListChange (waiting past) (λ b v. record { at = v.at; task = v.task; known = v.known; last = v.last; none = v.none }) k.wait;
+      wait = more_wait shapes shapes past ListChange (waiting past) (λ b v. record { at = v.at; task = v.task; known = v.known; last = v.last; none = v.none; low = v.low }) k.wait;
       once = k.once;
       left = each_map (HasLeft shapes past) (HasLeft shapes (ListChange ∷ past)) (unsettled shapes past) (λ b v. record { at = v.at; known = v.known }) k.left;
     }

@@ -1,10 +1,10 @@
 -- What an answer of the table tells of the request that got it: which requests get it at all, and what was so of the history.
 use Rattle.std.proofs.Common.{◌≡◌, ◌⊎◌, inl, inr, ℕ, ◌-◌, List, Some, None, Option, Bool, true, false, ap, subst, sym, ◌∙◌, refl}
-use Rattle.std.specs.Prelude.{ℤ, ◌&&◌, not, if◌then◌else◌, int_le, pos}
+use Rattle.std.specs.Prelude.{ℤ, ◌&&◌, not, if◌then◌else◌, int_le, is_some, pos}
 use Rattle.rv_shape.specs.Catalogue.{OperationNumber, Site, Target, Nowhere, OnProtected, OnSuspension, target, handler, is_function}
 use Rattle.rv_shape.specs.declared.suspension.SuspensionOperation.{SuspensionOperation}
 use Rattle.rv_shape.specs.declared.suspension.SuspensionOperation.TheVariants.{SetTrue, SetFalse, CurrentState, SuspendUntilTrue}
-use Rattle.rv_event.specs.Past.{clock, halted, innermost, released, scalars, stance, state, to_settle, until_then}
+use Rattle.rv_event.specs.Past.{clock, halted, innermost, released, scalars, stance, state, to_settle, until_then, waiter}
 use Rattle.rv_event.specs.Recorded.{recorded}
 use Rattle.rv_event.specs.declared.entry.Answer.{Answer}
 use Rattle.rv_event.specs.declared.entry.Answer.TheVariants as Answers
@@ -17,64 +17,96 @@ use Rattle.rv_event.specs.declared.entry.Rule.{Rule}
 use Rattle.rv_event.specs.declared.entry.Rule.TheVariants as Rules
 use Rattle.rv_event.specs.declared.entry.Stance.{Stance}
 use Rattle.rv_event.specs.declared.entry.Stance.TheVariants.{InQueue, HandedOver, DroppedBy, WaitsOn, WaitsUntil}
-use Rattle.rv_history.specs.Due.{due, due_call, due_delay, due_end, due_fire, due_resume, due_settle, end_of, enough, gate, goes_on, judged, or_waiting, out, performed, scalars_held, table, within}
+use Rattle.rv_history.specs.Due.{delayed, due, due_call, due_end, due_fire, due_resume, due_settle, end_of, enough, gate, goes_on, judged, let_in, or_waiting, out, performed, scalars_held, table, within}
 use Rattle.rv_history.specs.Exclusion.{excluded, full_queue, is_barred, is_open}
 use Rattle.rv_history.specs.Fitting.{fits}
 use Rattle.rv_history.specs.HandOver.{serves}
 use Rattle.rv_history.specs.History.{History, changes, version}
-use Rattle.rv_history.specs.Rules.{aim, aim_at, breaks, decided, holds_any, is_call}
+use Rattle.rv_history.specs.Rules.{aim, aim_at, breaks, decided, first_at, is_call, is_taken, rules}
 use Rattle.rv_history.specs.Subject.{subject}
-use Rattle.rv_history.proofs.Answered.{off, and_none, answered, word_is}
+use Rattle.rv_history.proofs.Answered.{off, and_false, and_none, answered, both, word_is}
 use Rattle.rv_history.proofs.Handled.{handler_enters, handler_is}
+use Rattle.rv_history.proofs.Violations.{each_refused, is_found, none_found, not_taken}
 
 -- Answers to calls
 
--- what is known where a body starts
-pub record Tests (denied blocking reentry above busy barred : Bool) : Type 0 where
-  pub grant : denied ≡ false
+-- what is known where a call is queued
+pub record Queues (blocking above busy barred full : Bool) : Type 0 where
   pub calm : blocking ≡ false
-  pub new : reentry ≡ false
   pub low : above ≡ false
-  pub free : busy ≡ false
-  pub opened : barred ≡ false
-
--- and where a call is queued
-pub record Queues (blocking busy barred full : Bool) : Type 0 where
-  pub calm : blocking ≡ false
   pub free : busy ≡ false
   pub shut : barred ≡ true
   pub short : full ≡ false
 
--- what is known where a rule is named, which isn't that of a waiter
+-- what is known where a call of a protected operation violates a rule, which isn't that of a waiter
 abbrev pub Behind : Bool → Bool → Rule → Type 0
 Behind blocking barred Rules.Blocking = blocking ≡ true
 Behind blocking barred Rules.Queue = barred ≡ true
 Behind blocking barred Rules.Waiter = ⊥
 Behind blocking barred rule = Unit {0}
 
--- what is so of the answers to a call of a protected operation
-pub each_judged : (P : Answer → Type 0) (number line : ℕ) (values : List ℤ) (denied blocking reentry above busy barred full : Bool) → ((rule : Rule) (k : ℕ) → Behind blocking barred rule → P (Answers.Refused rule k number)) → P Answers.Busy
-    → (Queues blocking busy barred full → P Answers.Queued) → (Tests denied blocking reentry above busy barred → P (Answers.Started values)) → P (judged number line values denied blocking reentry above busy barred full)
-each_judged P n l vs true b r a y c f refused busy queued started = refused Rules.Grant l tt
-each_judged P n l vs false true r a y c f refused busy queued started = refused Rules.Blocking 0 refl
-each_judged P n l vs false false true a y c f refused busy queued started = refused Rules.Reentry 0 tt
-each_judged P n l vs false false false true y c f refused busy queued started = refused Rules.Ceiling 0 tt
-each_judged P n l vs false false false false true c f refused busy queued started = busy
-each_judged P n l vs false false false false false true true refused busy queued started = refused Rules.Queue 0 refl
-each_judged P n l vs false false false false false true false refused busy queued started = queued (record { calm = refl; free = refl; shut = refl; short = refl })
-each_judged P n l vs false false false false false false f refused busy queued started = started (record { grant = refl; calm = refl; new = refl; low = refl; free = refl; opened = refl })
+behind : (h : History) (a : ℕ) (r : Request) (o : ℕ) (s : Site) (rule : Rule) → breaks h rule a r o (OnProtected s) ≡ true → Behind (breaks h Rules.Blocking a r o (OnProtected s)) (is_barred h o s.operation.kind) rule
+behind h a r o s Rules.Blocking e = e
+behind h a r o s Rules.Queue e =
+    let barred : Bool = is_barred h o s.operation.kind in
+    (both (is_call r) barred (both (is_call r && barred) (not (is_taken h o)) (both ((is_call r && barred) && not (is_taken h o)) (full_queue h o) e).0).0).1
+behind h a r o s Rules.Waiter e = absurd (off (sym (and_none (is_call r && false) (is_some (waiter o h.past)) (and_false (is_call r))) ∙ e))
+behind h a r o s Rules.Grant e = tt
+behind h a r o s Rules.Reentry e = tt
+behind h a r o s Rules.Ceiling e = tt
 
--- and of an operation of a suspension object
-pub each_performed : (P : Answer → Type 0) (number : ℕ) (blocking waited now : Bool) (wanted : SuspensionOperation) → ((rule : Rule) → P (Answers.Refused rule 0 number)) → P (Answers.Accepted (pos 0)) → P (Answers.Accepted (pos 1))
-    → (waited ≡ false → wanted ≡ SuspendUntilTrue → P Answers.Suspended) → P (performed number blocking waited now wanted)
-each_performed P n b w s SetTrue refused none one suspended = none
-each_performed P n b w s SetFalse refused none one suspended = none
-each_performed P n b w true CurrentState refused none one suspended = one
-each_performed P n b w false CurrentState refused none one suspended = none
-each_performed P n true w s SuspendUntilTrue refused none one suspended = refused Rules.Blocking
-each_performed P n false true s SuspendUntilTrue refused none one suspended = refused Rules.Waiter
-each_performed P n false false true SuspendUntilTrue refused none one suspended = none
-each_performed P n false false false SuspendUntilTrue refused none one suspended = suspended refl refl
+-- a call of a protected operation violates no rule
+abbrev pub Lawful : History → ℕ → Request → ℕ → Site → Type 0
+Lawful h a r o s = (rule : Rule) → breaks h rule a r o (OnProtected s) ≡ false
+
+-- what is known where a body starts
+pub record Starts (h : History) (a : ℕ) (r : Request) (o : ℕ) (s : Site) : Type 0 where
+  pub lawful : Lawful h a r o s
+  pub free : excluded h o (is_function s.operation.kind) ≡ false
+  pub opened : is_barred h o s.operation.kind ≡ false
+
+-- a lawful call that finds the barrier closed finds room in the queue
+short_queue : (h : History) (a : ℕ) (r : Request) (o : ℕ) (s : Site) → Lawful h a r o s → is_call r ≡ true → is_barred h o s.operation.kind ≡ true → is_taken h o ≡ false → full_queue h o ≡ false
+short_queue h a r o s lawful call shut free =
+    sym (λ i. ((call i && shut i) && not (free i)) && full_queue h o) ∙ lawful Rules.Queue
+
+-- what is so of the answer to a lawful one
+each_let_in : (P : Answer → Type 0) (h : History) (a : ℕ) (r : Request) (o : ℕ) (s : Site) → (is_barred h o s.operation.kind ≡ true → is_call r ≡ true) → Lawful h a r o s → P Answers.Busy
+    → (Queues (breaks h Rules.Blocking a r o (OnProtected s)) (breaks h Rules.Ceiling a r o (OnProtected s)) (excluded h o (is_function s.operation.kind)) (is_barred h o s.operation.kind) (full_queue h o) → P Answers.Queued)
+    → (Starts h a r o s → P (Answers.Started (scalars h.shapes o h.past))) → P (let_in h o s)
+each_let_in P h a r o s calls lawful busy queued started = by_tests (excluded h o (is_function s.operation.kind)) (is_barred h o s.operation.kind) refl refl
+  where
+    by_tests : (b c : Bool) → excluded h o (is_function s.operation.kind) ≡ b → is_barred h o s.operation.kind ≡ c → P (if b then Answers.Busy else (if c then Answers.Queued else Answers.Started (scalars h.shapes o h.past)))
+    by_tests true c free shut = busy
+    by_tests false true free shut = queued (record {
+      calm = lawful Rules.Blocking;
+      low = lawful Rules.Ceiling;
+      free = free;
+      shut = shut;
+      short = short_queue h a r o s lawful (calls shut) shut (not_taken h o s.operation.kind shut free);
+    })
+    by_tests false false free shut = started (record { lawful = lawful; free = free; opened = shut })
+
+-- what is so of the answers to a call of a protected operation
+pub each_call : (P : Answer → Type 0) (h : History) (a : ℕ) (r : Request) (o : ℕ) (s : Site) → (is_barred h o s.operation.kind ≡ true → is_call r ≡ true)
+    → ((rule : Rule) (k : ℕ) → Behind (breaks h Rules.Blocking a r o (OnProtected s)) (is_barred h o s.operation.kind) rule → P (Answers.Refused rule k (version h))) → P Answers.Busy
+    → (Queues (breaks h Rules.Blocking a r o (OnProtected s)) (breaks h Rules.Ceiling a r o (OnProtected s)) (excluded h o (is_function s.operation.kind)) (is_barred h o s.operation.kind) (full_queue h o) → P Answers.Queued)
+    → (Starts h a r o s → P (Answers.Started (scalars h.shapes o h.past))) → P (due_call h a r o (OnProtected s))
+each_call P h a r o s calls refused busy queued started =
+    let broken : Rule → Bool = λ rule. breaks h rule a r o (OnProtected s) in
+    each_refused P (version h) (decided h (subject h a) (OnProtected s)) (first_at h a r o (OnProtected s)) (let_in h o s)
+    (λ rule k is. refused rule k (behind h a r o s rule (is_found broken rules rule is)))
+    (λ none. each_let_in P h a r o s calls (none_found broken none) busy queued started)
+
+-- and to one of an operation of a suspension object that no rule refuses
+pub each_performed : (P : Answer → Type 0) (now : Bool) (wanted : SuspensionOperation) → P (Answers.Accepted (pos 0)) → P (Answers.Accepted (pos 1))
+    → (wanted ≡ SuspendUntilTrue → P Answers.Suspended) → P (performed now wanted)
+each_performed P s SetTrue none one suspended = none
+each_performed P s SetFalse none one suspended = none
+each_performed P true CurrentState none one suspended = one
+each_performed P false CurrentState none one suspended = none
+each_performed P true SuspendUntilTrue none one suspended = none
+each_performed P false SuspendUntilTrue none one suspended = suspended refl
 
 -- and to the resume of one that isn't ready
 pub each_halted : (P : Answer → Type 0) (h : History) → P Answers.Halted → P Answers.Waiting → P (or_waiting h false)
@@ -91,14 +123,13 @@ each_waiting P h false woken halt waiting = each_halted P h halt waiting
 
 -- What each answer tells
 
--- an operation of a protected object was called, or a line fired, and it passed the tests; the object's scalars are given
+-- an operation of a protected object was called, or a line fired, lawfully and let in; the object's scalars are given
 pub record StartTells (h : History) (a : ℕ) (r : Request) (values : List ℤ) : Type 0 where
   pub object : ℕ
   pub site : Site
   pub aimed : aim h.shapes a r ≡ (object, OnProtected site)
   pub outward : goes_on r ≡ false
-  pub passed : Tests (breaks h Rules.Grant a r object (OnProtected site)) (breaks h Rules.Blocking a r object (OnProtected site)) (breaks h Rules.Reentry a r object (OnProtected site)) (breaks h Rules.Ceiling a r object (OnProtected site))
-      (excluded h object (is_function site.operation.kind)) (is_barred h object site.operation.kind)
+  pub passed : Starts h a r object site
   pub given : values ≡ scalars h.shapes object h.past
 
 -- one was called and its barrier is closed
@@ -107,7 +138,7 @@ pub record QueueTells (h : History) (a : ℕ) (r : Request) : Type 0 where
   pub site : Site
   pub aimed : aim h.shapes a r ≡ (object, OnProtected site)
   pub call : is_call r ≡ true
-  pub passed : Queues (breaks h Rules.Blocking a r object (OnProtected site)) (excluded h object (is_function site.operation.kind)) (is_barred h object site.operation.kind) (full_queue h object)
+  pub passed : Queues (breaks h Rules.Blocking a r object (OnProtected site)) (breaks h Rules.Ceiling a r object (OnProtected site)) (excluded h object (is_function site.operation.kind)) (is_barred h object site.operation.kind) (full_queue h object)
 
 -- Suspend_Until_True was called where nobody waits
 pub record SuspensionTells (h : History) (a : ℕ) (r : Request) : Type 0 where
@@ -173,15 +204,15 @@ refusal_tells h a r line number e = e
 
 protected_tells : (h : History) (a : ℕ) (r : Request) (o : ℕ) (s : Site) → aim h.shapes a r ≡ (o, OnProtected s) → goes_on r ≡ false → (is_barred h o s.operation.kind ≡ true → is_call r ≡ true) → Tells h a r (due_call h a r o (OnProtected s))
 protected_tells h a r o s at outward calls =
-    each_judged (Tells h a r) (version h) (decided h (subject h a) (OnProtected s)) (scalars h.shapes o h.past)
-    (breaks h Rules.Grant a r o (OnProtected s)) (breaks h Rules.Blocking a r o (OnProtected s)) (breaks h Rules.Reentry a r o (OnProtected s)) (breaks h Rules.Ceiling a r o (OnProtected s))
-    (excluded h o (is_function s.operation.kind)) (is_barred h o s.operation.kind) (full_queue h o)
+    each_call (Tells h a r) h a r o s calls
     (λ rule k behind. refusal_tells h a r k (version h) outward) outward
     (λ t. record { object = o; site = s; aimed = at; call = calls t.shut; passed = t })
     (λ t. record { object = o; site = s; aimed = at; outward = outward; passed = t; given = refl })
 
 suspension_tells : (h : History) (a o p : ℕ) (vs : List ℤ) (unit name : List ℕ) (wanted : SuspensionOperation) → target h.shapes o p ≡ OnSuspension unit name wanted → Tells h a (Call o p vs) (due_call h a (Call o p vs) o (OnSuspension unit name wanted))
-suspension_tells h a o p vs unit name wanted at = by_grant (breaks h Rules.Grant a r o t)
+suspension_tells h a o p vs unit name wanted at =
+    each_refused (Tells h a r) (version h) (decided h (subject h a) t) (first_at h a r o t) (performed (state o h.past) wanted) (λ rule k is. refl)
+    (λ none. each_performed (Tells h a r) (state o h.past) wanted (refl, inl refl) (refl, inr (inl refl)) (waits (none_found (λ rule. breaks h rule a r o t) none Rules.Waiter)))
   where
     r : Request
     r = Call o p vs
@@ -198,11 +229,6 @@ suspension_tells h a o p vs unit name wanted at = by_grant (breaks h Rules.Grant
       call = refl;
       alone = ap (λ d. breaks h Rules.Waiter a r o (OnSuspension unit name d)) (sym is) ∙ alone;
     }
-
-    by_grant : (b : Bool) → Tells h a r (if b then Answers.Refused Rules.Grant (decided h (subject h a) t) (version h) else performed (version h) (breaks h Rules.Blocking a r o t) (breaks h Rules.Waiter a r o t) (state o h.past) wanted)
-    by_grant true = refl
-    by_grant false =
-        each_performed (Tells h a r) (version h) (breaks h Rules.Blocking a r o t) (breaks h Rules.Waiter a r o t) (state o h.past) wanted (λ rule. refl) (refl, inl refl) (refl, inr (inl refl)) waits
 
 call_tells : (h : History) (a o p : ℕ) (vs : List ℤ) (t : Target) → target h.shapes o p ≡ t → Tells h a (Call o p vs) (due_call h a (Call o p vs) o t)
 call_tells h a o p vs Nowhere at = tt
@@ -239,17 +265,20 @@ resume_tells h a (WaitsOn object) at = each_waiting (Tells h a Resume) h (releas
 resume_tells h a (WaitsUntil time) at = each_waiting (Tells h a Resume) h (int_le time (pos (clock h.past))) (refl, ap is_pause at) refl refl
 resume_tells h a s at = tt
 
-delay_tells : (h : History) (a : ℕ) (time : ℤ) (blocking over : Bool) → Tells h a (DelayUntil time) (due_delay h blocking over)
-delay_tells h a time true over = refl
-delay_tells h a time false true = (refl, inl refl)
-delay_tells h a time false false = refl
+delay_tells : (h : History) (a : ℕ) (time : ℤ) (over : Bool) → Tells h a (DelayUntil time) (judged h a (DelayUntil time) 0 Nowhere (delayed over))
+delay_tells h a time over =
+    each_refused (Tells h a (DelayUntil time)) (version h) (decided h (subject h a) Nowhere) (first_at h a (DelayUntil time) 0 Nowhere) (delayed over) (λ rule k is. refl) (λ none. by_time over)
+  where
+    by_time : (b : Bool) → Tells h a (DelayUntil time) (delayed b)
+    by_time true = (refl, inl refl)
+    by_time false = refl
 
 pub table_tells : (h : History) (a : ℕ) (r : Request) → Tells h a r (table h a r)
 table_tells h a (Call o p vs) = call_tells h a o p vs (target h.shapes o p) refl
 table_tells h a (Complete vs x) = end_tells h a vs (Complete vs x) refl (innermost h.shapes a h.past)
 table_tells h a Settle = settle_tells h a (to_settle h.shapes a h.past)
 table_tells h a Resume = resume_tells h a (stance a h.past) refl
-table_tells h a (DelayUntil time) = delay_tells h a time (holds_any h a) (int_le time (pos (clock h.past)))
+table_tells h a (DelayUntil time) = delay_tells h a time (int_le time (pos (clock h.past)))
 table_tells h a Clock = (refl, inr (inr refl))
 table_tells h a Fire = fire_tells h a (handler h.shapes (a - 1)) refl
 table_tells h a r = (refl, inl refl)

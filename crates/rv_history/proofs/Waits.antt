@@ -1,11 +1,12 @@
 -- Each queued actor is a task at that call, which holds nothing and asks nothing more.
 use Rattle.std.proofs.Common.{◌≡◌, inl, inr, ◌≢◌, ℕ, suc, ◌-◌, ◌<◌, ◌≤◌, List, [], ◌∷◌, ◌++◌, length, Some, None, Option, Bool, true, false, arith, ap, subst, sym, ◌∙◌, refl, length-append, cond}
-use Rattle.std.specs.Prelude.{ℤ, nat_lt, ◌==◌, ◌&&◌, not, if◌then◌else◌, slice_get}
+use Rattle.std.specs.Prelude.{ℤ, map, nat_lt, ◌==◌, ◌&&◌, not, if◌then◌else◌, slice_get}
 use Rattle.std.specs.List.{filter}
 use Rattle.std.proofs.lemmas.Bool.Decides.{nat_tests}
 use Rattle.rv_shape.specs.Shape.{Shape}
 use Rattle.rv_event.specs.Recorded.{recorded}
-use Rattle.rv_shape.specs.Catalogue.{UnitTask, Who, Operator, Line, Task, Nobody, Site, who, task_of, all_tasks, tasks_of, first_of, OnProtected, target, is_entry, is_function}
+use Rattle.rv_prio.specs.Priority.{greatest}
+use Rattle.rv_shape.specs.Catalogue.{UnitTask, Who, Operator, Line, Task, Nobody, Site, ceiling, who, task_of, all_tasks, tasks_of, first_of, OnProtected, target, is_entry, is_function}
 use Rattle.rv_event.specs.Past.{held, to_settle, next_of, named_in, stance, halted, mode, mode_by, or_settling, last_queued, queued_by, joined, left}
 use Rattle.rv_event.specs.declared.entry.Stance.{Stance}
 use Rattle.rv_event.specs.declared.entry.Stance.TheVariants.{Free, InQueue, HandedOver, DroppedBy, WaitsOn, WaitsUntil, Gone}
@@ -22,10 +23,12 @@ use Rattle.rv_history.specs.History.{History}
 use Rattle.rv_history.specs.Exclusion.{excluded, full_queue, is_open}
 use Rattle.rv_history.specs.Owed.{actors}
 use Rattle.rv_history.specs.Rules.{Aim, holds_any}
+use Rattle.rv_history.specs.Subject.{base_of}
 use Rattle.rv_history.specs.Fitting.{may_call, is_operator, is_settling, call_fits}
 use Rattle.rv_history.specs.Due.{out, due_resume, table}
 use Rattle.rv_history.proofs.Answered.{off, both, and_true, Answered, answered}
 use Rattle.rv_history.proofs.Exactly.{not_halted}
+use Rattle.rv_history.proofs.Loaded.{protected_stays, who_stays}
 use Rattle.rv_history.proofs.Tells.{word_tells}
 use Rattle.rv_history.proofs.Modes.{SettlesOrResumes, calls_at, is_shut, shut_fits, unfit}
 use Rattle.rv_history.proofs.Stances.{itself, below, own_stance, is_other, unnamed_stance, other_queued, queued_actor, some_is, held_other}
@@ -72,6 +75,7 @@ pub record Joins (h : History) (a o p : ℕ) : Type 0 where
   pub task : nat_lt a 11 ≡ false
   pub known : a < actors h.shapes
   pub none : held h.shapes a h.past ≡ []
+  pub low : nat_lt site.object.ceiling (base_of (who h.shapes a)) ≡ false
 
 nothing_held : (bs : List Body) → nat_lt 0 (length bs) ≡ false → bs ≡ []
 nothing_held [] e = refl
@@ -132,15 +136,23 @@ joins h a o p vs e =
       task = task_high h.shapes a (caller (who h.shapes a) (stance a h.past) (ap (λ bs. may_call (who h.shapes a) (mode_by bs (stance a h.past))) (sym none) ∙ calls));
       known = below a (actors h.shapes) g.known;
       none = none;
+      low = sym (ap (λ (bs : List Body). nat_lt t.site.object.ceiling (greatest (base_of (who h.shapes a)) (map (λ body. ceiling h.shapes body.object) bs))) none) ∙ t.passed.low;
     }
 
--- What holds of a call in a queue: its actor is a task at that call, which holds nothing.
+-- the base priority of a call's actor isn't above the ceiling of what it calls (D.3)
+pub record Low (shapes : List Shape) (call : Body) : Type 0 where
+  pub site : Site
+  pub at : target shapes call.object call.operation ≡ OnProtected site
+  pub under : nat_lt site.object.ceiling (base_of (who shapes call.actor)) ≡ false
+
+-- What holds of a call in a queue: its actor is a task at that call, which holds nothing, and may call what it calls.
 pub record Waits (shapes : List Shape) (past : List Entry) (call : Body) : Type 0 where
   pub at : stance call.actor past ≡ InQueue
   pub task : nat_lt call.actor 11 ≡ false
   pub known : call.actor < actors shapes
   pub last : last_queued call.actor past ≡ Some call
   pub none : held shapes call.actor past ≡ []
+  pub low : Low shapes call
 
 abbrev pub AllWait : List Shape → List Entry → List Body → Type 0
 AllWait shapes past [] = Unit {0}
@@ -157,6 +169,7 @@ one_stays shapes past a r w c h e v = record {
   known = v.known;
   last = other_queued (queued_by (Asked a r w)) a c.actor past (queued_actor a r w) h ∙ v.last;
   none = held_other shapes past a r w c.actor h e ∙ v.none;
+  low = v.low;
 }
 
 none_named : (shapes : List Shape) (past : List Entry) (a : ℕ) (r : Request) (w : Recorded) (calls : List Body) → named_in (next_of (Asked a r w)) ≡ None →
@@ -195,6 +208,7 @@ new_wait h a (Call o p vs) Queued (Some b) is due calls all =
       known = j.known;
       last = λ i. first_of (if itself a i then Some self else None) (last_queued a h.past);
       none = j.none;
+      low = record { site = j.site; at = j.at; under = j.low };
     }))
 new_wait h a (Call o p vs) w (Some b) is due calls all = absurd (cc)
 new_wait h a r w (Some b) is due calls all = absurd (cc)
@@ -208,3 +222,11 @@ pub more_tasks : (old : List Shape) (s : Shape) → actors old ≤ actors (old +
 more_tasks [] s = omega arith
 more_tasks (x ∷ old) s =
     omega (arith, more_tasks old s, length-append (tasks_of x) (all_tasks old), length-append (tasks_of x) (all_tasks (old ++ s ∷ [])))
+
+-- units that are loaded later change neither the actor's priority nor what it calls
+pub low_stays : (old more : List Shape) (call : Body) → call.actor < actors old → Low old call → Low (old ++ more) call
+low_stays old more call known low = record {
+  site = low.site;
+  at = protected_stays old more call.object call.operation low.site low.at;
+  under = ap (λ (w : Who). nat_lt low.site.object.ceiling (base_of w)) (who_stays old more call.actor known) ∙ low.under;
+}

@@ -2,7 +2,7 @@
 use Rattle.std.specs.Prelude.{ℕ, ◌-◌, Bool, true, false, ◌&&◌, not, if◌then◌else◌, List, [], ◌∷◌, Some, None, Option}
 use Rattle.std.specs.Prelude.{ℤ, pos, int_le}
 use Rattle.rv_event.specs.Recorded.{recorded}
-use Rattle.rv_shape.specs.Catalogue.{OperationNumber, Target, Nowhere, OnProtected, OnSuspension, target, place}
+use Rattle.rv_shape.specs.Catalogue.{OperationNumber, Site, Target, Nowhere, OnProtected, OnSuspension, target, place}
 use Rattle.rv_shape.specs.Catalogue.{handler, is_function}
 use Rattle.rv_event.specs.Past.{innermost, queue, to_settle, scalars, state, clock, halted, stance, until_then, released}
 use Rattle.rv_event.specs.declared.entry.Stance.{Stance}
@@ -16,6 +16,7 @@ use Rattle.rv_event.specs.declared.entry.Entry.TheVariants.{Asked}
 use Rattle.rv_event.specs.declared.entry.Request.{Request}
 use Rattle.rv_event.specs.declared.entry.Request.TheVariants.{Call, Complete, Settle, Resume, DelayUntil, Clock, Fire, Quit}
 use Rattle.rv_event.specs.declared.entry.Request.TheVariants.{Tick, Halt}
+use Rattle.rv_event.specs.declared.entry.Rule.{Rule}
 use Rattle.rv_event.specs.declared.entry.Rule.TheVariants as Rules
 use Rattle.rv_event.specs.declared.entry.Next.{Next}
 use Rattle.rv_event.specs.declared.entry.Next.TheVariants.{Nothing, HandedTo, Dropped}
@@ -26,22 +27,16 @@ use Rattle.rv_event.specs.declared.entry.Answer.TheVariants.{Woken, Accepted, Mi
 use Rattle.rv_event.specs.declared.entry.Answer.TheVariants.{Unattached}
 use Rattle.rv_history.specs.History.{History, version, changes}
 use Rattle.rv_history.specs.Subject.{subject}
-use Rattle.rv_history.specs.Exclusion.{excluded, barrier_at, opens_on, is_barred, full_queue}
-use Rattle.rv_history.specs.Rules.{decided, granted, holds_any, breaks}
+use Rattle.rv_history.specs.Exclusion.{excluded, barrier_at, opens_on, is_barred}
+use Rattle.rv_history.specs.Rules.{decided, granted, first_at, is_grant}
 use Rattle.rv_history.specs.Owed.{has_room, is_paid}
 use Rattle.rv_history.specs.Fitting.{fits}
 
--- the answer to a call of a protected operation, or to a fired line, from what is asked of it, in this order; a start
--- carries the object's scalars
-abbrev pub judged : ℕ → ℕ → List ℤ → Bool → Bool → Bool → Bool → Bool → Bool → Bool → Answer
-judged number line values denied blocking reentry above busy barred full =
-    if denied then Refused Rules.Grant line number
-    else (if blocking then Refused Rules.Blocking 0 number
-    else (if reentry then Refused Rules.Reentry 0 number
-    else (if above then Refused Rules.Ceiling 0 number
-    else (if busy then Busy
-    else (if barred then (if full then Refused Rules.Queue 0 number else Queued)
-    else Started values)))))
+-- refused by a rule, if there is one, with the line that decides the call, or 0 for another rule than the grant, and the
+-- version of the list; else this answer (own)
+abbrev pub unless_refused : ℕ → ℕ → Option Rule → Answer → Answer
+unless_refused number line None answer = answer
+unless_refused number line (Some rule) answer = Refused rule (if is_grant rule then line else 0) number
 
 -- accepted, with no value to tell
 abbrev pub nothing_more : Answer
@@ -52,37 +47,35 @@ abbrev pub one_or_none : Bool → ℤ
 one_or_none true = pos 1
 one_or_none false = pos 0
 
--- the answer to Suspend_Until_True: it waits where the state is False (D.10)
-abbrev pub suspended : ℕ → Bool → Bool → Bool → Answer
-suspended number blocking waited now_true =
-    if blocking then Refused Rules.Blocking 0 number
-    else (if waited then Refused Rules.Waiter 0 number
-    else (if now_true then nothing_more else Suspended))
+-- the answer to a call of an operation of a suspension object that no rule refuses: Suspend_Until_True waits where the
+-- state is False (D.10)
+abbrev pub performed : Bool → SuspensionOperation → Answer
+performed now_true SetTrue = nothing_more
+performed now_true SetFalse = nothing_more
+performed now_true CurrentState = Accepted (one_or_none now_true)
+performed now_true SuspendUntilTrue = if now_true then nothing_more else Suspended
 
--- the answer to a call of an operation of a suspension object that the list grants (D.10)
-abbrev pub performed : ℕ → Bool → Bool → Bool → SuspensionOperation → Answer
-performed number blocking waited now_true SetTrue = nothing_more
-performed number blocking waited now_true SetFalse = nothing_more
-performed number blocking waited now_true CurrentState = Accepted (one_or_none now_true)
-performed number blocking waited now_true SuspendUntilTrue = suspended number blocking waited now_true
+-- the answer to a call of a protected operation, or to a fired line, that no rule refuses: it is kept out, queued, or
+-- starts, and a start carries the object's scalars (9.5.1, 9.5.3)
+abbrev pub let_in : History → ℕ → Site → Answer
+let_in h object site =
+    if excluded h object (is_function site.operation.kind) then Busy
+    else (if is_barred h object site.operation.kind then Queued else Started (scalars h.shapes object h.past))
+
+-- refused by the first rule that a request with this aim violates, else this answer
+abbrev pub judged : History → ℕ → Request → ℕ → Target → Answer → Answer
+judged h actor request object called answer =
+    unless_refused (version h) (decided h (subject h actor) called) (first_at h actor request object called) answer
 
 -- the answer to a call, or to a fired line, of this target
 abbrev pub due_call : History → ℕ → Request → ℕ → Target → Answer
 due_call h actor request object Nowhere = Misuse
 due_call h actor request object (OnProtected site) =
-    let called : Target = OnProtected site in
-    judged (version h) (decided h (subject h actor) called) (scalars h.shapes object h.past)
-    (breaks h Rules.Grant actor request object called) (breaks h Rules.Blocking actor request object called)
-    (breaks h Rules.Reentry actor request object called) (breaks h Rules.Ceiling actor request object called)
-    (excluded h object (is_function site.operation.kind)) (is_barred h object site.operation.kind) (full_queue h object)
+    judged h actor request object (OnProtected site) (let_in h object site)
 due_call h actor request object (OnSuspension unit name wanted) =
-    let called : Target = OnSuspension unit name wanted in
-    if breaks h Rules.Grant actor request object called then
-    Refused Rules.Grant (decided h (subject h actor) called) (version h)
-    else performed (version h) (breaks h Rules.Blocking actor request object called)
-    (breaks h Rules.Waiter actor request object called) (state object h.past) wanted
+    judged h actor request object (OnSuspension unit name wanted) (performed (state object h.past) wanted)
 
--- a fired line calls its handler
+-- the answer to a fired line, which calls its handler, if it has one
 abbrev pub due_fire : History → ℕ → Option OperationNumber → Answer
 due_fire h actor None = Unattached
 due_fire h actor (Some number) = due_call h actor Fire number.object (target h.shapes number.object number.operation)
@@ -142,10 +135,9 @@ due_resume h actor (WaitsOn object) = or_waiting h (released actor object h.past
 due_resume h actor (WaitsUntil time) = or_waiting h (int_le time (pos (clock h.past)))
 due_resume h actor Gone = Misuse
 
--- the answer to a delay, from whether the actor holds an object and whether the time is past (9.6, D.9)
-abbrev pub due_delay : History → Bool → Bool → Answer
-due_delay h blocking over =
-    if blocking then Refused Rules.Blocking 0 (version h) else (if over then nothing_more else Delayed)
+-- the answer to a delay that no rule refuses, from whether its time is past (9.6, D.9)
+abbrev pub delayed : Bool → Answer
+delayed over = if over then nothing_more else Delayed
 
 -- the third column of the table of requests
 abbrev pub table : History → ℕ → Request → Answer
@@ -154,7 +146,8 @@ table h actor (Call object operation values) =
 table h actor (Complete values exit) = due_end h values (innermost h.shapes actor h.past)
 table h actor Settle = due_settle h (to_settle h.shapes actor h.past)
 table h actor Resume = due_resume h actor (stance actor h.past)
-table h actor (DelayUntil time) = due_delay h (holds_any h actor) (int_le time (pos (clock h.past)))
+table h actor (DelayUntil time) =
+    judged h actor (DelayUntil time) 0 Nowhere (delayed (int_le time (pos (clock h.past))))
 table h actor Clock = Accepted (pos (clock h.past))
 table h actor Fire = due_fire h actor (handler h.shapes (actor - 1))
 table h actor Quit = nothing_more

@@ -1,14 +1,26 @@
--- When a call or a fired line starts a body: the headline's own words (9.5.1 to 9.5.3, C.3, D.3).
-use Rattle.std.specs.Prelude.{◌≡◌, ℕ, ◌+◌, true, false, nat_lt, not, ◌&&◌, codes, Some}
+-- When a body starts, and what a refusal does: the headline's own words (9.5.1 to 9.5.3, C.3, D.3).
+use Rattle.std.specs.Prelude.{◌≡◌, ◌↔◌, ◌⊎◌, ℕ, ◌+◌, ℤ, List, true, false, nat_lt, not, ◌&&◌, codes, Some}
 use Rattle.rv_shape.specs.Catalogue.{OperationNumber, Site, OnProtected, handler, is_entry, is_function, target}
-use Rattle.rv_event.specs.Past.{halted, mode}
+use Rattle.rv_event.specs.Past.{halted, mode, started}
+use Rattle.rv_event.specs.declared.entry.Answer.TheVariants as Answers
+use Rattle.rv_event.specs.declared.entry.Body.{Body}
+use Rattle.rv_event.specs.declared.entry.Entry.TheVariants.{Asked}
 use Rattle.rv_event.specs.declared.entry.Mode.TheVariants.{Idle}
+use Rattle.rv_event.specs.declared.entry.Next.TheVariants.{HandedTo}
+use Rattle.rv_event.specs.declared.entry.Recorded.{Recorded}
+use Rattle.rv_event.specs.declared.entry.Recorded.TheVariants.{Started, Done, Refused}
 use Rattle.rv_event.specs.declared.entry.Request.{Request}
+use Rattle.rv_event.specs.declared.entry.Request.TheVariants.{Call}
 use Rattle.rv_event.specs.declared.entry.Rule.{Rule}
 use Rattle.rv_history.specs.History.{History}
 use Rattle.rv_history.specs.Exclusion.{excluded, is_open}
 use Rattle.rv_history.specs.Rules.{aim, granted, violates}
 use Rattle.rv_history.specs.Fitting.{fits}
+use Rattle.rv_history.specs.Due.{goes_on}
+use Rattle.rv_history.specs.HandOver.{IsHandedOver}
+use Rattle.rv_history.specs.Legal.{after}
+use Rattle.rv_history.specs.Refusal.{IsRefusal}
+use Rattle.rv_history.specs.Untouched.{Untouched}
 
 -- It is a call of a protected operation, or a fired line that is attached; it fits, the host isn't halted, no rule is
 -- violated, nobody keeps it out, and the barrier of an entry is open.
@@ -35,3 +47,23 @@ pub record MayFire (h : History) (actor line : ℕ) : Type 0 where
   pub grant : granted h (codes "Interrupts") (OnProtected site) ≡ true
   pub low : nat_lt site.object.ceiling (31 + line) ≡ false
   pub free : excluded h number.object false ≡ false
+
+-- A queued call violates no rule, whatever values it was made with.
+abbrev pub IsLawful : History → Body → Type 0
+IsLawful h call =
+    (values : List ℤ) (rule : Rule) → violates h rule call.actor (Call call.object call.operation values) ≡ false
+
+-- The headline, of a request that got this recorded answer after these entries. It started a body exactly where it was
+-- allowed. It handed the object over to a queued caller exactly where it reached its call and the list in force grants it,
+-- and then that call violates no rule. No body starts otherwise. A refusal names the first rule violated, and changes
+-- nothing.
+pub record Headline (h : History) (actor : ℕ) (request : Request) (answer : Recorded) : Type 0 where
+  pub starts : (answer ≡ Started) ↔ IsAllowed h actor request
+  pub hands_over : (caller : ℕ) → (answer ≡ Done (HandedTo caller)) ↔ IsHandedOver h actor request caller
+  pub lawfully : (caller : ℕ) → (over : IsHandedOver h actor request caller) → IsLawful h over.call
+  pub nowhere_else : (body : Body) → started h.shapes h.past (Asked actor request answer) ≡ Some body →
+      (answer ≡ Started) ⊎ ((caller : ℕ) × (answer ≡ Done (HandedTo caller)))
+  pub names_first : (rule : Rule) (line list_version : ℕ) → goes_on request ≡ false →
+      answer ≡ Refused rule line list_version → IsRefusal h actor request rule line list_version
+  pub changes_nothing : (rule : Rule) (line list_version : ℕ) → goes_on request ≡ false →
+      answer ≡ Refused rule line list_version → Untouched h (after h actor request (Answers.Refused rule line list_version))

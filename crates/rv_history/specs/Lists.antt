@@ -1,5 +1,6 @@
 -- What the changes of the access list make of it (own). Its lines are numbered from 1.
-use Rattle.std.specs.Prelude.{ℕ, ◌-◌, nat_lt, if◌then◌else◌, List, [], ◌∷◌, ◌++◌, take, drop, length, Some, None, Option}
+use Rattle.std.specs.Prelude.{ℕ, nat_lt, if◌then◌else◌, List, length, Some, None, Option}
+use Rattle.rv_access.specs.Changes.{appended, removed, replaced}
 use Rattle.rv_access.specs.Words.{Words}
 use Rattle.rv_access.specs.declared.change.Change.{Change}
 use Rattle.rv_access.specs.declared.change.Change.TheVariants.{Whole, Append, Remove, Replace}
@@ -12,6 +13,6 @@ at_line number lines after =
 -- the whole list after a change, if the line is one of it
 abbrev pub changed : List Words → Change → Option (List Words)
 changed lines (Whole list) = Some list
-changed lines (Append line) = Some (lines ++ line ∷ [])
-changed lines (Remove number) = at_line number lines (take (number - 1) lines ++ drop number lines)
-changed lines (Replace number line) = at_line number lines (take (number - 1) lines ++ line ∷ drop number lines)
+changed lines (Append line) = Some (appended lines line)
+changed lines (Remove number) = at_line number lines (removed lines number)
+changed lines (Replace number line) = at_line number lines (replaced lines number line)

@@ -1,15 +1,10 @@
 -- What a refusal names (own).
-use Rattle.std.specs.Prelude.{◌≡◌, ℕ, Bool, true, false, if◌then◌else◌, Some}
+use Rattle.std.specs.Prelude.{◌≡◌, ℕ, if◌then◌else◌, Some}
 use Rattle.rv_event.specs.declared.entry.Request.{Request}
 use Rattle.rv_event.specs.declared.entry.Rule.{Rule}
-use Rattle.rv_event.specs.declared.entry.Rule.TheVariants.{Grant}
 use Rattle.rv_history.specs.History.{History, version}
 use Rattle.rv_history.specs.Subject.{subject}
-use Rattle.rv_history.specs.Rules.{aim, decided, first}
-
-abbrev pub is_grant : Rule → Bool
-is_grant Grant = true
-is_grant rule = false
+use Rattle.rv_history.specs.Rules.{aim, decided, first, is_grant}
 
 -- the first rule that the request violates, the line that decides its call, or 0 for another rule than the grant, and
 -- the version of the list

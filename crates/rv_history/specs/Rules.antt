@@ -118,7 +118,19 @@ abbrev pub first_among : (Rule → Bool) → List Rule → Option Rule
 first_among p [] = None
 first_among p (rule ∷ rules) = if p rule then Some rule else first_among p rules
 
+-- the rules in their order
+abbrev pub rules : List Rule
+rules = Grant ∷ Blocking ∷ Reentry ∷ Ceiling ∷ Queue ∷ Waiter ∷ []
+
+-- the least rule that a request with this aim violates
+abbrev pub first_at : History → ℕ → Request → ℕ → Target → Option Rule
+first_at h actor request object target = first_among (λ rule. breaks h rule actor request object target) rules
+
 -- the least rule that the request violates
 abbrev pub first : History → ℕ → Request → Option Rule
-first h actor request =
-    first_among (λ rule. violates h rule actor request) (Grant ∷ Blocking ∷ Reentry ∷ Ceiling ∷ Queue ∷ Waiter ∷ [])
+first h actor request = first_at h actor request (aim h.shapes actor request).0 (aim h.shapes actor request).1
+
+-- the first rule, which alone asks the list
+abbrev pub is_grant : Rule → Bool
+is_grant Grant = true
+is_grant rule = false

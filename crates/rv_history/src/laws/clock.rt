@@ -1,15 +1,18 @@
 //! The clock (D.8), and delays (9.6, D.9).
 
 ghost use Rattle.std.specs.Prelude.{◌≡◌, ◌≤◌, ◌+◌, ◌*◌, ◌++◌, ◌↔◌, ℕ, ℤ, List, None, int_le, length, map, pos, sum, true};
+ghost use Rattle.rv_access.specs.Timeless.{IsTimeless};
+ghost use Rattle.rv_shape.specs.Catalogue.{Target};
 ghost use Rattle.rv_event.specs.Past.{clock, stance, ticks, ticks_in};
 ghost use Rattle.rv_event.specs.declared.entry.Answer.TheVariants.{Accepted, Woken};
 ghost use Rattle.rv_event.specs.declared.entry.Entry.{Entry};
 ghost use Rattle.rv_event.specs.declared.entry.Request.TheVariants.{Clock, Resume, Tick};
 ghost use Rattle.rv_event.specs.declared.entry.Stance.TheVariants.{WaitsUntil};
 ghost use Rattle.rv_history.specs.Due.{out};
-ghost use Rattle.rv_history.specs.History.{History};
+ghost use Rattle.rv_history.specs.History.{History, force};
 ghost use Rattle.rv_history.specs.Legal.{Legal, after};
 ghost use Rattle.rv_history.specs.Owed.{IsSolvent};
+ghost use Rattle.rv_history.specs.Rules.{decided, granted};
 
 /// The clock is the sum of the accepted ticks.
 #[tactic(auto, using(crate::proofs::Clocks::clock_sum))]
@@ -48,4 +51,14 @@ pub fn delays_end_exactly_in_time()
     ensures { (h : History) (actor : ℕ) (time : ℤ) → Legal h → IsSolvent h →
         stance actor h.past ≡ WaitsUntil time →
         (out h actor Resume ≡ Woken None) ↔ (int_le time (pos (clock h.past)) ≡ true) }
+{}
+
+/// Over a list without windows the clock has no part in which line decides a call, nor in whether the
+/// list grants it: two histories with the same list in force agree, whatever their clocks.
+#[tactic(auto, using(crate::proofs::Entering::decided_alike, crate::proofs::Entering::granted_alike))]
+pub fn lists_without_windows_heed_no_tick()
+    ensures line { (h k : History) (unit : List ℕ) (called : Target) → force h ≡ force k →
+        IsTimeless (force h) → decided h unit called ≡ decided k unit called }
+    ensures grant { (h k : History) (unit : List ℕ) (called : Target) → force h ≡ force k →
+        IsTimeless (force h) → granted h unit called ≡ granted k unit called }
 {}

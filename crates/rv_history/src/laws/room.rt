@@ -2,7 +2,7 @@
 
 ghost use Rattle.std.specs.Prelude.{◌≡◌, ◌≢◌, ◌≤◌, ◌+◌, ◌↔◌, ◌∷◌, ◌++◌, ℕ, List, [], ℤ, length, true};
 ghost use Rattle.rv_shape.specs.Shape.{Shape};
-ghost use Rattle.rv_event.specs.declared.entry.Answer.TheVariants.{Full};
+ghost use Rattle.rv_event.specs.declared.entry.Answer.TheVariants.{Full, OutOfMemory};
 ghost use Rattle.rv_event.specs.declared.entry.Entry.TheVariants.{ListChange, Load};
 ghost use Rattle.rv_event.specs.declared.entry.Entry.{Entry};
 ghost use Rattle.rv_event.specs.declared.entry.Exit.{Exit};
@@ -90,4 +90,11 @@ pub fn halt_has_room()
 pub fn paid_requests_are_never_full()
     ensures { (h : History) (actor : ℕ) (request : Request) → Legal h → IsSolvent h →
         is_paid request ≡ true → out h actor request ≢ Full }
+{}
+
+/// No request is answered for want of memory: what it adds was reserved before. Loads and list changes
+/// alone take memory.
+#[tactic(auto, using(crate::proofs::Entering::never_lacks))]
+pub fn requests_never_lack_memory()
+    ensures { (h : History) (actor : ℕ) (request : Request) → out h actor request ≢ OutOfMemory }
 {}

@@ -1,6 +1,8 @@
 //! Objects that an end left unsettled, where queues may have several callers (own).
 
-ghost use Rattle.std.specs.Prelude.{◌≡◌, ◌∷◌, ℕ, List, [], Some, false, true, length};
+ghost use Rattle.std.specs.Prelude.{◌≡◌, ◌∷◌, ℕ, List, [], Option, Some, false, true, length};
+ghost use Rattle.rv_access.specs.Words.{Words};
+ghost use Rattle.rv_shape.specs.Shape.{Shape};
 ghost use Rattle.rv_event.specs.Past.{halted, is_unsettled, queue, to_settle, unsettled};
 ghost use Rattle.rv_event.specs.declared.entry.Answer.TheVariants.{Done};
 ghost use Rattle.rv_event.specs.declared.entry.Body.{Body};
@@ -9,7 +11,8 @@ ghost use Rattle.rv_event.specs.declared.entry.Request.TheVariants.{Settle};
 ghost use Rattle.rv_event.specs.declared.entry.Request.{Request};
 ghost use Rattle.rv_history.specs.Due.{out};
 ghost use Rattle.rv_history.specs.History.{History};
-ghost use Rattle.rv_history.specs.Legal.{Legal, after};
+ghost use Rattle.rv_history.specs.Fitting.{fits};
+ghost use Rattle.rv_history.specs.Legal.{Legal, after, after_list, after_load, out_list, out_load};
 ghost use Rattle.rv_history.specs.Owed.{IsSolvent};
 ghost use Rattle.rv_history.specs.Settling.{HasToSettle, IsNoSettleOf, IsSettledWithin, ServesFirst, StaysUnsettled};
 ghost use Rattle.rv_history.specs.Settling.{settled};
@@ -59,4 +62,20 @@ pub fn nobody_enters_an_unsettled_object()
 #[tactic(auto, using(crate::proofs::Settling::nothing_unsettled))]
 pub fn queues_of_one_leave_nothing_unsettled()
     ensures { (h : History) → Legal h → h.limits.queue ≡ 1 → unsettled h.shapes h.past ≡ [] }
+{}
+
+/// Nor does a load or a change of the list let anybody in.
+pub fn the_operator_lets_nobody_in()
+    ensures loads { (h : History) (shape : Shape) (object : ℕ) → Legal h →
+        is_unsettled h.shapes object h.past ≡ true →
+        StaysUnsettled h (after_load h shape (out_load h shape)) object }
+    ensures lists { (h : History) (list : Option (List Words)) (object : ℕ) → Legal h →
+        is_unsettled h.shapes object h.past ≡ true →
+        StaysUnsettled h (after_list h list (out_list h list)) object }
+{}
+
+/// With queues of one caller no settle fits, so none is ever recorded.
+#[tactic(auto, using(crate::proofs::Entering::settle_unfit))]
+pub fn queues_of_one_need_no_settle()
+    ensures { (h : History) (actor : ℕ) → Legal h → h.limits.queue ≡ 1 → fits h actor Settle ≡ false }
 {}
